@@ -1,0 +1,12 @@
+-- What a reader of items shows: the words left, its table, and whether memory was refused.
+use Rattle.std.specs.Prelude.{ℕ, List, Bool}
+use Rattle.cuda_below.specs.declared.items.ArgsIter.{ArgsIter}
+
+abbrev pub words_left : {T S : Type 0} → ArgsIter T S → List (List ℕ)
+words_left it = it.line
+
+abbrev pub table_of : {T S : Type 0} → ArgsIter T S → S
+table_of it = it.table
+
+abbrev pub is_refused : {T S : Type 0} → ArgsIter T S → Bool
+is_refused it = it.refused

@@ -1,0 +1,27 @@
+-- The texts of the faults.
+use Rattle.std.specs.Prelude.{ℕ, List, ◌++◌, codes}
+use Rattle.std.specs.Fmt.{decimal}
+use Rattle.cuda_below.specs.declared.fault.Fault.{Fault}
+use Rattle.cuda_below.specs.declared.fault.Fault.TheVariants.{NotUtf8, BadShell, EmptyCommand, NoPath, NotFound, MissingOutput, NoFileName, KeepDirValue, ThreadsValue, NoPreprocess, Process, Runner, Read, Memory}
+use Rattle.cuda_below.specs.Language.{language_text}
+
+-- where a line of a run stands, and what is wrong with it
+abbrev pub line_text : ℕ → ℕ → List ℕ → List ℕ
+line_text run line what = codes "run " ++ (decimal run ++ (codes " line " ++ (decimal line ++ what)))
+
+-- a fault's text
+abbrev pub message_of : Fault → List ℕ
+message_of (NotUtf8 run line) = line_text run line (codes ": not UTF-8")
+message_of (BadShell run line) = codes "Could not parse shell line"
+message_of (EmptyCommand run line) = codes "Could not split shell line"
+message_of (NoPath run line) = line_text run line (codes ": no PATH")
+message_of (NotFound program) = program ++ codes ": not found"
+message_of (MissingOutput language) = codes "Missing \"" ++ (language_text language ++ codes "\" file output")
+message_of NoFileName = codes "output has no file name"
+message_of KeepDirValue = codes "keep directory without a value"
+message_of ThreadsValue = codes "--threads without a value"
+message_of (NoPreprocess text) = text
+message_of (Process output) = codes "process failed"
+message_of (Runner text) = text
+message_of Read = codes "cannot read input"
+message_of Memory = codes "out of memory"

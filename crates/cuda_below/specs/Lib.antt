@@ -1,0 +1,10 @@
+pub mod ArgsIter
+pub mod Fault
+pub mod Items
+pub mod Language
+pub mod LongestMatch
+pub mod Outputs
+pub mod Path
+pub mod Status
+pub mod Table
+pub mod Variables

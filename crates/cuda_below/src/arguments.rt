@@ -1,0 +1,108 @@
+//! What a reader makes of a command line.
+
+ghost use Rattle.std.specs.Prelude.{◌≡◌, IfOk};
+
+use crate::language::Language;
+use crate::outputs::Outputs;
+use crate::text::Text;
+use crate::words::Words;
+use std::alloc::{AllocError, Global};
+
+/// Whether a compiler colours its messages.
+#[derive(Clone, Copy, Debug, PartialEq)]
+pub enum ColorMode {
+    Off,
+    On,
+    Auto,
+}
+
+/// A command line, read: what it compiles, the files that it makes, and its words by what they are
+/// for. Words and paths are UTF-8 texts, in the order of the line.
+#[derive(Debug, PartialEq, Drop)]
+pub struct ParsedArguments {
+    /// The path of the file that is compiled, as the line gives it.
+    pub input: Text,
+    /// The files that the command makes, by their keys.
+    pub outputs: Outputs,
+    /// Whether the input stands after `--`.
+    pub double_dash_input: bool,
+    /// The input's language, or what the tool makes of it.
+    pub language: Language,
+    /// The option that asks for a compilation, as `-c`; empty where the tool needs none.
+    pub compilation_flag: Text,
+    /// The path of the dependency file.
+    pub depfile: Option<Text>,
+    /// The words that ask for dependencies.
+    pub dependency_args: Words,
+    /// The words for the preprocessor.
+    pub preprocessor_args: Words,
+    /// The words that are part of a cache key.
+    pub common_args: Words,
+    /// The words that name architectures.
+    pub arch_args: Words,
+    /// The words that are no part of a cache key.
+    pub unhashed_args: Words,
+    /// Paths of files that a distributed compilation also needs.
+    pub extra_dist_files: Words,
+    /// Paths of files whose contents are part of a cache key.
+    pub extra_hash_files: Words,
+    pub uses_external_assembler: bool,
+    pub msvc_show_includes: bool,
+    pub msvc_explicit_language: bool,
+    pub profile_generate: bool,
+    pub color_mode: ColorMode,
+    pub suppress_rewrite_includes_only: bool,
+    /// The option that keeps a cache from looking at the preprocessor's input.
+    pub too_hard_for_preprocessor_cache_mode: Option<Text>,
+}
+
+/// What a reader answers: arguments, the option that no cache can serve with a word on it, or that
+/// the line is no compilation.
+#[derive(Debug, PartialEq, Drop)]
+pub enum CompilerArguments<T> {
+    Ok(T),
+    CannotCache(&'static str, Option<Text>),
+    NotCompilation,
+}
+
+fn clone_optional(alloc: Global, text: &Option<Text>) -> Result<Option<Text>, AllocError>
+    ensures { IfOk result (λ t. t ≡ text.now) }
+{
+    match text {
+        None => Ok(None),
+        Some(text) => Ok(Some(text.try_clone(alloc)?)),
+    }
+}
+
+impl ParsedArguments {
+    /// Equal arguments, in memory of their own.
+    pub fn try_clone(&self, alloc: Global) -> Result<ParsedArguments, AllocError>
+        ensures { IfOk result (λ p. p ≡ self.now) }
+    {
+        Ok(ParsedArguments {
+            input: self.input.try_clone(alloc)?,
+            outputs: self.outputs.try_clone(alloc)?,
+            double_dash_input: self.double_dash_input,
+            language: self.language,
+            compilation_flag: self.compilation_flag.try_clone(alloc)?,
+            depfile: clone_optional(alloc, &self.depfile)?,
+            dependency_args: self.dependency_args.try_clone(alloc)?,
+            preprocessor_args: self.preprocessor_args.try_clone(alloc)?,
+            common_args: self.common_args.try_clone(alloc)?,
+            arch_args: self.arch_args.try_clone(alloc)?,
+            unhashed_args: self.unhashed_args.try_clone(alloc)?,
+            extra_dist_files: self.extra_dist_files.try_clone(alloc)?,
+            extra_hash_files: self.extra_hash_files.try_clone(alloc)?,
+            uses_external_assembler: self.uses_external_assembler,
+            msvc_show_includes: self.msvc_show_includes,
+            msvc_explicit_language: self.msvc_explicit_language,
+            profile_generate: self.profile_generate,
+            color_mode: self.color_mode,
+            suppress_rewrite_includes_only: self.suppress_rewrite_includes_only,
+            too_hard_for_preprocessor_cache_mode: clone_optional(
+                alloc,
+                &self.too_hard_for_preprocessor_cache_mode,
+            )?,
+        })
+    }
+}

@@ -1,0 +1,320 @@
+//! The items of a command line, read word by word over an option table.
+
+ghost use Rattle.std.specs.Prelude.{◌≡◌, ◌∷◌, [], ◌++◌, ◌<◌, length, map, Some, MatchOption, IfOk, OnOk, string_bytes};
+ghost use Rattle.std.specs.Option.{option_map, option_copied};
+ghost use Rattle.std.specs.List.{remove};
+ghost use Rattle.cuda_below.specs.Table.{entry_of};
+
+use crate::table::{ArgDisposition, ArgInfo, Match, SearchableArgInfo};
+use crate::words::Words;
+use std::alloc::{AllocError, Global};
+use std::marker::{Model, PhantomData};
+
+/// The words of a command line that are still to be read, in order, seen as the list of their texts.
+#[derive(Debug, Drop)]
+pub struct Line<'a> {
+    front: &'a [String],
+    back: &'a [String],
+}
+
+impl<'a> Model for Line<'a> {
+    ghost use Rattle.std.specs.Prelude.{List, ℕ, map, string_bytes, ◌++◌};
+
+    ghost Value = { List (List ℕ) };
+
+    ghost view = { λ l. map string_bytes l.front.now ++ map string_bytes l.back.now };
+}
+
+impl<'a> Line<'a> {
+    /// All of `words`.
+    pub fn new(words: &'a [String]) -> Line<'a>
+        ensures { result ≡ map string_bytes words.entry.now }
+    {
+        Line {
+            front: words,
+            back: &[],
+        }
+    }
+
+    /// The words but the one at `place`.
+    pub fn without(words: &'a [String], place: usize) -> Line<'a>
+        requires { place < length words.now }
+        ensures { result ≡ remove (map string_bytes words.entry.now) place }
+    {
+        Line {
+            front: &words[..place],
+            back: &words[place + 1..],
+        }
+    }
+
+    /// Takes the first word.
+    pub fn next_word(&mut self) -> Option<&'a str>
+        ensures { MatchOption result ((self.old ≡ []) × (self.new ≡ [])) (λ word. self.old ≡ word.now ∷ self.new) }
+    {
+        if let Some((word, rest)) = self.front.split_first() {
+            self.front = rest;
+            return Some(word.as_str());
+        }
+        let (word, rest) = self.back.split_first()?;
+        self.back = rest;
+        Some(word.as_str())
+    }
+}
+
+/// An item of a command line. `T` is the kind that its table gives each option.
+#[derive(Debug, PartialEq, Drop)]
+pub enum Argument<T: Copy> {
+    /// A word that is no option.
+    Raw(String),
+    /// A word that begins with `-` and that no entry matches.
+    UnknownFlag(String),
+    /// An option without a value: its text and kind.
+    Flag(&'static str, T),
+    /// An option with a value: its text, kind and value, and how the value stood.
+    WithValue(&'static str, T, String, ArgDisposition),
+}
+
+/// Why a word is no item.
+#[derive(Clone, Copy, Debug, PartialEq)]
+pub enum ArgParseError {
+    /// The line ends where an option's value would stand.
+    UnexpectedEndOfArgs,
+}
+
+impl<T: Copy> Argument<T> {
+    ghost use Rattle.cuda_below.specs.Items.{item_of, words_of, kind_of, text_of, unmatched_item};
+
+    /// The option's kind, where the item is an option.
+    pub fn get_data(&self) -> Option<&T>
+        ensures { option_copied result ≡ kind_of (item_of self.now) }
+    {
+        match self {
+            Argument::Raw(_) | Argument::UnknownFlag(_) => None,
+            Argument::Flag(_, kind) => Some(kind),
+            Argument::WithValue(_, kind, _, _) => Some(kind),
+        }
+    }
+
+    /// The option's text, where the item is an option of the table.
+    pub fn flag_str(&self) -> Option<&'static str>
+        ensures { option_copied result ≡ text_of (item_of self.now) }
+    {
+        match self {
+            Argument::Raw(_) | Argument::UnknownFlag(_) => None,
+            Argument::Flag(text, _) => Some(text),
+            Argument::WithValue(text, _, _, _) => Some(text),
+        }
+    }
+
+    // The item of a word that no entry matches.
+    fn unmatched(alloc: Global, word: &str) -> Result<Argument<T>, AllocError>
+        ensures { IfOk result (λ a. item_of a ≡ unmatched_item word.now) }
+    {
+        let text = String::from_str(alloc, word)?;
+        if word.as_bytes().first() == Some(&b'-') {
+            Ok(Argument::UnknownFlag(text))
+        } else {
+            Ok(Argument::Raw(text))
+        }
+    }
+
+    /// Puts the words that the item is written as last among `words`: for an option with its value
+    /// two words, or one where the value was joined, with the delimiter where there is one and the
+    /// value isn't empty.
+    pub fn write(self, alloc: Global, words: &mut Words) -> Result<(), AllocError>
+        ensures { OnOk result (words.new ≡ words.old ++ words_of (item_of self)) }
+    {
+        match self {
+            Argument::Raw(word) | Argument::UnknownFlag(word) => words.push(word),
+            Argument::Flag(text, _) => words.push(String::from_str(alloc, text)?),
+            Argument::WithValue(text, _, value, disposition) => {
+                write_value(alloc, text, value, disposition, words)
+            }
+        }
+    }
+}
+
+ghost use Rattle.cuda_below.specs.Items.{value_words, delimiter_before};
+
+// The words of an option with its value.
+fn write_value(
+    alloc: Global,
+    text: &str,
+    value: String,
+    disposition: ArgDisposition,
+    words: &mut Words,
+) -> Result<(), AllocError>
+    ensures { OnOk result (words.new ≡ words.old ++ value_words text.now (string_bytes value) disposition) }
+{
+    match disposition {
+        ArgDisposition::Separated | ArgDisposition::CanBeConcatenated(_) => {
+            words.push(String::from_str(alloc, text)?)?;
+            words.push(value)
+        }
+        ArgDisposition::Concatenated(delimiter) | ArgDisposition::CanBeSeparated(delimiter) => {
+            words.push(joined_word(alloc, text, delimiter, value.as_str())?)
+        }
+    }
+}
+
+// An option and its value in one word.
+fn joined_word(
+    alloc: Global,
+    text: &str,
+    delimiter: Option<u8>,
+    value: &str,
+) -> Result<String, AllocError>
+    ensures { IfOk result (λ word. string_bytes word ≡ (text.now ++ delimiter_before value.now delimiter) ++ value.now) }
+{
+    let mut word = String::from_str(alloc, text)?;
+    if let Some(byte) = delimiter
+        && !value.is_empty()
+    {
+        word.push(char::from(byte))?;
+    }
+    word.push_str(value)?;
+    Ok(word)
+}
+
+/// The items of a line, over a table. It reads each word once, and gives at most as many items as
+/// there are words.
+///
+/// After want of memory it gives nothing more, and `refused` tells.
+#[derive(Drop)]
+pub struct ArgsIter<'a, T: Copy, S: SearchableArgInfo<T> + Drop> {
+    alloc: Global,
+    line: Line<'a>,
+    table: S,
+    refused: bool,
+    kinds: PhantomData<T>,
+}
+
+impl<'a, T: Copy, S: SearchableArgInfo<T> + Drop> ArgsIter<'a, T, S> {
+    ghost use Rattle.std.specs.Prelude.{false, true};
+    ghost use Rattle.cuda_below.specs.ArgsIter.{words_left, is_refused, table_of};
+
+    /// The items of `words`.
+    pub fn new(alloc: Global, words: &'a [String], table: S) -> ArgsIter<'a, T, S>
+        ensures words { words_left result ≡ map string_bytes words.entry.now }
+        ensures table { table_of result ≡ table }
+        ensures goes_on { is_refused result ≡ false }
+    {
+        ArgsIter::over(alloc, Line::new(words), table)
+    }
+
+    /// The items of the words of `line`.
+    pub fn over(alloc: Global, line: Line<'a>, table: S) -> ArgsIter<'a, T, S>
+        ensures words { words_left result ≡ line.entry }
+        ensures table { table_of result ≡ table }
+        ensures goes_on { is_refused result ≡ false }
+    {
+        ArgsIter {
+            alloc,
+            line,
+            table,
+            refused: false,
+            kinds: PhantomData,
+        }
+    }
+
+    /// Whether memory was refused, so that the items that came are only a beginning.
+    pub fn refused(&self) -> bool
+        ensures { result ≡ is_refused self.now }
+    {
+        self.refused
+    }
+}
+
+impl<'a, T: Copy, S: SearchableArgInfo<T> + Drop> Iterator for ArgsIter<'a, T, S> {
+    ghost use Rattle.std.specs.Prelude.{◌≡◌, length};
+    ghost use Rattle.std.specs.Iterator.{at_most};
+    ghost use Rattle.std.specs.Option.{option_map};
+    ghost use Rattle.cuda_below.specs.Items.{ReadsItem, item_read};
+
+    type Item = Result<Argument<T>, ArgParseError>;
+
+    ghost next_gives = { λ s r t. ReadsItem (S.chosen s.table) s.line s.refused (option_map item_read r) t.line t.refused × (t.table ≡ s.table) };
+
+    ghost remaining = { λ s. at_most (length s.line) };
+
+    fn next(&mut self) -> Option<Result<Argument<T>, ArgParseError>> {
+        if self.refused {
+            return None;
+        }
+        let word = self.line.next_word()?;
+        let row = self.table.search(word);
+        match read_item(self.alloc, row, word, &mut self.line) {
+            Ok(item) => Some(item),
+            Err(_) => {
+                self.refused = true;
+                None
+            }
+        }
+    }
+}
+
+ghost use Rattle.cuda_below.specs.Items.{item_of, item_read, joined_form, separate_form, separate_item, last_item, with_value, said_of, Completes};
+
+// The item that `word` begins, whose table row is `row`. An option takes its value from `line`.
+fn read_item<T: Copy>(
+    alloc: Global,
+    row: Option<&ArgInfo<T>>,
+    word: &str,
+    line: &mut Line<'_>,
+) -> Result<Result<Argument<T>, ArgParseError>, AllocError>
+    ensures { IfOk result (λ r. Completes (said_of word.now (option_map entry_of (option_copied row.entry))) line.old (item_read r) line.new) }
+{
+    let Some(row) = row else {
+        return Ok(Ok(Argument::unmatched(alloc, word)?));
+    };
+    match row.matches(word) {
+        None => Ok(Ok(Argument::unmatched(alloc, word)?)),
+        Some(Match::Lone) => Ok(Ok(Argument::Flag(row.text(), row.kind()))),
+        Some(Match::Joined(value)) => Ok(Ok(row.joined(String::from_str(alloc, value)?))),
+        Some(Match::Awaiting) => match line.next_word() {
+            Some(value) => Ok(Ok(row.separate(String::from_str(alloc, value)?))),
+            None => Ok(row.last(alloc)),
+        },
+    }
+}
+
+impl<T: Copy> ArgInfo<T> {
+    // The option with a value that was joined to it.
+    fn joined(&self, value: String) -> Argument<T>
+        ensures { item_of result ≡ with_value (entry_of self.now).text (entry_of self.now).kind (string_bytes value) (joined_form (entry_of self.now).form) }
+    {
+        let form = match self.disposition() {
+            None => ArgDisposition::Concatenated(None),
+            Some(ArgDisposition::CanBeConcatenated(delimiter)) => {
+                ArgDisposition::CanBeSeparated(delimiter)
+            }
+            Some(disposition) => disposition,
+        };
+        Argument::WithValue(self.text(), self.kind(), value, form)
+    }
+
+    // The option with a value that was the next word.
+    fn separate(&self, value: String) -> Argument<T>
+        ensures { item_of result ≡ separate_item (entry_of self.now) (string_bytes value) }
+    {
+        let form = match self.disposition() {
+            Some(ArgDisposition::CanBeSeparated(delimiter))
+            | Some(ArgDisposition::CanBeConcatenated(delimiter)) => {
+                ArgDisposition::CanBeConcatenated(delimiter)
+            }
+            _ => ArgDisposition::Separated,
+        };
+        Argument::WithValue(self.text(), self.kind(), value, form)
+    }
+
+    // The option as the last word of a line, where its value would be the next one.
+    fn last(&self, alloc: Global) -> Result<Argument<T>, ArgParseError>
+        ensures { item_read result ≡ last_item (entry_of self.now) }
+    {
+        match self.disposition() {
+            Some(ArgDisposition::CanBeSeparated(None))
+            | Some(ArgDisposition::CanBeConcatenated(None)) => Ok(self.joined(String::new(alloc))),
+            _ => Err(ArgParseError::UnexpectedEndOfArgs),
+        }
+    }
+}

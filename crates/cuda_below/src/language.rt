@@ -1,0 +1,35 @@
+//! The languages of the files that the tools read.
+
+ghost use Rattle.std.specs.Prelude.{◌≡◌};
+ghost use Rattle.cuda_below.specs.Language.{language_text};
+
+/// The language of a file, or the kind of what a CUDA tool makes of it.
+#[derive(Clone, Copy, Debug, PartialEq)]
+pub enum Language {
+    C,
+    Cxx,
+    ObjectiveC,
+    ObjectiveCxx,
+    Cuda,
+    CudaFE,
+    Ptx,
+    Cubin,
+}
+
+impl Language {
+    /// The language's text in messages and cache keys, as sccache 0.19.0's. `Cuda` and `CudaFE` have
+    /// one text.
+    pub fn as_str(self) -> &'static str
+        ensures { result.now ≡ language_text self }
+    {
+        match self {
+            Language::C => "c",
+            Language::Cxx => "c++",
+            Language::ObjectiveC => "objc",
+            Language::ObjectiveCxx => "objc++",
+            Language::Cuda | Language::CudaFE => "cuda",
+            Language::Ptx => "ptx",
+            Language::Cubin => "cubin",
+        }
+    }
+}

@@ -1,0 +1,15 @@
+//! The layer below the planner: texts, option tables, items, records and faults.
+#![tactic(auto)]
+
+pub mod arguments;
+pub mod bytes;
+pub mod command;
+pub mod fault;
+pub mod items;
+pub mod language;
+pub mod outputs;
+pub mod status;
+pub mod table;
+pub mod text;
+pub mod variables;
+pub mod words;

@@ -1,0 +1,111 @@
+//! The words of a command line.
+
+ghost use Rattle.std.specs.Prelude.{◌≡◌, ◌∷◌, [], ◌++◌, map, length, IfOk, OnOk, ◌==◌, OnErr, string_bytes};
+
+use std::alloc::{AllocError, Global};
+use std::marker::Model;
+
+/// A list of words that a record holds, in order, seen in contracts as the list of their texts.
+///
+/// It is made of a `Vec<String>` and gives it back without memory.
+#[derive(Debug, Drop)]
+pub struct Words {
+    words: Vec<String>,
+}
+
+impl Model for Words {
+    ghost use Rattle.std.specs.Prelude.{List, ℕ, map, string_bytes};
+
+    ghost Value = { List (List ℕ) };
+
+    ghost view = { λ w. map string_bytes w.words.items };
+}
+
+impl Words {
+    /// No words.
+    pub fn new(alloc: Global) -> Words
+        ensures { result ≡ [] }
+    {
+        Words {
+            words: Vec::new(alloc),
+        }
+    }
+
+    /// Holds the words of `words`.
+    pub fn from_vec(words: Vec<String>) -> Words
+        ensures { result ≡ map string_bytes words.items }
+    {
+        Words { words }
+    }
+
+    /// The words as a slice.
+    pub fn as_slice(&self) -> &[String]
+        ensures { map string_bytes result.now ≡ self.now }
+    {
+        self.words.as_slice()
+    }
+
+    /// Gives the `Vec` back.
+    pub fn into_vec(self) -> Vec<String>
+        ensures { map string_bytes result.items ≡ self }
+    {
+        self.words
+    }
+
+    /// How many words there are.
+    pub fn len(&self) -> usize
+        ensures { result ≡ length self.now }
+    {
+        self.words.len()
+    }
+
+    /// Whether there are no words.
+    pub fn is_empty(&self) -> bool
+        ensures { result ≡ (length self.now == 0) }
+    {
+        self.words.is_empty()
+    }
+
+    /// Puts `word` last. On an error the words stay as they were.
+    pub fn push(&mut self, word: String) -> Result<(), AllocError>
+        ensures ok { OnOk result (self.new ≡ self.old ++ string_bytes word ∷ []) }
+        ensures err { OnErr result (self.new ≡ self.old) }
+    {
+        self.words.push(word)?;
+        Ok(())
+    }
+
+    /// Puts a copy of each of `words` last, in order. On an error a beginning of them may stand there.
+    pub fn extend(&mut self, alloc: Global, words: &[String]) -> Result<(), AllocError>
+        ensures { OnOk result (self.new ≡ self.old ++ map string_bytes words.now) }
+    {
+        for word in words {
+            self.push(String::from_str(alloc, word.as_str())?)?;
+        }
+        Ok(())
+    }
+
+    /// An equal list, in memory of its own.
+    pub fn try_clone(&self, alloc: Global) -> Result<Words, AllocError>
+        ensures { IfOk result (λ w. w ≡ self.now) }
+    {
+        let mut copy = Words::new(alloc);
+        copy.extend(alloc, self.as_slice())?;
+        Ok(copy)
+    }
+}
+
+impl PartialEq for Words {
+    ghost use Rattle.std.specs.Prelude.{nat_eq};
+    ghost use Rattle.std.specs.Cmp.Lexicographic.{pointwise};
+    ghost use Rattle.std.specs.Cmp.Rules.{comparing};
+    ghost use Rattle.std.proofs.Common.{rules};
+
+    ghost eq = { pointwise (pointwise nat_eq) };
+
+    ghost laws = { Prim.search (comparing, rules) };
+
+    fn eq(&self, other: &Words) -> bool {
+        self.as_slice() == other.as_slice()
+    }
+}
