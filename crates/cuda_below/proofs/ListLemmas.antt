@@ -5,6 +5,7 @@ use Rattle.std.specs.Ordering.{on, eq_of_both, match_ordering}
 use Rattle.std.specs.declared.cmp.Ordering.{Ordering}
 use Rattle.std.specs.declared.cmp.Ordering.TheVariants.{Less, Equal, Greater}
 use Rattle.std.specs.BTreeMap.{insert_entry}
+use Rattle.std.specs.Map.{lookup}
 use Rattle.cuda_below.specs.Variables.{pair_of}
 
 -- two mapped lists compare as the lists do by the mapped test
@@ -29,3 +30,8 @@ map-insert_entry f R (e ∷ es) k v =
     elim (R (f k) (f e.0))
         as (λ o. map (λ e'. (f e'.0, e'.1)) (match_ordering o ((k, v) ∷ e ∷ es) ((e.0, v) ∷ es) (e ∷ insert_entry (λ a b. R (f a) (f b)) es k v)) ≡ match_ordering o ((f k, v) ∷ (f e.0, e.1) ∷ map (λ e'. (f e'.0, e'.1)) es) ((f e.0, v) ∷ map (λ e'. (f e'.0, e'.1)) es) ((f e.0, e.1) ∷ insert_entry R (map (λ e'. (f e'.0, e'.1)) es) (f k) v))
         [ Less ↦ refl | Equal ↦ refl | Greater ↦ ap (λ t. (f e.0, e.1) ∷ t) (map-insert_entry f R es k v) ]
+
+-- a look-up in a map whose keys are seen through a function
+pub lookup-map : {K J X : Type 0} (f : K → J) (p : K → Bool) (q : J → Bool) → ((k : K) → p k ≡ q (f k)) → (es : List (K × X)) → lookup p es ≡ lookup q (map (λ e. (f e.0, e.1)) es)
+lookup-map f p q h [] = refl
+lookup-map f p q h (e ∷ es) = rw (h e.0, lookup-map f p q h es) refl

@@ -78,7 +78,7 @@ impl Outputs {
         ensures { IfOk result (λ o. o ≡ self.now) }
     {
         let mut copy = Outputs::new(alloc);
-        for (key, output) in &self.files {
+        for (key, output) in self.files.iter() {
             copy.insert(key, output.try_clone(alloc)?)?;
         }
         Ok(copy)
@@ -86,12 +86,14 @@ impl Outputs {
 }
 
 impl PartialEq for Outputs {
-    ghost use Rattle.std.specs.Prelude.{nat_eq, ◌&&◌};
+    ghost use Rattle.std.specs.Prelude.{nat_eq};
+    ghost use Rattle.std.specs.Bool.{beq};
+    ghost use Rattle.std.specs.Ordering.{on, eq_of_both};
     ghost use Rattle.std.specs.Cmp.Lexicographic.{pointwise};
     ghost use Rattle.std.specs.Cmp.Rules.{comparing};
     ghost use Rattle.std.proofs.Common.{rules};
 
-    ghost eq = { pointwise (λ e f. pointwise nat_eq e.0 f.0 && ⟦<ArtifactDescriptor as PartialEq>⟧.eq e.1 f.1) };
+    ghost eq = { pointwise (eq_of_both (on (λ e. e.0) (pointwise nat_eq)) (on (λ e. e.1) (eq_of_both (on (λ d. d.path) (pointwise nat_eq)) (on (λ d. d.optional) beq)))) };
 
     ghost laws = { Prim.search (comparing, rules) };
 
