@@ -95,7 +95,7 @@ impl PartialEq for Outputs {
 
     ghost eq = { pointwise (eq_of_both (on (λ e. e.0) (pointwise nat_eq)) (on (λ e. e.1) (eq_of_both (on (λ d. d.path) (pointwise nat_eq)) (on (λ d. d.optional) beq)))) };
 
-    ghost laws = { Prim.search (comparing, rules) };
+    ghost laws = { Prim.search (comparing, rules) depth 9 };
 
     fn eq(&self, other: &Outputs) -> bool {
         self.files == other.files
