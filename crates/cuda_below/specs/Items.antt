@@ -127,6 +127,14 @@ module _ {T : Type 0} where
   text_of (with_value text kind value form) = Some text
   text_of faulty = None
 
+  -- the value of the option that an item is; where a table gives a flag a kind that asks for one, it is empty
+  abbrev pub value_of : Item T → List ℕ
+  value_of (raw word) = []
+  value_of (unknown_flag word) = []
+  value_of (flag text kind) = []
+  value_of (with_value text kind value form) = value
+  value_of faulty = []
+
   -- the item that an argument is
   abbrev pub item_of : Argument T → Item T
   item_of (Raw word) = raw (string_bytes word)

@@ -82,7 +82,7 @@ pub enum ArgParseError {
 }
 
 impl<T: Copy> Argument<T> {
-    ghost use Rattle.cuda_below.specs.Items.{item_of, words_of, kind_of, text_of, unmatched_item};
+    ghost use Rattle.cuda_below.specs.Items.{item_of, words_of, kind_of, text_of, value_of, unmatched_item};
 
     /// The option's kind, where the item is an option.
     pub fn get_data(&self) -> Option<&T>
@@ -103,6 +103,16 @@ impl<T: Copy> Argument<T> {
             Argument::Raw(_) | Argument::UnknownFlag(_) => None,
             Argument::Flag(text, _) => Some(text),
             Argument::WithValue(text, _, _, _) => Some(text),
+        }
+    }
+
+    /// The option's value; empty where the item has none.
+    pub fn value(&self) -> &str
+        ensures { result.now ≡ value_of (item_of self.now) }
+    {
+        match self {
+            Argument::WithValue(_, _, value, _) => value.as_str(),
+            _ => "",
         }
     }
 

@@ -1,0 +1,4 @@
+pub mod Cicc
+pub mod Gathered
+pub mod Line
+pub mod Reading

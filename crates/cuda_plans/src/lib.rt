@@ -1,0 +1,5 @@
+//! Plans of CUDA compilations: the command lines of the CUDA tools, and what one `nvcc` call runs.
+#![tactic(auto)]
+
+pub mod cicc;
+mod gathered;
