@@ -8,6 +8,7 @@ use crate::language::Language;
 use crate::status::Output;
 use crate::text::Text;
 use std::alloc::{AllocError, AllocFailed, Global};
+use std::error::Error;
 use std::fmt;
 
 /// A refusal. A run is 1 or 2, the first or the second dry run, and its lines are numbered from 0.
@@ -74,6 +75,8 @@ impl fmt::Display for Fault {
         }
     }
 }
+
+impl Error for Fault {}
 
 impl From<AllocError> for Fault {
     ghost use Rattle.std.specs.Prelude.{◌≡◌};

@@ -1,4 +1,5 @@
 pub mod Cicc
+pub mod Examples
 pub mod Gathered
 pub mod Line
 pub mod Reading

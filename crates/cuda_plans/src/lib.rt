@@ -3,3 +3,4 @@
 
 pub mod cicc;
 mod gathered;
+pub mod laws;

@@ -1,0 +1,3 @@
+pub mod Delivery
+pub mod Shown
+pub mod Texts

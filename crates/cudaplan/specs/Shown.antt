@@ -1,0 +1,40 @@
+-- The text that the program shows.
+use Rattle.std.specs.Prelude.{◌≡◌, ℕ, List, [], ◌∷◌, ◌++◌, Option, Some, None, Result, Ok, Err}
+use Rattle.std.specs.List.{flat_map}
+use Rattle.std.specs.Io.KnownBytes.{Keeps, Appends}
+use Rattle.cuda_below.specs.declared.arguments.ParsedArguments.{ParsedArguments}
+use Rattle.cuda_below.specs.declared.command.SingleCompileCommand.{SingleCompileCommand}
+use Rattle.cuda_below.specs.declared.command.Cacheable.{Cacheable}
+use Rattle.cuda_below.specs.declared.fault.Fault.{Fault}
+use Rattle.cuda_below.specs.declared.language.Language.TheVariants.{Ptx}
+use Rattle.cuda_below.specs.Table.{longest_match}
+use Rattle.cuda_plans.specs.Cicc.{cicc_options}
+use Rattle.cuda_plans.specs.Reading.{reading}
+use Rattle.cuda_plans.specs.Line.{cicc_words, written}
+use Rattle.cudaplan.specs.declared.line.Tool.{Tool}
+use Rattle.cudaplan.specs.declared.line.Tool.TheVariants.{Cicc}
+use Rattle.cudaplan.specs.declared.stop.Stop.{Stop}
+use Rattle.cudaplan.specs.declared.stop.Stop.TheVariants.{NotCompilation, Write}
+use Rattle.cudaplan.specs.declared.stop.Stop.TheVariants as stops
+
+-- a list of words, each on a line of its own
+abbrev pub show_line : List (List ℕ) → List ℕ
+show_line words = flat_map (λ word. word ++ 10 ∷ []) words
+
+-- the text of a command's words
+abbrev pub show_command : Result (SingleCompileCommand × Cacheable) Fault → Result (List ℕ) Stop
+show_command (Ok c) = Ok (show_line c.0.arguments)
+show_command (Err fault) = Err (stops.Fault fault)
+
+-- the text of a line that was read, written back
+abbrev pub show_reading : Option ParsedArguments → List ℕ → Result (List ℕ) Stop
+show_reading None cwd = Err NotCompilation
+show_reading (Some p) cwd = show_command (written cicc_words [] p cwd [])
+
+-- what a tool's line is read as
+abbrev pub tool_reading : Tool → List ℕ → List (List ℕ) → Option ParsedArguments
+tool_reading Cicc cwd words = reading (longest_match cicc_options) cwd Ptx 3 words
+
+-- the text of a tool's line, read at a working directory and written back, or why there is none
+abbrev pub shown_line : Tool → List ℕ → List (List ℕ) → Result (List ℕ) Stop
+shown_line tool cwd words = show_reading (tool_reading tool cwd words) cwd
