@@ -1,3 +1,5 @@
+pub mod Call
+pub mod Calls
 pub mod Delivery
 pub mod Shown
 pub mod Texts

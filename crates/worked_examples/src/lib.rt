@@ -1,0 +1,11 @@
+//! Tests that cross crates: worked lines by their own expected values, and each public call once.
+#![tactic(auto)]
+
+#[cfg(test)]
+mod cicc_lines;
+#[cfg(test)]
+mod records;
+#[cfg(test)]
+mod texts;
+#[cfg(test)]
+mod words;
