@@ -1,2 +1,7 @@
 mod PlaceLemmas
 mod ReadingLemmas
+pub mod ShellCompleteLemmas
+pub mod ShellLawLemmas
+pub mod ShellQuotingLemmas
+pub mod ShellSoundLemmas
+pub mod ShellSplittingLemmas

@@ -3,3 +3,4 @@ pub mod Examples
 pub mod Gathered
 pub mod Line
 pub mod Reading
+pub mod Shell

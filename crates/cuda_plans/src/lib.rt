@@ -4,3 +4,4 @@
 pub mod cicc;
 mod gathered;
 pub mod laws;
+pub mod shell;

@@ -6,6 +6,8 @@ mod cicc_lines;
 #[cfg(test)]
 mod records;
 #[cfg(test)]
+mod shell_words;
+#[cfg(test)]
 mod texts;
 #[cfg(test)]
 mod words;
