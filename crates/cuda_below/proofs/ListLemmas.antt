@@ -28,8 +28,8 @@ pub map-insert_entry : {K J X : Type 0} (f : K → J) (R : J → J → Ordering)
 map-insert_entry f R [] k v = refl
 map-insert_entry f R (e ∷ es) k v =
     elim (R (f k) (f e.0))
-        as (λ o. map (λ e'. (f e'.0, e'.1)) (match_ordering o ((k, v) ∷ e ∷ es) ((e.0, v) ∷ es) (e ∷ insert_entry (λ a b. R (f a) (f b)) es k v)) ≡ match_ordering o ((f k, v) ∷ (f e.0, e.1) ∷ map (λ e'. (f e'.0, e'.1)) es) ((f e.0, v) ∷ map (λ e'. (f e'.0, e'.1)) es) ((f e.0, e.1) ∷ insert_entry R (map (λ e'. (f e'.0, e'.1)) es) (f k) v))
-        [ Less ↦ refl | Equal ↦ refl | Greater ↦ ap (λ t. (f e.0, e.1) ∷ t) (map-insert_entry f R es k v) ]
+    as (λ o. map (λ e'. (f e'.0, e'.1)) (match_ordering o ((k, v) ∷ e ∷ es) ((e.0, v) ∷ es) (e ∷ insert_entry (λ a b. R (f a) (f b)) es k v)) ≡ match_ordering o ((f k, v) ∷ (f e.0, e.1) ∷ map (λ e'. (f e'.0, e'.1)) es) ((f e.0, v) ∷ map (λ e'. (f e'.0, e'.1)) es) ((f e.0, e.1) ∷ insert_entry R (map (λ e'. (f e'.0, e'.1)) es) (f k) v))
+    [ Less ↦ refl | Equal ↦ refl | Greater ↦ ap (λ t. (f e.0, e.1) ∷ t) (map-insert_entry f R es k v) ]
 
 -- a look-up in a map whose keys are seen through a function
 pub lookup-map : {K J X : Type 0} (f : K → J) (p : K → Bool) (q : J → Bool) → ((k : K) → p k ≡ q (f k)) → (es : List (K × X)) → lookup p es ≡ lookup q (map (λ e. (f e.0, e.1)) es)

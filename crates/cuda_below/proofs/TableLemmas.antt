@@ -16,7 +16,7 @@ rest_after-none [] s h = absurd (h s refl)
 rest_after-none (c ∷ cs) [] h = refl
 rest_after-none (c ∷ cs) (d ∷ ds) h =
     elim (eqb c d) as (λ b. eqb c d ≡ b → cond b (rest_after cs ds) None ≡ None)
-        [ true ↦ λ e. rest_after-none cs ds (λ rest q. let same : c ≡ d = (Decides-eqb c d).0 e in h rest (cc)) | false ↦ λ _. refl ] refl
+    [ true ↦ λ e. rest_after-none cs ds (λ rest q. let same : c ≡ d = (Decides-eqb c d).0 e in h rest (cc)) | false ↦ λ _. refl ] refl
 
 -- what stripping a text from a word answers
 pub rest_after-stripped : (p s : List ℕ) (r : Option (Bor (List ℕ))) → MatchOption r (FindsTextPrefix p s None) (λ x. StripsPrefix (FindsTextPrefix p) s x.now) → option_copied r ≡ rest_after p s
@@ -28,7 +28,7 @@ pub value_after-stripped : (d : ℕ) (s : List ℕ) (r : Option (Bor (List ℕ))
 value_after-stripped d [] r small some h = absurd (omega arith)
 value_after-stripped d (c ∷ cs) None small some h =
     elim (eqb c d) as (λ b. eqb c d ≡ b → None ≡ cond (nat_lt d 128 && b) (Some cs) None)
-        [ true ↦ λ e. absurd (h cs (let same : c ≡ d = (Decides-eqb c d).0 e in cc)) | false ↦ λ _. elim (nat_lt d 128) as (λ t. None ≡ cond (t && false) (Some cs) None) [ true ↦ refl | false ↦ refl ] ] refl
+    [ true ↦ λ e. absurd (h cs (let same : c ≡ d = (Decides-eqb c d).0 e in cc)) | false ↦ λ _. elim (nat_lt d 128) as (λ t. None ≡ cond (t && false) (Some cs) None) [ true ↦ refl | false ↦ refl ] ] refl
 value_after-stripped d (c ∷ cs) (Some x) small some h =
     let head : eqb c d ≡ true = (Decides-eqb c d).1 (cc) in
     let ascii : nat_lt d 128 ≡ true = (Decides-ltb d 128).1 small in

@@ -8,3 +8,4 @@ pub mod Path
 pub mod Status
 pub mod Table
 pub mod Variables
+pub mod WordsLaw

@@ -38,24 +38,25 @@ module _ {T : Type 0} (word : List ℕ) where
       (Contains-push seen e, some, All-push (Within (length e.text)) seen e (all_within (length e.text) seen h) (λ _. omega arith))
   after_matched seen (Some b) e some h =
       elim (nat_lt (length b.text) (length e.text))
-          as (λ t. nat_lt (length b.text) (length e.text) ≡ t → IsLongestMatch (seen ++ e ∷ []) word (cond t (Some e) (Some b)))
-          [ true ↦ λ lt. let longer : length b.text ≤ length e.text = grind (arith, nat_tests) in
-              (Contains-push seen e, some, All-push (Within (length e.text)) seen e (all_wider (length b.text) (length e.text) seen longer h.2) (λ _. omega arith))
-          | false ↦ λ ge. let shorter : length e.text ≤ length b.text = grind (arith, nat_tests) in
-              (Contains-append_left seen (e ∷ []) b h.0, h.1, All-push (Within (length b.text)) seen e h.2 (λ _. shorter)) ] refl
+      as (λ t. nat_lt (length b.text) (length e.text) ≡ t → IsLongestMatch (seen ++ e ∷ []) word (cond t (Some e) (Some b))) [
+        | true ↦ λ lt. let longer : length b.text ≤ length e.text = grind (arith, nat_tests) in
+            (Contains-push seen e, some, All-push (Within (length e.text)) seen e (all_wider (length b.text) (length e.text) seen longer h.2) (λ _. omega arith))
+        | false ↦ λ ge. let shorter : length e.text ≤ length b.text = grind (arith, nat_tests) in
+            (Contains-append_left seen (e ∷ []) b h.0, h.1, All-push (Within (length b.text)) seen e h.2 (λ _. shorter))
+      ] refl
 
   -- one more entry
   longer_match-longest : (seen : List (Entry T)) (best : Option (Entry T)) (e : Entry T) → IsLongestMatch seen word best → IsLongestMatch (seen ++ e ∷ []) word (longer_match word best e)
   longer_match-longest seen best e h =
       elim (matched e word) as (λ m. matched e word ≡ m → IsLongestMatch (seen ++ e ∷ []) word (cond (is_some m && is_longer e best) (Some e) best))
-          [ None ↦ λ none. after_unmatched seen best e none h | Some m ↦ λ at. after_matched seen best e (subst (λ o. is_some o ≡ true) (sym at) refl) h ] refl
+      [ None ↦ λ none. after_unmatched seen best e none h | Some m ↦ λ at. after_matched seen best e (subst (λ o. is_some o ≡ true) (sym at) refl) h ] refl
 
   -- the entries that are left
   fold-longest : (seen left : List (Entry T)) (best : Option (Entry T)) → IsLongestMatch seen word best → IsLongestMatch (seen ++ left) word (fold (longer_match word) best left)
   fold-longest seen [] best h = subst (λ es. IsLongestMatch es word best) (sym (append-nil seen)) h
   fold-longest seen (e ∷ left) best h =
       subst (λ es. IsLongestMatch es word (fold (longer_match word) (longer_match word best e) left)) (append_assoc seen (e ∷ []) left)
-          (fold-longest (seen ++ e ∷ []) left (longer_match word best e) (longer_match-longest seen best e h))
+      (fold-longest (seen ++ e ∷ []) left (longer_match word best e) (longer_match-longest seen best e h))
 
   pub longest_match-longest : (entries : List (Entry T)) → IsLongestMatch entries word (longest_match entries word)
   longest_match-longest entries = fold-longest [] entries None (All-nil NoMatch)
@@ -69,8 +70,9 @@ module _ {T : Type 0} (word : List ℕ) where
       (Contains-append_left first second a h.0, h.1, All-append (Within (length a.text)) first second h.2 (all_within (length a.text) second k))
   longer_choice-longest first second (Some a) (Some b) h k =
       elim (nat_lt (length b.text) (length a.text))
-          as (λ t. nat_lt (length b.text) (length a.text) ≡ t → IsLongestMatch (first ++ second) word (cond t (Some a) (Some b)))
-          [ true ↦ λ lt. let longer : length b.text ≤ length a.text = grind (arith, nat_tests) in
-              (Contains-append_left first second a h.0, h.1, All-append (Within (length a.text)) first second h.2 (all_wider (length b.text) (length a.text) second longer k.2))
-          | false ↦ λ ge. let shorter : length a.text ≤ length b.text = grind (arith, nat_tests) in
-              (Contains-append_right first second b k.0, k.1, All-append (Within (length b.text)) first second (all_wider (length a.text) (length b.text) first shorter h.2) k.2) ] refl
+      as (λ t. nat_lt (length b.text) (length a.text) ≡ t → IsLongestMatch (first ++ second) word (cond t (Some a) (Some b))) [
+        | true ↦ λ lt. let longer : length b.text ≤ length a.text = grind (arith, nat_tests) in
+            (Contains-append_left first second a h.0, h.1, All-append (Within (length a.text)) first second h.2 (all_wider (length b.text) (length a.text) second longer k.2))
+        | false ↦ λ ge. let shorter : length a.text ≤ length b.text = grind (arith, nat_tests) in
+            (Contains-append_right first second b k.0, k.1, All-append (Within (length b.text)) first second (all_wider (length a.text) (length b.text) first shorter h.2) k.2)
+      ] refl

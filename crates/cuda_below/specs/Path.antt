@@ -1,6 +1,8 @@
--- Texts that are paths, as lists of bytes. The byte 47 is `/`.
-use Rattle.std.specs.Prelude.{◌≡◌, ℕ, List, [], ◌∷◌, ◌++◌, Bool, true, false, ◌==◌, ◌||◌, nat_eq, length, if◌then◌else◌, refl, codes}
+-- Texts that are paths, as lists of bytes. The byte 47 is `/`, and 46 is `.`.
+use Rattle.std.specs.Prelude.{◌≡◌, ℕ, List, [], ◌∷◌, ◌++◌, Bool, true, false, not, ◌==◌, ◌&&◌, ◌||◌, nat_eq, length, reverse, if◌then◌else◌, Option, Some, None, refl, codes}
 use Rattle.std.specs.List.{ends_with}
+use Rattle.std.specs.Option.{option_map}
+use Rattle.std.specs.Str.{bytes_eq}
 
 -- a path is absolute where it begins with `/`
 abbrev pub is_absolute_path : List ℕ → Bool
@@ -30,3 +32,179 @@ joins_nothing = refl
 
 pub keeps_an_absolute_path : joined (codes "/w") (codes "/t/a.ptx") ≡ codes "/t/a.ptx"
 keeps_an_absolute_path = refl
+
+-- whether a text lacks a byte
+abbrev pub lacks : ℕ → List ℕ → Bool
+lacks byte [] = true
+lacks byte (c ∷ cs) = not (c == byte) && lacks byte cs
+
+-- a name is bare where it holds no `/`
+abbrev pub is_bare : List ℕ → Bool
+is_bare name = lacks 47 name
+
+-- The ends of paths are read backwards: below, the first character is the last one of the path, and `before` is
+-- what stands before it, backwards too.
+
+-- the part of a text up to and including its last such byte, both backwards; empty where it has none
+abbrev pub through_last_byte : ℕ → List ℕ → List ℕ
+through_last_byte byte [] = []
+through_last_byte byte (c ∷ before) = if c == byte then c ∷ before else through_last_byte byte before
+
+-- the part of a text after its last such byte, both backwards; all of it where it has none
+abbrev pub after_last_byte : ℕ → List ℕ → List ℕ
+after_last_byte byte [] = []
+after_last_byte byte (c ∷ before) = if c == byte then [] else c ∷ after_last_byte byte before
+
+-- a text, backwards, without its last characters, as long as a test holds of the last one and what stands before it
+abbrev pub trimmed : (ℕ → List ℕ → Bool) → List ℕ → List ℕ
+trimmed test [] = []
+trimmed test (c ∷ before) = if test c before then trimmed test before else c ∷ before
+
+-- whether a path may go without its last character: a `/`, or a `.` right after a `/`. Where the root is kept, a `/`
+-- that is the only character stays
+abbrev pub is_idle : Bool → ℕ → List ℕ → Bool
+is_idle keeps_root c [] = not keeps_root && (c == 47)
+is_idle keeps_root c (d ∷ before) = (c == 47) || ((c == 46) && (d == 47))
+
+-- the folder of a name: the text up to and including its last `/`, without the `/` and `.` that it may go without.
+-- It is empty where the name has no `/`, and `/` for a name at the root
+abbrev pub folder_of : List ℕ → List ℕ
+folder_of name = reverse (trimmed (is_idle true) (through_last_byte 47 (reverse name)))
+
+-- a text as a file name, which isn't empty, and neither `.` nor `..`
+abbrev pub proper_name : List ℕ → Option (List ℕ)
+proper_name name = if bytes_eq name [] || (bytes_eq name (codes ".") || bytes_eq name (codes "..")) then None else Some name
+
+-- the file name of a path: what follows the last `/`, once the `/` and `.` are off that it may go without; none
+-- where that can be no file name. So `/`, `./` and `/.` have none, nor has `a/..`, but `a/.` has `a`
+abbrev pub file_name_of : List ℕ → Option (List ℕ)
+file_name_of path = proper_name (reverse (after_last_byte 47 (trimmed (is_idle false) (reverse path))))
+
+-- the part of a text before its last such byte, both backwards; empty where it has none
+abbrev pub before_last_byte : ℕ → List ℕ → List ℕ
+before_last_byte byte [] = []
+before_last_byte byte (c ∷ before) = if c == byte then before else before_last_byte byte before
+
+-- a text, or where that is empty the whole
+abbrev pub text_or : List ℕ → List ℕ → List ℕ
+text_or whole [] = whole
+text_or whole (c ∷ cs) = c ∷ cs
+
+-- a file name before its last `.`; the whole of it where it has no `.`, or where its only `.` comes first
+abbrev pub stem_of : List ℕ → List ℕ
+stem_of name = text_or name (reverse (before_last_byte 46 (reverse name)))
+
+-- the stem of a path's file name
+abbrev pub file_stem_of : List ℕ → Option (List ℕ)
+file_stem_of path = option_map stem_of (file_name_of path)
+
+-- examples of folders: a bare name has none; what ends a folder's text goes, but within it all stays; the root stays,
+-- and so do a `.` that begins the name, and `..`
+pub no_folder : folder_of (codes "k") ≡ []
+no_folder = refl
+
+pub plain_folder : folder_of (codes "a/b/k.ptx") ≡ codes "a/b"
+plain_folder = refl
+
+pub folder_after_a_dot : folder_of (codes "a/./k.cpp4.ii") ≡ codes "a"
+folder_after_a_dot = refl
+
+pub folder_within_keeps_its_text : folder_of (codes "a//./b/k") ≡ codes "a//./b"
+folder_within_keeps_its_text = refl
+
+pub folder_of_a_folder : folder_of (codes "a/b/") ≡ codes "a/b"
+folder_of_a_folder = refl
+
+pub folder_of_the_root : folder_of (codes "/") ≡ codes "/"
+folder_of_the_root = refl
+
+pub folder_at_the_root : folder_of (codes "//./k") ≡ codes "/"
+folder_at_the_root = refl
+
+pub folder_that_is_a_dot : folder_of (codes "./k") ≡ codes "."
+folder_that_is_a_dot = refl
+
+pub folder_above : folder_of (codes "a/../k") ≡ codes "a/.."
+folder_above = refl
+
+pub joined_to_its_folder : joined (folder_of (codes "//k.cpp4.ii")) (codes "x_0.cpp4.ii") ≡ codes "/x_0.cpp4.ii"
+joined_to_its_folder = refl
+
+-- examples of file names
+pub file_name_before_a_slash : file_name_of (codes "k.cpp1.ii/") ≡ Some (codes "k.cpp1.ii")
+file_name_before_a_slash = refl
+
+pub file_name_before_a_dot : file_name_of (codes "b/a/.") ≡ Some (codes "a")
+file_name_before_a_dot = refl
+
+pub file_name_past_slashes : file_name_of (codes "a//./b") ≡ Some (codes "b")
+file_name_past_slashes = refl
+
+pub file_name_that_ends_in_a_dot : file_name_of (codes "a/b.") ≡ Some (codes "b.")
+file_name_that_ends_in_a_dot = refl
+
+pub file_name_of_dots : file_name_of (codes "...") ≡ Some (codes "...")
+file_name_of_dots = refl
+
+pub no_file_name_of_nothing : file_name_of [] ≡ None
+no_file_name_of_nothing = refl
+
+pub no_file_name_of_the_root : file_name_of (codes "/") ≡ None
+no_file_name_of_the_root = refl
+
+pub no_file_name_of_a_dot : file_name_of (codes ".") ≡ None
+no_file_name_of_a_dot = refl
+
+pub no_file_name_of_a_dot_and_a_slash : file_name_of (codes "./") ≡ None
+no_file_name_of_a_dot_and_a_slash = refl
+
+pub no_file_name_of_a_dot_at_the_root : file_name_of (codes "/./") ≡ None
+no_file_name_of_a_dot_at_the_root = refl
+
+pub no_file_name_of_the_folder_above : file_name_of (codes "..") ≡ None
+no_file_name_of_the_folder_above = refl
+
+pub no_file_name_after_two_dots : file_name_of (codes "a/..//.") ≡ None
+no_file_name_after_two_dots = refl
+
+-- examples of stems
+pub stem_without_a_dot : file_stem_of (codes "/usr/bin/ptxas") ≡ Some (codes "ptxas")
+stem_without_a_dot = refl
+
+pub stem_before_the_last_dot : file_stem_of (codes "a.tar.gz") ≡ Some (codes "a.tar")
+stem_before_the_last_dot = refl
+
+pub stem_that_begins_with_a_dot : file_stem_of (codes ".profile") ≡ Some (codes ".profile")
+stem_that_begins_with_a_dot = refl
+
+pub stem_of_two_dots : file_stem_of (codes "b/.a.b") ≡ Some (codes ".a")
+stem_of_two_dots = refl
+
+pub stem_before_a_dot_at_the_end : file_stem_of (codes "a.") ≡ Some (codes "a")
+stem_before_a_dot_at_the_end = refl
+
+pub no_stem : file_stem_of (codes "/") ≡ None
+no_stem = refl
+
+-- What is claimed of these functions, for all texts.
+
+-- a bare name that is put into the folder of a name has that folder
+abbrev pub JoinedKeepsFolder : Type 0
+JoinedKeepsFolder = (name f : List ℕ) → is_bare f ≡ true → folder_of (joined (folder_of name) f) ≡ folder_of name
+
+-- a bare name that can be a file name is the file name where it is put below any path
+abbrev pub JoinedHasName : Type 0
+JoinedHasName = (base f : List ℕ) → is_bare f ≡ true → proper_name f ≡ Some f → file_name_of (joined base f) ≡ Some f
+
+-- a folder is a beginning of its name
+abbrev pub FolderBegins : Type 0
+FolderBegins = (name : List ℕ) → (rest : List ℕ) × (name ≡ folder_of name ++ rest)
+
+-- names that aren't absolute are equal where they are below one path
+abbrev pub JoinedCancels : Type 0
+JoinedCancels = (base f g : List ℕ) → is_absolute_path f ≡ false → is_absolute_path g ≡ false → joined base f ≡ joined base g → f ≡ g
+
+-- bare names that are put into folders of names make equal paths only where both folders and names are equal
+abbrev pub FoldersCancel : Type 0
+FoldersCancel =
+    (m n f g : List ℕ) → is_bare f ≡ true → is_bare g ≡ true → joined (folder_of m) f ≡ joined (folder_of n) g → (folder_of m ≡ folder_of n) × (f ≡ g)

@@ -113,14 +113,28 @@ impl Fault {
         ensures { IfOk result (λ f. f ≡ self.now) }
     {
         Ok(match self {
-            Fault::NotUtf8 { run, line } => Fault::NotUtf8 { run: *run, line: *line },
-            Fault::BadShell { run, line } => Fault::BadShell { run: *run, line: *line },
-            Fault::EmptyCommand { run, line } => Fault::EmptyCommand { run: *run, line: *line },
-            Fault::NoPath { run, line } => Fault::NoPath { run: *run, line: *line },
+            Fault::NotUtf8 { run, line } => Fault::NotUtf8 {
+                run: *run,
+                line: *line,
+            },
+            Fault::BadShell { run, line } => Fault::BadShell {
+                run: *run,
+                line: *line,
+            },
+            Fault::EmptyCommand { run, line } => Fault::EmptyCommand {
+                run: *run,
+                line: *line,
+            },
+            Fault::NoPath { run, line } => Fault::NoPath {
+                run: *run,
+                line: *line,
+            },
             Fault::NotFound { program } => Fault::NotFound {
                 program: program.try_clone(alloc)?,
             },
-            Fault::MissingOutput { language } => Fault::MissingOutput { language: *language },
+            Fault::MissingOutput { language } => Fault::MissingOutput {
+                language: *language,
+            },
             Fault::NoFileName => Fault::NoFileName,
             Fault::KeepDirValue => Fault::KeepDirValue,
             Fault::ThreadsValue => Fault::ThreadsValue,

@@ -328,3 +328,20 @@ impl<T: Copy> ArgInfo<T> {
         }
     }
 }
+
+ghost use Rattle.cuda_below.specs.WordsLaw.{LinesHoldReadItems, WordsAreThoseRead, WordsReadBack, ListsReadBack, WholeLinesAreKept};
+
+/// A law, over every table: the words that an item is written as are read as that item again.
+///
+/// It is said of items that are read from some line over the table, and that are whole: not faulty,
+/// and with no value that is both joined and empty. The words of such an item are those that it was
+/// read from (`written`), and they are read as that item whatever words come after them (`reread`).
+/// So are the words of a list of such items (`lists`). Each item of a line counts as read from one
+/// (`read`), and a line whose items are all whole is written as itself (`lines`).
+pub fn words_law<T: Copy, S: SearchableArgInfo<T>>()
+    ensures read { (table : S) → LinesHoldReadItems (S.chosen table) }
+    ensures written { (table : S) → WordsAreThoseRead (S.chosen table) }
+    ensures reread { (table : S) → WordsReadBack (S.chosen table) }
+    ensures lists { (table : S) → ListsReadBack (S.chosen table) }
+    ensures lines { (table : S) → WholeLinesAreKept (S.chosen table) }
+{}

@@ -58,7 +58,11 @@ impl Outputs {
 
     /// Records `output` under `key`, in place of one that stands there. On an error all stays as it
     /// was.
-    pub fn insert(&mut self, key: &'static str, output: ArtifactDescriptor) -> Result<(), AllocError>
+    pub fn insert(
+        &mut self,
+        key: &'static str,
+        output: ArtifactDescriptor,
+    ) -> Result<(), AllocError>
         ensures ok { OnOk result (self.new ≡ with_entry self.old (key.now, output)) }
         ensures err { OnErr result (self.new ≡ self.old) }
     {

@@ -1,7 +1,8 @@
 //! Texts, and the texts that are paths.
 
-ghost use Rattle.std.specs.Prelude.{◌≡◌, ◌↔◌, IsTrue, IfOk, string_bytes};
-ghost use Rattle.cuda_below.specs.Path.{is_absolute_path, separator_after, joined};
+ghost use Rattle.std.specs.Prelude.{◌≡◌, ◌↔◌, ◌<◌, ◌∷◌, ◌++◌, true, length, reverse, IsTrue, IfOk, MatchOption, string_bytes};
+ghost use Rattle.std.specs.Option.{option_copied};
+ghost use Rattle.cuda_below.specs.Path.{is_absolute_path, separator_after, joined, lacks, after_last_byte, before_last_byte, trimmed, is_idle, folder_of, proper_name, file_name_of, file_stem_of};
 
 use std::alloc::{AllocError, Global};
 use std::marker::Model;
@@ -111,3 +112,127 @@ pub fn join(alloc: Global, base: &str, path: &str) -> Result<String, AllocError>
     whole.push_str(path)?;
     Ok(whole)
 }
+
+// What stands before the last `mark` of `text`, and what follows it.
+fn parted(text: &str, mark: char) -> Option<(&str, &str)>
+    requires { mark < 128 }
+    ensures { MatchOption result (lacks mark text.now ≡ true) (λ r. (text.now ≡ r.0.now ++ mark ∷ r.1.now) × (lacks mark r.1.now ≡ true)) }
+{
+    text.rsplit_once(mark)
+}
+
+// `text` without its last character, where that is a `/`, or a `.` right after a `/`. Where
+// `keeps_root`, a `/` that is the only character stays.
+fn trim_once(text: &str, keeps_root: bool) -> Option<&str>
+    ensures { MatchOption result (trimmed (is_idle keeps_root) (reverse text.now) ≡ reverse text.now) (λ r. (trimmed (is_idle keeps_root) (reverse text.now) ≡ trimmed (is_idle keeps_root) (reverse r.now)) × (length r.now < length text.now)) }
+{
+    if let Some(front) = text.strip_suffix('/') {
+        return if keeps_root && front.is_empty() {
+            None
+        } else {
+            Some(front)
+        };
+    }
+    let front = text.strip_suffix('.')?;
+    if front.as_bytes().ends_with(b"/") {
+        Some(front)
+    } else {
+        None
+    }
+}
+
+// `text` without its last characters, as long as `trim_once` takes one off.
+fn trim(text: &str, keeps_root: bool) -> &str
+    ensures { result.now ≡ reverse (trimmed (is_idle keeps_root) (reverse text.now)) }
+{
+    let mut rest = text;
+    while let Some(front) = trim_once(rest, keeps_root) {
+        rest = front;
+    }
+    rest
+}
+
+// What follows the last `mark` of `text`; all of it where there is none.
+fn after_last(text: &str, mark: char) -> &str
+    requires { mark < 128 }
+    ensures { result.now ≡ reverse (after_last_byte mark (reverse text.now)) }
+{
+    match parted(text, mark) {
+        None => text,
+        Some((_, back)) => back,
+    }
+}
+
+// What stands before the last `mark` of `text`; nothing where there is none.
+fn before_last(text: &str, mark: char) -> &str
+    requires { mark < 128 }
+    ensures { result.now ≡ reverse (before_last_byte mark (reverse text.now)) }
+{
+    match parted(text, mark) {
+        None => "",
+        Some((front, _)) => front,
+    }
+}
+
+// `name` as a file name, which is neither empty nor `.` nor `..`.
+fn proper(name: &str) -> Option<&str>
+    ensures { option_copied result ≡ proper_name name.now }
+{
+    if name.is_empty() || name == "." || name == ".." {
+        None
+    } else {
+        Some(name)
+    }
+}
+
+/// The folder of the name `path`: the text up to and including its last `/`, empty where there is
+/// none; then, as long as it can be done, without its last character, where that is a `/` that
+/// isn't the only one, or a `.` right after a `/`.
+///
+/// So a name that `join` puts there has that folder again.
+pub fn folder(path: &str) -> &str
+    ensures { result.now ≡ folder_of path.now }
+{
+    let Some((front, _)) = parted(path, '/') else {
+        return "";
+    };
+    if front.is_empty() {
+        "/"
+    } else {
+        trim(front, true)
+    }
+}
+
+/// The file name of `path`: what follows the last `/`, once each `/` and each `.` right after a `/`
+/// is off that `path` ends in. `None` where that is empty, `.` or `..`.
+pub fn file_name(path: &str) -> Option<&str>
+    ensures { option_copied result ≡ file_name_of path.now }
+{
+    proper(after_last(trim(path, false), '/'))
+}
+
+/// The file name of `path` before its last `.`; all of it where it has no `.`, or where its only
+/// `.` comes first.
+pub fn file_stem(path: &str) -> Option<&str>
+    ensures { option_copied result ≡ file_stem_of path.now }
+{
+    let name = file_name(path)?;
+    let stem = before_last(name, '.');
+    Some(if stem.is_empty() { name } else { stem })
+}
+
+ghost use Rattle.cuda_below.specs.Path.{JoinedKeepsFolder, JoinedHasName, FolderBegins, JoinedCancels, FoldersCancel};
+
+/// A law of path texts.
+///
+/// A bare name, one without `/`, that is joined to the folder of a name has that folder (`folder`),
+/// and is the file name of the path that it is joined to, where it can be one (`name`). A folder is
+/// a beginning of its name (`beginning`). Equal paths that were joined to one path come from equal
+/// names (`cancel`), and those of bare names joined to folders from equal folders too (`folders`).
+pub fn path_law()
+    ensures folder { JoinedKeepsFolder }
+    ensures name { JoinedHasName }
+    ensures beginning { FolderBegins }
+    ensures cancel { JoinedCancels }
+    ensures folders { FoldersCancel }
+{}

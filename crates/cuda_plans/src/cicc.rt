@@ -53,7 +53,11 @@ pub const ARGS: [ArgInfo<ArgData>; 7] = [
     ArgInfo::TakeArg("--gen_device_file_name", ArgData::UnhashedOutput, SEPARATED),
     ArgInfo::Flag("--gen_module_id_file", ArgData::GenModuleIdFileFlag),
     ArgInfo::TakeArg("--include_file_name", ArgData::PassThrough, SEPARATED),
-    ArgInfo::TakeArg("--module_id_file_name", ArgData::ModuleIdFileName, SEPARATED),
+    ArgInfo::TakeArg(
+        "--module_id_file_name",
+        ArgData::ModuleIdFileName,
+        SEPARATED,
+    ),
     ArgInfo::TakeArg("--stub_file_name", ArgData::UnhashedOutput, SEPARATED),
     ArgInfo::TakeArg("-o", ArgData::Output, SEPARATED),
 ];
@@ -98,7 +102,9 @@ fn is_input(language: Language, word: &str) -> bool
 fn place_by_end(language: Language, words: &[String]) -> Option<usize>
     ensures { result ≡ position (λ word. is_input_word language (string_bytes word)) words.now }
 {
-    words.iter().position(|word| is_input(language, word.as_str()))
+    words
+        .iter()
+        .position(|word| is_input(language, word.as_str()))
 }
 
 // The place so many words from the end of a line, unless there are fewer.

@@ -8,5 +8,4 @@ pub fn worked_lines()
     ensures input_is_cut_out_first { InputIsCutOutFirst }
     ensures short_line_is_no_compilation { ShortLineIsNoCompilation }
     ensures faulty_item_is_dropped { FaultyItemIsDropped }
-{
-}
+{}

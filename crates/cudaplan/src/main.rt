@@ -3,9 +3,8 @@
 
 use program::run_program;
 use std::alloc::Global;
-use std::env;
-use std::io;
 use std::process::ExitCode;
+use std::{env, io};
 
 mod line;
 mod program;

@@ -23,7 +23,11 @@ struct LineCall<'a> {
 fn tool_named(name: &str) -> Option<Tool>
     ensures { result ≡ tool_of_name name.now }
 {
-    if name == "cicc" { Some(Tool::Cicc) } else { None }
+    if name == "cicc" {
+        Some(Tool::Cicc)
+    } else {
+        None
+    }
 }
 
 ghost use Rattle.cudaplan.specs.Call.{call_of, Ends};

@@ -16,6 +16,7 @@ use std::test::Fail;
 // The device-code line, and the line that nvcc 13.0 prints for one architecture, with shorter paths.
 const DEVICE_CODE: &str = "--device-c -arch compute_80 --module_id_file_name kernel.module_id \
     kernel.cpp1.ii --simt-only -o kernel.ptx";
+
 const ONE_ARCHITECTURE: &str = "--c++17 --static-host-stub --device-hidden-visibility \
     --gnu_version=120200 --display_error_number --orig_src_file_name kernel.cu \
     --orig_src_path_name /w/kernel.cu --allow_managed -arch compute_80 -m64 --no-version-ident \
@@ -30,7 +31,14 @@ fn read(
     line: &str,
 ) -> Result<CompilerArguments<ParsedArguments>, AllocError> {
     let words = words(alloc, line)?;
-    cicc::parse_arguments(alloc, words.as_slice(), cwd, Language::Ptx, cicc::table(), 3)
+    cicc::parse_arguments(
+        alloc,
+        words.as_slice(),
+        cwd,
+        Language::Ptx,
+        cicc::table(),
+        3,
+    )
 }
 
 // The line that `line` is written back as, or what stops it.
@@ -44,12 +52,7 @@ fn written(alloc: Global, cwd: &str, line: &str) -> Result<String, AllocError> {
     }
 }
 
-fn check_line(
-    rt: &impl Abort,
-    alloc: Global,
-    line: &str,
-    want: &str,
-) -> Result<(), AllocError> {
+fn check_line(rt: &impl Abort, alloc: Global, line: &str, want: &str) -> Result<(), AllocError> {
     let expected = joined(alloc, words(alloc, want)?.as_slice())?;
     let got = written(alloc, "/w", line)?;
     assert_eq!(rt; got.as_str(), expected.as_str(), "{line}");
@@ -107,8 +110,14 @@ fn check_files(
     parsed: &ParsedArguments,
     want: &str,
 ) -> Result<(), AllocError> {
-    assert_eq!(rt; joined(alloc, parsed.extra_dist_files.as_slice())?.as_str(), want);
-    assert_eq!(rt; joined(alloc, parsed.extra_hash_files.as_slice())?.as_str(), want);
+    assert_eq!(rt;
+        joined(alloc, parsed.extra_dist_files.as_slice())?.as_str(),
+        want
+    );
+    assert_eq!(rt;
+        joined(alloc, parsed.extra_hash_files.as_slice())?.as_str(),
+        want
+    );
     Ok(())
 }
 
@@ -133,7 +142,10 @@ fn check_device_code(
     };
     let common = "--device-c -arch compute_80 --module_id_file_name kernel.module_id --simt-only";
     assert_eq!(rt; parsed.input.as_str(), "kernel.cpp1.ii");
-    assert_eq!(rt; joined(alloc, parsed.common_args.as_slice())?.as_str(), common);
+    assert_eq!(rt;
+        joined(alloc, parsed.common_args.as_slice())?.as_str(),
+        common
+    );
     assert!(rt; parsed.unhashed_args.is_empty());
     assert!(rt; parsed.language == Language::Ptx);
     assert!(rt; parsed.color_mode == ColorMode::Off);
@@ -183,14 +195,22 @@ fn check_generated(
 
 #[test]
 fn generated_module_id_is_an_output(rt: HostRuntime) -> Result<(), Fail> {
-    let line = "--gen_module_id_file --module_id_file_name k.id --stub_file_name s.c k.cpp1.ii -o p";
+    let line =
+        "--gen_module_id_file --module_id_file_name k.id --stub_file_name s.c k.cpp1.ii -o p";
     let answer = read(rt.alloc(), "/w", line)?;
     check_generated(&rt, rt.alloc(), &answer)?;
     Ok(())
 }
 
-fn command_of(alloc: Global, cwd: &str, line: &str) -> Result<(SingleCompileCommand, Cacheable), Fault> {
-    let env_vars = [(String::from_str(alloc, "PATH")?, String::from_str(alloc, "/b")?)];
+fn command_of(
+    alloc: Global,
+    cwd: &str,
+    line: &str,
+) -> Result<(SingleCompileCommand, Cacheable), Fault> {
+    let env_vars = [(
+        String::from_str(alloc, "PATH")?,
+        String::from_str(alloc, "/b")?,
+    )];
     match read(alloc, "/w", line)? {
         CompilerArguments::Ok(parsed) => {
             cicc::generate_compile_commands(alloc, "/b/cicc", &parsed, cwd, &env_vars)
@@ -250,14 +270,22 @@ fn items_over_a_table(rt: HostRuntime) -> Result<(), Fail> {
     }
     assert!(rt; !items.refused());
     let text = joined(alloc, list.as_slice())?;
-    assert_eq!(rt; text.as_str(), "x --unknown --gen_module_id_file -o p (faulty)");
+    assert_eq!(rt;
+        text.as_str(),
+        "x --unknown --gen_module_id_file -o p (faulty)"
+    );
     Ok(())
 }
 
 #[test]
 fn data_of_an_item(rt: HostRuntime) -> Result<(), Fail> {
     let value = String::from_str(rt.alloc(), "p")?;
-    let item = Argument::WithValue("-o", cicc::ArgData::Output, value, ArgDisposition::Separated);
+    let item = Argument::WithValue(
+        "-o",
+        cicc::ArgData::Output,
+        value,
+        ArgDisposition::Separated,
+    );
     assert!(rt; item.get_data() == Some(&cicc::ArgData::Output));
     assert_eq!(rt; item.value(), "p");
     assert!(rt; item.flag_str().is_some());
@@ -269,7 +297,10 @@ fn data_of_an_item(rt: HostRuntime) -> Result<(), Fail> {
 
 #[test]
 fn rows_of_a_table(rt: HostRuntime) -> Result<(), Fail> {
-    let row = cicc::table().search("--gen_c_file_name").copied().ok_or("a row")?;
+    let row = cicc::table()
+        .search("--gen_c_file_name")
+        .copied()
+        .ok_or("a row")?;
     assert_eq!(rt; row.text(), "--gen_c_file_name");
     assert!(rt; row.kind() == cicc::ArgData::UnhashedOutput);
     assert!(rt; row.disposition() == Some(ArgDisposition::Separated));

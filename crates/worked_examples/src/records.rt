@@ -95,8 +95,18 @@ fn faults_of_lines(rt: HostRuntime) -> Result<(), Fail> {
     };
     check_fault(&rt, alloc, &cuda, "Missing \"cuda\" file output")?;
     check_fault(&rt, alloc, &Fault::NoFileName, "output has no file name")?;
-    check_fault(&rt, alloc, &Fault::KeepDirValue, "keep directory without a value")?;
-    check_fault(&rt, alloc, &Fault::ThreadsValue, "--threads without a value")?;
+    check_fault(
+        &rt,
+        alloc,
+        &Fault::KeepDirValue,
+        "keep directory without a value",
+    )?;
+    check_fault(
+        &rt,
+        alloc,
+        &Fault::ThreadsValue,
+        "--threads without a value",
+    )?;
     let text = "PCH not supported by nvcc";
     let no_preprocess = Fault::NoPreprocess(Text::copy_of(alloc, text)?);
     check_fault(&rt, alloc, &no_preprocess, text)?;

@@ -20,7 +20,11 @@ fn paths(rt: HostRuntime) -> Result<(), Fail> {
         ("/w/", "é", "/w/é"),
     ];
     for (base, path, want) in rows {
-        assert_eq!(rt; join(alloc, base, path)?.as_str(), want, "{base} and {path}");
+        assert_eq!(rt;
+            join(alloc, base, path)?.as_str(),
+            want,
+            "{base} and {path}"
+        );
     }
     assert!(rt; is_absolute("/"));
     assert!(rt; !is_absolute(""));
@@ -59,7 +63,10 @@ fn holders_of_texts(rt: HostRuntime) -> Result<(), Fail> {
 fn environments(rt: HostRuntime) -> Result<(), Fail> {
     let alloc = rt.alloc();
     let mut list = Variables::new(alloc);
-    list.push(String::from_str(alloc, "PATH")?, String::from_str(alloc, "/b")?)?;
+    list.push(
+        String::from_str(alloc, "PATH")?,
+        String::from_str(alloc, "/b")?,
+    )?;
     let copy = list.try_clone(alloc)?;
     assert!(rt; list == copy);
     list.push(String::from_str(alloc, "PATH")?, String::new(alloc))?;

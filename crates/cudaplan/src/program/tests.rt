@@ -6,7 +6,9 @@ use std::io;
 use std::test::Fail;
 
 const USAGE_LINE: &str = "usage: cudaplan line TOOL CWD WORD.. | plan CWD TMP FLAG DRY1 DRY2\n";
+
 const NO_OUTPUT: &str = "cudaplan: Missing \"ptx\" file output\n";
+
 const DEVICE_CODE: &str = "line cicc /w --device-c -arch compute_80 --module_id_file_name \
     kernel.module_id kernel.cpp1.ii --simt-only -o kernel.ptx";
 
@@ -76,7 +78,10 @@ fn closed_outputs(rt: HostRuntime) -> Result<(), Fail> {
     assert_eq!(rt; told.as_slice(), b"cudaplan: cannot write\n".as_slice());
 
     let refused = words(alloc, "line cicc /w")?;
-    assert_eq!(rt; run_program(&rt, refused.as_slice(), &mut Closed, &mut Closed), 1);
+    assert_eq!(rt;
+        run_program(&rt, refused.as_slice(), &mut Closed, &mut Closed),
+        1
+    );
     assert_eq!(rt; run_program(&rt, &[], &mut Closed, &mut Closed), 2);
     Ok(())
 }
@@ -85,7 +90,10 @@ fn closed_outputs(rt: HostRuntime) -> Result<(), Fail> {
 fn texts_of_stops(rt: HostRuntime) -> Result<(), Fail> {
     let alloc = rt.alloc();
     let rows = [
-        (Stop::Fault(cuda_below::fault::Fault::Memory), "out of memory"),
+        (
+            Stop::Fault(cuda_below::fault::Fault::Memory),
+            "out of memory",
+        ),
         (Stop::NotCompilation, "not a compilation"),
         (Stop::Write, "cannot write"),
     ];

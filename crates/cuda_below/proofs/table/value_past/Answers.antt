@@ -12,4 +12,4 @@ returns-else-is_empty c =
     let small : c.from.result < 128 = rw c.from.ensures ascii in
     let some : 0 < length c.args.rest.now = let e = c.if-is_empty.ensures in grind (arith, nat_tests) in
     subst (λ d. option_copied c.strip_prefix.result ≡ value_after (Some d) c.args.rest.now) c.from.ensures
-        (value_after-stripped c.from.result c.args.rest.now c.strip_prefix.result small some (strip_prefix_char _ _ _ c.strip_prefix.ensures.cases small))
+    (value_after-stripped c.from.result c.args.rest.now c.strip_prefix.result small some (strip_prefix_char _ _ _ c.strip_prefix.ensures.cases small))

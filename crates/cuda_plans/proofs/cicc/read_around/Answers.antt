@@ -16,5 +16,5 @@ returns g c =
     let all = c.in_ok-gathered.ensures ∙ (ap (λ t. fold (with_item cwd) nothing_gathered (items (g.S.SearchableArgInfo.chosen t) (words_left c.over-line.result))) table ∙ ap (λ ws. fold (with_item cwd) nothing_gathered (items (g.S.SearchableArgInfo.chosen c.args.arg_info) ws)) left) in
     let input = c.in_ok-input.ensures ∙ c.word_at.ensures in
     subst (λ q. IfOk c.into_arguments.result (λ p. p ≡ q))
-        (ap (λ w. reading_of_gathered cwd c.args.language w c.in_ok-gathered.gathered) input ∙ (ap (reading_of_gathered cwd c.args.language (slice_index_or words c.args.place [])) all ∙ reading-gathered cwd c.args.language (slice_index_or words c.args.place []) (items (g.S.SearchableArgInfo.chosen c.args.arg_info) (remove words c.args.place))))
-        c.into_arguments.ensures
+    (ap (λ w. reading_of_gathered cwd c.args.language w c.in_ok-gathered.gathered) input ∙ (ap (reading_of_gathered cwd c.args.language (slice_index_or words c.args.place [])) all ∙ reading-gathered cwd c.args.language (slice_index_or words c.args.place []) (items (g.S.SearchableArgInfo.chosen c.args.arg_info) (remove words c.args.place))))
+    c.into_arguments.ensures

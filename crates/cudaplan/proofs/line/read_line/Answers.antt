@@ -11,4 +11,4 @@ pub returns : goal.returns
 returns c =
     let words = map string_bytes c.args.words.now in
     elim c.args.tool as (λ t. IfOk c.parse_arguments.result (λ r. r ≡ answer_of (tool_reading t c.args.cwd.now words)))
-        [ Cicc ↦ subst (λ es. IfOk c.parse_arguments.result (λ r. r ≡ answer_of (reading (longest_match es) c.args.cwd.now Ptx 3 words))) c.table.ensures c.parse_arguments.ensures ]
+    [ Cicc ↦ subst (λ es. IfOk c.parse_arguments.result (λ r. r ≡ answer_of (reading (longest_match es) c.args.cwd.now Ptx 3 words))) c.table.ensures c.parse_arguments.ensures ]

@@ -9,4 +9,4 @@ loop-key-init c =
     let entries = c.self.inside.files.entries in
     let given = c.into_iter-key-iterator.ensures.into_iter_gives in
     rw (c.new-copy.ensures, given, c.iter-key-items.ensures.rest)
-        (fold-sorted (slice_cmp nat_cmp) nat_list_cmp_total (map (λ e. (e.0.now, e.1)) entries) (sorted-seen (λ k. k.now) (slice_cmp nat_cmp) entries c.iter-key-items.ensures.ordered) ∙ c.self.view_is)
+    (fold-sorted (slice_cmp nat_cmp) nat_list_cmp_total (map (λ e. (e.0.now, e.1)) entries) (sorted-seen (λ k. k.now) (slice_cmp nat_cmp) entries c.iter-key-items.ensures.ordered) ∙ c.self.view_is)
