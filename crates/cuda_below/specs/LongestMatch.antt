@@ -1,11 +1,11 @@
 -- The entry that a list chooses is a longest match, and so is the longer one of two tables' choices.
-use Rattle.std.proofs.Common.{◌≡◌, ℕ, ◌<◌, ◌≤◌, Bool, true, false, cond, ◌&&◌, List, [], ◌∷◌, ◌++◌, Option, Some, None, length, refl, sym, subst, arith, append_assoc, nat_lt, append-nil}
-use Rattle.std.specs.List.{All, Contains, fold}
-use Rattle.std.specs.Option.{is_some, IsSome, MatchOption}
+use Rattle.std.proofs.Common.{◌≡◌, ℕ, ◌≤◌, true, false, cond, ◌&&◌, List, [], ◌∷◌, ◌++◌, Option, Some, None, length, refl, sym, subst, arith, append_assoc, nat_lt, append-nil}
+use Rattle.std.specs.List.{All, fold}
+use Rattle.std.specs.Option.{is_some, IsSome}
 use Rattle.std.proofs.lemmas.List.Elements.{All-nil, All-push, All-weaker, All-append, Contains-push, Contains-append_left, Contains-append_right}
 use Rattle.std.proofs.lemmas.Bool.{false≢true}
-use Rattle.std.proofs.lemmas.Bool.Decides.{Decides-ltb, nat_tests}
-use Rattle.cuda_below.specs.Table.{Entry, Matched, matched, is_longer, longer_match, longest_match, longer_choice, IsLongestMatch}
+use Rattle.std.proofs.lemmas.Bool.Decides.{nat_tests}
+use Rattle.cuda_below.specs.Table.{Entry, matched, is_longer, longer_match, longest_match, longer_choice, IsLongestMatch}
 
 module _ {T : Type 0} (word : List ℕ) where
   -- an entry doesn't match

@@ -1,5 +1,5 @@
 -- The numbers by which Unix says how a process ended.
-use Rattle.std.proofs.Common.{◌≡◌, ℕ, ◌-◌, ◌*◌, ◌%◌, ℤ, pos, negsuc, refl}
+use Rattle.std.proofs.Common.{◌≡◌, ◌-◌, ◌*◌, ◌%◌, ℤ, pos, negsuc, refl}
 
 -- the number of a process that exits with a code, of which the low eight bits count; they stand in bits 8 to 15
 abbrev pub status_of_code : ℤ → ℤ

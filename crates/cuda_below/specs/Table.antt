@@ -1,5 +1,5 @@
 -- Option tables: what an entry makes of a word, and which entry of a table a word chooses.
-use Rattle.std.specs.Prelude.{◌≡◌, ℕ, ◌<◌, ◌≤◌, List, [], ◌∷◌, Bool, true, false, ◌==◌, ◌&&◌, nat_lt, if◌then◌else◌, Option, Some, None, is_some, length, fold, map, IsSome, MatchOption, All, Contains}
+use Rattle.std.specs.Prelude.{◌≡◌, ℕ, ◌≤◌, List, [], ◌∷◌, Bool, true, ◌==◌, ◌&&◌, nat_lt, if◌then◌else◌, Option, Some, None, is_some, length, fold, IsSome, MatchOption, All, Contains}
 use Rattle.std.specs.Option.{option_map, option_and_then}
 use Rattle.cuda_below.specs.declared.table.ArgDisposition.{ArgDisposition}
 use Rattle.cuda_below.specs.declared.table.ArgDisposition.TheVariants.{Separated, Concatenated, CanBeSeparated, CanBeConcatenated}

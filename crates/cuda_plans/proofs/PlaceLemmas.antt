@@ -1,9 +1,9 @@
 -- Places in a line.
-use Rattle.std.proofs.Common.{◌≡◌, ℕ, List, [], ◌∷◌, Bool, true, false, not, map, length, refl, ap, sym, Some, None, cond, nat_lt, String, Global, string_bytes}
+use Rattle.std.proofs.Common.{◌≡◌, ℕ, List, [], ◌∷◌, Bool, not, map, length, refl, String, Global, string_bytes}
 use Rattle.cuda_below.specs.declared.language.Language.{Language}
 use Rattle.cuda_plans.specs.Cicc.{is_input_word}
 use Rattle.cuda_plans.specs.Reading.{input_place, first_place, place_from_end}
-use Rattle.std.specs.List.{position, position_or_len, prefix_len}
+use Rattle.std.specs.List.{position, prefix_len}
 use Rattle.std.proofs.lemmas.List.{length-map}
 
 prefix_len-map : {A B : Type 0} (p : B → Bool) (f : A → B) (xs : List A) → prefix_len p (map f xs) ≡ prefix_len (λ x. p (f x)) xs

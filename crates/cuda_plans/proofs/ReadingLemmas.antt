@@ -1,14 +1,13 @@
 -- What a loop over the items gathers is what the reading's filters say.
-use Rattle.std.proofs.Common.{◌≡◌, ℕ, List, [], ◌∷◌, ◌++◌, Bool, true, false, cond, ◌||◌, Option, Some, None, map, refl, ap, sym, ◌∙◌, append_assoc, append-nil, filter}
+use Rattle.std.proofs.Common.{◌≡◌, ℕ, List, [], ◌∷◌, ◌++◌, Bool, true, false, cond, ◌||◌, Some, None, map, refl, ap, sym, ◌∙◌, append_assoc, append-nil, filter}
 use Rattle.std.specs.List.{filter_map, cons_option, flat_map, list_any, fold}
 use Rattle.std.proofs.lemmas.List.Sums.{fold-append}
 use Rattle.cuda_below.specs.declared.language.Language.{Language}
-use Rattle.cuda_below.specs.declared.outputs.ArtifactDescriptor.{ArtifactDescriptor}
 use Rattle.cuda_below.specs.Outputs.{with_entry}
 use Rattle.cuda_below.specs.Items.{Item, words_of, kind_of}
 use Rattle.cuda_plans.specs.declared.cicc.ArgData.{ArgData}
 use Rattle.cuda_plans.specs.declared.gathered.Gathered.{Gathered}
-use Rattle.cuda_plans.specs.Reading.{is_common, beside, is_unhashed_kind, output_of, module_id_of, is_generating, module_id_output, reading_of_items}
+use Rattle.cuda_plans.specs.Reading.{is_common, beside, is_unhashed_kind, output_of, module_id_of, is_generating, reading_of_items}
 use Rattle.cuda_plans.specs.Gathered.{nothing_gathered, with_item, with_output, latest, reading_of_gathered}
 
 -- words put after those so far, where a test says so

@@ -1,12 +1,12 @@
 -- cicc's options, and how its input is known.
-use Rattle.std.proofs.Common.{◌≡◌, ℕ, List, [], ◌∷◌, Bool, true, false, Option, Some, None, nat_eq, codes, map, refl}
+use Rattle.std.proofs.Common.{ℕ, List, [], ◌∷◌, Bool, false, Some, None, nat_eq, codes}
 use Rattle.std.specs.List.{ends_with}
 use Rattle.cuda_below.specs.declared.language.Language.{Language}
 use Rattle.cuda_below.specs.declared.language.Language.TheVariants.{C, Cxx, ObjectiveC, ObjectiveCxx, Cuda, CudaFE, Ptx, Cubin}
 use Rattle.cuda_below.specs.declared.table.ArgDisposition.TheVariants.{Separated}
 use Rattle.cuda_below.specs.Table.{Entry}
 use Rattle.cuda_plans.specs.declared.cicc.ArgData.{ArgData}
-use Rattle.cuda_plans.specs.declared.cicc.ArgData.TheVariants.{Output, PassThrough, UnhashedFlag, GenModuleIdFileFlag, ModuleIdFileName, UnhashedPassThrough, UnhashedOutput}
+use Rattle.cuda_plans.specs.declared.cicc.ArgData.TheVariants.{Output, PassThrough, GenModuleIdFileFlag, ModuleIdFileName, UnhashedOutput}
 
 -- an option without a value, and one whose value is the next word
 abbrev pub plain_flag : List ℕ → ArgData → Entry ArgData

@@ -1,5 +1,5 @@
 -- What reading a device tool's line has gathered, and how one more item changes it.
-use Rattle.std.specs.Prelude.{ℕ, List, [], ◌++◌, Bool, true, false, ◌&&◌, ◌||◌, if◌then◌else◌, Option, Some, None, is_some}
+use Rattle.std.specs.Prelude.{ℕ, List, [], ◌++◌, Bool, false, ◌||◌, if◌then◌else◌, Option, Some, None, is_some}
 use Rattle.std.specs.List.{fold}
 use Rattle.cuda_below.specs.declared.arguments.ColorMode.TheVariants.{Off}
 use Rattle.cuda_below.specs.declared.arguments.ParsedArguments.{ParsedArguments}

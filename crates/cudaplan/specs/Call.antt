@@ -1,11 +1,10 @@
 -- The calls of the program, and how they end.
-use Rattle.std.specs.Prelude.{◌≡◌, ℕ, ◌≤◌, List, [], ◌∷◌, Bool, if◌then◌else◌, Option, Some, None, Result, Ok, MatchOption, codes}
+use Rattle.std.specs.Prelude.{◌≡◌, ℕ, ◌≤◌, List, [], ◌∷◌, if◌then◌else◌, Option, Some, None, Ok, MatchOption, codes}
 use Rattle.std.specs.Option.{option_map}
 use Rattle.std.specs.Str.{bytes_eq}
 use Rattle.std.specs.Io.KnownBytes.{Keeps, Appends}
 use Rattle.cudaplan.specs.declared.line.Tool.{Tool}
 use Rattle.cudaplan.specs.declared.line.Tool.TheVariants.{Cicc}
-use Rattle.cudaplan.specs.declared.stop.Stop.{Stop}
 use Rattle.cudaplan.specs.Shown.{shown_line}
 
 -- a call that reads a line: the tool, the working directory and the line's words

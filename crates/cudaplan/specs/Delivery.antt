@@ -1,5 +1,5 @@
 -- What an engine does with its writer.
-use Rattle.std.specs.Prelude.{◌≡◌, ℕ, List, Option, Result, Ok, Err, IsOk, IfOk}
+use Rattle.std.specs.Prelude.{◌≡◌, ℕ, List, Option, Result, Ok, Err, IsOk}
 use Rattle.std.specs.Io.KnownBytes.{Keeps, Appends}
 use Rattle.cuda_below.specs.declared.fault.Fault.{Fault}
 use Rattle.cuda_below.specs.declared.fault.Fault.TheVariants.{NotUtf8, BadShell, EmptyCommand, NoPath, NotFound, MissingOutput, NoFileName, KeepDirValue, ThreadsValue, NoPreprocess, Process, Runner, Read, Memory}

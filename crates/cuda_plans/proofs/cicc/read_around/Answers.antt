@@ -1,7 +1,7 @@
-use Rattle.std.proofs.Common.{◌≡◌, List, [], ◌∙◌, ap, subst, map, string_bytes, slice_index_or}
+use Rattle.std.proofs.Common.{◌≡◌, [], ◌∙◌, ap, subst, map, string_bytes, slice_index_or}
 use Rattle.std.specs.List.{fold, remove}
 use Rattle.std.specs.Result.{IfOk}
-use Rattle.cuda_below.specs.ArgsIter.{words_left, table_of}
+use Rattle.cuda_below.specs.ArgsIter.{words_left}
 use Rattle.cuda_below.specs.Items.{items}
 use Rattle.cuda_plans.proofs.ReadingLemmas.{reading-gathered}
 use Rattle.cuda_plans.specs.Gathered.{nothing_gathered, with_item, reading_of_gathered}

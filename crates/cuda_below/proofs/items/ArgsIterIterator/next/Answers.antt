@@ -1,4 +1,4 @@
-use Rattle.std.proofs.Common.{◌≡◌, Option, refl, subst, sym, true, ◌∙◌}
+use Rattle.std.proofs.Common.{Option, refl, subst, sym, ◌∙◌}
 use Rattle.std.proofs.lemmas.Bool.{false≢true}
 use Rattle.cuda_below.specs.Table.{Entry}
 use Rattle.cuda_below.specs.Items.{Completes, said_of, item_read}

@@ -1,4 +1,4 @@
-use Rattle.std.proofs.Common.{◌≡◌, ◌∙◌, map, nat_cmp}
+use Rattle.std.proofs.Common.{◌∙◌, map, nat_cmp}
 use Rattle.std.proofs.lemmas.Cmp.{nat_list_cmp_total}
 use Rattle.std.specs.Cmp.Lexicographic.{slice_cmp}
 use Rattle.cuda_below.proofs.Sorted.{fold-sorted, sorted-seen}
