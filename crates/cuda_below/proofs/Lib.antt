@@ -1,3 +1,4 @@
+pub mod EqualityLemmas
 pub mod ItemLemmas
 pub mod ListLemmas
 pub mod PathLaw

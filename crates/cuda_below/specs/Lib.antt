@@ -1,4 +1,5 @@
 pub mod ArgsIter
+pub mod Equality
 pub mod Fault
 pub mod Items
 pub mod Language

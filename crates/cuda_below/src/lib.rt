@@ -7,6 +7,7 @@ pub mod command;
 pub mod fault;
 pub mod items;
 pub mod language;
+pub mod laws;
 pub mod outputs;
 pub mod status;
 pub mod table;
