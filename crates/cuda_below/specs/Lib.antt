@@ -1,4 +1,5 @@
 pub mod ArgsIter
+pub mod Compiler
 pub mod Equality
 pub mod Fault
 pub mod Items

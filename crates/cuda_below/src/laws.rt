@@ -2,6 +2,7 @@
 
 ghost use Rattle.cuda_below.specs.Equality.{TellsEqual};
 
+use crate::arguments::ParsedArguments;
 use crate::bytes::Bytes;
 use crate::command::SingleCompileCommand;
 use crate::outputs::{ArtifactDescriptor, Outputs};
@@ -20,6 +21,7 @@ pub fn equality()
     ensures outputs { TellsEqual ⟦<Outputs as PartialEq>⟧.eq }
     ensures output { TellsEqual ⟦<Output as PartialEq>⟧.eq }
     ensures status { TellsEqual ⟦<ExitStatus as PartialEq>⟧.eq }
+    ensures arguments { TellsEqual ⟦<ParsedArguments as PartialEq>⟧.eq }
     ensures command { TellsEqual ⟦<SingleCompileCommand as PartialEq>⟧.eq }
 {
 }

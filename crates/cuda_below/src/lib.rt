@@ -4,6 +4,7 @@
 pub mod arguments;
 pub mod bytes;
 pub mod command;
+pub mod compiler;
 pub mod fault;
 pub mod items;
 pub mod language;
