@@ -1,4 +1,6 @@
 pub mod EqualityLemmas
+pub mod ExtensionLemmas
+pub mod GccLemmas
 pub mod ItemLemmas
 pub mod ListLemmas
 pub mod PathLaw

@@ -5,6 +5,8 @@ use Rattle.cuda_below.specs.declared.table.ArgDisposition.TheVariants.{Separated
 use Rattle.cuda_below.specs.declared.items.Argument.{Argument}
 use Rattle.cuda_below.specs.declared.items.Argument.TheVariants.{Raw, UnknownFlag, Flag, WithValue}
 use Rattle.cuda_below.specs.declared.items.ArgParseError.{ArgParseError}
+use Rattle.cuda_below.specs.declared.items.NormalizedDisposition.{NormalizedDisposition}
+use Rattle.cuda_below.specs.declared.items.NormalizedDisposition.TheVariants as normal
 use Rattle.cuda_below.specs.Table.{Entry, Matched, lone, joined, awaiting, matched}
 
 -- an item of a command line: a word of no option, an unknown flag, a flag, an option with its value and how
@@ -101,7 +103,24 @@ value_words text value (CanBeConcatenated delimiter) = text ∷ value ∷ []
 value_words text value (Concatenated delimiter) = ((text ++ delimiter_before value delimiter) ++ value) ∷ []
 value_words text value (CanBeSeparated delimiter) = ((text ++ delimiter_before value delimiter) ++ value) ∷ []
 
+-- how a value is to stand whose option may be written both ways; any other stands as it stood
+abbrev pub normal_form : NormalizedDisposition → ArgDisposition → ArgDisposition
+normal_form disposition Separated = Separated
+normal_form disposition (Concatenated delimiter) = Concatenated delimiter
+normal_form normal.Separated (CanBeSeparated delimiter) = Separated
+normal_form normal.Concatenated (CanBeSeparated delimiter) = Concatenated delimiter
+normal_form normal.Separated (CanBeConcatenated delimiter) = Separated
+normal_form normal.Concatenated (CanBeConcatenated delimiter) = Concatenated delimiter
+
 module _ {T : Type 0} where
+  -- an item as it is to be written
+  abbrev pub normalized : NormalizedDisposition → Item T → Item T
+  normalized disposition (raw word) = raw word
+  normalized disposition (unknown_flag word) = unknown_flag word
+  normalized disposition (flag text kind) = flag text kind
+  normalized disposition (with_value text kind value form) = with_value text kind value (normal_form disposition form)
+  normalized disposition faulty = faulty
+
   -- the words that an item is written as; a faulty one has none
   abbrev pub words_of : Item T → List (List ℕ)
   words_of (raw word) = word ∷ []
@@ -126,7 +145,7 @@ module _ {T : Type 0} where
   text_of (with_value text kind value form) = Some text
   text_of faulty = None
 
-  -- the value of the option that an item is; where a table gives a flag a kind that asks for one, it is empty
+  -- the value that an item has, and the empty text where it has none
   abbrev pub value_of : Item T → List ℕ
   value_of (raw word) = []
   value_of (unknown_flag word) = []

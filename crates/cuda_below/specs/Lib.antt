@@ -1,7 +1,13 @@
 pub mod ArgsIter
 pub mod Compiler
 pub mod Equality
+pub mod Extension
 pub mod Fault
+pub mod Gcc
+pub mod GccItems
+pub mod GccOptions
+pub mod GccRows
+pub mod GccSteps
 pub mod Items
 pub mod Language
 pub mod LongestMatch

@@ -55,7 +55,7 @@ pub trait CCompilerImpl {
 
     /// What arguments are written back as: of the executable, the arguments, the working directory,
     /// the environment and the places.
-    ghost writing: { Self → List ℕ → ParsedArguments → List ℕ → List (List ℕ × List ℕ) → Places → Result (Command × Cacheable) Fault };
+    ghost writing: { Self → List ℕ → ParsedArguments → List ℕ → List (List ℕ × List ℕ) → Places → Result (Self.Command × Cacheable) Fault };
 
     /// Which tool it is.
     fn kind(&self) -> CCompilerKind

@@ -59,6 +59,14 @@ impl<'a> Line<'a> {
         self.back = rest;
         Some(word.as_str())
     }
+
+    /// Puts the words that are left last among `words`.
+    pub fn write(self, alloc: Global, words: &mut Words) -> Result<(), AllocError>
+        ensures { OnOk result (words.new ≡ words.old ++ self.entry) }
+    {
+        words.extend(alloc, self.front)?;
+        words.extend(alloc, self.back)
+    }
 }
 
 /// An item of a command line. `T` is the kind that its table gives each option.
@@ -74,6 +82,15 @@ pub enum Argument<T: Copy> {
     WithValue(&'static str, T, String, ArgDisposition),
 }
 
+/// How the words of an option are to stand that may be written both ways.
+#[derive(Clone, Copy, Debug, PartialEq)]
+pub enum NormalizedDisposition {
+    /// The option and its value as two words.
+    Separated,
+    /// Both in one word.
+    Concatenated,
+}
+
 /// Why a word is no item.
 #[derive(Clone, Copy, Debug, PartialEq)]
 pub enum ArgParseError {
@@ -82,7 +99,7 @@ pub enum ArgParseError {
 }
 
 impl<T: Copy> Argument<T> {
-    ghost use Rattle.cuda_below.specs.Items.{item_of, words_of, kind_of, text_of, value_of, unmatched_item};
+    ghost use Rattle.cuda_below.specs.Items.{item_of, words_of, kind_of, text_of, value_of, normalized, unmatched_item};
 
     /// The option's kind, where the item is an option.
     pub fn get_data(&self) -> Option<&T>
@@ -106,13 +123,26 @@ impl<T: Copy> Argument<T> {
         }
     }
 
-    /// The option's value; empty where the item has none.
+    /// The option's value, as the line gives it; empty for an item that takes none.
     pub fn value(&self) -> &str
         ensures { result.now ≡ value_of (item_of self.now) }
     {
         match self {
+            Argument::Raw(_) | Argument::UnknownFlag(_) | Argument::Flag(_, _) => "",
             Argument::WithValue(_, _, value, _) => value.as_str(),
-            _ => "",
+        }
+    }
+
+    /// The same item, to be written as `disposition` says where its option may be written both ways.
+    /// Any other item stays as it is.
+    pub fn normalize(self, disposition: NormalizedDisposition) -> Argument<T>
+        ensures { item_of result ≡ normalized disposition (item_of self) }
+    {
+        match self {
+            Argument::WithValue(text, kind, value, form) => {
+                Argument::WithValue(text, kind, value, form.normalize(disposition))
+            }
+            item => item,
         }
     }
 
@@ -144,7 +174,23 @@ impl<T: Copy> Argument<T> {
     }
 }
 
-ghost use Rattle.cuda_below.specs.Items.{value_words, delimiter_before};
+ghost use Rattle.cuda_below.specs.Items.{value_words, delimiter_before, normal_form};
+
+impl ArgDisposition {
+    // How a value is written that stood like this.
+    fn normalize(self, disposition: NormalizedDisposition) -> ArgDisposition
+        ensures { result ≡ normal_form disposition self }
+    {
+        match self {
+            ArgDisposition::CanBeSeparated(delimiter)
+            | ArgDisposition::CanBeConcatenated(delimiter) => match disposition {
+                NormalizedDisposition::Separated => ArgDisposition::Separated,
+                NormalizedDisposition::Concatenated => ArgDisposition::Concatenated(delimiter),
+            },
+            ArgDisposition::Separated | ArgDisposition::Concatenated(_) => self,
+        }
+    }
+}
 
 // The words of an option with its value.
 fn write_value(
@@ -266,7 +312,7 @@ impl<'a, T: Copy, S: SearchableArgInfo<T> + Drop> Iterator for ArgsIter<'a, T, S
 ghost use Rattle.cuda_below.specs.Items.{item_of, item_read, joined_form, separate_form, separate_item, last_item, with_value, said_of, Completes};
 
 // The item that `word` begins, whose table row is `row`. An option takes its value from `line`.
-fn read_item<T: Copy>(
+pub(crate) fn read_item<T: Copy>(
     alloc: Global,
     row: Option<&ArgInfo<T>>,
     word: &str,

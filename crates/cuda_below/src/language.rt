@@ -1,7 +1,9 @@
 //! The languages of the files that the tools read.
 
 ghost use Rattle.std.specs.Prelude.{◌≡◌};
-ghost use Rattle.cuda_below.specs.Language.{language_text};
+ghost use Rattle.cuda_below.specs.Language.{language_text, language_of_file};
+
+use crate::extension::extension;
 
 /// The language of a file, or the kind of what a CUDA tool makes of it.
 #[derive(Clone, Copy, Debug, PartialEq)]
@@ -30,6 +32,21 @@ impl Language {
             Language::Cuda | Language::CudaFE => "cuda",
             Language::Ptx => "ptx",
             Language::Cubin => "cubin",
+        }
+    }
+
+    /// The language of a file, by its extension: `c` is C; `cc`, `cpp`, `cxx`, `c++` and `C` are
+    /// C++; `m` is Objective-C; `mm` and `M` are Objective-C++; `cu` is CUDA. `None` for any other.
+    pub fn from_file_name(path: &str) -> Option<Language>
+        ensures { result ≡ language_of_file path.now }
+    {
+        match extension(path)? {
+            "c" => Some(Language::C),
+            "cc" | "cpp" | "cxx" | "c++" | "C" => Some(Language::Cxx),
+            "m" => Some(Language::ObjectiveC),
+            "mm" | "M" => Some(Language::ObjectiveCxx),
+            "cu" => Some(Language::Cuda),
+            _ => None,
         }
     }
 }

@@ -23,5 +23,4 @@ pub fn equality()
     ensures status { TellsEqual ⟦<ExitStatus as PartialEq>⟧.eq }
     ensures arguments { TellsEqual ⟦<ParsedArguments as PartialEq>⟧.eq }
     ensures command { TellsEqual ⟦<SingleCompileCommand as PartialEq>⟧.eq }
-{
-}
+{}

@@ -11,7 +11,8 @@ use Rattle.cuda_below.specs.declared.arguments.CompilerArguments.TheVariants.{No
 use Rattle.cuda_below.specs.declared.arguments.CompilerArguments.TheVariants as answers
 use Rattle.cuda_below.specs.Path.{joined}
 use Rattle.cuda_below.specs.Outputs.{entries_from}
-use Rattle.cuda_below.specs.Table.{Entry}
+use Rattle.cuda_below.specs.Compiler.{Reading, accepted, not_compilation}
+use Rattle.cuda_below.specs.Table.{Entry, longest_match}
 use Rattle.cuda_below.specs.Items.{Item, raw, unknown_flag, flag, with_value, faulty, items, words_of, kind_of, text_of, value_of}
 use Rattle.cuda_plans.specs.declared.cicc.ArgData.{ArgData}
 use Rattle.cuda_plans.specs.declared.cicc.ArgData.TheVariants.{Output, PassThrough, UnhashedFlag, GenModuleIdFileFlag, ModuleIdFileName, UnhashedPassThrough, UnhashedOutput}
@@ -185,3 +186,12 @@ reading chosen cwd language offset words =
 abbrev pub answer_of : Option ParsedArguments → CompilerArguments ParsedArguments
 answer_of None = NotCompilation
 answer_of (Some arguments) = answers.Ok arguments
+
+-- the same, as the trait of compilers has it
+abbrev pub reading_as_answer : Option ParsedArguments → Reading
+reading_as_answer None = not_compilation
+reading_as_answer (Some arguments) = accepted arguments
+
+-- what a device tool's line is read as over a list of options
+abbrev pub tool_reading : List (Entry ArgData) → List ℕ → Language → ℕ → List (List ℕ) → Reading
+tool_reading options cwd language offset words = reading_as_answer (reading (longest_match options) cwd language offset words)

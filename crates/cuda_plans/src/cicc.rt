@@ -11,6 +11,7 @@ ghost use Rattle.cuda_plans.specs.Line.{cicc_words, written};
 use crate::gathered::gather;
 use cuda_below::arguments::{CompilerArguments, ParsedArguments};
 use cuda_below::command::{Cacheable, SingleCompileCommand};
+use cuda_below::compiler::{CCompilerImpl, CCompilerKind, Places};
 use cuda_below::fault::Fault;
 use cuda_below::items::{ArgsIter, Line};
 use cuda_below::language::Language;
@@ -219,4 +220,84 @@ pub fn generate_compile_commands(
         share_jobserver: false,
     };
     Ok((command, Cacheable::Yes))
+}
+
+/// cicc, as a compiler.
+#[derive(Debug, PartialEq, Drop)]
+pub struct Cicc {
+    /// The text of its version, where one is known.
+    pub version: Option<Text>,
+}
+
+impl Cicc {
+    ghost use Rattle.std.specs.Prelude.{◌≡◌, IfOk};
+
+    /// An equal value, in memory of its own.
+    pub fn try_clone(&self, alloc: Global) -> Result<Cicc, AllocError>
+        ensures { IfOk result (λ c. c ≡ self.now) }
+    {
+        let version = match &self.version {
+            None => None,
+            Some(version) => Some(version.try_clone(alloc)?),
+        };
+        Ok(Cicc { version })
+    }
+}
+
+impl CCompilerImpl for Cicc {
+    ghost use Rattle.std.specs.Prelude.{true};
+    ghost use Rattle.cuda_below.specs.declared.compiler.CCompilerKind.TheVariants as kinds;
+    ghost use Rattle.cuda_below.specs.declared.language.Language.TheVariants.{Ptx};
+    ghost use Rattle.cuda_plans.specs.Cicc.{cicc_options};
+    ghost use Rattle.cuda_plans.specs.Reading.{tool_reading};
+    ghost use Rattle.cuda_plans.specs.Line.{cicc_words, written};
+
+    type Command = SingleCompileCommand;
+
+    ghost kind = { λ _. kinds.Cicc };
+
+    ghost plusplus = { λ _. true };
+
+    ghost version = { λ c. c.version };
+
+    ghost reading = { λ _ words cwd _. tool_reading cicc_options cwd Ptx 3 words };
+
+    ghost writing = { λ _ executable p cwd env_vars _. written cicc_words executable p cwd env_vars };
+
+    fn kind(&self) -> CCompilerKind {
+        CCompilerKind::Cicc
+    }
+
+    fn plusplus(&self) -> bool {
+        true
+    }
+
+    fn version(&self, alloc: Global) -> Result<Option<String>, AllocError> {
+        match &self.version {
+            None => Ok(None),
+            Some(version) => Ok(Some(String::from_str(alloc, version.as_str())?)),
+        }
+    }
+
+    fn parse_arguments(
+        &self,
+        alloc: Global,
+        arguments: &[String],
+        cwd: &str,
+        _env_vars: &[(String, String)],
+    ) -> Result<CompilerArguments<ParsedArguments>, AllocError> {
+        parse_arguments(alloc, arguments, cwd, Language::Ptx, table(), 3)
+    }
+
+    fn generate_compile_commands(
+        &self,
+        alloc: Global,
+        executable: &str,
+        parsed_args: &ParsedArguments,
+        cwd: &str,
+        env_vars: &[(String, String)],
+        _places: &Places,
+    ) -> Result<(SingleCompileCommand, Cacheable), Fault> {
+        generate_compile_commands(alloc, executable, parsed_args, cwd, env_vars)
+    }
 }

@@ -1,0 +1,74 @@
+-- The extension of a text that is a path. The bytes 46 and 47 are `.` and `/`.
+use Rattle.std.specs.Prelude.{◌≡◌, ℕ, List, [], ◌∷◌, ◌++◌, ◌==◌, if◌then◌else◌, Option, Some, None, refl, codes}
+use Rattle.std.specs.Option.{option_map_or}
+use denote.Ref.{Bor}
+
+-- the texts of two parts
+abbrev pub parts_of : Bor (List ℕ) × Bor (List ℕ) → List ℕ × List ℕ
+parts_of p = (p.0.now, p.1.now)
+
+-- a byte put before the first of two parts
+abbrev pub onto_front : ℕ → Option (List ℕ × List ℕ) → List ℕ → ℕ → Option (List ℕ × List ℕ)
+onto_front c (Some p) cs mark = Some (c ∷ p.0, p.1)
+onto_front c None cs mark = if c == mark then Some ([], cs) else None
+
+-- a text split at the last place of a byte: what stands before it, and what follows it
+abbrev pub split_at_last : ℕ → List ℕ → Option (List ℕ × List ℕ)
+split_at_last mark [] = None
+split_at_last mark (c ∷ cs) = onto_front c (split_at_last mark cs) cs mark
+
+-- a path up to and with its last `/`, and nothing where it has none
+abbrev pub front_of : List ℕ → List ℕ
+front_of path = option_map_or (λ p. p.0 ++ 47 ∷ []) (split_at_last 47 path) []
+
+-- what follows a path's last `/`, and all of it where it has none
+abbrev pub last_part : List ℕ → List ℕ
+last_part path = option_map_or (λ p. p.1) (split_at_last 47 path) path
+
+-- a name's extension, of its two parts at the last `.`: there is none where that `.` comes first
+abbrev pub extension_of_parts : Option (List ℕ × List ℕ) → Option (List ℕ)
+extension_of_parts None = None
+extension_of_parts (Some ([], extension)) = None
+extension_of_parts (Some (c ∷ cs, extension)) = Some extension
+
+-- what stands before the extension of a name and the `.` before that
+abbrev pub stem_of_parts : List ℕ → Option (List ℕ × List ℕ) → List ℕ
+stem_of_parts name None = name
+stem_of_parts name (Some ([], extension)) = name
+stem_of_parts name (Some (c ∷ cs, extension)) = c ∷ cs
+
+abbrev pub stem_of : List ℕ → List ℕ
+stem_of name = stem_of_parts name (split_at_last 46 name)
+
+-- a path's extension: what follows the last `.` of its last part, unless that `.` comes first there
+abbrev pub extension_of : List ℕ → Option (List ℕ)
+extension_of path = extension_of_parts (split_at_last 46 (last_part path))
+
+-- a path with another extension
+abbrev pub with_extension : List ℕ → List ℕ → List ℕ
+with_extension path extension = ((front_of path ++ stem_of (last_part path)) ++ 46 ∷ []) ++ extension
+
+-- examples: the last `.` of the last part counts, a `.` that comes first doesn't, and a folder's doesn't
+pub replaces_the_last_extension : with_extension (codes "a/b.tar.c") (codes "o") ≡ codes "a/b.tar.o"
+replaces_the_last_extension = refl
+
+pub keeps_a_leading_dot : with_extension (codes "w/.c") (codes "o") ≡ codes "w/.c.o"
+keeps_a_leading_dot = refl
+
+pub keeps_a_folder_with_a_dot : with_extension (codes "a.b/c") (codes "o") ≡ codes "a.b/c.o"
+keeps_a_folder_with_a_dot = refl
+
+pub cuts_a_second_dot : with_extension (codes "..c") (codes "o") ≡ codes "..o"
+cuts_a_second_dot = refl
+
+pub adds_to_nothing : with_extension (codes "a/") (codes "d") ≡ codes "a/.d"
+adds_to_nothing = refl
+
+pub has_the_last_extension : extension_of (codes "a/b.tar.c") ≡ Some (codes "c")
+has_the_last_extension = refl
+
+pub has_an_empty_extension : extension_of (codes "b.") ≡ Some []
+has_an_empty_extension = refl
+
+pub has_no_extension : extension_of (codes "a.b/.c") ≡ None
+has_no_extension = refl

@@ -1,0 +1,235 @@
+-- What a gcc command line asks for, item by item.
+use Rattle.std.specs.Prelude.{ℕ, List, [], ◌∷◌, Bool, true, false, ◌==◌, if◌then◌else◌, map, filter, fold, length, Option, Some, None, is_some, option_to_list, codes}
+use Rattle.std.specs.List.{flat_map, list_any}
+use Rattle.std.specs.Option.{option_and_then, option_or}
+use Rattle.std.specs.Map.{lookup}
+use Rattle.std.specs.Str.{bytes_eq}
+use Rattle.cuda_below.specs.declared.language.Language.{Language}
+use Rattle.cuda_below.specs.declared.language.Language.TheVariants.{C, Cxx, ObjectiveC, ObjectiveCxx, Cuda, CudaFE, Ptx, Cubin}
+use Rattle.cuda_below.specs.declared.items.NormalizedDisposition.{NormalizedDisposition}
+use Rattle.cuda_below.specs.declared.items.NormalizedDisposition.TheVariants as normal
+use Rattle.cuda_below.specs.declared.gcc.ArgData.{ArgData}
+use Rattle.cuda_below.specs.declared.gcc.ArgData.TheVariants.{TooHard, TooHardFlag, PassThrough, PassThroughFlag, PreprocessorArgument, PreprocessorArgumentFlag, PreprocessorArgumentPath, DepArgumentPath, DepTarget, NeedDepTarget, DoCompilation, Output, Language as LanguageOption, Arch, Standard, ExtraHashFile, Unhashed, UnhashedFlag}
+use Rattle.cuda_below.specs.declared.gcc.Gathered.{Gathered}
+use Rattle.cuda_below.specs.Path.{joined}
+use Rattle.cuda_below.specs.Table.{Entry}
+use Rattle.cuda_below.specs.Items.{Item, raw, unknown_flag, flag, with_value, faulty, item, option, said_of, last_item, separate_item, items, normalized, words_of, text_of}
+
+module _ {T : Type 0} where
+  -- whether an item is the unknown flag `--`
+  abbrev pub is_double_dash : Item T → Bool
+  is_double_dash (raw word) = false
+  is_double_dash (unknown_flag word) = bytes_eq word (codes "--")
+  is_double_dash (flag text kind) = false
+  is_double_dash (with_value text kind value form) = false
+  is_double_dash faulty = false
+
+module _ {T : Type 0} (chosen : List ℕ → Option (Entry T)) where
+  -- the items of a line over a table, of which the first unknown flag `--` is taken out, and each word after it is
+  -- a raw item
+  abbrev pub items_to_dashes : List (List ℕ) → List (Item T)
+  items_to_dashes [] = []
+  items_to_dashes (w ∷ []) = elim (said_of w (chosen w)) [ item i ↦ if is_double_dash i then [] else i ∷ [] | option e ↦ last_item e ∷ [] ]
+  items_to_dashes (w ∷ x ∷ rest) = elim (said_of w (chosen w)) [ item i ↦ if is_double_dash i then map raw (x ∷ rest) else i ∷ items_to_dashes (x ∷ rest) | option e ↦ separate_item e x ∷ items_to_dashes rest ]
+
+  -- whether an item of a line is the unknown flag `--`
+  abbrev pub has_double_dash : List (List ℕ) → Bool
+  has_double_dash line = list_any is_double_dash (items chosen line)
+
+-- the languages that the option for the language names
+abbrev pub language_names : List (List ℕ × Language)
+language_names =
+    (codes "c", C) ∷ (codes "c++", Cxx) ∷ (codes "objective-c", ObjectiveC) ∷ (codes "objective-c++", ObjectiveCxx)
+    ∷ (codes "cu", Cuda) ∷ (codes "cuda", Cuda) ∷ []
+
+abbrev pub language_named : List ℕ → Option Language
+language_named name = lookup (bytes_eq name) language_names
+
+-- the name that the option for the language has for it
+abbrev pub name_of_language : Language → Option (List ℕ)
+name_of_language C = Some (codes "c")
+name_of_language Cxx = Some (codes "c++")
+name_of_language ObjectiveC = Some (codes "objective-c")
+name_of_language ObjectiveCxx = Some (codes "objective-c++")
+name_of_language Cuda = Some (codes "cu")
+name_of_language CudaFE = None
+name_of_language Ptx = None
+name_of_language Cubin = None
+
+-- the text that an option refuses with, of its text, value and kind
+abbrev pub refusal_of_option : List ℕ → List ℕ → ArgData → Option (List ℕ)
+refusal_of_option text value TooHard = Some text
+refusal_of_option text value TooHardFlag = Some text
+refusal_of_option text value LanguageOption = if is_some (language_named value) then None else Some (codes "-x")
+refusal_of_option text value _ = None
+
+-- the text that an item refuses with
+abbrev pub refusal_of : Item ArgData → Option (List ℕ)
+refusal_of (raw word) = None
+refusal_of (unknown_flag word) = None
+refusal_of (flag text kind) = refusal_of_option text [] kind
+refusal_of (with_value text kind value form) = refusal_of_option text value kind
+refusal_of faulty = Some (codes "argument parse")
+
+-- the text of the first item that refuses
+abbrev pub first_refusal : List (Item ArgData) → Option (List ℕ)
+first_refusal [] = None
+first_refusal (i ∷ is) = option_or (refusal_of i) (first_refusal is)
+
+-- the lists that words go to
+pub data Destination : Type 0 where
+  inputs : Destination
+  common : Destination
+  preprocessor : Destination
+  unhashed : Destination
+  architectures : Destination
+  dependencies : Destination
+  nowhere : Destination
+
+-- the list that an option's words go to
+abbrev pub destination_of_kind : ArgData → Destination
+destination_of_kind TooHard = nowhere
+destination_of_kind TooHardFlag = nowhere
+destination_of_kind PassThrough = common
+destination_of_kind PassThroughFlag = common
+destination_of_kind PreprocessorArgument = preprocessor
+destination_of_kind PreprocessorArgumentFlag = preprocessor
+destination_of_kind PreprocessorArgumentPath = preprocessor
+destination_of_kind DepArgumentPath = dependencies
+destination_of_kind DepTarget = nowhere
+destination_of_kind NeedDepTarget = dependencies
+destination_of_kind DoCompilation = nowhere
+destination_of_kind Output = nowhere
+destination_of_kind LanguageOption = nowhere
+destination_of_kind Arch = architectures
+destination_of_kind Standard = common
+destination_of_kind ExtraHashFile = common
+destination_of_kind Unhashed = unhashed
+destination_of_kind UnhashedFlag = unhashed
+
+abbrev pub destination_of : Item ArgData → Destination
+destination_of (raw word) = inputs
+destination_of (unknown_flag word) = common
+destination_of (flag text kind) = destination_of_kind kind
+destination_of (with_value text kind value form) = destination_of_kind kind
+destination_of faulty = nowhere
+
+abbrev pub to_inputs : Destination → Bool
+to_inputs inputs = true
+to_inputs _ = false
+
+abbrev pub to_common : Destination → Bool
+to_common common = true
+to_common _ = false
+
+abbrev pub to_preprocessor : Destination → Bool
+to_preprocessor preprocessor = true
+to_preprocessor _ = false
+
+abbrev pub to_unhashed : Destination → Bool
+to_unhashed unhashed = true
+to_unhashed _ = false
+
+abbrev pub to_architectures : Destination → Bool
+to_architectures architectures = true
+to_architectures _ = false
+
+abbrev pub to_dependencies : Destination → Bool
+to_dependencies dependencies = true
+to_dependencies _ = false
+
+-- how an item is written that may be written both ways: in one word where its option's text has two bytes
+abbrev pub written_form : Option (List ℕ) → NormalizedDisposition
+written_form None = normal.Separated
+written_form (Some text) = if length text == 2 then normal.Concatenated else normal.Separated
+
+abbrev pub written_item : Item ArgData → Item ArgData
+written_item i = normalized (written_form (text_of i)) i
+
+-- the words of the items that go to a list, in the order of the items
+abbrev pub words_to : (Destination → Bool) → List (Item ArgData) → List (List ℕ)
+words_to goes is = flat_map (λ i. words_of (written_item i)) (filter (λ i. goes (destination_of i)) is)
+
+-- the kinds whose items say something besides their words
+abbrev pub names_hash_file : ArgData → Bool
+names_hash_file ExtraHashFile = true
+names_hash_file _ = false
+
+abbrev pub needs_target : ArgData → Bool
+needs_target NeedDepTarget = true
+needs_target _ = false
+
+abbrev pub names_dependency_file : ArgData → Bool
+names_dependency_file DepArgumentPath = true
+names_dependency_file _ = false
+
+abbrev pub names_target : ArgData → Bool
+names_target DepTarget = true
+names_target _ = false
+
+abbrev pub asks_compilation : ArgData → Bool
+asks_compilation DoCompilation = true
+asks_compilation _ = false
+
+abbrev pub names_output : ArgData → Bool
+names_output Output = true
+names_output _ = false
+
+abbrev pub names_language : ArgData → Bool
+names_language LanguageOption = true
+names_language _ = false
+
+-- what an option of some kinds says, of its text and value, and nothing for any other item
+abbrev pub said_of_kind : {B : Type 0} → (ArgData → Bool) → (List ℕ → List ℕ → B) → Item ArgData → Option B
+said_of_kind test say (raw word) = None
+said_of_kind test say (unknown_flag word) = None
+said_of_kind test say (flag text kind) = if test kind then Some (say text []) else None
+said_of_kind test say (with_value text kind value form) = if test kind then Some (say text value) else None
+said_of_kind test say faulty = None
+
+-- what the last item says of those that say something
+abbrev pub last_said : {A B : Type 0} → (A → Option B) → List A → Option B
+last_said say is = fold (λ before i. option_or (say i) before) None is
+
+-- the paths of files whose contents are part of a cache key, below the working directory
+abbrev pub hash_files : List ℕ → List (Item ArgData) → List (List ℕ)
+hash_files cwd is = flat_map (λ i. option_to_list (said_of_kind names_hash_file (λ text value. joined cwd value) i)) is
+
+-- what an item says: the text of a flag that asks for a compilation, the language that an option names, the path of
+-- an output or a dependency file, the two words of a target, and that a target is needed
+abbrev pub flag_said : Item ArgData → Option (List ℕ)
+flag_said = said_of_kind asks_compilation (λ text value. text)
+
+abbrev pub language_said : Item ArgData → Option Language
+language_said i = option_and_then language_named (said_of_kind names_language (λ text value. value) i)
+
+abbrev pub output_said : Item ArgData → Option (List ℕ)
+output_said = said_of_kind names_output (λ text value. value)
+
+abbrev pub dependency_file_said : Item ArgData → Option (List ℕ)
+dependency_file_said = said_of_kind names_dependency_file (λ text value. value)
+
+abbrev pub target_said : Item ArgData → Option (List (List ℕ))
+target_said = said_of_kind names_target (λ text value. text ∷ value ∷ [])
+
+abbrev pub needs_target_item : Item ArgData → Bool
+needs_target_item i = is_some (said_of_kind needs_target (λ text value. text) i)
+
+-- what the items of a line ask for, of the working directory, whether `--` stands there, and the items
+abbrev pub gathered_of : List ℕ → Bool → List (Item ArgData) → Gathered
+gathered_of cwd dashes is = record {
+  inputs = words_to to_inputs is;
+  double_dash_input = dashes;
+  language = last_said language_said is;
+  compilation_flag = last_said flag_said is;
+  obj = last_said output_said is;
+  dependency_file = last_said dependency_file_said is;
+  target_needed = list_any needs_target_item is;
+  target = last_said target_said is;
+  common_args = words_to to_common is;
+  preprocessor_args = words_to to_preprocessor is;
+  arch_args = words_to to_architectures is;
+  unhashed_args = words_to to_unhashed is;
+  dependency_args = words_to to_dependencies is;
+  extra_hash_files = hash_files cwd is;
+}

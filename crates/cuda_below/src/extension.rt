@@ -1,0 +1,63 @@
+//! The extension of a path text.
+
+ghost use Rattle.std.specs.Prelude.{◌≡◌, ◌<◌, IfOk, string_bytes};
+ghost use Rattle.std.specs.Option.{option_map, option_copied};
+ghost use Rattle.cuda_below.specs.Extension.{parts_of, split_at_last, last_part, front_of, stem_of, extension_of, with_extension as with_extension_of};
+
+use std::alloc::{AllocError, Global};
+
+// A text split at the last place of the ASCII character `mark`: what stands before it, and what
+// follows it.
+fn split_last<'a>(text: &'a str, mark: char) -> Option<(&'a str, &'a str)>
+    requires { mark < 128 }
+    ensures { option_map parts_of result ≡ split_at_last mark text.now }
+{
+    text.rsplit_once(mark)
+}
+
+/// What follows the last `/` of a path text: all of it where it holds none, nothing where it ends
+/// in one.
+pub fn last(path: &str) -> &str
+    ensures { result.now ≡ last_part path.now }
+{
+    match split_last(path, '/') {
+        Some((_, name)) => name,
+        None => path,
+    }
+}
+
+// A name without its extension and the `.` before that.
+fn stem(name: &str) -> &str
+    ensures { result.now ≡ stem_of name.now }
+{
+    match split_last(name, '.') {
+        Some((stem, _)) if !stem.is_empty() => stem,
+        _ => name,
+    }
+}
+
+/// What follows the last `.` of a path's last part, unless that `.` is its first character.
+pub fn extension(path: &str) -> Option<&str>
+    ensures { option_copied result ≡ extension_of path.now }
+{
+    match split_last(last(path), '.') {
+        Some((stem, extension)) if !stem.is_empty() => Some(extension),
+        _ => None,
+    }
+}
+
+/// A path with `extension` in place of its own, or with `extension` added where it has none. So
+/// `a.b/c.cu` with `o` is `a.b/c.o`, and `.c` with `o` is `.c.o`.
+pub fn with_extension(alloc: Global, path: &str, extension: &str) -> Result<String, AllocError>
+    ensures { IfOk result (λ whole. string_bytes whole ≡ with_extension_of path.now extension.now) }
+{
+    let mut whole = String::new(alloc);
+    if let Some((folder, _)) = split_last(path, '/') {
+        whole.push_str(folder)?;
+        whole.push('/')?;
+    }
+    whole.push_str(stem(last(path)))?;
+    whole.push('.')?;
+    whole.push_str(extension)?;
+    Ok(whole)
+}
