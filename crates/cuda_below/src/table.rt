@@ -192,6 +192,20 @@ fn is_longer<T: Copy>(row: &ArgInfo<T>, best: Option<&ArgInfo<T>>) -> bool
     }
 }
 
+// The longer of two choices, and of equal length the second.
+fn longer<'a, T: Copy>(
+    first: Option<&'a ArgInfo<T>>,
+    second: Option<&'a ArgInfo<T>>,
+) -> Option<&'a ArgInfo<T>>
+    ensures { option_map entry_of (option_copied result) ≡ longer_choice (option_map entry_of (option_copied first.entry)) (option_map entry_of (option_copied second.entry)) }
+{
+    match (first, second) {
+        (Some(one), Some(other)) if other.text().len() < one.text().len() => Some(one),
+        (first, None) => first,
+        (_, second) => second,
+    }
+}
+
 /// Two tables, searched as one: the longer of their choices, and of equal length the second's. Where
 /// the second table's entry of a text doesn't match a word, it doesn't count.
 impl<T: Copy, A: SearchableArgInfo<T>, B: SearchableArgInfo<T>> SearchableArgInfo<T> for (A, B) {
@@ -206,12 +220,30 @@ impl<T: Copy, A: SearchableArgInfo<T>, B: SearchableArgInfo<T>> SearchableArgInf
     ghost longest = { λ t word. longer_choice-longest word (A.entries t.0) (B.entries t.1) (A.chosen t.0 word) (B.chosen t.1 word) (A.longest t.0 word) (B.longest t.1 word) };
 
     fn search(&self, word: &str) -> Option<&ArgInfo<T>> {
-        let first = self.0.search(word);
-        let second = self.1.search(word);
-        match (first, second) {
-            (Some(one), Some(other)) if other.text().len() < one.text().len() => Some(one),
-            (first, None) => first,
-            (_, second) => second,
-        }
+        longer(self.0.search(word), self.1.search(word))
+    }
+}
+
+/// The rows of two slices, searched as a pair of tables is. It has one lifetime, so that it can be
+/// handed to a generic reader.
+#[derive(Clone, Copy, Debug)]
+pub struct Pair<'a, T: Copy> {
+    pub first: Table<'a, T>,
+    pub second: Table<'a, T>,
+}
+
+impl<'a, T: Copy> SearchableArgInfo<T> for Pair<'a, T> {
+    ghost use Rattle.std.specs.Prelude.{map, ◌++◌};
+    ghost use Rattle.cuda_below.specs.Table.{entry_of, longest_match, longer_choice};
+    ghost use Rattle.cuda_below.specs.LongestMatch.{longest_match-longest, longer_choice-longest};
+
+    ghost entries = { λ t. map entry_of t.first.rows.now ++ map entry_of t.second.rows.now };
+
+    ghost chosen = { λ t word. longer_choice (longest_match (map entry_of t.first.rows.now) word) (longest_match (map entry_of t.second.rows.now) word) };
+
+    ghost longest = { λ t word. longer_choice-longest word (map entry_of t.first.rows.now) (map entry_of t.second.rows.now) (longest_match (map entry_of t.first.rows.now) word) (longest_match (map entry_of t.second.rows.now) word) (longest_match-longest word (map entry_of t.first.rows.now)) (longest_match-longest word (map entry_of t.second.rows.now)) };
+
+    fn search(&self, word: &str) -> Option<&ArgInfo<T>> {
+        longer(self.first.search(word), self.second.search(word))
     }
 }

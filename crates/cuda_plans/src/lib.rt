@@ -4,4 +4,5 @@
 pub mod cicc;
 mod gathered;
 pub mod laws;
+pub mod nvcc;
 pub mod shell;

@@ -3,10 +3,12 @@
 use crate::words::{joined, words};
 use cuda_below::arguments::{ColorMode, CompilerArguments, ParsedArguments};
 use cuda_below::command::{Cacheable, CompileCommandImpl, SingleCompileCommand};
+use cuda_below::compiler::{CCompilerImpl, CCompilerKind, Places};
 use cuda_below::fault::Fault;
 use cuda_below::items::{ArgParseError, ArgsIter, Argument};
 use cuda_below::language::Language;
 use cuda_below::table::{ArgDisposition, SearchableArgInfo};
+use cuda_below::text::Text;
 use cuda_below::words::Words;
 use cuda_plans::cicc;
 use std::alloc::{AllocError, Global};
@@ -307,5 +309,55 @@ fn rows_of_a_table(rt: HostRuntime) -> Result<(), Fail> {
     assert!(rt; cicc::table().search("--gen_c_file_name=x").is_none());
     let pair = (cicc::table(), cicc::table());
     assert!(rt; pair.search("-o").is_some());
+    Ok(())
+}
+
+#[test]
+fn cicc_as_a_compiler(rt: HostRuntime) -> Result<(), Fail> {
+    let alloc = rt.alloc();
+    let compiler = cicc::Cicc {
+        version: Some(Text::copy_of(alloc, "1")?),
+    };
+    let version = compiler.version(alloc)?.ok_or("a version")?;
+    assert_eq!(rt; version.as_str(), "1");
+    assert!(rt; compiler.kind() == CCompilerKind::Cicc);
+    assert!(rt; compiler.plusplus());
+    let equal = compiler == compiler.try_clone(alloc)?;
+    assert!(rt; equal);
+    Ok(())
+}
+
+// A compiler's own calls, by the trait.
+fn written_by<C: CCompilerImpl<Command = SingleCompileCommand>>(
+    alloc: Global,
+    compiler: &C,
+    line: &str,
+) -> Result<String, Fault> {
+    let words = words(alloc, line)?;
+    let places = Places {
+        temp_dir: Text::copy_of(alloc, "/t")?,
+        canonical_input: Text::copy_of(alloc, "/w/kernel.cpp1.ii")?,
+    };
+    match compiler.parse_arguments(alloc, words.as_slice(), "/w", &[])? {
+        CompilerArguments::Ok(parsed) => {
+            let (command, _) = compiler.generate_compile_commands(
+                alloc,
+                "cicc",
+                &parsed,
+                "/w",
+                &[],
+                &places,
+            )?;
+            Ok(joined(alloc, command.get_arguments())?)
+        }
+        _ => Err(Fault::Read),
+    }
+}
+
+#[test]
+fn device_code_line_by_the_trait(rt: HostRuntime) -> Result<(), Fail> {
+    let compiler = cicc::Cicc { version: None };
+    let got = written_by(rt.alloc(), &compiler, "-x k.cpp1.ii -o p")?;
+    assert_eq!(rt; got.as_str(), "-x k.cpp1.ii -o /w/p");
     Ok(())
 }

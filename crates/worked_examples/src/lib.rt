@@ -4,6 +4,10 @@
 #[cfg(test)]
 mod cicc_lines;
 #[cfg(test)]
+mod gcc_lines;
+#[cfg(test)]
+mod keep_and_threads;
+#[cfg(test)]
 mod records;
 #[cfg(test)]
 mod shell_words;

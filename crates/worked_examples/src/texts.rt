@@ -2,7 +2,7 @@
 
 use crate::words::{joined, words};
 use cuda_below::bytes::Bytes;
-use cuda_below::text::{Text, is_absolute, join};
+use cuda_below::text::{Text, file_name, file_stem, folder, is_absolute, join};
 use cuda_below::variables::Variables;
 use cuda_below::words::Words;
 use std::test::Fail;
@@ -30,6 +30,24 @@ fn paths(rt: HostRuntime) -> Result<(), Fail> {
     assert!(rt; !is_absolute(""));
     assert!(rt; !is_absolute("a/b"));
     Ok(())
+}
+
+#[test]
+fn parts_of_paths(rt: HostRuntime) {
+    let rows = [
+        ("/usr/bin/ptxas", "/usr/bin", Some("ptxas"), Some("ptxas")),
+        ("//k.cpp4.ii", "/", Some("k.cpp4.ii"), Some("k.cpp4")),
+        ("a/./k.c", "a", Some("k.c"), Some("k")),
+        ("k.cpp1.ii/", "k.cpp1.ii", Some("k.cpp1.ii"), Some("k.cpp1")),
+        (".profile", "", Some(".profile"), Some(".profile")),
+        ("a/..", "a", None, None),
+        ("/", "/", None, None),
+    ];
+    for (path, parent, name, stem) in rows {
+        assert_eq!(rt; folder(path), parent, "{path}");
+        assert_eq!(rt; file_name(path), name, "{path}");
+        assert_eq!(rt; file_stem(path), stem, "{path}");
+    }
 }
 
 #[test]
