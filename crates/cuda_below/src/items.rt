@@ -1,6 +1,6 @@
 //! The items of a command line, read word by word over an option table.
 
-ghost use Rattle.std.specs.Prelude.{◌≡◌, ◌∷◌, [], ◌++◌, ◌<◌, length, map, Some, MatchOption, IfOk, OnOk, string_bytes};
+ghost use Rattle.std.specs.Prelude.{◌≡◌, ◌∷◌, [], ◌++◌, ◌<◌, length, map, Some, MatchOption, IfOk, OnOk, OnErr, string_bytes};
 ghost use Rattle.std.specs.Option.{option_map, option_copied};
 ghost use Rattle.std.specs.List.{remove};
 ghost use Rattle.cuda_below.specs.Table.{entry_of};
@@ -60,12 +60,14 @@ impl<'a> Line<'a> {
         Some(word.as_str())
     }
 
-    /// Puts the words that are left last among `words`.
+    /// Puts the words that are left last among `words`. On an error these stay as they were.
     pub fn write(self, alloc: Global, words: &mut Words) -> Result<(), AllocError>
-        ensures { OnOk result (words.new ≡ words.old ++ self.entry) }
+        ensures ok { OnOk result (words.new ≡ words.old ++ self.entry) }
+        ensures err { OnErr result (words.new ≡ words.old) }
     {
-        words.extend(alloc, self.front)?;
-        words.extend(alloc, self.back)
+        let mut left = Words::copy_of(alloc, self.front)?;
+        left.extend(alloc, self.back)?;
+        words.append(left)
     }
 }
 
@@ -160,9 +162,10 @@ impl<T: Copy> Argument<T> {
 
     /// Puts the words that the item is written as last among `words`: for an option with its value
     /// two words, or one where the value was joined, with the delimiter where there is one and the
-    /// value isn't empty.
+    /// value isn't empty. On an error `words` stay as they were.
     pub fn write(self, alloc: Global, words: &mut Words) -> Result<(), AllocError>
-        ensures { OnOk result (words.new ≡ words.old ++ words_of (item_of self)) }
+        ensures ok { OnOk result (words.new ≡ words.old ++ words_of (item_of self)) }
+        ensures err { OnErr result (words.new ≡ words.old) }
     {
         match self {
             Argument::Raw(word) | Argument::UnknownFlag(word) => words.push(word),
@@ -200,12 +203,15 @@ fn write_value(
     disposition: ArgDisposition,
     words: &mut Words,
 ) -> Result<(), AllocError>
-    ensures { OnOk result (words.new ≡ words.old ++ value_words text.now (string_bytes value) disposition) }
+    ensures ok { OnOk result (words.new ≡ words.old ++ value_words text.now (string_bytes value) disposition) }
+    ensures err { OnErr result (words.new ≡ words.old) }
 {
     match disposition {
         ArgDisposition::Separated | ArgDisposition::CanBeConcatenated(_) => {
-            words.push(String::from_str(alloc, text)?)?;
-            words.push(value)
+            let mut pair = Words::new(alloc);
+            pair.push(String::from_str(alloc, text)?)?;
+            pair.push(value)?;
+            words.append(pair)
         }
         ArgDisposition::Concatenated(delimiter) | ArgDisposition::CanBeSeparated(delimiter) => {
             words.push(joined_word(alloc, text, delimiter, value.as_str())?)

@@ -75,23 +75,39 @@ impl Words {
         Ok(())
     }
 
-    /// Puts a copy of each of `words` last, in order. On an error a beginning of them may stand there.
-    pub fn extend(&mut self, alloc: Global, words: &[String]) -> Result<(), AllocError>
-        ensures { OnOk result (self.new ≡ self.old ++ map string_bytes words.now) }
+    /// Puts the words of `more` last, in order. On an error the words stay as they were.
+    pub fn append(&mut self, more: Words) -> Result<(), AllocError>
+        ensures ok { OnOk result (self.new ≡ self.old ++ more) }
+        ensures err { OnErr result (self.new ≡ self.old) }
     {
+        let mut words = more.into_vec();
+        self.words.append(&mut words)
+    }
+
+    /// Puts a copy of each of `words` last, in order. On an error the words stay as they were.
+    pub fn extend(&mut self, alloc: Global, words: &[String]) -> Result<(), AllocError>
+        ensures ok { OnOk result (self.new ≡ self.old ++ map string_bytes words.now) }
+        ensures err { OnErr result (self.new ≡ self.old) }
+    {
+        self.append(Words::copy_of(alloc, words)?)
+    }
+
+    /// A list equal to `words`, in memory of its own.
+    pub fn copy_of(alloc: Global, words: &[String]) -> Result<Words, AllocError>
+        ensures { IfOk result (λ w. w ≡ map string_bytes words.now) }
+    {
+        let mut copy = Words::new(alloc);
         for word in words {
-            self.push(String::from_str(alloc, word.as_str())?)?;
+            copy.push(String::from_str(alloc, word.as_str())?)?;
         }
-        Ok(())
+        Ok(copy)
     }
 
     /// An equal list, in memory of its own.
     pub fn try_clone(&self, alloc: Global) -> Result<Words, AllocError>
         ensures { IfOk result (λ w. w ≡ self.now) }
     {
-        let mut copy = Words::new(alloc);
-        copy.extend(alloc, self.as_slice())?;
-        Ok(copy)
+        Words::copy_of(alloc, self.as_slice())
     }
 }
 
