@@ -4,7 +4,7 @@ use Rattle.std.specs.Option.{option_map}
 use Rattle.std.specs.Str.{bytes_eq}
 use Rattle.std.specs.Io.KnownBytes.{Keeps, Appends}
 use Rattle.cudaplan.specs.declared.line.Tool.{Tool}
-use Rattle.cudaplan.specs.declared.line.Tool.TheVariants.{Cicc}
+use Rattle.cudaplan.specs.declared.line.Tool.TheVariants.{Cicc, Ptxas, CudaFe}
 use Rattle.cudaplan.specs.Shown.{shown_line}
 
 -- a call that reads a line: the tool, the working directory and the line's words
@@ -15,7 +15,10 @@ pub record LineOf : Type 0 where
 
 -- the tool of a name
 abbrev pub tool_of_name : List ℕ → Option Tool
-tool_of_name name = if bytes_eq name (codes "cicc") then Some Cicc else None
+tool_of_name name =
+    if bytes_eq name (codes "cicc") then Some Cicc else
+    if bytes_eq name (codes "ptxas") then Some Ptxas else
+    if bytes_eq name (codes "cudafe++") then Some CudaFe else None
 
 -- the call that the words after the program's name are
 abbrev pub call_of : List (List ℕ) → Option LineOf

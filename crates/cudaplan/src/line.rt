@@ -5,8 +5,10 @@ ghost use Rattle.cudaplan.specs.Shown.{show_line};
 
 use crate::stop::Stop;
 use cuda_below::arguments::{CompilerArguments, ParsedArguments};
+use cuda_below::command::{Cacheable, SingleCompileCommand};
+use cuda_below::fault::Fault;
 use cuda_below::language::Language;
-use cuda_plans::cicc;
+use cuda_plans::{cicc, cudafe, ptxas};
 use std::alloc::{AllocError, Global};
 use std::io::Write;
 
@@ -14,6 +16,8 @@ use std::io::Write;
 #[derive(Clone, Copy, Debug, PartialEq)]
 pub enum Tool {
     Cicc,
+    Ptxas,
+    CudaFe,
 }
 
 // Each word on a line of its own.
@@ -30,9 +34,10 @@ fn shown_words(alloc: Global, words: &[String]) -> Result<String, AllocError>
 
 ghost use Rattle.std.specs.Prelude.{Option, []};
 ghost use Rattle.cuda_below.specs.declared.arguments.ParsedArguments.{ParsedArguments};
-ghost use Rattle.cuda_plans.specs.Line.{cicc_words, written};
+ghost use Rattle.cuda_below.specs.Fault.{UnlessMemory};
+ghost use Rattle.cuda_plans.specs.Line.{written};
 ghost use Rattle.cuda_plans.specs.Reading.{answer_of};
-ghost use Rattle.cudaplan.specs.Shown.{show_command, show_reading, tool_reading, shown_line};
+ghost use Rattle.cudaplan.specs.Shown.{show_command, show_reading, tool_reading, tool_words, shown_line};
 ghost use Rattle.cudaplan.specs.Delivery.{Answers, Delivers};
 ghost use Rattle.cudaplan.specs.Texts.{text_of};
 
@@ -47,27 +52,54 @@ fn read_line(
 {
     match tool {
         Tool::Cicc => cicc::parse_arguments(alloc, words, cwd, Language::Ptx, cicc::table(), 3),
+        Tool::Ptxas => {
+            cicc::parse_arguments(alloc, words, cwd, Language::Cubin, ptxas::table(), 3)
+        }
+        Tool::CudaFe => {
+            cicc::parse_arguments(alloc, words, cwd, Language::CudaFE, cudafe::table(), 1)
+        }
+    }
+}
+
+// The command of a tool's arguments.
+fn command(
+    alloc: Global,
+    tool: Tool,
+    cwd: &str,
+    parsed: &ParsedArguments,
+) -> Result<(SingleCompileCommand, Cacheable), Fault>
+    ensures { UnlessMemory result (written (tool_words tool) [] parsed.now cwd.now []) }
+{
+    match tool {
+        Tool::Cicc | Tool::Ptxas => { cicc::generate_compile_commands(alloc, "", parsed, cwd, &[]) }
+        Tool::CudaFe => cudafe::generate_compile_commands(alloc, "", parsed, cwd, &[]),
     }
 }
 
 // The text of arguments that are written back.
-fn shown_arguments(alloc: Global, cwd: &str, parsed: &ParsedArguments) -> Result<String, Stop>
-    ensures { Answers (text_of result) (show_command (written cicc_words [] parsed.now cwd.now [])) }
+fn shown_arguments(
+    alloc: Global,
+    tool: Tool,
+    cwd: &str,
+    parsed: &ParsedArguments,
+) -> Result<String, Stop>
+    ensures { Answers (text_of result) (show_command (written (tool_words tool) [] parsed.now cwd.now [])) }
 {
-    let (command, _) = cicc::generate_compile_commands(alloc, "", parsed, cwd, &[])?;
+    let (command, _) = command(alloc, tool, cwd, parsed)?;
     Ok(shown_words(alloc, command.arguments.as_slice())?)
 }
 
 // The text of what a reader answers.
 fn shown_answer(
     alloc: Global,
+    tool: Tool,
     cwd: &str,
     answer: &CompilerArguments<ParsedArguments>,
 ) -> Result<String, Stop>
-    ensures { (read : Option ParsedArguments) → answer.now ≡ answer_of read → Answers (text_of result) (show_reading read cwd.now) }
+    ensures { (read : Option ParsedArguments) → answer.now ≡ answer_of read → Answers (text_of result) (show_reading tool read cwd.now) }
 {
     match answer {
-        CompilerArguments::Ok(parsed) => shown_arguments(alloc, cwd, parsed),
+        CompilerArguments::Ok(parsed) => shown_arguments(alloc, tool, cwd, parsed),
         _ => Err(Stop::NotCompilation),
     }
 }
@@ -77,7 +109,7 @@ fn line_text(alloc: Global, tool: Tool, cwd: &str, words: &[String]) -> Result<S
     ensures { Answers (text_of result) (shown_line tool cwd.now (map string_bytes words.now)) }
 {
     let answer = read_line(alloc, tool, cwd, words)?;
-    shown_answer(alloc, cwd, &answer)
+    shown_answer(alloc, tool, cwd, &answer)
 }
 
 /// Reads the words of a tool's line at the working directory `cwd`, and writes the words that it is

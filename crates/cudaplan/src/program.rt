@@ -23,10 +23,11 @@ struct LineCall<'a> {
 fn tool_named(name: &str) -> Option<Tool>
     ensures { result ≡ tool_of_name name.now }
 {
-    if name == "cicc" {
-        Some(Tool::Cicc)
-    } else {
-        None
+    match name {
+        "cicc" => Some(Tool::Cicc),
+        "ptxas" => Some(Tool::Ptxas),
+        "cudafe++" => Some(Tool::CudaFe),
+        _ => None,
     }
 }
 

@@ -4,7 +4,11 @@
 #[cfg(test)]
 mod cicc_lines;
 #[cfg(test)]
+mod device_lines;
+#[cfg(test)]
 mod gcc_lines;
+#[cfg(test)]
+mod inputs;
 #[cfg(test)]
 mod keep_and_threads;
 #[cfg(test)]

@@ -3,6 +3,7 @@
 use super::*;
 use std::alloc::AllocError;
 use std::io;
+use std::process::Abort;
 use std::test::Fail;
 
 const USAGE_LINE: &str = "usage: cudaplan line TOOL CWD WORD.. | plan CWD TMP FLAG DRY1 DRY2\n";
@@ -34,9 +35,24 @@ fn words(alloc: Global, call: &str) -> Result<Vec<String>, AllocError> {
     Ok(words)
 }
 
+// A call ends with its status and writes its two texts.
+fn check_call<R: AllocGlobal + Abort>(
+    rt: &R,
+    row: (&str, u8, &str, &str),
+) -> Result<(), AllocError> {
+    let (call, status, out, err) = row;
+    let mut printed = Vec::new(rt.alloc());
+    let mut told = Vec::new(rt.alloc());
+    let call_words = words(rt.alloc(), call)?;
+    let got = run_program(rt, call_words.as_slice(), &mut printed, &mut told);
+    assert_eq!(rt; got, status, "{call}");
+    assert_eq!(rt; printed.as_slice(), out.as_bytes(), "{call}");
+    assert_eq!(rt; told.as_slice(), err.as_bytes(), "{call}");
+    Ok(())
+}
+
 #[test]
 fn calls(rt: HostRuntime) -> Result<(), Fail> {
-    let alloc = rt.alloc();
     let rows = [
         (
             DEVICE_CODE,
@@ -56,14 +72,44 @@ fn calls(rt: HostRuntime) -> Result<(), Fail> {
         ("plan /w /t -c a b", 2, "", USAGE_LINE),
         ("", 2, "", USAGE_LINE),
     ];
-    for (call, status, out, err) in rows {
-        let mut printed = Vec::new(alloc);
-        let mut told = Vec::new(alloc);
-        let call_words = words(alloc, call)?;
-        let got = run_program(&rt, call_words.as_slice(), &mut printed, &mut told);
-        assert_eq!(rt; got, status, "{call}");
-        assert_eq!(rt; printed.as_slice(), out.as_bytes(), "{call}");
-        assert_eq!(rt; told.as_slice(), err.as_bytes(), "{call}");
+    for row in rows {
+        check_call(&rt, row)?;
+    }
+    Ok(())
+}
+
+#[test]
+fn calls_of_further_tools(rt: HostRuntime) -> Result<(), Fail> {
+    let rows = [
+        (
+            "line ptxas /w -arch=sm_80 k.ptx -o k.cubin",
+            0,
+            "-arch=sm_80\nk.ptx\n-o\n/w/k.cubin\n",
+            "",
+        ),
+        ("line ptxas /w a b", 1, "", "cudaplan: not a compilation\n"),
+        (
+            "line ptxas /w -arch k.ptx -o /w/k.cubin",
+            1,
+            "",
+            "cudaplan: Missing \"cubin\" file output\n",
+        ),
+        (
+            "line cudafe++ /t --simt-only --module_id_file_name k.id x_0.cpp4.ii",
+            0,
+            "--simt-only\n--module_id_file_name\n/t/k.id\nx_0.cpp4.ii\n",
+            "",
+        ),
+        ("line cudafe++ /t", 1, "", "cudaplan: not a compilation\n"),
+        (
+            "line cudafe++ /t x.cpp4.ii",
+            1,
+            "",
+            "cudaplan: Missing \"cuda\" file output\n",
+        ),
+    ];
+    for row in rows {
+        check_call(&rt, row)?;
     }
     Ok(())
 }

@@ -1,0 +1,72 @@
+//! The program's calls.
+
+/// A tool whose lines are timed.
+#[derive(Clone, Copy, Debug, PartialEq)]
+pub enum Tool {
+    Cicc,
+    Ptxas,
+    CudaFe,
+}
+
+/// What is timed.
+#[derive(Debug, Drop)]
+pub enum Work<'a> {
+    /// A tool's line, read at a working directory and written back.
+    Line {
+        tool: Tool,
+        cwd: &'a str,
+        words: &'a [String],
+    },
+    /// The text of a file, split into shell words.
+    Split {
+        file: &'a str,
+    },
+}
+
+/// A call: what is timed, and how often it is done. It is done at least once.
+#[derive(Debug, Drop)]
+pub struct Call<'a> {
+    pub count: u64,
+    pub work: Work<'a>,
+}
+
+// The tool of a name.
+fn tool_named(name: &str) -> Option<Tool> {
+    match name {
+        "cicc" => Some(Tool::Cicc),
+        "ptxas" => Some(Tool::Ptxas),
+        "cudafe++" => Some(Tool::CudaFe),
+        _ => None,
+    }
+}
+
+// The work that the words after the count are.
+fn work_of<'a>(verb: &str, words: &'a [String]) -> Option<Work<'a>> {
+    match (verb, words) {
+        ("line", [tool, cwd, line @ ..]) => Some(Work::Line {
+            tool: tool_named(tool.as_str())?,
+            cwd: cwd.as_str(),
+            words: line,
+        }),
+        ("split", [file]) => Some(Work::Split {
+            file: file.as_str(),
+        }),
+        _ => None,
+    }
+}
+
+/// The call that the words after the program's name are: `line N TOOL CWD WORD..` or `split N FILE`,
+/// N a decimal number above zero.
+pub fn call_of<'a>(words: &'a [String]) -> Option<Call<'a>> {
+    let [verb, count, rest @ ..] = words else {
+        return None;
+    };
+    let count = count.as_str().parse::<u64>().ok()?;
+    if count == 0 {
+        return None;
+    }
+    Some(Call {
+        count,
+        work: work_of(verb.as_str(), rest)?,
+    })
+}

@@ -1,0 +1,108 @@
+//! How long a call of the planner takes.
+
+use crate::call::{Call, Tool, Work};
+use crate::report::Stop;
+use cuda_below::arguments::CompilerArguments;
+use cuda_below::compiler::{CCompilerImpl, Places};
+use cuda_below::text::Text;
+use cuda_plans::cicc::{Cicc, read_input};
+use cuda_plans::cudafe::CudaFE;
+use cuda_plans::ptxas::Ptxas;
+use cuda_plans::shell;
+use std::alloc::Global;
+use std::fs::{self, Files};
+use std::time::{Clock, Instant};
+
+// Reads a line and writes it back once.
+fn write_back<C: CCompilerImpl>(
+    alloc: Global,
+    tool: &C,
+    cwd: &str,
+    words: &[String],
+    places: &Places,
+) -> Result<(), Stop>
+where
+    C::Command: Drop,
+{
+    let CompilerArguments::Ok(parsed) = tool.parse_arguments(alloc, words, cwd, &[])? else {
+        return Err(Stop::NotCompilation);
+    };
+    tool.generate_compile_commands(alloc, "", &parsed, cwd, &[], places)?;
+    Ok(())
+}
+
+// The mean time of one of `count` runs that began at `start`, in nanoseconds.
+fn mean_since<R: Clock>(rt: &R, start: Instant, count: u64) -> Result<u128, Stop> {
+    match start.elapsed(rt) {
+        Ok(took) => Ok(took.as_nanos() / u128::from(count.max(1))),
+        Err(_) => Err(Stop::Clock),
+    }
+}
+
+// The mean time of reading a line and writing it back.
+fn mean_of_line<R: Clock, C: CCompilerImpl>(
+    rt: &R,
+    alloc: Global,
+    count: u64,
+    tool: &C,
+    cwd: &str,
+    words: &[String],
+) -> Result<u128, Stop>
+where
+    C::Command: Drop,
+{
+    let places = Places {
+        temp_dir: Text::copy_of(alloc, "/t")?,
+        canonical_input: Text::copy_of(alloc, "")?,
+    };
+    let Ok(start) = Instant::now(rt) else {
+        return Err(Stop::Clock);
+    };
+    for _ in 0..count {
+        write_back(alloc, tool, cwd, words, &places)?;
+    }
+    mean_since(rt, start, count)
+}
+
+// The mean time of splitting a text into shell words.
+fn mean_of_split<R: Clock>(rt: &R, alloc: Global, count: u64, text: &str) -> Result<u128, Stop> {
+    let Ok(start) = Instant::now(rt) else {
+        return Err(Stop::Clock);
+    };
+    for _ in 0..count {
+        if shell::split(alloc, text)?.is_none() {
+            return Err(Stop::NoWords);
+        }
+    }
+    mean_since(rt, start, count)
+}
+
+// The mean time of splitting the text of a file.
+fn mean_of_file<R: Clock + Files>(
+    rt: &R,
+    alloc: Global,
+    count: u64,
+    file: &str,
+) -> Result<u128, Stop> {
+    let Ok(file) = fs::open(rt, file) else {
+        return Err(Stop::Fault(cuda_below::fault::Fault::Read));
+    };
+    let output = read_input(alloc, file)?;
+    match str::from_utf8(output.stdout.as_slice()) {
+        Ok(text) => mean_of_split(rt, alloc, count, text),
+        Err(_) => Err(Stop::NoWords),
+    }
+}
+
+/// The mean time of what a call times, in nanoseconds.
+pub fn mean_of<R: Clock + Files + AllocGlobal>(rt: &R, call: &Call<'_>) -> Result<u128, Stop> {
+    let (alloc, count) = (rt.alloc(), call.count);
+    match &call.work {
+        Work::Line { tool, cwd, words } => match tool {
+            Tool::Cicc => mean_of_line(rt, alloc, count, &Cicc { version: None }, cwd, words),
+            Tool::Ptxas => mean_of_line(rt, alloc, count, &Ptxas { version: None }, cwd, words),
+            Tool::CudaFe => mean_of_line(rt, alloc, count, &CudaFE { version: None }, cwd, words),
+        },
+        Work::Split { file } => mean_of_file(rt, alloc, count, file),
+    }
+}
