@@ -208,10 +208,7 @@ fn write_value(
 {
     match disposition {
         ArgDisposition::Separated | ArgDisposition::CanBeConcatenated(_) => {
-            let mut pair = Words::new(alloc);
-            pair.push(String::from_str(alloc, text)?)?;
-            pair.push(value)?;
-            words.append(pair)
+            words.push_two(String::from_str(alloc, text)?, value)
         }
         ArgDisposition::Concatenated(delimiter) | ArgDisposition::CanBeSeparated(delimiter) => {
             words.push(joined_word(alloc, text, delimiter, value.as_str())?)
@@ -228,7 +225,9 @@ fn joined_word(
 ) -> Result<String, AllocError>
     ensures { IfOk result (λ word. string_bytes word ≡ (text.now ++ delimiter_before value.now delimiter) ++ value.now) }
 {
-    let mut word = String::from_str(alloc, text)?;
+    let room = text.len().saturating_add(value.len()).saturating_add(1);
+    let mut word = String::with_capacity(alloc, room)?;
+    word.push_str(text)?;
     if let Some(byte) = delimiter
         && !value.is_empty()
     {

@@ -106,7 +106,8 @@ pub fn join(alloc: Global, base: &str, path: &str) -> Result<String, AllocError>
     if is_absolute(path) {
         return String::from_str(alloc, path);
     }
-    let mut whole = String::new(alloc);
+    let room = base.len().saturating_add(path.len()).saturating_add(1);
+    let mut whole = String::with_capacity(alloc, room)?;
     whole.push_str(base)?;
     whole.push_str(separator(base))?;
     whole.push_str(path)?;

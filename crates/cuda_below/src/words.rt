@@ -31,6 +31,15 @@ impl Words {
         }
     }
 
+    /// No words, with room for `count` of them.
+    pub fn with_capacity(alloc: Global, count: usize) -> Result<Words, AllocError>
+        ensures { IfOk result (λ w. w ≡ []) }
+    {
+        Ok(Words {
+            words: Vec::with_capacity(alloc, count)?,
+        })
+    }
+
     /// Holds the words of `words`.
     pub fn from_vec(words: Vec<String>) -> Words
         ensures { result ≡ map string_bytes words.items }
@@ -75,6 +84,27 @@ impl Words {
         Ok(())
     }
 
+    /// Puts two words last. On an error the words stay as they were.
+    pub fn push_two(&mut self, first: String, second: String) -> Result<(), AllocError>
+        ensures ok { OnOk result (self.new ≡ self.old ++ string_bytes first ∷ string_bytes second ∷ []) }
+        ensures err { OnErr result (self.new ≡ self.old) }
+    {
+        self.words.reserve(2)?;
+        self.words.push(first)?;
+        self.words.push(second)?;
+        Ok(())
+    }
+
+    /// Puts a copy of each of `words` last, in order. On an error some of them may be there.
+    pub fn push_copies(&mut self, alloc: Global, words: &[String]) -> Result<(), AllocError>
+        ensures { OnOk result (self.new ≡ self.old ++ map string_bytes words.now) }
+    {
+        for word in words {
+            self.push(String::from_str(alloc, word.as_str())?)?;
+        }
+        Ok(())
+    }
+
     /// Puts the words of `more` last, in order. On an error the words stay as they were.
     pub fn append(&mut self, more: Words) -> Result<(), AllocError>
         ensures ok { OnOk result (self.new ≡ self.old ++ more) }
@@ -96,10 +126,8 @@ impl Words {
     pub fn copy_of(alloc: Global, words: &[String]) -> Result<Words, AllocError>
         ensures { IfOk result (λ w. w ≡ map string_bytes words.now) }
     {
-        let mut copy = Words::new(alloc);
-        for word in words {
-            copy.push(String::from_str(alloc, word.as_str())?)?;
-        }
+        let mut copy = Words::with_capacity(alloc, words.len())?;
+        copy.push_copies(alloc, words)?;
         Ok(copy)
     }
 

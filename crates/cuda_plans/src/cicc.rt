@@ -155,7 +155,7 @@ fn read_around<S: SearchableArgInfo<ArgData> + Drop>(
 {
     let input = Text::copy_of(alloc, word_at(arguments, place))?;
     let line = ArgsIter::over(alloc, Line::without(arguments, place), arg_info);
-    let gathered = gather(alloc, cwd, line)?;
+    let gathered = gather(alloc, cwd, arguments.len(), line)?;
     gathered.into_arguments(alloc, cwd, language, input)
 }
 
@@ -204,16 +204,21 @@ pub(crate) fn tool_command(
     Ok((command, Cacheable::Yes))
 }
 
-// The common words, and after them the unhashed ones.
+// The common words, and after them the unhashed ones, with room for three more.
 pub(crate) fn option_words(
     alloc: Global,
     parsed_args: &ParsedArguments,
 ) -> Result<Words, AllocError>
     ensures { IfOk result (λ w. w ≡ parsed_args.now.common_args ++ parsed_args.now.unhashed_args) }
 {
-    let mut words = Words::new(alloc);
-    words.extend(alloc, parsed_args.common_args.as_slice())?;
-    words.extend(alloc, parsed_args.unhashed_args.as_slice())?;
+    let (common, unhashed) = (&parsed_args.common_args, &parsed_args.unhashed_args);
+    let room = common
+        .len()
+        .saturating_add(unhashed.len())
+        .saturating_add(3);
+    let mut words = Words::with_capacity(alloc, room)?;
+    words.push_copies(alloc, common.as_slice())?;
+    words.push_copies(alloc, unhashed.as_slice())?;
     Ok(words)
 }
 
@@ -226,8 +231,10 @@ pub(crate) fn push_option(
 ) -> Result<(), AllocError>
     ensures { OnOk result (words.new ≡ words.old ++ option.now ∷ value.now ∷ []) }
 {
-    words.push(String::from_str(alloc, option)?)?;
-    words.push(String::from_str(alloc, value)?)
+    words.push_two(
+        String::from_str(alloc, option)?,
+        String::from_str(alloc, value)?,
+    )
 }
 
 // The words of a cicc or ptxas line.

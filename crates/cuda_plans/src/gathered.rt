@@ -34,18 +34,18 @@ pub struct Gathered {
 impl Gathered {
     ghost use Rattle.cuda_plans.specs.Gathered.{nothing_gathered, with_item, is_option};
 
-    /// Nothing yet.
-    pub fn new(alloc: Global) -> Gathered
-        ensures { result ≡ nothing_gathered }
+    /// Nothing yet, with room for `count` common words.
+    pub fn with_capacity(alloc: Global, count: usize) -> Result<Gathered, AllocError>
+        ensures { IfOk result (λ g. g ≡ nothing_gathered) }
     {
-        Gathered {
-            common: Words::new(alloc),
+        Ok(Gathered {
+            common: Words::with_capacity(alloc, count)?,
             unhashed: Words::new(alloc),
             outputs: Outputs::new(alloc),
             module_id: None,
             makes_module_id: false,
             after_unknown: false,
-        }
+        })
     }
 
     // Records the file that an option names, joined to the working directory.
@@ -137,16 +137,17 @@ ghost use Rattle.cuda_below.specs.ArgsIter.{words_left, table_of};
 ghost use Rattle.cuda_below.specs.Items.{items as items_of};
 ghost use Rattle.cuda_plans.specs.Gathered.{nothing_gathered, with_item};
 
-/// Takes all items of a line.
+/// Takes all items of a line of `count` words.
 pub fn gather<S: SearchableArgInfo<ArgData> + Drop>(
     alloc: Global,
     cwd: &str,
+    count: usize,
     line: ArgsIter<'_, ArgData, S>,
 ) -> Result<Gathered, AllocError>
     ensures { IfOk result (λ g. g ≡ fold (with_item cwd.now) nothing_gathered (items_of (S.chosen (table_of line.entry)) (words_left line.entry))) }
 {
     let mut line = line;
-    let mut gathered = Gathered::new(alloc);
+    let mut gathered = Gathered::with_capacity(alloc, count)?;
     while let Some(item) = line.next() {
         gathered.take(alloc, cwd, item)?;
     }

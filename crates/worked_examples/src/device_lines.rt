@@ -163,6 +163,13 @@ fn written_lines_reread(rt: HostRuntime) -> Result<(), Fail> {
     Ok(())
 }
 
+fn check_output(rt: &impl Abort, parsed: &ParsedArguments, key: &str, path: &str) {
+    match parsed.outputs.get(key) {
+        Some(output) => assert_eq!(rt; output.path.as_str(), path),
+        None => assert!(rt; false, "an output {key}"),
+    }
+}
+
 fn check_machine_code(
     rt: &impl Abort,
     alloc: Global,
@@ -178,10 +185,7 @@ fn check_machine_code(
         "-arch=sm_80 --some-new-flag"
     );
     assert!(rt; parsed.unhashed_args.is_empty());
-    match parsed.outputs.get("obj") {
-        Some(output) => assert_eq!(rt; output.path.as_str(), "./kernel.cubin"),
-        None => assert!(rt; false, "an output"),
-    }
+    check_output(rt, parsed, "obj", "./kernel.cubin");
     Ok(())
 }
 
@@ -199,15 +203,8 @@ fn check_host_code(rt: &impl Abort, answer: &CompilerArguments<ParsedArguments>)
         assert!(rt; false, "a compilation");
         return;
     };
-    for (key, path) in [
-        ("obj", "/t/kernel.module_id"),
-        ("--gen_c_file_name", "/t/x_0.cudafe1.cpp"),
-    ] {
-        match parsed.outputs.get(key) {
-            Some(output) => assert_eq!(rt; output.path.as_str(), path),
-            None => assert!(rt; false, "an output {key}"),
-        }
-    }
+    check_output(rt, parsed, "obj", "/t/kernel.module_id");
+    check_output(rt, parsed, "--gen_c_file_name", "/t/x_0.cudafe1.cpp");
     assert!(rt; parsed.outputs.get("--stub_file_name").is_none());
     assert!(rt; parsed.extra_hash_files.is_empty());
 }
