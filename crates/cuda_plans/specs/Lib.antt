@@ -1,9 +1,11 @@
+pub mod CallEnvironment
 pub mod Cicc
 pub mod CudaFE
 pub mod Examples
 pub mod Gathered
 pub mod KeepThreads
 pub mod Line
+pub mod NvccOptions
 pub mod Ptxas
 pub mod Reading
 pub mod Shell

@@ -202,7 +202,10 @@ pub(crate) fn tool_command(
 }
 
 // The common words, and after them the unhashed ones.
-pub(crate) fn option_words(alloc: Global, parsed_args: &ParsedArguments) -> Result<Words, AllocError>
+pub(crate) fn option_words(
+    alloc: Global,
+    parsed_args: &ParsedArguments,
+) -> Result<Words, AllocError>
     ensures { IfOk result (λ w. w ≡ parsed_args.now.common_args ++ parsed_args.now.unhashed_args) }
 {
     let mut words = Words::new(alloc);
