@@ -5,6 +5,8 @@ pub mod Examples
 pub mod Gathered
 pub mod KeepThreads
 pub mod Line
+pub mod Nvcc
+pub mod NvccCommand
 pub mod NvccOptions
 pub mod Ptxas
 pub mod Reading
