@@ -8,6 +8,7 @@ pub mod Line
 pub mod Nvcc
 pub mod NvccCommand
 pub mod NvccOptions
+pub mod NvccRows
 pub mod Ptxas
 pub mod Reading
 pub mod Shell

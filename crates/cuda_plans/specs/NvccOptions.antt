@@ -1,5 +1,5 @@
 -- The options that the nvcc reader knows beside those of the gcc profile.
-use Rattle.std.specs.Prelude.{◌≡◌, ℕ, List, [], ◌∷◌, ◌++◌, true, Some, refl, codes}
+use Rattle.std.specs.Prelude.{◌≡◌, List, [], ◌∷◌, ◌++◌, true, Some, refl, codes}
 use Rattle.cuda_below.specs.declared.table.ArgDisposition.{ArgDisposition}
 use Rattle.cuda_below.specs.declared.table.ArgDisposition.TheVariants.{Separated, CanBeSeparated}
 use Rattle.cuda_below.specs.declared.gcc.ArgData.{ArgData}
