@@ -8,6 +8,8 @@ mod gcc_lines;
 #[cfg(test)]
 mod keep_and_threads;
 #[cfg(test)]
+mod nvcc_lines;
+#[cfg(test)]
 mod records;
 #[cfg(test)]
 mod shell_words;
