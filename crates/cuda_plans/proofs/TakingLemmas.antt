@@ -1,8 +1,8 @@
 -- What a loop over the words gathers is what the filters say.
 use Rattle.std.proofs.Common.{◌≡◌, ◌∙◌, ℕ, List, [], ◌∷◌, ◌++◌, Bool, true, false, ◌||◌, cond, Option, Some, None, filter, refl, sym, append_assoc, append-nil}
 use Rattle.std.specs.List.{filter_map, cons_option, list_any, fold}
-use Rattle.cuda_plans.specs.declared.nvcc.KeepWords.{KeepWords}
-use Rattle.cuda_plans.specs.declared.nvcc.ThreadWords.{ThreadWords}
+use Rattle.cuda_plans.specs.declared.nvcc.taking.KeepWords.{KeepWords}
+use Rattle.cuda_plans.specs.declared.nvcc.taking.ThreadWords.{ThreadWords}
 use Rattle.cuda_plans.specs.Gathered.{latest}
 use Rattle.cuda_plans.specs.KeepThreads.{valued, is_unfinished, words_alone, is_keep_dir, sets_keep, is_no_keep_word, keep_of, is_threads, is_no_thread_word, number_given, threads_of}
 use Rattle.cuda_plans.specs.Taken.{nothing_kept, with_keep_word, keep_of_gathered, no_threads, with_thread_word, threads_of_gathered}

@@ -1,3 +1,4 @@
+pub mod CallEnvironment
 pub mod Cicc
 pub mod CudaFE
 pub mod Examples
@@ -5,6 +6,10 @@ pub mod Gathered
 pub mod Input
 pub mod KeepThreads
 pub mod Line
+pub mod Nvcc
+pub mod NvccCommand
+pub mod NvccOptions
+pub mod NvccRows
 pub mod Ptxas
 pub mod Reading
 pub mod Shell

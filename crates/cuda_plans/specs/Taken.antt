@@ -3,8 +3,8 @@ use Rattle.std.specs.Prelude.{ℕ, List, [], ◌∷◌, ◌++◌, false, ◌||�
 use Rattle.std.specs.Option.{option_map}
 use Rattle.std.specs.declared.alloc.Global.{Global}
 use Rattle.cuda_below.specs.declared.fault.Fault.{Fault}
-use Rattle.cuda_plans.specs.declared.nvcc.KeepWords.{KeepWords}
-use Rattle.cuda_plans.specs.declared.nvcc.ThreadWords.{ThreadWords}
+use Rattle.cuda_plans.specs.declared.nvcc.taking.KeepWords.{KeepWords}
+use Rattle.cuda_plans.specs.declared.nvcc.taking.ThreadWords.{ThreadWords}
 use Rattle.cuda_plans.specs.Gathered.{latest}
 use Rattle.cuda_plans.specs.KeepThreads.{takes_value, is_keep_dir, sets_keep, is_no_keep_word, keep_answer, is_threads, is_no_thread_word, number_given, threads_answer}
 

@@ -75,7 +75,7 @@ fn shown(alloc: Global, parsed: &ParsedArguments) -> Result<String, AllocError> 
     Ok(text)
 }
 
-fn answered(
+pub(crate) fn answered(
     alloc: Global,
     answer: &CompilerArguments<ParsedArguments>,
 ) -> Result<String, AllocError> {

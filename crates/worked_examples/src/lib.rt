@@ -12,6 +12,8 @@ mod inputs;
 #[cfg(test)]
 mod keep_and_threads;
 #[cfg(test)]
+mod nvcc_lines;
+#[cfg(test)]
 mod records;
 #[cfg(test)]
 mod shell_words;

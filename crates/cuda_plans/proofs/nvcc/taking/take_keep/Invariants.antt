@@ -1,7 +1,7 @@
 use Rattle.std.proofs.Common.{◌≡◌, map, string_bytes, drop}
 use Rattle.std.specs.List.{fold}
 use Rattle.cuda_plans.specs.Taken.{nothing_kept, with_keep_word}
-use Rattle.cuda_plans.proofs.nvcc.take_keep.Given as goal
+use Rattle.cuda_plans.proofs.nvcc.taking.take_keep.Given as goal
 
 abbrev pub invariant-loop-word : goal.invariant-loop-word
 invariant-loop-word l =

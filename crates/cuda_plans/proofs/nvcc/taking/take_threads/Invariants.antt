@@ -1,7 +1,7 @@
 use Rattle.std.proofs.Common.{◌≡◌, map, string_bytes, drop}
 use Rattle.std.specs.List.{fold}
 use Rattle.cuda_plans.specs.Taken.{no_threads, with_thread_word}
-use Rattle.cuda_plans.proofs.nvcc.take_threads.Given as goal
+use Rattle.cuda_plans.proofs.nvcc.taking.take_threads.Given as goal
 
 abbrev pub invariant-loop-word : goal.invariant-loop-word
 invariant-loop-word l =

@@ -4,7 +4,7 @@ use Rattle.std.proofs.lemmas.List.{at_drop_all}
 use Rattle.cuda_below.specs.Fault.{UnlessMemory}
 use Rattle.cuda_plans.specs.Taken.{with_keep_word, keep_of_gathered, keep_seen}
 use Rattle.cuda_plans.proofs.TakingLemmas.{keep_gathered}
-use Rattle.cuda_plans.proofs.nvcc.take_keep.Goals as goal
+use Rattle.cuda_plans.proofs.nvcc.taking.take_keep.Goals as goal
 
 pub returns : goal.returns
 returns c =

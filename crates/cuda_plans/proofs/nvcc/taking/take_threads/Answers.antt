@@ -4,7 +4,7 @@ use Rattle.std.proofs.lemmas.List.{at_drop_all}
 use Rattle.cuda_below.specs.Fault.{UnlessMemory}
 use Rattle.cuda_plans.specs.Taken.{with_thread_word, threads_of_gathered, threads_seen}
 use Rattle.cuda_plans.proofs.TakingLemmas.{threads_gathered}
-use Rattle.cuda_plans.proofs.nvcc.take_threads.Goals as goal
+use Rattle.cuda_plans.proofs.nvcc.taking.take_threads.Goals as goal
 
 pub returns : goal.returns
 returns c =

@@ -1,0 +1,87 @@
+-- What an nvcc line is read as, and what is said of nvcc as a compiler.
+use Rattle.std.specs.Prelude.{ℕ, List, [], ◌∷◌, ◌++◌, Bool, false, not, ◌||◌, map, filter, Option, Some, None, unwrap_or, encode_utf8_all, codes}
+use Rattle.std.specs.Option.{option_map, option_map_or}
+use Rattle.std.specs.Map.{lookup}
+use Rattle.std.specs.Str.{bytes_eq, chars}
+use Rattle.cuda_below.specs.declared.arguments.ParsedArguments.{ParsedArguments}
+use Rattle.cuda_below.specs.declared.compiler.CCompilerKind.TheVariants as kinds
+use Rattle.cuda_below.specs.declared.gcc.ArgData.{ArgData}
+use Rattle.cuda_below.specs.Compiler.{Reading, accepted, cannot_cache, not_compilation}
+use Rattle.cuda_below.specs.Gcc.{profile_reading}
+use Rattle.cuda_below.specs.GccOptions.{gcc_entries}
+use Rattle.cuda_below.specs.Table.{Entry, longest_match, longer_choice}
+use Rattle.cuda_plans.specs.declared.nvcc.Nvcc.{Nvcc}
+use Rattle.cuda_plans.specs.NvccOptions.{nvcc_options}
+use Rattle.cuda_plans.specs.Shell.Splitting.{split_chars}
+
+-- The environment.
+
+-- the names of the variables that nvcc takes words from: those before a line's words, and those after them
+abbrev pub prepended_name : List ℕ
+prepended_name = codes "NVCC_PREPEND_FLAGS"
+
+abbrev pub appended_name : List ℕ
+appended_name = codes "NVCC_APPEND_FLAGS"
+
+-- a name of one of the two variables
+abbrev pub is_flags_name : List ℕ → Bool
+is_flags_name name = bytes_eq name prepended_name || bytes_eq name appended_name
+
+-- an environment without every variable of the two names
+abbrev pub without_flags : List (List ℕ × List ℕ) → List (List ℕ × List ℕ)
+without_flags env_vars = filter (λ variable. not (is_flags_name variable.0)) env_vars
+
+-- the shell words of a text, and none where it doesn't split
+abbrev pub shell_words : List ℕ → List (List ℕ)
+shell_words text = unwrap_or (option_map (map encode_utf8_all) (split_chars (chars text))) []
+
+-- the words that the first variable of a name adds, and none where there is no such variable
+abbrev pub added_words : List ℕ → List (List ℕ × List ℕ) → List (List ℕ)
+added_words name env_vars = option_map_or shell_words (lookup (bytes_eq name) env_vars) []
+
+-- a line with the words that the environment adds
+abbrev pub with_added_words : List (List ℕ × List ℕ) → List (List ℕ) → List (List ℕ)
+with_added_words env_vars words = (added_words prepended_name env_vars ++ words) ++ added_words appended_name env_vars
+
+-- Reading.
+
+-- the entry that a word chooses: that of the gcc profile where its text is longer, else nvcc's own
+abbrev pub nvcc_chosen : List ℕ → Option (Entry ArgData)
+nvcc_chosen word = longer_choice (longest_match gcc_entries word) (longest_match nvcc_options word)
+
+-- a text as a list of words, and no word for the empty text
+abbrev pub nonempty : List ℕ → List (List ℕ)
+nonempty [] = []
+nonempty (c ∷ cs) = (c ∷ cs) ∷ []
+
+-- arguments whose compilation flag, unless it is empty, is the last common word too
+abbrev pub with_flag_word : ParsedArguments → ParsedArguments
+with_flag_word p = record p { common_args = p.common_args ++ nonempty p.compilation_flag }
+
+-- the same of a reading, where it accepts the line
+abbrev pub reading_with_flag_word : Reading → Reading
+reading_with_flag_word (accepted p) = accepted (with_flag_word p)
+reading_with_flag_word (cannot_cache text word) = cannot_cache text word
+reading_with_flag_word not_compilation = not_compilation
+
+-- what words are read as, at a working directory and in an environment
+abbrev pub nvcc_reading : List (List ℕ) → List ℕ → List (List ℕ × List ℕ) → Reading
+nvcc_reading words cwd env_vars = reading_with_flag_word (profile_reading nvcc_chosen cwd false kinds.Nvcc (with_added_words env_vars words))
+
+-- The version.
+
+-- a version's text, where it is known and not empty
+abbrev pub known_version : Option (List ℕ) → Option (List ℕ)
+known_version None = None
+known_version (Some []) = None
+known_version (Some (c ∷ cs)) = Some (c ∷ cs)
+
+-- two texts joined by `-`, or the one that is there
+abbrev pub joined_by_a_dash : Option (List ℕ) → Option (List ℕ) → Option (List ℕ)
+joined_by_a_dash None other = other
+joined_by_a_dash (Some text) None = Some text
+joined_by_a_dash (Some text) (Some other) = Some (text ++ (codes "-" ++ other))
+
+-- nvcc's version, and that of the host compiler after it
+abbrev pub nvcc_version : Nvcc → Option (List ℕ)
+nvcc_version compiler = joined_by_a_dash (known_version compiler.version) (known_version compiler.host_compiler_version)

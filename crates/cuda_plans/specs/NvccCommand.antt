@@ -1,0 +1,119 @@
+-- What nvcc arguments are written back as, and the two dry runs of that command.
+use Rattle.std.specs.Prelude.{ℕ, List, [], ◌∷◌, ◌++◌, Bool, true, false, if◌then◌else◌, Result, Ok, Err, codes}
+use Rattle.std.specs.List.{list_any}
+use Rattle.std.specs.Option.{option_map_or, ok_or}
+use Rattle.std.specs.Str.{bytes_eq}
+use Rattle.cuda_below.specs.declared.arguments.ParsedArguments.{ParsedArguments}
+use Rattle.cuda_below.specs.declared.command.SingleCompileCommand.{SingleCompileCommand}
+use Rattle.cuda_below.specs.declared.command.Cacheable.{Cacheable}
+use Rattle.cuda_below.specs.declared.command.Cacheable.TheVariants.{No}
+use Rattle.cuda_below.specs.declared.compiler.Places.{Places}
+use Rattle.cuda_below.specs.declared.fault.Fault.{Fault}
+use Rattle.cuda_below.specs.declared.fault.Fault.TheVariants.{MissingOutput, NoFileName}
+use Rattle.cuda_below.specs.declared.language.Language.{Language}
+use Rattle.cuda_below.specs.GccItems.{name_of_language}
+use Rattle.cuda_below.specs.Outputs.{entry_at}
+use Rattle.cuda_below.specs.Path.{is_absolute_path, joined, file_name_of}
+use Rattle.cuda_plans.specs.declared.nvcc.NvccHostCompiler.{NvccHostCompiler}
+use Rattle.cuda_plans.specs.declared.nvcc.command.NvccCompileCommand.{NvccCompileCommand}
+use Rattle.cuda_plans.specs.declared.nvcc.command.Taken.{Taken}
+use Rattle.cuda_plans.specs.KeepThreads.{keep_of, threads_of}
+use Rattle.cuda_plans.specs.Nvcc.{without_flags}
+
+-- the flags that ask for an object file
+abbrev pub object_flags : List (List ℕ)
+object_flags = codes "-c" ∷ codes "--compile" ∷ codes "-dc" ∷ codes "--device-c" ∷ codes "-dw" ∷ codes "--device-w" ∷ []
+
+-- the output's path as it is written: as given under a flag that asks for an object file, else below the working
+-- directory
+abbrev pub output_word : List ℕ → List ℕ → List ℕ → List ℕ
+output_word cwd flag obj = if list_any (bytes_eq flag) object_flags then obj else joined cwd obj
+
+-- the words that name a language, and none where the option for it has no name for that
+abbrev pub language_words : Language → List (List ℕ)
+language_words language = option_map_or (λ name. codes "-x" ∷ name ∷ []) (name_of_language language) []
+
+-- `--`, where the input stood after it
+abbrev pub dashes_words : Bool → List (List ℕ)
+dashes_words true = codes "--" ∷ []
+dashes_words false = []
+
+-- the input as it is written: an absolute path as given, else the canonical one
+abbrev pub input_word : List ℕ → List ℕ → List ℕ
+input_word input canonical = if is_absolute_path input then input else canonical
+
+-- the words that stand before the preprocessor words: the language and the output's path
+abbrev pub first_words : List ℕ → ParsedArguments → List ℕ → List (List ℕ)
+first_words cwd p obj = language_words p.language ++ codes "-o" ∷ output_word cwd p.compilation_flag obj ∷ []
+
+-- the words that stand after the architecture words
+abbrev pub last_words : ParsedArguments → List ℕ → List (List ℕ)
+last_words p canonical = dashes_words p.double_dash_input ++ input_word p.input canonical ∷ []
+
+-- the words of an nvcc line: of the working directory, the arguments, the output's path, what keep words and thread
+-- words leave of the unhashed words, and the canonical input
+abbrev pub nvcc_words : List ℕ → ParsedArguments → List ℕ → List (List ℕ) → List ℕ → List (List ℕ)
+nvcc_words cwd p obj unhashed canonical =
+    ((((first_words cwd p obj ++ p.preprocessor_args) ++ unhashed) ++ p.common_args) ++ p.arch_args) ++ last_words p canonical
+
+-- what follows a step that may refuse
+abbrev pub and_then : {A B : Type 0} → Result A Fault → (A → Result B Fault) → Result B Fault
+and_then (Ok x) next = next x
+and_then (Err fault) next = Err fault
+
+-- keep words, and after them thread words, taken out of a line at a working directory
+abbrev pub taken_of : List ℕ → List (List ℕ) → Result Taken Fault
+taken_of cwd words =
+    and_then (keep_of cwd words) (λ kept.
+    and_then (threads_of kept.0) (λ threaded.
+    Ok (record { words = threaded.0; keep_dir = kept.1; num_parallel = threaded.1 })))
+
+-- the output's path and its file name; it is refused to have no output, and no file name
+abbrev pub output_of : ParsedArguments → Result (List ℕ × List ℕ) Fault
+output_of p =
+    and_then (ok_or (entry_at (codes "obj") p.outputs) (MissingOutput p.language)) (λ obj.
+    and_then (ok_or (file_name_of obj.path) NoFileName) (λ name.
+    Ok (obj.path, name)))
+
+-- the command, of what is taken out of the unhashed words, and the output's path and file name
+abbrev pub nvcc_command : List ℕ → ParsedArguments → List ℕ → List (List ℕ × List ℕ) → NvccHostCompiler → Places → Taken → List ℕ × List ℕ → NvccCompileCommand
+nvcc_command executable p cwd env_vars host_compiler places taken output = record {
+  temp_dir = places.temp_dir;
+  keep_dir = taken.keep_dir;
+  num_parallel = taken.num_parallel;
+  executable = executable;
+  arguments = nvcc_words cwd p output.0 taken.words places.canonical_input;
+  compilation_flag = p.compilation_flag;
+  env_vars = without_flags env_vars;
+  cwd = cwd;
+  host_compiler = host_compiler;
+  output_file_name = output.1;
+}
+
+-- arguments written back, of the executable, the arguments, the working directory, the environment, the host compiler
+-- and the places; what is wrong with the unhashed words is refused before what is wrong with the output. No cache
+-- serves the command itself.
+abbrev pub nvcc_written : List ℕ → ParsedArguments → List ℕ → List (List ℕ × List ℕ) → NvccHostCompiler → Places → Result (NvccCompileCommand × Cacheable) Fault
+nvcc_written executable p cwd env_vars host_compiler places =
+    and_then (taken_of cwd p.unhashed_args) (λ taken.
+    and_then (output_of p) (λ output.
+    Ok (nvcc_command executable p cwd env_vars host_compiler places taken output, No)))
+
+-- The dry runs.
+
+-- the command with further words, which only says what it would run
+abbrev pub dry_run_with : NvccCompileCommand → List (List ℕ) → SingleCompileCommand
+dry_run_with c words = record {
+  executable = c.executable;
+  arguments = c.arguments ++ words;
+  env_vars = c.env_vars;
+  cwd = c.cwd;
+  share_jobserver = false;
+}
+
+-- the first dry run, and the second, whose files would be kept in the folder for temporary files
+abbrev pub dry_runs : NvccCompileCommand → SingleCompileCommand × SingleCompileCommand
+dry_runs c = (
+  dry_run_with c (codes "--dryrun" ∷ codes "--keep" ∷ []),
+  dry_run_with c (codes "--keep-dir" ∷ c.temp_dir ∷ codes "--dryrun" ∷ codes "--keep" ∷ []),
+)

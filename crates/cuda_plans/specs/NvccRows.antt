@@ -1,0 +1,134 @@
+-- Worked lines of nvcc, each computed. The working directory is `/w`.
+use Rattle.std.specs.Prelude.{◌≡◌, ℕ, List, [], ◌∷◌, Option, Some, None, Result, Ok, Err, refl, codes}
+use Rattle.std.specs.Str.{chars}
+use Rattle.std.specs.Char.{encode_utf8}
+use Rattle.cuda_below.specs.declared.arguments.ParsedArguments.{ParsedArguments}
+use Rattle.cuda_below.specs.declared.command.Cacheable.{Cacheable}
+use Rattle.cuda_below.specs.declared.compiler.Places.{Places}
+use Rattle.cuda_below.specs.declared.fault.Fault.{Fault}
+use Rattle.cuda_below.specs.declared.fault.Fault.TheVariants.{MissingOutput, NoFileName, KeepDirValue, ThreadsValue}
+use Rattle.cuda_below.specs.declared.language.Language.TheVariants.{C, Cuda}
+use Rattle.cuda_below.specs.Compiler.{Reading, accepted, cannot_cache}
+use Rattle.cuda_below.specs.GccRows.{compiled}
+use Rattle.cuda_plans.specs.declared.nvcc.Nvcc.{Nvcc}
+use Rattle.cuda_plans.specs.declared.nvcc.NvccHostCompiler.TheVariants.{Gcc}
+use Rattle.cuda_plans.specs.declared.nvcc.command.NvccCompileCommand.{NvccCompileCommand}
+use Rattle.cuda_plans.specs.Nvcc.{prepended_name, appended_name, nvcc_reading, nvcc_version}
+use Rattle.cuda_plans.specs.NvccCommand.{nvcc_written, dry_runs}
+
+-- what a line is read as, in an environment, and in one that adds nothing
+abbrev pub read_in : List (List ℕ × List ℕ) → List (List ℕ) → Reading
+read_in env_vars words = nvcc_reading words (codes "/w") env_vars
+
+abbrev pub read : List (List ℕ) → Reading
+read = read_in []
+
+-- the arguments of `-c foo.cu -o foo.o`
+abbrev pub lone_object : ParsedArguments
+lone_object = record (compiled (codes "foo.cu") Cuda (codes "foo.o")) { common_args = codes "-c" ∷ [] }
+
+-- the line `-c foo.c -o foo.o`
+abbrev pub c_line : List (List ℕ)
+c_line = codes "-c" ∷ codes "foo.c" ∷ codes "-o" ∷ codes "foo.o" ∷ []
+
+-- the environment adds `-x cu` before a line and a word with a space after it; where the first text doesn't split, it
+-- adds nothing; and of two variables of a name the first is read
+abbrev pub EnvironmentAddsWords : Type 0
+EnvironmentAddsWords =
+    (read_in ((prepended_name, codes "-x cu") ∷ (appended_name, codes "-DX=\"a b\"") ∷ []) c_line
+    ≡ accepted (record (compiled (codes "foo.c") Cuda (codes "foo.o")) { preprocessor_args = codes "-DX=a b" ∷ []; common_args = codes "-c" ∷ [] }))
+    × (read_in ((prepended_name, codes "\"a") ∷ (appended_name, codes "-DX=\"a b\"") ∷ []) c_line
+    ≡ accepted (record (compiled (codes "foo.c") C (codes "foo.o")) { preprocessor_args = codes "-DX=a b" ∷ []; common_args = codes "-c" ∷ [] }))
+    × (read_in ((appended_name, codes "-DA") ∷ (codes "NVCC", codes "-DB") ∷ (appended_name, codes "-DC") ∷ []) c_line
+    ≡ accepted (record (compiled (codes "foo.c") C (codes "foo.o")) { preprocessor_args = codes "-DA" ∷ []; common_args = codes "-c" ∷ [] }))
+
+pub environment_adds_words : EnvironmentAddsWords
+unfolding chars encode_utf8
+environment_adds_words = (refl, refl, refl)
+
+-- a single CUDA file is compiled without a flag, and an option may take the flag as its value
+abbrev pub FlagIsEmpty : Type 0
+FlagIsEmpty =
+    (read (codes "foo.cu" ∷ []) ≡ accepted (record (compiled (codes "foo.cu") Cuda (codes "foo.o")) { compilation_flag = [] }))
+    × (read (codes "-Werror" ∷ codes "-c" ∷ codes "foo.cu" ∷ [])
+    ≡ accepted (record (compiled (codes "foo.cu") Cuda (codes "foo.o")) { compilation_flag = []; preprocessor_args = codes "-Werror" ∷ codes "-c" ∷ [] }))
+
+pub flag_is_empty : FlagIsEmpty
+flag_is_empty = (refl, refl)
+
+-- `-t` takes each word that begins with it; `--time` does too, and refuses; the option for the language refuses as `-x`
+abbrev pub OptionsBeginWords : Type 0
+OptionsBeginWords =
+    (read (codes "-c" ∷ codes "foo.cu" ∷ codes "-target=x" ∷ codes "-save-temps=obj" ∷ [])
+    ≡ accepted (record lone_object { common_args = codes "-save-temps=obj" ∷ codes "-c" ∷ []; unhashed_args = codes "-target=x" ∷ [] }))
+    × (read (codes "-c" ∷ codes "foo.cu" ∷ codes "-threads" ∷ codes "4" ∷ []) ≡ cannot_cache (codes "multiple input files") None)
+    × (read (codes "-c" ∷ codes "foo.cu" ∷ codes "--timeout=3" ∷ []) ≡ cannot_cache (codes "--time") None)
+    × (read (codes "-c" ∷ codes "foo.cu" ∷ codes "--x=foo" ∷ []) ≡ cannot_cache (codes "-x") None)
+
+pub options_begin_words : OptionsBeginWords
+options_begin_words = (refl, refl, refl, refl)
+
+-- the folder for temporary files, and the canonical input
+abbrev pub places : Places
+places = record { temp_dir = codes "/t"; canonical_input = codes "/w/foo.cu" }
+
+-- arguments written back, for gcc as the host compiler and in an empty environment
+abbrev pub write : ParsedArguments → Result (NvccCompileCommand × Cacheable) Fault
+write p = nvcc_written (codes "nvcc") p (codes "/w") [] Gcc places
+
+-- the words of a command, its output's file name, and the words of its second dry run
+abbrev pub words_written : Result (NvccCompileCommand × Cacheable) Fault → Result (List (List ℕ) × List ℕ × List (List ℕ)) Fault
+words_written (Ok c) = Ok (c.0.arguments, c.0.output_file_name, (dry_runs c.0).1.arguments)
+words_written (Err fault) = Err fault
+
+-- under `-c` the output is written as given, and else below the working directory
+abbrev pub WordsAreWritten : Type 0
+WordsAreWritten =
+    (words_written (write lone_object)
+    ≡ Ok (
+      codes "-x" ∷ codes "cu" ∷ codes "-o" ∷ codes "foo.o" ∷ codes "-c" ∷ codes "/w/foo.cu" ∷ [],
+      codes "foo.o",
+      codes "-x" ∷ codes "cu" ∷ codes "-o" ∷ codes "foo.o" ∷ codes "-c" ∷ codes "/w/foo.cu" ∷ codes "--keep-dir" ∷ codes "/t" ∷ codes "--dryrun" ∷ codes "--keep" ∷ [],
+    ))
+    × (words_written (write (record (compiled (codes "foo.cu") Cuda (codes "foo.ptx")) { compilation_flag = codes "-ptx"; common_args = codes "-ptx" ∷ [] }))
+    ≡ Ok (
+      codes "-x" ∷ codes "cu" ∷ codes "-o" ∷ codes "/w/foo.ptx" ∷ codes "-ptx" ∷ codes "/w/foo.cu" ∷ [],
+      codes "foo.ptx",
+      codes "-x" ∷ codes "cu" ∷ codes "-o" ∷ codes "/w/foo.ptx" ∷ codes "-ptx" ∷ codes "/w/foo.cu" ∷ codes "--keep-dir" ∷ codes "/t" ∷ codes "--dryrun" ∷ codes "--keep" ∷ [],
+    ))
+    × (words_written (write (record (compiled (codes "foo.cu") Cuda (codes "foo.o")) { compilation_flag = [] }))
+    ≡ Ok (
+      codes "-x" ∷ codes "cu" ∷ codes "-o" ∷ codes "/w/foo.o" ∷ codes "/w/foo.cu" ∷ [],
+      codes "foo.o",
+      codes "-x" ∷ codes "cu" ∷ codes "-o" ∷ codes "/w/foo.o" ∷ codes "/w/foo.cu" ∷ codes "--keep-dir" ∷ codes "/t" ∷ codes "--dryrun" ∷ codes "--keep" ∷ [],
+    ))
+
+pub words_are_written : WordsAreWritten
+words_are_written = (refl, refl, refl)
+
+-- what is refused first of several: a missing directory, then a missing number, then a missing output; and an output
+-- without a file name last
+abbrev pub RefusalsHaveAnOrder : Type 0
+RefusalsHaveAnOrder =
+    (write (record lone_object { outputs = []; unhashed_args = codes "--threads" ∷ codes "-keep-dir" ∷ [] }) ≡ Err KeepDirValue)
+    × (write (record lone_object { outputs = []; unhashed_args = codes "-keep" ∷ codes "--threads" ∷ [] }) ≡ Err ThreadsValue)
+    × (write (record lone_object { outputs = [] }) ≡ Err (MissingOutput Cuda))
+    × (write (record (compiled (codes "foo.cu") Cuda (codes "..")) { compilation_flag = [] }) ≡ Err NoFileName)
+
+pub refusals_have_an_order : RefusalsHaveAnOrder
+refusals_have_an_order = (refl, refl, refl, refl)
+
+-- nvcc of these versions
+abbrev pub of_versions : Option (List ℕ) → Option (List ℕ) → Nvcc
+of_versions own host = record { host_compiler = Gcc; host_compiler_version = host; version = own }
+
+-- two versions are joined, one stands alone, and an empty one counts for none
+abbrev pub VersionsAreJoined : Type 0
+VersionsAreJoined =
+    (nvcc_version (of_versions (Some (codes "12.4")) (Some (codes "13"))) ≡ Some (codes "12.4-13"))
+    × (nvcc_version (of_versions (Some []) (Some (codes "13"))) ≡ Some (codes "13"))
+    × (nvcc_version (of_versions (Some (codes "12.4")) None) ≡ Some (codes "12.4"))
+    × (nvcc_version (of_versions (Some []) None) ≡ None)
+
+pub versions_are_joined : VersionsAreJoined
+versions_are_joined = (refl, refl, refl, refl)
