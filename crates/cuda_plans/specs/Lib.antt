@@ -1,8 +1,10 @@
 pub mod Cicc
+pub mod CudaFE
 pub mod Examples
 pub mod Gathered
 pub mod KeepThreads
 pub mod Line
+pub mod Ptxas
 pub mod Reading
 pub mod Shell
 pub mod Taken

@@ -13,6 +13,10 @@ use Rattle.cuda_below.specs.Outputs.{entry_at}
 abbrev pub cicc_words : ParsedArguments → List ℕ → List (List ℕ)
 cicc_words p obj = (p.common_args ++ p.unhashed_args) ++ p.input ∷ codes "-o" ∷ obj ∷ []
 
+-- the words of a cudafe++ line: the common words, the unhashed ones, the output as the module id file, and the input
+abbrev pub cudafe_words : ParsedArguments → List ℕ → List (List ℕ)
+cudafe_words p obj = (p.common_args ++ p.unhashed_args) ++ codes "--module_id_file_name" ∷ obj ∷ p.input ∷ []
+
 -- a command that can be cached, with these words
 abbrev pub tool_command : List ℕ → List (List ℕ) → List ℕ → List (List ℕ × List ℕ) → SingleCompileCommand × Cacheable
 tool_command executable words cwd env_vars =

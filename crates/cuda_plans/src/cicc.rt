@@ -1,12 +1,12 @@
 //! The command lines of cicc, which makes PTX of preprocessed device code.
 
-ghost use Rattle.std.specs.Prelude.{◌≡◌, ◌<◌, [], map, length, position, IfOk, IfSome, string_bytes, slice_index_or};
+ghost use Rattle.std.specs.Prelude.{◌≡◌, ◌<◌, [], ◌++◌, map, length, position, IfOk, IfSome, string_bytes, slice_index_or};
 ghost use Rattle.std.specs.List.{remove};
 ghost use Rattle.cuda_below.specs.Items.{items};
 ghost use Rattle.cuda_below.specs.Table.{entry_of};
 ghost use Rattle.cuda_below.specs.Variables.{pair_of};
 ghost use Rattle.cuda_below.specs.Fault.{UnlessMemory};
-ghost use Rattle.cuda_plans.specs.Line.{cicc_words, written};
+ghost use Rattle.cuda_plans.specs.Line.{cicc_words, written, tool_command as command_of};
 
 use crate::gathered::gather;
 use cuda_below::arguments::{CompilerArguments, ParsedArguments};
@@ -181,13 +181,41 @@ pub fn parse_arguments<S: SearchableArgInfo<ArgData> + Drop>(
     Ok(CompilerArguments::Ok(parsed))
 }
 
-// The words of a cicc or ptxas line.
-fn line_words(alloc: Global, parsed_args: &ParsedArguments, obj: &Text) -> Result<Words, AllocError>
-    ensures { IfOk result (λ w. w ≡ cicc_words parsed_args.now obj.now) }
+// A command that a cache may serve: its words, and the other parts as handed in.
+pub(crate) fn tool_command(
+    alloc: Global,
+    executable: &str,
+    arguments: Words,
+    cwd: &str,
+    env_vars: &[(String, String)],
+) -> Result<(SingleCompileCommand, Cacheable), AllocError>
+    ensures { IfOk result (λ c. c ≡ command_of executable.now arguments cwd.now (map pair_of env_vars.now)) }
+{
+    let command = SingleCompileCommand {
+        executable: Text::copy_of(alloc, executable)?,
+        arguments,
+        env_vars: Variables::copy_of(alloc, env_vars)?,
+        cwd: Text::copy_of(alloc, cwd)?,
+        share_jobserver: false,
+    };
+    Ok((command, Cacheable::Yes))
+}
+
+// The common words, and after them the unhashed ones.
+pub(crate) fn option_words(alloc: Global, parsed_args: &ParsedArguments) -> Result<Words, AllocError>
+    ensures { IfOk result (λ w. w ≡ parsed_args.now.common_args ++ parsed_args.now.unhashed_args) }
 {
     let mut words = Words::new(alloc);
     words.extend(alloc, parsed_args.common_args.as_slice())?;
     words.extend(alloc, parsed_args.unhashed_args.as_slice())?;
+    Ok(words)
+}
+
+// The words of a cicc or ptxas line.
+fn line_words(alloc: Global, parsed_args: &ParsedArguments, obj: &Text) -> Result<Words, AllocError>
+    ensures { IfOk result (λ w. w ≡ cicc_words parsed_args.now obj.now) }
+{
+    let mut words = option_words(alloc, parsed_args)?;
     words.push(String::from_str(alloc, parsed_args.input.as_str())?)?;
     words.push(String::from_str(alloc, "-o")?)?;
     words.push(String::from_str(alloc, obj.as_str())?)?;
@@ -212,14 +240,8 @@ pub fn generate_compile_commands(
             language: parsed_args.language,
         });
     };
-    let command = SingleCompileCommand {
-        executable: Text::copy_of(alloc, executable)?,
-        arguments: line_words(alloc, parsed_args, &obj.path)?,
-        env_vars: Variables::copy_of(alloc, env_vars)?,
-        cwd: Text::copy_of(alloc, cwd)?,
-        share_jobserver: false,
-    };
-    Ok((command, Cacheable::Yes))
+    let words = line_words(alloc, parsed_args, &obj.path)?;
+    Ok(tool_command(alloc, executable, words, cwd, env_vars)?)
 }
 
 /// cicc, as a compiler.

@@ -2,7 +2,9 @@
 #![tactic(auto)]
 
 pub mod cicc;
+pub mod cudafe;
 mod gathered;
 pub mod laws;
 pub mod nvcc;
+pub mod ptxas;
 pub mod shell;
