@@ -1,3 +1,4 @@
+pub mod CallEnvironment
 pub mod Cicc
 pub mod CudaFE
 pub mod Examples

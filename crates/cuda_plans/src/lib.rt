@@ -1,6 +1,7 @@
 //! Plans of CUDA compilations: the command lines of the CUDA tools, and what one `nvcc` call runs.
 #![tactic(auto)]
 
+mod call_environment;
 pub mod cicc;
 pub mod cudafe;
 mod gathered;
