@@ -5,6 +5,7 @@ pub mod Examples
 pub mod Gathered
 pub mod KeepThreads
 pub mod Line
+pub mod Nvhpc
 pub mod Ptxas
 pub mod Reading
 pub mod Shell

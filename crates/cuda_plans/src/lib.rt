@@ -7,5 +7,6 @@ pub mod cudafe;
 mod gathered;
 pub mod laws;
 pub mod nvcc;
+pub mod nvhpc;
 pub mod ptxas;
 pub mod shell;
