@@ -6,6 +6,7 @@ pub mod Gathered
 pub mod KeepThreads
 pub mod Line
 pub mod Nvhpc
+pub mod Preprocess
 pub mod Ptxas
 pub mod Reading
 pub mod Shell

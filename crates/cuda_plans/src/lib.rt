@@ -8,5 +8,6 @@ mod gathered;
 pub mod laws;
 pub mod nvcc;
 pub mod nvhpc;
+mod preprocess;
 pub mod ptxas;
 pub mod shell;
