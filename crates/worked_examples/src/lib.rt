@@ -8,6 +8,10 @@ mod gcc_lines;
 #[cfg(test)]
 mod keep_and_threads;
 #[cfg(test)]
+mod nvhpc_lines;
+#[cfg(test)]
+mod preprocess_lines;
+#[cfg(test)]
 mod records;
 #[cfg(test)]
 mod shell_words;
