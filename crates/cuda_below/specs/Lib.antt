@@ -1,10 +1,12 @@
 pub mod ArgsIter
+pub mod Command
 pub mod Compiler
 pub mod Equality
 pub mod Extension
 pub mod Fault
 pub mod Gcc
 pub mod GccItems
+pub mod GccLine
 pub mod GccOptions
 pub mod GccRows
 pub mod GccSteps

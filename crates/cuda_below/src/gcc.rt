@@ -8,6 +8,8 @@ ghost use Rattle.cuda_below.specs.Items.{item_of, value_of, words_of, text_of};
 ghost use Rattle.cuda_below.specs.GccOptions.{gcc_entries, differ};
 ghost use Rattle.cuda_below.specs.GccItems.{language_named, name_of_language, refusal_of_option, refusal_of, is_double_dash, written_form};
 
+mod line;
+
 use crate::arguments::{ColorMode, CompilerArguments, ParsedArguments};
 use crate::compiler::CCompilerKind;
 use crate::extension::with_extension;
@@ -17,6 +19,7 @@ use crate::outputs::{ArtifactDescriptor, Outputs};
 use crate::table::{ArgDisposition, ArgInfo, SearchableArgInfo, Table};
 use crate::text::{Text, join};
 use crate::words::Words;
+pub use line::generate_compile_commands;
 use std::alloc::{AllocError, Global};
 
 /// What an option of a gcc-like compiler is for.

@@ -1,4 +1,5 @@
 mod AnswerLemmas
+pub mod FirstLemmas
 mod PlaceLemmas
 mod ReadingLemmas
 pub mod NumberLemmas

@@ -9,7 +9,8 @@ use Rattle.cuda_below.specs.declared.arguments.ParsedArguments.{ParsedArguments}
 use Rattle.cuda_below.specs.Table.{longest_match}
 use Rattle.cuda_plans.specs.Cicc.{cicc_options}
 use Rattle.cuda_plans.specs.Reading.{reading}
-use Rattle.cuda_plans.specs.Line.{cicc_words, written}
+use Rattle.cuda_below.specs.Command.{written}
+use Rattle.cuda_plans.specs.Line.{cicc_words}
 
 -- the words of a command, or why there is none
 abbrev pub words_written : Result (SingleCompileCommand × Cacheable) Fault → Result (List (List ℕ)) Fault

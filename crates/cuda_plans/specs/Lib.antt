@@ -1,4 +1,3 @@
-pub mod CallEnvironment
 pub mod Cicc
 pub mod CudaFE
 pub mod Examples
@@ -10,6 +9,8 @@ pub mod Nvcc
 pub mod NvccCommand
 pub mod NvccOptions
 pub mod NvccRows
+pub mod Nvhpc
+pub mod Preprocess
 pub mod Ptxas
 pub mod Reading
 pub mod Shell

@@ -4,9 +4,11 @@ ghost use Rattle.std.specs.Prelude.{◌≡◌, ◌<◌, [], ◌∷◌, ◌++◌,
 ghost use Rattle.std.specs.List.{remove};
 ghost use Rattle.cuda_below.specs.Items.{items};
 ghost use Rattle.cuda_below.specs.Table.{entry_of};
+ghost use Rattle.cuda_below.specs.declared.command.Cacheable.TheVariants.{Yes};
 ghost use Rattle.cuda_below.specs.Variables.{pair_of};
 ghost use Rattle.cuda_below.specs.Fault.{UnlessMemory};
-ghost use Rattle.cuda_plans.specs.Line.{cicc_words, written, tool_command as command_of};
+ghost use Rattle.cuda_below.specs.Command.{single_command, written};
+ghost use Rattle.cuda_plans.specs.Line.{cicc_words};
 
 mod input;
 
@@ -192,7 +194,7 @@ pub(crate) fn tool_command(
     cwd: &str,
     env_vars: &[(String, String)],
 ) -> Result<(SingleCompileCommand, Cacheable), AllocError>
-    ensures { IfOk result (λ c. c ≡ command_of executable.now arguments cwd.now (map pair_of env_vars.now)) }
+    ensures { IfOk result (λ c. c ≡ (single_command executable.now arguments cwd.now (map pair_of env_vars.now), Yes)) }
 {
     let command = SingleCompileCommand {
         executable: Text::copy_of(alloc, executable)?,
@@ -297,7 +299,8 @@ impl CCompilerImpl for Cicc {
     ghost use Rattle.cuda_below.specs.declared.language.Language.TheVariants.{Ptx};
     ghost use Rattle.cuda_plans.specs.Cicc.{cicc_options};
     ghost use Rattle.cuda_plans.specs.Reading.{tool_reading};
-    ghost use Rattle.cuda_plans.specs.Line.{cicc_words, written};
+    ghost use Rattle.cuda_below.specs.Command.{written};
+    ghost use Rattle.cuda_plans.specs.Line.{cicc_words};
 
     type Command = SingleCompileCommand;
 

@@ -5,7 +5,8 @@ ghost use Rattle.cuda_below.specs.Table.{entry_of};
 ghost use Rattle.cuda_below.specs.Variables.{pair_of};
 ghost use Rattle.cuda_below.specs.Fault.{UnlessMemory};
 ghost use Rattle.cuda_plans.specs.CudaFE.{cudafe_options};
-ghost use Rattle.cuda_plans.specs.Line.{cudafe_words, written};
+ghost use Rattle.cuda_below.specs.Command.{written};
+ghost use Rattle.cuda_plans.specs.Line.{cudafe_words};
 
 use crate::cicc::{self, ArgData};
 use cuda_below::arguments::{CompilerArguments, ParsedArguments};
@@ -95,7 +96,8 @@ impl CCompilerImpl for CudaFE {
     ghost use Rattle.cuda_below.specs.declared.language.Language.TheVariants as languages;
     ghost use Rattle.cuda_plans.specs.CudaFE.{cudafe_options};
     ghost use Rattle.cuda_plans.specs.Reading.{tool_reading};
-    ghost use Rattle.cuda_plans.specs.Line.{cudafe_words, written};
+    ghost use Rattle.cuda_below.specs.Command.{written};
+    ghost use Rattle.cuda_plans.specs.Line.{cudafe_words};
 
     type Command = SingleCompileCommand;
 

@@ -58,7 +58,8 @@ impl CCompilerImpl for Ptxas {
     ghost use Rattle.cuda_below.specs.declared.language.Language.TheVariants as languages;
     ghost use Rattle.cuda_plans.specs.Ptxas.{ptxas_options};
     ghost use Rattle.cuda_plans.specs.Reading.{tool_reading};
-    ghost use Rattle.cuda_plans.specs.Line.{cicc_words, written};
+    ghost use Rattle.cuda_below.specs.Command.{written};
+    ghost use Rattle.cuda_plans.specs.Line.{cicc_words};
 
     type Command = SingleCompileCommand;
 

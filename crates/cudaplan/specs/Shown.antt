@@ -11,7 +11,8 @@ use Rattle.cuda_plans.specs.Cicc.{cicc_options}
 use Rattle.cuda_plans.specs.CudaFE.{cudafe_options}
 use Rattle.cuda_plans.specs.Ptxas.{ptxas_options}
 use Rattle.cuda_plans.specs.Reading.{reading}
-use Rattle.cuda_plans.specs.Line.{cicc_words, cudafe_words, written}
+use Rattle.cuda_below.specs.Command.{written}
+use Rattle.cuda_plans.specs.Line.{cicc_words, cudafe_words}
 use Rattle.cudaplan.specs.declared.line.Tool.{Tool}
 use Rattle.cudaplan.specs.declared.line.Tool.TheVariants.{Cicc, Ptxas, CudaFe}
 use Rattle.cudaplan.specs.declared.stop.Stop.{Stop}

@@ -35,7 +35,7 @@ fn shown_words(alloc: Global, words: &[String]) -> Result<String, AllocError>
 ghost use Rattle.std.specs.Prelude.{Option, []};
 ghost use Rattle.cuda_below.specs.declared.arguments.ParsedArguments.{ParsedArguments};
 ghost use Rattle.cuda_below.specs.Fault.{UnlessMemory};
-ghost use Rattle.cuda_plans.specs.Line.{written};
+ghost use Rattle.cuda_below.specs.Command.{written};
 ghost use Rattle.cuda_plans.specs.Reading.{answer_of};
 ghost use Rattle.cudaplan.specs.Shown.{show_command, show_reading, tool_reading, tool_words, shown_line};
 ghost use Rattle.cudaplan.specs.Delivery.{Answers, Delivers};

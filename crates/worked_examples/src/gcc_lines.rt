@@ -75,7 +75,8 @@ fn shown(alloc: Global, parsed: &ParsedArguments) -> Result<String, AllocError> 
     Ok(text)
 }
 
-pub(crate) fn answered(
+/// What a reader answers, in one line.
+pub fn answered(
     alloc: Global,
     answer: &CompilerArguments<ParsedArguments>,
 ) -> Result<String, AllocError> {

@@ -14,6 +14,10 @@ mod keep_and_threads;
 #[cfg(test)]
 mod nvcc_lines;
 #[cfg(test)]
+mod nvhpc_lines;
+#[cfg(test)]
+mod preprocess_lines;
+#[cfg(test)]
 mod records;
 #[cfg(test)]
 mod shell_words;

@@ -1,0 +1,114 @@
+//! Writing gcc's arguments back as a command.
+
+ghost use Rattle.std.specs.Prelude.{◌≡◌, ◌++◌, map, IfOk, OnOk};
+ghost use Rattle.cuda_below.specs.Variables.{pair_of};
+ghost use Rattle.cuda_below.specs.Fault.{UnlessMemory};
+ghost use Rattle.cuda_below.specs.Command.{written};
+ghost use Rattle.cuda_below.specs.GccItems.{name_of_language};
+ghost use Rattle.cuda_below.specs.GccLine.{named_words, flag_words, input_words, option_words, gcc_words};
+
+use super::{language_to_gcc_arg, push_two};
+use crate::arguments::ParsedArguments;
+use crate::command::{Cacheable, SingleCompileCommand};
+use crate::fault::Fault;
+use crate::language::Language;
+use crate::text::Text;
+use crate::variables::Variables;
+use crate::words::Words;
+use std::alloc::{AllocError, Global};
+
+// Puts the option for the language last, where it has a name.
+fn push_language(alloc: Global, words: &mut Words, language: Language) -> Result<(), AllocError>
+    ensures { OnOk result (words.new ≡ words.old ++ named_words (name_of_language language)) }
+{
+    match language_to_gcc_arg(language) {
+        Some(name) => push_two(alloc, words, "-x", name),
+        None => Ok(()),
+    }
+}
+
+// Puts the flag that asks for a compilation last, where there is one.
+fn push_flag(alloc: Global, words: &mut Words, flag: &str) -> Result<(), AllocError>
+    ensures { OnOk result (words.new ≡ words.old ++ flag_words flag.now) }
+{
+    if flag.is_empty() {
+        return Ok(());
+    }
+    words.push(String::from_str(alloc, flag)?)
+}
+
+// Puts the options last.
+fn push_options(
+    alloc: Global,
+    words: &mut Words,
+    parsed_args: &ParsedArguments,
+) -> Result<(), AllocError>
+    ensures { OnOk result (words.new ≡ words.old ++ option_words parsed_args.now) }
+{
+    words.extend(alloc, parsed_args.preprocessor_args.as_slice())?;
+    words.extend(alloc, parsed_args.unhashed_args.as_slice())?;
+    words.extend(alloc, parsed_args.common_args.as_slice())?;
+    words.extend(alloc, parsed_args.arch_args.as_slice())
+}
+
+// Puts the input last, after `--` where it stood after one.
+fn push_input(
+    alloc: Global,
+    words: &mut Words,
+    is_after_dashes: bool,
+    input: &str,
+) -> Result<(), AllocError>
+    ensures { OnOk result (words.new ≡ words.old ++ input_words is_after_dashes input.now) }
+{
+    if is_after_dashes {
+        return push_two(alloc, words, "--", input);
+    }
+    words.push(String::from_str(alloc, input)?)
+}
+
+// The words of a gcc line.
+fn line_words(alloc: Global, parsed_args: &ParsedArguments, obj: &Text) -> Result<Words, AllocError>
+    ensures { IfOk result (λ w. w ≡ gcc_words parsed_args.now obj.now) }
+{
+    let mut words = Words::new(alloc);
+    push_language(alloc, &mut words, parsed_args.language)?;
+    push_flag(alloc, &mut words, parsed_args.compilation_flag.as_str())?;
+    push_two(alloc, &mut words, "-o", obj.as_str())?;
+    push_options(alloc, &mut words, parsed_args)?;
+    let input = parsed_args.input.as_str();
+    push_input(alloc, &mut words, parsed_args.double_dash_input, input)?;
+    Ok(words)
+}
+
+/// Writes arguments back as a command that a cache may serve, by this project's profile of gcc's
+/// options.
+///
+/// The words are `-x` and the language where `language_to_gcc_arg` has a name for it, the flag that
+/// asks for a compilation where it isn't empty, `-o` and the output's path, the preprocessor's words,
+/// the unhashed ones, the common ones, those that name architectures, and the input, after `--` where
+/// it stood after one. The other parts are as handed in.
+///
+/// Refuses arguments without an output `obj`: `MissingOutput`.
+pub fn generate_compile_commands(
+    alloc: Global,
+    executable: &str,
+    parsed_args: &ParsedArguments,
+    cwd: &str,
+    env_vars: &[(String, String)],
+) -> Result<(SingleCompileCommand, Cacheable), Fault>
+    ensures { UnlessMemory result (written gcc_words executable.now parsed_args.now cwd.now (map pair_of env_vars.now)) }
+{
+    let Some(obj) = parsed_args.outputs.get("obj") else {
+        return Err(Fault::MissingOutput {
+            language: parsed_args.language,
+        });
+    };
+    let command = SingleCompileCommand {
+        arguments: line_words(alloc, parsed_args, &obj.path)?,
+        executable: Text::copy_of(alloc, executable)?,
+        env_vars: Variables::copy_of(alloc, env_vars)?,
+        cwd: Text::copy_of(alloc, cwd)?,
+        share_jobserver: false,
+    };
+    Ok((command, Cacheable::Yes))
+}
