@@ -1,6 +1,7 @@
 pub mod ArgsIter
 pub mod Command
 pub mod Compiler
+pub mod Endings
 pub mod Equality
 pub mod Extension
 pub mod Fault

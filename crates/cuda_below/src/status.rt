@@ -64,3 +64,30 @@ impl Output {
         })
     }
 }
+
+/// What a compiler that was run to its end left.
+#[derive(Debug, PartialEq, Drop)]
+pub struct CompileFinished {
+    /// The code that it exited with, where it did.
+    pub retcode: Option<i32>,
+    /// The signal that ended it, where one did.
+    pub signal: Option<i32>,
+    /// What it wrote to its standard output.
+    pub stdout: Bytes,
+    /// What it wrote to its standard error.
+    pub stderr: Bytes,
+}
+
+impl CompileFinished {
+    /// An equal value, in memory of its own.
+    pub fn try_clone(&self, alloc: Global) -> Result<CompileFinished, AllocError>
+        ensures { IfOk result (λ f. f ≡ self.now) }
+    {
+        Ok(CompileFinished {
+            retcode: self.retcode,
+            signal: self.signal,
+            stdout: self.stdout.try_clone(alloc)?,
+            stderr: self.stderr.try_clone(alloc)?,
+        })
+    }
+}

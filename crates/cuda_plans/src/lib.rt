@@ -3,10 +3,13 @@
 
 pub mod cicc;
 pub mod cudafe;
+pub mod dry_run;
 mod gathered;
 pub mod laws;
 pub mod nvcc;
 pub mod nvhpc;
+pub mod plan;
 mod preprocess;
 pub mod ptxas;
+pub mod runner;
 pub mod shell;

@@ -1,6 +1,6 @@
 //! The commands that preprocess the input of an nvcc or nvhpc line.
 
-ghost use Rattle.std.specs.Prelude.{◌≡◌, ◌++◌, map, IfOk, string_bytes};
+ghost use Rattle.std.specs.Prelude.{◌≡◌, map, IfOk, string_bytes};
 ghost use Rattle.std.specs.List.{list_any};
 ghost use Rattle.std.specs.Option.{option_copied};
 ghost use Rattle.std.specs.Str.{bytes_eq};
@@ -28,9 +28,10 @@ impl Nvcc {
     /// The words begin with the preprocessor's and the common ones, `-x`, the language's name and the
     /// input. For the dependency file, the dependency words follow, with `-M` for `-MD` and
     /// `--generate-dependencies-with-compile`, and `-MM` for `-MMD` and
-    /// `--generate-nonsystem-dependencies-with-compile`, but without each word that stood before, be it
-    /// a value. For the code follow `-E` and, by the host compiler, the empty word, `-Xcompiler=-EP` or
-    /// `-Xcompiler=-P`. The environment lacks `NVCC_PREPEND_FLAGS` and `NVCC_APPEND_FLAGS`. It is as
+    /// `--generate-nonsystem-dependencies-with-compile`; each word that repeats an earlier one of them
+    /// is left out, also where it is an option's value. For the code follow `-E` and, by the host
+    /// compiler, `-Xcompiler=-P` (gcc), `-Xcompiler=-EP` (MSVC) or the empty word (nvhpc). The
+    /// environment is the one handed in without `NVCC_PREPEND_FLAGS` and `NVCC_APPEND_FLAGS`. It is as
     /// sccache 0.19.0's nvcc preprocesses.
     ///
     /// Refuses a language that nvcc can't preprocess: `NoPreprocess`.

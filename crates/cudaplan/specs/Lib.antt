@@ -2,4 +2,6 @@ pub mod Call
 pub mod Calls
 pub mod Delivery
 pub mod Shown
+pub mod ShownPlan
+pub mod ShownPlanRows
 pub mod Texts

@@ -6,6 +6,7 @@ use std::alloc::Global;
 use std::process::ExitCode;
 use std::{env, io};
 
+mod laws;
 mod line;
 mod program;
 mod stop;

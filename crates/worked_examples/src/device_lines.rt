@@ -170,6 +170,17 @@ fn check_output(rt: &impl Abort, parsed: &ParsedArguments, key: &str, path: &str
     }
 }
 
+fn check_words(
+    rt: &impl Abort,
+    alloc: Global,
+    words: &[String],
+    want: &str,
+) -> Result<(), AllocError> {
+    let text = joined(alloc, words)?;
+    assert_eq!(rt; text.as_str(), want);
+    Ok(())
+}
+
 fn check_machine_code(
     rt: &impl Abort,
     alloc: Global,
@@ -180,13 +191,10 @@ fn check_machine_code(
         return Ok(());
     };
     assert_eq!(rt; parsed.input.as_str(), "kernel.ptx");
-    assert_eq!(rt;
-        joined(alloc, parsed.common_args.as_slice())?.as_str(),
-        "-arch=sm_80 --some-new-flag"
-    );
     assert!(rt; parsed.unhashed_args.is_empty());
     check_output(rt, parsed, "obj", "./kernel.cubin");
-    Ok(())
+    let common = parsed.common_args.as_slice();
+    check_words(rt, alloc, common, "-arch=sm_80 --some-new-flag")
 }
 
 #[test]

@@ -16,6 +16,8 @@ mod nvcc_lines;
 #[cfg(test)]
 mod nvhpc_lines;
 #[cfg(test)]
+mod planning;
+#[cfg(test)]
 mod preprocess_lines;
 #[cfg(test)]
 mod records;

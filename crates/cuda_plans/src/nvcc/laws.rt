@@ -1,6 +1,15 @@
-//! Lines of nvcc worked out by hand, which the definitions compute.
+//! Laws of nvcc's records, and lines worked out by hand, which the definitions compute.
 
+ghost use Rattle.cuda_below.specs.Equality.{TellsEqual};
 ghost use Rattle.cuda_plans.specs.NvccRows.{EnvironmentAddsWords, FlagIsEmpty, OptionsBeginWords, WordsAreWritten, RefusalsHaveAnOrder, VersionsAreJoined};
+
+use super::{Nvcc, NvccCompileCommand};
+
+/// `==` compares all fields: it says whether two values are equal.
+pub fn equality()
+    ensures compiler { TellsEqual ⟦<Nvcc as PartialEq>⟧.eq }
+    ensures command { TellsEqual ⟦<NvccCompileCommand as PartialEq>⟧.eq }
+{}
 
 /// What nvcc lines are read as and written back as, by the definitions.
 pub fn worked_lines()

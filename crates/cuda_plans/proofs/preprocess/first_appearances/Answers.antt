@@ -1,4 +1,4 @@
-use Rattle.std.proofs.Common.{◌≡◌, suc, ◌+◌, ◌++◌, ◌∷◌, [], ◌∙◌, ap, sym, subst, drop, drop-cons, add-one, map, string_bytes, List, ℕ, Bool, true, false}
+use Rattle.std.proofs.Common.{◌≡◌, suc, ◌+◌, ◌++◌, ◌∷◌, [], ◌∙◌, ap, sym, subst, drop, drop-cons, add-one, map, string_bytes}
 use Rattle.std.specs.List.{list_any}
 use Rattle.std.specs.Str.{bytes_eq}
 use Rattle.cuda_plans.specs.Preprocess.{first_appearances}

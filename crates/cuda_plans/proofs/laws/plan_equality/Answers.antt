@@ -1,0 +1,13 @@
+use Rattle.cuda_plans.proofs.SameLemmas.{commands, reasons, dropped, groups, dropped_commands, plans, places}
+use Rattle.cuda_plans.proofs.laws.plan_equality.Goals as goal
+
+pub returns : goal.returns
+returns c = record {
+  command = commands;
+  reason = reasons;
+  dropped_command = dropped;
+  groups = groups;
+  dropped_commands = dropped_commands;
+  plan = plans;
+  place = places;
+}

@@ -1,0 +1,173 @@
+//! The records of dry runs and plans, and the look-up that looks at no file.
+
+use cuda_below::bytes::Bytes;
+use cuda_below::command::Cacheable;
+use cuda_below::fault::Fault;
+use cuda_below::status::{CompileFinished, ExitStatus, Output};
+use cuda_below::text::Text;
+use cuda_below::variables::Variables;
+use cuda_below::words::Words;
+use cuda_plans::dry_run::{Commands, DryRun, FirstDir, Which};
+use cuda_plans::plan::{Dropped, DroppedCommands, Groups, NvccGeneratedSubcommand, Plan, Reason};
+use cuda_plans::runner::{Answer, Place};
+use std::alloc::{AllocError, Global};
+use std::test::Fail;
+
+#[test]
+fn programs_in_the_first_folder(rt: HostRuntime) -> Result<(), Fail> {
+    let rows = [
+        ("gcc", "/b", Some("/b/gcc")),
+        ("gcc", "/b:/c", Some("/b/gcc")),
+        ("gcc", "/b/", Some("/b/gcc")),
+        ("gcc", "", None),
+        ("gcc", ":/b", None),
+        ("./gcc", "", Some("/w/./gcc")),
+        ("/u/gcc", "/b", Some("/u/gcc")),
+        ("", "/b", Some("/b/")),
+    ];
+    for (exe, path, want) in rows {
+        let found = FirstDir.found(rt.alloc(), exe, path, "/w")?;
+        assert_eq!(rt; found.as_deref(), want, "{exe} in {path}");
+    }
+    Ok(())
+}
+
+fn subcommand(alloc: Global, exe: &str) -> Result<NvccGeneratedSubcommand, AllocError> {
+    let mut args = Words::new(alloc);
+    args.push(String::from_str(alloc, "-c")?)?;
+    Ok(NvccGeneratedSubcommand {
+        exe: Text::copy_of(alloc, exe)?,
+        args,
+        cwd: Text::copy_of(alloc, "/w")?,
+        env_vars: Variables::new(alloc),
+        cacheable: Cacheable::Yes,
+    })
+}
+
+#[test]
+fn generated_commands(rt: HostRuntime) -> Result<(), Fail> {
+    let cicc = subcommand(rt.alloc(), "/b/cicc")?;
+    let equal = [
+        cicc == cicc.try_clone(rt.alloc())?,
+        cicc == subcommand(rt.alloc(), "/b/ptxas")?,
+    ];
+    assert_eq!(rt; equal, [true, false]);
+    Ok(())
+}
+
+fn groups(alloc: Global, exe: &str) -> Result<Groups, AllocError> {
+    let mut group = Vec::new(alloc);
+    group.push(subcommand(alloc, exe)?)?;
+    let mut groups = Vec::new(alloc);
+    groups.push(group)?;
+    groups.push(Vec::new(alloc))?;
+    Ok(Groups::from_vec(groups))
+}
+
+fn dropped(alloc: Global, reason: Reason) -> Result<DroppedCommands, AllocError> {
+    let mut commands = Vec::new(alloc);
+    commands.push(Dropped {
+        line: 6,
+        run: 1,
+        exe: Text::copy_of(alloc, "/b/ptxas")?,
+        args: Words::new(alloc),
+        reason,
+    })?;
+    Ok(DroppedCommands::from_vec(commands))
+}
+
+fn plan(alloc: Global, exe: &str, reason: Reason) -> Result<Plan, AllocError> {
+    Ok(Plan {
+        groups: groups(alloc, exe)?,
+        dropped: dropped(alloc, reason)?,
+    })
+}
+
+#[test]
+fn plans(rt: HostRuntime) -> Result<(), Fail> {
+    let alloc = rt.alloc();
+    let first = plan(alloc, "/b/cicc", Reason::NoPtxasGroup)?;
+    let equal = [
+        first == plan(alloc, "/b/cicc", Reason::NoPtxasGroup)?,
+        first == plan(alloc, "/b/ptxas", Reason::NoPtxasGroup)?,
+        first == plan(alloc, "/b/cicc", Reason::NotCuda)?,
+    ];
+    assert_eq!(rt; equal, [true, false, false]);
+    assert_eq!(rt; first.groups.as_slice().len(), 2);
+    assert_eq!(rt; first.dropped.as_slice().len(), 1);
+    Ok(())
+}
+
+#[test]
+fn lists_of_plans_are_given_back(rt: HostRuntime) -> Result<(), Fail> {
+    let alloc = rt.alloc();
+    assert_eq!(rt; groups(alloc, "/b/cicc")?.into_vec().len(), 2);
+    assert_eq!(rt; dropped(alloc, Reason::Superseded)?.into_vec().len(), 1);
+    Ok(())
+}
+
+fn dry_run(alloc: Global, line: usize) -> Result<DryRun, AllocError> {
+    let mut lines = Vec::new(alloc);
+    lines.push((line, String::from_str(alloc, "/b/gcc")?, Vec::new(alloc)))?;
+    Ok(DryRun {
+        commands: Commands::from_vec(lines),
+        env: Variables::new(alloc),
+    })
+}
+
+#[test]
+fn dry_runs(rt: HostRuntime) -> Result<(), Fail> {
+    let alloc = rt.alloc();
+    let first = dry_run(alloc, 1)?;
+    let equal = [first == dry_run(alloc, 1)?, first == dry_run(alloc, 2)?];
+    assert_eq!(rt; equal, [true, false]);
+    assert_eq!(rt; first.commands.as_slice().len(), 1);
+    assert_eq!(rt; first.commands.into_vec().len(), 1);
+    assert_eq!(rt; Commands::new(alloc).as_slice().len(), 0);
+    Ok(())
+}
+
+fn finished(alloc: Global, retcode: Option<i32>) -> CompileFinished {
+    CompileFinished {
+        retcode,
+        signal: None,
+        stdout: Bytes::new(alloc),
+        stderr: Bytes::new(alloc),
+    }
+}
+
+fn process(alloc: Global) -> Output {
+    Output {
+        status: ExitStatus::from_code(3),
+        stdout: Bytes::new(alloc),
+        stderr: Bytes::new(alloc),
+    }
+}
+
+// Whether an answer equals its clone.
+fn equals_its_clone(alloc: Global, answer: &Answer) -> Result<bool, AllocError> {
+    Ok(*answer == answer.try_clone(alloc)?)
+}
+
+#[test]
+fn answers(rt: HostRuntime) -> Result<(), Fail> {
+    let alloc = rt.alloc();
+    let code = finished(alloc, Some(1));
+    let equal = [
+        code == code.try_clone(alloc)?,
+        code == finished(alloc, None),
+        equals_its_clone(alloc, &Answer::Finished(code))?,
+        equals_its_clone(alloc, &Answer::Ran(process(alloc)))?,
+        equals_its_clone(alloc, &Answer::Failed(Fault::KeepDirValue))?,
+        Answer::Failed(Fault::Read) == Answer::Failed(Fault::NoFileName),
+    ];
+    assert_eq!(rt; equal, [true, false, true, true, true, false]);
+    Ok(())
+}
+
+#[test]
+fn places(rt: HostRuntime) {
+    let place = Place { group: 1, index: 0 };
+    assert!(rt; place == Place { group: 1, index: 0 });
+    assert!(rt; place != Place { group: 0, index: 1 });
+}
