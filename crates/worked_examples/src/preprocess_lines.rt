@@ -54,27 +54,17 @@ fn parsed(alloc: Global, line: &str) -> Result<Option<ParsedArguments>, AllocErr
     }
 }
 
-// Arguments as nvcc's reader has them: the flag that asks for the compilation is a common word too.
-fn parsed_for_nvcc(alloc: Global, line: &str) -> Result<Option<ParsedArguments>, AllocError> {
-    let Some(mut parsed) = parsed(alloc, line)? else {
-        return Ok(None);
-    };
-    parsed.common_args.push(String::from_str(alloc, "-c")?)?;
-    Ok(Some(parsed))
-}
-
-const DEPENDENCIES: &str = "-c foo.c -fabc -MD -MT foo.o -MF foo.o.d -o foo.o";
-
-// What nvcc's commands are for a line of CUDA.
+// What nvcc's commands are for a line.
 fn by_nvcc(alloc: Global, host: NvccHostCompiler, line: &str) -> Result<String, AllocError> {
-    let Some(mut parsed) = parsed_for_nvcc(alloc, line)? else {
-        return String::from_str(alloc, "not a compilation");
-    };
-    parsed.language = Language::Cuda;
-    shown(
-        alloc,
-        &nvcc(host).preprocess(alloc, "nvcc", &parsed, "/w", &[]),
-    )
+    let nvcc = nvcc(host);
+    let words = words(alloc, line)?;
+    match nvcc.parse_arguments(alloc, words.as_slice(), ".", &[])? {
+        CompilerArguments::Ok(parsed) => shown(
+            alloc,
+            &nvcc.preprocess(alloc, "nvcc", &parsed, "/w", &[]),
+        ),
+        _ => String::from_str(alloc, "not a compilation"),
+    }
 }
 
 #[test]
@@ -82,19 +72,23 @@ fn commands_of_nvcc(rt: HostRuntime) -> Result<(), Fail> {
     let rows = [
         (
             NvccHostCompiler::Gcc,
-            DEPENDENCIES,
+            "-x cu -c foo.c -fabc -MD -MT foo.o -MF foo.o.d -o foo.o",
             "-fabc -c -x cu foo.c -M -MF foo.o.d -MT foo.o; -fabc -c -x cu foo.c -E -Xcompiler=-P",
         ),
         (
             NvccHostCompiler::Msvc,
-            "-c foo.c -DA",
+            "-x cu -c foo.c -DA",
             "-DA -c -x cu foo.c -E -Xcompiler=-EP",
         ),
         // The last word is empty.
-        (NvccHostCompiler::Nvhpc, "-c foo.c", "-c -x cu foo.c -E "),
+        (
+            NvccHostCompiler::Nvhpc,
+            "-x cu -c foo.c",
+            "-c -x cu foo.c -E ",
+        ),
         (
             NvccHostCompiler::Gcc,
-            "-c foo.c -MMD -MF a -MT a",
+            "-x cu -c foo.c -MMD -MF a -MT a",
             "-c -x cu foo.c -MM -MF a -MT; -c -x cu foo.c -E -Xcompiler=-P",
         ),
     ];
