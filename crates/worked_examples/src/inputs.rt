@@ -75,14 +75,15 @@ fn failed_reads_are_refused(rt: HostRuntime) {
     assert!(rt; refused);
 }
 
-// What reading the input of a ptxas line gives.
+// What reading the input of a line at a working directory gives.
 fn input_of<R: Files>(
     rt: &R,
     alloc: Global,
+    cwd: &str,
     parsed: &CompilerArguments<ParsedArguments>,
 ) -> Result<Output, Fault> {
     match parsed {
-        CompilerArguments::Ok(parsed) => cicc::preprocess(rt, alloc, ".", parsed),
+        CompilerArguments::Ok(parsed) => cicc::preprocess(rt, alloc, cwd, parsed),
         _ => Err(Fault::NoFileName),
     }
 }
@@ -101,12 +102,19 @@ fn line_of(alloc: Global, input: &str) -> Result<CompilerArguments<ParsedArgumen
 
 #[test]
 fn the_named_file_is_read(rt: HostRuntime) -> Result<(), Fail> {
-    fs::write(&rt, "read_input_kernel.ptx", BYTES.as_slice())?;
-    let parsed = line_of(rt.alloc(), "read_input_kernel.ptx")?;
-    let output = input_of(&rt, rt.alloc(), &parsed)?;
+    fs::create_dir(&rt, "inputs_folder")?;
+    fs::write(&rt, "inputs_folder/kernel.ptx", BYTES.as_slice())?;
+    let parsed = line_of(rt.alloc(), "kernel.ptx")?;
+    let output = input_of(&rt, rt.alloc(), "inputs_folder", &parsed)?;
     check_output(&rt, &output, BYTES.as_slice());
-    fs::remove_file(&rt, "read_input_kernel.ptx")?;
-    let refused = matches!(input_of(&rt, rt.alloc(), &parsed), Err(Fault::Read));
-    assert!(rt; refused);
+    let elsewhere = matches!(input_of(&rt, rt.alloc(), "", &parsed), Err(Fault::Read));
+    assert!(rt; elsewhere);
+    fs::remove_file(&rt, "inputs_folder/kernel.ptx")?;
+    let removed = matches!(
+        input_of(&rt, rt.alloc(), "inputs_folder", &parsed),
+        Err(Fault::Read)
+    );
+    assert!(rt; removed);
+    fs::remove_dir(&rt, "inputs_folder")?;
     Ok(())
 }
