@@ -1,6 +1,7 @@
 pub mod ArgsIter
 pub mod Command
 pub mod Compiler
+pub mod DeviceFiles
 pub mod Endings
 pub mod Equality
 pub mod Extension
@@ -13,7 +14,10 @@ pub mod GccRows
 pub mod GccSteps
 pub mod Items
 pub mod Language
+pub mod Lists
 pub mod LongestMatch
+pub mod Numeral
+pub mod ObjectFlags
 pub mod Outputs
 pub mod Path
 pub mod Status

@@ -22,8 +22,16 @@ pub enum CCompilerKind {
     Nvhpc,
 }
 
+/// The compiler that nvcc compiles host code with.
+#[derive(Clone, Copy, Debug, PartialEq)]
+pub enum NvccHostCompiler {
+    Gcc,
+    Msvc,
+    Nvhpc,
+}
+
 /// The places that a caller makes for a compilation: a folder for files of its own, and the input's
-/// path below no symbolic link. Both are paths.
+/// path with symbolic links resolved. Both are paths.
 #[derive(Debug, PartialEq, Drop)]
 pub struct Places {
     pub temp_dir: Text,

@@ -4,7 +4,9 @@
 pub mod arguments;
 pub mod bytes;
 pub mod command;
+pub mod compilation_flags;
 pub mod compiler;
+pub mod device_files;
 pub mod extension;
 pub mod fault;
 pub mod gcc;

@@ -8,8 +8,8 @@ use Rattle.std.proofs.lemmas.Slice.Eq.{bytes_eq-Decides}
 use denote.Enum.Bare.{sameb, same_true, true_same}
 use Rattle.cuda_below.specs.Equality.{TellsEqual}
 use Rattle.cuda_below.proofs.EqualityLemmas.{lists, same_variables, variables}
-use Rattle.cuda_plans.specs.contracts.nvcc.NvccHostCompiler as host
-use Rattle.cuda_plans.specs.declared.nvcc.NvccHostCompiler.{NvccHostCompiler}
+use Rattle.cuda_below.specs.contracts.compiler.NvccHostCompiler as host
+use Rattle.cuda_below.specs.declared.compiler.NvccHostCompiler.{NvccHostCompiler}
 use Rattle.cuda_plans.specs.declared.nvcc.Nvcc.{Nvcc}
 use Rattle.cuda_plans.specs.declared.nvcc.command.NvccCompileCommand.{NvccCompileCommand}
 

@@ -1,19 +1,10 @@
--- Places in a line.
-use Rattle.std.proofs.Common.{◌≡◌, ℕ, List, [], ◌∷◌, Bool, not, map, length, refl, String, Global, string_bytes}
-use Rattle.cuda_below.specs.declared.language.Language.{Language}
-use Rattle.cuda_plans.specs.Cicc.{is_input_word}
-use Rattle.cuda_plans.specs.Reading.{input_place, first_place, place_from_end}
-use Rattle.std.specs.List.{position, prefix_len}
-use Rattle.std.proofs.lemmas.List.{length-map}
+-- `==` on places says whether they are equal.
+use Rattle.std.proofs.Common.{◌≡◌, ◌&&◌, nat_eq, ap}
+use Rattle.std.specs.Bool.{Decides}
+use Rattle.std.proofs.lemmas.Bool.Decides.{Decides-and, Decides-like, Decides-eqb}
+use Rattle.cuda_plans.specs.declared.runner.Place.{Place}
 
-prefix_len-map : {A B : Type 0} (p : B → Bool) (f : A → B) (xs : List A) → prefix_len p (map f xs) ≡ prefix_len (λ x. p (f x)) xs
-prefix_len-map p f [] = refl
-prefix_len-map p f (x ∷ xs) = rw (prefix_len-map p f xs) refl
-
--- the place of the first mapped element that passes
-pub position-map : {A B : Type 0} (p : B → Bool) (f : A → B) (xs : List A) → position p (map f xs) ≡ position (λ x. p (f x)) xs
-position-map p f xs = rw (prefix_len-map (λ x. not (p x)) f xs, length-map xs f) refl
-
--- the place of the input, in a line of strings
-pub input_place-strings : (language : Language) (offset : ℕ) (words : List (String Global)) → input_place language offset (map string_bytes words) ≡ first_place (position (λ word. is_input_word language (string_bytes word)) words) (place_from_end offset (length words))
-input_place-strings language offset words = rw (position-map (is_input_word language) string_bytes words, length-map words string_bytes) refl
+pub places : (a b : Place) → Decides (nat_eq a.group b.group && nat_eq a.index b.index) (a ≡ b)
+places a b =
+    Decides-like (nat_eq a.group b.group && nat_eq a.index b.index) (λ e. λ i. record { group = e.0 i; index = e.1 i }) (λ e. (ap (λ x. x.group) e, ap (λ x. x.index) e))
+    (Decides-and (nat_eq a.group b.group) (nat_eq a.index b.index) (Decides-eqb a.group b.group) (Decides-eqb a.index b.index))

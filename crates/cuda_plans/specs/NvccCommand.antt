@@ -14,20 +14,17 @@ use Rattle.cuda_below.specs.declared.language.Language.{Language}
 use Rattle.cuda_below.specs.GccItems.{name_of_language}
 use Rattle.cuda_below.specs.Outputs.{entry_at}
 use Rattle.cuda_below.specs.Path.{is_absolute_path, joined, file_name_of}
-use Rattle.cuda_plans.specs.declared.nvcc.NvccHostCompiler.{NvccHostCompiler}
+use Rattle.cuda_below.specs.declared.compiler.NvccHostCompiler.{NvccHostCompiler}
 use Rattle.cuda_plans.specs.declared.nvcc.command.NvccCompileCommand.{NvccCompileCommand}
 use Rattle.cuda_plans.specs.declared.nvcc.command.Taken.{Taken}
-use Rattle.cuda_plans.specs.KeepThreads.{keep_of, threads_of}
-use Rattle.cuda_plans.specs.Nvcc.{without_flags}
-
--- the flags that ask for an object file
-abbrev pub object_flags : List (List ℕ)
-object_flags = codes "-c" ∷ codes "--compile" ∷ codes "-dc" ∷ codes "--device-c" ∷ codes "-dw" ∷ codes "--device-w" ∷ []
+use Rattle.host_lines.specs.KeepThreads.{keep_of, threads_of}
+use Rattle.host_lines.specs.NvccEnvironment.{without_flags}
+use Rattle.cuda_below.specs.ObjectFlags.{makes_objects}
 
 -- the output's path as it is written: as given under a flag that asks for an object file, else below the working
 -- directory
 abbrev pub output_word : List ℕ → List ℕ → List ℕ → List ℕ
-output_word cwd flag obj = if list_any (bytes_eq flag) object_flags then obj else joined cwd obj
+output_word cwd flag obj = if makes_objects flag then obj else joined cwd obj
 
 -- the words that name a language, and none where the option for it has no name for that
 abbrev pub language_words : Language → List (List ℕ)

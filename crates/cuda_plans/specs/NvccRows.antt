@@ -11,9 +11,10 @@ use Rattle.cuda_below.specs.declared.language.Language.TheVariants.{C, Cuda}
 use Rattle.cuda_below.specs.Compiler.{Reading, accepted, cannot_cache}
 use Rattle.cuda_below.specs.GccRows.{compiled}
 use Rattle.cuda_plans.specs.declared.nvcc.Nvcc.{Nvcc}
-use Rattle.cuda_plans.specs.declared.nvcc.NvccHostCompiler.TheVariants.{Gcc}
+use Rattle.cuda_below.specs.declared.compiler.NvccHostCompiler.TheVariants.{Gcc}
 use Rattle.cuda_plans.specs.declared.nvcc.command.NvccCompileCommand.{NvccCompileCommand}
-use Rattle.cuda_plans.specs.Nvcc.{prepended_name, appended_name, nvcc_reading, nvcc_version}
+use Rattle.cuda_plans.specs.Nvcc.{nvcc_reading, nvcc_version}
+use Rattle.host_lines.specs.NvccEnvironment.{prepended_name, appended_name}
 use Rattle.cuda_plans.specs.NvccCommand.{nvcc_written, dry_runs}
 
 -- what a line is read as, in an environment, and in one that adds nothing

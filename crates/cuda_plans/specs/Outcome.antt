@@ -11,7 +11,7 @@ use Rattle.cuda_below.specs.Path.{file_stem_of}
 use Rattle.cuda_below.specs.Status.{status_of_code}
 use Rattle.cuda_plans.specs.declared.runner.Answer.{Answer}
 use Rattle.cuda_plans.specs.declared.runner.Answer.TheVariants.{Ran, Finished, Failed}
-use Rattle.cuda_plans.specs.Renaming.{numeral}
+use Rattle.cuda_below.specs.Numeral.{numeral}
 
 abbrev pub output_with : ℤ → List ℕ → List ℕ → Output
 output_with status stdout stderr = record { status = status; stdout = stdout; stderr = stderr }

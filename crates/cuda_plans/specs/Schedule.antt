@@ -5,7 +5,7 @@ use Rattle.cuda_below.specs.declared.fault.Fault.{Fault}
 use Rattle.cuda_below.specs.declared.fault.Fault.TheVariants.{Process}
 use Rattle.cuda_below.specs.declared.status.Output.{Output}
 use Rattle.cuda_below.specs.Endings.{is_success}
-use Rattle.cuda_plans.specs.declared.plan.NvccGeneratedSubcommand.{NvccGeneratedSubcommand}
+use Rattle.command_groups.specs.declared.plan.NvccGeneratedSubcommand.{NvccGeneratedSubcommand}
 use Rattle.cuda_plans.specs.declared.runner.Answer.{Answer}
 use Rattle.cuda_plans.specs.declared.runner.Place.{Place}
 use Rattle.cuda_plans.specs.Outcome.{output_of_answer, all_aggregated}

@@ -2,12 +2,12 @@
 use Rattle.std.proofs.Common.{◌≡◌, ℕ, ◌*◌, List, [], ◌∷◌, ◌++◌, map, pos, Ok, Err, codes, refl}
 use Rattle.cuda_below.specs.declared.command.Cacheable.TheVariants.{Yes, No}
 use Rattle.cuda_below.specs.declared.fault.Fault.TheVariants.{Process}
-use Rattle.cuda_plans.specs.declared.plan.NvccGeneratedSubcommand.{NvccGeneratedSubcommand}
+use Rattle.command_groups.specs.declared.plan.NvccGeneratedSubcommand.{NvccGeneratedSubcommand}
 use Rattle.cuda_plans.specs.declared.runner.Answer.{Answer}
 use Rattle.cuda_plans.specs.declared.runner.Answer.TheVariants.{Ran, Failed}
-use Rattle.cuda_plans.specs.Commands.{CommandLine}
+use Rattle.dry_runs.specs.CommandLines.{CommandLine}
 use Rattle.cuda_plans.specs.Outcome.{output_with}
-use Rattle.cuda_plans.specs.PlanRows.{at, runs, compiles, plan_of_both, plan_with}
+use Rattle.command_groups.specs.PlanRows.{at, runs, compiles, plan_of_both, plan_with}
 use Rattle.cuda_plans.specs.Schedule.{AccountEntry, IsWhole, outcome_of, chunk_of}
 
 -- three kernels: three preprocess steps, three runs of cicc, and host code

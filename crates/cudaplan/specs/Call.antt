@@ -3,9 +3,9 @@ use Rattle.std.specs.Prelude.{◌≡◌, ℕ, ◌≤◌, List, [], ◌∷◌, if
 use Rattle.std.specs.Option.{option_map}
 use Rattle.std.specs.Str.{bytes_eq}
 use Rattle.std.specs.Io.KnownBytes.{Keeps, Appends}
-use Rattle.cudaplan.specs.declared.line.Tool.{Tool}
-use Rattle.cudaplan.specs.declared.line.Tool.TheVariants.{Cicc, Ptxas, CudaFe}
-use Rattle.cudaplan.specs.Shown.{shown_line}
+use Rattle.plan_texts.specs.declared.line.Tool.{Tool}
+use Rattle.plan_texts.specs.declared.line.Tool.TheVariants.{Cicc, Ptxas, CudaFe}
+use Rattle.plan_texts.specs.Shown.{shown_line}
 
 -- a call that reads a line: the tool, the working directory and the line's words
 pub record LineOf : Type 0 where

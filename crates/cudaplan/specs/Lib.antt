@@ -1,7 +1,2 @@
 pub mod Call
 pub mod Calls
-pub mod Delivery
-pub mod Shown
-pub mod ShownPlan
-pub mod ShownPlanRows
-pub mod Texts

@@ -6,10 +6,7 @@ use std::alloc::Global;
 use std::process::ExitCode;
 use std::{env, io};
 
-mod laws;
-mod line;
 mod program;
-mod stop;
 
 // The words after the program's name, or none where one of them isn't UTF-8.
 fn call_words(rt: &(impl std::rt::Env + AllocGlobal), alloc: Global) -> Vec<String> {

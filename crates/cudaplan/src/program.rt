@@ -4,8 +4,7 @@ ghost use Rattle.std.specs.Prelude.{◌≡◌, map, string_bytes};
 ghost use Rattle.std.specs.Option.{option_map};
 ghost use Rattle.cudaplan.specs.Call.{tool_of_name};
 
-use crate::line::{Tool, run_line};
-use crate::stop::Stop;
+use plan_texts::{Stop, Tool, run_line};
 use std::alloc::Global;
 use std::io::Write;
 

@@ -1,0 +1,264 @@
+-- Canonical names: their files are bare and end in their class, ranks tell the names of a class apart, and so do numerals.
+use Rattle.std.proofs.Common.{◌≡◌, ◌≢◌, ◌⊎◌, ℕ, ◌+◌, ◌-◌, ◌<◌, ◌≤◌, ◌++◌, ◌||◌, Bool, true, false, not, cond, eqb, ne_eqb, eqb-true, eq-eqb, append_assoc, List, [], ◌∷◌, Option, Some, None, inl, inr, map, refl, ap, sym, ◌∙◌, subst, nat_eq, length, take, drop, get_or, fold, codes, arith}
+use Rattle.std.specs.List.{Contains, All, ends_with, find, list_any, list_all}
+use Rattle.std.specs.Option.{option_map}
+use Rattle.std.specs.Str.{bytes_eq}
+use Rattle.std.specs.Int.Digits.{digits_of}
+use Rattle.std.proofs.lemmas.Bool.{false≢true, and_parts, and_from, cond_both, cases_lt, eqb-false}
+use Rattle.std.proofs.lemmas.List.{length-append, take-append-drop, append_cancel_left, append_cancel_right}
+use Rattle.std.proofs.lemmas.List.Elements.{All-nil, All-push, All-contains, Contains-append_left, Contains-append_right, Contains-append_cases, Contains-push, Contains-push_cases}
+use Rattle.std.proofs.lemmas.List.Sums.{AllPass-from_list_all}
+use Rattle.std.proofs.lemmas.Int.Digits.{same_from_digits_of, first_digits_of}
+use Rattle.std.proofs.lemmas.Slice.Eq.{bytes_eq-Decides}
+use Rattle.std.proofs.Math.Seq.{drop-append_seam, drop-append-add}
+use Rattle.cuda_below.specs.Path.{folder_of, is_bare, lacks, separator_after}
+use Rattle.cuda_below.proofs.PathLaw.{joined-keeps_folder, folders-cancel}
+use Rattle.dry_runs.specs.CommandLines.{CommandLine, words_of_command}
+use Rattle.canonical_names.specs.Generated.{standard_suffixes, class_of_name, core_of, begins_with_dash, generated_name}
+use Rattle.canonical_names.specs.Renaming.{canonical_file, canonical_in, canonical_or, canonical_name, rank, seen_after_word, seen_after, names_of_run}
+use Rattle.cuda_below.specs.Numeral.{numeral}
+use Rattle.cuda_below.specs.Lists.{with_name}
+use Rattle.canonical_names.specs.CanonicalNames.{AreSuffixes, StandardAreSuffixes, DifferentNames, FolderAndClassStay}
+
+-- equal texts, by the test
+same : (a b : List ℕ) → bytes_eq a b ≡ true → a ≡ b
+same a b h = (bytes_eq-Decides a b).0 h
+
+same-itself : (a : List ℕ) → bytes_eq a a ≡ true
+same-itself [] = refl
+same-itself (x ∷ xs) = and_from (eqb x x) (bytes_eq xs xs) (eq-eqb x x refl) (same-itself xs)
+
+-- a text that ends in s is what stands before, and s
+pub ends-split : (text s : List ℕ) → ends_with nat_eq text s ≡ true → text ≡ take (length text - length s) text ++ s
+ends-split text s h =
+    let end : s ≡ drop (length text - length s) text = same s (drop (length text - length s) text) h in
+    sym (take-append-drop (length text - length s) text) ∙ ap (λ t. take (length text - length s) text ++ t) (sym end)
+
+-- of two ends of one text the shorter one is an end of the longer one
+shorter-end : (front other s t : List ℕ) → front ++ s ≡ other ++ t → length s ≤ length t → ends_with nat_eq t s ≡ true
+shorter-end front other s t e le =
+    let lengths : length front + length s ≡ length other + length t = sym (length-append front s) ∙ ap length e ∙ length-append other t in
+    let places : length front ≡ length other + (length t - length s) = omega (arith, lengths, le) in
+    let end : s ≡ drop (length t - length s) t = sym (drop-append_seam front s) ∙ ap (λ x. drop (length front) x) e ∙ ap (λ n. drop n (other ++ t)) places ∙ drop-append-add other t (length t - length s) in
+    subst (λ x. bytes_eq s x ≡ true) end (same-itself s)
+
+ends-append : (front s : List ℕ) → ends_with nat_eq (front ++ s) s ≡ true
+ends-append front s =
+    let places : length (front ++ s) - length s ≡ length front = omega (arith, length-append front s) in
+    subst (λ x. bytes_eq s x ≡ true) (sym (ap (λ n. drop n (front ++ s)) places ∙ drop-append_seam front s)) (same-itself s)
+
+-- numerals
+unshift : (ds : List ℕ) → map (λ d. d - 48) (map (λ d. 48 + d) ds) ≡ ds
+unshift [] = refl
+unshift (d ∷ ds) =
+    let one : (48 + d) - 48 ≡ d = omega arith in
+    ap (λ x. x ∷ map (λ d. d - 48) (map (λ d. 48 + d) ds)) one ∙ ap (λ t. d ∷ t) (unshift ds)
+
+shift-cancel : (xs ys : List ℕ) → map (λ d. 48 + d) xs ≡ map (λ d. 48 + d) ys → xs ≡ ys
+shift-cancel xs ys e = sym (unshift xs) ∙ ap (map (λ d. d - 48)) e ∙ unshift ys
+
+-- no other number is written as nothing is
+no-zero_digit : (n : ℕ) → 0 < n → codes "0" ≡ map (λ d. 48 + d) (digits_of 10 n) → ⊥
+no-zero_digit n pos e =
+    let zero_digit : digits_of 10 n ≡ 0 ∷ [] = sym (unshift (digits_of 10 n)) ∙ sym (ap (map (λ d. d - 48)) e) in
+    let bad : 0 < get_or (0 ∷ []) 0 0 = subst (λ ds. 0 < get_or ds 0 0) zero_digit (first_digits_of 10 n (omega arith) pos) in
+    omega (arith, bad)
+
+positive : (n : ℕ) → eqb n 0 ≡ false → 0 < n
+positive n h = let some : n ≢ 0 = eqb-false n 0 h in omega (arith, some)
+
+numeral-cases : (m n : ℕ) (a b : Bool) → eqb m 0 ≡ a → eqb n 0 ≡ b → cond a (codes "0") (map (λ d. 48 + d) (digits_of 10 m)) ≡ cond b (codes "0") (map (λ d. 48 + d) (digits_of 10 n)) → m ≡ n
+numeral-cases m n true true em en e = eqb-true m 0 em ∙ sym (eqb-true n 0 en)
+numeral-cases m n true false em en e = absurd (no-zero_digit n (positive n en) e)
+numeral-cases m n false true em en e = absurd (no-zero_digit m (positive m em) (sym e))
+numeral-cases m n false false em en e = same_from_digits_of 10 m n (omega arith) (shift-cancel (digits_of 10 m) (digits_of 10 n) e)
+
+numeral-same : (m n : ℕ) → numeral m ≡ numeral n → m ≡ n
+numeral-same m n e = numeral-cases m n (eqb m 0) (eqb n 0) refl refl e
+
+-- canonical files are bare
+lacks-append : (byte : ℕ) (front back : List ℕ) → lacks byte front ≡ true → lacks byte back ≡ true → lacks byte (front ++ back) ≡ true
+lacks-append byte [] back h k = k
+lacks-append byte (c ∷ front) back h k =
+    let parts = and_parts (not (eqb c byte)) (lacks byte front) h in
+    and_from (not (eqb c byte)) (lacks byte (front ++ back)) parts.0 (lacks-append byte front back parts.1 k)
+
+lacks-shifted : (ds : List ℕ) → lacks 47 (map (λ d. 48 + d) ds) ≡ true
+lacks-shifted [] = refl
+lacks-shifted (d ∷ ds) =
+    let other : eqb (48 + d) 47 ≡ false = ne_eqb (48 + d) 47 (λ e. omega arith) in
+    and_from (not (eqb (48 + d) 47)) (lacks 47 (map (λ d. 48 + d) ds)) (ap not other) (lacks-shifted ds)
+
+lacks-numeral : (k : ℕ) → lacks 47 (numeral k) ≡ true
+lacks-numeral k = cond_both (eqb k 0) (codes "0") (map (λ d. 48 + d) (digits_of 10 k)) (λ t. lacks 47 t ≡ true) (λ _. refl) (λ _. lacks-shifted (digits_of 10 k))
+
+file-bare : (k : ℕ) (class : List ℕ) → is_bare class ≡ true → is_bare (canonical_file k class) ≡ true
+file-bare k class bare = lacks-append 47 (codes "x_") (numeral k ++ class) refl (lacks-append 47 (numeral k) class (lacks-numeral k) bare)
+
+-- members of lists
+module _ {A : Type 0} where
+  pub no-member : (x : A) → Contains [] x → ⊥
+  no-member x (k, lt, at) = omega (arith, lt)
+
+  pub head-member : (x : A) (xs : List A) → Contains (x ∷ xs) x
+  head-member x xs = Contains-append_left (x ∷ []) xs x (Contains-push [] x)
+
+  pub tail-member : (x : A) (xs : List A) (y : A) → Contains xs y → Contains (x ∷ xs) y
+  tail-member x xs y h = Contains-append_right (x ∷ []) xs y h
+
+  pub member-cases : (x : A) (xs : List A) (y : A) → Contains (x ∷ xs) y → (x ≡ y) ⊎ Contains xs y
+  member-cases x xs y h =
+      elim (Contains-append_cases (x ∷ []) xs y h) as (λ _. (x ≡ y) ⊎ Contains xs y) [
+        | inl one ↦ elim (Contains-push_cases [] x y one) as (λ _. (x ≡ y) ⊎ Contains xs y) [ inl none ↦ absurd (no-member y none) | inr is ↦ inl is ]
+        | inr more ↦ inr more
+      ]
+
+  -- the first that passes a test is a member that passes it
+  pub find-found : (test : A → Bool) (xs : List A) (x : A) → find test xs ≡ Some x → Contains xs x × (test x ≡ true)
+  find-found test [] x h = cc
+  find-found test (y ∷ ys) x h =
+      elim (test y) as (λ b. test y ≡ b → cond b (Some y) (find test ys) ≡ Some x → Contains (y ∷ ys) x × (test x ≡ true)) [
+        | true ↦ λ e k. let is : y ≡ x = cc in (subst (λ z. Contains (y ∷ ys) z) is (head-member y ys), subst (λ z. test z ≡ true) is e)
+        | false ↦ λ e k. let more = find-found test ys x k in (tail-member y ys x more.0, more.1)
+      ] refl h
+
+  -- a member that alone passes a test is found
+  pub find-only : (test : A → Bool) (xs : List A) (x : A) → Contains xs x → test x ≡ true → ((z : A) → Contains xs z → test z ≡ true → z ≡ x) → find test xs ≡ Some x
+  find-only test [] x among passes only = absurd (no-member x among)
+  find-only test (y ∷ ys) x among passes only =
+      elim (test y) as (λ b. test y ≡ b → cond b (Some y) (find test ys) ≡ Some x) [
+        | true ↦ λ e. ap Some (only y (head-member y ys) e)
+        | false ↦ λ e. elim (member-cases y ys x among) as (λ _. find test ys ≡ Some x) [
+          | inl is ↦ absurd (false≢true (sym e ∙ ap test is ∙ passes))
+          | inr more ↦ find-only test ys x more passes (λ z m p. only z (tail-member y ys z m) p)
+        ]
+      ] refl
+
+-- of two suffixes that end one text each is the other
+pub two-ends : (suffixes : List (List ℕ)) → AreSuffixes suffixes → (s t front other : List ℕ) → Contains suffixes s → Contains suffixes t → front ++ s ≡ other ++ t → s ≡ t
+two-ends suffixes lawful s t front other hs ht e =
+    elim (cases_lt (length t) (length s)) as (λ _. s ≡ t) [
+      | inl lt ↦ lawful.apart s t hs ht (shorter-end other front t s (sym e) (omega (arith, lt)))
+      | inr le ↦ sym (lawful.apart t s ht hs (shorter-end front other s t e le))
+    ]
+
+-- the canonical name of a name that has a class
+pub canonical-at : (suffixes seen : List (List ℕ)) (name class : List ℕ) → class_of_name suffixes name ≡ Some class → canonical_name suffixes seen name ≡ canonical_in seen name class
+canonical-at suffixes seen name class h = ap (canonical_or seen name) h
+
+-- a canonical name ends in its class
+canonical-front : List (List ℕ) → List ℕ → List ℕ → List ℕ
+canonical-front seen name class = (folder_of name ++ separator_after (folder_of name)) ++ (codes "x_" ++ numeral (rank class seen name))
+
+canonical-split : (seen : List (List ℕ)) (name class : List ℕ) → canonical_in seen name class ≡ canonical-front seen name class ++ class
+unfolding canonical-front
+canonical-split seen name class = sym (append_assoc (folder_of name ++ separator_after (folder_of name)) (codes "x_" ++ numeral (rank class seen name)) class)
+
+pub folder_and_class-stay : FolderAndClassStay
+folder_and_class-stay suffixes lawful seen name class h =
+    let found : Contains suffixes class × (ends_with nat_eq name class ≡ true) = find-found (ends_with nat_eq name) suffixes class h in
+    let is = canonical-at suffixes seen name class h in
+    let whole = canonical-front seen name class ++ class in
+    let ends : ends_with nat_eq whole class ≡ true = ends-append (canonical-front seen name class) class in
+    let only : (z : List ℕ) → Contains suffixes z → ends_with nat_eq whole z ≡ true → z ≡ class = λ z among passes.
+    two-ends suffixes lawful z class (take (length whole - length z) whole) (canonical-front seen name class) among found.0 (sym (ends-split whole z passes)) in (
+      ap folder_of is ∙ joined-keeps_folder name (canonical_file (rank class seen name) class) (file-bare (rank class seen name) class (lawful.bare class found.0)),
+      ap (class_of_name suffixes) (is ∙ canonical-split seen name class) ∙ find-only (ends_with nat_eq whole) suffixes class found.0 ends only,
+    )
+
+-- names of one class have different ranks
+rank-cases : (class : List ℕ) (x m n : List ℕ) (more : List (List ℕ)) (a b : Bool) → bytes_eq x m ≡ a → bytes_eq x n ≡ b → ends_with nat_eq m class ≡ true → ends_with nat_eq n class ≡ true →
+    (a ≡ false → b ≡ false → rank class more m ≡ rank class more n → m ≡ n) →
+    cond a 0 (cond (ends_with nat_eq x class) 1 0 + rank class more m) ≡ cond b 0 (cond (ends_with nat_eq x class) 1 0 + rank class more n) → m ≡ n
+rank-cases class x m n more true true em en cm cn rest e = sym (same x m em) ∙ same x n en
+rank-cases class x m n more true false em en cm cn rest e =
+    let one : ends_with nat_eq x class ≡ true = ap (λ z. ends_with nat_eq z class) (same x m em) ∙ cm in
+    let bad : 0 ≡ 1 + rank class more n = e ∙ ap (λ b. cond b 1 0 + rank class more n) one in
+    let no : ⊥ = omega (arith, bad) in
+    absurd no
+rank-cases class x m n more false true em en cm cn rest e =
+    let one : ends_with nat_eq x class ≡ true = ap (λ z. ends_with nat_eq z class) (same x n en) ∙ cn in
+    let bad : 0 ≡ 1 + rank class more m = sym e ∙ ap (λ b. cond b 1 0 + rank class more m) one in
+    let no : ⊥ = omega (arith, bad) in
+    absurd no
+rank-cases class x m n more false false em en cm cn rest e =
+    rest refl refl (cancel (cond (ends_with nat_eq x class) 1 0) (rank class more m) (rank class more n) e) where
+      cancel : (k i j : ℕ) → k + i ≡ k + j → i ≡ j
+      cancel k i j h = omega (arith, h)
+
+later-member : (x : List ℕ) (xs : List (List ℕ)) (m : List ℕ) → Contains (x ∷ xs) m → bytes_eq x m ≡ false → Contains xs m
+later-member x xs m h differs =
+    elim (member-cases x xs m h) as (λ _. Contains xs m) [
+      | inl is ↦ absurd (false≢true (sym differs ∙ ap (λ z. bytes_eq z m) is ∙ same-itself m))
+      | inr more ↦ more
+    ]
+
+rank-apart : (class : List ℕ) (names : List (List ℕ)) (m n : List ℕ) → Contains names m → Contains names n → ends_with nat_eq m class ≡ true → ends_with nat_eq n class ≡ true → rank class names m ≡ rank class names n → m ≡ n
+rank-apart class [] m n hm hn cm cn e = absurd (no-member m hm)
+rank-apart class (x ∷ xs) m n hm hn cm cn e =
+    rank-cases class x m n xs (bytes_eq x m) (bytes_eq x n) refl refl cm cn
+    (λ em en k. rank-apart class xs m n (later-member x xs m hm em) (later-member x xs n hn en) cm cn k) e
+
+-- the names of a run have a class
+abbrev pub HasClass : List (List ℕ) → List ℕ → Type 0
+HasClass suffixes n = (class : List ℕ) × (class_of_name suffixes n ≡ Some class)
+
+named-class : (suffixes : List (List ℕ)) (core : List ℕ) (o : Option (List ℕ)) → class_of_name suffixes core ≡ o → (n : List ℕ) → option_map (λ (_ : List ℕ). core) o ≡ Some n → HasClass suffixes n
+named-class suffixes core None h n e = cc
+named-class suffixes core (Some class) h n e = let is : core ≡ n = cc in (class, subst (λ z. class_of_name suffixes z ≡ Some class) is h)
+
+generated-class : (suffixes : List (List ℕ)) (core : List ℕ) (b : Bool) (n : List ℕ) → option_map (λ (_ : List ℕ). core) (cond b None (class_of_name suffixes core)) ≡ Some n → HasClass suffixes n
+generated-class suffixes core true n e = cc
+generated-class suffixes core false n e = named-class suffixes core (class_of_name suffixes core) refl n e
+
+with_name-all : (P : List ℕ → Type 0) (seen : List (List ℕ)) (o : Option (List ℕ)) → All P seen → ((n : List ℕ) → o ≡ Some n → P n) → All P (with_name seen o)
+with_name-all P seen None h p = h
+with_name-all P seen (Some n) h p = cond_both (list_any (bytes_eq n) seen) seen (seen ++ n ∷ []) (All P) (λ _. h) (λ _. All-push P seen n h (p n refl))
+
+seen_after-all : (suffixes seen words : List (List ℕ)) → All (HasClass suffixes) seen → All (HasClass suffixes) (seen_after suffixes seen words)
+seen_after-all suffixes seen [] h = h
+seen_after-all suffixes seen (word ∷ words) h =
+    seen_after-all suffixes (seen_after_word suffixes seen word) words
+    (with_name-all (HasClass suffixes) seen (generated_name suffixes word) h (λ n e. generated-class suffixes (core_of word) (begins_with_dash (core_of word)) n e))
+
+pub run-all : (suffixes seen : List (List ℕ)) (commands : List CommandLine) → All (HasClass suffixes) seen → All (HasClass suffixes) (fold (λ seen command. seen_after suffixes seen (words_of_command command)) seen commands)
+run-all suffixes seen [] h = h
+run-all suffixes seen (command ∷ commands) h = run-all suffixes (seen_after suffixes seen (words_of_command command)) commands (seen_after-all suffixes seen (words_of_command command) h)
+
+pub different-names : DifferentNames
+different-names suffixes lawful commands m n hm hn e =
+    let names = names_of_run suffixes commands in
+    let classes : All (HasClass suffixes) names = run-all suffixes [] commands (All-nil (HasClass suffixes)) in
+    let cm : HasClass suffixes m = All-contains (HasClass suffixes) names m classes hm in
+    let cn : HasClass suffixes n = All-contains (HasClass suffixes) names n classes hn in
+    classed suffixes lawful names m n cm.0 cn.0 hm hn cm.1 cn.1 e where
+      classed : (suffixes : List (List ℕ)) → AreSuffixes suffixes → (names : List (List ℕ)) (m n cm cn : List ℕ) → Contains names m → Contains names n → class_of_name suffixes m ≡ Some cm → class_of_name suffixes n ≡ Some cn → canonical_name suffixes names m ≡ canonical_name suffixes names n → m ≡ n
+      classed suffixes lawful names m n cm cn hm hn km kn e =
+          let fm : Contains suffixes cm × (ends_with nat_eq m cm ≡ true) = find-found (ends_with nat_eq m) suffixes cm km in
+          let fn : Contains suffixes cn × (ends_with nat_eq n cn ≡ true) = find-found (ends_with nat_eq n) suffixes cn kn in
+          let i = rank cm names m in
+          let j = rank cn names n in
+          let both : canonical_in names m cm ≡ canonical_in names n cn = sym (canonical-at suffixes names m cm km) ∙ e ∙ canonical-at suffixes names n cn kn in
+          let files : canonical_file i cm ≡ canonical_file j cn = (folders-cancel m n (canonical_file i cm) (canonical_file j cn) (file-bare i cm (lawful.bare cm fm.0)) (file-bare j cn (lawful.bare cn fn.0)) both).1 in
+          let parts : numeral i ++ cm ≡ numeral j ++ cn = append_cancel_left (codes "x_") (numeral i ++ cm) (numeral j ++ cn) files in
+          let class : cm ≡ cn = two-ends suffixes lawful cm cn (numeral i) (numeral j) fm.0 fn.0 parts in
+          let digits : numeral i ≡ numeral j = append_cancel_right (numeral i) (numeral j) cn (ap (λ c. numeral i ++ c) (sym class) ∙ parts) in
+          let ranks : rank cm names m ≡ rank cm names n = numeral-same i j digits ∙ ap (λ c. rank c names n) (sym class) in
+          rank-apart cm names m n hm hn fm.1 (subst (λ c. ends_with nat_eq n c ≡ true) (sym class) fn.1) ranks
+
+-- the standard suffixes
+standard-apart : (s t : List ℕ) → Contains standard_suffixes s → Contains standard_suffixes t → ends_with nat_eq s t ≡ true → s ≡ t
+standard-apart s t hs ht ends =
+    let rows : list_all (λ s. list_all (λ t. not (ends_with nat_eq s t) || bytes_eq s t) standard_suffixes) standard_suffixes ≡ true = refl in
+    let row : list_all (λ t. not (ends_with nat_eq s t) || bytes_eq s t) standard_suffixes ≡ true =
+    All-contains (λ s. list_all (λ t. not (ends_with nat_eq s t) || bytes_eq s t) standard_suffixes ≡ true) standard_suffixes s (AllPass-from_list_all (λ s. list_all (λ t. not (ends_with nat_eq s t) || bytes_eq s t) standard_suffixes) standard_suffixes rows) hs in
+    let pair : (not (ends_with nat_eq s t) || bytes_eq s t) ≡ true =
+    All-contains (λ t. (not (ends_with nat_eq s t) || bytes_eq s t) ≡ true) standard_suffixes t (AllPass-from_list_all (λ t. not (ends_with nat_eq s t) || bytes_eq s t) standard_suffixes row) ht in
+    same s t (sym (ap (λ b. not b || bytes_eq s t) ends) ∙ pair)
+
+pub standard-are_suffixes : StandardAreSuffixes
+standard-are_suffixes = record {
+  apart = standard-apart;
+  bare = λ s hs. All-contains (λ s. is_bare s ≡ true) standard_suffixes s (AllPass-from_list_all is_bare standard_suffixes refl) hs;
+  input = (0, omega arith, refl);
+}

@@ -1,0 +1,71 @@
+-- In a clean run every word is renamed by all names of the run.
+use Rattle.std.proofs.Common.{◌≡◌, ℕ, ◌++◌, ◌||◌, true, false, not, cond, List, [], ◌∷◌, Option, Some, None, is_some, map, refl, ap, sym, ◌∙◌, nat_eq, fold}
+use Rattle.std.specs.List.{list_any, list_all, starts_with, filter_map}
+use Rattle.std.specs.Option.{option_map}
+use Rattle.std.proofs.lemmas.Bool.{and_parts, or_parts, or_from, not-true}
+use Rattle.cuda_below.specs.Path.{joined, folder_of}
+use Rattle.dry_runs.specs.CommandLines.{CommandLine, words_of_command}
+use Rattle.canonical_names.specs.Generated.{head_of, core_of, class_of, is_file_mark, generated_name}
+use Rattle.canonical_names.specs.Renaming.{canonical_file, rank, with_words, seen_after_word, seen_after, names_of_run, renamed_core, renamed_word, renamed_words, renamed_after}
+use Rattle.cuda_below.specs.Lists.{with_name}
+use Rattle.canonical_names.specs.Shadow.{appearances}
+use Rattle.canonical_names.specs.Alike.{holds, is_clean_word}
+use Rattle.canonical_names.specs.CanonicalNames.{core_by_all, word_by_all, command_by_all, CleanRunIsAMap}
+use Rattle.canonical_names.proofs.RankLemmas.{add, fold-append, words-names, run-names, fold-front, rank-stable}
+use Rattle.canonical_names.proofs.RewriteLemmas.{other-words_stay}
+
+-- what a word doesn't hold, its core doesn't hold
+core-free : (part word : List ℕ) → holds part word ≡ false → holds part (core_of word) ≡ false
+core-free part [] h = h
+core-free part (a ∷ []) h = h
+core-free part (a ∷ b ∷ []) h = h
+core-free part (a ∷ b ∷ c ∷ rest) h =
+    let one = or_parts (starts_with nat_eq (a ∷ b ∷ c ∷ rest) part) (holds part (b ∷ c ∷ rest)) h in
+    let two = or_parts (starts_with nat_eq (b ∷ c ∷ rest) part) (holds part (c ∷ rest)) one.1 in
+    let three = or_parts (starts_with nat_eq (c ∷ rest) part) (holds part rest) two.1 in
+    elim (is_file_mark a b c) as (λ t. holds part (cond t (core_of rest) (a ∷ b ∷ c ∷ rest)) ≡ false) [ true ↦ core-free part rest three.1 | false ↦ h ]
+
+fewer-held : (word : List ℕ) (seen more : List (List ℕ)) → list_any (λ n. holds n word) (seen ++ more) ≡ false → list_any (λ n. holds n (core_of word)) seen ≡ false
+fewer-held word [] more h = refl
+fewer-held word (n ∷ seen) more h =
+    let parts = or_parts (holds n word) (list_any (λ n. holds n word) (seen ++ more)) h in
+    or_from (holds n (core_of word)) (list_any (λ n. holds n (core_of word)) seen) (core-free n word parts.0) (fewer-held word seen more parts.1)
+
+-- a word of a clean run, by its class; names has those seen before it, itself and the later ones
+word-clean : (suffixes names seen xs : List (List ℕ)) (word : List ℕ) (o : Option (List ℕ)) → class_of suffixes word ≡ o → names ≡ fold add (with_name seen (option_map (λ (_ : List ℕ). core_of word) o)) xs →
+    is_clean_word suffixes names word ≡ true → renamed_word suffixes seen word ≡ head_of word ++ core_by_all names (core_of word) o
+word-clean suffixes names seen xs word None e all clean =
+    let rest = fold-front seen xs in
+    let whole : names ≡ seen ++ rest.0 = all ∙ rest.1 in
+    let none : list_any (λ n. holds n word) names ≡ false = not-true (list_any (λ n. holds n word) names) (sym (ap (λ o. is_some o || not (list_any (λ n. holds n word) names)) e) ∙ clean) in
+    other-words_stay suffixes seen word e (fewer-held word seen rest.0 (sym (ap (list_any (λ n. holds n word)) whole) ∙ none))
+word-clean suffixes names seen xs word (Some class) e all clean =
+    let ranks : rank class seen (core_of word) ≡ rank class names (core_of word) = sym (rank-stable class (core_of word) seen xs) ∙ sym (ap (λ ns. rank class ns (core_of word)) all) in
+    ap (λ o. head_of word ++ renamed_core suffixes seen (core_of word) o) e
+    ∙ ap (λ k. head_of word ++ joined (folder_of (core_of word)) (canonical_file k class)) ranks
+
+-- the words of a command
+words-clean : (suffixes names seen words xs : List (List ℕ)) → names ≡ fold add (seen_after suffixes seen words) xs → list_all (is_clean_word suffixes names) words ≡ true →
+    renamed_words suffixes seen words ≡ map (word_by_all suffixes names) words
+words-clean suffixes names seen [] xs all clean = refl
+words-clean suffixes names seen (word ∷ words) xs all clean =
+    let parts = and_parts (is_clean_word suffixes names word) (list_all (is_clean_word suffixes names) words) clean in
+    let later = filter_map (generated_name suffixes) words ++ xs in
+    let behind : names ≡ fold add (seen_after_word suffixes seen word) later =
+    all ∙ ap (λ s. fold add s xs) (words-names suffixes (seen_after_word suffixes seen word) words) ∙ sym (fold-append (seen_after_word suffixes seen word) (filter_map (generated_name suffixes) words) xs) in
+    ap (λ w. w ∷ renamed_words suffixes (seen_after_word suffixes seen word) words) (word-clean suffixes names seen later word (class_of suffixes word) refl behind parts.0)
+    ∙ ap (λ ws. word_by_all suffixes names word ∷ ws) (words-clean suffixes names (seen_after_word suffixes seen word) words xs all parts.1)
+
+-- the commands of a run
+run-clean : (suffixes names seen : List (List ℕ)) (commands : List CommandLine) → names ≡ fold (λ seen command. seen_after suffixes seen (words_of_command command)) seen commands →
+    list_all (λ command. list_all (is_clean_word suffixes names) (words_of_command command)) commands ≡ true → renamed_after suffixes seen commands ≡ map (command_by_all suffixes names) commands
+run-clean suffixes names seen [] all clean = refl
+run-clean suffixes names seen (command ∷ commands) all clean =
+    let words = words_of_command command in
+    let parts = and_parts (list_all (is_clean_word suffixes names) words) (list_all (λ command. list_all (is_clean_word suffixes names) (words_of_command command)) commands) clean in
+    let behind : names ≡ fold add (seen_after suffixes seen words) (appearances suffixes commands) = all ∙ run-names suffixes (seen_after suffixes seen words) commands in
+    ap (λ ws. with_words command ws ∷ renamed_after suffixes (seen_after suffixes seen words) commands) (words-clean suffixes names seen words (appearances suffixes commands) behind parts.0)
+    ∙ ap (λ cs. command_by_all suffixes names command ∷ cs) (run-clean suffixes names (seen_after suffixes seen words) commands all parts.1)
+
+pub clean-run_is_a_map : CleanRunIsAMap
+clean-run_is_a_map suffixes commands clean = run-clean suffixes (names_of_run suffixes commands) [] commands refl clean

@@ -1,0 +1,91 @@
+-- Renamings worked out by hand.
+use Rattle.std.specs.Prelude.{◌≡◌, ℕ, List, [], ◌∷◌, Ok, Err, refl, codes}
+use Rattle.dry_runs.specs.Computing.{dry_runs_compute}
+use Rattle.dry_runs.specs.DryRunRows.{Said, first_run}
+use Rattle.canonical_names.specs.Generated.{standard_suffixes}
+use Rattle.dry_runs.specs.OneKernel.{one_kernel, one_kernel_elsewhere, one_kernel_canonical}
+use Rattle.canonical_names.specs.Renaming.{renamed, renamed_words}
+
+-- the words of a run of one command, renamed
+abbrev pub renames : List (List ℕ) → List (List ℕ)
+renames words = renamed_words standard_suffixes [] words
+
+-- of two names that a word refers to, the longer one is replaced first, and what it became is replaced once more
+abbrev pub LongestReferenceFirst : Type 0
+LongestReferenceFirst =
+    renames (codes "longname.cudafe1.c" ∷ codes "x_0.cudafe1.c" ∷ codes "-I=longname.cudafe1.c" ∷ []) ≡
+    codes "x_0.cudafe1.c" ∷ codes "x_1.cudafe1.c" ∷ codes "-I=x_1.cudafe1.c" ∷ []
+
+pub longest_reference_first : LongestReferenceFirst
+longest_reference_first = refl
+
+-- a reference that stands before its name has appeared is left as it is
+abbrev pub EarlyReferenceStays : Type 0
+EarlyReferenceStays =
+    renames (codes "-I=k.cudafe1.c" ∷ codes "k.cudafe1.c" ∷ []) ≡
+    codes "-I=k.cudafe1.c" ∷ codes "x_0.cudafe1.c" ∷ []
+
+pub early_reference_stays : EarlyReferenceStays
+early_reference_stays = refl
+
+-- of several marks one is left
+abbrev pub OneMarkIsLeft : Type 0
+OneMarkIsLeft = renames (codes "-Fi-Fik.cpp1.ii" ∷ []) ≡ codes "-Fix_0.cpp1.ii" ∷ []
+
+pub one_mark_is_left : OneMarkIsLeft
+one_mark_is_left = refl
+
+-- a folder stays as a path, and its text may lose what it can go without
+abbrev pub FolderStaysAsAPath : Type 0
+FolderStaysAsAPath = renames (codes "//k.cpp4.ii" ∷ []) ≡ codes "/x_0.cpp4.ii" ∷ []
+
+pub folder_stays_as_a_path : FolderStaysAsAPath
+folder_stays_as_a_path = refl
+
+abbrev pub FolderLosesItsDot : Type 0
+FolderLosesItsDot = renames (codes "a/./k.cpp4.ii" ∷ []) ≡ codes "a/x_0.cpp4.ii" ∷ []
+
+pub folder_loses_its_dot : FolderLosesItsDot
+folder_loses_its_dot = refl
+
+-- equal names become equal names, and different ones different ones
+abbrev pub FirstNameComesAgain : Type 0
+FirstNameComesAgain =
+    renames (codes "a.cudafe1.c" ∷ codes "b.cudafe1.c" ∷ codes "a.cudafe1.c" ∷ []) ≡
+    codes "x_0.cudafe1.c" ∷ codes "x_1.cudafe1.c" ∷ codes "x_0.cudafe1.c" ∷ []
+
+pub first_name_comes_again : FirstNameComesAgain
+first_name_comes_again = refl
+
+abbrev pub SecondNameComesAgain : Type 0
+SecondNameComesAgain =
+    renames (codes "a.cudafe1.c" ∷ codes "b.cudafe1.c" ∷ codes "b.cudafe1.c" ∷ []) ≡
+    codes "x_0.cudafe1.c" ∷ codes "x_1.cudafe1.c" ∷ codes "x_1.cudafe1.c" ∷ []
+
+pub second_name_comes_again : SecondNameComesAgain
+second_name_comes_again = refl
+
+-- what a dry run says, its commands renamed
+abbrev pub renamed_said : Said → Said
+renamed_said (Ok said) = Ok (renamed standard_suffixes said.0, said.1)
+renamed_said (Err fault) = Err fault
+
+-- the one-kernel dry run, and the same run with other names of its generated files, have one canonical run
+abbrev pub OneKernelIsRenamed : Type 0
+OneKernelIsRenamed =
+    (renamed_said (first_run one_kernel) ≡ Ok (one_kernel_canonical, (codes "PATH", codes "/b") ∷ [])) ×
+    (renamed_said (first_run one_kernel_elsewhere) ≡ Ok (one_kernel_canonical, (codes "PATH", codes "/b") ∷ []))
+
+pub one_kernel_is_renamed : OneKernelIsRenamed
+unfolding dry_runs_compute
+one_kernel_is_renamed = (refl, refl)
+
+-- a name counts whatever command it appears in
+abbrev pub EveryCommandCounts : Type 0
+EveryCommandCounts =
+    renamed_said (first_run (codes "#$ PATH=/b\n#$ gcc a.cpp1.ii\n#$ cicc b.cpp1.ii\n")) ≡
+    Ok ((1, codes "/b/gcc", codes "x_0.cpp1.ii" ∷ []) ∷ (2, codes "/b/cicc", codes "x_1.cpp1.ii" ∷ []) ∷ [], (codes "PATH", codes "/b") ∷ [])
+
+pub every_command_counts : EveryCommandCounts
+unfolding dry_runs_compute
+every_command_counts = refl

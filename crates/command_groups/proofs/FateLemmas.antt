@@ -1,0 +1,384 @@
+-- Fates: each command has one, and device groups begin with their steps.
+use Rattle.std.proofs.Common.{◌≡◌, ℕ, ◌+◌, suc, List, [], ◌∷◌, ◌++◌, Bool, true, false, cond, ◌||◌, Option, Some, None, map, length, refl, sym, ap, subst, ◌∙◌, arith}
+use Rattle.std.specs.List.{list_any, fold, find, flat_map}
+use Rattle.std.specs.Prelude.{IsPermutation}
+use Rattle.std.specs.Str.{bytes_eq}
+use Rattle.std.proofs.lemmas.Bool.{false≢true}
+use Rattle.std.proofs.lemmas.Slice.Eq.{bytes_eq-Decides}
+use Rattle.std.proofs.lemmas.List.Sorted.{IsPermutation-refl, IsPermutation-sym, IsPermutation-trans, IsPermutation-cons, IsPermutation-map, IsPermutation-middle, IsPermutation-append_left, IsPermutation-append_right}
+use Rattle.command_groups.specs.declared.plan.Reason.{Reason}
+use Rattle.command_groups.specs.declared.plan.Reason.TheVariants.{NoCiccGroup, NoPtxasGroup, Superseded}
+use Rattle.cuda_below.specs.Lists.{is_some_and}
+use Rattle.cuda_below.specs.Lists.{with_name}
+use Rattle.command_groups.specs.Stage.{Stage, linking, splitting, device_compiling, assembling, preprocessing, host_compiling, foreign, StagedCommand, opens}
+use Rattle.command_groups.specs.Fate.{Fate, front, device, final, ungrouped, PlacedCommand, is_device, opens_name, opened_names, device_or, makes_last, place_of, placed_after, places, fate_of, with_fates, fates}
+use Rattle.command_groups.specs.Plan.{is_front, is_final, of_fate, group_of}
+use Rattle.command_groups.specs.FateLaws.{is_ungrouped, regrouped, EachHasOneFate, BeginsWithLastStep, DeviceGroupsBeginWithTheirStep, OuterGroupsAreThere}
+
+-- Tests.
+
+both_false : (a b : Bool) → a ≡ false → b ≡ false → (a || b) ≡ false
+both_false true b e f = e
+both_false false b e f = f
+
+first_false : (a b : Bool) → (a || b) ≡ false → a ≡ false
+first_false true b e = e
+first_false false b e = refl
+
+second_false : (a b : Bool) → (a || b) ≡ false → b ≡ false
+second_false true b e = absurd (false≢true (sym e))
+second_false false b e = e
+
+first_true : (a b : Bool) → a ≡ true → (a || b) ≡ true
+first_true true b e = refl
+first_true false b e = absurd (false≢true e)
+
+second_true : (a b : Bool) → b ≡ true → (a || b) ≡ true
+second_true true b e = refl
+second_true false b e = e
+
+true_before_false : (a b : Bool) → (a || b) ≡ true → b ≡ false → a ≡ true
+true_before_false true b e f = refl
+true_before_false false b e f = absurd (false≢true (sym f ∙ e))
+
+one_of : {P : Type 0} (a b : Bool) → (a ≡ true → P) → (b ≡ true → P) → (a || b) ≡ true → P
+one_of true b f g e = f refl
+one_of false b f g e = g e
+
+any_append : {X : Type 0} (test : X → Bool) (xs ys : List X) → list_any test (xs ++ ys) ≡ (list_any test xs || list_any test ys)
+any_append test [] ys = refl
+any_append test (x ∷ xs) ys =
+    let ih : list_any test (xs ++ ys) ≡ (list_any test xs || list_any test ys) = any_append test xs ys in
+    elim (test x) as (λ b. (b || list_any test (xs ++ ys)) ≡ ((b || list_any test xs) || list_any test ys)) [ true ↦ refl | false ↦ ih ]
+
+same_text : (a b : List ℕ) → bytes_eq a b ≡ true → a ≡ b
+same_text a b e = (bytes_eq-Decides a b).0 e
+
+equal_texts : (a b : List ℕ) → a ≡ b → bytes_eq a b ≡ true
+equal_texts a b e = (bytes_eq-Decides a b).1 e
+
+flipped : (a b : List ℕ) → bytes_eq a b ≡ bytes_eq b a
+flipped a b =
+    elim (bytes_eq a b) as (λ r. bytes_eq a b ≡ r → r ≡ bytes_eq b a) [
+      | true ↦ λ e. sym (equal_texts b a (sym (same_text a b e)))
+      | false ↦ λ e.
+          elim (bytes_eq b a) as (λ q. bytes_eq b a ≡ q → false ≡ q)
+          [ true ↦ λ f. absurd (false≢true (sym e ∙ equal_texts a b (sym (same_text b a f)))) | false ↦ λ f. refl ]
+          refl
+    ]
+    refl
+
+-- Different names.
+
+abbrev Distinct : List (List ℕ) → Type 0
+Distinct [] = Unit {0}
+Distinct (n ∷ ns) = (list_any (bytes_eq n) ns ≡ false) × Distinct ns
+
+distinct_push : (names : List (List ℕ)) (x : List ℕ) → Distinct names → list_any (bytes_eq x) names ≡ false → Distinct (names ++ x ∷ [])
+distinct_push [] x d e = (refl, tt)
+distinct_push (n ∷ ns) x d e = (
+  any_append (bytes_eq n) ns (x ∷ []) ∙ both_false (list_any (bytes_eq n) ns) (bytes_eq n x || false) d.0 (both_false (bytes_eq n x) false (flipped n x ∙ first_false (bytes_eq x n) (list_any (bytes_eq x) ns) e) refl),
+  distinct_push ns x d.1 (second_false (bytes_eq x n) (list_any (bytes_eq x) ns) e),
+)
+
+distinct_with : (names : List (List ℕ)) (name : Option (List ℕ)) → Distinct names → Distinct (with_name names name)
+distinct_with names None d = d
+distinct_with names (Some x) d =
+    elim (list_any (bytes_eq x) names) as (λ b. list_any (bytes_eq x) names ≡ b → Distinct (cond b names (names ++ x ∷ [])))
+    [ true ↦ λ e. d | false ↦ λ e. distinct_push names x d e ]
+    refl
+
+-- the names after these, once some commands opened theirs
+abbrev names_after : List (List ℕ) → List StagedCommand → List (List ℕ)
+names_after names commands = fold (λ ns c. with_name ns (opens c.stage)) names commands
+
+distinct_after : (names : List (List ℕ)) (commands : List StagedCommand) → Distinct names → Distinct (names_after names commands)
+distinct_after names [] d = d
+distinct_after names (c ∷ cs) d = distinct_after (with_name names (opens c.stage)) cs (distinct_with names (opens c.stage) d)
+
+-- Names of places.
+
+-- a place that is a device group has one of these names
+abbrev Named : List (List ℕ) → Fate → Type 0
+Named names front = Unit {0}
+Named names (device name) = list_any (bytes_eq name) names ≡ true
+Named names final = Unit {0}
+Named names (ungrouped reason) = Unit {0}
+
+abbrev AllNamed : List (List ℕ) → List PlacedCommand → Type 0
+AllNamed names [] = Unit {0}
+AllNamed names (p ∷ ps) = Named names p.place × AllNamed names ps
+
+known_with : (names : List (List ℕ)) (name : Option (List ℕ)) (m : List ℕ) → list_any (bytes_eq m) names ≡ true → list_any (bytes_eq m) (with_name names name) ≡ true
+known_with names None m e = e
+known_with names (Some x) m e =
+    elim (list_any (bytes_eq x) names) as (λ b. list_any (bytes_eq m) (cond b names (names ++ x ∷ [])) ≡ true)
+    [ true ↦ e | false ↦ any_append (bytes_eq m) names (x ∷ []) ∙ first_true (list_any (bytes_eq m) names) (bytes_eq m x || false) e ]
+
+named_with : (names : List (List ℕ)) (name : Option (List ℕ)) (place : Fate) → Named names place → Named (with_name names name) place
+named_with names name front h = tt
+named_with names name (device m) h = known_with names name m h
+named_with names name final h = tt
+named_with names name (ungrouped reason) h = tt
+
+all_named_with : (names : List (List ℕ)) (name : Option (List ℕ)) (ps : List PlacedCommand) → AllNamed names ps → AllNamed (with_name names name) ps
+all_named_with names name [] h = tt
+all_named_with names name (p ∷ ps) h = (named_with names name p.place h.0, all_named_with names name ps h.1)
+
+all_named_push : (names : List (List ℕ)) (ps : List PlacedCommand) (p : PlacedCommand) → AllNamed names ps → Named names p.place → AllNamed names (ps ++ p ∷ [])
+all_named_push names [] p h k = (k, tt)
+all_named_push names (q ∷ qs) p h k = (h.0, all_named_push names qs p h.1 k)
+
+new_name_known : (names : List (List ℕ)) (x : List ℕ) → list_any (bytes_eq x) (with_name names (Some x)) ≡ true
+new_name_known names x =
+    elim (list_any (bytes_eq x) names) as (λ b. list_any (bytes_eq x) names ≡ b → list_any (bytes_eq x) (cond b names (names ++ x ∷ [])) ≡ true) [
+      | true ↦ λ e. e
+      | false ↦ λ e. any_append (bytes_eq x) names (x ∷ []) ∙ second_true (list_any (bytes_eq x) names) (bytes_eq x x || false) (first_true (bytes_eq x x) false (equal_texts x x refl))
+    ]
+    refl
+
+named_cons : (n : List ℕ) (names : List (List ℕ)) (place : Fate) → Named names place → Named (n ∷ names) place
+named_cons n names front h = tt
+named_cons n names (device m) h = second_true (bytes_eq m n) (list_any (bytes_eq m) names) h
+named_cons n names final h = tt
+named_cons n names (ungrouped reason) h = tt
+
+found_named : (reason : Reason) (test : List ℕ → Bool) (names : List (List ℕ)) → Named names (device_or reason (find test names))
+found_named reason test [] = tt
+found_named reason test (n ∷ ns) =
+    let ih : Named ns (device_or reason (find test ns)) = found_named reason test ns in
+    elim (test n) as (λ b. Named (n ∷ ns) (device_or reason (cond b (Some n) (find test ns))))
+    [ true ↦ first_true (bytes_eq n n) (list_any (bytes_eq n) ns) (equal_texts n n refl) | false ↦ named_cons n ns (device_or reason (find test ns)) ih ]
+
+place_named : (names : List (List ℕ)) (before : List PlacedCommand) (stage : Stage) → Named (with_name names (opens stage)) (place_of names before stage)
+place_named names before linking = tt
+place_named names before splitting = tt
+place_named names before (device_compiling None) = tt
+place_named names before (device_compiling (Some name)) = found_named NoCiccGroup (bytes_eq name) names
+place_named names before (assembling None) = tt
+place_named names before (assembling (Some path)) = found_named NoPtxasGroup (makes_last path before) names
+place_named names before (preprocessing None) = tt
+place_named names before (preprocessing (Some name)) = new_name_known names name
+place_named names before host_compiling = tt
+place_named names before foreign = tt
+
+placed_named : (names : List (List ℕ)) (before : List PlacedCommand) (commands : List StagedCommand) → AllNamed names before → AllNamed (names_after names commands) (placed_after names before commands)
+placed_named names before [] h = h
+placed_named names before (c ∷ cs) h =
+    let p : PlacedCommand = record { staged = c; place = place_of names before c.stage } in
+    placed_named (with_name names (opens c.stage)) (before ++ p ∷ []) cs
+    (all_named_push (with_name names (opens c.stage)) before p (all_named_with names (opens c.stage) before h) (place_named names before c.stage))
+
+fate_named : (names : List (List ℕ)) (after : List PlacedCommand) (place : Fate) → Named names place → Named names (fate_of after place)
+fate_named names after front h = tt
+fate_named names after (device m) h = elim (list_any (opens_name m) after) as (λ b. Named names (cond b (ungrouped Superseded) (device m))) [ true ↦ tt | false ↦ h ]
+fate_named names after final h = tt
+fate_named names after (ungrouped reason) h = tt
+
+fates_named : (names : List (List ℕ)) (ps : List PlacedCommand) → AllNamed names ps → AllNamed names (with_fates ps)
+fates_named names [] h = tt
+fates_named names (p ∷ ps) h = (fate_named names ps p.place h.0, fates_named names ps h.1)
+
+-- The commands themselves stay as they are.
+
+nil_right : {X : Type 0} (xs : List X) → xs ≡ xs ++ []
+nil_right [] = refl
+nil_right (x ∷ xs) = λ i. x ∷ nil_right xs i
+
+push_staged : (before : List PlacedCommand) (p : PlacedCommand) (cs : List StagedCommand) → (map (λ q. q.staged) (before ++ p ∷ []) ++ cs) ≡ (map (λ q. q.staged) before ++ p.staged ∷ cs)
+push_staged [] p cs = refl
+push_staged (q ∷ qs) p cs = λ i. q.staged ∷ push_staged qs p cs i
+
+placed_staged : (names : List (List ℕ)) (before : List PlacedCommand) (commands : List StagedCommand) → map (λ q. q.staged) (placed_after names before commands) ≡ (map (λ q. q.staged) before ++ commands)
+placed_staged names before [] = nil_right (map (λ q. q.staged) before)
+placed_staged names before (c ∷ cs) =
+    let p : PlacedCommand = record { staged = c; place = place_of names before c.stage } in
+    placed_staged (with_name names (opens c.stage)) (before ++ p ∷ []) cs ∙ push_staged before p cs
+
+fates_staged : (ps : List PlacedCommand) → map (λ q. q.staged) (with_fates ps) ≡ map (λ q. q.staged) ps
+fates_staged [] = refl
+fates_staged (p ∷ ps) = λ i. p.staged ∷ fates_staged ps i
+
+-- Each command is regrouped once.
+
+no_groups : (names : List (List ℕ)) → flat_map (λ name. of_fate (is_device name) []) names ≡ []
+no_groups [] = refl
+no_groups (n ∷ ns) = no_groups ns
+
+-- an element that is put behind a front of a list
+behind : {X : Type 0} (front_part back : List X) (x : X) → IsPermutation (x ∷ (front_part ++ back)) (front_part ++ x ∷ back)
+behind front_part back x = IsPermutation-sym (front_part ++ x ∷ back) (x ∷ (front_part ++ back)) (IsPermutation-middle front_part x back)
+
+module _ (F : List ℕ → List PlacedCommand) (p : PlacedCommand) (m : List ℕ) where
+  -- the groups, once a command joins the one of its name
+  abbrev joined_by : List ℕ → List PlacedCommand
+  joined_by n = cond (bytes_eq m n) (p ∷ F n) (F n)
+
+  not_joined : (names : List (List ℕ)) → list_any (bytes_eq m) names ≡ false → flat_map joined_by names ≡ flat_map F names
+  not_joined [] e = refl
+  not_joined (n ∷ ns) e = λ i. cond (first_false (bytes_eq m n) (list_any (bytes_eq m) ns) e i) (p ∷ F n) (F n) ++ not_joined ns (second_false (bytes_eq m n) (list_any (bytes_eq m) ns) e) i
+
+  joins_one : (names : List (List ℕ)) → Distinct names → list_any (bytes_eq m) names ≡ true → IsPermutation (p ∷ flat_map F names) (flat_map joined_by names)
+  joins_one [] d e = absurd (false≢true e)
+  joins_one (n ∷ ns) d e =
+      let ih : (list_any (bytes_eq m) ns ≡ true → IsPermutation (p ∷ flat_map F ns) (flat_map joined_by ns)) = joins_one ns d.1 in
+      (elim (bytes_eq m n) as (λ b. bytes_eq m n ≡ b → (b || list_any (bytes_eq m) ns) ≡ true → IsPermutation (p ∷ (F n ++ flat_map F ns)) (cond b (p ∷ F n) (F n) ++ flat_map joined_by ns)) [
+        | true ↦ λ f g.
+            subst (λ rest. IsPermutation (p ∷ (F n ++ flat_map F ns)) (p ∷ (F n ++ rest)))
+            (sym (not_joined ns (ap (λ k. list_any (bytes_eq k) ns) (same_text m n f) ∙ d.0)))
+            (IsPermutation-refl (p ∷ (F n ++ flat_map F ns)))
+        | false ↦ λ f g.
+            IsPermutation-trans (p ∷ (F n ++ flat_map F ns)) (F n ++ p ∷ flat_map F ns) (F n ++ flat_map joined_by ns) (behind (F n) (flat_map F ns) p)
+            (IsPermutation-append_right (F n) (p ∷ flat_map F ns) (flat_map joined_by ns) (ih g))
+      ]) refl e
+
+module _ (names : List (List ℕ)) (d : Distinct names) where
+  -- one more command in front: it joins the list of its fate
+  regroup_one : (s : StagedCommand) (place : Fate) (ps : List PlacedCommand) → Named names place → IsPermutation ps (regrouped names ps) → IsPermutation (record { staged = s; place = place } ∷ ps) (regrouped names (record { staged = s; place = place } ∷ ps))
+  regroup_one s front ps n h = IsPermutation-cons (record { staged = s; place = front }) ps (regrouped names ps) h
+  regroup_one s (device m) ps n h =
+      let p : PlacedCommand = record { staged = s; place = device m } in
+      let A : List PlacedCommand = of_fate is_front ps in
+      let B : List PlacedCommand = flat_map (λ name. of_fate (is_device name) ps) names in
+      let C : List PlacedCommand = of_fate is_final ps ++ of_fate is_ungrouped ps in
+      let B' : List PlacedCommand = flat_map (joined_by (λ name. of_fate (is_device name) ps) p m) names in
+      IsPermutation-trans (p ∷ ps) (p ∷ (A ++ (B ++ C))) (A ++ (B' ++ C)) (IsPermutation-cons p ps (A ++ (B ++ C)) h)
+      (IsPermutation-trans (p ∷ (A ++ (B ++ C))) (A ++ p ∷ (B ++ C)) (A ++ (B' ++ C)) (behind A (B ++ C) p)
+      (IsPermutation-append_right A (p ∷ (B ++ C)) (B' ++ C)
+      (IsPermutation-append_left C (p ∷ B) B' (joins_one (λ name. of_fate (is_device name) ps) p m names d n))))
+  regroup_one s final ps n h =
+      let p : PlacedCommand = record { staged = s; place = final } in
+      let A : List PlacedCommand = of_fate is_front ps in
+      let B : List PlacedCommand = flat_map (λ name. of_fate (is_device name) ps) names in
+      let C : List PlacedCommand = of_fate is_final ps ++ of_fate is_ungrouped ps in
+      IsPermutation-trans (p ∷ ps) (p ∷ (A ++ (B ++ C))) (A ++ (B ++ p ∷ C)) (IsPermutation-cons p ps (A ++ (B ++ C)) h)
+      (IsPermutation-trans (p ∷ (A ++ (B ++ C))) (A ++ p ∷ (B ++ C)) (A ++ (B ++ p ∷ C)) (behind A (B ++ C) p)
+      (IsPermutation-append_right A (p ∷ (B ++ C)) (B ++ p ∷ C) (behind B C p)))
+  regroup_one s (ungrouped reason) ps n h =
+      let p : PlacedCommand = record { staged = s; place = ungrouped reason } in
+      let A : List PlacedCommand = of_fate is_front ps in
+      let B : List PlacedCommand = flat_map (λ name. of_fate (is_device name) ps) names in
+      let C : List PlacedCommand = of_fate is_final ps in
+      let D : List PlacedCommand = of_fate is_ungrouped ps in
+      IsPermutation-trans (p ∷ ps) (p ∷ (A ++ (B ++ (C ++ D)))) (A ++ (B ++ (C ++ p ∷ D))) (IsPermutation-cons p ps (A ++ (B ++ (C ++ D))) h)
+      (IsPermutation-trans (p ∷ (A ++ (B ++ (C ++ D)))) (A ++ p ∷ (B ++ (C ++ D))) (A ++ (B ++ (C ++ p ∷ D))) (behind A (B ++ (C ++ D)) p)
+      (IsPermutation-append_right A (p ∷ (B ++ (C ++ D))) (B ++ (C ++ p ∷ D))
+      (IsPermutation-trans (p ∷ (B ++ (C ++ D))) (B ++ p ∷ (C ++ D)) (B ++ (C ++ p ∷ D)) (behind B (C ++ D) p)
+      (IsPermutation-append_right B (p ∷ (C ++ D)) (C ++ p ∷ D) (behind C D p)))))
+
+  regroup : (ps : List PlacedCommand) → AllNamed names ps → IsPermutation ps (regrouped names ps)
+  regroup [] h = subst (λ (rest : List PlacedCommand). IsPermutation [] (rest ++ [])) (sym (no_groups names)) (IsPermutation-refl [])
+  regroup (p ∷ ps) h = regroup_one p.staged p.place ps h.0 (regroup ps h.1)
+
+pub each_has_one_fate : EachHasOneFate
+each_has_one_fate commands =
+    let names : List (List ℕ) = opened_names commands in
+    let ps : List PlacedCommand = fates commands in
+    subst (λ cs. IsPermutation cs (map (λ q. q.staged) (regrouped names ps))) (fates_staged (places commands) ∙ placed_staged [] [] commands)
+    (IsPermutation-map (λ q. q.staged) ps (regrouped names ps) (regroup names (distinct_after [] commands tt) ps (fates_named names (places commands) (placed_named [] [] commands tt))))
+
+-- Device groups begin with their steps.
+
+-- a step that opens a name is placed in the group of that name
+abbrev AtHome : List ℕ → PlacedCommand → Type 0
+AtHome name p = opens_name name p ≡ true → is_device name p.place ≡ true
+
+abbrev AllAtHome : List ℕ → List PlacedCommand → Type 0
+AllAtHome name [] = Unit {0}
+AllAtHome name (p ∷ ps) = AtHome name p × AllAtHome name ps
+
+home : (name : List ℕ) (names : List (List ℕ)) (before : List PlacedCommand) (stage : Stage) → is_some_and (λ opened. bytes_eq opened name) (opens stage) ≡ true → is_device name (place_of names before stage) ≡ true
+home name names before linking e = absurd (false≢true e)
+home name names before splitting e = absurd (false≢true e)
+home name names before (device_compiling input) e = absurd (false≢true e)
+home name names before (assembling path) e = absurd (false≢true e)
+home name names before (preprocessing None) e = absurd (false≢true e)
+home name names before (preprocessing (Some opened)) e = e
+home name names before host_compiling e = absurd (false≢true e)
+home name names before foreign e = absurd (false≢true e)
+
+home_push : (name : List ℕ) (ps : List PlacedCommand) (p : PlacedCommand) → AllAtHome name ps → AtHome name p → AllAtHome name (ps ++ p ∷ [])
+home_push name [] p h k = (k, tt)
+home_push name (q ∷ qs) p h k = (h.0, home_push name qs p h.1 k)
+
+all_home : (name : List ℕ) (names : List (List ℕ)) (before : List PlacedCommand) (commands : List StagedCommand) → AllAtHome name before → AllAtHome name (placed_after names before commands)
+all_home name names before [] h = h
+all_home name names before (c ∷ cs) h =
+    let p : PlacedCommand = record { staged = c; place = place_of names before c.stage } in
+    all_home name (with_name names (opens c.stage)) (before ++ p ∷ []) cs (home_push name before p h (home name names before c.stage))
+
+-- a name that is known after a step was known before it, or the step opens it
+known_or_opened : (names : List (List ℕ)) (opened : Option (List ℕ)) (name : List ℕ) (b : Bool) → (list_any (bytes_eq name) names ≡ true → b ≡ true) → list_any (bytes_eq name) (with_name names opened) ≡ true → (b || (is_some_and (λ o. bytes_eq o name) opened || false)) ≡ true
+known_or_opened names None name b f e = first_true b (false || false) (f e)
+known_or_opened names (Some x) name b f e =
+    (elim (list_any (bytes_eq x) names) as (λ r. list_any (bytes_eq name) (cond r names (names ++ x ∷ [])) ≡ true → (b || (bytes_eq x name || false)) ≡ true) [
+      | true ↦ λ k. first_true b (bytes_eq x name || false) (f k)
+      | false ↦ λ k.
+          one_of (list_any (bytes_eq name) names) (bytes_eq name x || false)
+          (λ g. first_true b (bytes_eq x name || false) (f g))
+          (λ g. second_true b (bytes_eq x name || false) (ap (λ r. r || false) (flipped x name) ∙ g))
+          (sym (any_append (bytes_eq name) names (x ∷ [])) ∙ k)
+    ]) e
+
+names_are_opened : (name : List ℕ) (names : List (List ℕ)) (before : List PlacedCommand) (commands : List StagedCommand) → (list_any (bytes_eq name) names ≡ true → list_any (opens_name name) before ≡ true) → list_any (bytes_eq name) (names_after names commands) ≡ true → list_any (opens_name name) (placed_after names before commands) ≡ true
+names_are_opened name names before [] f e = f e
+names_are_opened name names before (c ∷ cs) f e =
+    let p : PlacedCommand = record { staged = c; place = place_of names before c.stage } in
+    names_are_opened name (with_name names (opens c.stage)) (before ++ p ∷ []) cs
+    (λ k. any_append (opens_name name) before (p ∷ []) ∙ known_or_opened names (opens c.stage) name (list_any (opens_name name) before) f k) e
+
+opened_by_fates : (name : List ℕ) (ps : List PlacedCommand) → list_any (opens_name name) (with_fates ps) ≡ list_any (opens_name name) ps
+opened_by_fates name [] = refl
+opened_by_fates name (p ∷ ps) = λ i. opens_name name p || opened_by_fates name ps i
+
+-- where a later step opens a name, no earlier command is left in its group
+lost : (name : List ℕ) (after : List PlacedCommand) (place : Fate) → list_any (opens_name name) after ≡ true → is_device name (fate_of after place) ≡ false
+lost name after front e = refl
+lost name after (device m) e =
+    elim (list_any (opens_name m) after) as (λ b. list_any (opens_name m) after ≡ b → is_device name (cond b (ungrouped Superseded) (device m)) ≡ false) [
+      | true ↦ λ f. refl
+      | false ↦ λ f.
+          elim (bytes_eq m name) as (λ r. bytes_eq m name ≡ r → r ≡ false)
+          [ true ↦ λ g. absurd (false≢true (sym f ∙ (ap (λ k. list_any (opens_name k) after) (same_text m name g) ∙ e))) | false ↦ λ g. refl ]
+          refl
+    ]
+    refl
+lost name after final e = refl
+lost name after (ungrouped reason) e = refl
+
+-- where none does, a command of its group stays there
+stays : (name : List ℕ) (after : List PlacedCommand) (place : Fate) → is_device name place ≡ true → list_any (opens_name name) after ≡ false → is_device name (fate_of after place) ≡ true
+stays name after front e f = absurd (false≢true e)
+stays name after (device m) e f =
+    ap (λ b. is_device name (cond b (ungrouped Superseded) (device m))) (ap (λ k. list_any (opens_name k) after) (same_text m name e) ∙ f) ∙ e
+stays name after final e f = absurd (false≢true e)
+stays name after (ungrouped reason) e f = absurd (false≢true e)
+
+begins : (name : List ℕ) (ps : List PlacedCommand) → AllAtHome name ps → list_any (opens_name name) ps ≡ true → BeginsWithLastStep name (with_fates ps)
+begins name [] h e = absurd (false≢true e)
+begins name (p ∷ ps) h e =
+    let fp : PlacedCommand = record { staged = p.staged; place = fate_of ps p.place } in
+    let rest : List PlacedCommand = of_fate (is_device name) (with_fates ps) in
+    let ih : (list_any (opens_name name) ps ≡ true → BeginsWithLastStep name (with_fates ps)) = begins name ps h.1 in
+    (elim (list_any (opens_name name) ps) as (λ b. list_any (opens_name name) ps ≡ b → BeginsWithLastStep name (fp ∷ with_fates ps)) [
+      | true ↦ λ f.
+          let t : BeginsWithLastStep name (with_fates ps) = ih f in
+          (fp ∷ t.0, t.1, t.2, ap (λ xs. fp ∷ xs) t.3, t.4, t.5, ap (λ b. cond b (fp ∷ rest) rest) (lost name ps p.place f) ∙ t.6)
+      | false ↦ λ f.
+          let opening : opens_name name p ≡ true = true_before_false (opens_name name p) (list_any (opens_name name) ps) e f in
+          ([], fp, with_fates ps, refl, opening, opened_by_fates name ps ∙ f, ap (λ b. cond b (fp ∷ rest) rest) (stays name ps p.place (h.0 opening) f))
+    ]) refl
+
+pub device_groups_begin_with_their_step : DeviceGroupsBeginWithTheirStep
+device_groups_begin_with_their_step commands name e =
+    begins name (places commands) (all_home name [] [] commands tt) (names_are_opened name [] [] commands (λ k. k) e)
+
+-- The outer groups.
+
+length_with_last : {X Y : Type 0} (f : X → Y) (xs : List X) (y : Y) → length (map f xs ++ y ∷ []) ≡ length xs + 1
+length_with_last f [] y = refl
+length_with_last f (x ∷ xs) y = ap suc (length_with_last f xs y) ∙ omega arith
+
+pub outer_groups_are_there : OuterGroupsAreThere
+outer_groups_are_there s commands =
+    ap suc (length_with_last (λ name. group_of s (is_device name) (fates commands)) (opened_names commands) (group_of s is_final (fates commands))) ∙ omega arith

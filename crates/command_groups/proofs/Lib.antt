@@ -1,0 +1,4 @@
+pub mod FateLemmas
+pub mod GroupLemmas
+pub mod MergeLemmas
+pub mod SameLemmas

@@ -1,0 +1,100 @@
+-- Where each merged command goes: its place, by the commands before it, and its fate, by the steps after it too.
+use Rattle.std.specs.Prelude.{ℕ, List, [], ◌∷◌, ◌++◌, Bool, false, if◌then◌else◌, Option, Some, None, filter, find}
+use Rattle.std.specs.List.{list_any, fold}
+use Rattle.std.specs.Str.{bytes_eq}
+use Rattle.command_groups.specs.declared.plan.Reason.{Reason}
+use Rattle.command_groups.specs.declared.plan.Reason.TheVariants.{NotCuda, NoCiccGroup, NoPtxasGroup, Superseded}
+use Rattle.cuda_below.specs.Lists.{last_of}
+use Rattle.cuda_below.specs.Lists.{with_name}
+use Rattle.cuda_below.specs.Lists.{is_some_and}
+use Rattle.command_groups.specs.Stage.{Stage, linking, splitting, device_compiling, assembling, preprocessing, host_compiling, foreign, StagedCommand, opens}
+
+-- where a command goes: the front group, the device group of a name, the final group, or none for a reason
+pub data Fate : Type 0 where
+  front : Fate
+  device : List ℕ → Fate
+  final : Fate
+  ungrouped : Reason → Fate
+
+-- a command with its place, and later with its fate
+pub record PlacedCommand : Type 0 where
+  pub staged : StagedCommand
+  pub place : Fate
+
+-- the different names that groups were opened by, in order of first appearance
+abbrev pub opened_names : List StagedCommand → List (List ℕ)
+opened_names commands = fold (λ names c. with_name names (opens c.stage)) [] commands
+
+-- the group of the first name that passes a test, else no group for a reason
+abbrev pub device_or : Reason → Option (List ℕ) → Fate
+device_or reason None = ungrouped reason
+device_or reason (Some name) = device name
+
+abbrev pub first_group : Reason → (List ℕ → Bool) → List (List ℕ) → Fate
+first_group reason test names = device_or reason (find test names)
+
+-- whether a command's place or fate is the device group of a name
+abbrev pub is_device : List ℕ → Fate → Bool
+is_device name front = false
+is_device name (device other) = bytes_eq other name
+is_device name final = false
+is_device name (ungrouped reason) = false
+
+-- whether, of the placed commands, the last one of a name's group has a path as its last word
+abbrev pub makes_last : List ℕ → List PlacedCommand → List ℕ → Bool
+makes_last path before name =
+    is_some_and (λ p. is_some_and (bytes_eq path) (last_of p.staged.command.words)) (last_of (filter (λ p. is_device name p.place) before))
+
+-- where a preprocess step goes: into the group that it opens, if it opens one
+abbrev pub place_of_step : Option (List ℕ) → Fate
+place_of_step None = front
+place_of_step (Some name) = device name
+
+-- where cicc goes: into the group of its preprocessed file, if a step before it opened that
+abbrev pub place_of_cicc : List (List ℕ) → Option (List ℕ) → Fate
+place_of_cicc names None = ungrouped NoCiccGroup
+place_of_cicc names (Some name) = first_group NoCiccGroup (bytes_eq name) names
+
+-- where ptxas goes: into the first group, by first appearance of the names, whose last command has ptxas's file as its last word
+abbrev pub place_of_ptxas : List (List ℕ) → List PlacedCommand → Option (List ℕ) → Fate
+place_of_ptxas names before None = ungrouped NoPtxasGroup
+place_of_ptxas names before (Some path) = first_group NoPtxasGroup (makes_last path before) names
+
+-- the place of a stage, of the names opened before and the placed commands before
+abbrev pub place_of : List (List ℕ) → List PlacedCommand → Stage → Fate
+place_of names before linking = final
+place_of names before splitting = front
+place_of names before (device_compiling name) = place_of_cicc names name
+place_of names before (assembling path) = place_of_ptxas names before path
+place_of names before (preprocessing name) = place_of_step name
+place_of names before host_compiling = final
+place_of names before foreign = ungrouped NotCuda
+
+-- the commands with their places, after those that are placed already, and the names that these opened
+abbrev pub placed_after : List (List ℕ) → List PlacedCommand → List StagedCommand → List PlacedCommand
+placed_after names before [] = before
+placed_after names before (c ∷ cs) =
+    placed_after (with_name names (opens c.stage)) (before ++ record { staged = c; place = place_of names before c.stage } ∷ []) cs
+
+abbrev pub places : List StagedCommand → List PlacedCommand
+places commands = placed_after [] [] commands
+
+-- whether a command opens the group of a name
+abbrev pub opens_name : List ℕ → PlacedCommand → Bool
+opens_name name p = is_some_and (λ opened. bytes_eq opened name) (opens p.staged.stage)
+
+-- the fate of a place, of the commands after it: a device group that is opened again loses what it had
+abbrev pub fate_of : List PlacedCommand → Fate → Fate
+fate_of after front = front
+fate_of after (device name) = if list_any (opens_name name) after then ungrouped Superseded else device name
+fate_of after final = final
+fate_of after (ungrouped reason) = ungrouped reason
+
+-- placed commands with their fates in their places' stead
+abbrev pub with_fates : List PlacedCommand → List PlacedCommand
+with_fates [] = []
+with_fates (p ∷ ps) = record { staged = p.staged; place = fate_of ps p.place } ∷ with_fates ps
+
+-- the commands with their fates
+abbrev pub fates : List StagedCommand → List PlacedCommand
+fates commands = with_fates (places commands)

@@ -1,0 +1,9 @@
+pub mod Fate
+pub mod FateLaws
+pub mod Merge
+pub mod MergeLaws
+pub mod Plan
+pub mod PlanOfBytes
+pub mod PlanOfBytesRows
+pub mod PlanRows
+pub mod Stage

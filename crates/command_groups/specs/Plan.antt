@@ -1,0 +1,95 @@
+-- The plan of two dry runs.
+use Rattle.std.specs.Prelude.{ℕ, List, [], ◌∷◌, ◌++◌, Bool, true, false, ◌==◌, if◌then◌else◌, Option, Some, None, map, filter, filter_map, codes}
+use Rattle.cuda_below.specs.declared.compiler.NvccHostCompiler.{NvccHostCompiler}
+use Rattle.command_groups.specs.declared.plan.NvccGeneratedSubcommand.{NvccGeneratedSubcommand}
+use Rattle.command_groups.specs.declared.plan.Dropped.{Dropped}
+use Rattle.command_groups.specs.declared.plan.Plan.{Plan}
+use Rattle.dry_runs.specs.CommandLines.{CommandLine}
+use Rattle.command_groups.specs.Merge.{MergedCommand, merged}
+use Rattle.dry_runs.specs.Environment.{with_variables}
+use Rattle.command_groups.specs.Stage.{Stage, linking, splitting, device_compiling, assembling, preprocessing, host_compiling, foreign, StagedCommand, staged, cacheable_mark}
+use Rattle.command_groups.specs.Fate.{Fate, front, device, final, ungrouped, PlacedCommand, is_device, opened_names, fates}
+
+-- what a plan is made for: the working directory, the folder of temporary files, the compilation flag, the host compiler and
+-- the environment
+pub record PlanSetting : Type 0 where
+  pub cwd : List ℕ
+  pub tmp : List ℕ
+  pub flag : List ℕ
+  pub host_compiler : NvccHostCompiler
+  pub env_vars : List (List ℕ × List ℕ)
+
+-- where a command runs: nvcc's own tools, which are of the first run, among the temporary files, all others in the working directory
+abbrev pub folder_of_run : PlanSetting → ℕ → List ℕ
+folder_of_run s run = if run == 1 then s.tmp else s.cwd
+
+-- the environment of a stage: host compilers are told, by one more pair at the end, that they compile for CUDA
+abbrev pub environment_of : Stage → List (List ℕ × List ℕ) → List (List ℕ × List ℕ)
+environment_of linking environment = environment
+environment_of splitting environment = environment
+environment_of (device_compiling name) environment = environment
+environment_of (assembling path) environment = environment
+environment_of (preprocessing name) environment = environment
+environment_of host_compiling environment = environment ++ (codes "__SCCACHE_THIS_IS_A_CUDA_COMPILATION__", []) ∷ []
+environment_of foreign environment = environment
+
+-- a command as a group holds it
+abbrev pub subcommand_of : PlanSetting → StagedCommand → NvccGeneratedSubcommand
+subcommand_of s c = record {
+  exe = c.command.program;
+  args = c.command.words;
+  cwd = folder_of_run s c.command.run;
+  env_vars = environment_of c.stage s.env_vars;
+  cacheable = cacheable_mark c.stage;
+}
+
+-- the commands whose fate passes a test, in order, and the group of them
+abbrev pub of_fate : (Fate → Bool) → List PlacedCommand → List PlacedCommand
+of_fate test commands = filter (λ p. test p.place) commands
+
+abbrev pub group_of : PlanSetting → (Fate → Bool) → List PlacedCommand → List NvccGeneratedSubcommand
+group_of s test commands = map (λ p. subcommand_of s p.staged) (of_fate test commands)
+
+-- whether a fate is the front group, and whether it is the final group
+abbrev pub is_front : Fate → Bool
+is_front front = true
+is_front (device name) = false
+is_front final = false
+is_front (ungrouped reason) = false
+
+abbrev pub is_final : Fate → Bool
+is_final front = false
+is_final (device name) = false
+is_final final = true
+is_final (ungrouped reason) = false
+
+-- a command that stands in no group, with the reason of its fate
+abbrev pub dropped_by : Fate → MergedCommand → Option Dropped
+dropped_by front c = None
+dropped_by (device name) c = None
+dropped_by final c = None
+dropped_by (ungrouped reason) c = Some (record { line = c.line; run = c.run; exe = c.program; args = c.words; reason = reason })
+
+-- the groups: the front group, a device group for each opened name, and the final group
+abbrev pub groups_of : PlanSetting → List (List ℕ) → List PlacedCommand → List (List NvccGeneratedSubcommand)
+groups_of s names commands =
+    group_of s is_front commands ∷ (map (λ name. group_of s (is_device name) commands) names ++ group_of s is_final commands ∷ [])
+
+-- the plan of staged commands: each is in the group of its fate, or dropped
+abbrev pub plan_of_staged : PlanSetting → List StagedCommand → Plan
+plan_of_staged s commands = record {
+  groups = groups_of s (opened_names commands) (fates commands);
+  dropped = filter_map (λ p. dropped_by p.place p.staged.command) (fates commands);
+}
+
+-- the staged commands of two runs
+abbrev pub staged_commands : PlanSetting → List CommandLine → List CommandLine → List StagedCommand
+staged_commands s first second = map (staged s.host_compiler s.flag) (merged first second)
+
+-- the setting of which the environment has a run's environment lines folded in
+abbrev pub with_environment : PlanSetting → List (List ℕ × List ℕ) → PlanSetting
+with_environment s variables = record { cwd = s.cwd; tmp = s.tmp; flag = s.flag; host_compiler = s.host_compiler; env_vars = with_variables s.env_vars variables }
+
+-- the plan of the commands of two runs, their words renamed where they are to be, and of the environment lines of the first
+abbrev pub plan_of : PlanSetting → List (List ℕ × List ℕ) → List CommandLine → List CommandLine → Plan
+plan_of s variables first second = plan_of_staged (with_environment s variables) (staged_commands s first second)

@@ -1,0 +1,321 @@
+-- Plans worked out by hand, of commands whose words are renamed already.
+use Rattle.std.proofs.Common.{◌≡◌, ℕ, List, [], ◌∷◌, ◌++◌, ◌==◌, codes, refl}
+use Rattle.std.specs.List.{slice_split}
+use Rattle.cuda_below.specs.declared.command.Cacheable.{Cacheable}
+use Rattle.cuda_below.specs.declared.command.Cacheable.TheVariants.{Yes, No}
+use Rattle.cuda_below.specs.declared.compiler.NvccHostCompiler.{NvccHostCompiler}
+use Rattle.cuda_below.specs.declared.compiler.NvccHostCompiler.TheVariants.{Gcc, Msvc}
+use Rattle.command_groups.specs.declared.plan.NvccGeneratedSubcommand.{NvccGeneratedSubcommand}
+use Rattle.command_groups.specs.declared.plan.Dropped.{Dropped}
+use Rattle.command_groups.specs.declared.plan.Reason.{Reason}
+use Rattle.command_groups.specs.declared.plan.Reason.TheVariants.{NotCuda, NoCiccGroup, NoPtxasGroup, Superseded}
+use Rattle.command_groups.specs.declared.plan.Plan.{Plan}
+use Rattle.dry_runs.specs.CommandLines.{CommandLine}
+use Rattle.command_groups.specs.Merge.{MergedCommand, merged}
+use Rattle.dry_runs.specs.Environment.{with_variables}
+use Rattle.command_groups.specs.Plan.{PlanSetting, plan_of}
+
+-- How the rows are written: a line's words in one text, with blanks between them.
+
+abbrev pub spaced : List ℕ → List (List ℕ)
+spaced text = slice_split (λ c. c == 32) text
+
+-- a command line of a dry run
+abbrev pub at : ℕ → List ℕ → List ℕ → CommandLine
+at line program words = (line, program, spaced words)
+
+-- the setting of most rows, under a host compiler and a compilation flag
+abbrev pub setting : NvccHostCompiler → List ℕ → PlanSetting
+setting compiler flag = record { cwd = codes "/w"; tmp = codes "/t"; flag = flag; host_compiler = compiler; env_vars = [] }
+
+-- the environment line of most rows
+abbrev pub path_set : List (List ℕ × List ℕ)
+path_set = (codes "PATH", codes "/b") ∷ []
+
+-- the plan of one list of commands for both runs
+abbrev pub plan_of_both : List CommandLine → Plan
+plan_of_both commands = plan_of (setting Gcc (codes "-c")) path_set commands commands
+
+-- what a group holds: a command in its folder, and one that host code is compiled by
+abbrev pub runs : Cacheable → List ℕ → List ℕ → List ℕ → NvccGeneratedSubcommand
+runs cacheable cwd exe words = record { exe = exe; args = spaced words; cwd = cwd; env_vars = path_set; cacheable = cacheable }
+
+abbrev pub compiles : List ℕ → List ℕ → NvccGeneratedSubcommand
+compiles exe words = record {
+  exe = exe;
+  args = spaced words;
+  cwd = codes "/w";
+  env_vars = (codes "PATH", codes "/b") ∷ (codes "__SCCACHE_THIS_IS_A_CUDA_COMPILATION__", []) ∷ [];
+  cacheable = Yes;
+}
+
+abbrev pub drops : Reason → ℕ → ℕ → List ℕ → List ℕ → Dropped
+drops reason line run exe words = record { line = line; run = run; exe = exe; args = spaced words; reason = reason }
+
+abbrev pub plan_with : List (List NvccGeneratedSubcommand) → List Dropped → Plan
+plan_with groups dropped = record { groups = groups; dropped = dropped }
+
+-- the one-kernel dry run, the names of its generated files made of a text
+abbrev pub one_kernel : List ℕ → List CommandLine
+one_kernel name =
+    at 1 (codes "/b/gcc") (codes "-D__CUDACC__ -E -x c++ kernel.cu -o " ++ (name ++ codes ".cpp4.ii")) ∷
+    at 2 (codes "/b/cudafe++") (codes "--gen_c_file_name " ++ (name ++ (codes ".cudafe1.cpp --stub_file_name " ++ (name ++ (codes ".cudafe1.stub.c --module_id_file_name kernel.module_id --simt-only " ++ (name ++ codes ".cpp4.ii")))))) ∷
+    at 3 (codes "/b/gcc") (codes "-D__CUDA_ARCH__=800 -D__CUDACC__ -E -x c++ kernel.cu -o " ++ (name ++ codes ".cpp1.ii")) ∷
+    at 4 (codes "/b/cicc") (codes "--device-c -arch compute_80 --module_id_file_name kernel.module_id --gen_c_file_name " ++ (name ++ (codes ".cudafe1.c --stub_file_name " ++ (name ++ (codes ".cudafe1.stub.c --gen_device_file_name kernel.cudafe1.gpu " ++ (name ++ codes ".cpp1.ii --simt-only -o kernel.ptx")))))) ∷
+    at 5 (codes "/b/ptxas") (codes "-arch=sm_80 --compile-only kernel.ptx -o kernel.cubin") ∷
+    at 6 (codes "/b/fatbinary") (codes "--create=kernel.fatbin --image3=kind=elf,sm=80,file=kernel.cubin --embedded-fatbin=kernel.fatbin.c --device-c") ∷
+    at 7 (codes "/b/gcc") (codes "-D__CUDA_ARCH__=800 -D__CUDACC__ -c -x c++ " ++ (name ++ codes ".cudafe1.cpp -o kernel.o")) ∷
+    []
+
+-- its plan, the names of the first run's files made of one text and those of the second run's of another
+abbrev pub one_kernel_plan : List ℕ → List ℕ → Plan
+one_kernel_plan name second =
+    plan_with
+    ((runs No (codes "/w") (codes "/b/gcc") (codes "-D__CUDACC__ -E -x c++ kernel.cu -o " ++ (second ++ codes ".cpp4.ii")) ∷
+    runs Yes (codes "/t") (codes "/b/cudafe++") (codes "--gen_c_file_name " ++ (name ++ (codes ".cudafe1.cpp --stub_file_name " ++ (name ++ (codes ".cudafe1.stub.c --gen_module_id_file --module_id_file_name kernel.module_id --simt-only " ++ (name ++ codes ".cpp4.ii")))))) ∷
+    []) ∷
+    (runs No (codes "/w") (codes "/b/gcc") (codes "-D__CUDA_ARCH__=800 -D__CUDACC__ -E -x c++ kernel.cu -o " ++ (second ++ codes ".cpp1.ii")) ∷
+    runs Yes (codes "/t") (codes "/b/cicc") (codes "--device-c -arch compute_80 --module_id_file_name kernel.module_id --gen_c_file_name " ++ (name ++ (codes ".cudafe1.c --stub_file_name " ++ (name ++ (codes ".cudafe1.stub.c --gen_device_file_name kernel.cudafe1.gpu " ++ (name ++ codes ".cpp1.ii --simt-only -o kernel.ptx")))))) ∷
+    runs Yes (codes "/t") (codes "/b/ptxas") (codes "-arch=sm_80 --compile-only kernel.ptx -o kernel.cubin") ∷
+    []) ∷
+    (runs No (codes "/t") (codes "/b/fatbinary") (codes "--create=kernel.fatbin --image3=kind=elf,sm=80,file=kernel.cubin --embedded-fatbin=kernel.fatbin.c --device-c") ∷
+    compiles (codes "/b/gcc") (codes "-D__CUDA_ARCH__=800 -D__CUDACC__ -c -x c++ " ++ (second ++ codes ".cudafe1.cpp -o kernel.o")) ∷
+    []) ∷
+    [])
+    []
+
+-- both runs with canonical names
+abbrev pub OneKernelPlan : Type 0
+OneKernelPlan =
+    plan_of_both (one_kernel (codes "x_0")) ≡ one_kernel_plan (codes "x_0") (codes "x_0")
+
+pub one_kernel_is_planned : OneKernelPlan
+one_kernel_is_planned = refl
+
+-- the second run names its files in the folder of temporary files, and the device group is the same, since it has the file name
+abbrev pub NamesInAFolder : Type 0
+NamesInAFolder =
+    plan_of (setting Gcc (codes "-c")) path_set (one_kernel (codes "x_0")) (one_kernel (codes "/t/x_0")) ≡ one_kernel_plan (codes "x_0") (codes "/t/x_0")
+
+pub names_in_a_folder : NamesInAFolder
+names_in_a_folder = refl
+
+-- no word is renamed
+abbrev pub NamesAsTheyAre : Type 0
+NamesAsTheyAre =
+    plan_of_both (one_kernel (codes "kernel")) ≡ one_kernel_plan (codes "kernel") (codes "kernel")
+
+pub names_as_they_are : NamesAsTheyAre
+names_as_they_are = refl
+
+-- runs without commands: the outer groups are there, and empty
+abbrev pub EmptyRuns : Type 0
+EmptyRuns =
+    plan_of (setting Gcc (codes "-c")) [] [] [] ≡ plan_with ([] ∷ [] ∷ []) []
+
+pub empty_runs : EmptyRuns
+empty_runs = refl
+
+-- host code alone is in the final group, and its environment says that it is compiled for CUDA
+abbrev pub HostCodeAlone : Type 0
+HostCodeAlone =
+    plan_of_both (at 2 (codes "/b/gcc") (codes "-D__NVCC__ -c x.cpp") ∷ []) ≡ plan_with ([] ∷ (compiles (codes "/b/gcc") (codes "-D__NVCC__ -c x.cpp") ∷ []) ∷ []) []
+
+pub host_code_alone : HostCodeAlone
+host_code_alone = refl
+
+-- a preprocess step and cicc, twice over
+abbrev pub step_and_cicc_twice : List CommandLine
+step_and_cicc_twice =
+    at 1 (codes "/b/gcc") (codes "-D__NVCC__ -E k.cu -o x_0.cpp1.ii") ∷
+    at 2 (codes "/b/cicc") (codes "x_0.cpp1.ii -o k.ptx") ∷
+    at 3 (codes "/b/gcc") (codes "-D__NVCC__ -E k.cu -o x_0.cpp1.ii") ∷
+    at 4 (codes "/b/cicc") (codes "x_0.cpp1.ii -o k.ptx") ∷
+    []
+
+abbrev pub superseded_pair : List Dropped
+superseded_pair =
+    drops Superseded 1 2 (codes "/b/gcc") (codes "-D__NVCC__ -E k.cu -o x_0.cpp1.ii") ∷
+    drops Superseded 2 1 (codes "/b/cicc") (codes "x_0.cpp1.ii -o k.ptx") ∷
+    []
+
+abbrev pub step_and_cicc : List NvccGeneratedSubcommand
+step_and_cicc =
+    runs No (codes "/w") (codes "/b/gcc") (codes "-D__NVCC__ -E k.cu -o x_0.cpp1.ii") ∷
+    runs Yes (codes "/t") (codes "/b/cicc") (codes "x_0.cpp1.ii -o k.ptx") ∷
+    []
+
+-- a step that opens a name again supersedes the commands that were in its group
+abbrev pub ReopenedGroup : Type 0
+ReopenedGroup =
+    plan_of_both step_and_cicc_twice ≡ plan_with ([] ∷ step_and_cicc ∷ [] ∷ []) superseded_pair
+
+pub reopened_group : ReopenedGroup
+reopened_group = refl
+
+-- the first ptxas joins the group whose last command makes its input; after that the last command makes another file, and the second one joins none
+abbrev pub SecondPtxas : Type 0
+SecondPtxas =
+    plan_of_both (step_and_cicc_twice ++ (at 5 (codes "/b/ptxas") (codes "k.ptx -o a.cubin") ∷ at 6 (codes "/b/ptxas") (codes "k.ptx -o b.cubin") ∷ [])) ≡
+    plan_with
+    ([] ∷ (step_and_cicc ++ runs Yes (codes "/t") (codes "/b/ptxas") (codes "k.ptx -o a.cubin") ∷ []) ∷ [] ∷ [])
+    (superseded_pair ++ drops NoPtxasGroup 6 1 (codes "/b/ptxas") (codes "k.ptx -o b.cubin") ∷ [])
+
+pub second_ptxas : SecondPtxas
+second_ptxas = refl
+
+-- cl preprocesses by `-P`, and gcc doesn't
+abbrev pub cl_step : List CommandLine
+cl_step = at 1 (codes "/b/cl") (codes "-D__NVCC__ -P k.cu -o x_0.cpp1.ii") ∷ []
+
+-- under Msvc the step opens a group
+abbrev pub PreprocessesForMsvc : Type 0
+PreprocessesForMsvc =
+    plan_of (setting Msvc (codes "-c")) path_set cl_step cl_step ≡ plan_with ([] ∷ (runs No (codes "/w") (codes "/b/cl") (codes "-D__NVCC__ -P k.cu -o x_0.cpp1.ii") ∷ []) ∷ [] ∷ []) []
+
+pub preprocesses_for_msvc : PreprocessesForMsvc
+preprocesses_for_msvc = refl
+
+-- under Gcc the same command compiles host code
+abbrev pub CompilesForGcc : Type 0
+CompilesForGcc =
+    plan_of_both cl_step ≡ plan_with ([] ∷ (compiles (codes "/b/cl") (codes "-D__NVCC__ -P k.cu -o x_0.cpp1.ii") ∷ []) ∷ []) []
+
+pub compiles_for_gcc : CompilesForGcc
+compiles_for_gcc = refl
+
+-- a step and a cicc that says twice that the module id file is made
+abbrev pub step_and_generating_cicc : List CommandLine
+step_and_generating_cicc =
+    at 1 (codes "/b/gcc") (codes "-D__NVCC__ -E k.cu -o x_0.cpp1.ii") ∷
+    at 2 (codes "/b/cicc") (codes "--gen_module_id_file --gen_module_id_file x_0.cpp1.ii -o k.ptx") ∷
+    []
+
+abbrev pub step_and_cicc_with : List ℕ → List NvccGeneratedSubcommand
+step_and_cicc_with words = runs No (codes "/w") (codes "/b/gcc") (codes "-D__NVCC__ -E k.cu -o x_0.cpp1.ii") ∷ runs Yes (codes "/t") (codes "/b/cicc") words ∷ []
+
+-- where objects are made, cicc loses the first of the two words
+abbrev pub CiccLosesOneWord : Type 0
+CiccLosesOneWord =
+    plan_of_both step_and_generating_cicc ≡ plan_with ([] ∷ step_and_cicc_with (codes "--gen_module_id_file x_0.cpp1.ii -o k.ptx") ∷ [] ∷ []) []
+
+pub cicc_loses_one_word : CiccLosesOneWord
+cicc_loses_one_word = refl
+
+-- under another flag it keeps both
+abbrev pub CiccKeepsItsWords : Type 0
+CiccKeepsItsWords =
+    plan_of (setting Gcc (codes "-ptx")) path_set step_and_generating_cicc step_and_generating_cicc ≡
+    plan_with ([] ∷ step_and_cicc_with (codes "--gen_module_id_file --gen_module_id_file x_0.cpp1.ii -o k.ptx") ∷ [] ∷ []) []
+
+pub cicc_keeps_its_words : CiccKeepsItsWords
+cicc_keeps_its_words = refl
+
+-- a command that defines no macro of CUDA is dropped
+abbrev pub NotForCuda : Type 0
+NotForCuda =
+    plan_of_both (at 1 (codes "/b/") (codes "x") ∷ []) ≡ plan_with ([] ∷ [] ∷ []) (drops NotCuda 1 2 (codes "/b/") (codes "x") ∷ [])
+
+pub not_for_cuda : NotForCuda
+not_for_cuda = refl
+
+-- a program without a stem is of neither run
+abbrev pub ProgramWithoutAStem : Type 0
+ProgramWithoutAStem =
+    plan_of (setting Gcc (codes "-c")) ((codes "PATH", codes "/") ∷ []) (at 1 (codes "/") (codes "x") ∷ []) (at 1 (codes "/") (codes "x") ∷ []) ≡ plan_with ([] ∷ [] ∷ []) []
+
+pub program_without_a_stem : ProgramWithoutAStem
+program_without_a_stem = refl
+
+-- a step without a word after its `-o` opens no group
+abbrev pub StepWithoutAnOutput : Type 0
+StepWithoutAnOutput =
+    plan_of_both (at 1 (codes "/b/gcc") (codes "-D__NVCC__ -E k.cu -o") ∷ []) ≡ plan_with ((runs No (codes "/w") (codes "/b/gcc") (codes "-D__NVCC__ -E k.cu -o") ∷ []) ∷ [] ∷ []) []
+
+pub step_without_an_output : StepWithoutAnOutput
+step_without_an_output = refl
+
+-- nor does one whose output has no file name
+abbrev pub StepWithoutAFileName : Type 0
+StepWithoutAFileName =
+    plan_of_both (at 1 (codes "/b/gcc") (codes "-D__NVCC__ -E k.cu -o ..") ∷ []) ≡ plan_with ((runs No (codes "/w") (codes "/b/gcc") (codes "-D__NVCC__ -E k.cu -o ..") ∷ []) ∷ [] ∷ []) []
+
+pub step_without_a_file_name : StepWithoutAFileName
+step_without_a_file_name = refl
+
+-- the output with a `/` at its end is no generated name, but its file name opens a group, which cicc with its canonical name misses
+abbrev pub OutputWithASlash : Type 0
+OutputWithASlash =
+    plan_of_both (at 1 (codes "/b/gcc") (codes "-D__NVCC__ -E k.cu -o k.cpp1.ii/") ∷ at 2 (codes "/b/cicc") (codes "x_0.cpp1.ii -o k.ptx") ∷ []) ≡
+    plan_with
+    ([] ∷ (runs No (codes "/w") (codes "/b/gcc") (codes "-D__NVCC__ -E k.cu -o k.cpp1.ii/") ∷ []) ∷ [] ∷ [])
+    (drops NoCiccGroup 2 1 (codes "/b/cicc") (codes "x_0.cpp1.ii -o k.ptx") ∷ [])
+
+pub output_with_a_slash : OutputWithASlash
+output_with_a_slash = refl
+
+-- two groups: cicc and ptxas join the one that makes their input, which is the second; cicc and ptxas that name no input join none
+abbrev pub SecondGroupIsJoined : Type 0
+SecondGroupIsJoined =
+    plan_of_both
+    (at 1 (codes "/b/gcc") (codes "-D__NVCC__ -E k.cu -o x_0.cpp1.ii") ∷
+    at 2 (codes "/b/gcc") (codes "-D__NVCC__ -E k.cu -o x_1.cpp1.ii") ∷
+    at 3 (codes "/b/cicc") (codes "x_1.cpp1.ii -o b.ptx") ∷
+    at 4 (codes "/b/ptxas") (codes "b.ptx -o b.cubin") ∷
+    at 5 (codes "/b/cicc") (codes "-o b.ptx") ∷
+    at 6 (codes "/b/ptxas") (codes "-o b.cubin") ∷
+    []) ≡
+    plan_with
+    ([] ∷
+    (runs No (codes "/w") (codes "/b/gcc") (codes "-D__NVCC__ -E k.cu -o x_0.cpp1.ii") ∷ []) ∷
+    (runs No (codes "/w") (codes "/b/gcc") (codes "-D__NVCC__ -E k.cu -o x_1.cpp1.ii") ∷
+    runs Yes (codes "/t") (codes "/b/cicc") (codes "x_1.cpp1.ii -o b.ptx") ∷
+    runs Yes (codes "/t") (codes "/b/ptxas") (codes "b.ptx -o b.cubin") ∷
+    []) ∷
+    [] ∷
+    [])
+    (drops NoCiccGroup 5 1 (codes "/b/cicc") (codes "-o b.ptx") ∷ drops NoPtxasGroup 6 1 (codes "/b/ptxas") (codes "-o b.cubin") ∷ [])
+
+pub second_group_is_joined : SecondGroupIsJoined
+second_group_is_joined = refl
+
+-- a command as the merged list holds it
+abbrev pub planned : ℕ → ℕ → List ℕ → MergedCommand
+planned line run program = record { line = line; run = run; program = program; words = [] ∷ [] }
+
+-- commands are merged by line, and on one line the first run comes first; each run has its own programs
+abbrev pub MergedByLineAndRun : Type 0
+MergedByLineAndRun =
+    merged (at 0 (codes "/b/gcc") [] ∷ at 2 (codes "/b/nvlink") [] ∷ at 4 (codes "/b/cicc") [] ∷ []) (at 0 (codes "/b/ptxas") [] ∷ at 2 (codes "/b/gcc") [] ∷ at 3 (codes "/b/cicc.sh.exe") [] ∷ []) ≡
+    (planned 2 1 (codes "/b/nvlink") ∷ planned 2 2 (codes "/b/gcc") ∷ planned 3 2 (codes "/b/cicc.sh.exe") ∷ planned 4 1 (codes "/b/cicc") ∷ [])
+
+pub merged_by_line_and_run : MergedByLineAndRun
+merged_by_line_and_run = refl
+
+-- a known variable gets its value where it stands first, a new one comes last
+abbrev pub FoldedEnvironment : Type 0
+FoldedEnvironment =
+    with_variables ((codes "PATH", codes "/x") ∷ (codes "Q", codes "1") ∷ (codes "PATH", codes "/y") ∷ []) ((codes "PATH", codes "/b") ∷ (codes "R", codes "2") ∷ []) ≡
+    ((codes "PATH", codes "/b") ∷ (codes "Q", codes "1") ∷ (codes "PATH", codes "/y") ∷ (codes "R", codes "2") ∷ [])
+
+pub folded_environment : FoldedEnvironment
+folded_environment = refl
+
+-- a setting whose environment has the name of the pair that host compilers get
+abbrev pub marked_setting : PlanSetting
+marked_setting = record (setting Gcc (codes "-c")) { env_vars = (codes "__SCCACHE_THIS_IS_A_CUDA_COMPILATION__", codes "1") ∷ [] }
+
+-- the pair comes last even where the name is known
+abbrev pub MarkedTwice : Type 0
+MarkedTwice =
+    plan_of marked_setting path_set [] (at 1 (codes "/b/gcc") (codes "-D__NVCC__ -c x.cpp") ∷ []) ≡
+    plan_with
+    ([] ∷
+    (record (compiles (codes "/b/gcc") (codes "-D__NVCC__ -c x.cpp")) {
+      env_vars = (codes "__SCCACHE_THIS_IS_A_CUDA_COMPILATION__", codes "1") ∷ (codes "PATH", codes "/b") ∷ (codes "__SCCACHE_THIS_IS_A_CUDA_COMPILATION__", []) ∷ [];
+    } ∷ []) ∷
+    [])
+    []
+
+pub marked_twice : MarkedTwice
+marked_twice = refl

@@ -1,0 +1,157 @@
+-- What a merged command does in a compilation: its words as they are run, and its stage.
+use Rattle.std.specs.Prelude.{ℕ, List, [], ◌∷◌, Bool, not, ◌||◌, nat_eq, if◌then◌else◌, Option, Some, None, find, codes}
+use Rattle.std.specs.List.{list_any, starts_with}
+use Rattle.std.specs.Option.{option_and_then}
+use Rattle.std.specs.Str.{bytes_eq}
+use Rattle.cuda_below.specs.declared.command.Cacheable.{Cacheable}
+use Rattle.cuda_below.specs.declared.command.Cacheable.TheVariants.{Yes, No}
+use Rattle.cuda_below.specs.Path.{file_name_of, file_stem_of}
+use Rattle.cuda_below.specs.declared.compiler.NvccHostCompiler.{NvccHostCompiler}
+use Rattle.cuda_below.specs.declared.compiler.NvccHostCompiler.TheVariants.{Gcc, Msvc, Nvhpc}
+use Rattle.cuda_below.specs.DeviceFiles.{is_cicc_word, is_ptxas_word}
+use Rattle.command_groups.specs.Merge.{MergedCommand}
+use Rattle.cuda_below.specs.Lists.{word_after}
+use Rattle.cuda_below.specs.ObjectFlags.{makes_objects}
+
+-- the kinds of programs: nvcc's linkers, cudafe++, cicc, ptxas, and any other program
+pub data ProgramKind : Type 0 where
+  linker : ProgramKind
+  cudafe : ProgramKind
+  cicc : ProgramKind
+  ptxas : ProgramKind
+  other : ProgramKind
+
+abbrev pub kind_of_stem : List ℕ → ProgramKind
+kind_of_stem stem =
+    if bytes_eq stem (codes "fatbinary") || bytes_eq stem (codes "nvlink") then linker else
+    (if bytes_eq stem (codes "cudafe++") then cudafe else
+    (if bytes_eq stem (codes "cicc") then cicc else
+    (if bytes_eq stem (codes "ptxas") then ptxas else other)))
+
+-- the kind of a program, by its stem; a program without one is any other
+abbrev pub kind_of_optional_stem : Option (List ℕ) → ProgramKind
+kind_of_optional_stem None = other
+kind_of_optional_stem (Some stem) = kind_of_stem stem
+
+abbrev pub kind_of_program : List ℕ → ProgramKind
+kind_of_program program = kind_of_optional_stem (file_stem_of program)
+
+-- Edited words.
+
+-- whether a word stands among words
+abbrev pub has_word : List ℕ → List (List ℕ) → Bool
+has_word word words = list_any (bytes_eq word) words
+
+-- words with a new one right before the first that is a given word; as they are where none is
+abbrev pub with_word_before : List ℕ → List ℕ → List (List ℕ) → List (List ℕ)
+with_word_before new word [] = []
+with_word_before new word (w ∷ ws) = if bytes_eq word w then new ∷ w ∷ ws else w ∷ with_word_before new word ws
+
+-- words without the first that is a given word
+abbrev pub without_first_word : List ℕ → List (List ℕ) → List (List ℕ)
+without_first_word word [] = []
+without_first_word word (w ∷ ws) = if bytes_eq word w then ws else w ∷ without_first_word word ws
+
+-- cudafe++'s words: where they don't say that the module id file is made, that is said right before the first option that
+-- names the file
+abbrev pub cudafe_edit : List (List ℕ) → List (List ℕ)
+cudafe_edit words =
+    if has_word (codes "--gen_module_id_file") words then words else with_word_before (codes "--gen_module_id_file") (codes "--module_id_file_name") words
+
+-- cicc's words: where objects are made, they lose the first word that says that the module id file is made
+abbrev pub cicc_edit : List ℕ → List (List ℕ) → List (List ℕ)
+cicc_edit flag words = if makes_objects flag then without_first_word (codes "--gen_module_id_file") words else words
+
+-- the words of a program, edited; only those of cudafe++ and of cicc are
+abbrev pub edited_by : ProgramKind → List ℕ → List (List ℕ) → List (List ℕ)
+edited_by linker flag words = words
+edited_by cudafe flag words = cudafe_edit words
+edited_by cicc flag words = cicc_edit flag words
+edited_by ptxas flag words = words
+edited_by other flag words = words
+
+-- a merged command with edited words, under a compilation flag
+abbrev pub edited : List ℕ → MergedCommand → MergedCommand
+edited flag c = record { line = c.line; run = c.run; program = c.program; words = edited_by (kind_of_program c.program) flag c.words }
+
+-- Stages.
+
+-- the stages of commands: linking device code; splitting host code from device code; compiling device code, of the
+-- preprocessed file that is named; assembling it, of the file that is named; preprocessing, into the device group of a
+-- name or into none; compiling host code; and what has nothing to do with CUDA
+pub data Stage : Type 0 where
+  linking : Stage
+  splitting : Stage
+  device_compiling : Option (List ℕ) → Stage
+  assembling : Option (List ℕ) → Stage
+  preprocessing : Option (List ℕ) → Stage
+  host_compiling : Stage
+  foreign : Stage
+
+-- the beginnings of words that define a macro of CUDA's
+abbrev pub cuda_macros : List (List ℕ)
+cuda_macros = codes "-D__CUDACC__" ∷ codes "-D__NVCC__" ∷ codes "-D__CUDA_ARCH__" ∷ codes "-D__CUDA_ARCH_LIST__" ∷ []
+
+abbrev pub defines_cuda : List ℕ → Bool
+defines_cuda word = list_any (starts_with nat_eq word) cuda_macros
+
+-- the word by which a host compiler is told to preprocess only
+abbrev pub preprocess_word : NvccHostCompiler → List ℕ
+preprocess_word Gcc = codes "-E"
+preprocess_word Msvc = codes "-P"
+preprocess_word Nvhpc = codes "-E"
+
+-- a name that ends as a preprocessed device file does
+abbrev pub device_name : List ℕ → Option (List ℕ)
+device_name name = if is_cicc_word name then Some name else None
+
+-- the name that a preprocess step opens a group by: the file name of the word after its first `-o`, where that ends as a
+-- preprocessed device file does
+abbrev pub opened_name : List (List ℕ) → Option (List ℕ)
+opened_name words = option_and_then device_name (option_and_then file_name_of (word_after (codes "-o") words))
+
+-- the stage of a program that isn't nvcc's own
+abbrev pub host_stage : NvccHostCompiler → List (List ℕ) → Stage
+host_stage compiler words =
+    if not (list_any defines_cuda words) then foreign else
+    (if has_word (preprocess_word compiler) words then preprocessing (opened_name words) else host_compiling)
+
+-- the stage of a program with its edited words
+abbrev pub stage_by : ProgramKind → NvccHostCompiler → List (List ℕ) → Stage
+stage_by linker compiler words = linking
+stage_by cudafe compiler words = splitting
+stage_by cicc compiler words = device_compiling (find is_cicc_word words)
+stage_by ptxas compiler words = assembling (find is_ptxas_word words)
+stage_by other compiler words = host_stage compiler words
+
+-- a command, its words edited, and its stage
+pub record StagedCommand : Type 0 where
+  pub command : MergedCommand
+  pub stage : Stage
+
+abbrev pub staged_words : NvccHostCompiler → MergedCommand → StagedCommand
+staged_words compiler c = record { command = c; stage = stage_by (kind_of_program c.program) compiler c.words }
+
+-- a merged command with its edited words and its stage, under a host compiler and a compilation flag
+abbrev pub staged : NvccHostCompiler → List ℕ → MergedCommand → StagedCommand
+staged compiler flag c = staged_words compiler (edited flag c)
+
+-- the name that a stage opens a group by, if any
+abbrev pub opens : Stage → Option (List ℕ)
+opens linking = None
+opens splitting = None
+opens (device_compiling name) = None
+opens (assembling path) = None
+opens (preprocessing name) = name
+opens host_compiling = None
+opens foreign = None
+
+-- whether the outputs of a stage may come from a cache
+abbrev pub cacheable_mark : Stage → Cacheable
+cacheable_mark linking = No
+cacheable_mark splitting = Yes
+cacheable_mark (device_compiling name) = Yes
+cacheable_mark (assembling path) = Yes
+cacheable_mark (preprocessing name) = No
+cacheable_mark host_compiling = Yes
+cacheable_mark foreign = No

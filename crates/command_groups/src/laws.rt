@@ -1,0 +1,76 @@
+//! Laws of plans, and plans worked out by hand, which the definitions compute.
+
+ghost use Rattle.cuda_below.specs.Equality.{TellsEqual};
+ghost use Rattle.command_groups.specs.FateLaws.{EachHasOneFate, DeviceGroupsBeginWithTheirStep, OuterGroupsAreThere};
+ghost use Rattle.command_groups.specs.MergeLaws.{MergedIsInOrder, MergedAreTheSelected};
+ghost use Rattle.command_groups.specs.PlanOfBytesRows.{OneKernelFromBytes, OtherNamesFromBytes, TemporaryNamesFromBytes, KeptNamesFromBytes, NothingFromBytes, HostCodeFromBytes, SecondRunIsBad, FirstRunIsBad, SecondPtxasFromBytes, OutputWithASlashFromBytes, NamelessFromBytes};
+ghost use Rattle.command_groups.specs.PlanRows.{OneKernelPlan, NamesInAFolder, NamesAsTheyAre, EmptyRuns, HostCodeAlone, ReopenedGroup, SecondPtxas, PreprocessesForMsvc, CompilesForGcc, CiccLosesOneWord, CiccKeepsItsWords, NotForCuda, ProgramWithoutAStem, StepWithoutAnOutput, StepWithoutAFileName, OutputWithASlash, SecondGroupIsJoined, MergedByLineAndRun, FoldedEnvironment, MarkedTwice};
+
+use crate::plan::{Dropped, DroppedCommands, Groups, NvccGeneratedSubcommand, Plan, Reason};
+
+/// `==` on the records of plans compares all fields: it says whether two values are equal.
+pub fn equality()
+    ensures command { TellsEqual ⟦<NvccGeneratedSubcommand as PartialEq>⟧.eq }
+    ensures reason { TellsEqual ⟦<Reason as PartialEq>⟧.eq }
+    ensures dropped_command { TellsEqual ⟦<Dropped as PartialEq>⟧.eq }
+    ensures groups { TellsEqual ⟦<Groups as PartialEq>⟧.eq }
+    ensures dropped_commands { TellsEqual ⟦<DroppedCommands as PartialEq>⟧.eq }
+    ensures plan { TellsEqual ⟦<Plan as PartialEq>⟧.eq }
+{}
+
+/// Laws of the merged list: it stands in order of line and run (`in_order`), and it is the selected commands of both
+/// runs, each once (`selected`).
+pub fn merge()
+    ensures in_order { MergedIsInOrder }
+    ensures selected { MergedAreTheSelected }
+{}
+
+/// Laws of the groups of plans.
+///
+/// The commands of all groups and the dropped ones are together all merged commands, each once (`one_fate`). Each
+/// device group begins with the step that last opened its name, and so is never empty (`steps`). There are a group for
+/// each opened name and the outer two, which are always there (`outer`).
+pub fn fates()
+    ensures one_fate { EachHasOneFate }
+    ensures steps { DeviceGroupsBeginWithTheirStep }
+    ensures outer { OuterGroupsAreThere }
+{}
+
+/// What dry runs are planned as, by the definitions.
+pub fn worked_plans()
+    ensures one_kernel_is_planned { OneKernelPlan }
+    ensures names_in_a_folder { NamesInAFolder }
+    ensures names_as_they_are { NamesAsTheyAre }
+    ensures empty_runs { EmptyRuns }
+    ensures host_code_alone { HostCodeAlone }
+    ensures reopened_group { ReopenedGroup }
+    ensures second_ptxas { SecondPtxas }
+    ensures preprocesses_for_msvc { PreprocessesForMsvc }
+    ensures compiles_for_gcc { CompilesForGcc }
+    ensures cicc_loses_one_word { CiccLosesOneWord }
+    ensures cicc_keeps_its_words { CiccKeepsItsWords }
+    ensures not_for_cuda { NotForCuda }
+    ensures program_without_a_stem { ProgramWithoutAStem }
+    ensures step_without_an_output { StepWithoutAnOutput }
+    ensures step_without_a_file_name { StepWithoutAFileName }
+    ensures output_with_a_slash { OutputWithASlash }
+    ensures second_group_is_joined { SecondGroupIsJoined }
+    ensures merged_by_line_and_run { MergedByLineAndRun }
+    ensures folded_environment { FoldedEnvironment }
+    ensures marked_twice { MarkedTwice }
+{}
+
+/// What dry runs are planned as, from their bytes on, by the definitions.
+pub fn worked_plans_from_bytes()
+    ensures one_kernel_from_bytes { OneKernelFromBytes }
+    ensures other_names_from_bytes { OtherNamesFromBytes }
+    ensures temporary_names_from_bytes { TemporaryNamesFromBytes }
+    ensures kept_names_from_bytes { KeptNamesFromBytes }
+    ensures nothing_from_bytes { NothingFromBytes }
+    ensures host_code_from_bytes { HostCodeFromBytes }
+    ensures second_run_is_bad { SecondRunIsBad }
+    ensures first_run_is_bad { FirstRunIsBad }
+    ensures second_ptxas_from_bytes { SecondPtxasFromBytes }
+    ensures output_with_a_slash_from_bytes { OutputWithASlashFromBytes }
+    ensures nameless_from_bytes { NamelessFromBytes }
+{}

@@ -1,0 +1,7 @@
+//! What one `nvcc` call runs: its commands in groups, and those that it drops, each with a reason.
+#![tactic(auto)]
+
+pub mod laws;
+mod plan;
+
+pub use plan::{Dropped, DroppedCommands, Groups, NvccGeneratedSubcommand, Plan, Reason};

@@ -1,9 +1,0 @@
-use Rattle.cuda_plans.proofs.RereadNeeds.{empty_value_is_needed, one_input_is_needed, absolute_folder_is_needed}
-use Rattle.cuda_plans.proofs.laws.rereading_needs.Goals as goal
-
-pub returns : goal.returns
-returns c = record {
-  empty_value = empty_value_is_needed;
-  one_input = one_input_is_needed;
-  absolute_folder = absolute_folder_is_needed;
-}

@@ -1,8 +1,0 @@
-use Rattle.std.proofs.Common.{◌≡◌, ◌++◌, map, drop}
-use Rattle.cuda_below.specs.Variables.{pair_of}
-use Rattle.cuda_plans.specs.Nvcc.{without_flags}
-use Rattle.cuda_plans.proofs.nvcc.environment.without_flags.Given as goal
-
-abbrev pub invariant-loop-pair : goal.invariant-loop-pair
-invariant-loop-pair l =
-    l.left ++ without_flags (map pair_of (drop l.pair-index l.env_vars)) ≡ without_flags (map pair_of l.env_vars)

@@ -1,6 +1,0 @@
-use Rattle.std.proofs.Common.{◌∙◌}
-use Rattle.cuda_plans.proofs.NumberLemmas.{number_parsed}
-use Rattle.cuda_plans.proofs.nvcc.taking.number_in.Goals as goal
-
-pub returns : goal.returns
-returns c = c.ok.ensures.value ∙ number_parsed c.args.text.now c.parse.result c.parse.ensures.value.0

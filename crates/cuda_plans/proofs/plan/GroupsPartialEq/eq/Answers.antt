@@ -1,9 +1,0 @@
-use Rattle.std.proofs.Common.{◌∙◌}
-use Rattle.cuda_plans.specs.contracts.plan.NvccGeneratedSubcommandPartialEq.TheImpl as compared
-use Rattle.cuda_plans.proofs.GroupLemmas.{groups_compared}
-use Rattle.cuda_plans.proofs.plan.GroupsPartialEq.eq.Goals as goal
-
-pub returns : goal.returns
-returns c =
-    rw (← c.as_slice.ensures, ← c.as_slice-2.ensures)
-    (c.eq.ensures ∙ groups_compared (compared.eq-value).it c.as_slice.result.now c.as_slice-2.result.now)

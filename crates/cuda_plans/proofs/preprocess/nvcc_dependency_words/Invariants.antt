@@ -1,8 +1,0 @@
-use Rattle.std.proofs.Common.{◌≡◌, ◌++◌, map, string_bytes, drop}
-use Rattle.cuda_plans.specs.Preprocess.{nvcc_dependency_word}
-use Rattle.cuda_plans.proofs.preprocess.nvcc_dependency_words.Given as goal
-
--- the words replaced so far, and the rest replaced, are all words replaced
-abbrev pub invariant-loop-word : goal.invariant-loop-word
-invariant-loop-word l =
-    l.replaced ++ map nvcc_dependency_word (map string_bytes (drop l.word-index l.words)) ≡ map nvcc_dependency_word (map string_bytes l.words)

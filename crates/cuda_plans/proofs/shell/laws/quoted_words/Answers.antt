@@ -1,8 +1,0 @@
-use Rattle.cuda_plans.proofs.ShellQuotingLemmas.{quoted_text, quoted_reads}
-use Rattle.cuda_plans.proofs.shell.laws.quoted_words.Goals as goal
-
-pub returns-clause-grammar : goal.returns-clause-grammar
-returns-clause-grammar c = quoted_text
-
-pub returns-clause-computed : goal.returns-clause-computed
-returns-clause-computed c = quoted_reads

@@ -1,8 +1,0 @@
-//! The words of a shell command: splitting a text into them, and writing them so that they are read back.
-
-pub mod laws;
-mod quoting;
-mod splitting;
-
-pub use quoting::quote;
-pub use splitting::split;

@@ -1,0 +1,10 @@
+pub mod AnswerLemmas
+pub mod PlaceLemmas
+pub mod ReadingLemmas
+pub mod RereadItems
+pub mod RereadLaw
+pub mod RereadNeeds
+pub mod RereadOutputs
+pub mod RereadPicks
+pub mod RereadPlaces
+pub mod RereadWords

@@ -1,0 +1,191 @@
+-- What the items of a line have of the entries that its words choose, and of the line's words.
+use Rattle.std.proofs.Common.{◌≡◌, ℕ, List, [], ◌∷◌, ◌++◌, Bool, true, false, cond, not, ◌&&◌, eqb, Option, Some, None, refl, ap, subst, codes}
+use Rattle.std.specs.List.{AllByRecursion, fold}
+use Rattle.std.specs.Option.{is_some, option_and_then}
+use Rattle.std.specs.Str.{bytes_eq}
+use Rattle.std.proofs.lemmas.Bool.{false≢true}
+use Rattle.cuda_below.specs.declared.table.ArgDisposition.{ArgDisposition}
+use Rattle.cuda_below.specs.declared.table.ArgDisposition.TheVariants.{Separated, Concatenated, CanBeSeparated, CanBeConcatenated}
+use Rattle.cuda_below.specs.Table.{Entry, Matched, lone, joined, awaiting, rest_after, matched_rest, matched, is_longer, longer_match, longest_match}
+use Rattle.cuda_below.specs.Items.{Item, raw, unknown_flag, flag, with_value, faulty, Said, item, option, items, said_by, said_of, unmatched_item, last_item, separate_item, joined_form, separate_form, may_stand_last, words_of}
+use Rattle.cuda_below.specs.WordsLaw.{is_joined, is_whole}
+use Rattle.cuda_below.proofs.WordsLemmas.{words-are_those_read}
+use Rattle.device_lines.specs.declared.cicc.ArgData.{ArgData}
+use Rattle.device_lines.specs.declared.cicc.ArgData.TheVariants.{Output, PassThrough, UnhashedFlag, GenModuleIdFileFlag, ModuleIdFileName, UnhashedPassThrough, UnhashedOutput}
+use Rattle.device_lines.specs.Reread.{is_filled, AllFilled}
+
+-- what all entries of a list pass, a chosen entry passes
+module _ (passes : Entry ArgData → Bool) (word : List ℕ) where
+  folded-passes : (es : List (Entry ArgData)) (best : Option (Entry ArgData)) → AllByRecursion (λ e. passes e ≡ true) es → ((e : Entry ArgData) → best ≡ Some e → passes e ≡ true) → (e : Entry ArgData) → fold (longer_match word) best es ≡ Some e → passes e ≡ true
+  folded-passes [] best all before = before
+  folded-passes (f ∷ es) best all before =
+      folded-passes es (longer_match word best f) all.1 (
+      elim (is_some (matched f word) && is_longer f best)
+      as (λ b. (e : Entry ArgData) → cond b (Some f) best ≡ Some e → passes e ≡ true)
+      [ true ↦ λ e is. let same : f ≡ e = cc in subst (λ g. passes g ≡ true) same all.0 | false ↦ before ]
+      )
+
+  pub chosen-passes : (es : List (Entry ArgData)) → AllByRecursion (λ e. passes e ≡ true) es → (e : Entry ArgData) → longest_match es word ≡ Some e → passes e ≡ true
+  chosen-passes es all e is = folded-passes es None all (λ f none. let never : None ≡ Some f = none in cc) e is
+
+-- what holds of what a word says
+abbrev pub SaidHolds : (Item ArgData → Type 0) → Said ArgData → Type 0
+SaidHolds R (item i) = R i
+SaidHolds R (option e) = ((x : List ℕ) → R (separate_item e x)) × R (last_item e)
+
+module _ (chosen : List ℕ → Option (Entry ArgData)) (R : Item ArgData → Type 0) (other : (w : List ℕ) → R (unmatched_item w)) (says : (w : List ℕ) (e : Entry ArgData) → chosen w ≡ Some e → (m : Matched) → matched e w ≡ Some m → SaidHolds R (said_by e w (Some m))) where
+  said-holds : (w : List ℕ) → SaidHolds R (said_of w (chosen w))
+  said-holds w = elim (chosen w) as (λ c. chosen w ≡ c → SaidHolds R (said_of w c)) [ None ↦ λ _. other w | Some e ↦ λ at. by_match e at (matched e w) refl ] refl where
+    by_match : (e : Entry ArgData) → chosen w ≡ Some e → (m : Option Matched) → matched e w ≡ m → SaidHolds R (said_by e w m)
+    by_match e at None none = other w
+    by_match e at (Some m) is = says w e at m is
+
+  -- what holds of what every word says holds of all items
+  pub all-items : (line : List (List ℕ)) → AllByRecursion R (items chosen line)
+  all-items [] = tt
+  all-items (w ∷ []) =
+      elim (said_of w (chosen w)) as (λ s. SaidHolds R s → AllByRecursion R (elim s as (λ _. List (Item ArgData)) [ item j ↦ j ∷ [] | option e ↦ last_item e ∷ [] ]))
+      [ item j ↦ λ h. (h, tt) | option e ↦ λ h. (h.1, tt) ] (said-holds w)
+  all-items (w ∷ x ∷ rest) =
+      let later = all-items (x ∷ rest) in
+      let past = all-items rest in
+      elim (said_of w (chosen w)) as (λ s. SaidHolds R s → AllByRecursion R (elim s as (λ _. List (Item ArgData)) [ item j ↦ j ∷ items chosen (x ∷ rest) | option e ↦ separate_item e x ∷ items chosen rest ]))
+      [ item j ↦ λ h. (h, later) | option e ↦ λ h. (h.0 x, past) ] (said-holds w)
+
+-- a word of no option
+unmatched-test : (test : Item ArgData → Bool) → ((w : List ℕ) → test (raw w) ≡ true) → ((w : List ℕ) → test (unknown_flag w) ≡ true) → (w : List ℕ) → test (unmatched_item w) ≡ true
+unmatched-test test one other [] = one []
+unmatched-test test one other (c ∷ cs) = elim (eqb c 45) as (λ b. test (cond b (unknown_flag (c ∷ cs)) (raw (c ∷ cs))) ≡ true) [ true ↦ other (c ∷ cs) | false ↦ one (c ∷ cs) ]
+
+-- an option whose value is always the next word, and one that may also be a flag
+abbrev pub is_separated : Option ArgDisposition → Bool
+is_separated None = false
+is_separated (Some Separated) = true
+is_separated (Some (Concatenated d)) = false
+is_separated (Some (CanBeSeparated d)) = false
+is_separated (Some (CanBeConcatenated d)) = false
+
+abbrev pub is_plain : Option ArgDisposition → Bool
+is_plain None = true
+is_plain (Some Separated) = true
+is_plain (Some (Concatenated d)) = false
+is_plain (Some (CanBeSeparated d)) = false
+is_plain (Some (CanBeConcatenated d)) = false
+
+-- a value that is the next word is not joined
+separate-apart : (form : Option ArgDisposition) → is_joined (separate_form form) ≡ false
+separate-apart None = refl
+separate-apart (Some Separated) = refl
+separate-apart (Some (Concatenated d)) = refl
+separate-apart (Some (CanBeSeparated d)) = refl
+separate-apart (Some (CanBeConcatenated d)) = refl
+
+-- a flag has no joined value
+flag-no_value : (rest : Option (List ℕ)) (value : List ℕ) → option_and_then (matched_rest None) rest ≡ Some (joined value) → ⊥
+flag-no_value None value h = cc
+flag-no_value (Some []) value h = cc
+flag-no_value (Some (c ∷ cs)) value h = cc
+
+-- over options that are flags or have the next word as their value, no value is both joined and empty
+plain-joined : (form : Option ArgDisposition) (rest : Option (List ℕ)) (value : List ℕ) → is_plain form ≡ true → option_and_then (matched_rest form) rest ≡ Some (joined value) → not (is_joined (joined_form form) && bytes_eq value []) ≡ true
+plain-joined None rest value h at = absurd (flag-no_value rest value at)
+plain-joined (Some Separated) rest value h at = refl
+plain-joined (Some (Concatenated d)) rest value h at = absurd (false≢true h)
+plain-joined (Some (CanBeSeparated d)) rest value h at = absurd (false≢true h)
+plain-joined (Some (CanBeConcatenated d)) rest value h at = absurd (false≢true h)
+
+plain-last : (text : List ℕ) (kind : ArgData) (form : Option ArgDisposition) → is_plain form ≡ true → is_filled (cond (may_stand_last form) (with_value text kind [] (joined_form form)) faulty) ≡ true
+plain-last text kind None h = refl
+plain-last text kind (Some Separated) h = refl
+plain-last text kind (Some (Concatenated d)) h = absurd (false≢true h)
+plain-last text kind (Some (CanBeSeparated d)) h = absurd (false≢true h)
+plain-last text kind (Some (CanBeConcatenated d)) h = absurd (false≢true h)
+
+pub plain-filled : (chosen : List ℕ → Option (Entry ArgData)) → ((w : List ℕ) (e : Entry ArgData) → chosen w ≡ Some e → is_plain e.form ≡ true) → (line : List (List ℕ)) → AllFilled (items chosen line)
+plain-filled chosen plain line = all-items chosen (λ i. is_filled i ≡ true) (unmatched-test is_filled (λ _. refl) (λ _. refl)) says line where
+  says : (w : List ℕ) (e : Entry ArgData) → chosen w ≡ Some e → (m : Matched) → matched e w ≡ Some m → SaidHolds (λ i. is_filled i ≡ true) (said_by e w (Some m))
+  says w e at lone is = refl
+  says w e at (joined value) is = plain-joined e.form (rest_after e.text w) value (plain w e at) is
+  says w e at awaiting is = (λ x. ap (λ b. not (b && bytes_eq x [])) (separate-apart e.form), plain-last e.text e.kind e.form (plain w e at))
+
+-- the output's option has the next word as its value, and no option that names another output has the text `obj`
+abbrev pub fits : ArgData → List ℕ → Bool → Bool
+fits Output text apart = apart
+fits PassThrough text apart = true
+fits UnhashedFlag text apart = true
+fits GenModuleIdFileFlag text apart = true
+fits ModuleIdFileName text apart = true
+fits UnhashedPassThrough text apart = true
+fits UnhashedOutput text apart = not (bytes_eq (codes "obj") text)
+
+abbrev pub entry_fits : Entry ArgData → Bool
+entry_fits e = fits e.kind e.text (is_separated e.form)
+
+abbrev pub item_fits : Item ArgData → Bool
+item_fits (raw word) = true
+item_fits (unknown_flag word) = true
+item_fits (flag text kind) = fits kind text true
+item_fits (with_value text kind value form) = fits kind text (not (is_joined form))
+item_fits faulty = true
+
+-- such an entry with another way to stand, where that is apart wherever the entry's is
+fits-wider : (kind : ArgData) (text : List ℕ) (a b : Bool) → (a ≡ true → b ≡ true) → fits kind text a ≡ true → fits kind text b ≡ true
+fits-wider Output text a b wider h = wider h
+fits-wider PassThrough text a b wider h = refl
+fits-wider UnhashedFlag text a b wider h = refl
+fits-wider GenModuleIdFileFlag text a b wider h = refl
+fits-wider ModuleIdFileName text a b wider h = refl
+fits-wider UnhashedPassThrough text a b wider h = refl
+fits-wider UnhashedOutput text a b wider h = h
+
+separated-apart : (form : Option ArgDisposition) → is_separated form ≡ true → not (is_joined (joined_form form)) ≡ true
+separated-apart None h = absurd (false≢true h)
+separated-apart (Some Separated) h = refl
+separated-apart (Some (Concatenated d)) h = absurd (false≢true h)
+separated-apart (Some (CanBeSeparated d)) h = absurd (false≢true h)
+separated-apart (Some (CanBeConcatenated d)) h = absurd (false≢true h)
+
+pub all-fit : (chosen : List ℕ → Option (Entry ArgData)) → ((w : List ℕ) (e : Entry ArgData) → chosen w ≡ Some e → entry_fits e ≡ true) → (line : List (List ℕ)) → AllByRecursion (λ i. item_fits i ≡ true) (items chosen line)
+all-fit chosen suit line = all-items chosen (λ i. item_fits i ≡ true) (unmatched-test item_fits (λ _. refl) (λ _. refl)) says line where
+  joined-fits : (e : Entry ArgData) (value : List ℕ) → entry_fits e ≡ true → item_fits (with_value e.text e.kind value (joined_form e.form)) ≡ true
+  joined-fits e value h = fits-wider e.kind e.text (is_separated e.form) (not (is_joined (joined_form e.form))) (separated-apart e.form) h
+
+  last-fits : (e : Entry ArgData) (b : Bool) → entry_fits e ≡ true → item_fits (cond b (with_value e.text e.kind [] (joined_form e.form)) faulty) ≡ true
+  last-fits e true h = joined-fits e [] h
+  last-fits e false h = refl
+
+  says : (w : List ℕ) (e : Entry ArgData) → chosen w ≡ Some e → (m : Matched) → matched e w ≡ Some m → SaidHolds (λ i. item_fits i ≡ true) (said_by e w (Some m))
+  says w e at lone is = fits-wider e.kind e.text (is_separated e.form) true (λ _. refl) (suit w e at)
+  says w e at (joined value) is = joined-fits e value (suit w e at)
+  says w e at awaiting is =
+      (λ x. fits-wider e.kind e.text (is_separated e.form) (not (is_joined (separate_form e.form))) (λ _. ap not (separate-apart e.form)) (suit w e at), last-fits e (may_stand_last e.form) (suit w e at))
+
+-- what holds of all words of a line holds of all words of its whole items
+pub all-left : {X : Type 0} (P : X → Type 0) (xs ys : List X) → AllByRecursion P (xs ++ ys) → AllByRecursion P xs
+all-left P [] ys h = tt
+all-left P (x ∷ xs) ys h = (h.0, all-left P xs ys h.1)
+
+module _ (chosen : List ℕ → Option (Entry ArgData)) (P : List ℕ → Type 0) where
+  -- the words of an item are among those of which it holds
+  abbrev pub HasGoodWords : Item ArgData → Type 0
+  HasGoodWords i = is_whole i ≡ true → AllByRecursion P (words_of i)
+
+  first-words : (line : List (List ℕ)) (i : Item ArgData) (later : List (Item ArgData)) → items chosen line ≡ i ∷ later → AllByRecursion P line → HasGoodWords i
+  first-words line i later is good whole =
+      let read = words-are_those_read chosen line i later is whole in
+      all-left P (words_of i) read.0 (subst (AllByRecursion P) read.1 good)
+
+  pub items-words : (line : List (List ℕ)) → AllByRecursion P line → AllByRecursion HasGoodWords (items chosen line)
+  items-words [] good = tt
+  items-words (w ∷ []) good =
+      elim (said_of w (chosen w)) as (λ s. said_of w (chosen w) ≡ s → AllByRecursion HasGoodWords (elim s as (λ _. List (Item ArgData)) [ item j ↦ j ∷ [] | option e ↦ last_item e ∷ [] ])) [
+        | item j ↦ λ said. (first-words (w ∷ []) j [] (ap (λ s. elim s as (λ _. List (Item ArgData)) [ item j ↦ j ∷ [] | option e ↦ last_item e ∷ [] ]) said) good, tt)
+        | option e ↦ λ said. (first-words (w ∷ []) (last_item e) [] (ap (λ s. elim s as (λ _. List (Item ArgData)) [ item j ↦ j ∷ [] | option e ↦ last_item e ∷ [] ]) said) good, tt)
+      ] refl
+  items-words (w ∷ x ∷ rest) good =
+      let later = items-words (x ∷ rest) good.1 in
+      let past = items-words rest good.1.1 in
+      elim (said_of w (chosen w)) as (λ s. said_of w (chosen w) ≡ s → AllByRecursion HasGoodWords (elim s as (λ _. List (Item ArgData)) [ item j ↦ j ∷ items chosen (x ∷ rest) | option e ↦ separate_item e x ∷ items chosen rest ])) [
+        | item j ↦ λ said. (first-words (w ∷ x ∷ rest) j (items chosen (x ∷ rest)) (ap (λ s. elim s as (λ _. List (Item ArgData)) [ item j ↦ j ∷ items chosen (x ∷ rest) | option e ↦ separate_item e x ∷ items chosen rest ]) said) good, later)
+        | option e ↦ λ said. (first-words (w ∷ x ∷ rest) (separate_item e x) (items chosen rest) (ap (λ s. elim s as (λ _. List (Item ArgData)) [ item j ↦ j ∷ items chosen (x ∷ rest) | option e ↦ separate_item e x ∷ items chosen rest ]) said) good, past)
+      ] refl

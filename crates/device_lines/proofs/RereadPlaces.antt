@@ -1,0 +1,229 @@
+-- Where the input stands in a line, in the words left of it, and in the line that it is written back as.
+use Rattle.std.proofs.Common.{◌≡◌, ℕ, zero, suc, ◌+◌, ◌-◌, ◌≤◌, ◌<◌, List, [], ◌∷◌, ◌++◌, Bool, true, false, cond, not, ◌&&◌, ◌||◌, eqb, eqb-true, ne_eqb, Option, Some, None, refl, ap, sym, ◌∙◌, subst, append_assoc, append-nil, filter, length, drop, reverse, nat_lt, nat_le, nat_eq, arith, codes}
+use Rattle.std.specs.List.{AllByRecursion, position, prefix_len, remove, slice_index_or, ends_with}
+use Rattle.std.specs.Option.{option_map}
+use Rattle.std.specs.Cmp.Lexicographic.{pointwise}
+use Rattle.std.proofs.Math.Seq.{drop-append-add, get_or-append_seam}
+use Rattle.std.proofs.lemmas.Bool.{false≢true, and_parts}
+use Rattle.std.proofs.lemmas.Bool.Decides.{Decides-ltb, nat_tests}
+use Rattle.std.proofs.lemmas.List.{length-append, drop-append-le}
+use Rattle.cuda_below.specs.declared.language.Language.{Language}
+use Rattle.cuda_below.specs.declared.language.Language.TheVariants.{C, Cxx, ObjectiveC, ObjectiveCxx, Cuda, CudaFE, Ptx, Cubin}
+use Rattle.cuda_below.specs.Path.{is_absolute_path, separator_after, joined, lacks}
+use Rattle.cuda_below.proofs.PathLemmas.{ends_slash, forwards, false-not_true, not-is}
+use Rattle.device_lines.specs.Cicc.{is_input_word}
+use Rattle.device_lines.proofs.RereadWords.{all-append}
+use Rattle.device_lines.specs.Reading.{place_from_end, first_place, input_place}
+
+-- the first place of a list with one more element in front
+position-cons : {X : Type 0} (p : X → Bool) (x : X) (xs : List X) → position p (x ∷ xs) ≡ cond (p x) (Some 0) (option_map suc (position p xs))
+position-cons p x xs = at-test (p x) where
+  shifted : (at count : ℕ) → cond (nat_lt (1 + at) (suc count)) (Some (1 + at)) None ≡ option_map suc (cond (nat_lt at count) (Some at) None)
+  shifted at count =
+      elim (nat_lt at count) as (λ b. nat_lt at count ≡ b → cond (nat_lt (1 + at) (suc count)) (Some (1 + at)) None ≡ option_map suc (cond b (Some at) None)) [
+        | true ↦ λ h.
+            let less : at < count = (Decides-ltb at count).0 h in
+            let more : nat_lt (1 + at) (suc count) ≡ true = (Decides-ltb (1 + at) (suc count)).1 (omega arith) in
+            let next : 1 + at ≡ suc at = omega arith in
+            rw more (ap Some next)
+        | false ↦ λ h.
+            let more : nat_lt (1 + at) (suc count) ≡ false = false-not_true (nat_lt (1 + at) (suc count)) (λ e. let less : 1 + at < suc count = (Decides-ltb (1 + at) (suc count)).0 e in false≢true (sym h ∙ (Decides-ltb at count).1 (omega arith))) in
+            rw more refl
+      ] refl
+
+  first : (count : ℕ) → cond {A = Option ℕ} (nat_lt 0 (suc count)) (Some 0) None ≡ Some 0
+  first count = let some : nat_lt 0 (suc count) ≡ true = (Decides-ltb 0 (suc count)).1 (omega arith) in rw some refl
+
+  at-test : (b : Bool) → cond (nat_lt (cond {A = ℕ} (not b) (1 + prefix_len (λ y. not (p y)) xs) 0) (suc (length xs))) (Some (cond {A = ℕ} (not b) (1 + prefix_len (λ y. not (p y)) xs) 0)) None ≡ cond b (Some 0) (option_map suc (position p xs))
+  at-test true = first (length xs)
+  at-test false = shifted (prefix_len (λ y. not (p y)) xs) (length xs)
+
+module _ {X : Type 0} (p : X → Bool) where
+  -- no element passes
+  abbrev pub NonePass : List X → Type 0
+  NonePass xs = AllByRecursion (λ x. p x ≡ false) xs
+
+  -- after elements that don't pass, the first place is that of the element after them, where it passes
+  pub position-after : (xs : List X) (y : X) (ys : List X) → NonePass xs → p y ≡ true → position p (xs ++ y ∷ ys) ≡ Some (length xs)
+  position-after [] y ys h e = position-cons p y ys ∙ rw e refl
+  position-after (x ∷ xs) y ys h e = position-cons p x (xs ++ y ∷ ys) ∙ rw (h.0, position-after xs y ys h.1 e) refl
+
+  pub position-none : (xs : List X) → NonePass xs → position p xs ≡ None
+  position-none [] h = refl
+  position-none (x ∷ xs) h = position-cons p x xs ∙ rw (h.0, position-none xs h.1) refl
+
+  none-position : (xs : List X) → position p xs ≡ None → NonePass xs
+  none-position [] h = tt
+  none-position (x ∷ xs) h =
+      elim (p x) as (λ b. p x ≡ b → cond b (Some 0) (option_map suc (position p xs)) ≡ None → NonePass (x ∷ xs)) [
+        | true ↦ λ e k. absurd (never 0 k)
+        | false ↦ λ e k. (e, none-position xs (unmapped (position p xs) k))
+      ] refl (sym (position-cons p x xs) ∙ h) where
+        never : (n : ℕ) → Some n ≡ None → ⊥
+        never n h = cc
+
+        unmapped : (o : Option ℕ) → option_map suc o ≡ None → o ≡ None
+        unmapped None h = refl
+        unmapped (Some n) h = cc
+
+  -- where at most no element passes, none does
+  filter-none : (xs : List X) → length (filter p xs) ≤ 0 → NonePass xs
+  filter-none [] h = tt
+  filter-none (x ∷ xs) h =
+      elim (p x) as (λ b. p x ≡ b → length (cond b (x ∷ filter p xs) (filter p xs)) ≤ 0 → NonePass (x ∷ xs))
+      [ true ↦ λ e k. absurd (some (filter p xs) k) | false ↦ λ e k. (e, filter-none xs k) ] refl h where
+        some : (ys : List X) → length (x ∷ ys) ≤ 0 → ⊥
+        some ys h = omega arith
+
+  none-removed : (xs : List X) (place : ℕ) → NonePass xs → NonePass (remove xs place)
+  none-removed [] zero h = tt
+  none-removed [] (suc place) h = tt
+  none-removed (x ∷ xs) zero h = h.1
+  none-removed (x ∷ xs) (suc place) h = (h.0, none-removed xs place h.1)
+
+  -- without the first element that passes, none does where at most one did
+  one-removed : (xs : List X) (place : ℕ) → length (filter p xs) ≤ 1 → position p xs ≡ Some place → NonePass (remove xs place)
+  one-removed [] place h at = let never : None ≡ Some place = at in cc
+  one-removed (x ∷ xs) place h at =
+      elim (p x) as (λ b. p x ≡ b → length (cond b (x ∷ filter p xs) (filter p xs)) ≤ 1 → cond b (Some 0) (option_map suc (position p xs)) ≡ Some place → NonePass (remove (x ∷ xs) place)) [
+        | true ↦ λ e k is.
+            let first : 0 ≡ place = cc in
+            subst (λ n. NonePass (remove (x ∷ xs) n)) first (filter-none xs (fewer (filter p xs) k))
+        | false ↦ λ e k is.
+            elim (position p xs) as (λ o. position p xs ≡ o → option_map suc o ≡ Some place → NonePass (remove (x ∷ xs) place)) [
+              | None ↦ λ found none. let never : None ≡ Some place = none in cc
+              | Some at' ↦ λ found some.
+                  let next : suc at' ≡ place = cc in
+                  subst (λ n. NonePass (remove (x ∷ xs) n)) next (e, one-removed xs at' k found)
+            ] refl is
+      ] refl h (sym (position-cons p x xs) ∙ at) where
+        fewer : (ys : List X) → length (x ∷ ys) ≤ 1 → length ys ≤ 0
+        fewer ys h = omega arith
+
+-- the words left of a line, where at most one of its words is by its end the input
+pub rest-none : (language : Language) (offset : ℕ) (words : List (List ℕ)) (place : ℕ) → length (filter (is_input_word language) words) ≤ 1 → input_place language offset words ≡ Some place → NonePass (is_input_word language) (remove words place)
+rest-none language offset words place few at =
+    elim (position (is_input_word language) words) as (λ o. position (is_input_word language) words ≡ o → first_place o (place_from_end offset (length words)) ≡ Some place → NonePass (is_input_word language) (remove words place)) [
+      | None ↦ λ none _. none-removed (is_input_word language) words place (none-position (is_input_word language) words none)
+      | Some first ↦ λ found is.
+          let same : first ≡ place = cc in
+          one-removed (is_input_word language) words place few (found ∙ ap Some same)
+    ] refl at
+
+-- the place from the end, where so many words stand before it
+from-end : (offset before count : ℕ) → 0 < offset → count ≡ before + offset → place_from_end offset count ≡ Some before
+from-end offset before count some e =
+    let positive : nat_lt 0 offset ≡ true = (Decides-ltb 0 offset).1 some in
+    let within : nat_le offset count ≡ true = grind (arith, nat_tests) in
+    let same : count - offset ≡ before = omega arith in
+    rw (positive, within) (ap Some same)
+
+-- the input of a line that is written with it as the third last word
+pub third-last : (language : Language) (words : List (List ℕ)) (input option path : List ℕ) → NonePass (is_input_word language) words → is_input_word language option ≡ false → is_input_word language path ≡ false → input_place language 3 (words ++ input ∷ option ∷ path ∷ []) ≡ Some (length words)
+third-last language words input option path none other away =
+    let test = is_input_word language in
+    let back = place_from_end 3 (length (words ++ input ∷ option ∷ path ∷ [])) in
+    elim (test input) as (λ b. test input ≡ b → first_place (position test (words ++ input ∷ option ∷ path ∷ [])) back ≡ Some (length words)) [
+      | true ↦ λ e. ap (λ o. first_place o back) (position-after test words input (option ∷ path ∷ []) none e)
+      | false ↦ λ e.
+          let nowhere = position-none test (words ++ input ∷ option ∷ path ∷ []) (all-append (λ w. test w ≡ false) words (input ∷ option ∷ path ∷ []) none (e, (other, (away, tt)))) in
+          ap (λ o. first_place o back) nowhere ∙ from-end 3 (length words) (length (words ++ input ∷ option ∷ path ∷ [])) (omega arith) (length-append words (input ∷ option ∷ path ∷ []))
+    ] refl
+
+-- the input of a cudafe++ line that is written with it as the last word
+none-host : (words : List (List ℕ)) → NonePass (is_input_word CudaFE) words
+none-host [] = tt
+none-host (w ∷ words) = (refl, none-host words)
+
+pub host-words : (words : List (List ℕ)) → length (filter (is_input_word CudaFE) words) ≤ 1
+host-words [] = omega arith
+host-words (w ∷ words) = host-words words
+
+pub last-place : (words : List (List ℕ)) (input : List ℕ) → input_place CudaFE 1 (words ++ input ∷ []) ≡ Some (length words)
+last-place words input =
+    ap (λ o. first_place o (place_from_end 1 (length (words ++ input ∷ [])))) (position-none (is_input_word CudaFE) (words ++ input ∷ []) (none-host (words ++ input ∷ [])))
+    ∙ from-end 1 (length words) (length (words ++ input ∷ [])) (omega arith) (length-append words (input ∷ []))
+
+-- a line with its input cut out
+pub cut-word : {X : Type 0} (xs : List X) (y : X) (ys : List X) (d : X) → slice_index_or (xs ++ y ∷ ys) (length xs) d ≡ y
+cut-word xs y ys d = get_or-append_seam xs y ys d
+
+pub cut-rest : {X : Type 0} (xs : List X) (y : X) (ys : List X) → remove (xs ++ y ∷ ys) (length xs) ≡ xs ++ ys
+cut-rest [] y ys = refl
+cut-rest (x ∷ xs) y ys = ap (λ t. x ∷ t) (cut-rest xs y ys)
+
+-- an end without `/` isn't longer than what follows the last `/`
+apart-slash : (needle front name : List ℕ) → lacks 47 needle ≡ true → pointwise nat_eq needle (front ++ 47 ∷ name) ≡ false
+apart-slash [] [] name h = refl
+apart-slash [] (x ∷ front) name h = refl
+apart-slash (c ∷ needle) [] name h =
+    let parts = and_parts (not (eqb c 47)) (lacks 47 needle) h in
+    ap (λ b. b && pointwise nat_eq needle name) (not-is 47 c parts.0)
+apart-slash (c ∷ needle) (x ∷ front) name h =
+    let parts = and_parts (not (eqb c 47)) (lacks 47 needle) h in
+    ap (λ b. eqb c x && b) (apart-slash needle front name parts.1) ∙ and_false (eqb c x) where
+      and_false : (b : Bool) → (b && false) ≡ false
+      and_false true = refl
+      and_false false = refl
+
+ends-below : (needle front name : List ℕ) → lacks 47 needle ≡ true → ends_with nat_eq name needle ≡ false → ends_with nat_eq (front ++ 47 ∷ name) needle ≡ false
+ends-below needle front name bare none =
+    let count : length (front ++ 47 ∷ name) ≡ length front + length (47 ∷ name) = length-append front (47 ∷ name) in
+    elim (nat_le (length needle) (length name)) as (λ b. nat_le (length needle) (length name) ≡ b → ends_with nat_eq (front ++ 47 ∷ name) needle ≡ false) [
+      | true ↦ λ e.
+          let fits : length needle ≤ length name = grind (arith, nat_tests) in
+          let start : length (front ++ 47 ∷ name) - length needle ≡ length (front ++ 47 ∷ []) + (length name - length needle) = omega (arith, length-append front (47 ∷ [])) in
+          let parted : front ++ 47 ∷ name ≡ (front ++ 47 ∷ []) ++ name = sym (append_assoc front (47 ∷ []) name) in
+          ap (λ n. pointwise nat_eq needle (drop n (front ++ 47 ∷ name))) start
+          ∙ (ap (λ t. pointwise nat_eq needle (drop (length (front ++ 47 ∷ []) + (length name - length needle)) t)) parted
+          ∙ (ap (pointwise nat_eq needle) (drop-append-add (front ++ 47 ∷ []) name (length name - length needle)) ∙ none))
+      | false ↦ λ e.
+          let longer : length name < length needle = grind (arith, nat_tests) in
+          let early : length (front ++ 47 ∷ name) - length needle ≤ length front = omega arith in
+          ap (pointwise nat_eq needle) (drop-append-le (length (front ++ 47 ∷ name) - length needle) front (47 ∷ name) early)
+          ∙ apart-slash needle (drop (length (front ++ 47 ∷ name) - length needle) front) name bare
+    ] refl
+
+-- what stands before a name that is put below an absolute folder ends in `/`
+folder-slash : (cwd : List ℕ) → is_absolute_path cwd ≡ true → (front : List ℕ) × (cwd ++ separator_after cwd ≡ front ++ 47 ∷ [])
+folder-slash [] h = absurd (false≢true h)
+folder-slash (c ∷ cs) h =
+    let some : eqb (length (c ∷ cs)) 0 ≡ false = ne_eqb (length (c ∷ cs)) 0 (λ e. omega arith) in
+    elim (ends_with nat_eq (c ∷ cs) (47 ∷ [])) as (λ b. ends_with nat_eq (c ∷ cs) (47 ∷ []) ≡ b → (front : List ℕ) × ((c ∷ cs) ++ separator_after (c ∷ cs) ≡ front ++ 47 ∷ [])) [
+      | true ↦ λ e. slash (reverse (c ∷ cs)) refl some e (sym (ends_slash (c ∷ cs)) ∙ e)
+      | false ↦ λ e. (c ∷ cs, ap (λ b. (c ∷ cs) ++ cond (b || ends_with nat_eq (c ∷ cs) (47 ∷ [])) [] (47 ∷ [])) some ∙ ap (λ b. (c ∷ cs) ++ cond b [] (47 ∷ [])) e)
+    ] refl where
+      slash : (back : List ℕ) → reverse (c ∷ cs) ≡ back → eqb (length (c ∷ cs)) 0 ≡ false → ends_with nat_eq (c ∷ cs) (47 ∷ []) ≡ true → is_absolute_path back ≡ true → (front : List ℕ) × ((c ∷ cs) ++ separator_after (c ∷ cs) ≡ front ++ 47 ∷ [])
+      slash [] e some ends k = absurd (false≢true k)
+      slash (d ∷ before) e some ends k =
+          let nothing : separator_after (c ∷ cs) ≡ [] = ap (λ b. cond (b || ends_with nat_eq (c ∷ cs) (47 ∷ [])) [] (47 ∷ [])) some ∙ ap (λ b. cond b [] (47 ∷ [])) ends in
+          (reverse before, ap (λ t. (c ∷ cs) ++ t) nothing ∙ (append-nil (c ∷ cs) ∙ (forwards (c ∷ cs) before d e ∙ ap (λ n. reverse before ++ n ∷ []) (eqb-true d 47 k))))
+
+joined-end : (needle cwd path : List ℕ) → lacks 47 needle ≡ true → is_absolute_path cwd ≡ true → ends_with nat_eq path needle ≡ false → ends_with nat_eq (joined cwd path) needle ≡ false
+joined-end needle cwd path bare root none =
+    let folder = folder-slash cwd root in
+    elim (is_absolute_path path) as (λ b. ends_with nat_eq (cond b path ((cwd ++ separator_after cwd) ++ path)) needle ≡ false) [
+      | true ↦ none
+      | false ↦ ap (λ t. ends_with nat_eq t needle) (ap (λ t. t ++ path) folder.1 ∙ append_assoc folder.0 (47 ∷ []) path) ∙ ends-below needle folder.0 path bare none
+    ]
+
+-- a path below an absolute folder is an input by its end only where its text is
+pub joined-away : (language : Language) (cwd path : List ℕ) → is_absolute_path cwd ≡ true → is_input_word language path ≡ false → is_input_word language (joined cwd path) ≡ false
+joined-away Ptx cwd path root none = joined-end (codes ".cpp1.ii") cwd path refl root none
+joined-away Cubin cwd path root none = joined-end (codes ".ptx") cwd path refl root none
+joined-away C cwd path root none = refl
+joined-away Cxx cwd path root none = refl
+joined-away ObjectiveC cwd path root none = refl
+joined-away ObjectiveCxx cwd path root none = refl
+joined-away Cuda cwd path root none = refl
+joined-away CudaFE cwd path root none = refl
+
+-- a path that was put below an absolute folder is absolute, and so stays where it is put there again
+joined-absolute : (cwd path : List ℕ) → is_absolute_path cwd ≡ true → is_absolute_path (joined cwd path) ≡ true
+joined-absolute [] path root = absurd (false≢true root)
+joined-absolute (c ∷ cs) path root =
+    elim (is_absolute_path path) as (λ b. is_absolute_path path ≡ b → is_absolute_path (cond b path (((c ∷ cs) ++ separator_after (c ∷ cs)) ++ path)) ≡ true)
+    [ true ↦ λ e. e | false ↦ λ e. root ] refl
+
+pub joined-twice : (cwd path : List ℕ) → is_absolute_path cwd ≡ true → joined cwd (joined cwd path) ≡ joined cwd path
+joined-twice cwd path root = ap (λ b. cond b (joined cwd path) ((cwd ++ separator_after cwd) ++ joined cwd path)) (joined-absolute cwd path root)

@@ -1,0 +1,10 @@
+pub mod Cicc
+pub mod CudaFE
+pub mod DeviceRows
+pub mod DeviceWords
+pub mod Gathered
+pub mod Input
+pub mod Ptxas
+pub mod Reading
+pub mod Reread
+pub mod RereadRows

@@ -1,0 +1,99 @@
+-- Lines that are read, written back and read again: what is claimed of them, and under which premises.
+use Rattle.std.specs.Prelude.{◌≡◌, ℕ, ◌≤◌, List, [], ◌++◌, Bool, true, not, ◌&&◌, Option, Some, Ok, IfSome, length, filter}
+use Rattle.std.specs.List.{AllByRecursion, flat_map, remove}
+use Rattle.std.specs.Str.{bytes_eq}
+use Rattle.cuda_below.specs.declared.language.Language.{Language}
+use Rattle.cuda_below.specs.declared.language.Language.TheVariants.{Ptx, CudaFE, Cubin}
+use Rattle.cuda_below.specs.declared.arguments.ParsedArguments.{ParsedArguments}
+use Rattle.cuda_below.specs.declared.command.SingleCompileCommand.{SingleCompileCommand}
+use Rattle.cuda_below.specs.declared.command.Cacheable.{Cacheable}
+use Rattle.cuda_below.specs.Path.{is_absolute_path}
+use Rattle.cuda_below.specs.Table.{Entry, longest_match}
+use Rattle.cuda_below.specs.Items.{Item, raw, unknown_flag, flag, with_value, faulty, items, words_of}
+use Rattle.cuda_below.specs.WordsLaw.{is_joined}
+use Rattle.device_lines.specs.declared.cicc.ArgData.{ArgData}
+use Rattle.device_lines.specs.Cicc.{cicc_options, is_input_word}
+use Rattle.device_lines.specs.CudaFE.{cudafe_options}
+use Rattle.device_lines.specs.Ptxas.{ptxas_options}
+use Rattle.device_lines.specs.Reading.{common_items, unhashed_items, input_place, reading}
+use Rattle.cuda_below.specs.Command.{written}
+use Rattle.device_lines.specs.DeviceWords.{cicc_words, cudafe_words}
+
+module _ {T : Type 0} where
+  -- whether an item lacks no value: none that it has is both joined to its option and empty
+  abbrev pub is_filled : Item T → Bool
+  is_filled (raw word) = true
+  is_filled (unknown_flag word) = true
+  is_filled (flag text kind) = true
+  is_filled (with_value text kind value form) = not (is_joined form && bytes_eq value [])
+  is_filled faulty = true
+
+  -- no item of a list has a value that is both joined and empty
+  abbrev pub AllFilled : List (Item T) → Type 0
+  AllFilled is = AllByRecursion (λ i. is_filled i ≡ true) is
+
+module _ (chosen : List ℕ → Option (Entry ArgData)) where
+  -- the common words and the unhashed words of a line from which the input was cut out
+  abbrev pub common_words : List (List ℕ) → List (List ℕ)
+  common_words line = flat_map words_of (common_items (items chosen line))
+
+  abbrev pub unhashed_words : List (List ℕ) → List (List ℕ)
+  unhashed_words line = flat_map words_of (unhashed_items (items chosen line))
+
+  -- a line's common words and then its unhashed ones are read as the items that they were written for
+  abbrev pub KeptWordsReadBack : Type 0
+  KeptWordsReadBack =
+      (line : List (List ℕ)) → AllFilled (items chosen line) → items chosen (common_words line ++ unhashed_words line) ≡ common_items (items chosen line) ++ unhashed_items (items chosen line)
+
+  -- and as a line they have the same common words and the same unhashed ones
+  abbrev pub KeptWordsStay : Type 0
+  KeptWordsStay =
+      (line : List (List ℕ)) → AllFilled (items chosen line) → (common_words (common_words line ++ unhashed_words line) ≡ common_words line) × (unhashed_words (common_words line ++ unhashed_words line) ≡ unhashed_words line)
+
+-- at most one word of a line is by its end the input of the tool that makes this kind of file
+abbrev pub AtMostOneInputWord : Language → List (List ℕ) → Type 0
+AtMostOneInputWord language words = length (filter (is_input_word language) words) ≤ 1
+
+-- no option of a line has an empty value joined to it; the input is no part of an option
+abbrev pub NoEmptyValue : List (Entry ArgData) → Language → ℕ → List (List ℕ) → Type 0
+NoEmptyValue options language offset words =
+    IfSome (input_place language offset words) (λ place. AllFilled (items (longest_match options) (remove words place)))
+
+-- a line rereads: where it was read and its writing wasn't refused, the words of the command that it is written
+-- back as are read, at the same working directory, as the same arguments
+abbrev pub Rereads : List (Entry ArgData) → Language → ℕ → (ParsedArguments → List ℕ → List (List ℕ)) → List ℕ → List (List ℕ) → Type 0
+Rereads options language offset words_to_write cwd words =
+    (arguments : ParsedArguments) (executable : List ℕ) (env_vars : List (List ℕ × List ℕ)) (command : SingleCompileCommand × Cacheable) →
+    reading (longest_match options) cwd language offset words ≡ Some arguments →
+    written words_to_write executable arguments cwd env_vars ≡ Ok command →
+    reading (longest_match options) cwd language offset command.0.arguments ≡ Some arguments
+
+-- cicc's lines reread at an absolute working directory, where at most one word has the input's suffix
+abbrev pub CiccLinesReread : Type 0
+CiccLinesReread =
+    (cwd : List ℕ) (words : List (List ℕ)) → is_absolute_path cwd ≡ true → AtMostOneInputWord Ptx words → Rereads cicc_options Ptx 3 cicc_words cwd words
+
+-- so do ptxas's, where besides no option has an empty value joined to it
+abbrev pub PtxasLinesReread : Type 0
+PtxasLinesReread =
+    (cwd : List ℕ) (words : List (List ℕ)) → is_absolute_path cwd ≡ true → AtMostOneInputWord Cubin words → NoEmptyValue ptxas_options Cubin 3 words → Rereads ptxas_options Cubin 3 cicc_words cwd words
+
+-- cudafe++'s lines reread at every absolute working directory
+abbrev pub CudaFELinesReread : Type 0
+CudaFELinesReread = (cwd : List ℕ) (words : List (List ℕ)) → is_absolute_path cwd ≡ true → Rereads cudafe_options CudaFE 1 cudafe_words cwd words
+
+-- The same with a premise left out. None of these is so.
+
+-- ptxas's lines, also with an empty value that is joined to its option
+abbrev pub PtxasLinesRereadWithEmptyValues : Type 0
+PtxasLinesRereadWithEmptyValues =
+    (cwd : List ℕ) (words : List (List ℕ)) → is_absolute_path cwd ≡ true → AtMostOneInputWord Cubin words → Rereads ptxas_options Cubin 3 cicc_words cwd words
+
+-- ptxas's lines, also with several words that have the input's suffix
+abbrev pub PtxasLinesRereadWithSeveralInputs : Type 0
+PtxasLinesRereadWithSeveralInputs =
+    (cwd : List ℕ) (words : List (List ℕ)) → is_absolute_path cwd ≡ true → NoEmptyValue ptxas_options Cubin 3 words → Rereads ptxas_options Cubin 3 cicc_words cwd words
+
+-- cicc's lines, at any working directory
+abbrev pub CiccLinesRereadAnywhere : Type 0
+CiccLinesRereadAnywhere = (cwd : List ℕ) (words : List (List ℕ)) → AtMostOneInputWord Ptx words → Rereads cicc_options Ptx 3 cicc_words cwd words

@@ -1,0 +1,112 @@
+//! The command lines of ptxas, which makes machine code of PTX.
+
+ghost use Rattle.std.specs.Prelude.{◌≡◌, map};
+ghost use Rattle.cuda_below.specs.Table.{entry_of};
+ghost use Rattle.device_lines.specs.Ptxas.{ptxas_options};
+
+use crate::cicc::{self, ArgData};
+use cuda_below::arguments::{CompilerArguments, ParsedArguments};
+use cuda_below::command::{Cacheable, SingleCompileCommand};
+use cuda_below::compiler::{CCompilerImpl, CCompilerKind, Places};
+use cuda_below::fault::Fault;
+use cuda_below::language::Language;
+use cuda_below::table::{ArgDisposition, ArgInfo, Table};
+use cuda_below::text::Text;
+use std::alloc::{AllocError, Global};
+
+const SEPARATED_OR_EQUALS: ArgDisposition = ArgDisposition::CanBeSeparated(Some(b'='));
+
+/// ptxas's options, as sccache 0.19.0's table has them.
+pub const ARGS: [ArgInfo<ArgData>; 3] = [
+    ArgInfo::TakeArg("-arch", ArgData::PassThrough, SEPARATED_OR_EQUALS),
+    ArgInfo::TakeArg("-m", ArgData::PassThrough, SEPARATED_OR_EQUALS),
+    ArgInfo::TakeArg("-o", ArgData::Output, ArgDisposition::Separated),
+];
+
+/// ptxas's option table, to be searched.
+pub fn table() -> Table<'static, ArgData>
+    ensures { map entry_of result.rows.now ≡ ptxas_options }
+{
+    Table { rows: &ARGS }
+}
+
+/// ptxas, as a compiler.
+#[derive(Debug, PartialEq, Drop)]
+pub struct Ptxas {
+    /// The text of its version, where one is known.
+    pub version: Option<Text>,
+}
+
+impl Ptxas {
+    ghost use Rattle.std.specs.Prelude.{◌≡◌, IfOk};
+
+    /// An equal value, in memory of its own.
+    pub fn try_clone(&self, alloc: Global) -> Result<Ptxas, AllocError>
+        ensures { IfOk result (λ c. c ≡ self.now) }
+    {
+        let version = match &self.version {
+            None => None,
+            Some(version) => Some(version.try_clone(alloc)?),
+        };
+        Ok(Ptxas { version })
+    }
+}
+
+impl CCompilerImpl for Ptxas {
+    ghost use Rattle.std.specs.Prelude.{true};
+    ghost use Rattle.cuda_below.specs.declared.compiler.CCompilerKind.TheVariants as kinds;
+    ghost use Rattle.cuda_below.specs.declared.language.Language.TheVariants as languages;
+    ghost use Rattle.device_lines.specs.Ptxas.{ptxas_options};
+    ghost use Rattle.device_lines.specs.Reading.{tool_reading};
+    ghost use Rattle.cuda_below.specs.Command.{written};
+    ghost use Rattle.device_lines.specs.DeviceWords.{cicc_words};
+
+    type Command = SingleCompileCommand;
+
+    ghost kind = { λ _. kinds.Ptxas };
+
+    ghost plusplus = { λ _. true };
+
+    ghost version = { λ c. c.version };
+
+    ghost reading = { λ _ words cwd _. tool_reading ptxas_options cwd languages.Cubin 3 words };
+
+    ghost writing = { λ _ executable p cwd env_vars _. written cicc_words executable p cwd env_vars };
+
+    fn kind(&self) -> CCompilerKind {
+        CCompilerKind::Ptxas
+    }
+
+    fn plusplus(&self) -> bool {
+        true
+    }
+
+    fn version(&self, alloc: Global) -> Result<Option<String>, AllocError> {
+        match &self.version {
+            None => Ok(None),
+            Some(version) => Ok(Some(String::from_str(alloc, version.as_str())?)),
+        }
+    }
+
+    fn parse_arguments(
+        &self,
+        alloc: Global,
+        arguments: &[String],
+        cwd: &str,
+        _env_vars: &[(String, String)],
+    ) -> Result<CompilerArguments<ParsedArguments>, AllocError> {
+        cicc::parse_arguments(alloc, arguments, cwd, Language::Cubin, table(), 3)
+    }
+
+    fn generate_compile_commands(
+        &self,
+        alloc: Global,
+        executable: &str,
+        parsed_args: &ParsedArguments,
+        cwd: &str,
+        env_vars: &[(String, String)],
+        _places: &Places,
+    ) -> Result<(SingleCompileCommand, Cacheable), Fault> {
+        cicc::generate_compile_commands(alloc, executable, parsed_args, cwd, env_vars)
+    }
+}

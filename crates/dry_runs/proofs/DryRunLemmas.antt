@@ -1,0 +1,76 @@
+-- Command lines compare as what is seen of them, and texts are cut at their first colon.
+use Rattle.std.proofs.Common.{◌≡◌, ℕ, ◌++◌, ◌&&◌, Bool, true, false, not, eqb, List, [], ◌∷◌, Option, Some, None, Vec, String, Bor, MatchOption, map, refl, ap, sym, ◌∙◌, nat_eq, length, take, string_bytes, arith}
+use Rattle.std.specs.declared.alloc.Global.{Global}
+use Rattle.std.specs.List.{position_or_len}
+use Rattle.std.specs.Cmp.Lexicographic.{pointwise}
+use Rattle.std.specs.Ordering.{on, eq_of_both}
+use Rattle.std.specs.Str.Pattern.{RFindsChar, SplitsAroundMatch}
+use Rattle.std.proofs.lemmas.Str.Pattern.{IsSplitOnceResult, split_once_first}
+use Rattle.std.proofs.Math.Seq.{take-length}
+use Rattle.cuda_below.specs.Path.{lacks, is_bare}
+use Rattle.cuda_below.proofs.PathLemmas.{parted-char}
+use Rattle.std.specs.Bool.{Decides}
+use Rattle.std.specs.Cmp.{unsigned_Decides}
+use Rattle.std.proofs.lemmas.Bool.Decides.{Decides-and, Decides-like}
+use Rattle.std.proofs.lemmas.Slice.Eq.{bytes_eq-Decides}
+use Rattle.cuda_below.specs.Equality.{TellsEqual}
+use Rattle.cuda_below.proofs.EqualityLemmas.{lists, variables, same_variables}
+use Rattle.dry_runs.specs.declared.commands.DryRun.{DryRun}
+use Rattle.cuda_below.proofs.ListLemmas.{pointwise-texts}
+use Rattle.dry_runs.specs.CommandLines.{CommandLine, line_seen}
+use Rattle.dry_runs.specs.FirstDir.{first_folder_of}
+
+-- lists of command lines, as code compares them
+pub pointwise-lines : (xs ys : List (ℕ × String Global × Vec (String Global) Global)) →
+    pointwise (λ x y. (nat_eq x.0 y.0 && pointwise nat_eq (string_bytes x.1) (string_bytes y.1)) && pointwise (λ u v. pointwise nat_eq (string_bytes u) (string_bytes v)) x.2.items y.2.items) xs ys
+    ≡ pointwise (eq_of_both (eq_of_both (on (λ (c : CommandLine). c.0) nat_eq) (on (λ (c : CommandLine). c.1) (pointwise nat_eq))) (on (λ (c : CommandLine). c.2) (pointwise (pointwise nat_eq)))) (map line_seen xs) (map line_seen ys)
+pointwise-lines [] [] = refl
+pointwise-lines [] (y ∷ ys) = refl
+pointwise-lines (x ∷ xs) [] = refl
+pointwise-lines (x ∷ xs) (y ∷ ys) =
+    rw (pointwise-texts x.2.items y.2.items, pointwise-lines xs ys) refl
+
+-- a text that holds a byte doesn't lack it
+lacks-held : (byte : ℕ) (front back : List ℕ) → lacks byte (front ++ byte ∷ back) ≡ false
+lacks-held byte [] back = rw (eqb-same byte) refl where
+  eqb-same : (n : ℕ) → eqb n n ≡ true
+  eqb-same n = grind arith
+lacks-held byte (c ∷ front) back = rw (lacks-held byte front back) (and-false (not (eqb c byte))) where
+  and-false : (b : Bool) → (b && false) ≡ false
+  and-false true = refl
+  and-false false = refl
+
+-- whether a text holds no `/`, by parting it at its last one
+pub bare-whole : (text : List ℕ) → RFindsChar 47 text None → true ≡ is_bare text
+bare-whole text h = let none : Option (Bor (List ℕ) × Bor (List ℕ)) = None in sym (parted-char 47 text none h (omega arith))
+
+pub bare-parted : (text : List ℕ) (x : Bor (List ℕ) × Bor (List ℕ)) → SplitsAroundMatch (RFindsChar 47) text x.0.now x.1.now → false ≡ is_bare text
+bare-parted text x h =
+    let parts = parted-char 47 text (Some x) h (omega arith) in
+    sym (ap is_bare parts.0 ∙ lacks-held 47 x.0.now x.1.now)
+
+-- what stands before the first colon, by splitting there
+pub colon-split : (text : List ℕ) (r : Option (Bor (List ℕ) × Bor (List ℕ))) → IsSplitOnceResult 58 text r → MatchOption r (text ≡ first_folder_of text) (λ x. x.0.now ≡ first_folder_of text)
+colon-split text None h =
+    let none : position_or_len (λ b. eqb b 58) text ≡ length text = split_once_first 58 text None h (omega arith) in
+    sym (ap (λ n. take n text) none ∙ take-length text)
+colon-split text (Some x) h = (split_once_first 58 text (Some x) h (omega arith)).1
+
+-- the test of command lines
+abbrev same_line : CommandLine → CommandLine → Bool
+same_line = eq_of_both (eq_of_both (on (λ (c : CommandLine). c.0) nat_eq) (on (λ (c : CommandLine). c.1) (pointwise nat_eq))) (on (λ (c : CommandLine). c.2) (pointwise (pointwise nat_eq)))
+
+lines-equal : TellsEqual same_line
+lines-equal a b =
+    Decides-like ((nat_eq a.0 b.0 && pointwise nat_eq a.1 b.1) && pointwise (pointwise nat_eq) a.2 b.2) (λ e. λ i. (e.0.0 i, e.0.1 i, e.1 i)) (λ e. ((ap (λ x. x.0) e, ap (λ x. x.1) e), ap (λ x. x.2) e))
+    (Decides-and (nat_eq a.0 b.0 && pointwise nat_eq a.1 b.1) (pointwise (pointwise nat_eq) a.2 b.2)
+    (Decides-and (nat_eq a.0 b.0) (pointwise nat_eq a.1 b.1) (unsigned_Decides a.0 b.0) (bytes_eq-Decides a.1 b.1)) (lists (pointwise nat_eq) bytes_eq-Decides a.2 b.2))
+
+-- the test of commands, and that of dry runs
+pub commands-equal : TellsEqual (pointwise same_line)
+commands-equal = lists same_line lines-equal
+
+pub dry_runs-equal : (a b : DryRun) → Decides (pointwise same_line a.commands b.commands && same_variables a.env b.env) (a ≡ b)
+dry_runs-equal a b =
+    Decides-like (pointwise same_line a.commands b.commands && same_variables a.env b.env) (λ e. λ i. record { commands = e.0 i; env = e.1 i }) (λ e. (ap (λ x. x.commands) e, ap (λ x. x.env) e))
+    (Decides-and (pointwise same_line a.commands b.commands) (same_variables a.env b.env) (commands-equal a.commands b.commands) (variables a.env b.env))

@@ -1,0 +1,194 @@
+-- Dry runs worked out by hand.
+use Rattle.std.specs.Prelude.{◌≡◌, ℕ, List, [], ◌∷◌, ◌++◌, None, Result, Ok, Err, encode_utf8_all, if◌then◌else◌, refl, codes}
+use Rattle.std.specs.Str.{bytes_eq}
+use Rattle.dry_runs.specs.Computing.{dry_runs_compute}
+use Rattle.cuda_below.specs.declared.fault.Fault.{Fault}
+use Rattle.cuda_below.specs.declared.fault.Fault.TheVariants.{NotUtf8, BadShell, EmptyCommand, NoPath, NotFound}
+use Rattle.dry_runs.specs.CommandLines.{CommandLine}
+use Rattle.dry_runs.specs.Environment.{Variable, expanded}
+use Rattle.dry_runs.specs.DryRun.{LookUp, dry_run_of}
+use Rattle.dry_runs.specs.FirstDir.{first_dir}
+use Rattle.dry_runs.specs.OneKernel.{one_kernel, one_kernel_commands, one_kernel_elsewhere, one_kernel_elsewhere_commands, one_kernel_in_temporary, one_kernel_in_temporary_commands}
+
+-- what a dry run says
+abbrev pub Said : Type 0
+Said = Result (List CommandLine × List Variable) Fault
+
+-- a first run that is read at `/w`
+abbrev pub first_run : List ℕ → Said
+first_run bytes = dry_run_of 1 bytes (codes "/w") first_dir
+
+-- a look-up that lacks a program
+abbrev pub lacking : List ℕ → LookUp
+lacking missing exe path cwd = if bytes_eq exe missing then None else first_dir exe path cwd
+
+-- the one-kernel dry run, read whole
+abbrev pub OneKernelIsRead : Type 0
+OneKernelIsRead =
+    first_run one_kernel ≡ Ok (one_kernel_commands, (codes "PATH", codes "/b") ∷ [])
+
+pub one_kernel_is_read : OneKernelIsRead
+unfolding dry_runs_compute
+one_kernel_is_read = refl
+
+-- unmarked lines are passed over, but have their numbers; a carriage return before a newline goes, and the last line needs no newline
+abbrev pub LastLineNeedsNoNewline : Type 0
+LastLineNeedsNoNewline =
+    first_run (codes "kernel.cu\r\n#$ PATH=/b\r\n#$ gcc -D__NVCC__ -c x.cpp") ≡ Ok ((2, codes "/b/gcc", codes "-D__NVCC__" ∷ codes "-c" ∷ codes "x.cpp" ∷ []) ∷ [], (codes "PATH", codes "/b") ∷ [])
+
+pub last_line_needs_no_newline : LastLineNeedsNoNewline
+unfolding dry_runs_compute
+last_line_needs_no_newline = refl
+
+-- a run without lines, and one whose only line lacks the blank of the mark
+abbrev pub NothingIsRead : Type 0
+NothingIsRead =
+    (first_run [] ≡ Ok ([], [])) × (first_run (codes "#$\n") ≡ Ok ([], []))
+
+pub nothing_is_read : NothingIsRead
+unfolding dry_runs_compute
+nothing_is_read = (refl, refl)
+
+-- a line that is no text refuses the run, also where it is unmarked
+abbrev pub UnmarkedLineIsNotText : Type 0
+UnmarkedLineIsNotText =
+    first_run (codes "kernel" ++ 255 ∷ 10 ∷ []) ≡ Err (NotUtf8 1 0)
+
+pub unmarked_line_is_not_text : UnmarkedLineIsNotText
+unfolding dry_runs_compute
+unmarked_line_is_not_text = refl
+
+-- an open quote
+abbrev pub QuoteIsOpen : Type 0
+QuoteIsOpen =
+    first_run (codes "#$ gcc \"a\n") ≡ Err (BadShell 1 0)
+
+pub quote_is_open : QuoteIsOpen
+unfolding dry_runs_compute
+quote_is_open = refl
+
+-- a comment, and nothing at all, hold no word
+abbrev pub CommentIsNoCommand : Type 0
+CommentIsNoCommand =
+    (first_run (codes "#$ # note\n") ≡ Err (EmptyCommand 1 0)) × (first_run (codes "#$ \n") ≡ Err (EmptyCommand 1 0))
+
+pub comment_is_no_command : CommentIsNoCommand
+unfolding dry_runs_compute
+comment_is_no_command = (refl, refl)
+
+-- a command before any line that sets `PATH`, in the first run and in the second; two blanks make no environment line
+abbrev pub NoPathIsSet : Type 0
+NoPathIsSet =
+    (first_run (codes "#$ gcc\n") ≡ Err (NoPath 1 0)) × (dry_run_of 2 (codes "#$ gcc\n") (codes "/w") first_dir ≡ Err (NoPath 2 0)) × (first_run (codes "#$  PATH=/b\n") ≡ Err (NoPath 1 0))
+
+pub no_path_is_set : NoPathIsSet
+unfolding dry_runs_compute
+no_path_is_set = (refl, refl, refl)
+
+-- a name with a digit assigns nothing, so its line is a command, which is looked up
+abbrev pub DigitMakesACommand : Type 0
+DigitMakesACommand =
+    dry_run_of 1 (codes "#$ PATH=/b\n#$ A1=x\n") (codes "/w") (lacking (codes "A1=x")) ≡ Err (NotFound (codes "A1=x"))
+
+pub digit_makes_a_command : DigitMakesACommand
+unfolding dry_runs_compute
+digit_makes_a_command = refl
+
+-- an empty `PATH` is set, but holds no program
+abbrev pub PathIsEmpty : Type 0
+PathIsEmpty =
+    first_run (codes "#$ PATH=\n#$ gcc\n") ≡ Err (NotFound (codes "gcc"))
+
+pub path_is_empty : PathIsEmpty
+unfolding dry_runs_compute
+path_is_empty = refl
+
+-- the first bad line decides, whatever is wrong with a later one; and it counts that the whole run is bad, not what stood before
+abbrev pub FirstBadLineDecides : Type 0
+FirstBadLineDecides =
+    (first_run (codes "#$ gcc\n" ++ 255 ∷ 10 ∷ []) ≡ Err (NoPath 1 0)) × (first_run (255 ∷ 10 ∷ codes "#$ gcc\n") ≡ Err (NotUtf8 1 0)) × (first_run (one_kernel ++ codes "#$ x" ++ 255 ∷ 10 ∷ []) ≡ Err (NotUtf8 1 8))
+
+pub first_bad_line_decides : FirstBadLineDecides
+unfolding dry_runs_compute
+first_bad_line_decides = (refl, refl, refl)
+
+-- the one-kernel dry run with a look-up that lacks one of its programs
+abbrev pub ProgramsAreMissing : Type 0
+ProgramsAreMissing =
+    (dry_run_of 1 one_kernel (codes "/w") (lacking (codes "gcc")) ≡ Err (NotFound (codes "gcc"))) × (dry_run_of 1 one_kernel (codes "/w") (lacking (codes "cudafe++")) ≡ Err (NotFound (codes "cudafe++"))) × (dry_run_of 1 one_kernel (codes "/w") (lacking (codes "cicc")) ≡ Err (NotFound (codes "cicc"))) × (dry_run_of 1 one_kernel (codes "/w") (lacking (codes "ptxas")) ≡ Err (NotFound (codes "ptxas"))) × (dry_run_of 1 one_kernel (codes "/w") (lacking (codes "fatbinary")) ≡ Err (NotFound (codes "fatbinary")))
+
+pub programs_are_missing : ProgramsAreMissing
+unfolding dry_runs_compute
+programs_are_missing = (refl, refl, refl, refl, refl)
+
+-- an empty word is a program too
+abbrev pub EmptyProgramIsLookedUp : Type 0
+EmptyProgramIsLookedUp =
+    (first_run (codes "#$ PATH=/b\n#$ \"\" x\n") ≡ Ok ((1, codes "/b/", codes "x" ∷ []) ∷ [], (codes "PATH", codes "/b") ∷ [])) × (first_run (codes "#$ PATH=/\n#$ \"\" x\n") ≡ Ok ((1, codes "/", codes "x" ∷ []) ∷ [], (codes "PATH", codes "/") ∷ []))
+
+pub empty_program_is_looked_up : EmptyProgramIsLookedUp
+unfolding dry_runs_compute
+empty_program_is_looked_up = (refl, refl)
+
+-- at the end of a text no character follows a reference, so it does not count
+abbrev pub ReferenceAtTheEndStays : Type 0
+ReferenceAtTheEndStays =
+    expanded ((codes "TOP", codes "/u") ∷ []) (codes "gcc -L$TOP") ≡ codes "gcc -L$TOP"
+
+pub reference_at_the_end_stays : ReferenceAtTheEndStays
+unfolding dry_runs_compute
+reference_at_the_end_stays = refl
+
+-- where one reference counts, all are expanded, within longer names too
+abbrev pub OneReferenceExpandsAll : Type 0
+OneReferenceExpandsAll =
+    expanded ((codes "TOP", codes "/u") ∷ []) (codes "$TOP/gcc -L$TOPX") ≡ codes "/u/gcc -L/uX"
+
+pub one_reference_expands_all : OneReferenceExpandsAll
+unfolding dry_runs_compute
+one_reference_expands_all = refl
+
+-- a letter of any script goes on with the name, and a hyphen ends it
+abbrev pub LetterFollowsAReference : Type 0
+LetterFollowsAReference =
+    (expanded ((codes "TOP", codes "/u") ∷ []) (encode_utf8_all (codes "gcc $TOPé")) ≡ encode_utf8_all (codes "gcc $TOPé")) × (expanded ((codes "TOP", codes "/u") ∷ []) (codes "gcc $TOP-") ≡ codes "gcc /u-")
+
+pub letter_follows_a_reference : LetterFollowsAReference
+unfolding dry_runs_compute
+letter_follows_a_reference = (refl, refl)
+
+-- of two values the first is expanded, and the environment keeps both
+abbrev pub FirstValueIsExpanded : Type 0
+FirstValueIsExpanded =
+    first_run (codes "#$ PATH=/b\n#$ TOP=/u\n#$ TOP=/v\n#$ gcc $TOP/x\n") ≡ Ok ((3, codes "/b/gcc", codes "/u/x" ∷ []) ∷ [], (codes "PATH", codes "/b") ∷ (codes "TOP", codes "/u") ∷ (codes "TOP", codes "/v") ∷ [])
+
+pub first_value_is_expanded : FirstValueIsExpanded
+unfolding dry_runs_compute
+first_value_is_expanded = refl
+
+-- a reference in a value is expanded only where its own line comes later
+abbrev pub ValuesAreExpandedInOrder : Type 0
+ValuesAreExpandedInOrder =
+    (first_run (codes "#$ PATH=/b\n#$ A=$B/x\n#$ B=/u\n#$ gcc $A/y\n") ≡ Ok ((3, codes "/b/gcc", codes "/u/x/y" ∷ []) ∷ [], (codes "PATH", codes "/b") ∷ (codes "A", codes "$B/x") ∷ (codes "B", codes "/u") ∷ [])) × (first_run (codes "#$ PATH=/b\n#$ B=/u\n#$ A=$B/x\n#$ gcc $A/y\n") ≡ Ok ((3, codes "/b/gcc", codes "$B/x/y" ∷ []) ∷ [], (codes "PATH", codes "/b") ∷ (codes "B", codes "/u") ∷ (codes "A", codes "$B/x") ∷ []))
+
+pub values_are_expanded_in_order : ValuesAreExpandedInOrder
+unfolding dry_runs_compute
+values_are_expanded_in_order = (refl, refl)
+
+-- the first `PATH` counts for every command, and a program with a folder counts from the working directory
+abbrev pub FirstPathCounts : Type 0
+FirstPathCounts =
+    first_run (codes "#$ PATH=/b\n#$ PATH=/c\n#$ gcc\n#$ ./gcc\n") ≡ Ok ((2, codes "/b/gcc", []) ∷ (3, codes "/w/./gcc", []) ∷ [], (codes "PATH", codes "/b") ∷ (codes "PATH", codes "/c") ∷ [])
+
+pub first_path_counts : FirstPathCounts
+unfolding dry_runs_compute
+first_path_counts = refl
+
+-- the one-kernel dry run with other names of its generated files, and with these in the folder `/t`
+abbrev pub OtherNamesAreRead : Type 0
+OtherNamesAreRead =
+    (first_run one_kernel_elsewhere ≡ Ok (one_kernel_elsewhere_commands, (codes "PATH", codes "/b") ∷ [])) × (first_run one_kernel_in_temporary ≡ Ok (one_kernel_in_temporary_commands, (codes "PATH", codes "/b") ∷ []))
+
+pub other_names_are_read : OtherNamesAreRead
+unfolding dry_runs_compute
+other_names_are_read = (refl, refl)

@@ -1,0 +1,9 @@
+pub mod CommandLines
+pub mod Computing
+pub mod DryRun
+pub mod DryRunLines
+pub mod DryRunRows
+pub mod Environment
+pub mod FirstDir
+pub mod OneKernel
+pub mod Replacing

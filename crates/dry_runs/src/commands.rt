@@ -1,0 +1,83 @@
+//! What a dry run says: its commands and its environment.
+
+ghost use Rattle.std.specs.Prelude.{◌≡◌, [], map};
+ghost use Rattle.dry_runs.specs.CommandLines.{line_seen};
+
+use cuda_below::variables::Variables;
+use std::alloc::Global;
+use std::marker::Model;
+
+/// The command lines of a dry run, in order: of each the number of its line, its program's path, and
+/// its words. Contracts see the list of these, as texts.
+///
+/// It is made of a `Vec<(usize, String, Vec<String>)>` and gives it back without memory.
+#[derive(Debug, Drop)]
+pub struct Commands {
+    lines: Vec<(usize, String, Vec<String>)>,
+}
+
+impl Model for Commands {
+    ghost use Rattle.std.specs.Prelude.{List, map};
+    ghost use Rattle.dry_runs.specs.CommandLines.{CommandLine, line_seen};
+
+    ghost Value = { List CommandLine };
+
+    ghost view = { λ c. map line_seen c.lines.items };
+}
+
+impl Commands {
+    /// No commands.
+    pub fn new(alloc: Global) -> Commands
+        ensures { result ≡ [] }
+    {
+        Commands {
+            lines: Vec::new(alloc),
+        }
+    }
+
+    /// Holds the command lines of `lines`.
+    pub fn from_vec(lines: Vec<(usize, String, Vec<String>)>) -> Commands
+        ensures { result ≡ map line_seen lines.items }
+    {
+        Commands { lines }
+    }
+
+    /// The command lines as a slice.
+    pub fn as_slice(&self) -> &[(usize, String, Vec<String>)]
+        ensures { map line_seen result.now ≡ self.now }
+    {
+        self.lines.as_slice()
+    }
+
+    /// Gives the `Vec` back.
+    pub fn into_vec(self) -> Vec<(usize, String, Vec<String>)>
+        ensures { map line_seen result.items ≡ self }
+    {
+        self.lines
+    }
+}
+
+impl PartialEq for Commands {
+    ghost use Rattle.std.specs.Prelude.{nat_eq};
+    ghost use Rattle.std.specs.Cmp.Lexicographic.{pointwise};
+    ghost use Rattle.std.specs.Cmp.Rules.{comparing};
+    ghost use Rattle.std.specs.Ordering.{on, eq_of_both};
+    ghost use Rattle.std.proofs.Common.{rules};
+
+    ghost eq = { pointwise (eq_of_both (eq_of_both (on (λ c. c.0) nat_eq) (on (λ c. c.1) (pointwise nat_eq))) (on (λ c. c.2) (pointwise (pointwise nat_eq)))) };
+
+    ghost laws = { Prim.search (comparing, rules) depth 9 };
+
+    fn eq(&self, other: &Commands) -> bool {
+        self.as_slice() == other.as_slice()
+    }
+}
+
+/// What a dry run says.
+#[derive(Debug, PartialEq, Drop)]
+pub struct DryRun {
+    /// Its commands, in the order of their lines.
+    pub commands: Commands,
+    /// What its environment lines set, in their order. A name may stand twice.
+    pub env: Variables,
+}

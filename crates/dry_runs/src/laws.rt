@@ -1,0 +1,35 @@
+//! Laws of dry runs, and runs worked out by hand, which the definitions compute.
+
+ghost use Rattle.cuda_below.specs.Equality.{TellsEqual};
+ghost use Rattle.dry_runs.specs.DryRunRows.{OneKernelIsRead, LastLineNeedsNoNewline, NothingIsRead, UnmarkedLineIsNotText, QuoteIsOpen, CommentIsNoCommand, NoPathIsSet, DigitMakesACommand, PathIsEmpty, FirstBadLineDecides, ProgramsAreMissing, EmptyProgramIsLookedUp, ReferenceAtTheEndStays, OneReferenceExpandsAll, LetterFollowsAReference, FirstValueIsExpanded, ValuesAreExpandedInOrder, FirstPathCounts, OtherNamesAreRead};
+
+use crate::commands::{Commands, DryRun};
+
+/// `==` on dry runs and on their commands says whether two values are equal.
+pub fn equality()
+    ensures commands { TellsEqual ⟦<Commands as PartialEq>⟧.eq }
+    ensures dry_run { TellsEqual ⟦<DryRun as PartialEq>⟧.eq }
+{}
+
+/// What some dry runs say, by the definitions.
+pub fn worked_runs()
+    ensures one_kernel_is_read { OneKernelIsRead }
+    ensures last_line_needs_no_newline { LastLineNeedsNoNewline }
+    ensures nothing_is_read { NothingIsRead }
+    ensures unmarked_line_is_not_text { UnmarkedLineIsNotText }
+    ensures quote_is_open { QuoteIsOpen }
+    ensures comment_is_no_command { CommentIsNoCommand }
+    ensures no_path_is_set { NoPathIsSet }
+    ensures digit_makes_a_command { DigitMakesACommand }
+    ensures path_is_empty { PathIsEmpty }
+    ensures first_bad_line_decides { FirstBadLineDecides }
+    ensures programs_are_missing { ProgramsAreMissing }
+    ensures empty_program_is_looked_up { EmptyProgramIsLookedUp }
+    ensures reference_at_the_end_stays { ReferenceAtTheEndStays }
+    ensures one_reference_expands_all { OneReferenceExpandsAll }
+    ensures letter_follows_a_reference { LetterFollowsAReference }
+    ensures first_value_is_expanded { FirstValueIsExpanded }
+    ensures values_are_expanded_in_order { ValuesAreExpandedInOrder }
+    ensures first_path_counts { FirstPathCounts }
+    ensures other_names_are_read { OtherNamesAreRead }
+{}

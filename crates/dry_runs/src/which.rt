@@ -1,0 +1,81 @@
+//! The look-up of the programs that a dry run names.
+
+ghost use Rattle.std.specs.Prelude.{◌≡◌, IfOk, MatchOption, string_bytes, ℕ, List, Option};
+ghost use Rattle.std.specs.Option.{option_map};
+ghost use Rattle.cuda_below.specs.Path.{is_bare as is_bare_name};
+ghost use Rattle.dry_runs.specs.FirstDir.{first_folder_of};
+
+use cuda_below::text::join;
+use std::alloc::{AllocError, Global};
+
+/// A look-up of programs.
+pub trait Which {
+    /// What it finds, by the program's name, the value of `PATH` and the working directory.
+    ghost answer: { Self → List ℕ → List ℕ → List ℕ → Option (List ℕ) };
+
+    /// The path of the program `exe`, and `None` where there is none. `path` is the value of `PATH`,
+    /// and `cwd` the working directory. An error is a want of memory.
+    fn found(
+        &self,
+        alloc: Global,
+        exe: &str,
+        path: &str,
+        cwd: &str,
+    ) -> Result<Option<String>, AllocError>
+        ensures { IfOk result (λ found. option_map string_bytes found ≡ answer self.now exe.now path.now cwd.now) };
+}
+
+/// A look-up that looks at no file. A name that holds a `/` counts from the working directory; any
+/// other is taken to be in the first folder of `PATH`, unless that is empty.
+#[derive(Clone, Copy, Debug)]
+pub struct FirstDir;
+
+// Whether `name` holds no `/`.
+fn is_bare(name: &str) -> bool
+    ensures { result ≡ is_bare_name name.now }
+{
+    match name.rsplit_once('/') {
+        None => true,
+        Some(_) => false,
+    }
+}
+
+// The two parts of `path` round its first `:`.
+fn at_colon(path: &str) -> Option<(&str, &str)>
+    ensures { MatchOption result (path.now ≡ first_folder_of path.now) (λ parts. parts.0.now ≡ first_folder_of path.now) }
+{
+    path.split_once(':')
+}
+
+// What stands in `path` before its first `:`; all of it where it has none.
+fn first_folder(path: &str) -> &str
+    ensures { result.now ≡ first_folder_of path.now }
+{
+    match at_colon(path) {
+        None => path,
+        Some((folder, _)) => folder,
+    }
+}
+
+impl Which for FirstDir {
+    ghost use Rattle.dry_runs.specs.FirstDir.{first_dir};
+
+    ghost answer = { λ _ exe path cwd. first_dir exe path cwd };
+
+    fn found(
+        &self,
+        alloc: Global,
+        exe: &str,
+        path: &str,
+        cwd: &str,
+    ) -> Result<Option<String>, AllocError> {
+        if !is_bare(exe) {
+            return Ok(Some(join(alloc, cwd, exe)?));
+        }
+        let folder = first_folder(path);
+        if folder.is_empty() {
+            return Ok(None);
+        }
+        Ok(Some(join(alloc, folder, exe)?))
+    }
+}

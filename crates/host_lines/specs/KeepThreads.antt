@@ -1,0 +1,213 @@
+-- Keep words and thread words: what the words of an nvcc line say of where intermediate files are kept and of how
+-- many commands run at once, and the words without these. Each answer is a filter of the words.
+use Rattle.std.specs.Prelude.{◌≡◌, ℕ, ◌+◌, ◌*◌, ◌-◌, ◌^◌, List, [], ◌∷◌, Bool, true, false, not, ◌&&◌, ◌||◌, ◌==◌, nat_eq, nat_lt, if◌then◌else◌, Option, Some, None, unwrap_or, Result, Ok, Err, map, filter, drop, codes, refl}
+use Rattle.std.specs.List.{filter_map, list_any, starts_with}
+use Rattle.std.specs.Option.{option_and_then}
+use Rattle.std.specs.Str.{bytes_eq, all_ascii_digits}
+use Rattle.cuda_below.specs.declared.fault.Fault.{Fault}
+use Rattle.cuda_below.specs.declared.fault.Fault.TheVariants.{KeepDirValue, ThreadsValue}
+use Rattle.cuda_below.specs.Path.{joined}
+use Rattle.cuda_below.specs.Lists.{last_of}
+
+-- whether a word takes the next one as its value: an option of that kind does where it isn't itself a value; the
+-- word stands beside whether it is one
+abbrev pub takes_value : (List ℕ → Bool) → Bool × List ℕ → Bool
+takes_value takes (is_value, word) = not is_value && takes word
+
+-- each word beside whether it is a value: whether the word right before it takes one; of the first word the flag
+-- tells it
+abbrev pub valued : (List ℕ → Bool) → Bool → List (List ℕ) → List (Bool × List ℕ)
+valued takes is_value [] = []
+valued takes is_value (word ∷ words) = (is_value, word) ∷ valued takes (takes_value takes (is_value, word)) words
+
+-- whether a word, if there is one, takes a value
+abbrev pub is_unfinished : (List ℕ → Bool) → Option (Bool × List ℕ) → Bool
+is_unfinished takes None = false
+is_unfinished takes (Some p) = takes_value takes p
+
+-- whether the last word of a line takes a value, which is missing then
+abbrev pub lacks_value : (List ℕ → Bool) → List (Bool × List ℕ) → Bool
+lacks_value takes ps = is_unfinished takes (last_of ps)
+
+-- the words of a list whose words stand beside a flag
+abbrev pub words_alone : List (Bool × List ℕ) → List (List ℕ)
+words_alone ps = map (λ p. p.1) ps
+
+-- Keep words.
+
+-- an option that takes the keep directory as its value
+abbrev pub is_keep_dir : List ℕ → Bool
+is_keep_dir word = bytes_eq word (codes "-keep-dir") || bytes_eq word (codes "--keep-dir")
+
+-- an option that sets keep
+abbrev pub is_keep : List ℕ → Bool
+is_keep word = bytes_eq word (codes "-keep") || bytes_eq word (codes "--keep") || bytes_eq word (codes "-save-temps") || bytes_eq word (codes "--save-temps")
+
+-- the words of a line, each beside whether it is a keep directory
+abbrev pub beside_keep_dirs : List (List ℕ) → List (Bool × List ℕ)
+beside_keep_dirs words = valued is_keep_dir false words
+
+-- whether a word sets keep: a keep option that isn't a value
+abbrev pub sets_keep : Bool × List ℕ → Bool
+sets_keep (is_value, word) = not is_value && is_keep word
+
+-- whether a word stays: it is neither a value nor a keep word
+abbrev pub is_no_keep_word : Bool × List ℕ → Bool
+is_no_keep_word (is_value, word) = not is_value && not (is_keep_dir word) && not (is_keep word)
+
+-- the words without the keep words
+abbrev pub words_without_keep : List (List ℕ) → List (List ℕ)
+words_without_keep words = words_alone (filter is_no_keep_word (beside_keep_dirs words))
+
+-- the directories that a line names
+abbrev pub keep_directories : List (List ℕ) → List (List ℕ)
+keep_directories words = words_alone (filter (λ p. p.0) (beside_keep_dirs words))
+
+-- the last directory looked up from the working directory, or that one where none is named
+abbrev pub directory_from : List ℕ → Option (List ℕ) → List ℕ
+directory_from cwd None = cwd
+directory_from cwd (Some directory) = joined cwd directory
+
+-- the words that stay, and the directory exactly where keep is set; or a refusal where a directory is missing
+abbrev pub keep_answer : List ℕ → Bool → List (List ℕ) → Bool → Option (List ℕ) → Result (List (List ℕ) × Option (List ℕ)) Fault
+keep_answer cwd is_missing stay is_kept directory =
+    if is_missing then Err KeepDirValue else Ok (stay, (if is_kept then Some (directory_from cwd directory) else None))
+
+-- what a line's keep words say, at a working directory
+abbrev pub keep_of : List ℕ → List (List ℕ) → Result (List (List ℕ) × Option (List ℕ)) Fault
+keep_of cwd words =
+    keep_answer cwd (lacks_value is_keep_dir (beside_keep_dirs words)) (words_without_keep words) (list_any sets_keep (beside_keep_dirs words)) (last_of (keep_directories words))
+
+-- Numbers.
+
+-- a text without the `+` that it may begin with
+abbrev pub after_plus : List ℕ → List ℕ
+after_plus [] = []
+after_plus (c ∷ cs) = if c == 43 then cs else c ∷ cs
+
+-- the number that digits say which follow those of a number
+abbrev pub digits_after : ℕ → List ℕ → ℕ
+digits_after n [] = n
+digits_after n (c ∷ cs) = digits_after (10 * n + (c - 48)) cs
+
+-- whether a text is one or more ASCII digits whose number is at most 2^64 - 1
+abbrev pub is_number : List ℕ → Bool
+is_number [] = false
+is_number (c ∷ cs) = all_ascii_digits (c ∷ cs) && nat_lt (digits_after 0 (c ∷ cs)) (2 ^ 64)
+
+-- the number that a text reads as, if it reads as one: an optional `+`, and then the digits
+abbrev pub number_of : List ℕ → Option ℕ
+number_of text = if is_number (after_plus text) then Some (digits_after 0 (after_plus text)) else None
+
+-- Thread words.
+
+-- the option that takes the number of threads as its value
+abbrev pub is_threads : List ℕ → Bool
+is_threads word = bytes_eq word (codes "--threads")
+
+-- the words of a line, each beside whether it is the value of such an option
+abbrev pub beside_threads : List (List ℕ) → List (Bool × List ℕ)
+beside_threads words = valued is_threads false words
+
+-- a word that begins with `-t`
+abbrev pub begins_with_t : List ℕ → Bool
+begins_with_t word = starts_with nat_eq word (codes "-t")
+
+-- a word that holds `=`, at any place
+abbrev pub holds_equals : List ℕ → Bool
+holds_equals word = list_any (λ c. c == 61) word
+
+-- where the number stands in a word that begins with `-t`: after 3 bytes where it holds `=`, else after 2
+abbrev pub joined_number : List ℕ → List ℕ
+joined_number word = drop (if holds_equals word then 3 else 2) word
+
+-- the text that a word gives as the number of threads: a value is one, and so is what follows `-t`
+abbrev pub number_text : Bool × List ℕ → Option (List ℕ)
+number_text (true, word) = Some word
+number_text (false, word) = if begins_with_t word then Some (joined_number word) else None
+
+-- the number that a word gives, where it is readable
+abbrev pub number_given : Bool × List ℕ → Option ℕ
+number_given p = option_and_then number_of (number_text p)
+
+-- whether a word stays: it is neither a value nor a thread word
+abbrev pub is_no_thread_word : Bool × List ℕ → Bool
+is_no_thread_word (is_value, word) = not is_value && not (is_threads word) && not (begins_with_t word)
+
+-- the words without the thread words
+abbrev pub words_without_threads : List (List ℕ) → List (List ℕ)
+words_without_threads words = words_alone (filter is_no_thread_word (beside_threads words))
+
+-- the numbers that can be read, in order
+abbrev pub thread_numbers : List (List ℕ) → List ℕ
+thread_numbers words = filter_map number_given (beside_threads words)
+
+-- the words that stay, and the last number, or 1 where there is none; or a refusal where a number's word is missing
+abbrev pub threads_answer : Bool → List (List ℕ) → Option ℕ → Result (List (List ℕ) × ℕ) Fault
+threads_answer is_missing stay number = if is_missing then Err ThreadsValue else Ok (stay, unwrap_or number 1)
+
+-- what a line's thread words say
+abbrev pub threads_of : List (List ℕ) → Result (List (List ℕ) × ℕ) Fault
+threads_of words = threads_answer (lacks_value is_threads (beside_threads words)) (words_without_threads words) (last_of (thread_numbers words))
+
+-- Worked examples. The working directory is `/w`.
+pub directory_is_joined : keep_of (codes "/w") (codes "-keep" ∷ codes "-keep-dir" ∷ codes "out" ∷ []) ≡ Ok ([], Some (codes "/w/out"))
+directory_is_joined = refl
+
+pub directory_alone_keeps_nothing : keep_of (codes "/w") (codes "-keep-dir" ∷ codes "out" ∷ []) ≡ Ok ([], None)
+directory_alone_keeps_nothing = refl
+
+pub keep_option_as_a_value : keep_of (codes "/w") (codes "-keep-dir" ∷ codes "-keep" ∷ []) ≡ Ok ([], None)
+keep_option_as_a_value = refl
+
+pub keep_without_a_directory : keep_of (codes "/w") (codes "-keep" ∷ []) ≡ Ok ([], Some (codes "/w"))
+keep_without_a_directory = refl
+
+pub directory_is_missing : keep_of (codes "/w") (codes "-keep-dir" ∷ []) ≡ Err KeepDirValue
+directory_is_missing = refl
+
+pub directory_is_empty : keep_of (codes "/w") (codes "-keep" ∷ codes "-keep-dir" ∷ [] ∷ []) ≡ Ok ([], Some (codes "/w/"))
+directory_is_empty = refl
+
+pub directory_option_as_a_value : keep_of (codes "/w") (codes "-keep" ∷ codes "-keep-dir" ∷ codes "-keep-dir" ∷ []) ≡ Ok ([], Some (codes "/w/-keep-dir"))
+directory_option_as_a_value = refl
+
+pub last_directory_counts : keep_of (codes "/w") (codes "--keep-dir" ∷ codes "a" ∷ codes "-g" ∷ codes "--save-temps" ∷ codes "-keep-dir" ∷ codes "/b" ∷ codes "-c" ∷ []) ≡ Ok (codes "-g" ∷ codes "-c" ∷ [], Some (codes "/b"))
+last_directory_counts = refl
+
+pub threads_option_stays : keep_of (codes "/w") (codes "--threads" ∷ codes "-keep" ∷ []) ≡ Ok (codes "--threads" ∷ [], Some (codes "/w"))
+threads_option_stays = refl
+
+pub threads_option_that_stayed : threads_of (codes "--threads" ∷ []) ≡ Err ThreadsValue
+threads_option_that_stayed = refl
+
+pub last_number_counts : threads_of (codes "-t1" ∷ codes "-t=2" ∷ codes "-t3" ∷ codes "--threads" ∷ codes "1" ∷ codes "--threads" ∷ codes "2" ∷ []) ≡ Ok ([], 2)
+last_number_counts = refl
+
+pub joined_number_after_a_separate_one : threads_of (codes "--threads" ∷ codes "4" ∷ codes "-t2" ∷ []) ≡ Ok ([], 2)
+joined_number_after_a_separate_one = refl
+
+-- the word `-té=1`: the bytes 195 and 169 are `é`
+pub cut_inside_a_character : threads_of ((45 ∷ 116 ∷ 195 ∷ 169 ∷ 61 ∷ 49 ∷ []) ∷ []) ≡ Ok ([], 1)
+cut_inside_a_character = refl
+
+pub threads_option_as_a_value : threads_of (codes "--threads" ∷ codes "--threads" ∷ []) ≡ Ok ([], 1)
+threads_option_as_a_value = refl
+
+pub number_with_a_plus : threads_of (codes "-t+7" ∷ []) ≡ Ok ([], 7)
+number_with_a_plus = refl
+
+pub number_with_two_pluses : threads_of (codes "-t++7" ∷ []) ≡ Ok ([], 1)
+number_with_two_pluses = refl
+
+pub number_with_leading_zeros : threads_of (codes "-t=007" ∷ codes "-g" ∷ []) ≡ Ok (codes "-g" ∷ [], 7)
+number_with_leading_zeros = refl
+
+pub greatest_number : threads_of (codes "-t18446744073709551615" ∷ []) ≡ Ok ([], 18446744073709551615)
+greatest_number = refl
+
+pub number_past_the_greatest : threads_of (codes "-t18446744073709551616" ∷ []) ≡ Ok ([], 1)
+number_past_the_greatest = refl
+
+pub equals_anywhere : threads_of (codes "-t12=" ∷ codes "-t123" ∷ codes "-t4=5" ∷ []) ≡ Ok ([], 123)
+equals_anywhere = refl

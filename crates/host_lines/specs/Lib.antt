@@ -1,0 +1,6 @@
+pub mod KeepThreads
+pub mod NvccEnvironment
+pub mod NvccOptions
+pub mod Nvhpc
+pub mod Preprocess
+pub mod Taken

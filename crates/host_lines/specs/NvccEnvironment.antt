@@ -1,0 +1,33 @@
+-- The words that the environment adds to an nvcc line.
+use Rattle.std.specs.Prelude.{ℕ, List, [], ◌∷◌, ◌++◌, Bool, not, ◌||◌, map, filter, unwrap_or, encode_utf8_all, codes}
+use Rattle.std.specs.Option.{option_map, option_map_or}
+use Rattle.std.specs.Map.{lookup}
+use Rattle.std.specs.Str.{bytes_eq, chars}
+use Rattle.shell_words.specs.Shell.Splitting.{split_chars}
+
+-- the names of the variables that nvcc takes words from: those before a line's words, and those after them
+abbrev pub prepended_name : List ℕ
+prepended_name = codes "NVCC_PREPEND_FLAGS"
+
+abbrev pub appended_name : List ℕ
+appended_name = codes "NVCC_APPEND_FLAGS"
+
+-- a name of one of the two variables
+abbrev pub is_flags_name : List ℕ → Bool
+is_flags_name name = bytes_eq name prepended_name || bytes_eq name appended_name
+
+-- an environment without every variable of the two names
+abbrev pub without_flags : List (List ℕ × List ℕ) → List (List ℕ × List ℕ)
+without_flags env_vars = filter (λ variable. not (is_flags_name variable.0)) env_vars
+
+-- the shell words of a text, and none where it doesn't split
+abbrev pub shell_words : List ℕ → List (List ℕ)
+shell_words text = unwrap_or (option_map (map encode_utf8_all) (split_chars (chars text))) []
+
+-- the words that the first variable of a name adds, and none where there is no such variable
+abbrev pub added_words : List ℕ → List (List ℕ × List ℕ) → List (List ℕ)
+added_words name env_vars = option_map_or shell_words (lookup (bytes_eq name) env_vars) []
+
+-- a line with the words that the environment adds
+abbrev pub with_added_words : List (List ℕ × List ℕ) → List (List ℕ) → List (List ℕ)
+with_added_words env_vars words = (added_words prepended_name env_vars ++ words) ++ added_words appended_name env_vars

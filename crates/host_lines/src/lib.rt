@@ -1,0 +1,6 @@
+//! The command lines of the compilers of host code: the words of nvcc's lines, and nvhpc as a compiler.
+#![tactic(auto)]
+
+pub mod nvcc;
+pub mod nvhpc;
+mod preprocess;

@@ -1,0 +1,93 @@
+//! The environment of an nvcc line.
+
+ghost use Rattle.std.specs.Prelude.{◌≡◌, ◌++◌, map, IfOk, string_bytes};
+ghost use Rattle.std.specs.Map.{lookup};
+ghost use Rattle.std.specs.Option.{option_copied};
+ghost use Rattle.std.specs.Str.{bytes_eq};
+ghost use Rattle.cuda_below.specs.Variables.{pair_of};
+ghost use Rattle.host_lines.specs.NvccEnvironment.{is_flags_name as is_name_of_flags, without_flags as left_without_flags, shell_words as shell_words_of, added_words as words_added, with_added_words};
+
+use shell_words::split;
+use cuda_below::variables::Variables;
+use cuda_below::words::Words;
+use std::alloc::{AllocError, Global};
+
+const PREPENDED: &str = "NVCC_PREPEND_FLAGS";
+
+const APPENDED: &str = "NVCC_APPEND_FLAGS";
+
+// Whether a variable of this name holds words of an nvcc line.
+fn is_flags_name(name: &str) -> bool
+    ensures { result ≡ is_name_of_flags name.now }
+{
+    name == PREPENDED || name == APPENDED
+}
+
+/// The variables but those that hold words of the line, `NVCC_PREPEND_FLAGS` and `NVCC_APPEND_FLAGS`.
+pub fn without_flags(
+    alloc: Global,
+    env_vars: &[(String, String)],
+) -> Result<Variables, AllocError>
+    ensures { IfOk result (λ v. v ≡ left_without_flags (map pair_of env_vars.now)) }
+{
+    let mut left = Variables::new(alloc);
+    for pair in env_vars {
+        if !is_flags_name(pair.0.as_str()) {
+            let name = String::from_str(alloc, pair.0.as_str())?;
+            let value = String::from_str(alloc, pair.1.as_str())?;
+            left.push(name, value)?;
+        }
+    }
+    Ok(left)
+}
+
+// The value of the first variable of a name.
+fn first_value<'a>(env_vars: &'a [(String, String)], name: &str) -> Option<&'a str>
+    ensures { option_copied result ≡ lookup (bytes_eq name.now) (map pair_of env_vars.now) }
+{
+    for pair in env_vars {
+        if name == pair.0.as_str() {
+            return Some(pair.1.as_str());
+        }
+    }
+    None
+}
+
+// The shell words of a text; none where it doesn't split.
+fn shell_words(alloc: Global, text: &str) -> Result<Words, AllocError>
+    ensures { IfOk result (λ w. w ≡ shell_words_of text.now) }
+{
+    match split(alloc, text)? {
+        Some(words) => Ok(Words::from_vec(words)),
+        None => Ok(Words::new(alloc)),
+    }
+}
+
+// The words that the first variable of a name adds.
+fn added_words(
+    alloc: Global,
+    env_vars: &[(String, String)],
+    name: &str,
+) -> Result<Words, AllocError>
+    ensures { IfOk result (λ w. w ≡ words_added name.now (map pair_of env_vars.now)) }
+{
+    match first_value(env_vars, name) {
+        Some(text) => shell_words(alloc, text),
+        None => Ok(Words::new(alloc)),
+    }
+}
+
+/// A line with the words that the environment adds: before it those of the first `NVCC_PREPEND_FLAGS`, after it those of the
+/// first `NVCC_APPEND_FLAGS`, each split by the shell's rules. A text that doesn't split adds none.
+pub fn whole_line(
+    alloc: Global,
+    arguments: &[String],
+    env_vars: &[(String, String)],
+) -> Result<Words, AllocError>
+    ensures { IfOk result (λ w. w ≡ with_added_words (map pair_of env_vars.now) (map string_bytes arguments.now)) }
+{
+    let mut words = added_words(alloc, env_vars, PREPENDED)?;
+    words.extend(alloc, arguments)?;
+    words.append(added_words(alloc, env_vars, APPENDED)?)?;
+    Ok(words)
+}

@@ -1,0 +1,172 @@
+//! The command lines of nvhpc, NVIDIA's compilers for C and C++.
+
+ghost use Rattle.std.specs.Prelude.{◌≡◌, true, map};
+ghost use Rattle.cuda_below.specs.Table.{entry_of};
+ghost use Rattle.cuda_below.specs.GccOptions.{differ};
+ghost use Rattle.host_lines.specs.Nvhpc.{nvhpc_options};
+
+mod preprocessor;
+
+use cuda_below::arguments::{CompilerArguments, ParsedArguments};
+use cuda_below::command::{Cacheable, SingleCompileCommand};
+use cuda_below::compiler::{CCompilerImpl, CCompilerKind, Places};
+use cuda_below::fault::Fault;
+use cuda_below::gcc::{self, ArgData};
+use cuda_below::table::{ArgDisposition, ArgInfo, Pair, Table};
+use cuda_below::text::Text;
+use std::alloc::{AllocError, Global};
+
+const JOINED: ArgDisposition = ArgDisposition::Concatenated(None);
+
+const EITHER_WAY: ArgDisposition = ArgDisposition::CanBeSeparated(None);
+
+const EITHER_WAY_OR_EQUALS: ArgDisposition = ArgDisposition::CanBeSeparated(Some(b'='));
+
+/// nvhpc's options besides gcc's, as sccache 0.19.0's table has them. No two have one text.
+pub const ARGS: [ArgInfo<ArgData>; 29] = [
+    ArgInfo::TakeArg(
+        "--gcc-toolchain",
+        ArgData::PassThrough,
+        EITHER_WAY_OR_EQUALS,
+    ),
+    ArgInfo::TakeArg("-Mconcur", ArgData::PassThrough, EITHER_WAY_OR_EQUALS),
+    ArgInfo::TakeArg("-Xlinker", ArgData::PassThrough, EITHER_WAY_OR_EQUALS),
+    ArgInfo::TakeArg("-acc", ArgData::PassThrough, EITHER_WAY_OR_EQUALS),
+    ArgInfo::TakeArg("-cudalib", ArgData::PassThrough, EITHER_WAY_OR_EQUALS),
+    ArgInfo::TakeArg("-gpu", ArgData::PassThrough, EITHER_WAY_OR_EQUALS),
+    ArgInfo::TakeArg("-mcmodel", ArgData::PassThrough, EITHER_WAY_OR_EQUALS),
+    ArgInfo::TakeArg("-mcpu", ArgData::PassThrough, EITHER_WAY_OR_EQUALS),
+    ArgInfo::TakeArg("-ta", ArgData::PassThrough, EITHER_WAY_OR_EQUALS),
+    ArgInfo::TakeArg("-target", ArgData::PassThrough, EITHER_WAY_OR_EQUALS),
+    ArgInfo::TakeArg("-tp", ArgData::PassThrough, EITHER_WAY_OR_EQUALS),
+    ArgInfo::TakeArg("--linker-options", ArgData::PassThrough, EITHER_WAY),
+    ArgInfo::TakeArg("-Xfatbinary", ArgData::PassThrough, EITHER_WAY),
+    ArgInfo::TakeArg("-Xnvlink", ArgData::PassThrough, EITHER_WAY),
+    ArgInfo::TakeArg("-Xptxas", ArgData::PassThrough, EITHER_WAY),
+    ArgInfo::TakeArg(
+        "--include-path",
+        ArgData::PreprocessorArgumentPath,
+        EITHER_WAY,
+    ),
+    ArgInfo::TakeArg(
+        "--system-include-path",
+        ArgData::PreprocessorArgumentPath,
+        EITHER_WAY,
+    ),
+    ArgInfo::TakeArg("-Werror", ArgData::PreprocessorArgument, EITHER_WAY),
+    ArgInfo::TakeArg(
+        "-Xcompiler",
+        ArgData::PreprocessorArgument,
+        EITHER_WAY_OR_EQUALS,
+    ),
+    ArgInfo::Flag("-Mnostdlib", ArgData::PreprocessorArgumentFlag),
+    ArgInfo::Flag("-cuda", ArgData::PreprocessorArgumentFlag),
+    ArgInfo::Flag("-acclibs", ArgData::PassThroughFlag),
+    ArgInfo::Flag("-c++libs", ArgData::PassThroughFlag),
+    ArgInfo::Flag("-cudaforlibs", ArgData::PassThroughFlag),
+    ArgInfo::Flag("-fortranlibs", ArgData::PassThroughFlag),
+    ArgInfo::Flag("-gopt", ArgData::PassThroughFlag),
+    ArgInfo::Flag("-noswitcherror", ArgData::PassThroughFlag),
+    ArgInfo::TakeArg("-c++", ArgData::Standard, JOINED),
+    ArgInfo::TakeArg("-x", ArgData::Language, EITHER_WAY_OR_EQUALS),
+];
+
+/// nvhpc's option table, to be searched after gcc's.
+pub fn table() -> Table<'static, ArgData>
+    ensures entries { map entry_of result.rows.now ≡ nvhpc_options }
+    ensures differ { differ (map entry_of result.rows.now) ≡ true }
+{
+    Table { rows: &ARGS }
+}
+
+/// nvhpc, as a compiler.
+///
+/// Its lines are read by the profile of gcc's options and nvhpc's own, of which the longer matching
+/// one counts, and nvhpc's where both are equally long. The environment isn't read. Arguments are
+/// written back as gcc's.
+#[derive(Debug, PartialEq, Drop)]
+pub struct Nvhpc {
+    /// Whether it is `nvc++`, which takes C files for C++.
+    pub nvcplusplus: bool,
+    /// The text of its version, where one is known. It may be empty.
+    pub version: Option<Text>,
+}
+
+impl Nvhpc {
+    ghost use Rattle.std.specs.Prelude.{◌≡◌, IfOk};
+
+    /// An equal value, in memory of its own.
+    pub fn try_clone(&self, alloc: Global) -> Result<Nvhpc, AllocError>
+        ensures { IfOk result (λ c. c ≡ self.now) }
+    {
+        let version = match &self.version {
+            None => None,
+            Some(version) => Some(version.try_clone(alloc)?),
+        };
+        Ok(Nvhpc {
+            nvcplusplus: self.nvcplusplus,
+            version,
+        })
+    }
+}
+
+impl CCompilerImpl for Nvhpc {
+    ghost use Rattle.cuda_below.specs.declared.compiler.CCompilerKind.TheVariants as kinds;
+    ghost use Rattle.cuda_below.specs.Command.{written};
+    ghost use Rattle.cuda_below.specs.GccLine.{gcc_words};
+    ghost use Rattle.host_lines.specs.Nvhpc.{nvhpc_reading};
+
+    type Command = SingleCompileCommand;
+
+    ghost kind = { λ _. kinds.Nvhpc };
+
+    ghost plusplus = { λ c. c.nvcplusplus };
+
+    ghost version = { λ c. c.version };
+
+    ghost reading = { λ c words cwd _. nvhpc_reading c.nvcplusplus cwd words };
+
+    ghost writing = { λ _ executable p cwd env_vars _. written gcc_words executable p cwd env_vars };
+
+    fn kind(&self) -> CCompilerKind {
+        CCompilerKind::Nvhpc
+    }
+
+    fn plusplus(&self) -> bool {
+        self.nvcplusplus
+    }
+
+    fn version(&self, alloc: Global) -> Result<Option<String>, AllocError> {
+        match &self.version {
+            None => Ok(None),
+            Some(version) => Ok(Some(String::from_str(alloc, version.as_str())?)),
+        }
+    }
+
+    fn parse_arguments(
+        &self,
+        alloc: Global,
+        arguments: &[String],
+        cwd: &str,
+        _env_vars: &[(String, String)],
+    ) -> Result<CompilerArguments<ParsedArguments>, AllocError> {
+        let tables = Pair {
+            first: gcc::table(),
+            second: table(),
+        };
+        let kind = CCompilerKind::Nvhpc;
+        gcc::parse_arguments(alloc, arguments, cwd, tables, self.nvcplusplus, kind)
+    }
+
+    fn generate_compile_commands(
+        &self,
+        alloc: Global,
+        executable: &str,
+        parsed_args: &ParsedArguments,
+        cwd: &str,
+        env_vars: &[(String, String)],
+        _places: &Places,
+    ) -> Result<(SingleCompileCommand, Cacheable), Fault> {
+        gcc::generate_compile_commands(alloc, executable, parsed_args, cwd, env_vars)
+    }
+}

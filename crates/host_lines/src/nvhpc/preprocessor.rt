@@ -1,0 +1,96 @@
+//! The commands that preprocess the input of an nvhpc line.
+
+ghost use Rattle.std.specs.Prelude.{◌≡◌, map, IfOk, string_bytes};
+ghost use Rattle.std.specs.Option.{option_copied};
+ghost use Rattle.cuda_below.specs.Variables.{pair_of};
+ghost use Rattle.cuda_below.specs.Fault.{UnlessMemory};
+ghost use Rattle.host_lines.specs.Preprocess.{nvhpc_dependency_word as word_for_nvhpc, name_for_nvhpc, nvhpc_refusal as refusal_of_nvhpc, nvhpc_preprocess, commands_seen};
+
+use super::Nvhpc;
+use crate::preprocess::{commands, common_command};
+use cuda_below::arguments::ParsedArguments;
+use cuda_below::command::SingleCompileCommand;
+use cuda_below::fault::Fault;
+use cuda_below::gcc::language_to_gcc_arg;
+use cuda_below::language::Language;
+use cuda_below::text::Text;
+use cuda_below::variables::Variables;
+use cuda_below::words::Words;
+use std::alloc::{AllocError, Global};
+
+impl Nvhpc {
+    /// The one or two commands that preprocess a line's input: where there are dependency words, first
+    /// the one that writes the dependency file, and last the one that prints the preprocessed code. The
+    /// caller runs them in order, up to the first that fails.
+    ///
+    /// The words begin with the preprocessor's and the common ones, `-x`, the language's name and the
+    /// input. For the dependency file, the dependency words follow, with `-M` for `-MD` and `-MM` for
+    /// `-MMD`. For the code follows `-E`. The environment is as handed in. It is as sccache 0.19.0's
+    /// nvhpc preprocesses.
+    ///
+    /// Refuses a language that nvhpc can't preprocess, CUDA among them: `NoPreprocess`.
+    pub fn preprocess(
+        &self,
+        alloc: Global,
+        executable: &str,
+        parsed_args: &ParsedArguments,
+        cwd: &str,
+        env_vars: &[(String, String)],
+    ) -> Result<Vec<SingleCompileCommand>, Fault>
+        ensures { UnlessMemory (commands_seen result)
+            (nvhpc_preprocess executable.now parsed_args.now cwd.now (map pair_of env_vars.now)) }
+    {
+        let Some(name) = nvhpc_language_name(parsed_args.language) else {
+            let text = Text::copy_of(alloc, nvhpc_refusal(parsed_args.language))?;
+            return Err(Fault::NoPreprocess(text));
+        };
+        let env_vars = Variables::copy_of(alloc, env_vars)?;
+        let common = common_command(alloc, executable, parsed_args, name, cwd, env_vars)?;
+        let dependency = nvhpc_dependency_words(alloc, parsed_args.dependency_args.as_slice())?;
+        let mut code = Words::new(alloc);
+        code.push(String::from_str(alloc, "-E")?)?;
+        Ok(commands(alloc, &common, &dependency, &code)?)
+    }
+}
+
+// nvhpc's word for the dependency file alone.
+fn nvhpc_dependency_word<'a>(word: &'a str) -> &'a str
+    ensures { result.now ≡ word_for_nvhpc word.now }
+{
+    match word {
+        "-MD" => "-M",
+        "-MMD" => "-MM",
+        _ => word,
+    }
+}
+
+// The words for nvhpc's dependency file.
+fn nvhpc_dependency_words(alloc: Global, words: &[String]) -> Result<Words, AllocError>
+    ensures { IfOk result (λ w. w ≡ map word_for_nvhpc (map string_bytes words.now)) }
+{
+    let mut replaced = Words::new(alloc);
+    for word in words {
+        replaced.push(String::from_str(alloc, nvhpc_dependency_word(word.as_str()))?)?;
+    }
+    Ok(replaced)
+}
+
+// The name that nvhpc has for a language: gcc's, and none for CUDA.
+fn nvhpc_language_name(language: Language) -> Option<&'static str>
+    ensures { option_copied result ≡ name_for_nvhpc language }
+{
+    match language {
+        Language::Cuda => None,
+        _ => language_to_gcc_arg(language),
+    }
+}
+
+// The text that nvhpc refuses a language with.
+fn nvhpc_refusal(language: Language) -> &'static str
+    ensures { result.now ≡ refusal_of_nvhpc language }
+{
+    match language {
+        Language::Cuda => "CUDA compilation not supported by nvhpc",
+        _ => "PCH not supported by nvhpc",
+    }
+}

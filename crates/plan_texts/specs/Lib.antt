@@ -1,0 +1,5 @@
+pub mod Delivery
+pub mod Shown
+pub mod ShownPlan
+pub mod ShownPlanRows
+pub mod Texts

@@ -1,0 +1,42 @@
+//! Why the program stops.
+
+use cuda_below::fault::Fault;
+use std::alloc::AllocError;
+use thiserror::Error;
+
+/// Why nothing more is printed. Its text is what follows `cudaplan: `.
+#[derive(Debug, Drop, Error)]
+pub enum Stop {
+    /// A refusal.
+    #[error("{0}")]
+    Fault(Fault),
+    /// The line compiles nothing.
+    #[error("not a compilation")]
+    NotCompilation,
+    /// The output takes no more.
+    #[error("cannot write")]
+    Write,
+}
+
+impl From<Fault> for Stop {
+    ghost use Rattle.std.specs.Prelude.{◌≡◌};
+    ghost use Rattle.plan_texts.specs.declared.stop.Stop.TheVariants as stops;
+
+    ghost from_gives = { λ f e. e ≡ stops.Fault f };
+
+    fn from(fault: Fault) -> Stop {
+        Stop::Fault(fault)
+    }
+}
+
+impl From<AllocError> for Stop {
+    ghost use Rattle.std.specs.Prelude.{◌≡◌};
+    ghost use Rattle.cuda_below.specs.declared.fault.Fault.TheVariants.{Memory};
+    ghost use Rattle.plan_texts.specs.declared.stop.Stop.TheVariants as stops;
+
+    ghost from_gives = { λ _ e. e ≡ stops.Fault Memory };
+
+    fn from(_error: AllocError) -> Stop {
+        Stop::Fault(Fault::Memory)
+    }
+}

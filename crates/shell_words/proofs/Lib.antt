@@ -1,0 +1,5 @@
+pub mod ShellCompleteLemmas
+pub mod ShellLawLemmas
+pub mod ShellQuotingLemmas
+pub mod ShellSoundLemmas
+pub mod ShellSplittingLemmas

@@ -1,0 +1,177 @@
+-- Words that are written with quotes are read back.
+use Rattle.std.proofs.Common.{ℕ, List, [], ◌∷◌, ◌++◌, ◌≡◌, ◌≢◌, refl, sym, ap, ◌∙◌, subst, append-nil, append_assoc, map, Some, Bool, true, false, ◌==◌, ◌||◌, ◌&&◌, arith, ⊎_elim, String, string_bytes, encode_utf8, encode_utf8_all, length, take, drop, get_or, ◌≤◌, ◌-◌, cond, Result, Ok, Err, is_ok, OnOk}
+use Rattle.std.specs.List.{list_all, flat_map}
+use Rattle.std.specs.Str.{chars}
+use Rattle.std.proofs.lemmas.Bool.{cond_both, cond-false, and_parts, or_cases, eqb-true}
+use Rattle.std.proofs.lemmas.Bool.Decides.{nat_tests}
+use Rattle.std.proofs.lemmas.Grind.{flat_map-append}
+use Rattle.std.proofs.lemmas.List.{take_all}
+use Rattle.std.proofs.lemmas.Str.{chars_from_encodes, encodes-chars, encodes-append, IsUtf8-string_bytes}
+use Rattle.shell_words.specs.declared.splitting.State.TheVariants.{Between, Word, Escaped, SingleQuoted}
+use Rattle.shell_words.specs.Shell.{hash, backslash, single_quote, double_quote, is_blank, HasWords, IsText}
+use Rattle.shell_words.specs.Shell.Splitting.{Gives, EndsWord, words_from, split_chars}
+use Rattle.shell_words.specs.Shell.Quoting.{is_safe, is_plain, quoted_char, quoted_word, further, quoted}
+use Rattle.shell_words.proofs.ShellSoundLemmas.{reading, begins_bare}
+use Rattle.shell_words.proofs.ShellCompleteLemmas.{text_of_words}
+
+-- ---- a word in quotes
+
+quoted_char_reads : (c : ℕ) (rest word : List ℕ) (words : List (List ℕ)) → words_from SingleQuoted rest ≡ Some (word ∷ words) → words_from SingleQuoted (quoted_char c ++ rest) ≡ Some ((c ∷ word) ∷ words)
+quoted_char_reads c rest word words found =
+    cond_both (c == single_quote) (single_quote ∷ backslash ∷ single_quote ∷ single_quote ∷ []) (c ∷ [])
+    (λ written. words_from SingleQuoted (written ++ rest) ≡ Some ((c ∷ word) ∷ words))
+    (λ is.
+    let opened : words_from Word (single_quote ∷ rest) ≡ Some (word ∷ words) =
+    reading Word single_quote rest SingleQuoted (Gives []) (word ∷ words) refl found in
+    let after_backslash : words_from Escaped (single_quote ∷ single_quote ∷ rest) ≡ Some ((single_quote ∷ word) ∷ words) =
+    reading Escaped single_quote (single_quote ∷ rest) Word (Gives (single_quote ∷ [])) (word ∷ words) refl opened in
+    let closed : words_from Word (backslash ∷ single_quote ∷ single_quote ∷ rest) ≡ Some ((single_quote ∷ word) ∷ words) =
+    reading Word backslash (single_quote ∷ single_quote ∷ rest) Escaped (Gives []) ((single_quote ∷ word) ∷ words) refl after_backslash in
+    reading SingleQuoted single_quote (backslash ∷ single_quote ∷ single_quote ∷ rest) Word (Gives []) ((single_quote ∷ word) ∷ words) refl closed
+    ∙ ap (λ x. Some ((x ∷ word) ∷ words)) (sym (eqb-true c single_quote is)))
+    (λ is_not. reading SingleQuoted c rest SingleQuoted (Gives (c ∷ [])) (word ∷ words) (cond-false _ _ _ is_not) found)
+
+quoted_chars_read : (word rest : List ℕ) (words : List (List ℕ)) → words_from Word rest ≡ Some ([] ∷ words) → words_from SingleQuoted (flat_map quoted_char word ++ single_quote ∷ rest) ≡ Some (word ∷ words)
+quoted_chars_read [] rest words found = reading SingleQuoted single_quote rest Word (Gives []) ([] ∷ words) refl found
+quoted_chars_read (c ∷ word) rest words found =
+    ap (words_from SingleQuoted) (append_assoc (quoted_char c) (flat_map quoted_char word) (single_quote ∷ rest))
+    ∙ quoted_char_reads c (flat_map quoted_char word ++ single_quote ∷ rest) word words (quoted_chars_read word rest words found)
+
+-- ---- a plain word
+
+-- what a plain word holds is a piece by itself, and no `#`
+record IsBare (c : ℕ) : Type 0 where
+  not_blank : is_blank c ≡ false
+  not_hash : (c == hash) ≡ false
+  not_single : c ≢ single_quote
+  not_double : c ≢ double_quote
+  not_backslash : c ≢ backslash
+
+bare_from_safe : (c : ℕ) → is_safe c ≡ true → IsBare c
+bare_from_safe c safe = record {
+  not_blank = grind (arith, nat_tests);
+  not_hash = grind (arith, nat_tests);
+  not_single = λ is. grind (arith, nat_tests);
+  not_double = λ is. grind (arith, nat_tests);
+  not_backslash = λ is. grind (arith, nat_tests);
+}
+
+bare_equals : (c : ℕ) → c ≡ 61 → IsBare c
+bare_equals c is = record {
+  not_blank = grind (arith, nat_tests);
+  not_hash = grind (arith, nat_tests);
+  not_single = λ e. omega arith;
+  not_double = λ e. omega arith;
+  not_backslash = λ e. omega arith;
+}
+
+bare_from_rest : (c : ℕ) (option : Bool) → (is_safe c || (option && (c == 61))) ≡ true → IsBare c
+bare_from_rest c option h =
+    ⊎_elim (λ safe. bare_from_safe c safe) (λ equals. bare_equals c (eqb-true c 61 (and_parts option (c == 61) equals).1))
+    (or_cases (is_safe c) (option && (c == 61)) h)
+
+plain_chars_read : (option : Bool) (cs rest : List ℕ) (words : List (List ℕ)) → list_all (λ c. is_safe c || (option && (c == 61))) cs ≡ true → words_from Word rest ≡ Some ([] ∷ words) → words_from Word (cs ++ rest) ≡ Some (cs ∷ words)
+plain_chars_read option [] rest words plain found = found
+plain_chars_read option (c ∷ cs) rest words plain found =
+    let parts = and_parts (is_safe c || (option && (c == 61))) (list_all (λ c. is_safe c || (option && (c == 61))) cs) plain in
+    let is = bare_from_rest c option parts.0 in
+    reading Word c (cs ++ rest) Word (Gives (c ∷ [])) (cs ∷ words)
+    (cond-false _ _ _ is.not_blank ∙ begins_bare c is.not_single is.not_double is.not_backslash)
+    (plain_chars_read option cs rest words parts.1 found)
+
+plain_word_reads : (word rest : List ℕ) (words : List (List ℕ)) → is_plain word ≡ true → words_from Word rest ≡ Some ([] ∷ words) → words_from Between (word ++ rest) ≡ Some (word ∷ words)
+plain_word_reads [] rest words plain found = absurd cc
+plain_word_reads (c ∷ cs) rest words plain found =
+    let parts = and_parts (is_safe c) (list_all (λ d. is_safe d || ((c == 45) && (d == 61))) cs) plain in
+    let is = bare_from_safe c parts.0 in
+    reading Between c (cs ++ rest) Word (Gives (c ∷ [])) (cs ∷ words)
+    (cond-false _ _ _ is.not_blank ∙ cond-false _ _ _ is.not_hash ∙ begins_bare c is.not_single is.not_double is.not_backslash)
+    (plain_chars_read (c == 45) cs rest words parts.1 found)
+
+-- ---- words
+
+word_reads : (word rest : List ℕ) (words : List (List ℕ)) → words_from Word rest ≡ Some ([] ∷ words) → words_from Between (quoted_word word ++ rest) ≡ Some (word ∷ words)
+word_reads word rest words found =
+    cond_both (is_plain word) word (single_quote ∷ (flat_map quoted_char word ++ single_quote ∷ []))
+    (λ written. words_from Between (written ++ rest) ≡ Some (word ∷ words))
+    (λ plain. plain_word_reads word rest words plain found)
+    (λ not_plain. reading Between single_quote ((flat_map quoted_char word ++ single_quote ∷ []) ++ rest) SingleQuoted (Gives []) (word ∷ words) refl
+    (ap (words_from SingleQuoted) (append_assoc (flat_map quoted_char word) (single_quote ∷ []) rest) ∙ quoted_chars_read word rest words found))
+
+further_read : (words : List (List ℕ)) → words_from Word (further words) ≡ Some ([] ∷ words)
+further_read [] = refl
+further_read (word ∷ words) =
+    reading Word 32 (quoted_word word ++ further words) Between EndsWord (word ∷ words) refl (word_reads word (further words) words (further_read words))
+
+pub quoted_reads : (words : List (List ℕ)) → split_chars (quoted words) ≡ Some words
+quoted_reads [] = refl
+quoted_reads (word ∷ words) = word_reads word (further words) words (further_read words)
+
+pub quoted_text : (words : List (List ℕ)) → IsText (quoted words) words
+quoted_text words = text_of_words (quoted words) words (quoted_reads words)
+
+-- ---- what is written, as bytes
+
+-- one more character between quotes
+pub quoted_push : (old now new yielded : List ℕ) (c : ℕ) → now ≡ old ++ encode_utf8_all (flat_map quoted_char yielded) → new ≡ now ++ encode_utf8_all (quoted_char c) → new ≡ old ++ encode_utf8_all (flat_map quoted_char (yielded ++ c ∷ []))
+quoted_push old now new yielded c before after =
+    after ∙ ap (λ t. t ++ encode_utf8_all (quoted_char c)) before
+    ∙ append_assoc old (encode_utf8_all (flat_map quoted_char yielded)) (encode_utf8_all (quoted_char c))
+    ∙ ap (λ t. old ++ t) (sym (rw (flat_map-append, encodes-append) (ap (λ t. encode_utf8_all (flat_map quoted_char yielded) ++ encode_utf8_all t) (append-nil (quoted_char c)))))
+
+-- a word in quotes
+pub quoted_whole : (old opened inside closed word : List ℕ) → is_plain word ≡ false → opened ≡ old ++ encode_utf8 single_quote → inside ≡ opened ++ encode_utf8_all (flat_map quoted_char word) → closed ≡ inside ++ encode_utf8 single_quote → closed ≡ old ++ encode_utf8_all (quoted_word word)
+quoted_whole old opened inside closed word plain is_opened is_inside is_closed =
+    let written : encode_utf8_all (quoted_word word) ≡ encode_utf8 single_quote ++ (encode_utf8_all (flat_map quoted_char word) ++ encode_utf8 single_quote) =
+    ap encode_utf8_all (cond-false _ _ _ plain) ∙ ap (λ t. encode_utf8 single_quote ++ t) (encodes-append (flat_map quoted_char word) (single_quote ∷ []) ∙ ap (λ t. encode_utf8_all (flat_map quoted_char word) ++ t) (append-nil (encode_utf8 single_quote))) in
+    is_closed ∙ ap (λ t. t ++ encode_utf8 single_quote) (is_inside ∙ ap (λ t. t ++ encode_utf8_all (flat_map quoted_char word)) is_opened)
+    ∙ ap (λ t. t ++ encode_utf8 single_quote) (append_assoc old (encode_utf8 single_quote) (encode_utf8_all (flat_map quoted_char word)))
+    ∙ append_assoc old (encode_utf8 single_quote ++ encode_utf8_all (flat_map quoted_char word)) (encode_utf8 single_quote)
+    ∙ ap (λ t. old ++ t) (append_assoc (encode_utf8 single_quote) (encode_utf8_all (flat_map quoted_char word)) (encode_utf8 single_quote) ∙ sym written)
+
+-- one more word, with a space in front
+pub further_push : {Z : Type 0} (now spaced new : List ℕ) (word : String Z) (rest : List (String Z)) (all : List ℕ) →
+    now ++ encode_utf8_all (further (map chars (map string_bytes (word ∷ rest)))) ≡ all → spaced ≡ now ++ encode_utf8 32 →
+    new ≡ spaced ++ encode_utf8_all (quoted_word (chars (string_bytes word))) → new ++ encode_utf8_all (further (map chars (map string_bytes rest))) ≡ all
+further_push now spaced new word rest all before space after =
+    let w : List ℕ = quoted_word (chars (string_bytes word)) in
+    let others : List ℕ = further (map chars (map string_bytes rest)) in
+    ap (λ t. t ++ encode_utf8_all others) (after ∙ ap (λ t. t ++ encode_utf8_all w) space)
+    ∙ append_assoc (now ++ encode_utf8 32) (encode_utf8_all w) (encode_utf8_all others)
+    ∙ append_assoc now (encode_utf8 32) (encode_utf8_all w ++ encode_utf8_all others)
+    ∙ ap (λ t. now ++ (encode_utf8 32 ++ t)) (sym (encodes-append w others))
+    ∙ before
+
+-- the first word and the others
+pub words_push : {Z : Type 0} (old now new : List ℕ) (words : List (String Z)) (first : String Z) → 1 ≤ length words → first ≡ get_or words 0 first →
+    now ≡ old ++ encode_utf8_all (quoted_word (chars (string_bytes first))) →
+    new ≡ now ++ encode_utf8_all (further (map chars (map string_bytes (take (length words - 1) (drop 1 words))))) →
+    new ≡ old ++ encode_utf8_all (quoted (map chars (map string_bytes words)))
+words_push old now new [] first some is before after = absurd (omega arith)
+words_push old now new (word ∷ rest) first some is before after =
+    let w : List ℕ = quoted_word (chars (string_bytes word)) in
+    let others : List ℕ = further (map chars (map string_bytes rest)) in
+    let all : take (length (word ∷ rest) - 1) rest ≡ rest = take_all _ rest (omega arith) in
+    after ∙ ap (λ ws. now ++ encode_utf8_all (further (map chars (map string_bytes ws)))) all
+    ∙ ap (λ t. t ++ encode_utf8_all others) (before ∙ ap (λ v. old ++ encode_utf8_all (quoted_word (chars (string_bytes v)))) is)
+    ∙ append_assoc old (encode_utf8_all w) (encode_utf8_all others)
+    ∙ ap (λ t. old ++ t) (sym (encodes-append w others))
+
+-- what a write left, if it succeeded
+pub ok_written : {E : Type 0} (r : Result (Unit {0}) E) (old more new want : List ℕ) → new ≡ cond (is_ok r) (old ++ more) old → old ++ more ≡ want → OnOk r (new ≡ want)
+ok_written (Ok _) old more new want is same = is ∙ same
+ok_written (Err _) old more new want is same = tt
+
+same_bytes : {Z : Type 0} (words : List (String Z)) → map string_bytes words ≡ map encode_utf8_all (map chars (map string_bytes words))
+same_bytes [] = refl
+same_bytes (word ∷ words) = cc (encodes-chars (string_bytes word) (IsUtf8-string_bytes word), same_bytes words)
+
+quoted_chars : {Z : Type 0} (words : List (String Z)) (t : String Z) → string_bytes t ≡ encode_utf8_all (quoted (map chars (map string_bytes words))) → chars (string_bytes t) ≡ quoted (map chars (map string_bytes words))
+quoted_chars words t is = sym (chars_from_encodes (quoted (map chars (map string_bytes words))) (string_bytes t) (IsUtf8-string_bytes t) (sym is))
+
+pub quoted_has_words : {Z : Type 0} (words : List (String Z)) (t : String Z) → string_bytes t ≡ encode_utf8_all (quoted (map chars (map string_bytes words))) → HasWords (string_bytes t) (map string_bytes words)
+quoted_has_words words t is =
+    (map chars (map string_bytes words), subst (λ cs. IsText cs (map chars (map string_bytes words))) (sym (quoted_chars words t is)) (quoted_text (map chars (map string_bytes words))), same_bytes words)
+
+pub quoted_value : {Z : Type 0} (words : List (String Z)) (t : String Z) → string_bytes t ≡ encode_utf8_all (quoted (map chars (map string_bytes words))) → split_chars (chars (string_bytes t)) ≡ Some (map chars (map string_bytes words))
+quoted_value words t is = ap split_chars (quoted_chars words t is) ∙ quoted_reads (map chars (map string_bytes words))

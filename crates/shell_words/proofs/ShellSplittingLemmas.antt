@@ -1,0 +1,57 @@
+-- What a splitter holds after a text gives the words of that text.
+use Rattle.std.proofs.Common.{ℕ, List, [], ◌∷◌, ◌++◌, ◌≡◌, refl, sym, ap, ◌∙◌, map, append-nil, append_assoc, Some, None, Option, encode_utf8_all}
+use Rattle.std.specs.Option.{option_map}
+use Rattle.std.specs.List.{fold}
+use Rattle.std.proofs.lemmas.Str.{encodes-append}
+use Rattle.shell_words.specs.declared.splitting.State.{State}
+use Rattle.shell_words.specs.declared.splitting.State.TheVariants.{Between, Comment, Word, Escaped, SingleQuoted, DoubleQuoted, EscapedInQuotes}
+use Rattle.shell_words.specs.Shell.Splitting.{Effect, Skips, Gives, EndsWord, reads, prepend, with_effect, words_at_end, words_from, split_chars, Splitting, start, applied, after, ended, finished}
+
+-- the words that a splitter gives, where these are the words of the rest of the text
+abbrev joined : List (List ℕ) → List ℕ → List (List ℕ) → List (List ℕ)
+joined words word later = words ++ prepend word (map encode_utf8_all later)
+
+pub prepend-nil : (words : List (List ℕ)) → prepend [] words ≡ words
+prepend-nil [] = refl
+prepend-nil (word ∷ words) = refl
+
+map_twice : {A B C : Type 0} (f : A → C) (g : B → C) (h : A → B) → ((x : A) → f x ≡ g (h x)) → (o : Option A) → option_map f o ≡ option_map g (option_map h o)
+map_twice f g h same None = refl
+map_twice f g h same (Some x) = ap Some (same x)
+
+joined_end : (state : State) (words : List (List ℕ)) (word : List ℕ) → ended state words word ≡ option_map (joined words word) (words_at_end state)
+joined_end Between words word = ap Some (sym (append-nil words))
+joined_end Comment words word = ap Some (sym (append-nil words))
+joined_end Word words word = ap (λ w. Some (words ++ w ∷ [])) (sym (append-nil word))
+joined_end Escaped words word = refl
+joined_end SingleQuoted words word = refl
+joined_end DoubleQuoted words word = refl
+joined_end EscapedInQuotes words word = refl
+
+joined_gives : (words : List (List ℕ)) (word given : List ℕ) (later : List (List ℕ)) → joined words (word ++ encode_utf8_all given) later ≡ joined words word (prepend given later)
+joined_gives words word given [] = refl
+joined_gives words word given (next ∷ later) =
+    ap (λ w. words ++ w ∷ map encode_utf8_all later)
+    (append_assoc word (encode_utf8_all given) (encode_utf8_all next) ∙ ap (λ w. word ++ w) (sym (encodes-append given next)))
+
+joined_ends : (words : List (List ℕ)) (word : List ℕ) (later : List (List ℕ)) → joined (words ++ word ∷ []) [] later ≡ joined words word ([] ∷ later)
+joined_ends words word later =
+    append_assoc words (word ∷ []) (prepend [] (map encode_utf8_all later))
+    ∙ ap (λ ws. words ++ word ∷ ws) (prepend-nil (map encode_utf8_all later))
+    ∙ ap (λ w. words ++ w ∷ map encode_utf8_all later) (sym (append-nil word))
+
+joined_step : (read : State × Effect) (cs : List ℕ) (s : Splitting) →
+    option_map (joined (applied read s).words (applied read s).word) (words_from (applied read s).state cs)
+    ≡ option_map (joined s.words s.word) (option_map (λ words. with_effect read.1 words) (words_from read.0 cs))
+joined_step (state, Skips) cs s = map_twice _ _ _ (λ later. refl) (words_from state cs)
+joined_step (state, Gives given) cs s = map_twice _ _ _ (joined_gives s.words s.word given) (words_from state cs)
+joined_step (state, EndsWord) cs s = map_twice _ _ _ (joined_ends s.words s.word) (words_from state cs)
+
+finished_after : (cs : List ℕ) (s : Splitting) → finished (fold after s cs) ≡ option_map (joined s.words s.word) (words_from s.state cs)
+finished_after [] s = joined_end s.state s.words s.word
+finished_after (c ∷ cs) s = finished_after cs (after s c) ∙ joined_step (reads s.state c) cs s
+
+-- from the start
+pub finished_is : (cs : List ℕ) → finished (fold after start cs) ≡ option_map (map encode_utf8_all) (split_chars cs)
+finished_is cs =
+    finished_after cs start ∙ ap (λ f. option_map f (split_chars cs)) (λ i later. prepend-nil (map encode_utf8_all later) i)

@@ -1,0 +1,28 @@
+use Rattle.std.proofs.Common.{◌≡◌, ◌++◌, ◌∙◌, refl, ap, sym, string_bytes, encode_utf8, encode_utf8_all, map-id}
+use Rattle.std.specs.List.{flat_map}
+use Rattle.std.specs.Str.{chars}
+use Rattle.std.proofs.lemmas.Bool.{cond-true}
+use Rattle.std.proofs.lemmas.Iterator.{YieldsList-from_chars}
+use Rattle.std.proofs.lemmas.Iterator.Consumers.{YieldsList-end}
+use Rattle.std.proofs.lemmas.Str.{encodes-chars}
+use Rattle.shell_words.specs.Shell.Quoting.{quoted_word, quoted_char, is_plain}
+use Rattle.shell_words.proofs.ShellQuotingLemmas.{quoted_push, quoted_whole, ok_written}
+use Rattle.shell_words.proofs.quoting.push_word.Goals as goal
+
+-- A plain word is written as it stands.
+pub returns-then-is_plain : goal.returns-then-is_plain
+returns-then-is_plain c =
+    let written : encode_utf8_all (quoted_word (chars c.args.word.now)) ≡ c.args.word.now =
+    ap encode_utf8_all (cond-true (is_plain (chars c.args.word.now)) _ _ (sym c.is_plain.ensures ∙ c.if-is_plain.true)) ∙ encodes-chars c.args.word.now c.utf8.word in
+    ok_written c.push_str.result (string_bytes c.args.text.now) c.args.word.now (string_bytes c.push_str.new.self) (string_bytes c.args.text.now ++ encode_utf8_all (quoted_word (chars c.args.word.now))) c.push_str.ensures.bytes (ap (λ t. string_bytes c.args.text.now ++ t) (sym written))
+
+pub loop-c-preserved : goal.loop-c-preserved
+loop-c-preserved c = quoted_push _ _ _ c.loop-c.yielded c.in-Some.c c.loop-c.invariant c.in_ok-push_char.ensures
+
+pub returns : goal.returns
+returns c =
+    let done = YieldsList-end (YieldsList-from_chars c.args.word.now c.utf8.word cc) c.loop-c.yielded _ c.loop-c.yielded_by _ _ c.in-None.is c.next.ensures.steps in
+    let inside : string_bytes c.loop-c.text ≡ string_bytes c.push.new.self ++ encode_utf8_all (flat_map quoted_char (chars c.args.word.now)) =
+    c.loop-c.invariant ∙ ap (λ cs. string_bytes c.push.new.self ++ encode_utf8_all (flat_map quoted_char cs)) (sym (map-id c.loop-c.yielded) ∙ done.0) in
+    ok_written c.push-2.result (string_bytes c.loop-c.text) (encode_utf8 39) (string_bytes c.push-2.new.self) (string_bytes c.args.text.now ++ encode_utf8_all (quoted_word (chars c.args.word.now))) c.push-2.ensures.bytes
+    (quoted_whole (string_bytes c.args.text.now) (string_bytes c.push.new.self) (string_bytes c.loop-c.text) (string_bytes c.loop-c.text ++ encode_utf8 39) (chars c.args.word.now) (sym c.is_plain.ensures ∙ c.if-is_plain.false) c.in_ok-push.ensures.bytes inside refl)

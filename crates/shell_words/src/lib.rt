@@ -1,0 +1,9 @@
+//! The words of a shell command: splitting a text into them, and writing them so that they are read back.
+#![tactic(auto)]
+
+pub mod laws;
+mod quoting;
+mod splitting;
+
+pub use quoting::quote;
+pub use splitting::split;

@@ -1,0 +1,97 @@
+//! Writing the words of a shell command so that they are read back.
+
+ghost use Rattle.std.specs.Prelude.{◌≡◌, ◌++◌, Some, map, IfOk, OnOk, encode_utf8_all, string_bytes};
+ghost use Rattle.std.specs.Str.{chars};
+ghost use Rattle.shell_words.specs.Shell.{HasWords};
+ghost use Rattle.shell_words.specs.Shell.Splitting.{split_chars};
+ghost use Rattle.shell_words.specs.Shell.Quoting.{is_safe, is_plain, quoted_char, quoted_word, further, quoted};
+
+use std::alloc::{AllocError, Global};
+
+/// Writes the words of a command so that a POSIX shell, and [`split`](super::split), read them back.
+///
+/// A space stands between each two. A word of safe characters stays as it is, and any other, the empty word
+/// too, stands in single quotes, with each `'` written as `'\''`. A `=` is safe only in a word that begins with
+/// `-`, since a shell takes `A=b` for an assignment. A first word that a shell knows by itself, as `if` or an
+/// alias, is not told apart.
+pub fn quote(alloc: Global, words: &[String]) -> Result<String, AllocError>
+    // The text, exactly.
+    ensures text { IfOk result (λ t.
+        string_bytes t ≡ encode_utf8_all (quoted (map chars (map string_bytes words.now)))) }
+    // It has these words, whatever they hold.
+    ensures words { IfOk result (λ t. HasWords (string_bytes t) (map string_bytes words.now)) }
+    ensures value { IfOk result (λ t.
+        split_chars (chars (string_bytes t)) ≡ Some (map chars (map string_bytes words.now))) }
+{
+    let mut text = String::new(alloc);
+    push_words(&mut text, words)?;
+    Ok(text)
+}
+
+/// Writes words at the end, with a space between each two.
+fn push_words(text: &mut String, words: &[String]) -> Result<(), AllocError>
+    ensures { OnOk result (string_bytes text.new
+        ≡ string_bytes text.old ++ encode_utf8_all (quoted (map chars (map string_bytes words.now)))) }
+{
+    let [first, rest @ ..] = words else {
+        return Ok(());
+    };
+    push_word(text, first)?;
+    push_further(text, rest)
+}
+
+/// Writes words at the end, each with a space in front.
+fn push_further(text: &mut String, words: &[String]) -> Result<(), AllocError>
+    ensures { OnOk result (string_bytes text.new
+        ≡ string_bytes text.old ++ encode_utf8_all (further (map chars (map string_bytes words.now)))) }
+{
+    for word in words {
+        text.push(' ')?;
+        push_word(text, word)?;
+    }
+    Ok(())
+}
+
+fn push_word(text: &mut String, word: &str) -> Result<(), AllocError>
+    ensures { OnOk result (string_bytes text.new
+        ≡ string_bytes text.old ++ encode_utf8_all (quoted_word (chars word.now))) }
+{
+    if is_plain(word) {
+        return text.push_str(word);
+    }
+    text.push('\'')?;
+    for c in word.chars() {
+        push_char(text, c)?;
+    }
+    text.push('\'')
+}
+
+fn push_char(text: &mut String, c: char) -> Result<(), AllocError>
+    ensures { OnOk result (string_bytes text.new ≡ string_bytes text.old ++ encode_utf8_all (quoted_char c)) }
+{
+    if c == '\'' {
+        text.push_str("'\\''")
+    } else {
+        text.push(c)
+    }
+}
+
+fn is_plain(word: &str) -> bool
+    ensures { result ≡ is_plain (chars word.now) }
+{
+    let mut chars = word.chars();
+    let Some(first) = chars.next() else {
+        return false;
+    };
+    is_safe(first) && chars.all(|c| is_safe(c) || first == '-' && c == '=')
+}
+
+/// A character that no POSIX shell reads as anything but itself.
+fn is_safe(c: char) -> bool
+    ensures { result ≡ is_safe c }
+{
+    match c {
+        '_' | '-' | '.' | '/' | ':' | ',' | '+' | '@' | '%' => true,
+        _ => c.is_ascii_alphanumeric(),
+    }
+}

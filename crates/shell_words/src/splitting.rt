@@ -1,0 +1,218 @@
+//! Splitting a text into the words of a shell command.
+
+ghost use Rattle.std.specs.Prelude.{◌≡◌, map, IfOk, OnOk, MatchOption, encode_utf8_all, string_bytes};
+ghost use Rattle.std.specs.Option.{option_map};
+ghost use Rattle.std.specs.Str.{chars};
+ghost use Rattle.shell_words.specs.Shell.{HasWords, HasNoWords};
+ghost use Rattle.shell_words.specs.Shell.Splitting.{split_chars};
+
+use std::alloc::{AllocError, Global};
+use std::marker::Model;
+use std::mem;
+
+/// Splits a text into the words of a command.
+///
+/// These are POSIX shell words before any expansion, as the crate `shlex` splits them: a `#` at a word's
+/// start begins a comment, which a newline ends, and `$`, `*`, `|` and `;` are characters like others.
+/// As in that crate, a backslash and a newline between blanks are an empty word, where a shell has none.
+/// `None` if a quote is not closed, or a backslash ends the text.
+pub fn split(alloc: Global, text: &str) -> Result<Option<Vec<String>>, AllocError>
+    // The text has these words, or it has none.
+    ensures words { IfOk result (λ found.
+        MatchOption found (HasNoWords text.now) (λ v. HasWords text.now (map string_bytes v.items))) }
+    // They are those that `split_chars` computes.
+    ensures value { IfOk result (λ found.
+        option_map (λ v. map string_bytes v.items) found
+        ≡ option_map (map encode_utf8_all) (split_chars (chars text.now))) }
+{
+    let mut splitter = Splitter::new(alloc);
+    for c in text.chars() {
+        splitter.read(c)?;
+    }
+    splitter.finish()
+}
+
+/// Where a splitter is in a text.
+#[derive(Clone, Copy)]
+enum State {
+    /// Between words.
+    Between,
+    /// After a `#` that begins a comment.
+    Comment,
+    /// In a word, outside quotes.
+    Word,
+    /// In a word, after a backslash.
+    Escaped,
+    /// Between single quotes.
+    SingleQuoted,
+    /// Between double quotes.
+    DoubleQuoted,
+    /// Between double quotes, after a backslash.
+    EscapedInQuotes,
+}
+
+/// The words so far of a text that is read character by character.
+#[derive(Drop)]
+struct Splitter {
+    alloc: Global,
+    state: State,
+    words: Vec<String>,
+    word: String,
+}
+
+impl Model for Splitter {
+    ghost use Rattle.std.specs.Prelude.{map, string_bytes};
+    ghost use Rattle.shell_words.specs.Shell.Splitting.{Splitting};
+
+    ghost Value = { Splitting };
+
+    ghost view = { λ s. record { state = s.state; words = map string_bytes s.words.items; word = string_bytes s.word } };
+}
+
+impl Splitter {
+    ghost use Rattle.shell_words.specs.Shell.Splitting.{start, after, applied, finished, begins_piece, reads_between, reads_comment, reads_word, reads_escaped, reads_single_quoted, reads_double_quoted, reads_escaped_in_quotes, Effect};
+
+    fn new(alloc: Global) -> Self
+        ensures { result ≡ start }
+    {
+        Splitter {
+            alloc,
+            state: State::Between,
+            words: Vec::new(alloc),
+            word: String::new(alloc),
+        }
+    }
+
+    fn read(&mut self, c: char) -> Result<(), AllocError>
+        ensures { OnOk result (self.new ≡ after self.old c) }
+    {
+        match self.state {
+            State::Between => self.read_between(c),
+            State::Comment => self.read_comment(c),
+            State::Word => self.read_word(c),
+            State::Escaped => self.read_escaped(c),
+            State::SingleQuoted => self.read_single_quoted(c),
+            State::DoubleQuoted => self.read_double_quoted(c),
+            State::EscapedInQuotes => self.read_escaped_in_quotes(c),
+        }
+    }
+
+    fn read_between(&mut self, c: char) -> Result<(), AllocError>
+        ensures { OnOk result (self.new ≡ applied (reads_between c) self.old) }
+    {
+        match c {
+            ' ' | '\t' | '\n' => self.state = State::Between,
+            '#' => self.state = State::Comment,
+            _ => self.begin_piece(c)?,
+        }
+        Ok(())
+    }
+
+    fn read_comment(&mut self, c: char) -> Result<(), AllocError>
+        ensures { OnOk result (self.new ≡ applied (reads_comment c) self.old) }
+    {
+        self.state = if c == '\n' {
+            State::Between
+        } else {
+            State::Comment
+        };
+        Ok(())
+    }
+
+    fn read_word(&mut self, c: char) -> Result<(), AllocError>
+        ensures { OnOk result (self.new ≡ applied (reads_word c) self.old) }
+    {
+        match c {
+            ' ' | '\t' | '\n' => self.end_word(),
+            _ => self.begin_piece(c),
+        }
+    }
+
+    fn end_word(&mut self) -> Result<(), AllocError>
+        ensures { OnOk result (self.new ≡ applied (State.Between, Effect.EndsWord) self.old) }
+    {
+        let word = mem::replace(&mut self.word, String::new(self.alloc));
+        self.words.push(word)?;
+        self.state = State::Between;
+        Ok(())
+    }
+
+    fn begin_piece(&mut self, c: char) -> Result<(), AllocError>
+        ensures { OnOk result (self.new ≡ applied (begins_piece c) self.old) }
+    {
+        match c {
+            '\\' => self.state = State::Escaped,
+            '\'' => self.state = State::SingleQuoted,
+            '"' => self.state = State::DoubleQuoted,
+            _ => {
+                self.word.push(c)?;
+                self.state = State::Word;
+            }
+        }
+        Ok(())
+    }
+
+    fn read_escaped(&mut self, c: char) -> Result<(), AllocError>
+        ensures { OnOk result (self.new ≡ applied (reads_escaped c) self.old) }
+    {
+        if c != '\n' {
+            self.word.push(c)?;
+        }
+        self.state = State::Word;
+        Ok(())
+    }
+
+    fn read_single_quoted(&mut self, c: char) -> Result<(), AllocError>
+        ensures { OnOk result (self.new ≡ applied (reads_single_quoted c) self.old) }
+    {
+        if c == '\'' {
+            self.state = State::Word;
+        } else {
+            self.word.push(c)?;
+            self.state = State::SingleQuoted;
+        }
+        Ok(())
+    }
+
+    fn read_double_quoted(&mut self, c: char) -> Result<(), AllocError>
+        ensures { OnOk result (self.new ≡ applied (reads_double_quoted c) self.old) }
+    {
+        match c {
+            '"' => self.state = State::Word,
+            '\\' => self.state = State::EscapedInQuotes,
+            _ => {
+                self.word.push(c)?;
+                self.state = State::DoubleQuoted;
+            }
+        }
+        Ok(())
+    }
+
+    fn read_escaped_in_quotes(&mut self, c: char) -> Result<(), AllocError>
+        ensures { OnOk result (self.new ≡ applied (reads_escaped_in_quotes c) self.old) }
+    {
+        match c {
+            '$' | '`' | '"' | '\\' => self.word.push(c)?,
+            '\n' => {}
+            _ => {
+                self.word.push('\\')?;
+                self.word.push(c)?;
+            }
+        }
+        self.state = State::DoubleQuoted;
+        Ok(())
+    }
+
+    fn finish(mut self) -> Result<Option<Vec<String>>, AllocError>
+        ensures { IfOk result (λ found.
+            option_map (λ v. map string_bytes v.items) found ≡ finished self) }
+    {
+        match self.state {
+            State::Between | State::Comment => {}
+            State::Word => self.end_word()?,
+            _ => return Ok(None),
+        }
+        let Splitter { words, .. } = self;
+        Ok(Some(words))
+    }
+}
