@@ -160,9 +160,28 @@ impl<T: Copy> Argument<T> {
         }
     }
 
-    /// Puts the words that the item is written as last among `words`: for an option with its value
-    /// two words, or one where the value was joined, with the delimiter where there is one and the
-    /// value isn't empty. On an error `words` stay as they were.
+    /// The words that the item is written as, in memory of their own: those of `write`.
+    pub fn words(&self, alloc: Global) -> Result<Words, AllocError>
+        ensures { IfOk result (λ words. words ≡ words_of (item_of self.now)) }
+    {
+        let mut words = Words::new(alloc);
+        match self {
+            Argument::Raw(word) | Argument::UnknownFlag(word) => {
+                words.push(String::from_str(alloc, word.as_str())?)?;
+            }
+            Argument::Flag(text, _) => words.push(String::from_str(alloc, text)?)?,
+            Argument::WithValue(text, _, value, disposition) => {
+                let value = String::from_str(alloc, value.as_str())?;
+                write_value(alloc, text, value, *disposition, &mut words)?;
+            }
+        }
+        Ok(words)
+    }
+
+    /// Puts the words that the item is written as last among `words`, and takes the item's texts for
+    /// them. An option with its value is two words; it is one word if the value was joined, with the
+    /// delimiter between them if there is one and the value isn't empty. On an error `words` stay as
+    /// they were.
     pub fn write(self, alloc: Global, words: &mut Words) -> Result<(), AllocError>
         ensures ok { OnOk result (words.new ≡ words.old ++ words_of (item_of self)) }
         ensures err { OnErr result (words.new ≡ words.old) }
@@ -240,7 +259,8 @@ fn joined_word(
 /// The items of a line, over a table. It reads each word once, and gives at most as many items as
 /// there are words.
 ///
-/// After want of memory it gives nothing more, and `refused` tells.
+/// If memory is refused it gives nothing more, and `refused` tells. The words left are then those
+/// after the item that memory was refused for.
 #[derive(Drop)]
 pub struct ArgsIter<'a, T: Copy, S: SearchableArgInfo<T> + Drop> {
     alloc: Global,
@@ -314,16 +334,18 @@ impl<'a, T: Copy, S: SearchableArgInfo<T> + Drop> Iterator for ArgsIter<'a, T, S
     }
 }
 
-ghost use Rattle.cuda_below.specs.Items.{item_of, item_read, joined_form, separate_form, separate_item, last_item, with_value, said_of, Completes};
+ghost use Rattle.cuda_below.specs.Items.{item_of, item_read, joined_form, separate_form, separate_item, last_item, with_value, said_of, words_past, Completes};
 
-// The item that `word` begins, whose table row is `row`. An option takes its value from `line`.
+// The item that `word` begins, whose table row is `row`. An option takes its value from `line`, also
+// if memory is then refused.
 pub(crate) fn read_item<T: Copy>(
     alloc: Global,
     row: Option<&ArgInfo<T>>,
     word: &str,
     line: &mut Line<'_>,
 ) -> Result<Result<Argument<T>, ArgParseError>, AllocError>
-    ensures { IfOk result (λ r. Completes (said_of word.now (option_map entry_of (option_copied row.entry))) line.old (item_read r) line.new) }
+    ensures item { IfOk result (λ r. Completes (said_of word.now (option_map entry_of (option_copied row.entry))) line.old (item_read r) line.new) }
+    ensures left { line.new ≡ words_past (said_of word.now (option_map entry_of (option_copied row.entry))) line.old }
 {
     let Some(row) = row else {
         return Ok(Ok(Argument::unmatched(alloc, word)?));
@@ -380,16 +402,22 @@ impl<T: Copy> ArgInfo<T> {
     }
 }
 
-ghost use Rattle.cuda_below.specs.WordsLaw.{LinesHoldReadItems, WordsAreThoseRead, WordsReadBack, ListsReadBack, WholeLinesAreKept};
+ghost use Rattle.cuda_below.specs.WordsLaw.{LinesAreTheirParts, WholeItemsAreTheirParts, LinesHoldReadItems, WordsAreThoseRead, WordsReadBack, ListsReadBack, WholeLinesAreKept};
 
 /// A law, over every table: the words that an item is written as are read as that item again.
 ///
-/// It is said of items that are read from some line over the table, and that are whole: not faulty,
-/// and with no value that is both joined and empty. The words of such an item are those that it was
-/// read from (`written`), and they are read as that item whatever words come after them (`reread`).
-/// So are the words of a list of such items (`lists`). Each item of a line counts as read from one
-/// (`read`), and a line whose items are all whole is written as itself (`lines`).
+/// A line is cut into the parts that its items were read from (`parts`). It is said of items that
+/// are whole: not faulty, and with no value that is both joined and empty. Wherever such an item
+/// stands in a line, its words are the part that it was read from (`placed`). If it is a line's first
+/// item, the line begins with its words, and the later items are those of the words after them
+/// (`written`).
+///
+/// Each item of a line counts as read from one (`read`). The words of a whole item that is read from
+/// some line are read as that item whatever words come after them (`reread`). So are the words of a
+/// list of such items (`lists`), and a line whose items are all whole is written as itself (`lines`).
 pub fn words_law<T: Copy, S: SearchableArgInfo<T>>()
+    ensures parts { (table : S) → LinesAreTheirParts (S.chosen table) }
+    ensures placed { (table : S) → WholeItemsAreTheirParts (S.chosen table) }
     ensures read { (table : S) → LinesHoldReadItems (S.chosen table) }
     ensures written { (table : S) → WordsAreThoseRead (S.chosen table) }
     ensures reread { (table : S) → WordsReadBack (S.chosen table) }

@@ -1,8 +1,10 @@
 //! Writing gcc's arguments back as a command.
 
-ghost use Rattle.std.specs.Prelude.{◌≡◌, ◌++◌, map, IfOk, OnOk};
+ghost use Rattle.std.specs.Prelude.{◌≡◌, ◌++◌, map, None, Err, codes, IfOk, OnOk};
 ghost use Rattle.cuda_below.specs.Variables.{pair_of};
 ghost use Rattle.cuda_below.specs.Fault.{UnlessMemory};
+ghost use Rattle.cuda_below.specs.declared.fault.Fault.TheVariants.{MissingOutput};
+ghost use Rattle.cuda_below.specs.Outputs.{entry_at};
 ghost use Rattle.cuda_below.specs.Command.{written};
 ghost use Rattle.cuda_below.specs.GccItems.{name_of_language};
 ghost use Rattle.cuda_below.specs.GccLine.{named_words, flag_words, input_words, option_words, gcc_words};
@@ -88,7 +90,7 @@ fn line_words(alloc: Global, parsed_args: &ParsedArguments, obj: &Text) -> Resul
 /// the unhashed ones, the common ones, those that name architectures, and the input, after `--` where
 /// it stood after one. The other parts are as handed in.
 ///
-/// Refuses arguments without an output `obj`: `MissingOutput`.
+/// Refuses arguments without an output `obj`: `MissingOutput`, before any memory is asked for.
 pub fn generate_compile_commands(
     alloc: Global,
     executable: &str,
@@ -96,7 +98,8 @@ pub fn generate_compile_commands(
     cwd: &str,
     env_vars: &[(String, String)],
 ) -> Result<(SingleCompileCommand, Cacheable), Fault>
-    ensures { UnlessMemory result (written gcc_words executable.now parsed_args.now cwd.now (map pair_of env_vars.now)) }
+    ensures written { UnlessMemory result (written gcc_words executable.now parsed_args.now cwd.now (map pair_of env_vars.now)) }
+    ensures missing { entry_at (codes "obj") parsed_args.now.outputs ≡ None → result ≡ Err (MissingOutput parsed_args.now.language) }
 {
     let Some(obj) = parsed_args.outputs.get("obj") else {
         return Err(Fault::MissingOutput {
