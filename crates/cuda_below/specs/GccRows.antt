@@ -6,7 +6,7 @@ use Rattle.cuda_below.specs.declared.compiler.CCompilerKind.{CCompilerKind}
 use Rattle.cuda_below.specs.declared.compiler.CCompilerKind.TheVariants.{Nvcc, Nvhpc}
 use Rattle.cuda_below.specs.declared.arguments.ColorMode.TheVariants.{Auto}
 use Rattle.cuda_below.specs.declared.arguments.ParsedArguments.{ParsedArguments}
-use Rattle.cuda_below.specs.declared.gcc.ArgData.{ArgData}
+use Rattle.cuda_below.specs.declared.gcc.options.ArgData.{ArgData}
 use Rattle.cuda_below.specs.Table.{Entry, longest_match, longer_choice}
 use Rattle.cuda_below.specs.GccOptions.{gcc_entries}
 use Rattle.cuda_below.specs.Compiler.{Reading, accepted, cannot_cache, not_compilation}

@@ -5,7 +5,7 @@ use Rattle.std.specs.Option.{is_some, IsSome}
 use Rattle.std.proofs.lemmas.List.Elements.{All-nil, All-push, All-weaker, All-append, Contains-push, Contains-append_left, Contains-append_right}
 use Rattle.std.proofs.lemmas.Bool.{false≢true}
 use Rattle.std.proofs.lemmas.Bool.Decides.{nat_tests}
-use Rattle.cuda_below.specs.Table.{Entry, matched, is_longer, longer_match, longest_match, longer_choice, IsLongestMatch}
+use Rattle.cuda_below.specs.Table.{Entry, matched, is_longer, longer_match, longest_match, longer_choice, longest_of_two, IsLongestMatch}
 
 module _ {T : Type 0} (word : List ℕ) where
   -- an entry doesn't match
@@ -76,3 +76,8 @@ module _ {T : Type 0} (word : List ℕ) where
         | false ↦ λ ge. let shorter : length a.text ≤ length b.text = grind (arith, nat_tests) in
             (Contains-append_right first second b k.0, k.1, All-append (Within (length b.text)) first second (all_wider (length a.text) (length b.text) first shorter h.2) k.2)
       ] refl
+
+  -- two lists
+  pub longest_of_two-longest : (first second : List (Entry T)) → IsLongestMatch (first ++ second) word (longest_of_two first second word)
+  longest_of_two-longest first second =
+      longer_choice-longest first second (longest_match first word) (longest_match second word) (longest_match-longest first) (longest_match-longest second)

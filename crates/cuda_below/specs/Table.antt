@@ -88,3 +88,7 @@ module _ {T : Type 0} where
   longer_choice None second = second
   longer_choice (Some first) None = Some first
   longer_choice (Some first) (Some second) = if nat_lt (length second.text) (length first.text) then Some first else Some second
+
+  -- the entry of two lists that a word chooses: the longer one of their choices, and of equal length the second's
+  abbrev pub longest_of_two : List (Entry T) → List (Entry T) → List ℕ → Option (Entry T)
+  longest_of_two first second word = longer_choice (longest_match first word) (longest_match second word)

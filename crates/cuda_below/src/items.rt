@@ -4,6 +4,9 @@ ghost use Rattle.std.specs.Prelude.{◌≡◌, ◌∷◌, [], ◌++◌, ◌<◌,
 ghost use Rattle.std.specs.Option.{option_map, option_copied};
 ghost use Rattle.std.specs.List.{remove};
 ghost use Rattle.cuda_below.specs.Table.{entry_of};
+ghost use Rattle.cuda_below.specs.Items.{item_of, item_read};
+ghost use Rattle.cuda_below.specs.Items as spec;
+ghost use Rattle.cuda_below.specs.WordsLaw as law;
 
 use crate::table::{ArgDisposition, ArgInfo, Match, SearchableArgInfo};
 use crate::words::Words;
@@ -101,11 +104,9 @@ pub enum ArgParseError {
 }
 
 impl<T: Copy> Argument<T> {
-    ghost use Rattle.cuda_below.specs.Items.{item_of, words_of, kind_of, text_of, value_of, normalized, unmatched_item};
-
     /// The option's kind, where the item is an option.
     pub fn get_data(&self) -> Option<&T>
-        ensures { option_copied result ≡ kind_of (item_of self.now) }
+        ensures { option_copied result ≡ spec.kind_of (item_of self.now) }
     {
         match self {
             Argument::Raw(_) | Argument::UnknownFlag(_) => None,
@@ -116,7 +117,7 @@ impl<T: Copy> Argument<T> {
 
     /// The option's text, where the item is an option of the table.
     pub fn flag_str(&self) -> Option<&'static str>
-        ensures { option_copied result ≡ text_of (item_of self.now) }
+        ensures { option_copied result ≡ spec.text_of (item_of self.now) }
     {
         match self {
             Argument::Raw(_) | Argument::UnknownFlag(_) => None,
@@ -127,7 +128,7 @@ impl<T: Copy> Argument<T> {
 
     /// The option's value, as the line gives it; empty for an item that takes none.
     pub fn value(&self) -> &str
-        ensures { result.now ≡ value_of (item_of self.now) }
+        ensures { result.now ≡ spec.value_of (item_of self.now) }
     {
         match self {
             Argument::Raw(_) | Argument::UnknownFlag(_) | Argument::Flag(_, _) => "",
@@ -138,7 +139,7 @@ impl<T: Copy> Argument<T> {
     /// The same item, to be written as `disposition` says where its option may be written both ways.
     /// Any other item stays as it is.
     pub fn normalize(self, disposition: NormalizedDisposition) -> Argument<T>
-        ensures { item_of result ≡ normalized disposition (item_of self) }
+        ensures { item_of result ≡ spec.normalized disposition (item_of self) }
     {
         match self {
             Argument::WithValue(text, kind, value, form) => {
@@ -150,7 +151,7 @@ impl<T: Copy> Argument<T> {
 
     // The item of a word that no entry matches.
     fn unmatched(alloc: Global, word: &str) -> Result<Argument<T>, AllocError>
-        ensures { IfOk result (λ a. item_of a ≡ unmatched_item word.now) }
+        ensures { IfOk result (λ a. item_of a ≡ spec.unmatched_item word.now) }
     {
         let text = String::from_str(alloc, word)?;
         if word.as_bytes().first() == Some(&b'-') {
@@ -162,7 +163,7 @@ impl<T: Copy> Argument<T> {
 
     /// The words that the item is written as, in memory of their own: those of `write`.
     pub fn words(&self, alloc: Global) -> Result<Words, AllocError>
-        ensures { IfOk result (λ words. words ≡ words_of (item_of self.now)) }
+        ensures { IfOk result (λ words. words ≡ spec.words_of (item_of self.now)) }
     {
         let mut words = Words::new(alloc);
         match self {
@@ -183,7 +184,7 @@ impl<T: Copy> Argument<T> {
     /// delimiter between them if there is one and the value isn't empty. On an error `words` stay as
     /// they were.
     pub fn write(self, alloc: Global, words: &mut Words) -> Result<(), AllocError>
-        ensures ok { OnOk result (words.new ≡ words.old ++ words_of (item_of self)) }
+        ensures ok { OnOk result (words.new ≡ words.old ++ spec.words_of (item_of self)) }
         ensures err { OnErr result (words.new ≡ words.old) }
     {
         match self {
@@ -196,12 +197,10 @@ impl<T: Copy> Argument<T> {
     }
 }
 
-ghost use Rattle.cuda_below.specs.Items.{value_words, delimiter_before, normal_form};
-
 impl ArgDisposition {
     // How a value is written that stood like this.
     fn normalize(self, disposition: NormalizedDisposition) -> ArgDisposition
-        ensures { result ≡ normal_form disposition self }
+        ensures { result ≡ spec.normal_form disposition self }
     {
         match self {
             ArgDisposition::CanBeSeparated(delimiter)
@@ -222,7 +221,7 @@ fn write_value(
     disposition: ArgDisposition,
     words: &mut Words,
 ) -> Result<(), AllocError>
-    ensures ok { OnOk result (words.new ≡ words.old ++ value_words text.now (string_bytes value) disposition) }
+    ensures ok { OnOk result (words.new ≡ words.old ++ spec.value_words text.now (string_bytes value) disposition) }
     ensures err { OnErr result (words.new ≡ words.old) }
 {
     match disposition {
@@ -242,7 +241,8 @@ fn joined_word(
     delimiter: Option<u8>,
     value: &str,
 ) -> Result<String, AllocError>
-    ensures { IfOk result (λ word. string_bytes word ≡ (text.now ++ delimiter_before value.now delimiter) ++ value.now) }
+    ensures { IfOk result (λ word. string_bytes word
+        ≡ (text.now ++ spec.delimiter_before value.now delimiter) ++ value.now) }
 {
     let room = text.len().saturating_add(value.len()).saturating_add(1);
     let mut word = String::with_capacity(alloc, room)?;
@@ -310,11 +310,11 @@ impl<'a, T: Copy, S: SearchableArgInfo<T> + Drop> Iterator for ArgsIter<'a, T, S
     ghost use Rattle.std.specs.Prelude.{◌≡◌, length};
     ghost use Rattle.std.specs.Iterator.{at_most};
     ghost use Rattle.std.specs.Option.{option_map};
-    ghost use Rattle.cuda_below.specs.Items.{ReadsItem, item_read};
 
     type Item = Result<Argument<T>, ArgParseError>;
 
-    ghost next_gives = { λ s r t. ReadsItem (S.chosen s.table) s.line s.refused (option_map item_read r) t.line t.refused × (t.table ≡ s.table) };
+    ghost next_gives = { λ s r t. spec.ReadsItem (S.chosen s.table) s.line s.refused (option_map item_read r) t.line t.refused
+        × (t.table ≡ s.table) };
 
     ghost remaining = { λ s. at_most (length s.line) };
 
@@ -334,8 +334,6 @@ impl<'a, T: Copy, S: SearchableArgInfo<T> + Drop> Iterator for ArgsIter<'a, T, S
     }
 }
 
-ghost use Rattle.cuda_below.specs.Items.{item_of, item_read, joined_form, separate_form, separate_item, last_item, with_value, said_of, words_past, Completes};
-
 // The item that `word` begins, whose table row is `row`. An option takes its value from `line`, also
 // if memory is then refused.
 pub(crate) fn read_item<T: Copy>(
@@ -344,8 +342,10 @@ pub(crate) fn read_item<T: Copy>(
     word: &str,
     line: &mut Line<'_>,
 ) -> Result<Result<Argument<T>, ArgParseError>, AllocError>
-    ensures item { IfOk result (λ r. Completes (said_of word.now (option_map entry_of (option_copied row.entry))) line.old (item_read r) line.new) }
-    ensures left { line.new ≡ words_past (said_of word.now (option_map entry_of (option_copied row.entry))) line.old }
+    ensures item { IfOk result (λ r. spec.Completes
+        (spec.said_of word.now (option_map entry_of (option_copied row.entry))) line.old (item_read r) line.new) }
+    ensures left { line.new
+        ≡ spec.words_past (spec.said_of word.now (option_map entry_of (option_copied row.entry))) line.old }
 {
     let Some(row) = row else {
         return Ok(Ok(Argument::unmatched(alloc, word)?));
@@ -364,7 +364,9 @@ pub(crate) fn read_item<T: Copy>(
 impl<T: Copy> ArgInfo<T> {
     // The option with a value that was joined to it.
     fn joined(&self, value: String) -> Argument<T>
-        ensures { item_of result ≡ with_value (entry_of self.now).text (entry_of self.now).kind (string_bytes value) (joined_form (entry_of self.now).form) }
+        ensures { item_of result
+            ≡ spec.with_value (entry_of self.now).text (entry_of self.now).kind (string_bytes value)
+            (spec.joined_form (entry_of self.now).form) }
     {
         let form = match self.disposition() {
             None => ArgDisposition::Concatenated(None),
@@ -378,7 +380,7 @@ impl<T: Copy> ArgInfo<T> {
 
     // The option with a value that was the next word.
     fn separate(&self, value: String) -> Argument<T>
-        ensures { item_of result ≡ separate_item (entry_of self.now) (string_bytes value) }
+        ensures { item_of result ≡ spec.separate_item (entry_of self.now) (string_bytes value) }
     {
         let form = match self.disposition() {
             Some(ArgDisposition::CanBeSeparated(delimiter))
@@ -392,7 +394,7 @@ impl<T: Copy> ArgInfo<T> {
 
     // The option as the last word of a line, where its value would be the next one.
     fn last(&self, alloc: Global) -> Result<Argument<T>, ArgParseError>
-        ensures { item_read result ≡ last_item (entry_of self.now) }
+        ensures { item_read result ≡ spec.last_item (entry_of self.now) }
     {
         match self.disposition() {
             Some(ArgDisposition::CanBeSeparated(None))
@@ -401,8 +403,6 @@ impl<T: Copy> ArgInfo<T> {
         }
     }
 }
-
-ghost use Rattle.cuda_below.specs.WordsLaw.{LinesAreTheirParts, WholeItemsAreTheirParts, LinesHoldReadItems, WordsAreThoseRead, WordsReadBack, ListsReadBack, WholeLinesAreKept};
 
 /// A law, over every table: the words that an item is written as are read as that item again.
 ///
@@ -416,11 +416,11 @@ ghost use Rattle.cuda_below.specs.WordsLaw.{LinesAreTheirParts, WholeItemsAreThe
 /// some line are read as that item whatever words come after them (`reread`). So are the words of a
 /// list of such items (`lists`), and a line whose items are all whole is written as itself (`lines`).
 pub fn words_law<T: Copy, S: SearchableArgInfo<T>>()
-    ensures parts { (table : S) → LinesAreTheirParts (S.chosen table) }
-    ensures placed { (table : S) → WholeItemsAreTheirParts (S.chosen table) }
-    ensures read { (table : S) → LinesHoldReadItems (S.chosen table) }
-    ensures written { (table : S) → WordsAreThoseRead (S.chosen table) }
-    ensures reread { (table : S) → WordsReadBack (S.chosen table) }
-    ensures lists { (table : S) → ListsReadBack (S.chosen table) }
-    ensures lines { (table : S) → WholeLinesAreKept (S.chosen table) }
+    ensures parts { (table : S) → law.LinesAreTheirParts (S.chosen table) }
+    ensures placed { (table : S) → law.WholeItemsAreTheirParts (S.chosen table) }
+    ensures read { (table : S) → law.LinesHoldReadItems (S.chosen table) }
+    ensures written { (table : S) → law.WordsAreThoseRead (S.chosen table) }
+    ensures reread { (table : S) → law.WordsReadBack (S.chosen table) }
+    ensures lists { (table : S) → law.ListsReadBack (S.chosen table) }
+    ensures lines { (table : S) → law.WholeLinesAreKept (S.chosen table) }
 {}

@@ -9,7 +9,8 @@ ghost use Rattle.cuda_below.specs.Command.{written};
 ghost use Rattle.cuda_below.specs.GccItems.{name_of_language};
 ghost use Rattle.cuda_below.specs.GccLine.{named_words, flag_words, input_words, option_words, gcc_words};
 
-use super::{language_to_gcc_arg, push_two};
+use super::gathered::push_two;
+use super::languages::language_to_gcc_arg;
 use crate::arguments::ParsedArguments;
 use crate::command::{Cacheable, SingleCompileCommand};
 use crate::fault::Fault;
