@@ -43,16 +43,16 @@ is_compilation kind language a = is_some a.compilation_flag || is_lone_cuda kind
 abbrev pub obj_of : Asked → List ℕ → List ℕ
 obj_of a input = unwrap_or a.obj (with_extension input (codes "o"))
 
--- the path of the dependency file: the one that an option names, else, where one is needed, the object's with the
+-- the path of the dependency file: the one that an option names, else, if one is needed, the object's with the
 -- extension `d`
 abbrev pub dependency_file_of : Asked → List ℕ → Option (List ℕ)
 dependency_file_of a obj = option_or a.dependency_file (if a.target_needed then Some (with_extension obj (codes "d")) else None)
 
--- the words that name the target, where one is needed: those of the last option that names one, else the object's path
+-- the words that name the target, if one is needed: those of the last option that names one, else the object's path
 abbrev pub target_words : Asked → List ℕ → List (List ℕ)
 target_words a obj = if a.target_needed then unwrap_or a.target (codes "-MT" ∷ obj ∷ []) else []
 
--- the words that name the dependency file, where one is needed and no option names one
+-- the words that name the dependency file, if one is needed and no option names one
 abbrev pub dependency_file_words : Asked → List ℕ → List (List ℕ)
 dependency_file_words a obj = if a.target_needed && is_none a.dependency_file then codes "-MF" ∷ with_extension obj (codes "d") ∷ [] else []
 

@@ -137,7 +137,7 @@ abbrev pub to_dependencies : Destination → Bool
 to_dependencies dependencies = true
 to_dependencies _ = false
 
--- how an item is written that may be written both ways: in one word where its option's text has two bytes
+-- how an item is written that may be written both ways: in one word if its option's text has two bytes
 abbrev pub written_form : Option (List ℕ) → NormalizedDisposition
 written_form None = normal.Separated
 written_form (Some text) = if length text == 2 then normal.Concatenated else normal.Separated

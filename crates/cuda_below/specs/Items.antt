@@ -45,7 +45,7 @@ may_stand_last (Some (CanBeConcatenated None)) = true
 may_stand_last (Some (CanBeConcatenated (Some d))) = false
 
 module _ {T : Type 0} where
-  -- a word that no entry matches is an unknown flag where it begins with `-`, else a raw word
+  -- a word that no entry matches is an unknown flag if it begins with `-`, else a raw word
   abbrev pub unmatched_item : List ℕ → Item T
   unmatched_item [] = raw []
   unmatched_item (c ∷ cs) = if c == 45 then unknown_flag (c ∷ cs) else raw (c ∷ cs)
@@ -145,7 +145,7 @@ module _ {T : Type 0} where
   text_of (with_value text kind value form) = Some text
   text_of faulty = None
 
-  -- the value that an item has, and the empty text where it has none
+  -- the value that an item has, and the empty text if it has none
   abbrev pub value_of : Item T → List ℕ
   value_of (raw word) = []
   value_of (unknown_flag word) = []
@@ -177,7 +177,7 @@ words_after chosen [] = []
 words_after chosen (w ∷ before) = words_past (said_of w (chosen w)) before
 
 -- one step of reading a line, of the words and the refusal before it to those after it: an item that comes is
--- the first of the items left; where none comes, memory was refused or no word is left; a reader that met refused
+-- the first of the items left; if none comes, memory was refused or no word is left; a reader that met refused
 -- memory gives nothing more; without words nothing comes, and no refusal; and the words left are those after the
 -- first item, also when memory was refused for it
 pub record ReadsItem {T : Type 0} (chosen : List ℕ → Option (Entry T)) (before : List (List ℕ)) (was_refused : Bool) (read : Option (Item T)) (after : List (List ℕ)) (refused : Bool) : Type 0 where

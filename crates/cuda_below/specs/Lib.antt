@@ -16,6 +16,7 @@ pub mod Language
 pub mod LongestMatch
 pub mod Outputs
 pub mod Path
+pub mod Rows
 pub mod Status
 pub mod Table
 pub mod Variables

@@ -26,13 +26,13 @@ module _ {T : Type 0} (word : List ℕ) where
   all_wider : (m n : ℕ) (entries : List (Entry T)) → m ≤ n → All (Within m) entries → All (Within n) entries
   all_wider m n entries le = All-weaker (Within m) (Within n) (λ f bound some. let at : length f.text ≤ m = bound some in omega arith) entries
 
-  -- the choice so far stands where the next entry doesn't match
+  -- the choice so far stands if the next entry doesn't match
   after_unmatched : (seen : List (Entry T)) (best : Option (Entry T)) (e : Entry T) → NoMatch e → IsLongestMatch seen word best → IsLongestMatch (seen ++ e ∷ []) word best
   after_unmatched seen None e none h = All-push NoMatch seen e h none
   after_unmatched seen (Some b) e none h =
       (Contains-append_left seen (e ∷ []) b h.0, h.1, All-push (Within (length b.text)) seen e h.2 (unmatched_within (length b.text) e none))
 
-  -- a matching entry is chosen where it is longer
+  -- a matching entry is chosen if it is longer
   after_matched : (seen : List (Entry T)) (best : Option (Entry T)) (e : Entry T) → IsSome (matched e word) → IsLongestMatch seen word best → IsLongestMatch (seen ++ e ∷ []) word (cond (is_longer e best) (Some e) best)
   after_matched seen None e some h =
       (Contains-push seen e, some, All-push (Within (length e.text)) seen e (all_within (length e.text) seen h) (λ _. omega arith))

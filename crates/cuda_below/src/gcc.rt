@@ -12,6 +12,7 @@ ghost use Rattle.cuda_below.specs.Gcc.{gathering, profile_reading};
 mod answer;
 mod gathered;
 mod languages;
+pub mod laws;
 mod line;
 mod options;
 

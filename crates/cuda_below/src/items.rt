@@ -104,7 +104,7 @@ pub enum ArgParseError {
 }
 
 impl<T: Copy> Argument<T> {
-    /// The option's kind, where the item is an option.
+    /// The option's kind, if the item is an option.
     pub fn get_data(&self) -> Option<&T>
         ensures { option_copied result ≡ spec.kind_of (item_of self.now) }
     {
@@ -115,7 +115,7 @@ impl<T: Copy> Argument<T> {
         }
     }
 
-    /// The option's text, where the item is an option of the table.
+    /// The option's text, if the item is an option of the table.
     pub fn flag_str(&self) -> Option<&'static str>
         ensures { option_copied result ≡ spec.text_of (item_of self.now) }
     {
@@ -136,7 +136,7 @@ impl<T: Copy> Argument<T> {
         }
     }
 
-    /// The same item, to be written as `disposition` says where its option may be written both ways.
+    /// The same item, to be written as `disposition` says if its option may be written both ways.
     /// Any other item stays as it is.
     pub fn normalize(self, disposition: NormalizedDisposition) -> Argument<T>
         ensures { item_of result ≡ spec.normalized disposition (item_of self) }
@@ -262,7 +262,7 @@ fn joined_word(
 /// If memory is refused it gives nothing more, and `refused` tells. The words left are then those
 /// after the item that memory was refused for.
 #[derive(Drop)]
-pub struct ArgsIter<'a, T: Copy, S: SearchableArgInfo<T> + Drop> {
+pub struct ArgsIter<'a, S: SearchableArgInfo<T> + Drop, T: Copy> {
     alloc: Global,
     line: Line<'a>,
     table: S,
@@ -270,12 +270,12 @@ pub struct ArgsIter<'a, T: Copy, S: SearchableArgInfo<T> + Drop> {
     kinds: PhantomData<T>,
 }
 
-impl<'a, T: Copy, S: SearchableArgInfo<T> + Drop> ArgsIter<'a, T, S> {
+impl<'a, S: SearchableArgInfo<T> + Drop, T: Copy> ArgsIter<'a, S, T> {
     ghost use Rattle.std.specs.Prelude.{false, true};
     ghost use Rattle.cuda_below.specs.ArgsIter.{words_left, is_refused, table_of};
 
     /// The items of `words`.
-    pub fn new(alloc: Global, words: &'a [String], table: S) -> ArgsIter<'a, T, S>
+    pub fn new(alloc: Global, words: &'a [String], table: S) -> ArgsIter<'a, S, T>
         ensures words { words_left result ≡ map string_bytes words.entry.now }
         ensures table { table_of result ≡ table }
         ensures goes_on { is_refused result ≡ false }
@@ -284,7 +284,7 @@ impl<'a, T: Copy, S: SearchableArgInfo<T> + Drop> ArgsIter<'a, T, S> {
     }
 
     /// The items of the words of `line`.
-    pub fn over(alloc: Global, line: Line<'a>, table: S) -> ArgsIter<'a, T, S>
+    pub fn over(alloc: Global, line: Line<'a>, table: S) -> ArgsIter<'a, S, T>
         ensures words { words_left result ≡ line.entry }
         ensures table { table_of result ≡ table }
         ensures goes_on { is_refused result ≡ false }
@@ -306,7 +306,7 @@ impl<'a, T: Copy, S: SearchableArgInfo<T> + Drop> ArgsIter<'a, T, S> {
     }
 }
 
-impl<'a, T: Copy, S: SearchableArgInfo<T> + Drop> Iterator for ArgsIter<'a, T, S> {
+impl<'a, S: SearchableArgInfo<T> + Drop, T: Copy> Iterator for ArgsIter<'a, S, T> {
     ghost use Rattle.std.specs.Prelude.{◌≡◌, length};
     ghost use Rattle.std.specs.Iterator.{at_most};
     ghost use Rattle.std.specs.Option.{option_map};

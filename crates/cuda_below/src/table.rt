@@ -13,9 +13,9 @@ pub enum ArgDisposition {
     Separated,
     /// In the same word, right after the option's text and the delimiter.
     Concatenated(Option<u8>),
-    /// In the same word, or as the next word where the option stands alone.
+    /// In the same word, or as the next word if the option stands alone.
     CanBeSeparated(Option<u8>),
-    /// As the next word, where it might have been in the same word: how an item was read. An entry
+    /// As the next word, though it might have been in the same word: how an item was read. An entry
     /// that holds it is read as `CanBeSeparated`.
     CanBeConcatenated(Option<u8>),
 }
@@ -58,7 +58,7 @@ fn rest_of<'a>(text: &str, word: &'a str) -> Option<&'a str>
     word.strip_prefix(text)
 }
 
-// What follows the delimiter `byte`, or nothing where nothing follows the option's text.
+// What follows the delimiter `byte`, or nothing if nothing follows the option's text.
 fn value_past<'a>(byte: u8, rest: &'a str) -> Option<&'a str>
     ensures { option_copied result ≡ spec.value_after (Some byte) rest.now }
 {
@@ -112,7 +112,7 @@ impl<T: Copy> ArgInfo<T> {
         }
     }
 
-    /// What this entry makes of `word`, and `None` where it doesn't match.
+    /// What this entry makes of `word`, and `None` if it doesn't match.
     pub fn matches<'a>(&self, word: &'a str) -> Option<Match<'a>>
         ensures { option_map spec.matched_of result ≡ spec.matched (entry_of self.now) word.now }
     {
@@ -157,7 +157,7 @@ pub trait SearchableArgInfo<T: Copy> {
     /// The entry that a word chooses.
     ghost chosen: { Self → List ℕ → Option (Entry T) };
 
-    /// The row that `word` chooses: a matching one of greatest text length, and `None` where none
+    /// The row that `word` chooses: a matching one of greatest text length, and `None` if none
     /// matches.
     fn search(&self, word: &str) -> Option<&ArgInfo<T>>
         ensures { option_map entry_of (option_copied result) ≡ chosen self.now word.now };
@@ -218,8 +218,8 @@ fn longer<'a, T: Copy>(
     }
 }
 
-/// Two tables, searched as one: the longer of their choices, and of equal length the second's. Where
-/// the second table's entry of a text doesn't match a word, it doesn't count.
+/// Two tables, searched as one: the longer of their choices, and of equal length the second's. If the
+/// second table's entry of a text doesn't match a word, it doesn't count.
 impl<T: Copy, A: SearchableArgInfo<T>, B: SearchableArgInfo<T>> SearchableArgInfo<T> for (A, B) {
     ghost use Rattle.cuda_below.specs.LongestMatch.{longer_choice-longest};
 
