@@ -1,5 +1,6 @@
 -- The words that gcc's arguments are written back as.
 use Rattle.std.specs.Prelude.{ℕ, List, [], ◌∷◌, ◌++◌, Bool, if◌then◌else◌, Option, Some, None, codes}
+use Rattle.cuda_below.specs.declared.language.Language.{Language}
 use Rattle.cuda_below.specs.declared.arguments.ParsedArguments.{ParsedArguments}
 use Rattle.cuda_below.specs.GccItems.{name_of_language}
 
@@ -7,6 +8,9 @@ use Rattle.cuda_below.specs.GccItems.{name_of_language}
 abbrev pub named_words : Option (List ℕ) → List (List ℕ)
 named_words None = []
 named_words (Some name) = codes "-x" ∷ name ∷ []
+
+abbrev pub language_words : Language → List (List ℕ)
+language_words language = named_words (name_of_language language)
 
 -- the flag that asks for a compilation, if there is one
 abbrev pub flag_words : List ℕ → List (List ℕ)
@@ -25,7 +29,7 @@ option_words p = p.preprocessor_args ++ p.unhashed_args ++ p.common_args ++ p.ar
 -- options, and the input
 abbrev pub gcc_words : ParsedArguments → List ℕ → List (List ℕ)
 gcc_words p obj =
-    named_words (name_of_language p.language)
+    language_words p.language
     ++ flag_words p.compilation_flag
     ++ (codes "-o" ∷ obj ∷ [])
     ++ option_words p

@@ -22,7 +22,7 @@ use crate::items::{Argument, Line, read_item};
 use crate::table::SearchableArgInfo;
 use gathered::Gathered;
 use languages::language_from_gcc_arg;
-pub use languages::language_to_gcc_arg;
+pub use languages::{language_to_gcc_arg, push_language};
 pub use line::generate_compile_commands;
 pub use options::{ARGS, ArgData, table};
 use std::alloc::{AllocError, Global};

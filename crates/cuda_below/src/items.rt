@@ -171,9 +171,9 @@ impl<T: Copy> Argument<T> {
                 words.push(String::from_str(alloc, word.as_str())?)?;
             }
             Argument::Flag(text, _) => words.push(String::from_str(alloc, text)?)?,
-            Argument::WithValue(text, _, value, disposition) => {
+            Argument::WithValue(text, _, value, form) => {
                 let value = String::from_str(alloc, value.as_str())?;
-                write_value(alloc, text, value, *disposition, &mut words)?;
+                write_value(alloc, text, value, *form, &mut words)?;
             }
         }
         Ok(words)
@@ -190,8 +190,8 @@ impl<T: Copy> Argument<T> {
         match self {
             Argument::Raw(word) | Argument::UnknownFlag(word) => words.push(word),
             Argument::Flag(text, _) => words.push(String::from_str(alloc, text)?),
-            Argument::WithValue(text, _, value, disposition) => {
-                write_value(alloc, text, value, disposition, words)
+            Argument::WithValue(text, _, value, form) => {
+                write_value(alloc, text, value, form, words)
             }
         }
     }
@@ -218,13 +218,13 @@ fn write_value(
     alloc: Global,
     text: &str,
     value: String,
-    disposition: ArgDisposition,
+    form: ArgDisposition,
     words: &mut Words,
 ) -> Result<(), AllocError>
-    ensures ok { OnOk result (words.new ≡ words.old ++ spec.value_words text.now (string_bytes value) disposition) }
+    ensures ok { OnOk result (words.new ≡ words.old ++ spec.value_words text.now (string_bytes value) form) }
     ensures err { OnErr result (words.new ≡ words.old) }
 {
-    match disposition {
+    match form {
         ArgDisposition::Separated | ArgDisposition::CanBeConcatenated(_) => {
             words.push_two(String::from_str(alloc, text)?, value)
         }

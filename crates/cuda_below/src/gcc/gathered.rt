@@ -58,8 +58,10 @@ pub fn push_two(
 ) -> Result<(), AllocError>
     ensures { OnOk result (words.new ≡ words.old ++ first.now ∷ second.now ∷ []) }
 {
-    words.push(String::from_str(alloc, first)?)?;
-    words.push(String::from_str(alloc, second)?)
+    words.push_two(
+        String::from_str(alloc, first)?,
+        String::from_str(alloc, second)?,
+    )
 }
 
 impl Gathered {

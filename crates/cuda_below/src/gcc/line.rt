@@ -6,29 +6,17 @@ ghost use Rattle.cuda_below.specs.Fault.{UnlessMemory};
 ghost use Rattle.cuda_below.specs.declared.fault.Fault.TheVariants.{MissingOutput};
 ghost use Rattle.cuda_below.specs.Outputs.{entry_at};
 ghost use Rattle.cuda_below.specs.Command.{written};
-ghost use Rattle.cuda_below.specs.GccItems.{name_of_language};
-ghost use Rattle.cuda_below.specs.GccLine.{named_words, flag_words, input_words, option_words, gcc_words};
+ghost use Rattle.cuda_below.specs.GccLine.{flag_words, input_words, option_words, gcc_words};
 
 use super::gathered::push_two;
-use super::languages::language_to_gcc_arg;
+use super::languages::push_language;
 use crate::arguments::ParsedArguments;
 use crate::command::{Cacheable, SingleCompileCommand};
 use crate::fault::Fault;
-use crate::language::Language;
 use crate::text::Text;
 use crate::variables::Variables;
 use crate::words::Words;
 use std::alloc::{AllocError, Global};
-
-// Puts the option for the language last, if it has a name.
-fn push_language(alloc: Global, words: &mut Words, language: Language) -> Result<(), AllocError>
-    ensures { OnOk result (words.new ≡ words.old ++ named_words (name_of_language language)) }
-{
-    match language_to_gcc_arg(language) {
-        Some(name) => push_two(alloc, words, "-x", name),
-        None => Ok(()),
-    }
-}
 
 // Puts the flag that asks for a compilation last, if there is one.
 fn push_flag(alloc: Global, words: &mut Words, flag: &str) -> Result<(), AllocError>
