@@ -1,10 +1,10 @@
 -- `==` on the records says whether they are equal.
-use Rattle.std.proofs.Common.{◌≡◌, ℕ, Bool, true, false, ◌&&◌, List, nat_eq, refl, ap, int_eq, rules, Some, None}
+use Rattle.std.proofs.Common.{◌≡◌, ℕ, Bool, true, false, ◌&&◌, List, nat_eq, refl, ap, rules, Some, None}
 use Rattle.std.specs.Option.{option_eq}
 use Rattle.std.specs.Bool.{Decides, beq}
 use Rattle.std.specs.Cmp.Lexicographic.{pointwise}
 use Rattle.std.specs.Ordering.{on, eq_of_both}
-use Rattle.std.proofs.lemmas.Bool.Decides.{Decides-and, Decides-like, Decides-int_eq}
+use Rattle.std.proofs.lemmas.Bool.Decides.{Decides-and, Decides-like}
 use Rattle.std.proofs.lemmas.Slice.Eq.{bytes_eq-Decides, slice_eq-Decides}
 use denote.Enum.Bare.{sameb, same_true, true_same}
 use Rattle.cuda_below.specs.contracts.language.Language as language
@@ -13,7 +13,6 @@ use Rattle.cuda_below.specs.declared.language.Language.{Language}
 use Rattle.cuda_below.specs.declared.arguments.ColorMode.{ColorMode}
 use Rattle.cuda_below.specs.declared.arguments.ParsedArguments.{ParsedArguments}
 use Rattle.cuda_below.specs.declared.outputs.ArtifactDescriptor.{ArtifactDescriptor}
-use Rattle.cuda_below.specs.declared.status.Output.{Output}
 use Rattle.cuda_below.specs.declared.command.SingleCompileCommand.{SingleCompileCommand}
 use Rattle.cuda_below.specs.Equality.{TellsEqual}
 
@@ -38,15 +37,6 @@ pub artifacts : (a b : ArtifactDescriptor) → Decides (pointwise nat_eq a.path 
 artifacts a b =
     Decides-like (pointwise nat_eq a.path b.path && beq a.optional b.optional) (λ e. λ i. record { path = e.0 i; optional = e.1 i }) (λ e. (ap (λ x. x.path) e, ap (λ x. x.optional) e))
     (Decides-and (pointwise nat_eq a.path b.path) (beq a.optional b.optional) (bytes_eq-Decides a.path b.path) (bools a.optional b.optional))
-
--- what processes write
-pub written : (a b : Output) → Decides (int_eq a.status b.status && (pointwise nat_eq a.stdout b.stdout && pointwise nat_eq a.stderr b.stderr)) (a ≡ b)
-written a b =
-    Decides-like (int_eq a.status b.status && (pointwise nat_eq a.stdout b.stdout && pointwise nat_eq a.stderr b.stderr))
-    (λ e. λ i. record { status = e.0 i; stdout = e.1.0 i; stderr = e.1.1 i })
-    (λ e. (ap (λ x. x.status) e, (ap (λ x. x.stdout) e, ap (λ x. x.stderr) e)))
-    (Decides-and (int_eq a.status b.status) _ (Decides-int_eq a.status b.status)
-    (Decides-and (pointwise nat_eq a.stdout b.stdout) (pointwise nat_eq a.stderr b.stderr) (bytes_eq-Decides a.stdout b.stdout) (bytes_eq-Decides a.stderr b.stderr)))
 
 -- the test of environments
 abbrev pub same_variables : List (List ℕ × List ℕ) → List (List ℕ × List ℕ) → Bool
@@ -74,7 +64,7 @@ colors : (a b : ColorMode) → Decides (sameb color.the_type a b) (a ≡ b)
 colors a b = (same_true color.the_type (search rules) a b, true_same color.the_type a b)
 
 -- optional values
-options : {A : Type 0} (E : A → A → Bool) → TellsEqual E → TellsEqual (option_eq E)
+pub options : {A : Type 0} (E : A → A → Bool) → TellsEqual E → TellsEqual (option_eq E)
 options E h None None = (λ _. refl, λ _. refl)
 options E h None (Some y) = (λ e. cc, λ e. cc)
 options E h (Some x) None = (λ e. cc, λ e. cc)

@@ -1,11 +1,13 @@
 -- Facts about lists that the records rest on.
-use Rattle.std.proofs.Common.{◌≡◌, ℕ, Bool, ◌&&◌, List, [], ◌∷◌, map, refl, ap, String, string_bytes, Global, nat_eq}
+use Rattle.std.proofs.Common.{◌≡◌, ℕ, Bool, ◌&&◌, List, [], ◌∷◌, ◌++◌, map, refl, ap, ◌∙◌, String, string_bytes, Global, nat_eq}
 use Rattle.std.specs.Cmp.Lexicographic.{pointwise}
+use Rattle.std.specs.List.{AllZip, AppendsClones}
 use Rattle.std.specs.Ordering.{on, eq_of_both, match_ordering}
 use Rattle.std.specs.declared.cmp.Ordering.{Ordering}
 use Rattle.std.specs.declared.cmp.Ordering.TheVariants.{Less, Equal, Greater}
 use Rattle.std.specs.BTreeMap.{insert_entry}
 use Rattle.std.specs.Map.{lookup}
+use Rattle.std.proofs.lemmas.List.{map-append}
 use Rattle.cuda_below.specs.Variables.{pair_of}
 
 -- two mapped lists compare as the lists do by the mapped test
@@ -35,3 +37,13 @@ map-insert_entry f R (e ∷ es) k v =
 pub lookup-map : {K J X : Type 0} (f : K → J) (p : K → Bool) (q : J → Bool) → ((k : K) → p k ≡ q (f k)) → (es : List (K × X)) → lookup p es ≡ lookup q (map (λ e. (f e.0, e.1)) es)
 lookup-map f p q h [] = refl
 lookup-map f p q h (e ∷ es) = rw (h e.0, lookup-map f p q h es) refl
+
+-- copies of words, put after words, as texts
+clones-texts : (xs ys : List (String Global)) → AllZip (λ s t. string_bytes t ≡ string_bytes s) xs ys → map string_bytes ys ≡ map string_bytes xs
+clones-texts [] [] h = refl
+clones-texts [] (y ∷ ys) h = absurd h
+clones-texts (x ∷ xs) [] h = absurd h
+clones-texts (x ∷ xs) (y ∷ ys) h = λ i. h.0 i ∷ clones-texts xs ys h.1 i
+
+pub appended-clones : (old new more : List (String Global)) → AppendsClones (λ s t. string_bytes t ≡ string_bytes s) old new more → map string_bytes new ≡ map string_bytes old ++ map string_bytes more
+appended-clones old new more h = ap (map string_bytes) h.1 ∙ map-append string_bytes old h.0 ∙ ap (λ t. map string_bytes old ++ t) (clones-texts more h.0 h.2)

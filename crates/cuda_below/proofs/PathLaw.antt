@@ -3,8 +3,9 @@ use Rattle.std.proofs.Common.{◌≡◌, ◌≢◌, ℕ, Bool, true, false, cond
 use Rattle.std.specs.List.{ends_with}
 use Rattle.std.proofs.lemmas.List.{reverse-append, reverse-reverse, append_cancel_left, length-reverse}
 use Rattle.std.proofs.lemmas.Bool.{false≢true, and_parts}
-use Rattle.cuda_below.specs.Path.{is_absolute_path, separator_after, joined, lacks, is_bare, through_last_byte, after_last_byte, trimmed, is_idle, folder_of, proper_name, JoinedKeepsFolder, JoinedHasName, FolderBegins, JoinedCancels, FoldersCancel}
-use Rattle.cuda_below.proofs.PathLemmas.{reverse-push, forwards, ends_slash, trimmed-stays_before, lacks-reverse, not-is, through_last_byte-past, after_last_byte-past}
+use Rattle.cuda_below.specs.Extension.{last_part}
+use Rattle.cuda_below.specs.Path.{is_absolute_path, separator_after, joined, lacks, is_bare, through_last_byte, trimmed, is_idle, folder_of, proper_name, JoinedKeepsFolder, JoinedHasName, FolderBegins, JoinedCancels, FoldersCancel}
+use Rattle.cuda_below.proofs.PathLemmas.{reverse-push, reverse-cons, forwards, ends_slash, trimmed-stays_before, lacks-reverse, not-is, through_last_byte-past, split-bare, split-at}
 
 -- a bare name isn't absolute
 bare-relative : (f : List ℕ) → is_bare f ≡ true → is_absolute_path f ≡ false
@@ -99,14 +100,22 @@ name-kept f back bare proper =
           trimmed-stays_before false c (before ++ back) (not-is 47 c parts.0) (no_dot-before f back c before proper e parts.1)
     ] refl
 
+-- what follows the last `/` of a bare name that stands after nothing, or after a `/`
+last-bare : (f : List ℕ) → is_bare f ≡ true → last_part f ≡ f
+last-bare f bare = rw (split-bare 47 f bare) refl
+
+last-after : (front f : List ℕ) → is_bare f ≡ true → last_part (front ++ 47 ∷ f) ≡ f
+last-after front f bare = rw (split-at 47 front f bare) refl
+
 pub joined-has_name : JoinedHasName
 joined-has_name base f bare proper =
     let back = reverse (base ++ separator_after base) in
-    let seam : after_last_byte 47 back ≡ [] = at-separator (λ t. after_last_byte 47 t ≡ []) base (λ _. refl) (λ before _. refl) (λ c before _ _. refl) in
-    ap (λ t. proper_name (reverse (after_last_byte 47 (trimmed (is_idle false) t)))) (joined-backwards base f bare)
-    ∙ ap (λ t. proper_name (reverse (after_last_byte 47 t))) (name-kept f back bare proper)
-    ∙ ap (λ t. proper_name (reverse t)) (after_last_byte-past 47 (reverse f) back (lacks-reverse 47 f bare) ∙ ap (λ t. reverse f ++ t) seam ∙ append-nil (reverse f))
-    ∙ ap proper_name (reverse-reverse f) ∙ proper
+    let slash : (before : List ℕ) → last_part (reverse (47 ∷ before) ++ f) ≡ f = λ before. ap last_part (ap (λ t. t ++ f) (reverse-cons before 47) ∙ append_assoc (reverse before) (47 ∷ []) f) ∙ last-after (reverse before) f bare in
+    let seam : last_part (reverse back ++ f) ≡ f = at-separator (λ t. last_part (reverse t ++ f) ≡ f) base (λ _. last-bare f bare) (λ before _. slash before) (λ c before _ _. slash (c ∷ before)) in
+    ap (λ t. proper_name (last_part (reverse (trimmed (is_idle false) t)))) (joined-backwards base f bare)
+    ∙ ap (λ t. proper_name (last_part (reverse t))) (name-kept f back bare proper)
+    ∙ ap (λ t. proper_name (last_part t)) (reverse-append (reverse f) back ∙ ap (λ t. reverse back ++ t) (reverse-reverse f))
+    ∙ ap proper_name seam ∙ proper
 
 -- a folder is a beginning of its name
 through_last_byte-part : (byte : ℕ) (text : List ℕ) → (front : List ℕ) × (text ≡ front ++ through_last_byte byte text)

@@ -1,5 +1,5 @@
 -- Facts about the ends of texts, which are read backwards.
-use Rattle.std.proofs.Common.{◌≡◌, ◌≢◌, ℕ, ◌<◌, ◌-◌, suc, Bool, true, false, not, ◌&&◌, eqb, eq-eqb, eqb-true, ne_eqb, List, [], ◌∷◌, ◌++◌, Option, Some, None, MatchOption, Bor, refl, ap, sym, ◌∙◌, subst, drop, take, get_or, length, reverse, nat_eq, arith, append_assoc, append-nil}
+use Rattle.std.proofs.Common.{◌≡◌, ◌≢◌, ℕ, ◌<◌, ◌-◌, suc, Bool, true, false, cond, not, ◌&&◌, eqb, eq-eqb, eqb-true, ne_eqb, List, [], ◌∷◌, ◌++◌, Option, Some, None, MatchOption, Bor, refl, ap, sym, ◌∙◌, subst, drop, take, get_or, length, reverse, nat_eq, arith, append_assoc, append-nil}
 use Rattle.std.specs.List.{ends_with}
 use Rattle.std.specs.Str.Pattern.{RFindsChar, SplitsAroundMatch}
 use Rattle.std.specs.Cmp.Lexicographic.{pointwise}
@@ -8,7 +8,8 @@ use Rattle.std.proofs.lemmas.Str.Pattern.{NoCharPasses-char, drop_at_char}
 use Rattle.std.proofs.lemmas.Grind.{reverse_onto}
 use Rattle.std.proofs.lemmas.Bool.{false≢true, and_parts}
 use Rattle.std.proofs.Math.Seq.{drop-append_seam}
-use Rattle.cuda_below.specs.Path.{is_absolute_path, lacks, through_last_byte, after_last_byte, before_last_byte, trimmed, is_idle, folder_of}
+use Rattle.cuda_below.specs.Extension.{onto_front, split_at_last}
+use Rattle.cuda_below.specs.Path.{is_absolute_path, lacks, through_last_byte, trimmed, is_idle, folder_of}
 
 -- a test that isn't true is false
 pub false-not_true : (b : Bool) → (b ≡ true → ⊥) → b ≡ false
@@ -123,35 +124,35 @@ pub through_last_byte-past : (byte : ℕ) (back before : List ℕ) → lacks byt
 through_last_byte-past byte [] before h = refl
 through_last_byte-past byte (c ∷ back) before h = let parts = and_parts (not (eqb c byte)) (lacks byte back) h in rw (not-is byte c parts.0) (through_last_byte-past byte back before parts.1)
 
-pub after_last_byte-past : (byte : ℕ) (back before : List ℕ) → lacks byte back ≡ true → after_last_byte byte (back ++ before) ≡ back ++ after_last_byte byte before
-after_last_byte-past byte [] before h = refl
-after_last_byte-past byte (c ∷ back) before h = let parts = and_parts (not (eqb c byte)) (lacks byte back) h in rw (not-is byte c parts.0) (ap (λ t. c ∷ t) (after_last_byte-past byte back before parts.1))
+-- a text that lacks the byte isn't split
+pub split-bare : (byte : ℕ) (text : List ℕ) → lacks byte text ≡ true → split_at_last byte text ≡ None
+split-bare byte [] h = refl
+split-bare byte (c ∷ cs) h = let parts = and_parts (not (eqb c byte)) (lacks byte cs) h in rw (split-bare byte cs parts.1, not-is byte c parts.0) refl
 
-pub before_last_byte-past : (byte : ℕ) (back before : List ℕ) → lacks byte back ≡ true → before_last_byte byte (back ++ before) ≡ before_last_byte byte before
-before_last_byte-past byte [] before h = refl
-before_last_byte-past byte (c ∷ back) before h = let parts = and_parts (not (eqb c byte)) (lacks byte back) h in rw (not-is byte c parts.0) (before_last_byte-past byte back before parts.1)
+-- a text is split where the byte stands and what follows lacks it
+pub split-at : (byte : ℕ) (front back : List ℕ) → lacks byte back ≡ true → split_at_last byte (front ++ byte ∷ back) ≡ Some (front, back)
+split-at byte [] back h = rw (split-bare byte back h, eq-eqb byte byte refl) refl
+split-at byte (c ∷ cs) back h = rw (split-at byte cs back h) refl
 
--- what follows the last such byte of a text
-pub after-lacking : (byte : ℕ) (text : List ℕ) → lacks byte text ≡ true → reverse (after_last_byte byte (reverse text)) ≡ text
-after-lacking byte text h =
-    ap (λ t. reverse (after_last_byte byte t)) (sym (append-nil (reverse text))) ∙ ap reverse (after_last_byte-past byte (reverse text) [] (lacks-reverse byte text h) ∙ append-nil (reverse text)) ∙ reverse-reverse text
+-- what the two parts of a text are
+abbrev Parts : ℕ → List ℕ → Option (List ℕ × List ℕ) → Type 0
+Parts byte text r = MatchOption r (lacks byte text ≡ true) (λ p. (text ≡ p.0 ++ byte ∷ p.1) × (lacks byte p.1 ≡ true))
 
-pub after-parted : (byte : ℕ) (text front back : List ℕ) → text ≡ front ++ byte ∷ back → lacks byte back ≡ true → reverse (after_last_byte byte (reverse text)) ≡ back
-after-parted byte text front back e h =
-    let here : after_last_byte byte (byte ∷ reverse front) ≡ [] = rw (eq-eqb byte byte refl) refl in
-    ap (λ t. reverse (after_last_byte byte t)) (ap reverse e ∙ reverse-parted front back byte)
-    ∙ ap reverse (after_last_byte-past byte (reverse back) (byte ∷ reverse front) (lacks-reverse byte back h) ∙ ap (λ t. reverse back ++ t) here ∙ append-nil (reverse back))
-    ∙ reverse-reverse back
+split-parts : (byte : ℕ) (text : List ℕ) → Parts byte text (split_at_last byte text)
+split-parts byte [] = refl
+split-parts byte (c ∷ cs) =
+    elim (split_at_last byte cs) as (λ r. Parts byte cs r → Parts byte (c ∷ cs) (onto_front c r cs byte)) [
+      | Some p ↦ λ h. (ap (λ t. c ∷ t) h.0, h.1)
+      | None ↦ λ h.
+          elim (eqb c byte) as (λ b. eqb c byte ≡ b → Parts byte (c ∷ cs) (cond b (Some ([], cs)) None))
+          [ true ↦ λ e. (ap (λ d. d ∷ cs) (eqb-true c byte e), h) | false ↦ λ e. rw (e, h) refl ] refl
+    ] (split-parts byte cs)
 
--- what stands before it
-pub before-lacking : (byte : ℕ) (text : List ℕ) → lacks byte text ≡ true → reverse (before_last_byte byte (reverse text)) ≡ []
-before-lacking byte text h =
-    ap (λ t. reverse (before_last_byte byte t)) (sym (append-nil (reverse text))) ∙ ap reverse (before_last_byte-past byte (reverse text) [] (lacks-reverse byte text h))
+pub unsplit-lacks : (byte : ℕ) (text : List ℕ) → None ≡ split_at_last byte text → lacks byte text ≡ true
+unsplit-lacks byte text e = subst (Parts byte text) (sym e) (split-parts byte text)
 
-pub before-parted : (byte : ℕ) (text front back : List ℕ) → text ≡ front ++ byte ∷ back → lacks byte back ≡ true → reverse (before_last_byte byte (reverse text)) ≡ front
-before-parted byte text front back e h =
-    let here : before_last_byte byte (byte ∷ reverse front) ≡ reverse front = rw (eq-eqb byte byte refl) refl in
-    ap (λ t. reverse (before_last_byte byte t)) (ap reverse e ∙ reverse-parted front back byte) ∙ ap reverse (before_last_byte-past byte (reverse back) (byte ∷ reverse front) (lacks-reverse byte back h) ∙ here) ∙ reverse-reverse front
+pub split-text : (byte : ℕ) (text front back : List ℕ) → Some (front, back) ≡ split_at_last byte text → (text ≡ front ++ byte ∷ back) × (lacks byte back ≡ true)
+split-text byte text front back e = subst (Parts byte text) (sym e) (split-parts byte text)
 
 -- the folder of a name, by what stands before its last `/`
 pub folder-lacking : (name : List ℕ) → lacks 47 name ≡ true → folder_of name ≡ []

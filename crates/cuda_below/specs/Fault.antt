@@ -2,7 +2,7 @@
 use Rattle.std.specs.Prelude.{◌≡◌, ℕ, List, ◌++◌, codes, Result, Ok, Err}
 use Rattle.std.specs.Fmt.{decimal}
 use Rattle.cuda_below.specs.declared.fault.Fault.{Fault}
-use Rattle.cuda_below.specs.declared.fault.Fault.TheVariants.{NotUtf8, BadShell, EmptyCommand, NoPath, NotFound, MissingOutput, NoFileName, KeepDirValue, ThreadsValue, NoPreprocess, Process, Runner, Read, Memory}
+use Rattle.cuda_below.specs.declared.fault.Fault.TheVariants.{NotUtf8, BadShell, EmptyCommand, NoPath, NotFound, MissingOutput, NoFileName, KeepDirValue, ThreadsValue, NoPreprocess, Process, Runner, Read, Memory, BadSuffixes}
 use Rattle.cuda_below.specs.Language.{language_text}
 
 -- where a line of a run stands, and what is wrong with it
@@ -25,21 +25,14 @@ message_of (Process output) = codes "process failed"
 message_of (Runner text) = text
 message_of Read = codes "cannot read input"
 message_of Memory = codes "out of memory"
+message_of BadSuffixes = codes "bad generated suffixes"
+
+-- a fact of every fault but want of memory
+abbrev pub UnlessMemoryIs : Fault → Type 0 → Type 0
+UnlessMemoryIs Memory P = Unit {0}
+UnlessMemoryIs _ P = P
 
 -- a result is the expected one, want of memory aside
 abbrev pub UnlessMemory : {T : Type 0} → Result T Fault → Result T Fault → Type 0
 UnlessMemory (Ok x) expected = expected ≡ Ok x
-UnlessMemory (Err (NotUtf8 run line)) expected = expected ≡ Err (NotUtf8 run line)
-UnlessMemory (Err (BadShell run line)) expected = expected ≡ Err (BadShell run line)
-UnlessMemory (Err (EmptyCommand run line)) expected = expected ≡ Err (EmptyCommand run line)
-UnlessMemory (Err (NoPath run line)) expected = expected ≡ Err (NoPath run line)
-UnlessMemory (Err (NotFound program)) expected = expected ≡ Err (NotFound program)
-UnlessMemory (Err (MissingOutput language)) expected = expected ≡ Err (MissingOutput language)
-UnlessMemory (Err NoFileName) expected = expected ≡ Err NoFileName
-UnlessMemory (Err KeepDirValue) expected = expected ≡ Err KeepDirValue
-UnlessMemory (Err ThreadsValue) expected = expected ≡ Err ThreadsValue
-UnlessMemory (Err (NoPreprocess text)) expected = expected ≡ Err (NoPreprocess text)
-UnlessMemory (Err (Process output)) expected = expected ≡ Err (Process output)
-UnlessMemory (Err (Runner text)) expected = expected ≡ Err (Runner text)
-UnlessMemory (Err Read) expected = expected ≡ Err Read
-UnlessMemory (Err Memory) expected = Unit {0}
+UnlessMemory (Err fault) expected = UnlessMemoryIs fault (expected ≡ Err fault)

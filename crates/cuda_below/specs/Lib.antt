@@ -1,4 +1,5 @@
 pub mod ArgsIter
+pub mod Arguments
 pub mod Command
 pub mod Compiler
 pub mod DeviceFiles

@@ -6,6 +6,12 @@ use Rattle.std.specs.Cmp.Lexicographic.{slice_cmp}
 use Rattle.std.specs.Map.{lookup}
 use Rattle.std.specs.Str.{bytes_eq}
 use Rattle.std.specs.BTreeMap.{insert_entry}
+use Rattle.cuda_below.specs.declared.outputs.ArtifactDescriptor.{ArtifactDescriptor}
+use denote.Ref.{Bor}
+
+-- an entry of the map, with the key's text
+abbrev pub entry_of : Bor (List ℕ) × ArtifactDescriptor → List ℕ × ArtifactDescriptor
+entry_of e = (e.0.now, e.1)
 
 module _ {X : Type 0} where
   -- the entries with one more, in place of one of the same key

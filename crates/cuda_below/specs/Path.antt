@@ -3,6 +3,7 @@ use Rattle.std.specs.Prelude.{◌≡◌, ℕ, List, [], ◌∷◌, ◌++◌, Boo
 use Rattle.std.specs.List.{ends_with}
 use Rattle.std.specs.Option.{option_map}
 use Rattle.std.specs.Str.{bytes_eq}
+use Rattle.cuda_below.specs.Extension.{last_part, stem_of}
 
 -- a path is absolute where it begins with `/`
 abbrev pub is_absolute_path : List ℕ → Bool
@@ -50,11 +51,6 @@ abbrev pub through_last_byte : ℕ → List ℕ → List ℕ
 through_last_byte byte [] = []
 through_last_byte byte (c ∷ before) = if c == byte then c ∷ before else through_last_byte byte before
 
--- the part of a text after its last such byte, both backwards; all of it where it has none
-abbrev pub after_last_byte : ℕ → List ℕ → List ℕ
-after_last_byte byte [] = []
-after_last_byte byte (c ∷ before) = if c == byte then [] else c ∷ after_last_byte byte before
-
 -- a text, backwards, without its last characters, as long as a test holds of the last one and what stands before it
 abbrev pub trimmed : (ℕ → List ℕ → Bool) → List ℕ → List ℕ
 trimmed test [] = []
@@ -65,6 +61,10 @@ trimmed test (c ∷ before) = if test c before then trimmed test before else c �
 abbrev pub is_idle : Bool → ℕ → List ℕ → Bool
 is_idle keeps_root c [] = not keeps_root && (c == 47)
 is_idle keeps_root c (d ∷ before) = (c == 47) || ((c == 46) && (d == 47))
+
+-- a path, backwards, without the `/` and `.` that it may go without
+abbrev pub trimmed_backwards : Bool → List ℕ → List ℕ
+trimmed_backwards keeps_root path = trimmed (is_idle keeps_root) (reverse path)
 
 -- the folder of a name: the text up to and including its last `/`, without the `/` and `.` that it may go without.
 -- It is empty where the name has no `/`, and `/` for a name at the root
@@ -78,23 +78,10 @@ proper_name name = if bytes_eq name [] || (bytes_eq name (codes ".") || bytes_eq
 -- the file name of a path: what follows the last `/`, once the `/` and `.` are off that it may go without; none
 -- where that can be no file name. So `/`, `./` and `/.` have none, nor has `a/..`, but `a/.` has `a`
 abbrev pub file_name_of : List ℕ → Option (List ℕ)
-file_name_of path = proper_name (reverse (after_last_byte 47 (trimmed (is_idle false) (reverse path))))
+file_name_of path = proper_name (last_part (reverse (trimmed_backwards false path)))
 
--- the part of a text before its last such byte, both backwards; empty where it has none
-abbrev pub before_last_byte : ℕ → List ℕ → List ℕ
-before_last_byte byte [] = []
-before_last_byte byte (c ∷ before) = if c == byte then before else before_last_byte byte before
-
--- a text, or where that is empty the whole
-abbrev pub text_or : List ℕ → List ℕ → List ℕ
-text_or whole [] = whole
-text_or whole (c ∷ cs) = c ∷ cs
-
--- a file name before its last `.`; the whole of it where it has no `.`, or where its only `.` comes first
-abbrev pub stem_of : List ℕ → List ℕ
-stem_of name = text_or name (reverse (before_last_byte 46 (reverse name)))
-
--- the stem of a path's file name
+-- the stem of a path's file name: what stands before its last `.`; all of it if it has no `.`, or if its only `.`
+-- comes first
 abbrev pub file_stem_of : List ℕ → Option (List ℕ)
 file_stem_of path = option_map stem_of (file_name_of path)
 

@@ -1,9 +1,11 @@
 //! What a reader makes of a command line.
 
-ghost use Rattle.std.specs.Prelude.{◌≡◌, IfOk};
+ghost use Rattle.std.specs.Prelude.{◌≡◌, IfOk, MatchResult, Ok, Err};
+ghost use Rattle.cuda_below.specs.Arguments as spec;
 
+use crate::fault::Fault;
 use crate::language::Language;
-use crate::outputs::Outputs;
+use crate::outputs::{ArtifactDescriptor, OBJ, Outputs};
 use crate::text::Text;
 use crate::words::Words;
 use std::alloc::{AllocError, Global};
@@ -65,16 +67,51 @@ pub enum CompilerArguments<T> {
     NotCompilation,
 }
 
-fn clone_optional(alloc: Global, text: &Option<Text>) -> Result<Option<Text>, AllocError>
-    ensures { IfOk result (λ t. t ≡ text.now) }
-{
-    match text {
-        None => Ok(None),
-        Some(text) => Ok(Some(text.try_clone(alloc)?)),
-    }
-}
-
 impl ParsedArguments {
+    /// The arguments of a line that names an input and the files that are made of it, and nothing
+    /// else: no words, no flag, no dependency file, and each choice off.
+    pub fn of(alloc: Global, input: Text, language: Language, outputs: Outputs) -> ParsedArguments
+        ensures { result ≡ spec.plain_arguments input language outputs }
+    {
+        ParsedArguments {
+            input,
+            outputs,
+            double_dash_input: false,
+            language,
+            compilation_flag: Text::new(String::new(alloc)),
+            depfile: None,
+            dependency_args: Words::new(alloc),
+            preprocessor_args: Words::new(alloc),
+            common_args: Words::new(alloc),
+            arch_args: Words::new(alloc),
+            unhashed_args: Words::new(alloc),
+            extra_dist_files: Words::new(alloc),
+            extra_hash_files: Words::new(alloc),
+            uses_external_assembler: false,
+            msvc_show_includes: false,
+            msvc_explicit_language: false,
+            profile_generate: false,
+            color_mode: ColorMode::Off,
+            suppress_rewrite_includes_only: false,
+            too_hard_for_preprocessor_cache_mode: None,
+        }
+    }
+
+    /// The file that the command is run for: the output under the key `OBJ`. Without one the
+    /// arguments can't be written back: `MissingOutput`, with the language.
+    pub fn obj(&self) -> Result<&ArtifactDescriptor, Fault>
+        ensures { MatchResult result
+            (λ obj. spec.obj_of self.now ≡ Ok obj.now)
+            (λ fault. spec.obj_of self.now ≡ Err fault) }
+    {
+        match self.outputs.get(OBJ) {
+            Some(obj) => Ok(obj),
+            None => Err(Fault::MissingOutput {
+                language: self.language,
+            }),
+        }
+    }
+
     /// Equal arguments, in memory of their own.
     pub fn try_clone(&self, alloc: Global) -> Result<ParsedArguments, AllocError>
         ensures { IfOk result (λ p. p ≡ self.now) }
@@ -85,7 +122,7 @@ impl ParsedArguments {
             double_dash_input: self.double_dash_input,
             language: self.language,
             compilation_flag: self.compilation_flag.try_clone(alloc)?,
-            depfile: clone_optional(alloc, &self.depfile)?,
+            depfile: Text::clone_optional(alloc, &self.depfile)?,
             dependency_args: self.dependency_args.try_clone(alloc)?,
             preprocessor_args: self.preprocessor_args.try_clone(alloc)?,
             common_args: self.common_args.try_clone(alloc)?,
@@ -99,7 +136,7 @@ impl ParsedArguments {
             profile_generate: self.profile_generate,
             color_mode: self.color_mode,
             suppress_rewrite_includes_only: self.suppress_rewrite_includes_only,
-            too_hard_for_preprocessor_cache_mode: clone_optional(
+            too_hard_for_preprocessor_cache_mode: Text::clone_optional(
                 alloc,
                 &self.too_hard_for_preprocessor_cache_mode,
             )?,

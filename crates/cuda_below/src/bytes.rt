@@ -1,9 +1,11 @@
 //! Bytes that a process writes.
 
-ghost use Rattle.std.specs.Prelude.{◌≡◌, [], IfOk};
+ghost use Rattle.std.specs.Prelude.{◌≡◌, ◌==◌, [], length, IfOk};
+ghost use Rattle.std.specs.Slice.Iter.{iter_rest};
 
 use std::alloc::{AllocError, Global};
 use std::marker::Model;
+use std::slice;
 
 /// Bytes that a record holds, seen in contracts as their list.
 ///
@@ -61,11 +63,44 @@ impl Bytes {
         self.bytes
     }
 
+    /// How many bytes there are.
+    pub fn len(&self) -> usize
+        ensures { result ≡ length self.now }
+    {
+        self.bytes.len()
+    }
+
+    /// Whether there are no bytes.
+    pub fn is_empty(&self) -> bool
+        ensures { result ≡ (length self.now == 0) }
+    {
+        self.bytes.is_empty()
+    }
+
+    /// Each byte, in order.
+    pub fn iter(&self) -> slice::Iter<'_, u8>
+        ensures { iter_rest result ≡ self.now }
+    {
+        self.bytes.iter()
+    }
+
     /// Equal bytes, in memory of their own.
     pub fn try_clone(&self, alloc: Global) -> Result<Bytes, AllocError>
         ensures { IfOk result (λ b. b ≡ self.now) }
     {
         Bytes::copy_of(alloc, self.as_slice())
+    }
+}
+
+impl<'a> IntoIterator for &'a Bytes {
+    type Item = &'a u8;
+
+    type IntoIter = slice::Iter<'a, u8>;
+
+    ghost into_iter_gives = { λ bytes it. iter_rest it ≡ bytes.now };
+
+    fn into_iter(self) -> Self::IntoIter {
+        self.iter()
     }
 }
 

@@ -2,6 +2,7 @@
 
 ghost use Rattle.std.specs.Prelude.{◌≡◌, IfOk, map, string_bytes};
 ghost use Rattle.cuda_below.specs.Variables.{pair_of};
+ghost use Rattle.cuda_below.specs.Command.{single_command};
 
 use crate::text::Text;
 use crate::variables::Variables;
@@ -86,6 +87,26 @@ impl CompileCommandImpl for SingleCompileCommand {
 }
 
 impl SingleCompileCommand {
+    /// The command that runs `executable` with `arguments`, and copies of the other parts. It takes
+    /// no part in a jobserver.
+    pub fn copy_of(
+        alloc: Global,
+        executable: &str,
+        arguments: Words,
+        cwd: &str,
+        env_vars: &[(String, String)],
+    ) -> Result<SingleCompileCommand, AllocError>
+        ensures { IfOk result (λ c. c ≡ single_command executable.now arguments cwd.now (map pair_of env_vars.now)) }
+    {
+        Ok(SingleCompileCommand {
+            executable: Text::copy_of(alloc, executable)?,
+            arguments,
+            env_vars: Variables::copy_of(alloc, env_vars)?,
+            cwd: Text::copy_of(alloc, cwd)?,
+            share_jobserver: false,
+        })
+    }
+
     /// An equal command, in memory of its own.
     pub fn try_clone(&self, alloc: Global) -> Result<SingleCompileCommand, AllocError>
         ensures { IfOk result (λ c. c ≡ self.now) }

@@ -8,15 +8,14 @@ use std::alloc::{AllocError, Global};
 
 // A text split at the last place of the ASCII character `mark`: what stands before it, and what
 // follows it.
-fn split_last<'a>(text: &'a str, mark: char) -> Option<(&'a str, &'a str)>
+pub(crate) fn split_last(text: &str, mark: char) -> Option<(&str, &str)>
     requires { mark < 128 }
     ensures { option_map parts_of result ≡ split_at_last mark text.now }
 {
     text.rsplit_once(mark)
 }
 
-/// What follows the last `/` of a path text: all of it where it holds none, nothing where it ends
-/// in one.
+/// What follows the last `/` of a path text: all of it if it holds none, nothing if it ends in one.
 pub fn last(path: &str) -> &str
     ensures { result.now ≡ last_part path.now }
 {
@@ -27,7 +26,7 @@ pub fn last(path: &str) -> &str
 }
 
 // A name without its extension and the `.` before that.
-fn stem(name: &str) -> &str
+pub(crate) fn stem(name: &str) -> &str
     ensures { result.now ≡ stem_of name.now }
 {
     match split_last(name, '.') {
@@ -46,7 +45,7 @@ pub fn extension(path: &str) -> Option<&str>
     }
 }
 
-/// A path with `extension` in place of its own, or with `extension` added where it has none. So
+/// A path with `extension` in place of its own, or with `extension` added if it has none. So
 /// `a.b/c.cu` with `o` is `a.b/c.o`, and `.c` with `o` is `.c.o`.
 pub fn with_extension(alloc: Global, path: &str, extension: &str) -> Result<String, AllocError>
     ensures { IfOk result (λ whole. string_bytes whole ≡ with_extension_of path.now extension.now) }

@@ -42,6 +42,8 @@ pub enum Fault {
     Read,
     /// Memory was refused.
     Memory,
+    /// A list of suffixes of generated files breaks what is asked of it.
+    BadSuffixes,
 }
 
 impl fmt::Display for Fault {
@@ -72,6 +74,7 @@ impl fmt::Display for Fault {
             Fault::Runner(text) => f.write_str(text.as_str()),
             Fault::Read => f.write_str("cannot read input"),
             Fault::Memory => f.write_str("out of memory"),
+            Fault::BadSuffixes => f.write_str("bad generated suffixes"),
         }
     }
 }
@@ -143,6 +146,7 @@ impl Fault {
             Fault::Runner(text) => Fault::Runner(text.try_clone(alloc)?),
             Fault::Read => Fault::Read,
             Fault::Memory => Fault::Memory,
+            Fault::BadSuffixes => Fault::BadSuffixes,
         })
     }
 }

@@ -1,17 +1,25 @@
 //! Laws of the records.
 
-ghost use Rattle.cuda_below.specs.Equality.{TellsEqual};
+ghost use Rattle.cuda_below.specs.Equality.{TellsEqual, TellsEqualBy};
+ghost use Rattle.cuda_below.specs.Arguments.{answer_seen};
+ghost use Rattle.cuda_below.specs.Items.{item_of};
 
-use crate::arguments::ParsedArguments;
+use crate::arguments::{ColorMode, CompilerArguments, ParsedArguments};
 use crate::bytes::Bytes;
-use crate::command::SingleCompileCommand;
+use crate::command::{Cacheable, SingleCompileCommand};
+use crate::compiler::{CCompilerKind, Places};
+use crate::fault::Fault;
+use crate::gcc::ArgData;
+use crate::items::{ArgParseError, Argument, NormalizedDisposition};
+use crate::language::Language;
 use crate::outputs::{ArtifactDescriptor, Outputs};
-use crate::status::{ExitStatus, Output};
+use crate::status::{CompileFinished, ExitStatus, Output};
+use crate::table::ArgDisposition;
 use crate::text::Text;
 use crate::variables::Variables;
 use crate::words::Words;
 
-/// `==` on records compares all fields: it says whether two values are equal.
+/// `==` compares all fields: it says whether two values are equal.
 pub fn equality()
     ensures text { TellsEqual ⟦<Text as PartialEq>⟧.eq }
     ensures words { TellsEqual ⟦<Words as PartialEq>⟧.eq }
@@ -23,4 +31,32 @@ pub fn equality()
     ensures status { TellsEqual ⟦<ExitStatus as PartialEq>⟧.eq }
     ensures arguments { TellsEqual ⟦<ParsedArguments as PartialEq>⟧.eq }
     ensures command { TellsEqual ⟦<SingleCompileCommand as PartialEq>⟧.eq }
+    ensures finished { TellsEqual ⟦<CompileFinished as PartialEq>⟧.eq }
+    ensures places { TellsEqual ⟦<Places as PartialEq>⟧.eq }
+    ensures fault { TellsEqual ⟦<Fault as PartialEq>⟧.eq }
+{}
+
+/// `==` on the enums of a word or a flag says whether two values are equal.
+pub fn enum_equality()
+    ensures language { TellsEqual ⟦<Language as PartialEq>⟧.eq }
+    ensures color_mode { TellsEqual ⟦<ColorMode as PartialEq>⟧.eq }
+    ensures cacheable { TellsEqual ⟦<Cacheable as PartialEq>⟧.eq }
+    ensures compiler_kind { TellsEqual ⟦<CCompilerKind as PartialEq>⟧.eq }
+    ensures gcc_kind { TellsEqual ⟦<ArgData as PartialEq>⟧.eq }
+    ensures disposition { TellsEqual ⟦<ArgDisposition as PartialEq>⟧.eq }
+    ensures normalized { TellsEqual ⟦<NormalizedDisposition as PartialEq>⟧.eq }
+    ensures parse_error { TellsEqual ⟦<ArgParseError as PartialEq>⟧.eq }
+{}
+
+/// `==` on what a reader answers says whether two answers are equal, if `==` does so for what they
+/// hold.
+pub fn answer_equality<T: PartialEq>()
+    requires { TellsEqual T.eq }
+    ensures { TellsEqualBy answer_seen ⟦<CompilerArguments<T> as PartialEq>⟧.eq }
+{}
+
+/// `==` on items says whether two items are equal, if `==` does so for the kinds of their options.
+pub fn item_equality<T: Copy + PartialEq>()
+    requires { TellsEqual T.eq }
+    ensures { TellsEqualBy item_of ⟦<Argument<T> as PartialEq>⟧.eq }
 {}

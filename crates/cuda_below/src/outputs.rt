@@ -1,11 +1,11 @@
 //! The files that a command makes.
 
-ghost use Rattle.std.specs.Prelude.{◌≡◌, [], ◌∷◌, IfOk, OnOk, OnErr};
+ghost use Rattle.std.specs.Prelude.{◌≡◌, ◌==◌, [], ◌∷◌, map, length, IfOk, OnOk, OnErr};
 ghost use Rattle.std.specs.Option.{option_copied};
 
 use crate::text::Text;
 use std::alloc::{AllocError, Global};
-use std::collections::BTreeMap;
+use std::collections::{BTreeMap, btree_map};
 use std::marker::Model;
 
 /// One file that a command makes: its path, and whether the command may leave it out.
@@ -27,9 +27,14 @@ impl ArtifactDescriptor {
     }
 }
 
-/// The files that a command makes, each by its key: `obj` for the one that it is run for, `d` for
+/// The key of the file that a command is run for.
+pub const OBJ: &str = "obj";
+
+/// The files that a command makes, each by its key: `OBJ` for the one that it is run for, `d` for
 /// the dependency file, else the option that names it. Contracts see the entries in the order of
 /// their keys' bytes.
+///
+/// They are made of a `BTreeMap` and give it back without memory.
 #[derive(Debug, Drop)]
 pub struct Outputs {
     files: BTreeMap<&'static str, ArtifactDescriptor>,
@@ -45,7 +50,7 @@ impl Model for Outputs {
 }
 
 impl Outputs {
-    ghost use Rattle.cuda_below.specs.Outputs.{with_entry, entry_at};
+    ghost use Rattle.cuda_below.specs.Outputs.{with_entry, entry_at, entry_of};
 
     /// No files.
     pub fn new(alloc: Global) -> Outputs
@@ -53,6 +58,43 @@ impl Outputs {
     {
         Outputs {
             files: BTreeMap::new(alloc),
+        }
+    }
+
+    /// Holds the files of `files`, each by its key.
+    pub fn from_map(files: BTreeMap<&'static str, ArtifactDescriptor>) -> Outputs
+        ensures { result ≡ map entry_of files.entry.entries }
+    {
+        Outputs { files }
+    }
+
+    /// Gives the map back.
+    pub fn into_map(self) -> BTreeMap<&'static str, ArtifactDescriptor>
+        ensures { map entry_of result.entries ≡ self }
+    {
+        self.files
+    }
+
+    /// How many files there are.
+    pub fn len(&self) -> usize
+        ensures { result ≡ length self.now }
+    {
+        self.files.len()
+    }
+
+    /// Whether there are no files.
+    pub fn is_empty(&self) -> bool
+        ensures { result ≡ (length self.now == 0) }
+    {
+        self.files.is_empty()
+    }
+
+    /// Each file with its key, in the order of the keys' bytes.
+    pub fn iter(&self) -> Iter<'_>
+        ensures { result ≡ self.now }
+    {
+        Iter {
+            files: self.files.iter(),
         }
     }
 
@@ -86,6 +128,48 @@ impl Outputs {
             copy.insert(key, output.try_clone(alloc)?)?;
         }
         Ok(copy)
+    }
+}
+
+impl<'a> IntoIterator for &'a Outputs {
+    type Item = (&'a str, &'a ArtifactDescriptor);
+
+    type IntoIter = Iter<'a>;
+
+    ghost into_iter_gives = { λ outputs it. it ≡ outputs.now };
+
+    fn into_iter(self) -> Self::IntoIter {
+        self.iter()
+    }
+}
+
+/// The files of `Outputs` that are still to come, each with its key. Contracts see the list of them.
+#[derive(Drop)]
+pub struct Iter<'a> {
+    files: btree_map::Iter<'a, &'static str, ArtifactDescriptor>,
+}
+
+impl<'a> Model for Iter<'a> {
+    ghost use Rattle.std.specs.Prelude.{List, ℕ, map};
+    ghost use Rattle.cuda_below.specs.declared.outputs.ArtifactDescriptor.{ArtifactDescriptor};
+
+    ghost Value = { List (List ℕ × ArtifactDescriptor) };
+
+    ghost view = { λ it. map (λ e. (e.0.now, e.1)) it.files };
+}
+
+impl<'a> Iterator for Iter<'a> {
+    ghost use Rattle.std.specs.Iterator.{YieldsFirstBy, item_count};
+
+    type Item = (&'a str, &'a ArtifactDescriptor);
+
+    ghost next_gives = { YieldsFirstBy (λ p. (p.0.now, p.1.now)) (λ it. it) };
+
+    ghost remaining = { item_count (λ it. it) };
+
+    fn next(&mut self) -> Option<(&'a str, &'a ArtifactDescriptor)> {
+        let (key, output) = self.files.next()?;
+        Some((*key, output))
     }
 }
 

@@ -1,11 +1,14 @@
 //! Texts, and the texts that are paths.
 
-ghost use Rattle.std.specs.Prelude.{◌≡◌, ◌↔◌, ◌<◌, ◌∷◌, ◌++◌, true, length, reverse, IsTrue, IfOk, MatchOption, string_bytes};
+ghost use Rattle.std.specs.Prelude.{◌≡◌, ◌==◌, ◌↔◌, ◌<◌, length, reverse, IsTrue, IfOk, MatchOption, string_bytes};
 ghost use Rattle.std.specs.Option.{option_copied};
-ghost use Rattle.cuda_below.specs.Path.{is_absolute_path, separator_after, joined, lacks, after_last_byte, before_last_byte, trimmed, is_idle, folder_of, proper_name, file_name_of, file_stem_of};
+ghost use Rattle.std.specs.Str.Iter.{chars_rest};
+ghost use Rattle.cuda_below.specs.Path.{is_absolute_path, separator_after, joined, trimmed_backwards, folder_of, proper_name, file_name_of, file_stem_of};
 
+use crate::extension::{last, split_last, stem};
 use std::alloc::{AllocError, Global};
 use std::marker::Model;
+use std::str::Chars;
 
 /// A text that a record holds: UTF-8, seen in contracts as its bytes.
 ///
@@ -54,11 +57,49 @@ impl Text {
         self.string
     }
 
+    /// The text's bytes.
+    pub fn as_bytes(&self) -> &[u8]
+        ensures { result.now ≡ self.now }
+    {
+        self.string.as_bytes()
+    }
+
+    /// How many bytes the text has.
+    pub fn len(&self) -> usize
+        ensures { result ≡ length self.now }
+    {
+        self.string.len()
+    }
+
+    /// Whether the text is empty.
+    pub fn is_empty(&self) -> bool
+        ensures { result ≡ (length self.now == 0) }
+    {
+        self.string.is_empty()
+    }
+
+    /// Each character, in order.
+    pub fn chars(&self) -> Chars<'_>
+        ensures { chars_rest result ≡ self.now }
+    {
+        self.string.chars()
+    }
+
     /// An equal text, in memory of its own.
     pub fn try_clone(&self, alloc: Global) -> Result<Text, AllocError>
         ensures { IfOk result (λ t. t ≡ self.now) }
     {
         Text::copy_of(alloc, self.as_str())
+    }
+
+    /// An equal text, in memory of its own, if there is one.
+    pub fn clone_optional(alloc: Global, text: &Option<Text>) -> Result<Option<Text>, AllocError>
+        ensures { IfOk result (λ t. t ≡ text.now) }
+    {
+        match text {
+            None => Ok(None),
+            Some(text) => Ok(Some(text.try_clone(alloc)?)),
+        }
     }
 }
 
@@ -97,9 +138,8 @@ fn separator(base: &str) -> &'static str
 
 /// The path that `path` names when it is looked up from the folder `base`.
 ///
-/// An absolute `path` is itself. Any other is appended to `base`, with one `/` between them where
-/// `base` is neither empty nor ends in one, as sccache 0.19.0 joins paths. So `join("/w", "")` is
-/// `/w/`.
+/// An absolute `path` is itself. Any other is appended to `base`, with one `/` between them if `base`
+/// is neither empty nor ends in one, as sccache 0.19.0 joins paths. So `join("/w", "")` is `/w/`.
 pub fn join(alloc: Global, base: &str, path: &str) -> Result<String, AllocError>
     ensures { IfOk result (λ whole. string_bytes whole ≡ joined base.now path.now) }
 {
@@ -114,18 +154,12 @@ pub fn join(alloc: Global, base: &str, path: &str) -> Result<String, AllocError>
     Ok(whole)
 }
 
-// What stands before the last `mark` of `text`, and what follows it.
-fn parted(text: &str, mark: char) -> Option<(&str, &str)>
-    requires { mark < 128 }
-    ensures { MatchOption result (lacks mark text.now ≡ true) (λ r. (text.now ≡ r.0.now ++ mark ∷ r.1.now) × (lacks mark r.1.now ≡ true)) }
-{
-    text.rsplit_once(mark)
-}
-
-// `text` without its last character, where that is a `/`, or a `.` right after a `/`. Where
-// `keeps_root`, a `/` that is the only character stays.
+// `text` without its last character, if that is a `/`, or a `.` right after a `/`. If `keeps_root`,
+// a `/` that is the only character stays.
 fn trim_once(text: &str, keeps_root: bool) -> Option<&str>
-    ensures { MatchOption result (trimmed (is_idle keeps_root) (reverse text.now) ≡ reverse text.now) (λ r. (trimmed (is_idle keeps_root) (reverse text.now) ≡ trimmed (is_idle keeps_root) (reverse r.now)) × (length r.now < length text.now)) }
+    ensures { MatchOption result
+        (trimmed_backwards keeps_root text.now ≡ reverse text.now)
+        (λ r. (trimmed_backwards keeps_root text.now ≡ trimmed_backwards keeps_root r.now) × (length r.now < length text.now)) }
 {
     if let Some(front) = text.strip_suffix('/') {
         return if keeps_root && front.is_empty() {
@@ -144,35 +178,13 @@ fn trim_once(text: &str, keeps_root: bool) -> Option<&str>
 
 // `text` without its last characters, as long as `trim_once` takes one off.
 fn trim(text: &str, keeps_root: bool) -> &str
-    ensures { result.now ≡ reverse (trimmed (is_idle keeps_root) (reverse text.now)) }
+    ensures { result.now ≡ reverse (trimmed_backwards keeps_root text.now) }
 {
     let mut rest = text;
     while let Some(front) = trim_once(rest, keeps_root) {
         rest = front;
     }
     rest
-}
-
-// What follows the last `mark` of `text`; all of it where there is none.
-fn after_last(text: &str, mark: char) -> &str
-    requires { mark < 128 }
-    ensures { result.now ≡ reverse (after_last_byte mark (reverse text.now)) }
-{
-    match parted(text, mark) {
-        None => text,
-        Some((_, back)) => back,
-    }
-}
-
-// What stands before the last `mark` of `text`; nothing where there is none.
-fn before_last(text: &str, mark: char) -> &str
-    requires { mark < 128 }
-    ensures { result.now ≡ reverse (before_last_byte mark (reverse text.now)) }
-{
-    match parted(text, mark) {
-        None => "",
-        Some((front, _)) => front,
-    }
 }
 
 // `name` as a file name, which is neither empty nor `.` nor `..`.
@@ -186,15 +198,14 @@ fn proper(name: &str) -> Option<&str>
     }
 }
 
-/// The folder of the name `path`: the text up to and including its last `/`, empty where there is
-/// none; then, as long as it can be done, without its last character, where that is a `/` that
-/// isn't the only one, or a `.` right after a `/`.
+/// The folder of the name `path`: the text up to and including the last `/`, with trailing `/` and
+/// `/.` removed (a lone `/` stays). Empty if there is no `/`.
 ///
-/// So a name that `join` puts there has that folder again.
+/// A name that `join` puts into a folder has that folder again.
 pub fn folder(path: &str) -> &str
     ensures { result.now ≡ folder_of path.now }
 {
-    let Some((front, _)) = parted(path, '/') else {
+    let Some((front, _)) = split_last(path, '/') else {
         return "";
     };
     if front.is_empty() {
@@ -204,22 +215,20 @@ pub fn folder(path: &str) -> &str
     }
 }
 
-/// The file name of `path`: what follows the last `/`, once each `/` and each `.` right after a `/`
-/// is off that `path` ends in. `None` where that is empty, `.` or `..`.
+/// The file name of `path`: what follows the last `/`, after trailing `/` and `/.` are removed. `None`
+/// if that is empty, `.` or `..`.
 pub fn file_name(path: &str) -> Option<&str>
     ensures { option_copied result ≡ file_name_of path.now }
 {
-    proper(after_last(trim(path, false), '/'))
+    proper(last(trim(path, false)))
 }
 
-/// The file name of `path` before its last `.`; all of it where it has no `.`, or where its only
-/// `.` comes first.
+/// The file name of `path` before its last `.`; all of it if it has no `.`, or if its only `.` comes
+/// first.
 pub fn file_stem(path: &str) -> Option<&str>
     ensures { option_copied result ≡ file_stem_of path.now }
 {
-    let name = file_name(path)?;
-    let stem = before_last(name, '.');
-    Some(if stem.is_empty() { name } else { stem })
+    Some(stem(file_name(path)?))
 }
 
 ghost use Rattle.cuda_below.specs.Path.{JoinedKeepsFolder, JoinedHasName, FolderBegins, JoinedCancels, FoldersCancel};
@@ -227,7 +236,7 @@ ghost use Rattle.cuda_below.specs.Path.{JoinedKeepsFolder, JoinedHasName, Folder
 /// A law of path texts.
 ///
 /// A bare name, one without `/`, that is joined to the folder of a name has that folder (`folder`),
-/// and is the file name of the path that it is joined to, where it can be one (`name`). A folder is
+/// and is the file name of the path that it is joined to, if it can be one (`name`). A folder is
 /// a beginning of its name (`beginning`). Equal paths that were joined to one path come from equal
 /// names (`cancel`), and those of bare names joined to folders from equal folders too (`folders`).
 pub fn path_law()

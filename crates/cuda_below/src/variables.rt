@@ -1,10 +1,12 @@
 //! The environment that a command runs in.
 
-ghost use Rattle.std.specs.Prelude.{◌≡◌, ◌∷◌, [], ◌++◌, map, IfOk, OnOk, OnErr, string_bytes};
+ghost use Rattle.std.specs.Prelude.{◌≡◌, ◌∷◌, [], ◌++◌, ◌==◌, map, length, IfOk, OnOk, OnErr, string_bytes};
+ghost use Rattle.std.specs.Slice.Iter.{iter_rest};
 ghost use Rattle.cuda_below.specs.Variables.{pair_of};
 
 use std::alloc::{AllocError, Global};
 use std::marker::Model;
+use std::slice;
 
 /// A list of environment variables that a record holds, each a name and its value, in order. A name
 /// may stand twice. Contracts see the list of pairs of texts.
@@ -55,6 +57,27 @@ impl Variables {
         self.pairs
     }
 
+    /// How many variables there are.
+    pub fn len(&self) -> usize
+        ensures { result ≡ length self.now }
+    {
+        self.pairs.len()
+    }
+
+    /// Whether there are no variables.
+    pub fn is_empty(&self) -> bool
+        ensures { result ≡ (length self.now == 0) }
+    {
+        self.pairs.is_empty()
+    }
+
+    /// Each pair of name and value, in order.
+    pub fn iter(&self) -> slice::Iter<'_, (String, String)>
+        ensures { map pair_of (iter_rest result) ≡ self.now }
+    {
+        self.pairs.iter()
+    }
+
     /// Puts the pair of `name` and `value` last. On an error the pairs stay as they were.
     pub fn push(&mut self, name: String, value: String) -> Result<(), AllocError>
         ensures ok { OnOk result (self.new ≡ self.old ++ (string_bytes name, string_bytes value) ∷ []) }
@@ -82,6 +105,18 @@ impl Variables {
         ensures { IfOk result (λ v. v ≡ self.now) }
     {
         Variables::copy_of(alloc, self.as_slice())
+    }
+}
+
+impl<'a> IntoIterator for &'a Variables {
+    type Item = &'a (String, String);
+
+    type IntoIter = slice::Iter<'a, (String, String)>;
+
+    ghost into_iter_gives = { λ variables it. map pair_of (iter_rest it) ≡ variables.now };
+
+    fn into_iter(self) -> Self::IntoIter {
+        self.iter()
     }
 }
 

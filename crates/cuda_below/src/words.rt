@@ -1,9 +1,11 @@
 //! The words of a command line.
 
 ghost use Rattle.std.specs.Prelude.{◌≡◌, ◌∷◌, [], ◌++◌, map, length, IfOk, OnOk, ◌==◌, OnErr, string_bytes};
+ghost use Rattle.std.specs.Slice.Iter.{iter_rest};
 
 use std::alloc::{AllocError, Global};
 use std::marker::Model;
+use std::slice;
 
 /// A list of words that a record holds, in order, seen in contracts as the list of their texts.
 ///
@@ -75,6 +77,13 @@ impl Words {
         self.words.is_empty()
     }
 
+    /// Each word, in order.
+    pub fn iter(&self) -> slice::Iter<'_, String>
+        ensures { map string_bytes (iter_rest result) ≡ self.now }
+    {
+        self.words.iter()
+    }
+
     /// Puts `word` last. On an error the words stay as they were.
     pub fn push(&mut self, word: String) -> Result<(), AllocError>
         ensures ok { OnOk result (self.new ≡ self.old ++ string_bytes word ∷ []) }
@@ -95,14 +104,32 @@ impl Words {
         Ok(())
     }
 
-    /// Puts a copy of each of `words` last, in order. On an error some of them may be there.
-    pub fn push_copies(&mut self, alloc: Global, words: &[String]) -> Result<(), AllocError>
-        ensures { OnOk result (self.new ≡ self.old ++ map string_bytes words.now) }
+    /// Puts a copy of `word` last. On an error the words stay as they were.
+    pub fn push_str(&mut self, alloc: Global, word: &str) -> Result<(), AllocError>
+        ensures ok { OnOk result (self.new ≡ self.old ++ word.now ∷ []) }
+        ensures err { OnErr result (self.new ≡ self.old) }
     {
-        for word in words {
-            self.push(String::from_str(alloc, word.as_str())?)?;
-        }
-        Ok(())
+        self.push(String::from_str(alloc, word)?)
+    }
+
+    /// Puts copies of two words last, as an option and its value. On an error the words stay as they
+    /// were.
+    pub fn push_pair(&mut self, alloc: Global, first: &str, second: &str) -> Result<(), AllocError>
+        ensures ok { OnOk result (self.new ≡ self.old ++ first.now ∷ second.now ∷ []) }
+        ensures err { OnErr result (self.new ≡ self.old) }
+    {
+        self.push_two(
+            String::from_str(alloc, first)?,
+            String::from_str(alloc, second)?,
+        )
+    }
+
+    /// Puts a copy of each of `words` last, in order, as `extend` does.
+    pub fn push_copies(&mut self, alloc: Global, words: &[String]) -> Result<(), AllocError>
+        ensures ok { OnOk result (self.new ≡ self.old ++ map string_bytes words.now) }
+        ensures err { OnErr result (self.new ≡ self.old) }
+    {
+        self.extend(alloc, words)
     }
 
     /// Puts the words of `more` last, in order. On an error the words stay as they were.
@@ -114,20 +141,22 @@ impl Words {
         self.words.append(&mut words)
     }
 
-    /// Puts a copy of each of `words` last, in order. On an error the words stay as they were.
-    pub fn extend(&mut self, alloc: Global, words: &[String]) -> Result<(), AllocError>
+    /// Puts a copy of each of `words` last, in order, after it has made the room for all of them. On
+    /// an error the words stay as they were.
+    pub fn extend(&mut self, _alloc: Global, words: &[String]) -> Result<(), AllocError>
         ensures ok { OnOk result (self.new ≡ self.old ++ map string_bytes words.now) }
         ensures err { OnErr result (self.new ≡ self.old) }
     {
-        self.append(Words::copy_of(alloc, words)?)
+        self.words.extend_from_slice(words)?;
+        Ok(())
     }
 
     /// A list equal to `words`, in memory of its own.
     pub fn copy_of(alloc: Global, words: &[String]) -> Result<Words, AllocError>
         ensures { IfOk result (λ w. w ≡ map string_bytes words.now) }
     {
-        let mut copy = Words::with_capacity(alloc, words.len())?;
-        copy.push_copies(alloc, words)?;
+        let mut copy = Words::new(alloc);
+        copy.extend(alloc, words)?;
         Ok(copy)
     }
 
@@ -136,6 +165,18 @@ impl Words {
         ensures { IfOk result (λ w. w ≡ self.now) }
     {
         Words::copy_of(alloc, self.as_slice())
+    }
+}
+
+impl<'a> IntoIterator for &'a Words {
+    type Item = &'a String;
+
+    type IntoIter = slice::Iter<'a, String>;
+
+    ghost into_iter_gives = { λ words it. map string_bytes (iter_rest it) ≡ words.now };
+
+    fn into_iter(self) -> Self::IntoIter {
+        self.iter()
     }
 }
 
