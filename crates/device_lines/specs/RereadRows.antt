@@ -1,34 +1,16 @@
--- Lines that are written back and read again, worked out by hand: lines that the law is about, and for each premise
--- a line without it that isn't read as the same.
+-- Lines that are written back and read again, worked out by hand: lines that the law is about, and for each tool and each
+-- of its premises a line without it that isn't read as the same.
 use Rattle.std.proofs.Common.{◌≡◌, ℕ, List, [], ◌∷◌, Option, Some, None, Result, Ok, Err, codes, refl}
 use Rattle.std.specs.Option.{option_map}
-use Rattle.cuda_below.specs.declared.language.Language.TheVariants.{Ptx, CudaFE, Cubin}
+use Rattle.cuda_below.specs.declared.language.Language.TheVariants.{Cubin}
 use Rattle.cuda_below.specs.declared.fault.Fault.{Fault}
 use Rattle.cuda_below.specs.declared.fault.Fault.TheVariants.{MissingOutput}
 use Rattle.cuda_below.specs.declared.arguments.ParsedArguments.{ParsedArguments}
-use Rattle.cuda_below.specs.Table.{longest_match}
-use Rattle.device_lines.specs.Cicc.{cicc_options}
-use Rattle.device_lines.specs.CudaFE.{cudafe_options}
-use Rattle.device_lines.specs.Ptxas.{ptxas_options}
-use Rattle.device_lines.specs.Reading.{reading}
-use Rattle.cuda_below.specs.Command.{written}
+use Rattle.device_lines.specs.Cicc.{cicc_reading}
+use Rattle.device_lines.specs.CudaFE.{cudafe_reading}
+use Rattle.device_lines.specs.Ptxas.{ptxas_reading}
 use Rattle.device_lines.specs.DeviceWords.{cicc_words, cudafe_words}
-use Rattle.device_lines.specs.DeviceRows.{words_written}
-
--- what the three tools' lines are read as at a working directory
-abbrev pub cicc_reading : List ℕ → List (List ℕ) → Option ParsedArguments
-cicc_reading cwd words = reading (longest_match cicc_options) cwd Ptx 3 words
-
-abbrev pub ptxas_reading : List ℕ → List (List ℕ) → Option ParsedArguments
-ptxas_reading cwd words = reading (longest_match ptxas_options) cwd Cubin 3 words
-
-abbrev pub cudafe_reading : List ℕ → List (List ℕ) → Option ParsedArguments
-cudafe_reading cwd words = reading (longest_match cudafe_options) cwd CudaFE 1 words
-
--- the words that arguments are written back as, or why there are none; nothing where a line is no compilation
-abbrev pub words_back : (ParsedArguments → List ℕ → List (List ℕ)) → List ℕ → Option ParsedArguments → Option (Result (List (List ℕ)) Fault)
-words_back words_to_write cwd None = None
-words_back words_to_write cwd (Some arguments) = Some (words_written (written words_to_write [] arguments cwd []))
+use Rattle.device_lines.specs.DeviceRows.{words_back, device_code_words}
 
 -- a line is written back as other words, which are read as the same arguments
 abbrev pub GoesAndComes : (List (List ℕ) → Option ParsedArguments) → (ParsedArguments → List ℕ → List (List ℕ)) → List ℕ → List (List ℕ) → List (List ℕ) → Type 0
@@ -38,7 +20,7 @@ GoesAndComes read words_to_write cwd words back = (words_back words_to_write cwd
 abbrev pub DeviceCodeLineRereads : Type 0
 DeviceCodeLineRereads =
     GoesAndComes (cicc_reading (codes "/w")) cicc_words (codes "/w")
-    (codes "--device-c" ∷ codes "-arch" ∷ codes "compute_80" ∷ codes "--module_id_file_name" ∷ codes "kernel.module_id" ∷ codes "kernel.cpp1.ii" ∷ codes "--simt-only" ∷ codes "-o" ∷ codes "kernel.ptx" ∷ [])
+    device_code_words
     (codes "--device-c" ∷ codes "-arch" ∷ codes "compute_80" ∷ codes "--module_id_file_name" ∷ codes "kernel.module_id" ∷ codes "--simt-only" ∷ codes "kernel.cpp1.ii" ∷ codes "-o" ∷ codes "/w/kernel.ptx" ∷ [])
 
 pub device_code_line_rereads : DeviceCodeLineRereads
@@ -85,22 +67,49 @@ EmptyValueIsLost =
 pub empty_value_is_lost : EmptyValueIsLost
 empty_value_is_lost = (refl, refl)
 
+-- a line is written back as other words, of which another word is the input
+abbrev pub ChangesItsInput : (List (List ℕ) → Option ParsedArguments) → List (List ℕ) → List (List ℕ) → List ℕ → List ℕ → Type 0
+ChangesItsInput read words back input other =
+    (words_back cicc_words (codes "/w") (read words) ≡ Some (Ok back))
+    × (option_map (λ p. p.input) (read words) ≡ Some input)
+    × (option_map (λ p. p.input) (read back) ≡ Some other)
+
 -- of two words with the input's suffix the first is the input; the other one, kept after its flag, is written before it
 -- and is the first when the line is read again
 abbrev pub SecondInputComesFirst : Type 0
 SecondInputComesFirst =
-    (words_back cicc_words (codes "/w") (ptxas_reading (codes "/w") (codes "-x" ∷ codes "a.ptx" ∷ codes "b.ptx" ∷ codes "-o" ∷ codes "c" ∷ [])) ≡ Some (Ok (codes "-x" ∷ codes "b.ptx" ∷ codes "a.ptx" ∷ codes "-o" ∷ codes "/w/c" ∷ [])))
-    × (option_map (λ p. p.input) (ptxas_reading (codes "/w") (codes "-x" ∷ codes "a.ptx" ∷ codes "b.ptx" ∷ codes "-o" ∷ codes "c" ∷ [])) ≡ Some (codes "a.ptx"))
-    × (option_map (λ p. p.input) (ptxas_reading (codes "/w") (codes "-x" ∷ codes "b.ptx" ∷ codes "a.ptx" ∷ codes "-o" ∷ codes "/w/c" ∷ [])) ≡ Some (codes "b.ptx"))
+    ChangesItsInput (ptxas_reading (codes "/w"))
+    (codes "-x" ∷ codes "a.ptx" ∷ codes "b.ptx" ∷ codes "-o" ∷ codes "c" ∷ [])
+    (codes "-x" ∷ codes "b.ptx" ∷ codes "a.ptx" ∷ codes "-o" ∷ codes "/w/c" ∷ [])
+    (codes "a.ptx") (codes "b.ptx")
+    × ChangesItsInput (cicc_reading (codes "/w"))
+    (codes "-x" ∷ codes "a.cpp1.ii" ∷ codes "b.cpp1.ii" ∷ codes "-o" ∷ codes "c" ∷ [])
+    (codes "-x" ∷ codes "b.cpp1.ii" ∷ codes "a.cpp1.ii" ∷ codes "-o" ∷ codes "/w/c" ∷ [])
+    (codes "a.cpp1.ii") (codes "b.cpp1.ii")
 
 pub second_input_comes_first : SecondInputComesFirst
-second_input_comes_first = (refl, refl, refl)
+second_input_comes_first = ((refl, refl, refl), (refl, refl, refl))
+
+-- a line at the working directory `.` is written back as other words, and these as others again
+abbrev pub ChangesTwice : (List (List ℕ) → Option ParsedArguments) → (ParsedArguments → List ℕ → List (List ℕ)) → List (List ℕ) → List (List ℕ) → List (List ℕ) → Type 0
+ChangesTwice read words_to_write words back again =
+    (words_back words_to_write (codes ".") (read words) ≡ Some (Ok back)) × (words_back words_to_write (codes ".") (read back) ≡ Some (Ok again))
 
 -- at a working directory that isn't absolute the output is put below it once more by each reading
 abbrev pub RelativeFolderIsJoinedTwice : Type 0
 RelativeFolderIsJoinedTwice =
-    (words_back cicc_words (codes ".") (cicc_reading (codes ".") (codes "k.cpp1.ii" ∷ codes "-o" ∷ codes "p" ∷ [])) ≡ Some (Ok (codes "k.cpp1.ii" ∷ codes "-o" ∷ codes "./p" ∷ [])))
-    × (words_back cicc_words (codes ".") (cicc_reading (codes ".") (codes "k.cpp1.ii" ∷ codes "-o" ∷ codes "./p" ∷ [])) ≡ Some (Ok (codes "k.cpp1.ii" ∷ codes "-o" ∷ codes "././p" ∷ [])))
+    ChangesTwice (cicc_reading (codes ".")) cicc_words
+    (codes "k.cpp1.ii" ∷ codes "-o" ∷ codes "p" ∷ [])
+    (codes "k.cpp1.ii" ∷ codes "-o" ∷ codes "./p" ∷ [])
+    (codes "k.cpp1.ii" ∷ codes "-o" ∷ codes "././p" ∷ [])
+    × ChangesTwice (ptxas_reading (codes ".")) cicc_words
+    (codes "k.ptx" ∷ codes "-o" ∷ codes "p" ∷ [])
+    (codes "k.ptx" ∷ codes "-o" ∷ codes "./p" ∷ [])
+    (codes "k.ptx" ∷ codes "-o" ∷ codes "././p" ∷ [])
+    × ChangesTwice (cudafe_reading (codes ".")) cudafe_words
+    (codes "--module_id_file_name" ∷ codes "p" ∷ codes "x" ∷ [])
+    (codes "--module_id_file_name" ∷ codes "./p" ∷ codes "x" ∷ [])
+    (codes "--module_id_file_name" ∷ codes "././p" ∷ codes "x" ∷ [])
 
 pub relative_folder_is_joined_twice : RelativeFolderIsJoinedTwice
-relative_folder_is_joined_twice = (refl, refl)
+relative_folder_is_joined_twice = ((refl, refl), (refl, refl), (refl, refl))

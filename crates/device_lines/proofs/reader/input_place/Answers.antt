@@ -1,7 +1,7 @@
 use Rattle.std.proofs.Common.{sym, ap, ◌∙◌, length}
 use Rattle.device_lines.specs.Reading.{first_place, place_from_end}
 use Rattle.device_lines.proofs.PlaceLemmas.{input_place-strings}
-use Rattle.device_lines.proofs.cicc.input_place.Goals as goal
+use Rattle.device_lines.proofs.reader.input_place.Goals as goal
 
 pub returns-in-Some-clause-place : goal.returns-in-Some-clause-place
 returns-in-Some-clause-place c =

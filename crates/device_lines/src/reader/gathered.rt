@@ -1,17 +1,18 @@
 //! What reading a device tool's line gathers, item by item.
 
-ghost use Rattle.std.specs.Prelude.{◌≡◌, IfOk, OnOk};
-ghost use Rattle.std.specs.Prelude.{true, false};
-ghost use Rattle.cuda_below.specs.Path.{joined};
+ghost use Rattle.std.specs.Prelude.{◌≡◌, true, false, IfOk, OnOk};
+ghost use Rattle.std.specs.List.{fold};
+ghost use Rattle.cuda_below.specs.ArgsIter.{words_left, table_of};
+ghost use Rattle.cuda_below.specs.Items.{items, item_of, item_read};
 ghost use Rattle.cuda_below.specs.Outputs.{with_entry};
-ghost use Rattle.cuda_below.specs.Items.{item_of, item_read};
-ghost use Rattle.device_lines.specs.Reading.{made_at};
+ghost use Rattle.cuda_below.specs.Path.{joined};
+ghost use Rattle.device_lines.specs.Reading as spec;
 
-use crate::cicc::ArgData;
-use cuda_below::arguments::{ColorMode, ParsedArguments};
+use crate::options::ArgData;
+use cuda_below::arguments::ParsedArguments;
 use cuda_below::items::{ArgParseError, ArgsIter, Argument};
 use cuda_below::language::Language;
-use cuda_below::outputs::{ArtifactDescriptor, Outputs};
+use cuda_below::outputs::{ArtifactDescriptor, OBJ, Outputs};
 use cuda_below::table::SearchableArgInfo;
 use cuda_below::text::{Text, join};
 use cuda_below::words::Words;
@@ -32,10 +33,31 @@ pub struct Gathered {
 }
 
 impl Gathered {
-    ghost use Rattle.device_lines.specs.Gathered.{nothing_gathered, with_item, is_option};
+    ghost use Rattle.device_lines.specs.Gathered.{nothing_gathered, with_item, is_option, reading_of_gathered};
 
-    /// Nothing yet, with room for `count` common words.
-    pub fn with_capacity(alloc: Global, count: usize) -> Result<Gathered, AllocError>
+    /// Takes all items of a line of `count` words.
+    pub fn from_line<S: SearchableArgInfo<ArgData> + Drop>(
+        alloc: Global,
+        cwd: &str,
+        count: usize,
+        line: ArgsIter<'_, ArgData, S>,
+    ) -> Result<Gathered, AllocError>
+        ensures { IfOk result (λ g. g
+            ≡ fold (with_item cwd.now) nothing_gathered (items (S.chosen (table_of line.entry)) (words_left line.entry))) }
+    {
+        let mut line = line;
+        let mut gathered = Gathered::with_capacity(alloc, count)?;
+        while let Some(item) = line.next() {
+            gathered.take(alloc, cwd, item)?;
+        }
+        if line.refused() {
+            return Err(AllocError);
+        }
+        Ok(gathered)
+    }
+
+    // Nothing yet, with room for `count` common words.
+    fn with_capacity(alloc: Global, count: usize) -> Result<Gathered, AllocError>
         ensures { IfOk result (λ g. g ≡ nothing_gathered) }
     {
         Ok(Gathered {
@@ -56,20 +78,20 @@ impl Gathered {
         cwd: &str,
         path: &str,
     ) -> Result<(), AllocError>
-        ensures { OnOk result (self.new ≡ record self.old { outputs = with_entry self.old.outputs (key.now, made_at false (joined cwd.now path.now)) }) }
+        ensures { OnOk result (self.new ≡ record self.old {
+          outputs = with_entry self.old.outputs (key.now, spec.made_at false (joined cwd.now path.now));
+        }) }
     {
         let path = Text::new(join(alloc, cwd, path)?);
-        self.outputs.insert(
-            key,
-            ArtifactDescriptor {
-                path,
-                optional: false,
-            },
-        )
+        let made = ArtifactDescriptor {
+            path,
+            optional: false,
+        };
+        self.outputs.insert(key, made)
     }
 
-    /// Takes the next item. On an error a part of it may be there.
-    pub fn take(
+    // Takes the next item. On an error a part of it may be there.
+    fn take(
         &mut self,
         alloc: Global,
         cwd: &str,
@@ -111,7 +133,7 @@ impl Gathered {
             return Ok(());
         };
         match kind {
-            ArgData::Output => self.record(alloc, "obj", cwd, option.value()),
+            ArgData::Output => self.record(alloc, OBJ, cwd, option.value()),
             ArgData::PassThrough => option.write(alloc, &mut self.common),
             ArgData::GenModuleIdFileFlag => {
                 self.makes_module_id = true;
@@ -130,41 +152,12 @@ impl Gathered {
             }
         }
     }
-}
 
-ghost use Rattle.std.specs.List.{fold};
-ghost use Rattle.cuda_below.specs.ArgsIter.{words_left, table_of};
-ghost use Rattle.cuda_below.specs.Items.{items as items_of};
-ghost use Rattle.device_lines.specs.Gathered.{nothing_gathered, with_item};
-
-/// Takes all items of a line of `count` words.
-pub fn gather<S: SearchableArgInfo<ArgData> + Drop>(
-    alloc: Global,
-    cwd: &str,
-    count: usize,
-    line: ArgsIter<'_, ArgData, S>,
-) -> Result<Gathered, AllocError>
-    ensures { IfOk result (λ g. g ≡ fold (with_item cwd.now) nothing_gathered (items_of (S.chosen (table_of line.entry)) (words_left line.entry))) }
-{
-    let mut line = line;
-    let mut gathered = Gathered::with_capacity(alloc, count)?;
-    while let Some(item) = line.next() {
-        gathered.take(alloc, cwd, item)?;
-    }
-    if line.refused() {
-        return Err(AllocError);
-    }
-    Ok(gathered)
-}
-
-impl Gathered {
-    ghost use Rattle.std.specs.Prelude.{map};
-    ghost use Rattle.device_lines.specs.Reading.{module_id_output, module_id_file};
-    ghost use Rattle.device_lines.specs.Gathered.{reading_of_gathered};
-
-    // Records the module id file as an output, where the tool makes it.
+    // Records the module id file as an output, if the tool makes it.
     fn record_module_id(&mut self, alloc: Global, cwd: &str) -> Result<(), AllocError>
-        ensures { OnOk result (self.new ≡ record self.old { outputs = fold with_entry self.old.outputs (module_id_output cwd.now self.old.makes_module_id self.old.module_id) }) }
+        ensures { OnOk result (self.new ≡ record self.old {
+          outputs = fold with_entry self.old.outputs (spec.module_id_output cwd.now self.old.makes_module_id self.old.module_id);
+        }) }
     {
         let Some(path) = &self.module_id else {
             return Ok(());
@@ -180,9 +173,9 @@ impl Gathered {
         self.outputs.insert("--module_id_file_name", made)
     }
 
-    // The module id file, where the tool reads it.
+    // The module id file, if the tool reads it.
     fn module_id_file(&self, alloc: Global, cwd: &str) -> Result<Words, AllocError>
-        ensures { IfOk result (λ w. w ≡ module_id_file cwd.now self.now.makes_module_id self.now.module_id) }
+        ensures { IfOk result (λ w. w ≡ spec.module_id_file cwd.now self.now.makes_module_id self.now.module_id) }
     {
         let mut files = Words::new(alloc);
         if let Some(path) = &self.module_id
@@ -208,26 +201,11 @@ impl Gathered {
         let extra_dist_files = gathered.module_id_file(alloc, cwd)?;
         let extra_hash_files = extra_dist_files.try_clone(alloc)?;
         Ok(ParsedArguments {
-            input,
-            outputs: gathered.outputs,
-            double_dash_input: false,
-            language,
-            compilation_flag: Text::new(String::new(alloc)),
-            depfile: None,
-            dependency_args: Words::new(alloc),
-            preprocessor_args: Words::new(alloc),
             common_args: gathered.common,
-            arch_args: Words::new(alloc),
             unhashed_args: gathered.unhashed,
             extra_dist_files,
             extra_hash_files,
-            uses_external_assembler: false,
-            msvc_show_includes: false,
-            msvc_explicit_language: false,
-            profile_generate: false,
-            color_mode: ColorMode::Off,
-            suppress_rewrite_includes_only: false,
-            too_hard_for_preprocessor_cache_mode: None,
+            ..ParsedArguments::of(alloc, input, language, gathered.outputs)
         })
     }
 }

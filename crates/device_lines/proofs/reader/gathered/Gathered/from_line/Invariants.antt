@@ -3,7 +3,7 @@ use Rattle.std.specs.List.{fold}
 use Rattle.cuda_below.specs.ArgsIter.{words_left, table_of}
 use Rattle.cuda_below.specs.Items.{items}
 use Rattle.device_lines.specs.Gathered.{nothing_gathered, with_item}
-use Rattle.device_lines.proofs.gathered.gather.Given as goal
+use Rattle.device_lines.proofs.reader.gathered.Gathered.from_line.Given as goal
 
 abbrev pub invariant-loop-item : goal.invariant-loop-item
 invariant-loop-item g l =

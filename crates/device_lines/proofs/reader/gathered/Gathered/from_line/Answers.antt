@@ -3,7 +3,7 @@ use Rattle.std.specs.List.{fold}
 use Rattle.cuda_below.specs.ArgsIter.{words_left}
 use Rattle.cuda_below.specs.Items.{item_read, items}
 use Rattle.device_lines.specs.Gathered.{with_item}
-use Rattle.device_lines.proofs.gathered.gather.Goals as goal
+use Rattle.device_lines.proofs.reader.gathered.Gathered.from_line.Goals as goal
 
 pub loop-item-preserved : goal.loop-item-preserved
 loop-item-preserved g c =

@@ -5,7 +5,7 @@ use Rattle.cuda_below.specs.ArgsIter.{words_left}
 use Rattle.cuda_below.specs.Items.{items}
 use Rattle.device_lines.proofs.ReadingLemmas.{reading-gathered}
 use Rattle.device_lines.specs.Gathered.{nothing_gathered, with_item, reading_of_gathered}
-use Rattle.device_lines.proofs.cicc.read_around.Goals as goal
+use Rattle.device_lines.proofs.reader.read_around.Goals as goal
 
 pub returns : goal.returns
 returns g c =
