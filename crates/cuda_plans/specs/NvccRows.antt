@@ -8,7 +8,7 @@ use Rattle.cuda_below.specs.declared.compiler.Places.{Places}
 use Rattle.cuda_below.specs.declared.fault.Fault.{Fault}
 use Rattle.cuda_below.specs.declared.fault.Fault.TheVariants.{MissingOutput, NoFileName, KeepDirValue, ThreadsValue}
 use Rattle.cuda_below.specs.declared.language.Language.TheVariants.{C, Cuda}
-use Rattle.cuda_below.specs.Compiler.{Reading, accepted, cannot_cache}
+use Rattle.cuda_below.specs.Compiler.{Reading, accepted, cannot_cache, not_compilation}
 use Rattle.cuda_below.specs.GccRows.{compiled}
 use Rattle.cuda_plans.specs.declared.nvcc.Nvcc.{Nvcc}
 use Rattle.cuda_below.specs.declared.compiler.NvccHostCompiler.TheVariants.{Gcc}
@@ -32,7 +32,7 @@ lone_object = record (compiled (codes "foo.cu") Cuda (codes "foo.o")) { common_a
 abbrev pub c_line : List (List ℕ)
 c_line = codes "-c" ∷ codes "foo.c" ∷ codes "-o" ∷ codes "foo.o" ∷ []
 
--- the environment adds `-x cu` before a line and a word with a space after it; where the first text doesn't split, it
+-- the environment adds `-x cu` before a line and a word with a space after it; if the first text doesn't split, it
 -- adds nothing; and of two variables of a name the first is read
 abbrev pub EnvironmentAddsWords : Type 0
 EnvironmentAddsWords =
@@ -82,42 +82,62 @@ abbrev pub words_written : Result (NvccCompileCommand × Cacheable) Fault → Re
 words_written (Ok c) = Ok (c.0.arguments, c.0.output_file_name, (dry_runs c.0).1.arguments)
 words_written (Err fault) = Err fault
 
--- under `-c` the output is written as given, and else below the working directory
+-- what a reading is written back as; nothing if it isn't accepted
+abbrev pub written_back_of : Reading → Option (Result (List (List ℕ) × List ℕ × List (List ℕ)) Fault)
+written_back_of (accepted p) = Some (words_written (write p))
+written_back_of (cannot_cache text word) = None
+written_back_of not_compilation = None
+
+-- what a line is read and written back as
+abbrev pub written_back : List (List ℕ) → Option (Result (List (List ℕ) × List ℕ × List (List ℕ)) Fault)
+written_back words = written_back_of (read words)
+
+-- under `-c` the output is written as given, and else joined to the working directory
 abbrev pub WordsAreWritten : Type 0
 WordsAreWritten =
-    (words_written (write lone_object)
-    ≡ Ok (
+    (read (codes "-c" ∷ codes "foo.cu" ∷ codes "-o" ∷ codes "foo.o" ∷ []) ≡ accepted lone_object)
+    × (written_back (codes "-c" ∷ codes "foo.cu" ∷ codes "-o" ∷ codes "foo.o" ∷ [])
+    ≡ Some (Ok (
       codes "-x" ∷ codes "cu" ∷ codes "-o" ∷ codes "foo.o" ∷ codes "-c" ∷ codes "/w/foo.cu" ∷ [],
       codes "foo.o",
       codes "-x" ∷ codes "cu" ∷ codes "-o" ∷ codes "foo.o" ∷ codes "-c" ∷ codes "/w/foo.cu" ∷ codes "--keep-dir" ∷ codes "/t" ∷ codes "--dryrun" ∷ codes "--keep" ∷ [],
-    ))
-    × (words_written (write (record (compiled (codes "foo.cu") Cuda (codes "foo.ptx")) { compilation_flag = codes "-ptx"; common_args = codes "-ptx" ∷ [] }))
-    ≡ Ok (
+    )))
+    × (written_back (codes "-ptx" ∷ codes "foo.cu" ∷ codes "-o" ∷ codes "foo.ptx" ∷ [])
+    ≡ Some (Ok (
       codes "-x" ∷ codes "cu" ∷ codes "-o" ∷ codes "/w/foo.ptx" ∷ codes "-ptx" ∷ codes "/w/foo.cu" ∷ [],
       codes "foo.ptx",
       codes "-x" ∷ codes "cu" ∷ codes "-o" ∷ codes "/w/foo.ptx" ∷ codes "-ptx" ∷ codes "/w/foo.cu" ∷ codes "--keep-dir" ∷ codes "/t" ∷ codes "--dryrun" ∷ codes "--keep" ∷ [],
-    ))
-    × (words_written (write (record (compiled (codes "foo.cu") Cuda (codes "foo.o")) { compilation_flag = [] }))
-    ≡ Ok (
+    )))
+    × (written_back (codes "foo.cu" ∷ [])
+    ≡ Some (Ok (
       codes "-x" ∷ codes "cu" ∷ codes "-o" ∷ codes "/w/foo.o" ∷ codes "/w/foo.cu" ∷ [],
       codes "foo.o",
       codes "-x" ∷ codes "cu" ∷ codes "-o" ∷ codes "/w/foo.o" ∷ codes "/w/foo.cu" ∷ codes "--keep-dir" ∷ codes "/t" ∷ codes "--dryrun" ∷ codes "--keep" ∷ [],
-    ))
+    )))
 
 pub words_are_written : WordsAreWritten
-words_are_written = (refl, refl, refl)
+words_are_written = (refl, refl, refl, refl)
 
--- what is refused first of several: a missing directory, then a missing number, then a missing output; and an output
--- without a file name last
+-- what is refused first of several: a missing directory, then a missing number, then a missing output
 abbrev pub RefusalsHaveAnOrder : Type 0
 RefusalsHaveAnOrder =
     (write (record lone_object { outputs = []; unhashed_args = codes "--threads" ∷ codes "-keep-dir" ∷ [] }) ≡ Err KeepDirValue)
     × (write (record lone_object { outputs = []; unhashed_args = codes "-keep" ∷ codes "--threads" ∷ [] }) ≡ Err ThreadsValue)
     × (write (record lone_object { outputs = [] }) ≡ Err (MissingOutput Cuda))
-    × (write (record (compiled (codes "foo.cu") Cuda (codes "..")) { compilation_flag = [] }) ≡ Err NoFileName)
 
 pub refusals_have_an_order : RefusalsHaveAnOrder
-refusals_have_an_order = (refl, refl, refl, refl)
+refusals_have_an_order = (refl, refl, refl)
+
+-- lines that are read and not written: an option of keep or thread words that `--threads` took for its value, and an
+-- output without a file name
+abbrev pub LinesAreRefused : Type 0
+LinesAreRefused =
+    (written_back (codes "-c" ∷ codes "foo.cu" ∷ codes "--threads" ∷ codes "-keep-dir" ∷ []) ≡ Some (Err KeepDirValue))
+    × (written_back (codes "-c" ∷ codes "foo.cu" ∷ codes "--threads" ∷ codes "-keep" ∷ []) ≡ Some (Err ThreadsValue))
+    × (written_back (codes "-c" ∷ codes "foo.cu" ∷ codes "-o" ∷ codes ".." ∷ []) ≡ Some (Err NoFileName))
+
+pub lines_are_refused : LinesAreRefused
+lines_are_refused = (refl, refl, refl)
 
 -- nvcc of these versions
 abbrev pub of_versions : Option (List ℕ) → Option (List ℕ) → Nvcc

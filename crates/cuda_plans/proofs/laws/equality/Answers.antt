@@ -1,5 +1,5 @@
 use Rattle.cuda_plans.proofs.PlaceLemmas.{places}
 use Rattle.cuda_plans.proofs.laws.equality.Goals as goal
 
-pub returns : goal.returns
-returns c = places
+pub returns-clause-place : goal.returns-clause-place
+returns-clause-place c = places
