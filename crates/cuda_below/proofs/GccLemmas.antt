@@ -2,14 +2,13 @@
 use Rattle.std.proofs.Common.{◌≡◌, ℕ, Bool, true, false, cond, ◌||◌, List, [], ◌∷◌, ◌++◌, map, fold, Option, Some, None, Result, Ok, Err, ◌≤◌, length, arith, refl, ap, sym, ◌∙◌, append_assoc, append-nil}
 use Rattle.std.specs.List.{list_any}
 use Rattle.std.specs.Option.{option_or}
-use Rattle.cuda_below.specs.declared.gcc.ArgData.{ArgData}
-use Rattle.cuda_below.specs.declared.gcc.ArgData.TheVariants.{TooHard, TooHardFlag, PassThrough, PassThroughFlag, PreprocessorArgument, PreprocessorArgumentFlag, PreprocessorArgumentPath, DepArgumentPath, DepTarget, NeedDepTarget, DoCompilation, Output, Language, Arch, Standard, ExtraHashFile, Unhashed, UnhashedFlag}
-use Rattle.cuda_below.specs.declared.gcc.Gathered.{Gathered}
+use Rattle.cuda_below.specs.declared.gcc.options.ArgData.{ArgData}
+use Rattle.cuda_below.specs.declared.gcc.options.ArgData.TheVariants.{TooHard, TooHardFlag, PassThrough, PassThroughFlag, PreprocessorArgument, PreprocessorArgumentFlag, PreprocessorArgumentPath, DepArgumentPath, DepTarget, NeedDepTarget, DoCompilation, Output, Language, Arch, Standard, ExtraHashFile, Unhashed, UnhashedFlag}
 use Rattle.cuda_below.specs.declared.table.ArgDisposition.{ArgDisposition}
 use Rattle.cuda_below.specs.Path.{joined}
 use Rattle.cuda_below.specs.Table.{Entry}
 use Rattle.cuda_below.specs.Items.{Item, raw, unknown_flag, flag, with_value, faulty, Said, item, option, said_of, last_item, separate_item, joined_form, may_stand_last, Completes, normal_form, value_words}
-use Rattle.cuda_below.specs.GccItems.{is_double_dash, items_to_dashes, has_double_dash, first_refusal, refusal_of, words_to, to_inputs, to_common, to_preprocessor, to_unhashed, to_architectures, to_dependencies, hash_files, language_said, flag_said, output_said, dependency_file_said, target_said, needs_target_item, written_form}
+use Rattle.cuda_below.specs.GccItems.{Asked, is_double_dash, items_to_dashes, has_double_dash, first_refusal, refusal_of, words_to, to_inputs, to_common, to_preprocessor, to_unhashed, to_architectures, to_dependencies, hash_files, language_said, flag_said, output_said, dependency_file_said, target_said, needs_target_item, written_form}
 use Rattle.cuda_below.specs.GccSteps.{with_option, with_item}
 use Rattle.cuda_below.specs.Gcc.{unless_refused}
 use Rattle.cuda_below.proofs.ItemLemmas.{items-completed}
@@ -19,7 +18,7 @@ abbrev said_after : {A B : Type 0} → (A → Option B) → Option B → List A 
 said_after say before is = fold (λ so_far i. option_or (say i) so_far) before is
 
 -- what a line asks for whose first items asked for this, of the items that are left
-abbrev pub added : List ℕ → Gathered → Bool → List (Item ArgData) → Gathered
+abbrev pub added : List ℕ → Asked → Bool → List (Item ArgData) → Asked
 added cwd g dashes is = record {
   inputs = g.inputs ++ words_to to_inputs is;
   double_dash_input = g.double_dash_input || dashes;
@@ -47,7 +46,7 @@ or-false false = refl
 
 module _ (cwd : List ℕ) where
   -- one more flag
-  flag-added : (g : Gathered) (dashes : Bool) (text : List ℕ) (kind : ArgData) (is : List (Item ArgData)) → added cwd (with_option cwd g text [] (text ∷ []) kind) dashes is ≡ added cwd g dashes (flag text kind ∷ is)
+  flag-added : (g : Asked) (dashes : Bool) (text : List ℕ) (kind : ArgData) (is : List (Item ArgData)) → added cwd (with_option cwd g text [] (text ∷ []) kind) dashes is ≡ added cwd g dashes (flag text kind ∷ is)
   flag-added g dashes text TooHard is = refl
   flag-added g dashes text TooHardFlag is = refl
   flag-added g dashes text PassThrough is = rw (append_assoc g.common_args (text ∷ []) (words_to to_common is)) refl
@@ -72,7 +71,7 @@ module _ (cwd : List ℕ) where
   option_words text value form = value_words text value (normal_form (written_form (Some text)) form)
 
   -- one more option with a value
-  value-added : (g : Gathered) (dashes : Bool) (text value : List ℕ) (form : ArgDisposition) (kind : ArgData) (is : List (Item ArgData)) → added cwd (with_option cwd g text value (option_words text value form) kind) dashes is ≡ added cwd g dashes (with_value text kind value form ∷ is)
+  value-added : (g : Asked) (dashes : Bool) (text value : List ℕ) (form : ArgDisposition) (kind : ArgData) (is : List (Item ArgData)) → added cwd (with_option cwd g text value (option_words text value form) kind) dashes is ≡ added cwd g dashes (with_value text kind value form ∷ is)
   value-added g dashes text value form TooHard is = refl
   value-added g dashes text value form TooHardFlag is = refl
   value-added g dashes text value form PassThrough is = rw (append_assoc g.common_args (option_words text value form) (words_to to_common is)) refl
@@ -93,7 +92,7 @@ module _ (cwd : List ℕ) where
   value-added g dashes text value form UnhashedFlag is = rw (append_assoc g.unhashed_args (option_words text value form) (words_to to_unhashed is)) refl
 
   -- one more item
-  item-added : (g : Gathered) (dashes : Bool) (i : Item ArgData) (is : List (Item ArgData)) → added cwd (with_item cwd g i) dashes is ≡ added cwd g dashes (i ∷ is)
+  item-added : (g : Asked) (dashes : Bool) (i : Item ArgData) (is : List (Item ArgData)) → added cwd (with_item cwd g i) dashes is ≡ added cwd g dashes (i ∷ is)
   item-added g dashes (raw word) is = rw (append_assoc g.inputs (word ∷ []) (words_to to_inputs is)) refl
   item-added g dashes (unknown_flag word) is = rw (append_assoc g.common_args (word ∷ []) (words_to to_common is)) refl
   item-added g dashes (flag text kind) is = flag-added g dashes text kind is
@@ -101,11 +100,11 @@ module _ (cwd : List ℕ) where
   item-added g dashes faulty is = refl
 
   -- no more items
-  added-nothing : (g : Gathered) → added cwd g false [] ≡ g
+  added-nothing : (g : Asked) → added cwd g false [] ≡ g
   added-nothing g = rw (append-nil g.inputs, append-nil g.common_args, append-nil g.preprocessor_args, append-nil g.arch_args, append-nil g.unhashed_args, append-nil g.dependency_args, append-nil g.extra_hash_files, or-false g.double_dash_input, or-false g.target_needed) refl
 
 -- what a line asks for whose first items asked for this, of the words that are left
-abbrev pub gathering_after : (List ℕ → Option (Entry ArgData)) → List ℕ → Gathered → List (List ℕ) → Result Gathered (List ℕ)
+abbrev pub gathering_after : (List ℕ → Option (Entry ArgData)) → List ℕ → Asked → List (List ℕ) → Result Asked (List ℕ)
 gathering_after chosen cwd g line =
     let is = items_to_dashes chosen line in
     unless_refused (first_refusal is) (added cwd g (has_double_dash chosen line) is)
@@ -115,7 +114,7 @@ first_refusal-raw : (line : List (List ℕ)) → first_refusal (map raw line) �
 first_refusal-raw [] = refl
 first_refusal-raw (w ∷ line) = first_refusal-raw line
 
-added-raw : (cwd : List ℕ) (g : Gathered) (line : List (List ℕ)) → added cwd g true (map raw line) ≡ record g { inputs = g.inputs ++ line; double_dash_input = true }
+added-raw : (cwd : List ℕ) (g : Asked) (line : List (List ℕ)) → added cwd g true (map raw line) ≡ record g { inputs = g.inputs ++ line; double_dash_input = true }
 added-raw cwd g [] = rw (append-nil g.inputs, append-nil g.common_args, append-nil g.preprocessor_args, append-nil g.arch_args, append-nil g.unhashed_args, append-nil g.dependency_args, append-nil g.extra_hash_files, or-true g.double_dash_input, or-false g.target_needed) refl
 added-raw cwd g (w ∷ line) =
     sym (item-added cwd g true (raw w) (map raw line))
@@ -152,7 +151,7 @@ module _ (chosen : List ℕ → Option (Entry ArgData)) where
   has_double_dash-completed : (w : List ℕ) (before : List (List ℕ)) (i : Item ArgData) (after : List (List ℕ)) → Completes (said_of w (chosen w)) before i after → has_double_dash chosen (w ∷ before) ≡ (is_double_dash i || has_double_dash chosen after)
   has_double_dash-completed w before i after h = ap (list_any is_double_dash) (items-completed chosen w before i after h)
 
-  module _ (cwd : List ℕ) (g : Gathered) (w : List ℕ) (before : List (List ℕ)) (i : Item ArgData) (after : List (List ℕ)) (h : Completes (said_of w (chosen w)) before i after) where
+  module _ (cwd : List ℕ) (g : Asked) (w : List ℕ) (before : List (List ℕ)) (i : Item ArgData) (after : List (List ℕ)) (h : Completes (said_of w (chosen w)) before i after) where
     -- what a line asks for that an item begins which is no `--`
     begun_by : is_double_dash i ≡ false → gathering_after chosen cwd g (w ∷ before) ≡ unless_refused (option_or (refusal_of i) (first_refusal (items_to_dashes chosen after))) (added cwd g (has_double_dash chosen after) (i ∷ items_to_dashes chosen after))
     begun_by other =
@@ -185,5 +184,5 @@ module _ (chosen : List ℕ → Option (Entry ArgData)) where
         ∙ ap Ok (added-raw cwd g after)
 
   -- at the end of the line nothing is added
-  pub at_end : (cwd : List ℕ) (g : Gathered) → gathering_after chosen cwd g [] ≡ Ok g
+  pub at_end : (cwd : List ℕ) (g : Asked) → gathering_after chosen cwd g [] ≡ Ok g
   at_end cwd g = ap Ok (added-nothing cwd g)

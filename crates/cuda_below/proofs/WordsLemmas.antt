@@ -1,5 +1,5 @@
 -- The words that an item is written as are read as that item again.
-use Rattle.std.proofs.Common.{◌≡◌, ◌≢◌, ℕ, true, false, cond, not, ◌&&◌, eqb, eqb-true, List, [], ◌∷◌, ◌++◌, Option, Some, None, refl, ap, sym, ◌∙◌, subst, nat_lt, append_assoc, append-nil}
+use Rattle.std.proofs.Common.{◌≡◌, ◌≢◌, ℕ, true, false, cond, not, ◌&&◌, eqb, eqb-true, List, [], ◌∷◌, ◌++◌, map, Option, Some, None, refl, ap, sym, ◌∙◌, subst, nat_lt, append_assoc, append-nil}
 use Rattle.std.specs.List.{AllByRecursion, flat_map}
 use Rattle.std.specs.Option.{option_map, option_and_then}
 use Rattle.std.specs.Str.{bytes_eq}
@@ -10,7 +10,7 @@ use Rattle.cuda_below.specs.declared.table.ArgDisposition.{ArgDisposition}
 use Rattle.cuda_below.specs.declared.table.ArgDisposition.TheVariants.{Separated, Concatenated, CanBeSeparated, CanBeConcatenated}
 use Rattle.cuda_below.specs.Table.{Entry, Matched, lone, joined, awaiting, rest_after, value_after, matched_rest, matched}
 use Rattle.cuda_below.specs.Items.{Item, raw, unknown_flag, flag, with_value, faulty, Said, item, option, items, said_by, said_of, unmatched_item, last_item, separate_item, joined_form, separate_form, may_stand_last, Completes, delimiter_before, value_words, words_of}
-use Rattle.cuda_below.specs.WordsLaw.{is_joined, is_whole, AllWhole, IsReadOver, LinesHoldReadItems, WordsAreThoseRead, WordsReadBack, ListsReadBack, WholeLinesAreKept}
+use Rattle.cuda_below.specs.WordsLaw.{is_joined, is_whole, AllWhole, IsReadOver, parts, LinesAreTheirParts, WholeItemsAreTheirParts, LinesHoldReadItems, WordsAreThoseRead, WordsReadBack, ListsReadBack, WholeLinesAreKept}
 use Rattle.cuda_below.proofs.ItemLemmas.{items-completed}
 
 -- a word with a rest after a text is the text and the rest
@@ -224,6 +224,39 @@ module _ {T : Type 0} (chosen : List ℕ → Option (Entry T)) where
       as (λ s. said_of w (chosen w) ≡ s → AllByRecursion (IsReadOver chosen) (elim s as (λ _. List (Item T)) [ item j ↦ j ∷ items chosen (x ∷ rest) | option e ↦ separate_item e x ∷ items chosen rest ])) [
         | item j ↦ λ said. ((w ∷ x ∷ rest, items chosen (x ∷ rest), items-completed chosen w (x ∷ rest) j (x ∷ rest) (subst (λ s. Completes s (x ∷ rest) j (x ∷ rest)) (sym said) (refl, refl))), later)
         | option e ↦ λ said. ((w ∷ x ∷ rest, items chosen rest, items-completed chosen w (x ∷ rest) (separate_item e x) rest (subst (λ s. Completes s (x ∷ rest) (separate_item e x) rest) (sym said) (refl, refl))), past)
+      ] refl
+
+  -- a line is its parts
+  pub lines-are_their_parts : LinesAreTheirParts chosen
+  lines-are_their_parts [] = (refl, refl)
+  lines-are_their_parts (w ∷ []) =
+      elim (said_of w (chosen w))
+      as (λ s. (map (λ p. p.0) (elim s as (λ _. List (Item T × List (List ℕ))) [ item j ↦ (j, w ∷ []) ∷ [] | option e ↦ (last_item e, w ∷ []) ∷ [] ]) ≡ (elim s as (λ _. List (Item T)) [ item j ↦ j ∷ [] | option e ↦ last_item e ∷ [] ])) × (flat_map (λ p. p.1) (elim s as (λ _. List (Item T × List (List ℕ))) [ item j ↦ (j, w ∷ []) ∷ [] | option e ↦ (last_item e, w ∷ []) ∷ [] ]) ≡ w ∷ []))
+      [ item j ↦ (refl, refl) | option e ↦ (refl, refl) ]
+  lines-are_their_parts (w ∷ x ∷ rest) =
+      let later = lines-are_their_parts (x ∷ rest) in
+      let past = lines-are_their_parts rest in
+      elim (said_of w (chosen w))
+      as (λ s. (map (λ p. p.0) (elim s as (λ _. List (Item T × List (List ℕ))) [ item j ↦ (j, w ∷ []) ∷ parts chosen (x ∷ rest) | option e ↦ (separate_item e x, w ∷ x ∷ []) ∷ parts chosen rest ]) ≡ (elim s as (λ _. List (Item T)) [ item j ↦ j ∷ items chosen (x ∷ rest) | option e ↦ separate_item e x ∷ items chosen rest ])) × (flat_map (λ p. p.1) (elim s as (λ _. List (Item T × List (List ℕ))) [ item j ↦ (j, w ∷ []) ∷ parts chosen (x ∷ rest) | option e ↦ (separate_item e x, w ∷ x ∷ []) ∷ parts chosen rest ]) ≡ w ∷ x ∷ rest))
+      [ item j ↦ (ap (λ is. j ∷ is) later.0, ap (λ ws. w ∷ ws) later.1) | option e ↦ (ap (λ is. separate_item e x ∷ is) past.0, ap (λ ws. w ∷ x ∷ ws) past.1) ]
+
+  -- the words of a whole item are its part
+  last-is_no_part : (e : Entry T) (part : List (List ℕ)) → is_whole (last_item e) ≡ true → words_of (last_item e) ≡ part
+  last-is_no_part e part whole = absurd (last-not_whole e whole)
+
+  pub whole_items-are_their_parts : WholeItemsAreTheirParts chosen
+  whole_items-are_their_parts [] = tt
+  whole_items-are_their_parts (w ∷ []) =
+      elim (said_of w (chosen w))
+      as (λ s. said_of w (chosen w) ≡ s → AllByRecursion (λ p. is_whole p.0 ≡ true → words_of p.0 ≡ p.1) (elim s as (λ _. List (Item T × List (List ℕ))) [ item j ↦ (j, w ∷ []) ∷ [] | option e ↦ (last_item e, w ∷ []) ∷ [] ]))
+      [ item j ↦ λ said. (said-words w (chosen w) j said, tt) | option e ↦ λ said. (last-is_no_part e (w ∷ []), tt) ] refl
+  whole_items-are_their_parts (w ∷ x ∷ rest) =
+      let later = whole_items-are_their_parts (x ∷ rest) in
+      let past = whole_items-are_their_parts rest in
+      elim (said_of w (chosen w))
+      as (λ s. said_of w (chosen w) ≡ s → AllByRecursion (λ p. is_whole p.0 ≡ true → words_of p.0 ≡ p.1) (elim s as (λ _. List (Item T × List (List ℕ))) [ item j ↦ (j, w ∷ []) ∷ parts chosen (x ∷ rest) | option e ↦ (separate_item e x, w ∷ x ∷ []) ∷ parts chosen rest ])) [
+        | item j ↦ λ said. (said-words w (chosen w) j said, later)
+        | option e ↦ λ said. (λ whole. separate-words e x ∙ ap (λ t. t ∷ x ∷ []) (said-option w (chosen w) e said), past)
       ] refl
 
   -- a line is the words of its items

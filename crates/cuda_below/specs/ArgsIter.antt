@@ -2,11 +2,11 @@
 use Rattle.std.specs.Prelude.{ℕ, List, Bool}
 use Rattle.cuda_below.specs.declared.items.ArgsIter.{ArgsIter}
 
-abbrev pub words_left : {T S : Type 0} → ArgsIter T S → List (List ℕ)
+abbrev pub words_left : {S T : Type 0} → ArgsIter S T → List (List ℕ)
 words_left it = it.line
 
-abbrev pub table_of : {T S : Type 0} → ArgsIter T S → S
+abbrev pub table_of : {S T : Type 0} → ArgsIter S T → S
 table_of it = it.table
 
-abbrev pub is_refused : {T S : Type 0} → ArgsIter T S → Bool
+abbrev pub is_refused : {S T : Type 0} → ArgsIter S T → Bool
 is_refused it = it.refused

@@ -8,14 +8,13 @@ use Rattle.cuda_below.specs.declared.compiler.CCompilerKind.TheVariants.{Nvcc}
 use Rattle.cuda_below.specs.declared.outputs.ArtifactDescriptor.{ArtifactDescriptor}
 use Rattle.cuda_below.specs.declared.arguments.ColorMode.TheVariants.{Auto}
 use Rattle.cuda_below.specs.declared.arguments.ParsedArguments.{ParsedArguments}
-use Rattle.cuda_below.specs.declared.gcc.ArgData.{ArgData}
-use Rattle.cuda_below.specs.declared.gcc.Gathered.{Gathered}
+use Rattle.cuda_below.specs.declared.gcc.options.ArgData.{ArgData}
 use Rattle.cuda_below.specs.Compiler.{Reading, accepted, cannot_cache, not_compilation}
 use Rattle.cuda_below.specs.Extension.{with_extension}
 use Rattle.cuda_below.specs.Language.{language_of_file}
 use Rattle.cuda_below.specs.Outputs.{with_entry}
 use Rattle.cuda_below.specs.Table.{Entry}
-use Rattle.cuda_below.specs.GccItems.{items_to_dashes, has_double_dash, first_refusal, gathered_of}
+use Rattle.cuda_below.specs.GccItems.{Asked, items_to_dashes, has_double_dash, first_refusal, asked_of}
 
 -- a file's language for a compiler that takes C for C++, or doesn't
 abbrev pub as_plusplus : Bool → Language → Language
@@ -28,8 +27,8 @@ language_of_first plusplus [] = None
 language_of_first plusplus (input ∷ _) = option_map (as_plusplus plusplus) (language_of_file input)
 
 -- the language: the one that an option names, else that of the first input
-abbrev pub language_read : Bool → Gathered → Option Language
-language_read plusplus g = option_or g.language (language_of_first plusplus g.inputs)
+abbrev pub language_read : Bool → Asked → Option Language
+language_read plusplus a = option_or a.language (language_of_first plusplus a.inputs)
 
 -- whether nvcc gets one CUDA file, which it compiles without being asked to
 abbrev pub is_lone_cuda : CCompilerKind → Option Language → List (List ℕ) → Bool
@@ -37,25 +36,25 @@ is_lone_cuda Nvcc (Some Cuda) (_ ∷ []) = true
 is_lone_cuda _ _ _ = false
 
 -- whether the line asks for a compilation
-abbrev pub is_compilation : CCompilerKind → Option Language → Gathered → Bool
-is_compilation kind language g = is_some g.compilation_flag || is_lone_cuda kind language g.inputs
+abbrev pub is_compilation : CCompilerKind → Option Language → Asked → Bool
+is_compilation kind language a = is_some a.compilation_flag || is_lone_cuda kind language a.inputs
 
 -- the path of the file that is made: the one that an option names, else the input's with the extension `o`
-abbrev pub obj_of : Gathered → List ℕ → List ℕ
-obj_of g input = unwrap_or g.obj (with_extension input (codes "o"))
+abbrev pub obj_of : Asked → List ℕ → List ℕ
+obj_of a input = unwrap_or a.obj (with_extension input (codes "o"))
 
--- the path of the dependency file: the one that an option names, else, where one is needed, the object's with the
+-- the path of the dependency file: the one that an option names, else, if one is needed, the object's with the
 -- extension `d`
-abbrev pub dependency_file_of : Gathered → List ℕ → Option (List ℕ)
-dependency_file_of g obj = option_or g.dependency_file (if g.target_needed then Some (with_extension obj (codes "d")) else None)
+abbrev pub dependency_file_of : Asked → List ℕ → Option (List ℕ)
+dependency_file_of a obj = option_or a.dependency_file (if a.target_needed then Some (with_extension obj (codes "d")) else None)
 
--- the words that name the target, where one is needed: those of the last option that names one, else the object's path
-abbrev pub target_words : Gathered → List ℕ → List (List ℕ)
-target_words g obj = if g.target_needed then unwrap_or g.target (codes "-MT" ∷ obj ∷ []) else []
+-- the words that name the target, if one is needed: those of the last option that names one, else the object's path
+abbrev pub target_words : Asked → List ℕ → List (List ℕ)
+target_words a obj = if a.target_needed then unwrap_or a.target (codes "-MT" ∷ obj ∷ []) else []
 
--- the words that name the dependency file, where one is needed and no option names one
-abbrev pub dependency_file_words : Gathered → List ℕ → List (List ℕ)
-dependency_file_words g obj = if g.target_needed && is_none g.dependency_file then codes "-MF" ∷ with_extension obj (codes "d") ∷ [] else []
+-- the words that name the dependency file, if one is needed and no option names one
+abbrev pub dependency_file_words : Asked → List ℕ → List (List ℕ)
+dependency_file_words a obj = if a.target_needed && is_none a.dependency_file then codes "-MF" ∷ with_extension obj (codes "d") ∷ [] else []
 
 -- a file that is always made
 abbrev pub made_file : List ℕ → ArtifactDescriptor
@@ -67,21 +66,21 @@ outputs_of obj None = with_entry [] (codes "obj", made_file obj)
 outputs_of obj (Some path) = with_entry (with_entry [] (codes "obj", made_file obj)) (codes "d", made_file path)
 
 -- the arguments of a line whose input, language and outputs are known
-abbrev pub arguments_with : Gathered → List ℕ → Language → List (List ℕ × ArtifactDescriptor) → ParsedArguments
-arguments_with g input language outputs = record {
+abbrev pub arguments_with : Asked → List ℕ → Language → List (List ℕ × ArtifactDescriptor) → ParsedArguments
+arguments_with a input language outputs = record {
   input = input;
   outputs = outputs;
-  double_dash_input = g.double_dash_input;
+  double_dash_input = a.double_dash_input;
   language = language;
-  compilation_flag = unwrap_or g.compilation_flag [];
+  compilation_flag = unwrap_or a.compilation_flag [];
   depfile = None;
-  dependency_args = g.dependency_args;
-  preprocessor_args = g.preprocessor_args;
-  common_args = g.common_args;
-  arch_args = g.arch_args;
-  unhashed_args = g.unhashed_args;
+  dependency_args = a.dependency_args;
+  preprocessor_args = a.preprocessor_args;
+  common_args = a.common_args;
+  arch_args = a.arch_args;
+  unhashed_args = a.unhashed_args;
   extra_dist_files = [];
-  extra_hash_files = g.extra_hash_files;
+  extra_hash_files = a.extra_hash_files;
   uses_external_assembler = false;
   msvc_show_includes = false;
   msvc_explicit_language = false;
@@ -92,9 +91,9 @@ arguments_with g input language outputs = record {
 }
 
 -- the arguments of a line whose input, language and object are known
-abbrev pub arguments_of : Gathered → List ℕ → Language → List ℕ → ParsedArguments
-arguments_of g input language obj =
-    record (arguments_with g input language (outputs_of obj (dependency_file_of g obj))) { dependency_args = (g.dependency_args ++ target_words g obj) ++ dependency_file_words g obj }
+abbrev pub arguments_of : Asked → List ℕ → Language → List ℕ → ParsedArguments
+arguments_of a input language obj =
+    record (arguments_with a input language (outputs_of obj (dependency_file_of a obj))) { dependency_args = (a.dependency_args ++ target_words a obj) ++ dependency_file_words a obj }
 
 -- the input of a line and its language, or the text that the line is refused with
 abbrev pub sole_input : Option Language → List (List ℕ) → Result (List ℕ × Language) (List ℕ)
@@ -104,31 +103,31 @@ sole_input None (_ ∷ []) = Err (codes "unknown source language")
 sole_input (Some language) (input ∷ []) = Ok (input, language)
 
 -- what is answered to a line that asks for a compilation, by its input and language
-abbrev pub reading_of_input : Gathered → Result (List ℕ × Language) (List ℕ) → Reading
-reading_of_input g (Ok found) = accepted (arguments_of g found.0 found.1 (obj_of g found.0))
-reading_of_input g (Err text) = cannot_cache text None
+abbrev pub reading_of_input : Asked → Result (List ℕ × Language) (List ℕ) → Reading
+reading_of_input a (Ok found) = accepted (arguments_of a found.0 found.1 (obj_of a found.0))
+reading_of_input a (Err text) = cannot_cache text None
 
 -- what is answered to a line that asks for this
-abbrev pub reading_of_gathered : Bool → CCompilerKind → Gathered → Reading
-reading_of_gathered plusplus kind g =
-    let language = language_read plusplus g in
-    if is_compilation kind language g then reading_of_input g (sole_input language g.inputs) else not_compilation
+abbrev pub reading_of_asked : Bool → CCompilerKind → Asked → Reading
+reading_of_asked plusplus kind a =
+    let language = language_read plusplus a in
+    if is_compilation kind language a then reading_of_input a (sole_input language a.inputs) else not_compilation
 
 -- what the items of a line ask for, unless one refuses: the first that does decides
-abbrev pub unless_refused : Option (List ℕ) → Gathered → Result Gathered (List ℕ)
-unless_refused None g = Ok g
-unless_refused (Some text) g = Err text
+abbrev pub unless_refused : Option (List ℕ) → Asked → Result Asked (List ℕ)
+unless_refused None a = Ok a
+unless_refused (Some text) a = Err text
 
 -- what a line asks for over a table, of what it chooses for each word and the working directory, or the text that the
 -- line is refused with
-abbrev pub gathering : (List ℕ → Option (Entry ArgData)) → List ℕ → List (List ℕ) → Result Gathered (List ℕ)
+abbrev pub gathering : (List ℕ → Option (Entry ArgData)) → List ℕ → List (List ℕ) → Result Asked (List ℕ)
 gathering chosen cwd line =
     let is = items_to_dashes chosen line in
-    unless_refused (first_refusal is) (gathered_of cwd (has_double_dash chosen line) is)
+    unless_refused (first_refusal is) (asked_of cwd (has_double_dash chosen line) is)
 
 -- what is answered to a line
-abbrev pub reading_of_gathering : Bool → CCompilerKind → Result Gathered (List ℕ) → Reading
-reading_of_gathering plusplus kind (Ok g) = reading_of_gathered plusplus kind g
+abbrev pub reading_of_gathering : Bool → CCompilerKind → Result Asked (List ℕ) → Reading
+reading_of_gathering plusplus kind (Ok a) = reading_of_asked plusplus kind a
 reading_of_gathering plusplus kind (Err text) = cannot_cache text None
 
 -- what the reader answers to a line, of what a table chooses for each word, the working directory, whether the compiler

@@ -8,9 +8,8 @@ use Rattle.cuda_below.specs.declared.language.Language.{Language}
 use Rattle.cuda_below.specs.declared.language.Language.TheVariants.{C, Cxx, ObjectiveC, ObjectiveCxx, Cuda, CudaFE, Ptx, Cubin}
 use Rattle.cuda_below.specs.declared.items.NormalizedDisposition.{NormalizedDisposition}
 use Rattle.cuda_below.specs.declared.items.NormalizedDisposition.TheVariants as normal
-use Rattle.cuda_below.specs.declared.gcc.ArgData.{ArgData}
-use Rattle.cuda_below.specs.declared.gcc.ArgData.TheVariants.{TooHard, TooHardFlag, PassThrough, PassThroughFlag, PreprocessorArgument, PreprocessorArgumentFlag, PreprocessorArgumentPath, DepArgumentPath, DepTarget, NeedDepTarget, DoCompilation, Output, Language as LanguageOption, Arch, Standard, ExtraHashFile, Unhashed, UnhashedFlag}
-use Rattle.cuda_below.specs.declared.gcc.Gathered.{Gathered}
+use Rattle.cuda_below.specs.declared.gcc.options.ArgData.{ArgData}
+use Rattle.cuda_below.specs.declared.gcc.options.ArgData.TheVariants.{TooHard, TooHardFlag, PassThrough, PassThroughFlag, PreprocessorArgument, PreprocessorArgumentFlag, PreprocessorArgumentPath, DepArgumentPath, DepTarget, NeedDepTarget, DoCompilation, Output, Language as LanguageOption, Arch, Standard, ExtraHashFile, Unhashed, UnhashedFlag}
 use Rattle.cuda_below.specs.Path.{joined}
 use Rattle.cuda_below.specs.Table.{Entry}
 use Rattle.cuda_below.specs.Items.{Item, raw, unknown_flag, flag, with_value, faulty, item, option, said_of, last_item, separate_item, items, normalized, words_of, text_of}
@@ -138,7 +137,7 @@ abbrev pub to_dependencies : Destination → Bool
 to_dependencies dependencies = true
 to_dependencies _ = false
 
--- how an item is written that may be written both ways: in one word where its option's text has two bytes
+-- how an item is written that may be written both ways: in one word if its option's text has two bytes
 abbrev pub written_form : Option (List ℕ) → NormalizedDisposition
 written_form None = normal.Separated
 written_form (Some text) = if length text == 2 then normal.Concatenated else normal.Separated
@@ -215,9 +214,28 @@ target_said = said_of_kind names_target (λ text value. text ∷ value ∷ [])
 abbrev pub needs_target_item : Item ArgData → Bool
 needs_target_item i = is_some (said_of_kind needs_target (λ text value. text) i)
 
+-- what the items of a line ask for: the words that are no options, and whether `--` stood before some of them; the
+-- language that an option names; the flag that asks for a compilation; the paths of the file that is made and of the
+-- dependency file; whether that needs a target, and the two words that name it; and the words of each list
+pub record Asked : Type 0 where
+  pub inputs : List (List ℕ)
+  pub double_dash_input : Bool
+  pub language : Option Language
+  pub compilation_flag : Option (List ℕ)
+  pub obj : Option (List ℕ)
+  pub dependency_file : Option (List ℕ)
+  pub target_needed : Bool
+  pub target : Option (List (List ℕ))
+  pub common_args : List (List ℕ)
+  pub preprocessor_args : List (List ℕ)
+  pub arch_args : List (List ℕ)
+  pub unhashed_args : List (List ℕ)
+  pub dependency_args : List (List ℕ)
+  pub extra_hash_files : List (List ℕ)
+
 -- what the items of a line ask for, of the working directory, whether `--` stands there, and the items
-abbrev pub gathered_of : List ℕ → Bool → List (Item ArgData) → Gathered
-gathered_of cwd dashes is = record {
+abbrev pub asked_of : List ℕ → Bool → List (Item ArgData) → Asked
+asked_of cwd dashes is = record {
   inputs = words_to to_inputs is;
   double_dash_input = dashes;
   language = last_said language_said is;

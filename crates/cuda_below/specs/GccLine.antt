@@ -1,21 +1,23 @@
 -- The words that gcc's arguments are written back as.
-use Rattle.std.specs.Prelude.{◌≡◌, ℕ, List, [], ◌∷◌, ◌++◌, Bool, true, if◌then◌else◌, Option, Some, None, refl, codes}
-use Rattle.cuda_below.specs.declared.language.Language.TheVariants.{C, Cxx, Ptx}
+use Rattle.std.specs.Prelude.{ℕ, List, [], ◌∷◌, ◌++◌, Bool, if◌then◌else◌, Option, Some, None, codes}
+use Rattle.cuda_below.specs.declared.language.Language.{Language}
 use Rattle.cuda_below.specs.declared.arguments.ParsedArguments.{ParsedArguments}
 use Rattle.cuda_below.specs.GccItems.{name_of_language}
-use Rattle.cuda_below.specs.GccRows.{compiled}
 
--- the option for the language and its name, where it has one
+-- the option for the language and its name, if it has one
 abbrev pub named_words : Option (List ℕ) → List (List ℕ)
 named_words None = []
 named_words (Some name) = codes "-x" ∷ name ∷ []
 
--- the flag that asks for a compilation, where there is one
+abbrev pub language_words : Language → List (List ℕ)
+language_words language = named_words (name_of_language language)
+
+-- the flag that asks for a compilation, if there is one
 abbrev pub flag_words : List ℕ → List (List ℕ)
 flag_words [] = []
 flag_words (byte ∷ bytes) = (byte ∷ bytes) ∷ []
 
--- the input, after `--` where it stood after one
+-- the input, after `--` if it stood after one
 abbrev pub input_words : Bool → List ℕ → List (List ℕ)
 input_words is_after_dashes input = if is_after_dashes then codes "--" ∷ input ∷ [] else input ∷ []
 
@@ -23,17 +25,12 @@ input_words is_after_dashes input = if is_after_dashes then codes "--" ∷ input
 abbrev pub option_words : ParsedArguments → List (List ℕ)
 option_words p = p.preprocessor_args ++ p.unhashed_args ++ p.common_args ++ p.arch_args
 
--- the words of a gcc line: the language, the flag that asks for a compilation, `-o` and the output's path, the options, and the input
+-- the words of a gcc line: the language, the flag that asks for a compilation, `-o` and the output's path, the
+-- options, and the input
 abbrev pub gcc_words : ParsedArguments → List ℕ → List (List ℕ)
 gcc_words p obj =
-    named_words (name_of_language p.language) ++ flag_words p.compilation_flag ++ (codes "-o" ∷ obj ∷ []) ++ option_words p ++ input_words p.double_dash_input p.input
-
--- examples
-pub writes_dashes_before_the_input : gcc_words (record (compiled (codes "-x.c") C (codes "-x.o")) { double_dash_input = true }) (codes "-x.o") ≡ codes "-x" ∷ codes "c" ∷ codes "-c" ∷ codes "-o" ∷ codes "-x.o" ∷ codes "--" ∷ codes "-x.c" ∷ []
-writes_dashes_before_the_input = refl
-
-pub writes_options_by_their_lists : gcc_words (record (compiled (codes "a.cc") Cxx []) { common_args = codes "-fabc" ∷ []; preprocessor_args = codes "-Id" ∷ []; unhashed_args = codes "-t1" ∷ []; arch_args = codes "-arch" ∷ codes "x" ∷ [] }) (codes "b.o") ≡ codes "-x" ∷ codes "c++" ∷ codes "-c" ∷ codes "-o" ∷ codes "b.o" ∷ codes "-Id" ∷ codes "-t1" ∷ codes "-fabc" ∷ codes "-arch" ∷ codes "x" ∷ codes "a.cc" ∷ []
-writes_options_by_their_lists = refl
-
-pub writes_no_language_and_no_flag : gcc_words (record (compiled (codes "k.ptx") Ptx []) { compilation_flag = [] }) (codes "k") ≡ codes "-o" ∷ codes "k" ∷ codes "k.ptx" ∷ []
-writes_no_language_and_no_flag = refl
+    language_words p.language
+    ++ flag_words p.compilation_flag
+    ++ (codes "-o" ∷ obj ∷ [])
+    ++ option_words p
+    ++ input_words p.double_dash_input p.input

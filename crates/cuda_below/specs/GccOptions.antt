@@ -1,11 +1,12 @@
 -- The options that the gcc reader knows: this project's profile of gcc's options.
-use Rattle.std.specs.Prelude.{◌≡◌, ℕ, List, [], ◌∷◌, ◌++◌, Bool, true, not, ◌&&◌, map, Some, None, refl, codes}
+use Rattle.std.specs.Prelude.{◌≡◌, ℕ, List, [], ◌∷◌, ◌++◌, Bool, true, not, ◌&&◌, map, Some, None, refl}
 use Rattle.std.specs.List.{list_any}
 use Rattle.std.specs.Str.{bytes_eq}
 use Rattle.cuda_below.specs.declared.table.ArgDisposition.{ArgDisposition}
 use Rattle.cuda_below.specs.declared.table.ArgDisposition.TheVariants.{Separated, Concatenated, CanBeSeparated}
-use Rattle.cuda_below.specs.declared.gcc.ArgData.{ArgData}
-use Rattle.cuda_below.specs.declared.gcc.ArgData.TheVariants.{TooHard, TooHardFlag, PassThrough, PreprocessorArgument, PreprocessorArgumentFlag, PreprocessorArgumentPath, DepArgumentPath, DepTarget, NeedDepTarget, DoCompilation, Output, Language, Arch, Standard}
+use Rattle.cuda_below.specs.declared.gcc.options.ArgData.{ArgData}
+use Rattle.cuda_below.specs.declared.gcc.options.ArgData.TheVariants.{TooHard, TooHardFlag, PassThrough, PreprocessorArgument, PreprocessorArgumentFlag, PreprocessorArgumentPath, DepArgumentPath, DepTarget, NeedDepTarget, DoCompilation, Output, Language, Arch, Standard}
+use Rattle.cuda_below.specs.Rows.{spaced}
 use Rattle.cuda_below.specs.Table.{Entry}
 
 -- the entries of one kind for texts that are flags, and for texts that take a value in one form
@@ -15,7 +16,8 @@ flags kind texts = map (λ text. record { text = text; kind = kind; form = None 
 abbrev pub options : ArgDisposition → ArgData → List (List ℕ) → List (Entry ArgData)
 options form kind texts = map (λ text. record { text = text; kind = kind; form = Some form }) texts
 
--- a value in the option's own word, there after `=`, or there or as the next word
+-- how an option takes its value: in its own word; there after `=`, whose byte is 61; there or as the next word; and
+-- there after `=` or as the next word
 abbrev pub joined : ArgDisposition
 joined = Concatenated None
 
@@ -25,26 +27,29 @@ joined_by_equals = Concatenated (Some 61)
 abbrev pub either_way : ArgDisposition
 either_way = CanBeSeparated None
 
+abbrev pub either_way_or_equals : ArgDisposition
+either_way_or_equals = CanBeSeparated (Some 61)
+
 -- the entries, by form and kind
 abbrev pub gcc_entries : List (Entry ArgData)
 gcc_entries =
-    flags TooHardFlag (codes "-" ∷ codes "-E" ∷ codes "-M" ∷ codes "-MM" ∷ codes "-P" ∷ codes "--save-temps" ∷ codes "-save-temps" ∷ codes "-fsyntax-only" ∷ [])
-    ++ options joined TooHard (codes "@" ∷ [])
-    ++ flags NeedDepTarget (codes "-MD" ∷ codes "-MMD" ∷ codes "-MP" ∷ [])
-    ++ options Separated DepArgumentPath (codes "-MF" ∷ [])
-    ++ options Separated DepTarget (codes "-MQ" ∷ codes "-MT" ∷ [])
-    ++ options either_way PreprocessorArgument (codes "-D" ∷ codes "-U" ∷ [])
-    ++ options either_way PreprocessorArgumentPath (codes "-I" ∷ codes "-idirafter" ∷ codes "-imacros" ∷ codes "-include" ∷ codes "-iprefix" ∷ codes "-iquote" ∷ codes "-isysroot" ∷ codes "-isystem" ∷ codes "-iwithprefix" ∷ codes "-iwithprefixbefore" ∷ [])
-    ++ options Separated PreprocessorArgument (codes "-Xpreprocessor" ∷ [])
-    ++ options joined_by_equals PreprocessorArgument (codes "-stdlib" ∷ [])
-    ++ flags PreprocessorArgumentFlag (codes "-nostdinc" ∷ codes "-nostdinc++" ∷ codes "-trigraphs" ∷ codes "-remap" ∷ [])
-    ++ options Separated PassThrough (codes "--param" ∷ codes "--sysroot" ∷ codes "-Xassembler" ∷ codes "-Xlinker" ∷ codes "-aux-info" ∷ [])
-    ++ options either_way PassThrough (codes "-B" ∷ codes "-L" ∷ codes "-u" ∷ codes "-z" ∷ [])
-    ++ options joined_by_equals Standard (codes "-std" ∷ [])
-    ++ options Separated Arch (codes "-arch" ∷ [])
-    ++ flags DoCompilation (codes "-c" ∷ [])
-    ++ options either_way Output (codes "-o" ∷ [])
-    ++ options either_way Language (codes "-x" ∷ [])
+    flags TooHardFlag (spaced "- -E -M -MM -P --save-temps -save-temps -fsyntax-only")
+    ++ options joined TooHard (spaced "@")
+    ++ flags NeedDepTarget (spaced "-MD -MMD -MP")
+    ++ options Separated DepArgumentPath (spaced "-MF")
+    ++ options Separated DepTarget (spaced "-MQ -MT")
+    ++ options either_way PreprocessorArgument (spaced "-D -U")
+    ++ options either_way PreprocessorArgumentPath (spaced "-I -idirafter -imacros -include -iprefix -iquote -isysroot -isystem -iwithprefix -iwithprefixbefore")
+    ++ options Separated PreprocessorArgument (spaced "-Xpreprocessor")
+    ++ options joined_by_equals PreprocessorArgument (spaced "-stdlib")
+    ++ flags PreprocessorArgumentFlag (spaced "-nostdinc -nostdinc++ -trigraphs -remap")
+    ++ options Separated PassThrough (spaced "--param --sysroot -Xassembler -Xlinker -aux-info")
+    ++ options either_way PassThrough (spaced "-B -L -u -z")
+    ++ options joined_by_equals Standard (spaced "-std")
+    ++ options Separated Arch (spaced "-arch")
+    ++ flags DoCompilation (spaced "-c")
+    ++ options either_way Output (spaced "-o")
+    ++ options either_way Language (spaced "-x")
 
 -- whether the texts of a table's entries differ from one another
 abbrev pub differ : {T : Type 0} → List (Entry T) → Bool

@@ -45,7 +45,7 @@ may_stand_last (Some (CanBeConcatenated None)) = true
 may_stand_last (Some (CanBeConcatenated (Some d))) = false
 
 module _ {T : Type 0} where
-  -- a word that no entry matches is an unknown flag where it begins with `-`, else a raw word
+  -- a word that no entry matches is an unknown flag if it begins with `-`, else a raw word
   abbrev pub unmatched_item : List ℕ → Item T
   unmatched_item [] = raw []
   unmatched_item (c ∷ cs) = if c == 45 then unknown_flag (c ∷ cs) else raw (c ∷ cs)
@@ -145,7 +145,7 @@ module _ {T : Type 0} where
   text_of (with_value text kind value form) = Some text
   text_of faulty = None
 
-  -- the value that an item has, and the empty text where it has none
+  -- the value that an item has, and the empty text if it has none
   abbrev pub value_of : Item T → List ℕ
   value_of (raw word) = []
   value_of (unknown_flag word) = []
@@ -165,11 +165,25 @@ module _ {T : Type 0} where
   item_read (Ok argument) = item_of argument
   item_read (Err error) = faulty
 
+-- the words left of a line after what its first word says, of the words after that: an option takes the next one
+abbrev pub words_past : {T : Type 0} → Said T → List (List ℕ) → List (List ℕ)
+words_past (item j) before = before
+words_past (option e) [] = []
+words_past (option e) (x ∷ rest) = rest
+
+-- the words of a line that are left after its first item
+abbrev pub words_after : {T : Type 0} → (List ℕ → Option (Entry T)) → List (List ℕ) → List (List ℕ)
+words_after chosen [] = []
+words_after chosen (w ∷ before) = words_past (said_of w (chosen w)) before
+
 -- one step of reading a line, of the words and the refusal before it to those after it: an item that comes is
--- the first of the items left; where none comes, memory was refused or no word is left; and a reader that met
--- refused memory gives nothing more
+-- the first of the items left; if none comes, memory was refused or no word is left; a reader that met refused
+-- memory gives nothing more; without words nothing comes, and no refusal; and the words left are those after the
+-- first item, also when memory was refused for it
 pub record ReadsItem {T : Type 0} (chosen : List ℕ → Option (Entry T)) (before : List (List ℕ)) (was_refused : Bool) (read : Option (Item T)) (after : List (List ℕ)) (refused : Bool) : Type 0 where
   pub next : IfSome read (λ i. items chosen before ≡ i ∷ items chosen after)
   pub goes_on : IfSome read (λ _. refused ≡ false)
   pub at_end : IfNone read (refused ≡ false → before ≡ [])
   pub ended : was_refused ≡ true → (read ≡ None) × (refused ≡ true)
+  pub without_words : before ≡ [] → (read ≡ None) × (refused ≡ was_refused)
+  pub left : after ≡ (if was_refused then before else words_after chosen before)

@@ -21,6 +21,7 @@ pub mod Numeral
 pub mod ObjectFlags
 pub mod Outputs
 pub mod Path
+pub mod Rows
 pub mod Status
 pub mod Table
 pub mod Variables

@@ -5,7 +5,7 @@ use Rattle.std.specs.Option.{is_some, IsSome}
 use Rattle.std.proofs.lemmas.List.Elements.{All-nil, All-push, All-weaker, All-append, Contains-push, Contains-append_left, Contains-append_right}
 use Rattle.std.proofs.lemmas.Bool.{false≢true}
 use Rattle.std.proofs.lemmas.Bool.Decides.{nat_tests}
-use Rattle.cuda_below.specs.Table.{Entry, matched, is_longer, longer_match, longest_match, longer_choice, IsLongestMatch}
+use Rattle.cuda_below.specs.Table.{Entry, matched, is_longer, longer_match, longest_match, longer_choice, longest_of_two, IsLongestMatch}
 
 module _ {T : Type 0} (word : List ℕ) where
   -- an entry doesn't match
@@ -26,13 +26,13 @@ module _ {T : Type 0} (word : List ℕ) where
   all_wider : (m n : ℕ) (entries : List (Entry T)) → m ≤ n → All (Within m) entries → All (Within n) entries
   all_wider m n entries le = All-weaker (Within m) (Within n) (λ f bound some. let at : length f.text ≤ m = bound some in omega arith) entries
 
-  -- the choice so far stands where the next entry doesn't match
+  -- the choice so far stands if the next entry doesn't match
   after_unmatched : (seen : List (Entry T)) (best : Option (Entry T)) (e : Entry T) → NoMatch e → IsLongestMatch seen word best → IsLongestMatch (seen ++ e ∷ []) word best
   after_unmatched seen None e none h = All-push NoMatch seen e h none
   after_unmatched seen (Some b) e none h =
       (Contains-append_left seen (e ∷ []) b h.0, h.1, All-push (Within (length b.text)) seen e h.2 (unmatched_within (length b.text) e none))
 
-  -- a matching entry is chosen where it is longer
+  -- a matching entry is chosen if it is longer
   after_matched : (seen : List (Entry T)) (best : Option (Entry T)) (e : Entry T) → IsSome (matched e word) → IsLongestMatch seen word best → IsLongestMatch (seen ++ e ∷ []) word (cond (is_longer e best) (Some e) best)
   after_matched seen None e some h =
       (Contains-push seen e, some, All-push (Within (length e.text)) seen e (all_within (length e.text) seen h) (λ _. omega arith))
@@ -76,3 +76,8 @@ module _ {T : Type 0} (word : List ℕ) where
         | false ↦ λ ge. let shorter : length a.text ≤ length b.text = grind (arith, nat_tests) in
             (Contains-append_right first second b k.0, k.1, All-append (Within (length b.text)) first second (all_wider (length a.text) (length b.text) first shorter h.2) k.2)
       ] refl
+
+  -- two lists
+  pub longest_of_two-longest : (first second : List (Entry T)) → IsLongestMatch (first ++ second) word (longest_of_two first second word)
+  longest_of_two-longest first second =
+      longer_choice-longest first second (longest_match first word) (longest_match second word) (longest_match-longest first) (longest_match-longest second)

@@ -61,11 +61,11 @@ matched_rest (Some (CanBeSeparated delimiter)) rest = matched_either delimiter r
 matched_rest (Some (CanBeConcatenated delimiter)) rest = matched_either delimiter rest
 
 module _ {T : Type 0} where
-  -- what an entry makes of a word, and nothing where it doesn't match
+  -- what an entry makes of a word, and nothing if it doesn't match
   abbrev pub matched : Entry T → List ℕ → Option Matched
   matched e word = option_and_then (matched_rest e.form) (rest_after e.text word)
 
-  -- an entry of greatest text length among those that match the word, and none exactly where none matches
+  -- an entry of greatest text length among those that match the word, and none exactly if none matches
   abbrev pub IsLongestMatch : List (Entry T) → List ℕ → Option (Entry T) → Type 0
   IsLongestMatch entries word choice =
       MatchOption choice (All (λ e. matched e word ≡ None) entries) (λ e. Contains entries e × IsSome (matched e word) × All (λ f. IsSome (matched f word) → length f.text ≤ length e.text) entries)
@@ -75,7 +75,7 @@ module _ {T : Type 0} where
   is_longer e None = true
   is_longer e (Some best) = nat_lt (length best.text) (length e.text)
 
-  -- the choice so far, or the next entry where it matches and is longer
+  -- the choice so far, or the next entry if it matches and is longer
   abbrev pub longer_match : List ℕ → Option (Entry T) → Entry T → Option (Entry T)
   longer_match word best e = if is_some (matched e word) && is_longer e best then Some e else best
 
@@ -88,3 +88,7 @@ module _ {T : Type 0} where
   longer_choice None second = second
   longer_choice (Some first) None = Some first
   longer_choice (Some first) (Some second) = if nat_lt (length second.text) (length first.text) then Some first else Some second
+
+  -- the entry of two lists that a word chooses: the longer one of their choices, and of equal length the second's
+  abbrev pub longest_of_two : List (Entry T) → List (Entry T) → List ℕ → Option (Entry T)
+  longest_of_two first second word = longer_choice (longest_match first word) (longest_match second word)

@@ -1,12 +1,12 @@
 -- What is claimed of the words that items are written as: they are read as the same items again. All of it is said
 -- of every choice of entries, so of every table.
-use Rattle.std.specs.Prelude.{◌≡◌, ℕ, List, [], ◌∷◌, ◌++◌, Bool, true, false, not, ◌&&◌, Option}
+use Rattle.std.specs.Prelude.{◌≡◌, ℕ, List, [], ◌∷◌, ◌++◌, Bool, true, false, not, ◌&&◌, map, Option}
 use Rattle.std.specs.List.{AllByRecursion, flat_map}
 use Rattle.std.specs.Str.{bytes_eq}
 use Rattle.cuda_below.specs.declared.table.ArgDisposition.{ArgDisposition}
 use Rattle.cuda_below.specs.declared.table.ArgDisposition.TheVariants.{Separated, Concatenated, CanBeSeparated, CanBeConcatenated}
 use Rattle.cuda_below.specs.Table.{Entry}
-use Rattle.cuda_below.specs.Items.{Item, raw, unknown_flag, flag, with_value, faulty, items, words_of}
+use Rattle.cuda_below.specs.Items.{Item, raw, unknown_flag, flag, with_value, faulty, item, option, said_of, last_item, separate_item, items, words_of}
 
 -- whether a value of this form is written in its option's own word
 abbrev pub is_joined : ArgDisposition → Bool
@@ -51,6 +51,21 @@ module _ {T : Type 0} (chosen : List ℕ → Option (Entry T)) where
   abbrev pub ListsReadBack : Type 0
   ListsReadBack =
       (is : List (Item T)) → AllByRecursion IsReadOver is → AllWhole is → (after : List (List ℕ)) → items chosen (flat_map words_of is ++ after) ≡ is ++ items chosen after
+
+  -- the items of a line, each with the part of the line that it was read from: its first word, and for an option
+  -- that takes the next word that one
+  abbrev pub parts : List (List ℕ) → List (Item T × List (List ℕ))
+  parts [] = []
+  parts (w ∷ []) = elim (said_of w (chosen w)) [ item i ↦ (i, w ∷ []) ∷ [] | option e ↦ (last_item e, w ∷ []) ∷ [] ]
+  parts (w ∷ x ∷ rest) = elim (said_of w (chosen w)) [ item i ↦ (i, w ∷ []) ∷ parts (x ∷ rest) | option e ↦ (separate_item e x, w ∷ x ∷ []) ∷ parts rest ]
+
+  -- the parts of a line are those of its items, and one after the other they are the line
+  abbrev pub LinesAreTheirParts : Type 0
+  LinesAreTheirParts = (line : List (List ℕ)) → (map (λ p. p.0) (parts line) ≡ items chosen line) × (flat_map (λ p. p.1) (parts line) ≡ line)
+
+  -- the words of each whole item of a line are its part, whatever items stand before it
+  abbrev pub WholeItemsAreTheirParts : Type 0
+  WholeItemsAreTheirParts = (line : List (List ℕ)) → AllByRecursion (λ p. is_whole p.0 ≡ true → words_of p.0 ≡ p.1) (parts line)
 
   -- a line whose items are all whole is written as the line itself
   abbrev pub WholeLinesAreKept : Type 0

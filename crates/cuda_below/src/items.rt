@@ -4,6 +4,9 @@ ghost use Rattle.std.specs.Prelude.{◌≡◌, ◌∷◌, [], ◌++◌, ◌<◌,
 ghost use Rattle.std.specs.Option.{option_map, option_copied};
 ghost use Rattle.std.specs.List.{remove};
 ghost use Rattle.cuda_below.specs.Table.{entry_of};
+ghost use Rattle.cuda_below.specs.Items.{item_of, item_read};
+ghost use Rattle.cuda_below.specs.Items as spec;
+ghost use Rattle.cuda_below.specs.WordsLaw as law;
 
 use crate::table::{ArgDisposition, ArgInfo, Match, SearchableArgInfo};
 use crate::words::Words;
@@ -101,11 +104,9 @@ pub enum ArgParseError {
 }
 
 impl<T: Copy> Argument<T> {
-    ghost use Rattle.cuda_below.specs.Items.{item_of, words_of, kind_of, text_of, value_of, normalized, unmatched_item};
-
-    /// The option's kind, where the item is an option.
+    /// The option's kind, if the item is an option.
     pub fn get_data(&self) -> Option<&T>
-        ensures { option_copied result ≡ kind_of (item_of self.now) }
+        ensures { option_copied result ≡ spec.kind_of (item_of self.now) }
     {
         match self {
             Argument::Raw(_) | Argument::UnknownFlag(_) => None,
@@ -114,9 +115,9 @@ impl<T: Copy> Argument<T> {
         }
     }
 
-    /// The option's text, where the item is an option of the table.
+    /// The option's text, if the item is an option of the table.
     pub fn flag_str(&self) -> Option<&'static str>
-        ensures { option_copied result ≡ text_of (item_of self.now) }
+        ensures { option_copied result ≡ spec.text_of (item_of self.now) }
     {
         match self {
             Argument::Raw(_) | Argument::UnknownFlag(_) => None,
@@ -127,7 +128,7 @@ impl<T: Copy> Argument<T> {
 
     /// The option's value, as the line gives it; empty for an item that takes none.
     pub fn value(&self) -> &str
-        ensures { result.now ≡ value_of (item_of self.now) }
+        ensures { result.now ≡ spec.value_of (item_of self.now) }
     {
         match self {
             Argument::Raw(_) | Argument::UnknownFlag(_) | Argument::Flag(_, _) => "",
@@ -135,10 +136,10 @@ impl<T: Copy> Argument<T> {
         }
     }
 
-    /// The same item, to be written as `disposition` says where its option may be written both ways.
+    /// The same item, to be written as `disposition` says if its option may be written both ways.
     /// Any other item stays as it is.
     pub fn normalize(self, disposition: NormalizedDisposition) -> Argument<T>
-        ensures { item_of result ≡ normalized disposition (item_of self) }
+        ensures { item_of result ≡ spec.normalized disposition (item_of self) }
     {
         match self {
             Argument::WithValue(text, kind, value, form) => {
@@ -150,7 +151,7 @@ impl<T: Copy> Argument<T> {
 
     // The item of a word that no entry matches.
     fn unmatched(alloc: Global, word: &str) -> Result<Argument<T>, AllocError>
-        ensures { IfOk result (λ a. item_of a ≡ unmatched_item word.now) }
+        ensures { IfOk result (λ a. item_of a ≡ spec.unmatched_item word.now) }
     {
         let text = String::from_str(alloc, word)?;
         if word.as_bytes().first() == Some(&b'-') {
@@ -160,29 +161,46 @@ impl<T: Copy> Argument<T> {
         }
     }
 
-    /// Puts the words that the item is written as last among `words`: for an option with its value
-    /// two words, or one where the value was joined, with the delimiter where there is one and the
-    /// value isn't empty. On an error `words` stay as they were.
+    /// The words that the item is written as, in memory of their own: those of `write`.
+    pub fn words(&self, alloc: Global) -> Result<Words, AllocError>
+        ensures { IfOk result (λ words. words ≡ spec.words_of (item_of self.now)) }
+    {
+        let mut words = Words::new(alloc);
+        match self {
+            Argument::Raw(word) | Argument::UnknownFlag(word) => {
+                words.push(String::from_str(alloc, word.as_str())?)?;
+            }
+            Argument::Flag(text, _) => words.push(String::from_str(alloc, text)?)?,
+            Argument::WithValue(text, _, value, form) => {
+                let value = String::from_str(alloc, value.as_str())?;
+                write_value(alloc, text, value, *form, &mut words)?;
+            }
+        }
+        Ok(words)
+    }
+
+    /// Puts the words that the item is written as last among `words`, and takes the item's texts for
+    /// them. An option with its value is two words; it is one word if the value was joined, with the
+    /// delimiter between them if there is one and the value isn't empty. On an error `words` stay as
+    /// they were.
     pub fn write(self, alloc: Global, words: &mut Words) -> Result<(), AllocError>
-        ensures ok { OnOk result (words.new ≡ words.old ++ words_of (item_of self)) }
+        ensures ok { OnOk result (words.new ≡ words.old ++ spec.words_of (item_of self)) }
         ensures err { OnErr result (words.new ≡ words.old) }
     {
         match self {
             Argument::Raw(word) | Argument::UnknownFlag(word) => words.push(word),
             Argument::Flag(text, _) => words.push(String::from_str(alloc, text)?),
-            Argument::WithValue(text, _, value, disposition) => {
-                write_value(alloc, text, value, disposition, words)
+            Argument::WithValue(text, _, value, form) => {
+                write_value(alloc, text, value, form, words)
             }
         }
     }
 }
 
-ghost use Rattle.cuda_below.specs.Items.{value_words, delimiter_before, normal_form};
-
 impl ArgDisposition {
     // How a value is written that stood like this.
     fn normalize(self, disposition: NormalizedDisposition) -> ArgDisposition
-        ensures { result ≡ normal_form disposition self }
+        ensures { result ≡ spec.normal_form disposition self }
     {
         match self {
             ArgDisposition::CanBeSeparated(delimiter)
@@ -200,13 +218,13 @@ fn write_value(
     alloc: Global,
     text: &str,
     value: String,
-    disposition: ArgDisposition,
+    form: ArgDisposition,
     words: &mut Words,
 ) -> Result<(), AllocError>
-    ensures ok { OnOk result (words.new ≡ words.old ++ value_words text.now (string_bytes value) disposition) }
+    ensures ok { OnOk result (words.new ≡ words.old ++ spec.value_words text.now (string_bytes value) form) }
     ensures err { OnErr result (words.new ≡ words.old) }
 {
-    match disposition {
+    match form {
         ArgDisposition::Separated | ArgDisposition::CanBeConcatenated(_) => {
             words.push_two(String::from_str(alloc, text)?, value)
         }
@@ -223,7 +241,8 @@ fn joined_word(
     delimiter: Option<u8>,
     value: &str,
 ) -> Result<String, AllocError>
-    ensures { IfOk result (λ word. string_bytes word ≡ (text.now ++ delimiter_before value.now delimiter) ++ value.now) }
+    ensures { IfOk result (λ word. string_bytes word
+        ≡ (text.now ++ spec.delimiter_before value.now delimiter) ++ value.now) }
 {
     let room = text.len().saturating_add(value.len()).saturating_add(1);
     let mut word = String::with_capacity(alloc, room)?;
@@ -240,9 +259,10 @@ fn joined_word(
 /// The items of a line, over a table. It reads each word once, and gives at most as many items as
 /// there are words.
 ///
-/// After want of memory it gives nothing more, and `refused` tells.
+/// If memory is refused it gives nothing more, and `refused` tells. The words left are then those
+/// after the item that memory was refused for.
 #[derive(Drop)]
-pub struct ArgsIter<'a, T: Copy, S: SearchableArgInfo<T> + Drop> {
+pub struct ArgsIter<'a, S: SearchableArgInfo<T> + Drop, T: Copy> {
     alloc: Global,
     line: Line<'a>,
     table: S,
@@ -250,12 +270,12 @@ pub struct ArgsIter<'a, T: Copy, S: SearchableArgInfo<T> + Drop> {
     kinds: PhantomData<T>,
 }
 
-impl<'a, T: Copy, S: SearchableArgInfo<T> + Drop> ArgsIter<'a, T, S> {
+impl<'a, S: SearchableArgInfo<T> + Drop, T: Copy> ArgsIter<'a, S, T> {
     ghost use Rattle.std.specs.Prelude.{false, true};
     ghost use Rattle.cuda_below.specs.ArgsIter.{words_left, is_refused, table_of};
 
     /// The items of `words`.
-    pub fn new(alloc: Global, words: &'a [String], table: S) -> ArgsIter<'a, T, S>
+    pub fn new(alloc: Global, words: &'a [String], table: S) -> ArgsIter<'a, S, T>
         ensures words { words_left result ≡ map string_bytes words.entry.now }
         ensures table { table_of result ≡ table }
         ensures goes_on { is_refused result ≡ false }
@@ -264,7 +284,7 @@ impl<'a, T: Copy, S: SearchableArgInfo<T> + Drop> ArgsIter<'a, T, S> {
     }
 
     /// The items of the words of `line`.
-    pub fn over(alloc: Global, line: Line<'a>, table: S) -> ArgsIter<'a, T, S>
+    pub fn over(alloc: Global, line: Line<'a>, table: S) -> ArgsIter<'a, S, T>
         ensures words { words_left result ≡ line.entry }
         ensures table { table_of result ≡ table }
         ensures goes_on { is_refused result ≡ false }
@@ -286,15 +306,15 @@ impl<'a, T: Copy, S: SearchableArgInfo<T> + Drop> ArgsIter<'a, T, S> {
     }
 }
 
-impl<'a, T: Copy, S: SearchableArgInfo<T> + Drop> Iterator for ArgsIter<'a, T, S> {
+impl<'a, S: SearchableArgInfo<T> + Drop, T: Copy> Iterator for ArgsIter<'a, S, T> {
     ghost use Rattle.std.specs.Prelude.{◌≡◌, length};
     ghost use Rattle.std.specs.Iterator.{at_most};
     ghost use Rattle.std.specs.Option.{option_map};
-    ghost use Rattle.cuda_below.specs.Items.{ReadsItem, item_read};
 
     type Item = Result<Argument<T>, ArgParseError>;
 
-    ghost next_gives = { λ s r t. ReadsItem (S.chosen s.table) s.line s.refused (option_map item_read r) t.line t.refused × (t.table ≡ s.table) };
+    ghost next_gives = { λ s r t. spec.ReadsItem (S.chosen s.table) s.line s.refused (option_map item_read r) t.line t.refused
+        × (t.table ≡ s.table) };
 
     ghost remaining = { λ s. at_most (length s.line) };
 
@@ -314,16 +334,18 @@ impl<'a, T: Copy, S: SearchableArgInfo<T> + Drop> Iterator for ArgsIter<'a, T, S
     }
 }
 
-ghost use Rattle.cuda_below.specs.Items.{item_of, item_read, joined_form, separate_form, separate_item, last_item, with_value, said_of, Completes};
-
-// The item that `word` begins, whose table row is `row`. An option takes its value from `line`.
+// The item that `word` begins, whose table row is `row`. An option takes its value from `line`, also
+// if memory is then refused.
 pub(crate) fn read_item<T: Copy>(
     alloc: Global,
     row: Option<&ArgInfo<T>>,
     word: &str,
     line: &mut Line<'_>,
 ) -> Result<Result<Argument<T>, ArgParseError>, AllocError>
-    ensures { IfOk result (λ r. Completes (said_of word.now (option_map entry_of (option_copied row.entry))) line.old (item_read r) line.new) }
+    ensures item { IfOk result (λ r. spec.Completes
+        (spec.said_of word.now (option_map entry_of (option_copied row.entry))) line.old (item_read r) line.new) }
+    ensures left { line.new
+        ≡ spec.words_past (spec.said_of word.now (option_map entry_of (option_copied row.entry))) line.old }
 {
     let Some(row) = row else {
         return Ok(Ok(Argument::unmatched(alloc, word)?));
@@ -342,7 +364,9 @@ pub(crate) fn read_item<T: Copy>(
 impl<T: Copy> ArgInfo<T> {
     // The option with a value that was joined to it.
     fn joined(&self, value: String) -> Argument<T>
-        ensures { item_of result ≡ with_value (entry_of self.now).text (entry_of self.now).kind (string_bytes value) (joined_form (entry_of self.now).form) }
+        ensures { item_of result
+            ≡ spec.with_value (entry_of self.now).text (entry_of self.now).kind (string_bytes value)
+            (spec.joined_form (entry_of self.now).form) }
     {
         let form = match self.disposition() {
             None => ArgDisposition::Concatenated(None),
@@ -356,7 +380,7 @@ impl<T: Copy> ArgInfo<T> {
 
     // The option with a value that was the next word.
     fn separate(&self, value: String) -> Argument<T>
-        ensures { item_of result ≡ separate_item (entry_of self.now) (string_bytes value) }
+        ensures { item_of result ≡ spec.separate_item (entry_of self.now) (string_bytes value) }
     {
         let form = match self.disposition() {
             Some(ArgDisposition::CanBeSeparated(delimiter))
@@ -370,7 +394,7 @@ impl<T: Copy> ArgInfo<T> {
 
     // The option as the last word of a line, where its value would be the next one.
     fn last(&self, alloc: Global) -> Result<Argument<T>, ArgParseError>
-        ensures { item_read result ≡ last_item (entry_of self.now) }
+        ensures { item_read result ≡ spec.last_item (entry_of self.now) }
     {
         match self.disposition() {
             Some(ArgDisposition::CanBeSeparated(None))
@@ -380,19 +404,23 @@ impl<T: Copy> ArgInfo<T> {
     }
 }
 
-ghost use Rattle.cuda_below.specs.WordsLaw.{LinesHoldReadItems, WordsAreThoseRead, WordsReadBack, ListsReadBack, WholeLinesAreKept};
-
 /// A law, over every table: the words that an item is written as are read as that item again.
 ///
-/// It is said of items that are read from some line over the table, and that are whole: not faulty,
-/// and with no value that is both joined and empty. The words of such an item are those that it was
-/// read from (`written`), and they are read as that item whatever words come after them (`reread`).
-/// So are the words of a list of such items (`lists`). Each item of a line counts as read from one
-/// (`read`), and a line whose items are all whole is written as itself (`lines`).
+/// A line is cut into the parts that its items were read from (`parts`). It is said of items that
+/// are whole: not faulty, and with no value that is both joined and empty. Wherever such an item
+/// stands in a line, its words are the part that it was read from (`placed`). If it is a line's first
+/// item, the line begins with its words, and the later items are those of the words after them
+/// (`written`).
+///
+/// Each item of a line counts as read from one (`read`). The words of a whole item that is read from
+/// some line are read as that item whatever words come after them (`reread`). So are the words of a
+/// list of such items (`lists`), and a line whose items are all whole is written as itself (`lines`).
 pub fn words_law<T: Copy, S: SearchableArgInfo<T>>()
-    ensures read { (table : S) → LinesHoldReadItems (S.chosen table) }
-    ensures written { (table : S) → WordsAreThoseRead (S.chosen table) }
-    ensures reread { (table : S) → WordsReadBack (S.chosen table) }
-    ensures lists { (table : S) → ListsReadBack (S.chosen table) }
-    ensures lines { (table : S) → WholeLinesAreKept (S.chosen table) }
+    ensures parts { (table : S) → law.LinesAreTheirParts (S.chosen table) }
+    ensures placed { (table : S) → law.WholeItemsAreTheirParts (S.chosen table) }
+    ensures read { (table : S) → law.LinesHoldReadItems (S.chosen table) }
+    ensures written { (table : S) → law.WordsAreThoseRead (S.chosen table) }
+    ensures reread { (table : S) → law.WordsReadBack (S.chosen table) }
+    ensures lists { (table : S) → law.ListsReadBack (S.chosen table) }
+    ensures lines { (table : S) → law.WholeLinesAreKept (S.chosen table) }
 {}

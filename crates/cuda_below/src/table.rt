@@ -1,7 +1,9 @@
 //! Option tables, and which entry of a table a word chooses.
 
-ghost use Rattle.std.specs.Prelude.{◌≡◌, ℕ, List, Option, IfSome, map, Some};
+ghost use Rattle.std.specs.Prelude.{◌≡◌, ◌++◌, ℕ, List, Option, map, Some};
 ghost use Rattle.std.specs.Option.{option_map, option_copied};
+ghost use Rattle.cuda_below.specs.Table.{Entry, entry_of};
+ghost use Rattle.cuda_below.specs.Table as spec;
 
 /// How an option takes its value. A number is the delimiter between the text and a joined value, an
 /// ASCII byte; an entry with any other matches no word.
@@ -11,12 +13,24 @@ pub enum ArgDisposition {
     Separated,
     /// In the same word, right after the option's text and the delimiter.
     Concatenated(Option<u8>),
-    /// In the same word, or as the next word where the option stands alone.
+    /// In the same word, or as the next word if the option stands alone.
     CanBeSeparated(Option<u8>),
-    /// As the next word, where it might have been in the same word: how an item was read. An entry
+    /// As the next word, though it might have been in the same word: how an item was read. An entry
     /// that holds it is read as `CanBeSeparated`.
     CanBeConcatenated(Option<u8>),
 }
+
+/// A value in the option's own word.
+pub const JOINED: ArgDisposition = ArgDisposition::Concatenated(None);
+
+/// A value in the option's own word, after `=`.
+pub const JOINED_BY_EQUALS: ArgDisposition = ArgDisposition::Concatenated(Some(b'='));
+
+/// A value in the option's own word, or as the next word.
+pub const EITHER_WAY: ArgDisposition = ArgDisposition::CanBeSeparated(None);
+
+/// A value in the option's own word, after `=`, or as the next word.
+pub const EITHER_WAY_OR_EQUALS: ArgDisposition = ArgDisposition::CanBeSeparated(Some(b'='));
 
 /// A row of an option table: the option's text, its kind, and for an option with a value how that
 /// value is taken.
@@ -39,14 +53,14 @@ pub enum Match<'a> {
 
 // What follows `text` in `word`.
 fn rest_of<'a>(text: &str, word: &'a str) -> Option<&'a str>
-    ensures { option_copied result ≡ rest_after text.now word.now }
+    ensures { option_copied result ≡ spec.rest_after text.now word.now }
 {
     word.strip_prefix(text)
 }
 
-// What follows the delimiter `byte`, or nothing where nothing follows the option's text.
+// What follows the delimiter `byte`, or nothing if nothing follows the option's text.
 fn value_past<'a>(byte: u8, rest: &'a str) -> Option<&'a str>
-    ensures { option_copied result ≡ value_after (Some byte) rest.now }
+    ensures { option_copied result ≡ spec.value_after (Some byte) rest.now }
 {
     if !byte.is_ascii() {
         None
@@ -59,15 +73,13 @@ fn value_past<'a>(byte: u8, rest: &'a str) -> Option<&'a str>
 
 // A value that stands in the option's own word, by what follows the option's text there.
 fn joined_value<'a>(delimiter: Option<u8>, rest: &'a str) -> Option<&'a str>
-    ensures { option_copied result ≡ value_after delimiter rest.now }
+    ensures { option_copied result ≡ spec.value_after delimiter rest.now }
 {
     match delimiter {
         None => Some(rest),
         Some(byte) => value_past(byte, rest),
     }
 }
-
-ghost use Rattle.cuda_below.specs.Table.{Entry, entry_of, rest_after, value_after, matched_of, matched_rest, matched, IsLongestMatch, longest_match, longer_choice, is_longer as is_longer_than};
 
 impl<T: Copy> ArgInfo<T> {
     /// The option's text, as `-o`.
@@ -100,9 +112,9 @@ impl<T: Copy> ArgInfo<T> {
         }
     }
 
-    /// What this entry makes of `word`, and `None` where it doesn't match.
+    /// What this entry makes of `word`, and `None` if it doesn't match.
     pub fn matches<'a>(&self, word: &'a str) -> Option<Match<'a>>
-        ensures { option_map matched_of result ≡ matched (entry_of self.now) word.now }
+        ensures { option_map spec.matched_of result ≡ spec.matched (entry_of self.now) word.now }
     {
         let rest = rest_of(self.text(), word)?;
         match self {
@@ -116,7 +128,7 @@ impl<T: Copy> ArgInfo<T> {
 impl ArgDisposition {
     // What an option of this form makes of a word, by what follows its text there.
     fn matches<'a>(self, rest: &'a str) -> Option<Match<'a>>
-        ensures { option_map matched_of result ≡ matched_rest (Some self) rest.now }
+        ensures { option_map spec.matched_of result ≡ spec.matched_rest (Some self) rest.now }
     {
         match self {
             ArgDisposition::Separated if rest.is_empty() => Some(Match::Awaiting),
@@ -145,12 +157,12 @@ pub trait SearchableArgInfo<T: Copy> {
     /// The entry that a word chooses.
     ghost chosen: { Self → List ℕ → Option (Entry T) };
 
-    /// The row that `word` chooses: a matching one of greatest text length, and `None` where none
+    /// The row that `word` chooses: a matching one of greatest text length, and `None` if none
     /// matches.
     fn search(&self, word: &str) -> Option<&ArgInfo<T>>
         ensures { option_map entry_of (option_copied result) ≡ chosen self.now word.now };
 
-    ghost longest: { (table : Self) (word : List ℕ) → IsLongestMatch (entries table) word (chosen table word) };
+    ghost longest: { (table : Self) (word : List ℕ) → spec.IsLongestMatch (entries table) word (chosen table word) };
 }
 
 /// A table whose entries are the rows of a slice. Of two matching entries of equal length the first
@@ -161,13 +173,11 @@ pub struct Table<'a, T: Copy> {
 }
 
 impl<'a, T: Copy> SearchableArgInfo<T> for Table<'a, T> {
-    ghost use Rattle.std.specs.Prelude.{map};
-    ghost use Rattle.cuda_below.specs.Table.{entry_of, longest_match};
     ghost use Rattle.cuda_below.specs.LongestMatch.{longest_match-longest};
 
     ghost entries = { λ t. map entry_of t.rows.now };
 
-    ghost chosen = { λ t word. longest_match (map entry_of t.rows.now) word };
+    ghost chosen = { λ t. spec.longest_match (map entry_of t.rows.now) };
 
     ghost longest = { λ t word. longest_match-longest word (map entry_of t.rows.now) };
 
@@ -184,7 +194,7 @@ impl<'a, T: Copy> SearchableArgInfo<T> for Table<'a, T> {
 
 // Whether `row` has a longer text than the row chosen so far.
 fn is_longer<T: Copy>(row: &ArgInfo<T>, best: Option<&ArgInfo<T>>) -> bool
-    ensures { result ≡ is_longer_than (entry_of row.now) (option_map entry_of (option_copied best.entry)) }
+    ensures { result ≡ spec.is_longer (entry_of row.now) (option_map entry_of (option_copied best.entry)) }
 {
     match best {
         None => true,
@@ -197,7 +207,9 @@ fn longer<'a, T: Copy>(
     first: Option<&'a ArgInfo<T>>,
     second: Option<&'a ArgInfo<T>>,
 ) -> Option<&'a ArgInfo<T>>
-    ensures { option_map entry_of (option_copied result) ≡ longer_choice (option_map entry_of (option_copied first.entry)) (option_map entry_of (option_copied second.entry)) }
+    ensures { option_map entry_of (option_copied result)
+        ≡ spec.longer_choice (option_map entry_of (option_copied first.entry))
+        (option_map entry_of (option_copied second.entry)) }
 {
     match (first, second) {
         (Some(one), Some(other)) if other.text().len() < one.text().len() => Some(one),
@@ -206,18 +218,16 @@ fn longer<'a, T: Copy>(
     }
 }
 
-/// Two tables, searched as one: the longer of their choices, and of equal length the second's. Where
-/// the second table's entry of a text doesn't match a word, it doesn't count.
+/// Two tables, searched as one: the longer of their choices, and of equal length the second's. If the
+/// second table's entry of a text doesn't match a word, it doesn't count.
 impl<T: Copy, A: SearchableArgInfo<T>, B: SearchableArgInfo<T>> SearchableArgInfo<T> for (A, B) {
-    ghost use Rattle.std.specs.Prelude.{◌++◌};
-    ghost use Rattle.cuda_below.specs.Table.{longer_choice};
     ghost use Rattle.cuda_below.specs.LongestMatch.{longer_choice-longest};
 
     ghost entries = { λ t. A.entries t.0 ++ B.entries t.1 };
 
-    ghost chosen = { λ t word. longer_choice (A.chosen t.0 word) (B.chosen t.1 word) };
+    ghost chosen = { λ t word. spec.longer_choice (A.chosen t.0 word) (B.chosen t.1 word) };
 
-    ghost longest = { λ t word. longer_choice-longest word (A.entries t.0) (B.entries t.1) (A.chosen t.0 word) (B.chosen t.1 word) (A.longest t.0 word) (B.longest t.1 word) };
+    ghost longest = { λ t word. longer_choice-longest word _ _ _ _ (A.longest t.0 word) (B.longest t.1 word) };
 
     fn search(&self, word: &str) -> Option<&ArgInfo<T>> {
         longer(self.0.search(word), self.1.search(word))
@@ -233,15 +243,13 @@ pub struct Pair<'a, T: Copy> {
 }
 
 impl<'a, T: Copy> SearchableArgInfo<T> for Pair<'a, T> {
-    ghost use Rattle.std.specs.Prelude.{map, ◌++◌};
-    ghost use Rattle.cuda_below.specs.Table.{entry_of, longest_match, longer_choice};
-    ghost use Rattle.cuda_below.specs.LongestMatch.{longest_match-longest, longer_choice-longest};
+    ghost use Rattle.cuda_below.specs.LongestMatch.{longest_of_two-longest};
 
     ghost entries = { λ t. map entry_of t.first.rows.now ++ map entry_of t.second.rows.now };
 
-    ghost chosen = { λ t word. longer_choice (longest_match (map entry_of t.first.rows.now) word) (longest_match (map entry_of t.second.rows.now) word) };
+    ghost chosen = { λ t. spec.longest_of_two (map entry_of t.first.rows.now) (map entry_of t.second.rows.now) };
 
-    ghost longest = { λ t word. longer_choice-longest word (map entry_of t.first.rows.now) (map entry_of t.second.rows.now) (longest_match (map entry_of t.first.rows.now) word) (longest_match (map entry_of t.second.rows.now) word) (longest_match-longest word (map entry_of t.first.rows.now)) (longest_match-longest word (map entry_of t.second.rows.now)) };
+    ghost longest = { λ t word. longest_of_two-longest word (map entry_of t.first.rows.now) (map entry_of t.second.rows.now) };
 
     fn search(&self, word: &str) -> Option<&ArgInfo<T>> {
         longer(self.first.search(word), self.second.search(word))

@@ -1,33 +1,24 @@
 //! Writing gcc's arguments back as a command.
 
-ghost use Rattle.std.specs.Prelude.{◌≡◌, ◌++◌, map, IfOk, OnOk};
+ghost use Rattle.std.specs.Prelude.{◌≡◌, ◌++◌, map, None, Err, codes, IfOk, OnOk};
 ghost use Rattle.cuda_below.specs.Variables.{pair_of};
 ghost use Rattle.cuda_below.specs.Fault.{UnlessMemory};
+ghost use Rattle.cuda_below.specs.declared.fault.Fault.TheVariants.{MissingOutput};
+ghost use Rattle.cuda_below.specs.Outputs.{entry_at};
 ghost use Rattle.cuda_below.specs.Command.{written};
-ghost use Rattle.cuda_below.specs.GccItems.{name_of_language};
-ghost use Rattle.cuda_below.specs.GccLine.{named_words, flag_words, input_words, option_words, gcc_words};
+ghost use Rattle.cuda_below.specs.GccLine.{flag_words, input_words, option_words, gcc_words};
 
-use super::{language_to_gcc_arg, push_two};
+use super::gathered::push_two;
+use super::languages::push_language;
 use crate::arguments::ParsedArguments;
 use crate::command::{Cacheable, SingleCompileCommand};
 use crate::fault::Fault;
-use crate::language::Language;
 use crate::text::Text;
 use crate::variables::Variables;
 use crate::words::Words;
 use std::alloc::{AllocError, Global};
 
-// Puts the option for the language last, where it has a name.
-fn push_language(alloc: Global, words: &mut Words, language: Language) -> Result<(), AllocError>
-    ensures { OnOk result (words.new ≡ words.old ++ named_words (name_of_language language)) }
-{
-    match language_to_gcc_arg(language) {
-        Some(name) => push_two(alloc, words, "-x", name),
-        None => Ok(()),
-    }
-}
-
-// Puts the flag that asks for a compilation last, where there is one.
+// Puts the flag that asks for a compilation last, if there is one.
 fn push_flag(alloc: Global, words: &mut Words, flag: &str) -> Result<(), AllocError>
     ensures { OnOk result (words.new ≡ words.old ++ flag_words flag.now) }
 {
@@ -51,7 +42,7 @@ fn push_options(
     words.extend(alloc, parsed_args.arch_args.as_slice())
 }
 
-// Puts the input last, after `--` where it stood after one.
+// Puts the input last, after `--` if it stood after one.
 fn push_input(
     alloc: Global,
     words: &mut Words,
@@ -83,12 +74,12 @@ fn line_words(alloc: Global, parsed_args: &ParsedArguments, obj: &Text) -> Resul
 /// Writes arguments back as a command that a cache may serve, by this project's profile of gcc's
 /// options.
 ///
-/// The words are `-x` and the language where `language_to_gcc_arg` has a name for it, the flag that
-/// asks for a compilation where it isn't empty, `-o` and the output's path, the preprocessor's words,
-/// the unhashed ones, the common ones, those that name architectures, and the input, after `--` where
-/// it stood after one. The other parts are as handed in.
+/// The words are `-x` and the language if `language_to_gcc_arg` has a name for it, the flag that asks
+/// for a compilation if it isn't empty, `-o` and the output's path, the preprocessor's words, the
+/// unhashed ones, the common ones, those that name architectures, and the input, after `--` if it
+/// stood after one. The other parts are as handed in.
 ///
-/// Refuses arguments without an output `obj`: `MissingOutput`.
+/// Refuses arguments without an output `obj`: `MissingOutput`, before any memory is asked for.
 pub fn generate_compile_commands(
     alloc: Global,
     executable: &str,
@@ -96,7 +87,10 @@ pub fn generate_compile_commands(
     cwd: &str,
     env_vars: &[(String, String)],
 ) -> Result<(SingleCompileCommand, Cacheable), Fault>
-    ensures { UnlessMemory result (written gcc_words executable.now parsed_args.now cwd.now (map pair_of env_vars.now)) }
+    ensures written { UnlessMemory result
+        (written gcc_words executable.now parsed_args.now cwd.now (map pair_of env_vars.now)) }
+    ensures missing { entry_at (codes "obj") parsed_args.now.outputs ≡ None
+        → result ≡ Err (MissingOutput parsed_args.now.language) }
 {
     let Some(obj) = parsed_args.outputs.get("obj") else {
         return Err(Fault::MissingOutput {

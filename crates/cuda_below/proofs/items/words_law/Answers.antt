@@ -1,9 +1,11 @@
-use Rattle.cuda_below.proofs.WordsLemmas.{words-are_those_read, words-read_back, lists-read_back, lines-hold_read_items, whole-lines_are_kept}
+use Rattle.cuda_below.proofs.WordsLemmas.{lines-are_their_parts, whole_items-are_their_parts, words-are_those_read, words-read_back, lists-read_back, lines-hold_read_items, whole-lines_are_kept}
 use Rattle.cuda_below.proofs.items.words_law.Goals as goal
 
 pub returns : goal.returns
 returns g c =
     record {
+      parts = λ table. lines-are_their_parts (g.S.SearchableArgInfo.chosen table);
+      placed = λ table. whole_items-are_their_parts (g.S.SearchableArgInfo.chosen table);
       read = λ table. lines-hold_read_items (g.S.SearchableArgInfo.chosen table);
       written = λ table. words-are_those_read (g.S.SearchableArgInfo.chosen table);
       reread = λ table. words-read_back (g.S.SearchableArgInfo.chosen table);
