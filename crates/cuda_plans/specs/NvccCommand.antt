@@ -1,8 +1,6 @@
 -- What nvcc arguments are written back as, and the two dry runs of that command.
 use Rattle.std.specs.Prelude.{ℕ, List, [], ◌∷◌, ◌++◌, Bool, true, false, if◌then◌else◌, Option, Result, Ok, Err, codes}
-use Rattle.std.specs.List.{list_any}
-use Rattle.std.specs.Option.{option_map_or, ok_or}
-use Rattle.std.specs.Str.{bytes_eq}
+use Rattle.std.specs.Option.{ok_or}
 use Rattle.cuda_below.specs.declared.arguments.ParsedArguments.{ParsedArguments}
 use Rattle.cuda_below.specs.declared.command.SingleCompileCommand.{SingleCompileCommand}
 use Rattle.cuda_below.specs.declared.command.Cacheable.{Cacheable}
@@ -10,9 +8,8 @@ use Rattle.cuda_below.specs.declared.command.Cacheable.TheVariants.{No}
 use Rattle.cuda_below.specs.declared.compiler.Places.{Places}
 use Rattle.cuda_below.specs.declared.fault.Fault.{Fault}
 use Rattle.cuda_below.specs.declared.fault.Fault.TheVariants.{NoFileName}
-use Rattle.cuda_below.specs.declared.language.Language.{Language}
 use Rattle.cuda_below.specs.Arguments.{obj_of}
-use Rattle.cuda_below.specs.GccItems.{name_of_language}
+use Rattle.cuda_below.specs.GccLine.{language_words}
 use Rattle.cuda_below.specs.Path.{is_absolute_path, joined, file_name_of}
 use Rattle.cuda_below.specs.declared.compiler.NvccHostCompiler.{NvccHostCompiler}
 use Rattle.cuda_plans.specs.declared.nvcc.command.NvccCompileCommand.{NvccCompileCommand}
@@ -24,10 +21,6 @@ use Rattle.cuda_below.specs.ObjectFlags.{makes_objects}
 -- directory
 abbrev pub output_word : List ℕ → List ℕ → List ℕ → List ℕ
 output_word cwd flag obj = if makes_objects flag then obj else joined cwd obj
-
--- the words that name a language, and none if the option for it has no name for that
-abbrev pub language_words : Language → List (List ℕ)
-language_words language = option_map_or (λ name. codes "-x" ∷ name ∷ []) (name_of_language language) []
 
 -- `--`, if the input stood after it
 abbrev pub dashes_words : Bool → List (List ℕ)

@@ -18,7 +18,9 @@ pub use host_lines::laws::equality as host_equality;
 pub fn equality()
     ensures place { TellsEqual ⟦<Place as PartialEq>⟧.eq }
     ensures answer { TellsEqual ⟦<Answer as PartialEq>⟧.eq }
-{}
+{
+    cuda_below::laws::equality();
+}
 
 /// Which commands of three kernels run, and what comes of it, by the definitions.
 pub fn worked_schedules()

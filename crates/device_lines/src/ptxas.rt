@@ -12,16 +12,14 @@ use cuda_below::command::{Cacheable, SingleCompileCommand};
 use cuda_below::compiler::{CCompilerImpl, CCompilerKind, Places};
 use cuda_below::fault::Fault;
 use cuda_below::language::Language;
-use cuda_below::table::{ArgDisposition, ArgInfo, Table};
+use cuda_below::table::{ArgDisposition, ArgInfo, EITHER_WAY_OR_EQUALS, Table};
 use cuda_below::text::Text;
 use std::alloc::{AllocError, Global};
 
-const SEPARATED_OR_EQUALS: ArgDisposition = ArgDisposition::CanBeSeparated(Some(b'='));
-
 /// ptxas's options, as sccache 0.19.0's table has them.
 pub const ARGS: [ArgInfo<ArgData>; 3] = [
-    ArgInfo::TakeArg("-arch", ArgData::PassThrough, SEPARATED_OR_EQUALS),
-    ArgInfo::TakeArg("-m", ArgData::PassThrough, SEPARATED_OR_EQUALS),
+    ArgInfo::TakeArg("-arch", ArgData::PassThrough, EITHER_WAY_OR_EQUALS),
+    ArgInfo::TakeArg("-m", ArgData::PassThrough, EITHER_WAY_OR_EQUALS),
     ArgInfo::TakeArg("-o", ArgData::Output, ArgDisposition::Separated),
 ];
 

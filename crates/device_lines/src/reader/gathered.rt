@@ -40,7 +40,7 @@ impl Gathered {
         alloc: Global,
         cwd: &str,
         count: usize,
-        line: ArgsIter<'_, ArgData, S>,
+        line: ArgsIter<'_, S, ArgData>,
     ) -> Result<Gathered, AllocError>
         ensures { IfOk result (λ g. g
             ≡ fold (with_item cwd.now) nothing_gathered (items (S.chosen (table_of line.entry)) (words_left line.entry))) }
