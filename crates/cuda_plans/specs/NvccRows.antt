@@ -12,6 +12,7 @@ use Rattle.cuda_below.specs.Compiler.{Reading, accepted, cannot_cache, not_compi
 use Rattle.cuda_below.specs.GccRows.{compiled}
 use Rattle.cuda_plans.specs.declared.nvcc.Nvcc.{Nvcc}
 use Rattle.cuda_below.specs.declared.compiler.NvccHostCompiler.TheVariants.{Gcc}
+use Rattle.cuda_below.specs.Rows.{spaced}
 use Rattle.cuda_plans.specs.declared.nvcc.command.NvccCompileCommand.{NvccCompileCommand}
 use Rattle.cuda_plans.specs.Nvcc.{nvcc_reading, nvcc_version}
 use Rattle.host_lines.specs.NvccEnvironment.{prepended_name, appended_name}
@@ -26,22 +27,22 @@ read = read_in []
 
 -- the arguments of `-c foo.cu -o foo.o`
 abbrev pub lone_object : ParsedArguments
-lone_object = record (compiled (codes "foo.cu") Cuda (codes "foo.o")) { common_args = codes "-c" ∷ [] }
+lone_object = record (compiled (codes "foo.cu") Cuda (codes "foo.o")) { common_args = spaced "-c" }
 
 -- the line `-c foo.c -o foo.o`
 abbrev pub c_line : List (List ℕ)
-c_line = codes "-c" ∷ codes "foo.c" ∷ codes "-o" ∷ codes "foo.o" ∷ []
+c_line = spaced "-c foo.c -o foo.o"
 
 -- the environment adds `-x cu` before a line and a word with a space after it; if the first text doesn't split, it
 -- adds nothing; and of two variables of a name the first is read
 abbrev pub EnvironmentAddsWords : Type 0
 EnvironmentAddsWords =
     (read_in ((prepended_name, codes "-x cu") ∷ (appended_name, codes "-DX=\"a b\"") ∷ []) c_line
-    ≡ accepted (record (compiled (codes "foo.c") Cuda (codes "foo.o")) { preprocessor_args = codes "-DX=a b" ∷ []; common_args = codes "-c" ∷ [] }))
+    ≡ accepted (record (compiled (codes "foo.c") Cuda (codes "foo.o")) { preprocessor_args = codes "-DX=a b" ∷ []; common_args = spaced "-c" }))
     × (read_in ((prepended_name, codes "\"a") ∷ (appended_name, codes "-DX=\"a b\"") ∷ []) c_line
-    ≡ accepted (record (compiled (codes "foo.c") C (codes "foo.o")) { preprocessor_args = codes "-DX=a b" ∷ []; common_args = codes "-c" ∷ [] }))
+    ≡ accepted (record (compiled (codes "foo.c") C (codes "foo.o")) { preprocessor_args = codes "-DX=a b" ∷ []; common_args = spaced "-c" }))
     × (read_in ((appended_name, codes "-DA") ∷ (codes "NVCC", codes "-DB") ∷ (appended_name, codes "-DC") ∷ []) c_line
-    ≡ accepted (record (compiled (codes "foo.c") C (codes "foo.o")) { preprocessor_args = codes "-DA" ∷ []; common_args = codes "-c" ∷ [] }))
+    ≡ accepted (record (compiled (codes "foo.c") C (codes "foo.o")) { preprocessor_args = spaced "-DA"; common_args = spaced "-c" }))
 
 pub environment_adds_words : EnvironmentAddsWords
 unfolding chars encode_utf8
@@ -50,9 +51,9 @@ environment_adds_words = (refl, refl, refl)
 -- a single CUDA file is compiled without a flag, and an option may take the flag as its value
 abbrev pub FlagIsEmpty : Type 0
 FlagIsEmpty =
-    (read (codes "foo.cu" ∷ []) ≡ accepted (record (compiled (codes "foo.cu") Cuda (codes "foo.o")) { compilation_flag = [] }))
-    × (read (codes "-Werror" ∷ codes "-c" ∷ codes "foo.cu" ∷ [])
-    ≡ accepted (record (compiled (codes "foo.cu") Cuda (codes "foo.o")) { compilation_flag = []; preprocessor_args = codes "-Werror" ∷ codes "-c" ∷ [] }))
+    (read (spaced "foo.cu") ≡ accepted (record (compiled (codes "foo.cu") Cuda (codes "foo.o")) { compilation_flag = [] }))
+    × (read (spaced "-Werror -c foo.cu")
+    ≡ accepted (record (compiled (codes "foo.cu") Cuda (codes "foo.o")) { compilation_flag = []; preprocessor_args = spaced "-Werror -c" }))
 
 pub flag_is_empty : FlagIsEmpty
 flag_is_empty = (refl, refl)
@@ -60,11 +61,11 @@ flag_is_empty = (refl, refl)
 -- `-t` takes each word that begins with it; `--time` does too, and refuses; the option for the language refuses as `-x`
 abbrev pub OptionsBeginWords : Type 0
 OptionsBeginWords =
-    (read (codes "-c" ∷ codes "foo.cu" ∷ codes "-target=x" ∷ codes "-save-temps=obj" ∷ [])
-    ≡ accepted (record lone_object { common_args = codes "-save-temps=obj" ∷ codes "-c" ∷ []; unhashed_args = codes "-target=x" ∷ [] }))
-    × (read (codes "-c" ∷ codes "foo.cu" ∷ codes "-threads" ∷ codes "4" ∷ []) ≡ cannot_cache (codes "multiple input files") None)
-    × (read (codes "-c" ∷ codes "foo.cu" ∷ codes "--timeout=3" ∷ []) ≡ cannot_cache (codes "--time") None)
-    × (read (codes "-c" ∷ codes "foo.cu" ∷ codes "--x=foo" ∷ []) ≡ cannot_cache (codes "-x") None)
+    (read (spaced "-c foo.cu -target=x -save-temps=obj")
+    ≡ accepted (record lone_object { common_args = spaced "-save-temps=obj -c"; unhashed_args = spaced "-target=x" }))
+    × (read (spaced "-c foo.cu -threads 4") ≡ cannot_cache (codes "multiple input files") None)
+    × (read (spaced "-c foo.cu --timeout=3") ≡ cannot_cache (codes "--time") None)
+    × (read (spaced "-c foo.cu --x=foo") ≡ cannot_cache (codes "-x") None)
 
 pub options_begin_words : OptionsBeginWords
 options_begin_words = (refl, refl, refl, refl)
@@ -95,24 +96,24 @@ written_back words = written_back_of (read words)
 -- under `-c` the output is written as given, and else joined to the working directory
 abbrev pub WordsAreWritten : Type 0
 WordsAreWritten =
-    (read (codes "-c" ∷ codes "foo.cu" ∷ codes "-o" ∷ codes "foo.o" ∷ []) ≡ accepted lone_object)
-    × (written_back (codes "-c" ∷ codes "foo.cu" ∷ codes "-o" ∷ codes "foo.o" ∷ [])
+    (read (spaced "-c foo.cu -o foo.o") ≡ accepted lone_object)
+    × (written_back (spaced "-c foo.cu -o foo.o")
     ≡ Some (Ok (
-      codes "-x" ∷ codes "cu" ∷ codes "-o" ∷ codes "foo.o" ∷ codes "-c" ∷ codes "/w/foo.cu" ∷ [],
+      spaced "-x cu -o foo.o -c /w/foo.cu",
       codes "foo.o",
-      codes "-x" ∷ codes "cu" ∷ codes "-o" ∷ codes "foo.o" ∷ codes "-c" ∷ codes "/w/foo.cu" ∷ codes "--keep-dir" ∷ codes "/t" ∷ codes "--dryrun" ∷ codes "--keep" ∷ [],
+      spaced "-x cu -o foo.o -c /w/foo.cu --keep-dir /t --dryrun --keep",
     )))
-    × (written_back (codes "-ptx" ∷ codes "foo.cu" ∷ codes "-o" ∷ codes "foo.ptx" ∷ [])
+    × (written_back (spaced "-ptx foo.cu -o foo.ptx")
     ≡ Some (Ok (
-      codes "-x" ∷ codes "cu" ∷ codes "-o" ∷ codes "/w/foo.ptx" ∷ codes "-ptx" ∷ codes "/w/foo.cu" ∷ [],
+      spaced "-x cu -o /w/foo.ptx -ptx /w/foo.cu",
       codes "foo.ptx",
-      codes "-x" ∷ codes "cu" ∷ codes "-o" ∷ codes "/w/foo.ptx" ∷ codes "-ptx" ∷ codes "/w/foo.cu" ∷ codes "--keep-dir" ∷ codes "/t" ∷ codes "--dryrun" ∷ codes "--keep" ∷ [],
+      spaced "-x cu -o /w/foo.ptx -ptx /w/foo.cu --keep-dir /t --dryrun --keep",
     )))
-    × (written_back (codes "foo.cu" ∷ [])
+    × (written_back (spaced "foo.cu")
     ≡ Some (Ok (
-      codes "-x" ∷ codes "cu" ∷ codes "-o" ∷ codes "/w/foo.o" ∷ codes "/w/foo.cu" ∷ [],
+      spaced "-x cu -o /w/foo.o /w/foo.cu",
       codes "foo.o",
-      codes "-x" ∷ codes "cu" ∷ codes "-o" ∷ codes "/w/foo.o" ∷ codes "/w/foo.cu" ∷ codes "--keep-dir" ∷ codes "/t" ∷ codes "--dryrun" ∷ codes "--keep" ∷ [],
+      spaced "-x cu -o /w/foo.o /w/foo.cu --keep-dir /t --dryrun --keep",
     )))
 
 pub words_are_written : WordsAreWritten
@@ -121,8 +122,8 @@ words_are_written = (refl, refl, refl, refl)
 -- what is refused first of several: a missing directory, then a missing number, then a missing output
 abbrev pub RefusalsHaveAnOrder : Type 0
 RefusalsHaveAnOrder =
-    (write (record lone_object { outputs = []; unhashed_args = codes "--threads" ∷ codes "-keep-dir" ∷ [] }) ≡ Err KeepDirValue)
-    × (write (record lone_object { outputs = []; unhashed_args = codes "-keep" ∷ codes "--threads" ∷ [] }) ≡ Err ThreadsValue)
+    (write (record lone_object { outputs = []; unhashed_args = spaced "--threads -keep-dir" }) ≡ Err KeepDirValue)
+    × (write (record lone_object { outputs = []; unhashed_args = spaced "-keep --threads" }) ≡ Err ThreadsValue)
     × (write (record lone_object { outputs = [] }) ≡ Err (MissingOutput Cuda))
 
 pub refusals_have_an_order : RefusalsHaveAnOrder
@@ -132,9 +133,9 @@ refusals_have_an_order = (refl, refl, refl)
 -- output without a file name
 abbrev pub LinesAreRefused : Type 0
 LinesAreRefused =
-    (written_back (codes "-c" ∷ codes "foo.cu" ∷ codes "--threads" ∷ codes "-keep-dir" ∷ []) ≡ Some (Err KeepDirValue))
-    × (written_back (codes "-c" ∷ codes "foo.cu" ∷ codes "--threads" ∷ codes "-keep" ∷ []) ≡ Some (Err ThreadsValue))
-    × (written_back (codes "-c" ∷ codes "foo.cu" ∷ codes "-o" ∷ codes ".." ∷ []) ≡ Some (Err NoFileName))
+    (written_back (spaced "-c foo.cu --threads -keep-dir") ≡ Some (Err KeepDirValue))
+    × (written_back (spaced "-c foo.cu --threads -keep") ≡ Some (Err ThreadsValue))
+    × (written_back (spaced "-c foo.cu -o ..") ≡ Some (Err NoFileName))
 
 pub lines_are_refused : LinesAreRefused
 lines_are_refused = (refl, refl, refl)

@@ -8,6 +8,7 @@ use Rattle.cuda_below.specs.declared.fault.Fault.TheVariants.{MissingOutput}
 use Rattle.cuda_below.specs.declared.arguments.ParsedArguments.{ParsedArguments}
 use Rattle.cuda_below.specs.Arguments.{plain_arguments}
 use Rattle.cuda_below.specs.Command.{written}
+use Rattle.cuda_below.specs.Rows.{spaced}
 use Rattle.device_lines.specs.Cicc.{cicc_reading}
 use Rattle.device_lines.specs.CudaFE.{cudafe_reading}
 use Rattle.device_lines.specs.Ptxas.{ptxas_reading}
@@ -31,15 +32,15 @@ cicc_written_back cwd words = words_back cicc_words cwd (cicc_reading cwd words)
 -- the device-code line
 abbrev pub device_code_words : List (List ℕ)
 device_code_words =
-    codes "--device-c" ∷ codes "-arch" ∷ codes "compute_80" ∷ codes "--module_id_file_name" ∷ codes "kernel.module_id" ∷ codes "kernel.cpp1.ii" ∷ codes "--simt-only" ∷ codes "-o" ∷ codes "kernel.ptx" ∷ []
+    spaced "--device-c -arch compute_80 --module_id_file_name kernel.module_id kernel.cpp1.ii --simt-only -o kernel.ptx"
 
 -- it is read at `.`: its output and the module id file, which is read, are joined to that
 abbrev pub DeviceCodeLineIsRead : Type 0
 DeviceCodeLineIsRead =
     cicc_reading (codes ".") device_code_words ≡ Some (record (plain_arguments (codes "kernel.cpp1.ii") languages.Ptx ((codes "obj", made_at false (codes "./kernel.ptx")) ∷ [])) {
-      common_args = codes "--device-c" ∷ codes "-arch" ∷ codes "compute_80" ∷ codes "--module_id_file_name" ∷ codes "kernel.module_id" ∷ codes "--simt-only" ∷ [];
-      extra_dist_files = codes "./kernel.module_id" ∷ [];
-      extra_hash_files = codes "./kernel.module_id" ∷ [];
+      common_args = spaced "--device-c -arch compute_80 --module_id_file_name kernel.module_id --simt-only";
+      extra_dist_files = spaced "./kernel.module_id";
+      extra_hash_files = spaced "./kernel.module_id";
     })
 
 pub device_code_line_is_read : DeviceCodeLineIsRead
@@ -49,7 +50,7 @@ device_code_line_is_read = refl
 abbrev pub DeviceCodeLine : Type 0
 DeviceCodeLine =
     cicc_written_back (codes "/w") device_code_words ≡
-    Some (Ok (codes "--device-c" ∷ codes "-arch" ∷ codes "compute_80" ∷ codes "--module_id_file_name" ∷ codes "kernel.module_id" ∷ codes "--simt-only" ∷ codes "kernel.cpp1.ii" ∷ codes "-o" ∷ codes "/w/kernel.ptx" ∷ []))
+    Some (Ok (spaced "--device-c -arch compute_80 --module_id_file_name kernel.module_id --simt-only kernel.cpp1.ii -o /w/kernel.ptx"))
 
 pub device_code_line : DeviceCodeLine
 device_code_line = refl
@@ -57,8 +58,8 @@ device_code_line = refl
 -- the input is cut out first, so that the word after it follows the one before it: `bar` is the value of `-foo`, and `baz` is dropped
 abbrev pub InputIsCutOutFirst : Type 0
 InputIsCutOutFirst =
-    cicc_written_back (codes "/w") (codes "-foo" ∷ codes "k.cpp1.ii" ∷ codes "bar" ∷ codes "baz" ∷ codes "-o" ∷ codes "p" ∷ []) ≡
-    Some (Ok (codes "-foo" ∷ codes "bar" ∷ codes "k.cpp1.ii" ∷ codes "-o" ∷ codes "/w/p" ∷ []))
+    cicc_written_back (codes "/w") (spaced "-foo k.cpp1.ii bar baz -o p") ≡
+    Some (Ok (spaced "-foo bar k.cpp1.ii -o /w/p"))
 
 pub input_is_cut_out_first : InputIsCutOutFirst
 input_is_cut_out_first = refl
@@ -66,7 +67,7 @@ input_is_cut_out_first = refl
 -- two words, and no word, where the input would be the third from the end
 abbrev pub ShortLineIsNoCompilation : Type 0
 ShortLineIsNoCompilation =
-    (cicc_reading (codes "/w") (codes "a" ∷ codes "b" ∷ []) ≡ None)
+    (cicc_reading (codes "/w") (spaced "a b") ≡ None)
     × (cicc_reading (codes "/w") [] ≡ None)
     × (ptxas_reading (codes "/w") [] ≡ None)
     × (cudafe_reading (codes "/w") [] ≡ None)
@@ -78,8 +79,8 @@ short_line_is_no_compilation = (refl, refl, refl, refl)
 -- words, and no output is left
 abbrev pub ThirdWordFromTheEndIsTheInput : Type 0
 ThirdWordFromTheEndIsTheInput =
-    (cicc_reading (codes "/w") (codes "a" ∷ codes "b" ∷ codes "c" ∷ []) ≡ Some (plain_arguments (codes "a") languages.Ptx []))
-    × (cicc_written_back (codes "/w") (codes "a" ∷ codes "b" ∷ codes "c" ∷ []) ≡ Some (Err (MissingOutput languages.Ptx)))
+    (cicc_reading (codes "/w") (spaced "a b c") ≡ Some (plain_arguments (codes "a") languages.Ptx []))
+    × (cicc_written_back (codes "/w") (spaced "a b c") ≡ Some (Err (MissingOutput languages.Ptx)))
 
 pub third_word_from_the_end_is_the_input : ThirdWordFromTheEndIsTheInput
 third_word_from_the_end_is_the_input = (refl, refl)
@@ -87,9 +88,9 @@ third_word_from_the_end_is_the_input = (refl, refl)
 -- a last option without its value is dropped, and without an output nothing is written, by each of the three tools
 abbrev pub FaultyItemIsDropped : Type 0
 FaultyItemIsDropped =
-    (cicc_written_back (codes "/w") (codes "k.cpp1.ii" ∷ codes "-o" ∷ []) ≡ Some (Err (MissingOutput languages.Ptx)))
-    × (words_back cicc_words (codes "/w") (ptxas_reading (codes "/w") (codes "k.ptx" ∷ codes "-o" ∷ [])) ≡ Some (Err (MissingOutput languages.Cubin)))
-    × (words_back cudafe_words (codes "/w") (cudafe_reading (codes "/w") (codes "--module_id_file_name" ∷ codes "x.cpp4.ii" ∷ [])) ≡ Some (Err (MissingOutput languages.CudaFE)))
+    (cicc_written_back (codes "/w") (spaced "k.cpp1.ii -o") ≡ Some (Err (MissingOutput languages.Ptx)))
+    × (words_back cicc_words (codes "/w") (ptxas_reading (codes "/w") (spaced "k.ptx -o")) ≡ Some (Err (MissingOutput languages.Cubin)))
+    × (words_back cudafe_words (codes "/w") (cudafe_reading (codes "/w") (spaced "--module_id_file_name x.cpp4.ii")) ≡ Some (Err (MissingOutput languages.CudaFE)))
 
 pub faulty_item_is_dropped : FaultyItemIsDropped
 faulty_item_is_dropped = (refl, refl, refl)
@@ -98,10 +99,10 @@ faulty_item_is_dropped = (refl, refl, refl)
 -- option; the stub file isn't
 abbrev pub HostLineIsRead : Type 0
 HostLineIsRead =
-    cudafe_reading (codes "/t") (codes "--gen_c_file_name" ∷ codes "x_0.cudafe1.cpp" ∷ codes "--stub_file_name" ∷ codes "x_0.cudafe1.stub.c" ∷ codes "--gen_module_id_file" ∷ codes "--module_id_file_name" ∷ codes "kernel.module_id" ∷ codes "--simt-only" ∷ codes "x_0.cpp4.ii" ∷ [])
+    cudafe_reading (codes "/t") (spaced "--gen_c_file_name x_0.cudafe1.cpp --stub_file_name x_0.cudafe1.stub.c --gen_module_id_file --module_id_file_name kernel.module_id --simt-only x_0.cpp4.ii")
     ≡ Some (record (plain_arguments (codes "x_0.cpp4.ii") languages.CudaFE ((codes "--gen_c_file_name", made_at false (codes "/t/x_0.cudafe1.cpp")) ∷ (codes "obj", made_at false (codes "/t/kernel.module_id")) ∷ [])) {
-      common_args = codes "--gen_module_id_file" ∷ codes "--simt-only" ∷ [];
-      unhashed_args = codes "--gen_c_file_name" ∷ codes "x_0.cudafe1.cpp" ∷ codes "--stub_file_name" ∷ codes "x_0.cudafe1.stub.c" ∷ [];
+      common_args = spaced "--gen_module_id_file --simt-only";
+      unhashed_args = spaced "--gen_c_file_name x_0.cudafe1.cpp --stub_file_name x_0.cudafe1.stub.c";
     })
 
 pub host_line_is_read : HostLineIsRead

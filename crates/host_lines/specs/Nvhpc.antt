@@ -41,24 +41,24 @@ read_by_nvhpc words = nvhpc_reading false (codes ".") words
 
 -- options of gcc's table and of nvhpc's: a value that stood in its option's word becomes a word of its own if the option's
 -- text is long
-pub reads_by_both_tables : read_by_nvhpc (codes "-c" ∷ codes "foo.cpp" ∷ codes "-fabc" ∷ codes "-I" ∷ codes "include-file" ∷ codes "-o" ∷ codes "foo.o" ∷ codes "--include-path" ∷ codes "include-file" ∷ codes "-isystem" ∷ codes "/system/include/file" ∷ codes "-gpu=ccnative" ∷ codes "-Werror" ∷ codes "an_error" ∷ []) ≡ accepted (record (compiled (codes "foo.cpp") Cxx (codes "foo.o")) {
-  preprocessor_args = codes "-Iinclude-file" ∷ codes "--include-path" ∷ codes "include-file" ∷ codes "-isystem" ∷ codes "/system/include/file" ∷ codes "-Werror" ∷ codes "an_error" ∷ [];
-  common_args = codes "-fabc" ∷ codes "-gpu" ∷ codes "ccnative" ∷ [];
+pub reads_by_both_tables : read_by_nvhpc (spaced "-c foo.cpp -fabc -I include-file -o foo.o --include-path include-file -isystem /system/include/file -gpu=ccnative -Werror an_error") ≡ accepted (record (compiled (codes "foo.cpp") Cxx (codes "foo.o")) {
+  preprocessor_args = spaced "-Iinclude-file --include-path include-file -isystem /system/include/file -Werror an_error";
+  common_args = spaced "-fabc -gpu ccnative";
 })
 reads_by_both_tables = refl
 
 -- `=` is a part of a value whose option takes none
-pub takes_an_equals_sign_as_value : read_by_nvhpc (codes "-c" ∷ codes "foo.c" ∷ codes "--include-path=inc" ∷ []) ≡ accepted (record (compiled (codes "foo.c") C (codes "foo.o")) { preprocessor_args = codes "--include-path" ∷ codes "=inc" ∷ [] })
+pub takes_an_equals_sign_as_value : read_by_nvhpc (spaced "-c foo.c --include-path=inc") ≡ accepted (record (compiled (codes "foo.c") C (codes "foo.o")) { preprocessor_args = spaced "--include-path =inc" })
 takes_an_equals_sign_as_value = refl
 
 -- `-acc` takes the flag that asks for the compilation
-pub takes_the_next_word : read_by_nvhpc (codes "-acc" ∷ codes "-c" ∷ codes "foo.c" ∷ []) ≡ not_compilation
+pub takes_the_next_word : read_by_nvhpc (spaced "-acc -c foo.c") ≡ not_compilation
 takes_the_next_word = refl
 
 -- a flag takes no value, so that with one it is an unknown flag
-pub knows_no_flag_with_a_value : read_by_nvhpc (codes "-c" ∷ codes "foo.c" ∷ codes "-save-temps=obj" ∷ []) ≡ accepted (record (compiled (codes "foo.c") C (codes "foo.o")) { common_args = codes "-save-temps=obj" ∷ [] })
+pub knows_no_flag_with_a_value : read_by_nvhpc (spaced "-c foo.c -save-temps=obj") ≡ accepted (record (compiled (codes "foo.c") C (codes "foo.o")) { common_args = spaced "-save-temps=obj" })
 knows_no_flag_with_a_value = refl
 
 -- of two entries with one text nvhpc's counts, which may be joined
-pub joins_by_the_second_table : read_by_nvhpc (codes "-x=c++" ∷ codes "-c" ∷ codes "foo.c" ∷ codes "-Xlinker=-s" ∷ []) ≡ accepted (record (compiled (codes "foo.c") Cxx (codes "foo.o")) { common_args = codes "-Xlinker" ∷ codes "-s" ∷ [] })
+pub joins_by_the_second_table : read_by_nvhpc (spaced "-x=c++ -c foo.c -Xlinker=-s") ≡ accepted (record (compiled (codes "foo.c") Cxx (codes "foo.o")) { common_args = spaced "-Xlinker -s" })
 joins_by_the_second_table = refl
