@@ -65,7 +65,7 @@ pub fn push_two(
 }
 
 impl Gathered {
-    ghost use Rattle.cuda_below.specs.GccSteps.{asked_by, with_item, with_option, with_words, with_note};
+    ghost use Rattle.cuda_below.specs.GccSteps.{asked_by, with_item, with_words, with_note};
 
     /// Nothing is asked for.
     pub fn new(alloc: Global) -> Gathered
