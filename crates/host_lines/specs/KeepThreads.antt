@@ -1,16 +1,18 @@
--- Keep words and thread words: what the words of an nvcc line say of where intermediate files are kept and of how
--- many commands run at once, and the words without these. Each answer is a filter of the words.
-use Rattle.std.specs.Prelude.{◌≡◌, ℕ, ◌+◌, ◌*◌, ◌-◌, ◌^◌, List, [], ◌∷◌, Bool, true, false, not, ◌&&◌, ◌||◌, ◌==◌, nat_eq, nat_lt, if◌then◌else◌, Option, Some, None, unwrap_or, Result, Ok, Err, map, filter, drop, codes, refl}
+-- Keep words and thread words of an nvcc line: which folder intermediate files are kept in, how many commands run at
+-- once, and the words without these. Each answer is a filter of the words.
+use Rattle.std.specs.Prelude.{◌≡◌, ℕ, ◌+◌, ◌*◌, ◌-◌, ◌^◌, List, [], ◌∷◌, Bool, true, false, not, ◌&&◌, ◌||◌, ◌==◌, nat_eq, nat_lt, if◌then◌else◌, Option, Some, None, unwrap_or, Result, Ok, Err, Vec, String, string_bytes, map, filter, drop, codes, refl}
 use Rattle.std.specs.List.{filter_map, list_any, starts_with}
-use Rattle.std.specs.Option.{option_and_then}
+use Rattle.std.specs.Option.{option_and_then, option_map}
+use Rattle.std.specs.declared.alloc.Global.{Global}
 use Rattle.std.specs.Str.{bytes_eq, all_ascii_digits}
 use Rattle.cuda_below.specs.declared.fault.Fault.{Fault}
 use Rattle.cuda_below.specs.declared.fault.Fault.TheVariants.{KeepDirValue, ThreadsValue}
 use Rattle.cuda_below.specs.Path.{joined}
 use Rattle.cuda_below.specs.Lists.{last_of}
+use Rattle.cuda_below.specs.Rows.{spaced}
 
--- whether a word takes the next one as its value: an option of that kind does where it isn't itself a value; the
--- word stands beside whether it is one
+-- whether a word takes the next one as its value: an option of that kind does, if it isn't itself a value; the word
+-- stands beside whether it is one
 abbrev pub takes_value : (List ℕ → Bool) → Bool × List ℕ → Bool
 takes_value takes (is_value, word) = not is_value && takes word
 
@@ -63,12 +65,12 @@ words_without_keep words = words_alone (filter is_no_keep_word (beside_keep_dirs
 abbrev pub keep_directories : List (List ℕ) → List (List ℕ)
 keep_directories words = words_alone (filter (λ p. p.0) (beside_keep_dirs words))
 
--- the last directory looked up from the working directory, or that one where none is named
+-- the last directory looked up from the working directory, or that one if none is named
 abbrev pub directory_from : List ℕ → Option (List ℕ) → List ℕ
 directory_from cwd None = cwd
 directory_from cwd (Some directory) = joined cwd directory
 
--- the words that stay, and the directory exactly where keep is set; or a refusal where a directory is missing
+-- the words that stay, and the directory exactly if keep is set; or a refusal if a directory is missing
 abbrev pub keep_answer : List ℕ → Bool → List (List ℕ) → Bool → Option (List ℕ) → Result (List (List ℕ) × Option (List ℕ)) Fault
 keep_answer cwd is_missing stay is_kept directory =
     if is_missing then Err KeepDirValue else Ok (stay, (if is_kept then Some (directory_from cwd directory) else None))
@@ -117,7 +119,7 @@ begins_with_t word = starts_with nat_eq word (codes "-t")
 abbrev pub holds_equals : List ℕ → Bool
 holds_equals word = list_any (λ c. c == 61) word
 
--- where the number stands in a word that begins with `-t`: after 3 bytes where it holds `=`, else after 2
+-- where the number stands in a word that begins with `-t`: after 3 bytes if it holds `=`, else after 2
 abbrev pub joined_number : List ℕ → List ℕ
 joined_number word = drop (if holds_equals word then 3 else 2) word
 
@@ -126,7 +128,7 @@ abbrev pub number_text : Bool × List ℕ → Option (List ℕ)
 number_text (true, word) = Some word
 number_text (false, word) = if begins_with_t word then Some (joined_number word) else None
 
--- the number that a word gives, where it is readable
+-- the number that a word gives, if it is readable
 abbrev pub number_given : Bool × List ℕ → Option ℕ
 number_given p = option_and_then number_of (number_text p)
 
@@ -142,7 +144,7 @@ words_without_threads words = words_alone (filter is_no_thread_word (beside_thre
 abbrev pub thread_numbers : List (List ℕ) → List ℕ
 thread_numbers words = filter_map number_given (beside_threads words)
 
--- the words that stay, and the last number, or 1 where there is none; or a refusal where a number's word is missing
+-- the words that stay, and the last number, or 1 if there is none; or a refusal if a number's word is missing
 abbrev pub threads_answer : Bool → List (List ℕ) → Option ℕ → Result (List (List ℕ) × ℕ) Fault
 threads_answer is_missing stay number = if is_missing then Err ThreadsValue else Ok (stay, unwrap_or number 1)
 
@@ -150,64 +152,73 @@ threads_answer is_missing stay number = if is_missing then Err ThreadsValue else
 abbrev pub threads_of : List (List ℕ) → Result (List (List ℕ) × ℕ) Fault
 threads_of words = threads_answer (lacks_value is_threads (beside_threads words)) (words_without_threads words) (last_of (thread_numbers words))
 
+-- what the two calls answer, seen as texts
+abbrev pub keep_seen : Result (Vec (String Global) Global × Option (String Global)) Fault → Result (List (List ℕ) × Option (List ℕ)) Fault
+keep_seen (Ok p) = Ok (map string_bytes p.0.items, option_map string_bytes p.1)
+keep_seen (Err fault) = Err fault
+
+abbrev pub threads_seen : Result (Vec (String Global) Global × ℕ) Fault → Result (List (List ℕ) × ℕ) Fault
+threads_seen (Ok p) = Ok (map string_bytes p.0.items, p.1)
+threads_seen (Err fault) = Err fault
+
 -- Worked examples. The working directory is `/w`.
-pub directory_is_joined : keep_of (codes "/w") (codes "-keep" ∷ codes "-keep-dir" ∷ codes "out" ∷ []) ≡ Ok ([], Some (codes "/w/out"))
+pub directory_is_joined : keep_of (codes "/w") (spaced "-keep -keep-dir out") ≡ Ok ([], Some (codes "/w/out"))
 directory_is_joined = refl
 
-pub directory_alone_keeps_nothing : keep_of (codes "/w") (codes "-keep-dir" ∷ codes "out" ∷ []) ≡ Ok ([], None)
+pub directory_alone_keeps_nothing : keep_of (codes "/w") (spaced "-keep-dir out") ≡ Ok ([], None)
 directory_alone_keeps_nothing = refl
 
-pub keep_option_as_a_value : keep_of (codes "/w") (codes "-keep-dir" ∷ codes "-keep" ∷ []) ≡ Ok ([], None)
+pub keep_option_as_a_value : keep_of (codes "/w") (spaced "-keep-dir -keep") ≡ Ok ([], None)
 keep_option_as_a_value = refl
 
-pub keep_without_a_directory : keep_of (codes "/w") (codes "-keep" ∷ []) ≡ Ok ([], Some (codes "/w"))
+pub keep_without_a_directory : keep_of (codes "/w") (spaced "-keep") ≡ Ok ([], Some (codes "/w"))
 keep_without_a_directory = refl
 
-pub directory_is_missing : keep_of (codes "/w") (codes "-keep-dir" ∷ []) ≡ Err KeepDirValue
+pub directory_is_missing : keep_of (codes "/w") (spaced "-keep-dir") ≡ Err KeepDirValue
 directory_is_missing = refl
 
 pub directory_is_empty : keep_of (codes "/w") (codes "-keep" ∷ codes "-keep-dir" ∷ [] ∷ []) ≡ Ok ([], Some (codes "/w/"))
 directory_is_empty = refl
 
-pub directory_option_as_a_value : keep_of (codes "/w") (codes "-keep" ∷ codes "-keep-dir" ∷ codes "-keep-dir" ∷ []) ≡ Ok ([], Some (codes "/w/-keep-dir"))
+pub directory_option_as_a_value : keep_of (codes "/w") (spaced "-keep -keep-dir -keep-dir") ≡ Ok ([], Some (codes "/w/-keep-dir"))
 directory_option_as_a_value = refl
 
-pub last_directory_counts : keep_of (codes "/w") (codes "--keep-dir" ∷ codes "a" ∷ codes "-g" ∷ codes "--save-temps" ∷ codes "-keep-dir" ∷ codes "/b" ∷ codes "-c" ∷ []) ≡ Ok (codes "-g" ∷ codes "-c" ∷ [], Some (codes "/b"))
+pub last_directory_counts : keep_of (codes "/w") (spaced "--keep-dir a -g --save-temps -keep-dir /b -c") ≡ Ok (spaced "-g -c", Some (codes "/b"))
 last_directory_counts = refl
 
-pub threads_option_stays : keep_of (codes "/w") (codes "--threads" ∷ codes "-keep" ∷ []) ≡ Ok (codes "--threads" ∷ [], Some (codes "/w"))
+pub threads_option_stays : keep_of (codes "/w") (spaced "--threads -keep") ≡ Ok (spaced "--threads", Some (codes "/w"))
 threads_option_stays = refl
 
-pub threads_option_that_stayed : threads_of (codes "--threads" ∷ []) ≡ Err ThreadsValue
+pub threads_option_that_stayed : threads_of (spaced "--threads") ≡ Err ThreadsValue
 threads_option_that_stayed = refl
 
-pub last_number_counts : threads_of (codes "-t1" ∷ codes "-t=2" ∷ codes "-t3" ∷ codes "--threads" ∷ codes "1" ∷ codes "--threads" ∷ codes "2" ∷ []) ≡ Ok ([], 2)
+pub last_number_counts : threads_of (spaced "-t1 -t=2 -t3 --threads 1 --threads 2") ≡ Ok ([], 2)
 last_number_counts = refl
 
-pub joined_number_after_a_separate_one : threads_of (codes "--threads" ∷ codes "4" ∷ codes "-t2" ∷ []) ≡ Ok ([], 2)
+pub joined_number_after_a_separate_one : threads_of (spaced "--threads 4 -t2") ≡ Ok ([], 2)
 joined_number_after_a_separate_one = refl
 
 -- the word `-té=1`: the bytes 195 and 169 are `é`
 pub cut_inside_a_character : threads_of ((45 ∷ 116 ∷ 195 ∷ 169 ∷ 61 ∷ 49 ∷ []) ∷ []) ≡ Ok ([], 1)
 cut_inside_a_character = refl
 
-pub threads_option_as_a_value : threads_of (codes "--threads" ∷ codes "--threads" ∷ []) ≡ Ok ([], 1)
+pub threads_option_as_a_value : threads_of (spaced "--threads --threads") ≡ Ok ([], 1)
 threads_option_as_a_value = refl
 
-pub number_with_a_plus : threads_of (codes "-t+7" ∷ []) ≡ Ok ([], 7)
+pub number_with_a_plus : threads_of (spaced "-t+7") ≡ Ok ([], 7)
 number_with_a_plus = refl
 
-pub number_with_two_pluses : threads_of (codes "-t++7" ∷ []) ≡ Ok ([], 1)
+pub number_with_two_pluses : threads_of (spaced "-t++7") ≡ Ok ([], 1)
 number_with_two_pluses = refl
 
-pub number_with_leading_zeros : threads_of (codes "-t=007" ∷ codes "-g" ∷ []) ≡ Ok (codes "-g" ∷ [], 7)
+pub number_with_leading_zeros : threads_of (spaced "-t=007 -g") ≡ Ok (spaced "-g", 7)
 number_with_leading_zeros = refl
 
-pub greatest_number : threads_of (codes "-t18446744073709551615" ∷ []) ≡ Ok ([], 18446744073709551615)
+pub greatest_number : threads_of (spaced "-t18446744073709551615") ≡ Ok ([], 18446744073709551615)
 greatest_number = refl
 
-pub number_past_the_greatest : threads_of (codes "-t18446744073709551616" ∷ []) ≡ Ok ([], 1)
+pub number_past_the_greatest : threads_of (spaced "-t18446744073709551616") ≡ Ok ([], 1)
 number_past_the_greatest = refl
 
-pub equals_anywhere : threads_of (codes "-t12=" ∷ codes "-t123" ∷ codes "-t4=5" ∷ []) ≡ Ok ([], 123)
+pub equals_anywhere : threads_of (spaced "-t12= -t123 -t4=5") ≡ Ok ([], 123)
 equals_anywhere = refl
