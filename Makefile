@@ -12,7 +12,7 @@ help:
 
 # The device-code line, read and written back.
 demo:
-	@echo 'This runs the program unproved, in some 25 seconds; make build proves and builds it.'
+	@echo 'This runs the program unproved, within a minute; make build proves and builds it.'
 	@cd crates/cudaplan && rt try -- line cicc /w --device-c -arch compute_80 --module_id_file_name kernel.module_id kernel.cpp1.ii --simt-only -o kernel.ptx
 
 # Proves the program and builds it. rt builds a program only when it runs it, and leaves it in out/: so a short line is
