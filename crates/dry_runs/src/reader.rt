@@ -29,14 +29,14 @@ use std::alloc::{AllocError, Global};
 ///   in it becomes the value. What comes of it is split into shell words, of which the first is the program,
 ///   looked up with the first value of `PATH` that was set before it.
 ///
-/// These are the rules of sccache 0.19.0's reader of dry runs, but that reads on where this refuses.
+/// The rules are those of sccache 0.19.0's reader of dry runs.
 ///
 /// The first bad line refuses the whole run, by the first of these that holds of it: `NotUtf8`, if it isn't
 /// UTF-8, marked or not; and of a command `BadShell`, if a quote is open or a backslash ends it, `EmptyCommand`,
 /// if it holds no word, `NoPath`, if `PATH` wasn't set before it, though its program may hold a `/`, and
 /// `NotFound`, if `which` lacks the program.
 ///
-/// A text can double with each environment line: by lines like `A=$AA.$AA.`, 469 bytes become a word of 295 kB.
+/// A text can double with each environment line: by lines like `A=$AA.$AA.`, 469 bytes become 295 kB.
 /// A caller that reads dry runs which it doesn't trust hands in an `alloc` with a limit, and gets `Memory`.
 pub fn read_dry_run<W: Which>(
     alloc: Global,
