@@ -1,1 +1,4 @@
 pub mod DryRunLemmas
+pub mod ExpansionLemmas
+pub mod LineLemmas
+pub mod ReadingLemmas

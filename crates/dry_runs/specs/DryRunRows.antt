@@ -192,3 +192,79 @@ OtherNamesAreRead =
 pub other_names_are_read : OtherNamesAreRead
 unfolding dry_runs_compute
 other_names_are_read = (refl, refl)
+
+-- one carriage return right before a newline goes, and a last line without a newline keeps its own, which is no blank
+abbrev pub LastLineKeepsItsReturn : Type 0
+LastLineKeepsItsReturn =
+    first_run (codes "#$ PATH=/b\r\n#$ gcc x\r") ≡ Ok ((1, codes "/b/gcc", codes "x\r" ∷ []) ∷ [], (codes "PATH", codes "/b") ∷ [])
+
+pub last_line_keeps_its_return : LastLineKeepsItsReturn
+unfolding dry_runs_compute
+last_line_keeps_its_return = refl
+
+-- behind a byte order mark the first line is unmarked, so here `PATH` isn't set
+abbrev pub ByteOrderMarkUnmarks : Type 0
+ByteOrderMarkUnmarks =
+    first_run (239 ∷ 187 ∷ 191 ∷ codes "#$ PATH=/b\n#$ gcc\n") ≡ Err (NoPath 1 1)
+
+pub byte_order_mark_unmarks : ByteOrderMarkUnmarks
+unfolding dry_runs_compute
+byte_order_mark_unmarks = refl
+
+-- the value of an environment line isn't expanded, and neither is `PATH` where it is searched
+abbrev pub ValuesAreKeptAsTheyStand : Type 0
+ValuesAreKeptAsTheyStand =
+    first_run (codes "#$ TOP=/u\n#$ PATH=$TOP/bin:/b\n#$ gcc x\n") ≡ Ok ((2, codes "$TOP/bin/gcc", codes "x" ∷ []) ∷ [], (codes "TOP", codes "/u") ∷ (codes "PATH", codes "$TOP/bin:/b") ∷ [])
+
+pub values_are_kept_as_they_stand : ValuesAreKeptAsTheyStand
+unfolding dry_runs_compute
+values_are_kept_as_they_stand = refl
+
+-- a `PATH` whose first folder is empty holds no program
+abbrev pub FirstFolderIsEmpty : Type 0
+FirstFolderIsEmpty =
+    first_run (codes "#$ PATH=:/b\n#$ gcc\n") ≡ Err (NotFound (codes "gcc"))
+
+pub first_folder_is_empty : FirstFolderIsEmpty
+unfolding dry_runs_compute
+first_folder_is_empty = refl
+
+-- a program with a folder needs a `PATH` before it too
+abbrev pub FolderNeedsAPathToo : Type 0
+FolderNeedsAPathToo =
+    first_run (codes "#$ ./gcc\n#$ PATH=/b\n") ≡ Err (NoPath 1 0)
+
+pub folder_needs_a_path_too : FolderNeedsAPathToo
+unfolding dry_runs_compute
+folder_needs_a_path_too = refl
+
+-- a name that is set twice, as nvcc 13 does, stands twice in the environment, and its first value counts
+abbrev pub NameIsSetTwice : Type 0
+NameIsSetTwice =
+    first_run (codes "#$ _TARGET_DIR_=\n#$ _TARGET_DIR_=targets/x86_64-linux\n#$ PATH=/b\n#$ gcc $_TARGET_DIR_/x\n") ≡ Ok ((3, codes "/b/gcc", codes "/x" ∷ []) ∷ [], (codes "_TARGET_DIR_", []) ∷ (codes "_TARGET_DIR_", codes "targets/x86_64-linux") ∷ (codes "PATH", codes "/b") ∷ [])
+
+pub name_is_set_twice : NameIsSetTwice
+unfolding dry_runs_compute
+name_is_set_twice = refl
+
+-- what becomes of a reference right before a character
+abbrev pub before : ℕ → List ℕ
+before c = expanded ((codes "TOP", codes "/u") ∷ []) (codes "$TOP" ++ encode_utf8_all (c ∷ []))
+
+-- `²` and `·` go on with no name
+abbrev pub OtherCharactersEndAName : Type 0
+OtherCharactersEndAName =
+    (before 178 ≡ codes "/u" ++ encode_utf8_all (178 ∷ [])) × (before 183 ≡ codes "/u" ++ encode_utf8_all (183 ∷ []))
+
+pub other_characters_end_a_name : OtherCharactersEndAName
+unfolding dry_runs_compute
+other_characters_end_a_name = (refl, refl)
+
+-- a name goes on with `ⓐ`, `Ⅷ`, `‿`, a combining accent, an enclosing circle, and the joiner U+200D
+abbrev pub WordCharactersGoOn : Type 0
+WordCharactersGoOn =
+    (before 9424 ≡ codes "$TOP" ++ encode_utf8_all (9424 ∷ [])) × (before 8551 ≡ codes "$TOP" ++ encode_utf8_all (8551 ∷ [])) × (before 8255 ≡ codes "$TOP" ++ encode_utf8_all (8255 ∷ [])) × (before 769 ≡ codes "$TOP" ++ encode_utf8_all (769 ∷ [])) × (before 8413 ≡ codes "$TOP" ++ encode_utf8_all (8413 ∷ [])) × (before 8205 ≡ codes "$TOP" ++ encode_utf8_all (8205 ∷ []))
+
+pub word_characters_go_on : WordCharactersGoOn
+unfolding dry_runs_compute
+word_characters_go_on = (refl, refl, refl, refl, refl, refl)

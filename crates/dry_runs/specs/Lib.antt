@@ -6,4 +6,5 @@ pub mod DryRunRows
 pub mod Environment
 pub mod FirstDir
 pub mod OneKernel
+pub mod Reading
 pub mod Replacing

@@ -1,10 +1,10 @@
 //! What a dry run says: its commands and its environment.
 
-ghost use Rattle.std.specs.Prelude.{◌≡◌, [], map};
+ghost use Rattle.std.specs.Prelude.{◌≡◌, ◌∷◌, ◌++◌, [], map, OnOk, string_bytes};
 ghost use Rattle.dry_runs.specs.CommandLines.{line_seen};
 
 use cuda_below::variables::Variables;
-use std::alloc::Global;
+use std::alloc::{AllocError, Global};
 use std::marker::Model;
 
 /// The command lines of a dry run, in order: of each the number of its line, its program's path, and
@@ -47,6 +47,19 @@ impl Commands {
         ensures { map line_seen result.now ≡ self.now }
     {
         self.lines.as_slice()
+    }
+
+    // Puts a command line last: the number of its line, its program's path and its words.
+    pub(crate) fn push(
+        &mut self,
+        line: usize,
+        program: String,
+        words: Vec<String>,
+    ) -> Result<(), AllocError>
+        ensures { OnOk result (self.new ≡ self.old ++ (line, string_bytes program, map string_bytes words.items) ∷ []) }
+    {
+        self.lines.push((line, program, words))?;
+        Ok(())
     }
 
     /// Gives the `Vec` back.

@@ -1,7 +1,7 @@
 //! Laws of dry runs, and runs worked out by hand, which the definitions compute.
 
 ghost use Rattle.cuda_below.specs.Equality.{TellsEqual};
-ghost use Rattle.dry_runs.specs.DryRunRows.{OneKernelIsRead, LastLineNeedsNoNewline, NothingIsRead, UnmarkedLineIsNotText, QuoteIsOpen, CommentIsNoCommand, NoPathIsSet, DigitMakesACommand, PathIsEmpty, FirstBadLineDecides, ProgramsAreMissing, EmptyProgramIsLookedUp, ReferenceAtTheEndStays, OneReferenceExpandsAll, LetterFollowsAReference, FirstValueIsExpanded, ValuesAreExpandedInOrder, FirstPathCounts, OtherNamesAreRead};
+ghost use Rattle.dry_runs.specs.DryRunRows.{OneKernelIsRead, LastLineNeedsNoNewline, NothingIsRead, UnmarkedLineIsNotText, QuoteIsOpen, CommentIsNoCommand, NoPathIsSet, DigitMakesACommand, PathIsEmpty, FirstBadLineDecides, ProgramsAreMissing, EmptyProgramIsLookedUp, ReferenceAtTheEndStays, OneReferenceExpandsAll, LetterFollowsAReference, FirstValueIsExpanded, ValuesAreExpandedInOrder, FirstPathCounts, OtherNamesAreRead, LastLineKeepsItsReturn, ByteOrderMarkUnmarks, ValuesAreKeptAsTheyStand, FirstFolderIsEmpty, FolderNeedsAPathToo, NameIsSetTwice, OtherCharactersEndAName, WordCharactersGoOn};
 
 use crate::commands::{Commands, DryRun};
 
@@ -32,4 +32,12 @@ pub fn worked_runs()
     ensures values_are_expanded_in_order { ValuesAreExpandedInOrder }
     ensures first_path_counts { FirstPathCounts }
     ensures other_names_are_read { OtherNamesAreRead }
+    ensures last_line_keeps_its_return { LastLineKeepsItsReturn }
+    ensures byte_order_mark_unmarks { ByteOrderMarkUnmarks }
+    ensures values_are_kept_as_they_stand { ValuesAreKeptAsTheyStand }
+    ensures first_folder_is_empty { FirstFolderIsEmpty }
+    ensures folder_needs_a_path_too { FolderNeedsAPathToo }
+    ensures name_is_set_twice { NameIsSetTwice }
+    ensures other_characters_end_a_name { OtherCharactersEndAName }
+    ensures word_characters_go_on { WordCharactersGoOn }
 {}

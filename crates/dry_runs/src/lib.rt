@@ -2,8 +2,12 @@
 #![tactic(auto)]
 
 mod commands;
+mod environment;
 pub mod laws;
+mod lines;
+mod reader;
 mod which;
 
 pub use commands::{Commands, DryRun};
+pub use reader::read_dry_run;
 pub use which::{FirstDir, Which};

@@ -1,0 +1,75 @@
+-- What reading a dry run has gathered, and how one more line changes it.
+use Rattle.std.specs.Prelude.{◌≡◌, ℕ, List, [], ◌∷◌, ◌++◌, Bool, true, not, ◌==◌, ◌&&◌, length, if◌then◌else◌, Option, Some, None, Result, Ok, Err, String, string_bytes, codes}
+use Rattle.std.specs.List.{list_all}
+use Rattle.std.specs.Option.{is_none}
+use Rattle.std.specs.Str.{bytes_eq}
+use Rattle.std.specs.Borrow.{Bor}
+use Rattle.std.specs.declared.alloc.Global.{Global}
+use Rattle.cuda_below.specs.Path.{lacks}
+use Rattle.cuda_below.specs.declared.fault.Fault.{Fault}
+use Rattle.cuda_below.specs.declared.fault.Fault.TheVariants.{NotFound}
+use Rattle.dry_runs.specs.declared.commands.DryRun.{DryRun}
+use Rattle.dry_runs.specs.declared.reader.Said.{Said}
+use Rattle.dry_runs.specs.CommandLines.{CommandLine}
+use Rattle.dry_runs.specs.Environment.{Variable, is_name_byte}
+use Rattle.dry_runs.specs.DryRun.{Meaning, Ignored, Assigns, Runs, Bad}
+
+-- the texts of a name and a value that are lent
+abbrev pub texts_of : Bor (List ℕ) × Bor (List ℕ) → Variable
+texts_of p = (p.0.now, p.1.now)
+
+-- a text is cut at its first mark, if it holds one
+abbrev pub IsCutAt : ℕ → List ℕ → Option (Bor (List ℕ) × Bor (List ℕ)) → Type 0
+IsCutAt mark text None = lacks mark text ≡ true
+IsCutAt mark text (Some parts) = (text ≡ parts.0.now ++ mark ∷ parts.1.now) × (lacks mark parts.0.now ≡ true)
+
+-- whether a text is a name of an environment line
+abbrev pub is_name : List ℕ → Bool
+is_name text = not (length text == 0) && list_all is_name_byte text
+
+-- what a dry run says, as texts
+abbrev pub run_seen : DryRun → List CommandLine × List Variable
+run_seen run = (run.commands, run.env)
+
+-- what reading a dry run answers, as texts
+abbrev pub dry_run_seen : Result DryRun Fault → Result (List CommandLine × List Variable) Fault
+dry_run_seen (Ok run) = Ok (run_seen run)
+dry_run_seen (Err fault) = Err fault
+
+-- what looking a program up answers, as a text
+abbrev pub found_seen : Result (String Global) Fault → Result (List ℕ) Fault
+found_seen (Ok path) = Ok (string_bytes path)
+found_seen (Err fault) = Err fault
+
+-- a program's path, where it was found
+abbrev pub found_or_fault : List ℕ → Option (List ℕ) → Result (List ℕ) Fault
+found_or_fault program None = Err (NotFound program)
+found_or_fault program (Some path) = Ok path
+
+-- nothing so far
+abbrev pub nothing_said : Said
+nothing_said = record { commands = []; env = []; path = None }
+
+-- one more variable
+abbrev pub with_variable : Said → Variable → Said
+with_variable s v = record {
+  commands = s.commands;
+  env = s.env ++ v ∷ [];
+  path = if is_none s.path && bytes_eq v.0 (codes "PATH") then Some v.1 else s.path;
+}
+
+-- one more command
+abbrev pub with_command : Said → CommandLine → Said
+with_command s command = record { commands = s.commands ++ command ∷ []; env = s.env; path = s.path }
+
+-- one more line, by what it means
+abbrev pub said_next : Said → Meaning → Result Said Fault
+said_next s Ignored = Ok s
+said_next s (Assigns v) = Ok (with_variable s v)
+said_next s (Runs command) = Ok (with_command s command)
+said_next s (Bad fault) = Err fault
+
+-- what is gathered behind a line, where it was read
+abbrev pub said_after : Result (Unit {0}) Fault → Said → Result Said Fault
+said_after (Ok _) s = Ok s
+said_after (Err fault) s = Err fault

@@ -1,0 +1,48 @@
+//! The lines of a dry run.
+
+ghost use Rattle.std.specs.Prelude.{◌≡◌, ◌==◌, ◌<◌, ◌∷◌, [], length, MatchOption, IfSome};
+ghost use Rattle.std.specs.List.{position};
+ghost use Rattle.std.specs.Option.{option_copied};
+ghost use Rattle.std.specs.Str.Lines.{lines, strip_carriage_return};
+ghost use Rattle.dry_runs.specs.DryRunLines.{marked_text};
+
+// The place of the first newline.
+fn newline(bytes: &[u8]) -> Option<usize>
+    ensures { result ≡ position (λ b. b == 10) bytes.now }
+{
+    bytes.iter().position(|b| *b == b'\n')
+}
+
+// A line without the carriage return that it ends in, if it does.
+fn without_return(line: &[u8]) -> &[u8]
+    ensures { result.now ≡ strip_carriage_return line.now }
+{
+    match line {
+        [front @ .., b'\r'] => front,
+        _ => line,
+    }
+}
+
+// The first line of `rest`, and what follows it; `None` where nothing is left.
+//
+// A line ends at a newline, and one carriage return right before that newline goes too. What stands
+// behind the last newline is a line of its own, unless it is empty, and keeps its carriage return.
+pub fn first_line(rest: &[u8]) -> Option<(&[u8], &[u8])>
+    ensures lines { MatchOption result (lines rest.now ≡ []) (λ cut. lines rest.now ≡ cut.0.now ∷ lines cut.1.now) }
+    ensures less { IfSome result (λ cut. length cut.1.now < length rest.now) }
+{
+    if rest.is_empty() {
+        return None;
+    }
+    match newline(rest) {
+        None => Some((rest, &[])),
+        Some(end) => Some((without_return(&rest[..end]), &rest[end + 1..])),
+    }
+}
+
+// What follows the mark of a line; `None` where the line is unmarked.
+pub fn marked(line: &str) -> Option<&str>
+    ensures { option_copied result ≡ marked_text line.now }
+{
+    line.strip_prefix("#$ ")
+}
