@@ -1,4 +1,4 @@
-//! Compilers as values.
+//! Compilers as values: each equals its clone, and no compiler of another version.
 
 use cuda_below::text::Text;
 use cuda_plans::cicc::Cicc;
@@ -9,60 +9,88 @@ use cuda_plans::ptxas::Ptxas;
 use std::alloc::{AllocError, Global};
 use std::test::Fail;
 
-fn version(alloc: Global, text: &str) -> Result<Option<Text>, AllocError> {
-    Ok(Some(Text::copy_of(alloc, text)?))
+fn version(alloc: Global) -> Result<Option<Text>, AllocError> {
+    Ok(Some(Text::copy_of(alloc, "12.4")?))
 }
 
-fn nvcc(alloc: Global, host_compiler: NvccHostCompiler) -> Result<Nvcc, AllocError> {
-    Ok(Nvcc {
-        host_compiler,
-        host_compiler_version: version(alloc, "13")?,
-        version: version(alloc, "12.4")?,
-    })
+fn cicc(alloc: Global, one: &Cicc) -> Result<(bool, bool), AllocError> {
+    let clone = one.try_clone(alloc)?;
+    Ok((*one == clone, *one == Cicc { version: None }))
+}
+
+fn cudafe(alloc: Global, one: &CudaFE) -> Result<(bool, bool), AllocError> {
+    let clone = one.try_clone(alloc)?;
+    Ok((*one == clone, *one == CudaFE { version: None }))
+}
+
+fn ptxas(alloc: Global, one: &Ptxas) -> Result<(bool, bool), AllocError> {
+    let clone = one.try_clone(alloc)?;
+    Ok((*one == clone, *one == Ptxas { version: None }))
+}
+
+fn nvhpc(alloc: Global, one: &Nvhpc) -> Result<(bool, bool), AllocError> {
+    let clone = one.try_clone(alloc)?;
+    let other = Nvhpc {
+        nvcplusplus: true,
+        version: None,
+    };
+    Ok((*one == clone, *one == other))
+}
+
+fn nvcc(alloc: Global, one: &Nvcc) -> Result<(bool, bool), AllocError> {
+    let clone = one.try_clone(alloc)?;
+    let other = Nvcc {
+        host_compiler: NvccHostCompiler::Msvc,
+        host_compiler_version: None,
+        version: None,
+    };
+    Ok((*one == clone, *one == other))
 }
 
 #[test]
-fn device_compilers(rt: HostRuntime) -> Result<(), Fail> {
-    let alloc = rt.alloc();
-    let cicc = Cicc {
-        version: version(alloc, "1")?,
+fn ciccs(rt: HostRuntime) -> Result<(), Fail> {
+    let one = Cicc {
+        version: version(rt.alloc())?,
     };
-    let cudafe = CudaFE {
-        version: version(alloc, "1")?,
-    };
-    let ptxas = Ptxas {
-        version: version(alloc, "1")?,
-    };
-    let equal = [
-        cicc == cicc.try_clone(alloc)?,
-        cudafe == cudafe.try_clone(alloc)?,
-        ptxas == ptxas.try_clone(alloc)?,
-        cicc == Cicc { version: None },
-        cudafe == CudaFE { version: None },
-        ptxas == Ptxas { version: None },
-    ];
-    assert_eq!(rt; equal, [true, true, true, false, false, false]);
+    assert_eq!(rt; cicc(rt.alloc(), &one)?, (true, false));
     Ok(())
 }
 
 #[test]
-fn host_compilers(rt: HostRuntime) -> Result<(), Fail> {
-    let alloc = rt.alloc();
-    let nvhpc = Nvhpc {
-        nvcplusplus: true,
-        version: version(alloc, "1")?,
+fn cudafes(rt: HostRuntime) -> Result<(), Fail> {
+    let one = CudaFE {
+        version: version(rt.alloc())?,
     };
-    let other = Nvhpc {
+    assert_eq!(rt; cudafe(rt.alloc(), &one)?, (true, false));
+    Ok(())
+}
+
+#[test]
+fn ptxases(rt: HostRuntime) -> Result<(), Fail> {
+    let one = Ptxas {
+        version: version(rt.alloc())?,
+    };
+    assert_eq!(rt; ptxas(rt.alloc(), &one)?, (true, false));
+    Ok(())
+}
+
+#[test]
+fn nvhpcs(rt: HostRuntime) -> Result<(), Fail> {
+    let one = Nvhpc {
         nvcplusplus: false,
-        version: version(alloc, "1")?,
+        version: None,
     };
-    let over_gcc = nvcc(alloc, NvccHostCompiler::Gcc)?;
-    let equal = [
-        nvhpc == nvhpc.try_clone(alloc)?,
-        over_gcc == over_gcc.try_clone(alloc)?,
-        nvhpc == other,
-        over_gcc == nvcc(alloc, NvccHostCompiler::Msvc)?,
-    ];
-    assert_eq!(rt; equal, [true, true, false, false]);
+    assert_eq!(rt; nvhpc(rt.alloc(), &one)?, (true, false));
+    Ok(())
+}
+
+#[test]
+fn nvccs(rt: HostRuntime) -> Result<(), Fail> {
+    let one = Nvcc {
+        host_compiler: NvccHostCompiler::Gcc,
+        host_compiler_version: None,
+        version: None,
+    };
+    assert_eq!(rt; nvcc(rt.alloc(), &one)?, (true, false));
     Ok(())
 }

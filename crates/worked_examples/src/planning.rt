@@ -82,12 +82,12 @@ fn plans(rt: HostRuntime) -> Result<(), Fail> {
 #[test]
 fn lists_of_plans_are_given_back(rt: HostRuntime) -> Result<(), Fail> {
     let alloc = rt.alloc();
-    let equal = [
-        Groups::from_vec(groups(alloc, "/b/cicc")?.into_vec()) == groups(alloc, "/b/cicc")?,
-        DroppedCommands::from_vec(dropped(alloc, Reason::Superseded)?.into_vec())
-            == dropped(alloc, Reason::Superseded)?,
-    ];
-    assert_eq!(rt; equal, [true, true]);
+    let (one, other) = (groups(alloc, "/b/cicc")?, groups(alloc, "/b/cicc")?);
+    let are_groups_kept = Groups::from_vec(one.into_vec()) == other;
+    let one = dropped(alloc, Reason::Superseded)?;
+    let other = dropped(alloc, Reason::Superseded)?;
+    let are_dropped_kept = DroppedCommands::from_vec(one.into_vec()) == other;
+    assert_eq!(rt; [are_groups_kept, are_dropped_kept], [true, true]);
     Ok(())
 }
 

@@ -15,25 +15,36 @@ fn file(alloc: Global, path: &str, optional: bool) -> Result<ArtifactDescriptor,
     })
 }
 
+// The files of a command that makes one.
+fn files(alloc: Global, path: &str, optional: bool) -> Result<Outputs, AllocError> {
+    let mut files = Outputs::new(alloc);
+    files.insert("obj", file(alloc, path, optional)?)?;
+    Ok(files)
+}
+
 #[test]
 fn outputs(rt: HostRuntime) -> Result<(), Fail> {
-    let alloc = rt.alloc();
-    let first = file(alloc, "/w/a.o", false)?;
-    let second = file(alloc, "/w/b.o", true)?;
-    let mut files = Outputs::new(alloc);
-    files.insert("obj", first.try_clone(alloc)?)?;
-    let before = files.try_clone(alloc)?;
-    let is_cloned = files == before;
-    files.insert("obj", second.try_clone(alloc)?)?;
+    let mut made = files(rt.alloc(), "/w/a.o", false)?;
+    let clone = made.try_clone(rt.alloc())?;
+    let is_cloned = made == clone;
+    let second = file(rt.alloc(), "/w/b.o", true)?;
+    made.insert("obj", second.try_clone(rt.alloc())?)?;
     let equal = [
         is_cloned,
-        files == before,
-        files.get("obj") == Some(&second),
-        before.get("obj") == Some(&first),
-        files.get("d").is_none(),
-        first == file(alloc, "/w/a.o", true)?,
+        made == clone,
+        made.get("obj") == Some(&second),
+        made.get("d").is_none(),
     ];
-    assert_eq!(rt; equal, [true, false, true, true, true, false]);
+    assert_eq!(rt; equal, [true, false, true, true]);
+    Ok(())
+}
+
+#[test]
+fn optional_outputs(rt: HostRuntime) -> Result<(), Fail> {
+    let one = file(rt.alloc(), "/w/a.o", false)?;
+    let other = file(rt.alloc(), "/w/a.o", true)?;
+    let is_equal = one == other;
+    assert!(rt; !is_equal);
     Ok(())
 }
 
@@ -47,14 +58,22 @@ fn output(alloc: Global, code: i32) -> Result<Output, AllocError> {
 
 #[test]
 fn outputs_of_processes(rt: HostRuntime) -> Result<(), Fail> {
-    let alloc = rt.alloc();
+    let one = output(rt.alloc(), 0)?;
+    let clone = one.try_clone(rt.alloc())?;
+    let other = output(rt.alloc(), 1)?;
+    assert_eq!(rt; [one == clone, one == other], [true, false]);
+    Ok(())
+}
+
+#[test]
+fn faults_of_processes(rt: HostRuntime) -> Result<(), Fail> {
+    let one = Fault::Process(output(rt.alloc(), 3)?);
+    let other = Fault::Process(output(rt.alloc(), 4)?);
     let equal = [
-        output(alloc, 0)? == output(alloc, 0)?.try_clone(alloc)?,
-        output(alloc, 0)? == output(alloc, 1)?,
-        Fault::Process(output(alloc, 3)?) == Fault::Process(output(alloc, 3)?),
-        Fault::Process(output(alloc, 3)?) == Fault::Process(output(alloc, 4)?),
+        one == other,
+        one == Fault::Memory,
         Fault::Read == Fault::Memory,
     ];
-    assert_eq!(rt; equal, [true, false, true, false, false]);
+    assert_eq!(rt; equal, [false, false, false]);
     Ok(())
 }

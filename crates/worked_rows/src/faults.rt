@@ -8,7 +8,7 @@ use cuda_below::bytes::Bytes;
 use cuda_below::fault::Fault;
 use cuda_below::status::{ExitStatus, Output};
 use cuda_below::text::Text;
-use std::alloc::Global;
+use std::alloc::{AllocError, Global};
 
 // The number that a word is.
 fn number(word: &str) -> Result<usize, Stop> {
@@ -84,16 +84,20 @@ fn fault(alloc: Global, settings: &[String]) -> Result<Fault, Stop> {
     }
 }
 
+fn is_cloned(alloc: Global, fault: &Fault) -> Result<bool, AllocError> {
+    let clone = fault.try_clone(alloc)?;
+    Ok(*fault == clone)
+}
+
 // A fault's message, and what it is printed as.
-fn message(alloc: Global, settings: &[String]) -> Result<Answer, Stop> {
-    let fault = fault(alloc, settings)?;
+fn shown(alloc: Global, fault: &Fault) -> Result<Answer, Stop> {
     let (message, printed) = (fault.message(alloc)?, format!(in alloc; "{fault}")?);
     let mut answer = Answer::new(alloc);
     answer.add_text(alloc, "message", message.as_str())?;
     if printed.as_str() != message.as_str() {
         answer.add_text(alloc, "printed", printed.as_str())?;
     }
-    if fault != fault.try_clone(alloc)? {
+    if !is_cloned(alloc, fault)? {
         answer.add(alloc, &["unlike-its-clone"])?;
     }
     Ok(answer)
@@ -102,7 +106,10 @@ fn message(alloc: Global, settings: &[String]) -> Result<Answer, Stop> {
 /// What a call on a fault or an exit status answers.
 pub fn answer(alloc: Global, row: &Row) -> Result<Answer, Stop> {
     match (row.call.as_str(), row.settings.as_slice()) {
-        ("message", settings) => message(alloc, settings),
+        ("message", settings) => {
+            let fault = fault(alloc, settings)?;
+            shown(alloc, &fault)
+        }
         ("is_success", [word]) => {
             let code = code(word.as_str())?;
             Answer::of_bool(alloc, ExitStatus::from_code(code).success())

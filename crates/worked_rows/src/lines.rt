@@ -7,37 +7,72 @@ use crate::stop::Stop;
 use crate::tools::{Written, preprocess, read, write};
 use crate::{reading, writing};
 use cuda_below::arguments::{CompilerArguments, ParsedArguments};
-use cuda_below::command::CompileCommandImpl;
+use cuda_below::command::{Cacheable, CompileCommandImpl, SingleCompileCommand};
+use cuda_below::fault::Fault;
 use std::alloc::Global;
 
-// Whether arguments are written as words that are read as equal arguments.
-fn reread(alloc: Global, settings: &Settings<'_>, parsed: ParsedArguments) -> Result<Answer, Stop> {
-    let words = match write(alloc, settings, &parsed) {
-        Ok((Written::Single(command), _)) => command.arguments,
-        Ok((Written::Nvcc(command), _)) => command.arguments,
-        Err(fault) => return writing::refused(alloc, &fault),
-    };
-    let again = read(alloc, settings, words.as_slice())?;
-    Answer::of_bool(alloc, again == CompilerArguments::Ok(parsed))
+// Whether a line is read as these arguments.
+fn is_read(read: &CompilerArguments<ParsedArguments>, parsed: &ParsedArguments) -> bool {
+    match read {
+        CompilerArguments::Ok(read) => *read == *parsed,
+        _ => false,
+    }
 }
 
-// The two dry runs of the command that arguments are written as.
-fn dry_runs(
+// The words of what arguments are written as.
+fn words_of(written: &Written) -> &[String] {
+    match written {
+        Written::Single(command) => command.get_arguments(),
+        Written::Nvcc(command) => command.get_arguments(),
+    }
+}
+
+// Whether arguments are written as words that are read as equal arguments.
+fn reread(
     alloc: Global,
     settings: &Settings<'_>,
     parsed: &ParsedArguments,
+    written: &Result<(Written, Cacheable), Fault>,
 ) -> Result<Answer, Stop> {
-    match write(alloc, settings, parsed) {
+    match written {
+        Ok((written, _)) => {
+            let again = read(alloc, settings, words_of(written))?;
+            Answer::of_bool(alloc, is_read(&again, parsed))
+        }
+        Err(fault) => writing::refused(alloc, fault),
+    }
+}
+
+// Two dry runs.
+fn both(
+    alloc: Global,
+    first: &SingleCompileCommand,
+    second: &SingleCompileCommand,
+) -> Result<Answer, Stop> {
+    let mut answer = Answer::new(alloc);
+    writing::add_single(alloc, &mut answer, "first", first, true)?;
+    writing::add_single(alloc, &mut answer, "second", second, true)?;
+    Ok(answer)
+}
+
+// The two dry runs of a command.
+fn dry_runs(alloc: Global, written: &Result<(Written, Cacheable), Fault>) -> Result<Answer, Stop> {
+    match written {
         Ok((Written::Nvcc(command), _)) => {
             let (first, second) = command.dryrun_commands(alloc)?;
-            let mut answer = Answer::new(alloc);
-            writing::add_single(alloc, &mut answer, "first", &first, true)?;
-            writing::add_single(alloc, &mut answer, "second", &second, true)?;
-            Ok(answer)
+            both(alloc, &first, &second)
         }
         Ok((Written::Single(_), _)) => Err(Stop::Form("a tool without dry runs")),
-        Err(fault) => writing::refused(alloc, &fault),
+        Err(fault) => writing::refused(alloc, fault),
     }
+}
+
+fn runs(alloc: Global, commands: &[SingleCompileCommand], has_parts: bool) -> Result<Answer, Stop> {
+    let mut answer = Answer::new(alloc);
+    for command in commands {
+        writing::add_single(alloc, &mut answer, "run", command, has_parts)?;
+    }
+    Ok(answer)
 }
 
 // The commands that preprocess a line's input.
@@ -47,18 +82,11 @@ fn preprocessing(
     parsed: &ParsedArguments,
     has_parts: bool,
 ) -> Result<Answer, Stop> {
-    let Some(commands) = preprocess(alloc, settings, parsed) else {
-        return Err(Stop::Form("a tool that preprocesses nothing"));
-    };
-    let commands = match commands {
-        Ok(commands) => commands,
-        Err(fault) => return writing::refused(alloc, &fault),
-    };
-    let mut answer = Answer::new(alloc);
-    for command in commands.iter() {
-        writing::add_single(alloc, &mut answer, "run", command, has_parts)?;
+    match preprocess(alloc, settings, parsed) {
+        Some(Ok(commands)) => runs(alloc, commands.as_slice(), has_parts),
+        Some(Err(fault)) => writing::refused(alloc, &fault),
+        None => Err(Stop::Form("a tool that preprocesses nothing")),
     }
-    Ok(answer)
 }
 
 // What a call that begins with a line's arguments answers.
@@ -66,27 +94,43 @@ fn answer_to(
     alloc: Global,
     call: &str,
     settings: &Settings<'_>,
-    mut parsed: ParsedArguments,
+    parsed: &ParsedArguments,
 ) -> Result<Answer, Stop> {
-    settings.edit(alloc, &mut parsed)?;
     match call {
-        "write" => writing::shown(alloc, &write(alloc, settings, &parsed), false),
-        "write_whole" => writing::shown(alloc, &write(alloc, settings, &parsed), true),
-        "reread" => reread(alloc, settings, parsed),
-        "dry_runs" => dry_runs(alloc, settings, &parsed),
-        "preprocess" => preprocessing(alloc, settings, &parsed, false),
-        "preprocess_whole" => preprocessing(alloc, settings, &parsed, true),
-        _ => Err(Stop::Form("an unknown call")),
+        "preprocess" => preprocessing(alloc, settings, parsed, false),
+        "preprocess_whole" => preprocessing(alloc, settings, parsed, true),
+        _ => {
+            let written = write(alloc, settings, parsed);
+            match call {
+                "write" => writing::shown(alloc, &written, false),
+                "write_whole" => writing::shown(alloc, &written, true),
+                "reread" => reread(alloc, settings, parsed, &written),
+                "dry_runs" => dry_runs(alloc, &written),
+                _ => Err(Stop::Form("an unknown call")),
+            }
+        }
+    }
+}
+
+// What a call answers to what its line is read as.
+fn answer_to_read(
+    alloc: Global,
+    call: &str,
+    settings: &Settings<'_>,
+    read: &mut CompilerArguments<ParsedArguments>,
+) -> Result<Answer, Stop> {
+    match read {
+        CompilerArguments::Ok(parsed) if call != "parse" => {
+            settings.edit(alloc, parsed)?;
+            answer_to(alloc, call, settings, parsed)
+        }
+        read => reading::shown(alloc, read),
     }
 }
 
 /// What a call on a tool's line answers.
 pub fn answer(alloc: Global, row: &Row) -> Result<Answer, Stop> {
     let settings = Settings::of(alloc, row)?;
-    match read(alloc, &settings, row.words.as_slice())? {
-        CompilerArguments::Ok(parsed) if row.call.as_str() != "parse" => {
-            answer_to(alloc, row.call.as_str(), &settings, parsed)
-        }
-        read => reading::shown(alloc, &read),
-    }
+    let mut read = read(alloc, &settings, row.words.as_slice())?;
+    answer_to_read(alloc, row.call.as_str(), &settings, &mut read)
 }

@@ -6,7 +6,7 @@ use crate::stop::Stop;
 use cuda_below::arguments::{ColorMode, CompilerArguments, ParsedArguments};
 use cuda_below::outputs::{ArtifactDescriptor, Outputs};
 use cuda_below::text::Text;
-use std::alloc::Global;
+use std::alloc::{AllocError, Global};
 
 // Every key that a reader gives an output.
 const KEYS: [&str; 6] = [
@@ -100,6 +100,11 @@ fn add_optional(
     }
 }
 
+fn is_cloned(alloc: Global, parsed: &ParsedArguments) -> Result<bool, AllocError> {
+    let clone = parsed.try_clone(alloc)?;
+    Ok(*parsed == clone)
+}
+
 fn add_arguments(alloc: Global, answer: &mut Answer, parsed: &ParsedArguments) -> Result<(), Stop> {
     let language = language_name(parsed.language);
     answer.add_pair(alloc, language, parsed.input.as_str())?;
@@ -113,7 +118,7 @@ fn add_arguments(alloc: Global, answer: &mut Answer, parsed: &ParsedArguments) -
     add_flags(alloc, answer, parsed)?;
     let too_hard = &parsed.too_hard_for_preprocessor_cache_mode;
     add_optional(alloc, answer, "too-hard", too_hard)?;
-    let is_cloned = *parsed == parsed.try_clone(alloc)?;
+    let is_cloned = is_cloned(alloc, parsed)?;
     add_flag(alloc, answer, "unlike-its-clone", !is_cloned)
 }
 

@@ -80,6 +80,17 @@ fn add_word(
     answer.add(alloc, &[what, word, text, kind])
 }
 
+fn add_five(
+    alloc: Global,
+    answer: &mut Answer,
+    text: &str,
+    kind: &str,
+    value: &str,
+    form: &str,
+) -> Result<(), Stop> {
+    answer.add(alloc, &["option", text, kind, value, form])
+}
+
 fn add_option(
     alloc: Global,
     answer: &mut Answer,
@@ -89,8 +100,7 @@ fn add_option(
     form: ArgDisposition,
 ) -> Result<(), Stop> {
     let form = form_name(alloc, Some(form))?;
-    let words = ["option", text, kind, value, form.as_str()];
-    answer.add(alloc, &words)
+    add_five(alloc, answer, text, kind, value, form.as_str())
 }
 
 // The name of an item's kind.

@@ -6,7 +6,7 @@ use crate::tools::Written;
 use cuda_below::command::{Cacheable, CompileCommandImpl, SingleCompileCommand};
 use cuda_below::fault::Fault;
 use cuda_plans::nvcc::{NvccCompileCommand, NvccHostCompiler};
-use std::alloc::Global;
+use std::alloc::{AllocError, Global};
 
 // Adds the parts that any command has but its words.
 fn add_parts<C: CompileCommandImpl>(
@@ -20,6 +20,29 @@ fn add_parts<C: CompileCommandImpl>(
         answer.add(alloc, &["env", variable.0.as_str(), variable.1.as_str()])?;
     }
     Ok(())
+}
+
+// Adds that a value is unlike its clone, if it is.
+fn add_likeness(alloc: Global, answer: &mut Answer, is_cloned: bool) -> Result<(), Stop> {
+    if is_cloned {
+        return Ok(());
+    }
+    answer.add(alloc, &["unlike-its-clone"])
+}
+
+fn is_single_cloned(alloc: Global, command: &SingleCompileCommand) -> Result<bool, AllocError> {
+    let clone = command.try_clone(alloc)?;
+    Ok(*command == clone)
+}
+
+fn is_nvcc_cloned(alloc: Global, command: &NvccCompileCommand) -> Result<bool, AllocError> {
+    let clone = command.try_clone(alloc)?;
+    Ok(*command == clone)
+}
+
+fn add_threads(alloc: Global, answer: &mut Answer, number: usize) -> Result<(), Stop> {
+    let number = format!(in alloc; "{number}")?;
+    answer.add(alloc, &["threads", number.as_str()])
 }
 
 /// Adds a command under a name: its words, and the other parts if asked.
@@ -37,10 +60,7 @@ pub fn add_single(
     if command.share_jobserver {
         answer.add(alloc, &["jobserver"])?;
     }
-    if *command != command.try_clone(alloc)? {
-        answer.add(alloc, &["unlike-its-clone"])?;
-    }
-    Ok(())
+    add_likeness(alloc, answer, is_single_cloned(alloc, command)?)
 }
 
 fn host_name(host: NvccHostCompiler) -> &'static str {
@@ -72,8 +92,7 @@ fn add_nvcc(
 ) -> Result<(), Stop> {
     answer.add_words(alloc, name, command.get_arguments())?;
     answer.add(alloc, &["name", command.output_file_name.as_str()])?;
-    let threads = format!(in alloc; "{}", command.num_parallel)?;
-    answer.add(alloc, &["threads", threads.as_str()])?;
+    add_threads(alloc, answer, command.num_parallel)?;
     if let Some(directory) = &command.keep_dir {
         answer.add(alloc, &["keep", directory.as_str()])?;
     }
@@ -81,10 +100,7 @@ fn add_nvcc(
         add_parts(alloc, answer, command)?;
         add_nvcc_parts(alloc, answer, command)?;
     }
-    if *command != command.try_clone(alloc)? {
-        answer.add(alloc, &["unlike-its-clone"])?;
-    }
-    Ok(())
+    add_likeness(alloc, answer, is_nvcc_cloned(alloc, command)?)
 }
 
 /// The facts of a refusal.
