@@ -89,6 +89,34 @@ fn preprocessing(
     }
 }
 
+// What a call answers to what arguments are written as.
+fn answer_to_written(
+    alloc: Global,
+    call: &str,
+    settings: &Settings<'_>,
+    parsed: &ParsedArguments,
+    written: &Result<(Written, Cacheable), Fault>,
+) -> Result<Answer, Stop> {
+    match call {
+        "write" => writing::shown(alloc, written, false),
+        "write_whole" => writing::shown(alloc, written, true),
+        "reread" => reread(alloc, settings, parsed, written),
+        "dry_runs" => dry_runs(alloc, written),
+        _ => Err(Stop::Form("an unknown call")),
+    }
+}
+
+// What a call answers that writes arguments.
+fn answer_to_writing(
+    alloc: Global,
+    call: &str,
+    settings: &Settings<'_>,
+    parsed: &ParsedArguments,
+) -> Result<Answer, Stop> {
+    let written = write(alloc, settings, parsed);
+    answer_to_written(alloc, call, settings, parsed, &written)
+}
+
 // What a call that begins with a line's arguments answers.
 fn answer_to(
     alloc: Global,
@@ -99,16 +127,7 @@ fn answer_to(
     match call {
         "preprocess" => preprocessing(alloc, settings, parsed, false),
         "preprocess_whole" => preprocessing(alloc, settings, parsed, true),
-        _ => {
-            let written = write(alloc, settings, parsed);
-            match call {
-                "write" => writing::shown(alloc, &written, false),
-                "write_whole" => writing::shown(alloc, &written, true),
-                "reread" => reread(alloc, settings, parsed, &written),
-                "dry_runs" => dry_runs(alloc, &written),
-                _ => Err(Stop::Form("an unknown call")),
-            }
-        }
+        _ => answer_to_writing(alloc, call, settings, parsed),
     }
 }
 

@@ -56,7 +56,7 @@ fn print<W: Write>(alloc: Global, report: &mut Report, out: &mut W) -> u8 {
 fn main(rt: HostRuntime) -> ExitCode {
     let names = call_words(&rt, rt.alloc());
     let mut report = Report::new(rt.alloc());
-    if run_files(&rt, rt.alloc(), names.as_slice(), &mut report).is_err() {
+    if names.is_empty() || run_files(&rt, rt.alloc(), names.as_slice(), &mut report).is_err() {
         report.status = 2;
     }
     let mut out = rt.stdout();
