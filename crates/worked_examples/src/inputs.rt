@@ -102,7 +102,8 @@ fn line_of(alloc: Global, input: &str) -> Result<CompilerArguments<ParsedArgumen
 
 #[test]
 fn the_named_file_is_read(rt: HostRuntime) -> Result<(), Fail> {
-    fs::create_dir(&rt, "inputs_folder")?;
+    // A run that was stopped may have left it.
+    let _ = fs::create_dir(&rt, "inputs_folder");
     fs::write(&rt, "inputs_folder/kernel.ptx", BYTES.as_slice())?;
     let parsed = line_of(rt.alloc(), "kernel.ptx")?;
     let output = input_of(&rt, rt.alloc(), "inputs_folder", &parsed)?;

@@ -1,29 +1,18 @@
-//! Tests that cross crates: worked lines by their own expected values, and each public call once.
+//! Tests of what a row of text can't say: equality and clones of records, readers that fail, and files
+//! in a folder. Worked lines and texts are rows of the program `worked_rows`.
 #![tactic(auto)]
 
 #[cfg(test)]
-mod cicc_lines;
+mod compilers;
 #[cfg(test)]
-mod device_lines;
-#[cfg(test)]
-mod gcc_lines;
+mod holders;
 #[cfg(test)]
 mod inputs;
 #[cfg(test)]
-mod keep_and_threads;
-#[cfg(test)]
-mod nvcc_lines;
-#[cfg(test)]
-mod nvhpc_lines;
-#[cfg(test)]
 mod planning;
-#[cfg(test)]
-mod preprocess_lines;
 #[cfg(test)]
 mod records;
 #[cfg(test)]
-mod shell_words;
-#[cfg(test)]
-mod texts;
+mod tables;
 #[cfg(test)]
 mod words;

@@ -1,4 +1,4 @@
-//! The records of dry runs and plans, and the look-up that looks at no file.
+//! The records of dry runs and plans.
 
 use cuda_below::bytes::Bytes;
 use cuda_below::command::Cacheable;
@@ -7,30 +7,11 @@ use cuda_below::status::{CompileFinished, ExitStatus, Output};
 use cuda_below::text::Text;
 use cuda_below::variables::Variables;
 use cuda_below::words::Words;
-use cuda_plans::dry_run::{Commands, DryRun, FirstDir, Which};
+use cuda_plans::dry_run::{Commands, DryRun};
 use cuda_plans::plan::{Dropped, DroppedCommands, Groups, NvccGeneratedSubcommand, Plan, Reason};
 use cuda_plans::runner::{Answer, Place};
 use std::alloc::{AllocError, Global};
 use std::test::Fail;
-
-#[test]
-fn programs_in_the_first_folder(rt: HostRuntime) -> Result<(), Fail> {
-    let rows = [
-        ("gcc", "/b", Some("/b/gcc")),
-        ("gcc", "/b:/c", Some("/b/gcc")),
-        ("gcc", "/b/", Some("/b/gcc")),
-        ("gcc", "", None),
-        ("gcc", ":/b", None),
-        ("./gcc", "", Some("/w/./gcc")),
-        ("/u/gcc", "/b", Some("/u/gcc")),
-        ("", "/b", Some("/b/")),
-    ];
-    for (exe, path, want) in rows {
-        let found = FirstDir.found(rt.alloc(), exe, path, "/w")?;
-        assert_eq!(rt; found.as_deref(), want, "{exe} in {path}");
-    }
-    Ok(())
-}
 
 fn subcommand(alloc: Global, exe: &str) -> Result<NvccGeneratedSubcommand, AllocError> {
     let mut args = Words::new(alloc);
@@ -101,8 +82,12 @@ fn plans(rt: HostRuntime) -> Result<(), Fail> {
 #[test]
 fn lists_of_plans_are_given_back(rt: HostRuntime) -> Result<(), Fail> {
     let alloc = rt.alloc();
-    assert_eq!(rt; groups(alloc, "/b/cicc")?.into_vec().len(), 2);
-    assert_eq!(rt; dropped(alloc, Reason::Superseded)?.into_vec().len(), 1);
+    let (one, other) = (groups(alloc, "/b/cicc")?, groups(alloc, "/b/cicc")?);
+    let are_groups_kept = Groups::from_vec(one.into_vec()) == other;
+    let one = dropped(alloc, Reason::Superseded)?;
+    let other = dropped(alloc, Reason::Superseded)?;
+    let are_dropped_kept = DroppedCommands::from_vec(one.into_vec()) == other;
+    assert_eq!(rt; [are_groups_kept, are_dropped_kept], [true, true]);
     Ok(())
 }
 
@@ -121,9 +106,12 @@ fn dry_runs(rt: HostRuntime) -> Result<(), Fail> {
     let first = dry_run(alloc, 1)?;
     let equal = [first == dry_run(alloc, 1)?, first == dry_run(alloc, 2)?];
     assert_eq!(rt; equal, [true, false]);
-    assert_eq!(rt; first.commands.as_slice().len(), 1);
-    assert_eq!(rt; first.commands.into_vec().len(), 1);
-    assert_eq!(rt; Commands::new(alloc).as_slice().len(), 0);
+    let commands = Commands::from_vec(first.commands.into_vec());
+    let equal = [
+        commands == dry_run(alloc, 1)?.commands,
+        commands == Commands::new(alloc),
+    ];
+    assert_eq!(rt; equal, [true, false]);
     Ok(())
 }
 

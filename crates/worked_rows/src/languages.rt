@@ -1,0 +1,98 @@
+//! The calls on languages, and on compilers as such.
+
+use crate::answer::Answer;
+use crate::names::{language_name, language_named};
+use crate::row::Row;
+use crate::stop::Stop;
+use cuda_below::compiler::{CCompilerImpl, CCompilerKind};
+use cuda_below::gcc::language_to_gcc_arg;
+use cuda_below::language::Language;
+use cuda_below::text::Text;
+use cuda_plans::cicc::Cicc;
+use cuda_plans::cudafe::CudaFE;
+use cuda_plans::nvcc::{Nvcc, NvccHostCompiler};
+use cuda_plans::nvhpc::Nvhpc;
+use cuda_plans::ptxas::Ptxas;
+use std::alloc::Global;
+
+fn kind_name(kind: CCompilerKind) -> &'static str {
+    match kind {
+        CCompilerKind::Cicc => "Cicc",
+        CCompilerKind::CudaFE => "CudaFE",
+        CCompilerKind::Ptxas => "Ptxas",
+        CCompilerKind::Nvcc => "Nvcc",
+        CCompilerKind::Nvhpc => "Nvhpc",
+    }
+}
+
+// What a compiler says of itself.
+fn about<C: CCompilerImpl>(alloc: Global, compiler: &C) -> Result<Answer, Stop> {
+    let cxx = if compiler.plusplus() { "c++" } else { "c" };
+    let mut answer = Answer::of(alloc, &[kind_name(compiler.kind()), cxx])?;
+    match compiler.version(alloc)? {
+        Some(version) => answer.add(alloc, &["version", version.as_str()])?,
+        None => answer.add(alloc, &["no", "version"])?,
+    }
+    Ok(answer)
+}
+
+// The value of the setting of a name, which ends in `=`.
+fn value_of(alloc: Global, settings: &[String], name: &str) -> Result<Option<Text>, Stop> {
+    for setting in settings {
+        if let Some(value) = setting.as_str().strip_prefix(name) {
+            return Ok(Some(Text::copy_of(alloc, value)?));
+        }
+    }
+    Ok(None)
+}
+
+// What the compiler of a name says of itself.
+fn compiler(alloc: Global, name: &str, settings: &[String]) -> Result<Answer, Stop> {
+    let version = value_of(alloc, settings, "version=")?;
+    match name {
+        "cicc" => about(alloc, &Cicc { version }),
+        "cudafe++" => about(alloc, &CudaFE { version }),
+        "ptxas" => about(alloc, &Ptxas { version }),
+        "nvc" => about(
+            alloc,
+            &Nvhpc {
+                nvcplusplus: false,
+                version,
+            },
+        ),
+        "nvc++" => about(
+            alloc,
+            &Nvhpc {
+                nvcplusplus: true,
+                version,
+            },
+        ),
+        "nvcc" => about(
+            alloc,
+            &Nvcc {
+                host_compiler: NvccHostCompiler::Gcc,
+                host_compiler_version: value_of(alloc, settings, "host=")?,
+                version,
+            },
+        ),
+        _ => Err(Stop::Form("an unknown tool")),
+    }
+}
+
+/// What a call on a language or a compiler answers.
+pub fn answer(alloc: Global, row: &Row) -> Result<Answer, Stop> {
+    match (row.call.as_str(), row.settings.as_slice()) {
+        ("language_of_file", [path]) => {
+            let language = Language::from_file_name(path.as_str());
+            Answer::of_option(alloc, language.map(language_name))
+        }
+        ("language_text", [name]) => {
+            Answer::of(alloc, &[language_named(name.as_str())?.as_str()])
+        }
+        ("gcc_name", [name]) => {
+            Answer::of_option(alloc, language_to_gcc_arg(language_named(name.as_str())?))
+        }
+        ("compiler", [name, settings @ ..]) => compiler(alloc, name.as_str(), settings),
+        _ => Err(Stop::Form("another call on a language or a compiler")),
+    }
+}
