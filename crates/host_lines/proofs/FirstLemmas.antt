@@ -1,5 +1,5 @@
 -- The words that stand first, gathered one by one.
-use Rattle.std.proofs.Common.{◌≡◌, ◌∙◌, ℕ, List, [], ◌∷◌, ◌++◌, Bool, true, false, ◌||◌, not, cond, filter, refl, sym, ap, subst, append_assoc}
+use Rattle.std.proofs.Common.{◌≡◌, ◌∙◌, ℕ, List, [], ◌∷◌, ◌++◌, Bool, true, false, ◌||◌, not, cond, map, filter, refl, sym, ap, subst, append_assoc}
 use Rattle.std.specs.List.{list_any}
 use Rattle.std.specs.Str.{bytes_eq}
 use Rattle.std.proofs.lemmas.List.Folds.{list_any-append}
@@ -9,7 +9,20 @@ use Rattle.host_lines.specs.Preprocess.{first_appearances}
 
 -- whether a word stands among others
 abbrev pub stands : List (List ℕ) → List ℕ → Bool
-stands seen word = list_any (λ other. bytes_eq other word) seen
+stands seen word = list_any (bytes_eq word) seen
+
+pub stands-map : {X : Type 0} (f : X → List ℕ) (word : List ℕ) (xs : List X) → list_any (λ x. bytes_eq word (f x)) xs ≡ stands (map f xs) word
+stands-map f word [] = refl
+stands-map f word (x ∷ xs) = ap (λ t. bytes_eq word (f x) || t) (stands-map f word xs)
+
+either_way : (a b : List ℕ) → bytes_eq a b ≡ bytes_eq b a
+either_way a b =
+    elim (bytes_eq a b) as (λ t. bytes_eq a b ≡ t → t ≡ bytes_eq b a) [
+      | true ↦ λ e. sym ((bytes_eq-Decides b a).1 (sym ((bytes_eq-Decides a b).0 e)))
+      | false ↦ λ e.
+          elim (bytes_eq b a) as (λ t. bytes_eq b a ≡ t → false ≡ t)
+          [ true ↦ λ f. elim (false≢true (sym e ∙ (bytes_eq-Decides a b).1 (sym ((bytes_eq-Decides b a).0 f)))) [ ] | false ↦ λ f. refl ] refl
+    ] refl
 
 -- the words that don't stand among those seen
 abbrev pub unseen : List (List ℕ) → List (List ℕ) → List (List ℕ)
@@ -37,7 +50,7 @@ more_step false false x us vs e = ap (λ t. x ∷ t) e
 unseen_after : (seen : List (List ℕ)) (word : List ℕ) (words : List (List ℕ)) → unseen (seen ++ word ∷ []) words ≡ unseen seen (others word words)
 unseen_after seen word [] = refl
 unseen_after seen word (x ∷ xs) =
-    ap (λ (t : Bool). cond (not t) (x ∷ unseen (seen ++ word ∷ []) xs) (unseen (seen ++ word ∷ []) xs)) (list_any-append (λ other. bytes_eq other x) seen (word ∷ []))
+    ap (λ (t : Bool). cond (not t) (x ∷ unseen (seen ++ word ∷ []) xs) (unseen (seen ++ word ∷ []) xs)) (list_any-append (bytes_eq x) seen (word ∷ []) ∙ ap (λ b. stands seen x || (b || false)) (either_way x word))
     ∙ more_step (stands seen x) (bytes_eq word x) x (unseen (seen ++ word ∷ []) xs) (unseen seen (others word xs)) (unseen_after seen word xs)
     ∙ sym (filter_cond (λ w. not (stands seen w)) (not (bytes_eq word x)) x (others word xs))
 
@@ -64,3 +77,12 @@ pub seen_word : (seen : List (List ℕ)) (word : List ℕ) (words : List (List �
 seen_word seen word words e =
     ap (λ t. seen ++ t) (sym (unseen_again seen word e (first_appearances words)))
     ∙ ap (λ (b : Bool). seen ++ cond (not b) (word ∷ unseen seen (others word (first_appearances words))) (unseen seen (others word (first_appearances words)))) (sym e)
+
+-- a test by what its contrary is
+pub not_true : (b : Bool) → not b ≡ true → b ≡ false
+not_true true e = elim (false≢true e) [ ]
+not_true false e = refl
+
+pub not_false : (b : Bool) → not b ≡ false → b ≡ true
+not_false true e = refl
+not_false false e = elim (false≢true (sym e)) [ ]

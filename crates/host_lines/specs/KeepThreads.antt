@@ -1,16 +1,17 @@
--- Keep words and thread words: what the words of an nvcc line say of where intermediate files are kept and of how
--- many commands run at once, and the words without these. Each answer is a filter of the words.
-use Rattle.std.specs.Prelude.{◌≡◌, ℕ, ◌+◌, ◌*◌, ◌-◌, ◌^◌, List, [], ◌∷◌, Bool, true, false, not, ◌&&◌, ◌||◌, ◌==◌, nat_eq, nat_lt, if◌then◌else◌, Option, Some, None, unwrap_or, Result, Ok, Err, map, filter, drop, codes, refl}
+-- Keep words and thread words of an nvcc line: which folder intermediate files are kept in, how many commands run at
+-- once, and the words without these. Each answer is a filter of the words.
+use Rattle.std.specs.Prelude.{◌≡◌, ℕ, ◌+◌, ◌*◌, ◌-◌, ◌^◌, List, [], ◌∷◌, Bool, true, false, not, ◌&&◌, ◌||◌, ◌==◌, nat_eq, nat_lt, if◌then◌else◌, Option, Some, None, unwrap_or, Result, Ok, Err, Vec, String, string_bytes, map, filter, drop, codes, refl}
 use Rattle.std.specs.List.{filter_map, list_any, starts_with}
-use Rattle.std.specs.Option.{option_and_then}
+use Rattle.std.specs.Option.{option_and_then, option_map}
+use Rattle.std.specs.declared.alloc.Global.{Global}
 use Rattle.std.specs.Str.{bytes_eq, all_ascii_digits}
 use Rattle.cuda_below.specs.declared.fault.Fault.{Fault}
 use Rattle.cuda_below.specs.declared.fault.Fault.TheVariants.{KeepDirValue, ThreadsValue}
 use Rattle.cuda_below.specs.Path.{joined}
 use Rattle.cuda_below.specs.Lists.{last_of}
 
--- whether a word takes the next one as its value: an option of that kind does where it isn't itself a value; the
--- word stands beside whether it is one
+-- whether a word takes the next one as its value: an option of that kind does, if it isn't itself a value; the word
+-- stands beside whether it is one
 abbrev pub takes_value : (List ℕ → Bool) → Bool × List ℕ → Bool
 takes_value takes (is_value, word) = not is_value && takes word
 
@@ -63,12 +64,12 @@ words_without_keep words = words_alone (filter is_no_keep_word (beside_keep_dirs
 abbrev pub keep_directories : List (List ℕ) → List (List ℕ)
 keep_directories words = words_alone (filter (λ p. p.0) (beside_keep_dirs words))
 
--- the last directory looked up from the working directory, or that one where none is named
+-- the last directory looked up from the working directory, or that one if none is named
 abbrev pub directory_from : List ℕ → Option (List ℕ) → List ℕ
 directory_from cwd None = cwd
 directory_from cwd (Some directory) = joined cwd directory
 
--- the words that stay, and the directory exactly where keep is set; or a refusal where a directory is missing
+-- the words that stay, and the directory exactly if keep is set; or a refusal if a directory is missing
 abbrev pub keep_answer : List ℕ → Bool → List (List ℕ) → Bool → Option (List ℕ) → Result (List (List ℕ) × Option (List ℕ)) Fault
 keep_answer cwd is_missing stay is_kept directory =
     if is_missing then Err KeepDirValue else Ok (stay, (if is_kept then Some (directory_from cwd directory) else None))
@@ -117,7 +118,7 @@ begins_with_t word = starts_with nat_eq word (codes "-t")
 abbrev pub holds_equals : List ℕ → Bool
 holds_equals word = list_any (λ c. c == 61) word
 
--- where the number stands in a word that begins with `-t`: after 3 bytes where it holds `=`, else after 2
+-- where the number stands in a word that begins with `-t`: after 3 bytes if it holds `=`, else after 2
 abbrev pub joined_number : List ℕ → List ℕ
 joined_number word = drop (if holds_equals word then 3 else 2) word
 
@@ -126,7 +127,7 @@ abbrev pub number_text : Bool × List ℕ → Option (List ℕ)
 number_text (true, word) = Some word
 number_text (false, word) = if begins_with_t word then Some (joined_number word) else None
 
--- the number that a word gives, where it is readable
+-- the number that a word gives, if it is readable
 abbrev pub number_given : Bool × List ℕ → Option ℕ
 number_given p = option_and_then number_of (number_text p)
 
@@ -142,13 +143,22 @@ words_without_threads words = words_alone (filter is_no_thread_word (beside_thre
 abbrev pub thread_numbers : List (List ℕ) → List ℕ
 thread_numbers words = filter_map number_given (beside_threads words)
 
--- the words that stay, and the last number, or 1 where there is none; or a refusal where a number's word is missing
+-- the words that stay, and the last number, or 1 if there is none; or a refusal if a number's word is missing
 abbrev pub threads_answer : Bool → List (List ℕ) → Option ℕ → Result (List (List ℕ) × ℕ) Fault
 threads_answer is_missing stay number = if is_missing then Err ThreadsValue else Ok (stay, unwrap_or number 1)
 
 -- what a line's thread words say
 abbrev pub threads_of : List (List ℕ) → Result (List (List ℕ) × ℕ) Fault
 threads_of words = threads_answer (lacks_value is_threads (beside_threads words)) (words_without_threads words) (last_of (thread_numbers words))
+
+-- what the two calls answer, seen as texts
+abbrev pub keep_seen : Result (Vec (String Global) Global × Option (String Global)) Fault → Result (List (List ℕ) × Option (List ℕ)) Fault
+keep_seen (Ok p) = Ok (map string_bytes p.0.items, option_map string_bytes p.1)
+keep_seen (Err fault) = Err fault
+
+abbrev pub threads_seen : Result (Vec (String Global) Global × ℕ) Fault → Result (List (List ℕ) × ℕ) Fault
+threads_seen (Ok p) = Ok (map string_bytes p.0.items, p.1)
+threads_seen (Err fault) = Err fault
 
 -- Worked examples. The working directory is `/w`.
 pub directory_is_joined : keep_of (codes "/w") (codes "-keep" ∷ codes "-keep-dir" ∷ codes "out" ∷ []) ≡ Ok ([], Some (codes "/w/out"))

@@ -20,11 +20,11 @@ is_flags_name name = bytes_eq name prepended_name || bytes_eq name appended_name
 abbrev pub without_flags : List (List ℕ × List ℕ) → List (List ℕ × List ℕ)
 without_flags env_vars = filter (λ variable. not (is_flags_name variable.0)) env_vars
 
--- the shell words of a text, and none where it doesn't split
+-- the shell words of a text, and none if it doesn't split
 abbrev pub shell_words : List ℕ → List (List ℕ)
 shell_words text = unwrap_or (option_map (map encode_utf8_all) (split_chars (chars text))) []
 
--- the words that the first variable of a name adds, and none where there is no such variable
+-- the words that the first variable of a name adds, and none if there is no such variable
 abbrev pub added_words : List ℕ → List (List ℕ × List ℕ) → List (List ℕ)
 added_words name env_vars = option_map_or shell_words (lookup (bytes_eq name) env_vars) []
 

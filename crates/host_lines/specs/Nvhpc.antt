@@ -44,7 +44,8 @@ nvhpc_reading plusplus cwd words = profile_reading nvhpc_chosen cwd plusplus Nvh
 abbrev pub read_by_nvhpc : List (List ℕ) → Reading
 read_by_nvhpc words = nvhpc_reading false (codes ".") words
 
--- options of gcc's table and of nvhpc's: a value that stood in its option's word becomes a word of its own where the option's text is long
+-- options of gcc's table and of nvhpc's: a value that stood in its option's word becomes a word of its own if the option's
+-- text is long
 pub reads_by_both_tables : read_by_nvhpc (codes "-c" ∷ codes "foo.cpp" ∷ codes "-fabc" ∷ codes "-I" ∷ codes "include-file" ∷ codes "-o" ∷ codes "foo.o" ∷ codes "--include-path" ∷ codes "include-file" ∷ codes "-isystem" ∷ codes "/system/include/file" ∷ codes "-gpu=ccnative" ∷ codes "-Werror" ∷ codes "an_error" ∷ []) ≡ accepted (record (compiled (codes "foo.cpp") Cxx (codes "foo.o")) {
   preprocessor_args = codes "-Iinclude-file" ∷ codes "--include-path" ∷ codes "include-file" ∷ codes "-isystem" ∷ codes "/system/include/file" ∷ codes "-Werror" ∷ codes "an_error" ∷ [];
   common_args = codes "-fabc" ∷ codes "-gpu" ∷ codes "ccnative" ∷ [];

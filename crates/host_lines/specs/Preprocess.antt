@@ -24,17 +24,18 @@ common_command executable p name cwd env_vars =
 abbrev pub with_words : SingleCompileCommand → List (List ℕ) → SingleCompileCommand
 with_words c words = record c { arguments = c.arguments ++ words }
 
--- the commands, of what both have, the words for the dependencies and those for the preprocessed code: the one for the dependencies comes first, and only where there are words for it
+-- the commands, of what both have, the words for the dependencies and those for the preprocessed code: the one for the
+-- dependencies comes first, and only if there are words for it
 abbrev pub preprocess_commands : SingleCompileCommand → List (List ℕ) → List (List ℕ) → List SingleCompileCommand
 preprocess_commands c [] preprocessor = with_words c preprocessor ∷ []
 preprocess_commands c (word ∷ words) preprocessor = with_words c (word ∷ words) ∷ with_words c preprocessor ∷ []
 
--- the commands by the name of the language, and a refusal with this text where it has none
+-- the commands by the name of the language, and a refusal with this text if it has none
 abbrev pub unless_unnamed : List ℕ → (List ℕ → List SingleCompileCommand) → Option (List ℕ) → Result (List SingleCompileCommand) Fault
 unless_unnamed text commands None = Err (NoPreprocess text)
 unless_unnamed text commands (Some name) = Ok (commands name)
 
--- the words, each where it stands first
+-- the words without those that stand earlier already
 abbrev pub first_appearances : List (List ℕ) → List (List ℕ)
 first_appearances [] = []
 first_appearances (word ∷ words) = word ∷ filter (λ later. not (bytes_eq word later)) (first_appearances words)

@@ -1,7 +1,5 @@
 -- What taking keep words and thread words out has gathered, and how one more word changes it.
-use Rattle.std.specs.Prelude.{ℕ, List, [], ◌∷◌, ◌++◌, false, ◌||◌, if◌then◌else◌, Option, Some, None, Result, Ok, Err, Vec, String, map, string_bytes}
-use Rattle.std.specs.Option.{option_map}
-use Rattle.std.specs.declared.alloc.Global.{Global}
+use Rattle.std.specs.Prelude.{ℕ, List, [], ◌∷◌, ◌++◌, false, ◌||◌, if◌then◌else◌, Option, Some, None, Result}
 use Rattle.cuda_below.specs.declared.fault.Fault.{Fault}
 use Rattle.host_lines.specs.declared.nvcc.taking.KeepWords.{KeepWords}
 use Rattle.host_lines.specs.declared.nvcc.taking.ThreadWords.{ThreadWords}
@@ -40,12 +38,3 @@ with_thread_word t word = record {
 -- what has been gathered of all words, as an answer
 abbrev pub threads_of_gathered : ThreadWords → Result (List (List ℕ) × ℕ) Fault
 threads_of_gathered t = threads_answer t.awaits_number t.stay t.number
-
--- what the two calls answer, seen as texts
-abbrev pub keep_seen : Result (Vec (String Global) Global × Option (String Global)) Fault → Result (List (List ℕ) × Option (List ℕ)) Fault
-keep_seen (Ok p) = Ok (map string_bytes p.0.items, option_map string_bytes p.1)
-keep_seen (Err fault) = Err fault
-
-abbrev pub threads_seen : Result (Vec (String Global) Global × ℕ) Fault → Result (List (List ℕ) × ℕ) Fault
-threads_seen (Ok p) = Ok (map string_bytes p.0.items, p.1)
-threads_seen (Err fault) = Err fault

@@ -1,9 +1,9 @@
 //! The command lines of nvhpc, NVIDIA's compilers for C and C++.
 
-ghost use Rattle.std.specs.Prelude.{◌≡◌, true, map};
+ghost use Rattle.std.specs.Prelude.{◌≡◌, true, map, IfOk};
 ghost use Rattle.cuda_below.specs.Table.{entry_of};
 ghost use Rattle.cuda_below.specs.GccOptions.{differ};
-ghost use Rattle.host_lines.specs.Nvhpc.{nvhpc_options};
+ghost use Rattle.host_lines.specs.Nvhpc as spec;
 
 mod preprocessor;
 
@@ -73,7 +73,7 @@ pub const ARGS: [ArgInfo<ArgData>; 29] = [
 
 /// nvhpc's option table, to be searched after gcc's.
 pub fn table() -> Table<'static, ArgData>
-    ensures entries { map entry_of result.rows.now ≡ nvhpc_options }
+    ensures entries { map entry_of result.rows.now ≡ spec.nvhpc_options }
     ensures differ { differ (map entry_of result.rows.now) ≡ true }
 {
     Table { rows: &ARGS }
@@ -81,31 +81,25 @@ pub fn table() -> Table<'static, ArgData>
 
 /// nvhpc, as a compiler.
 ///
-/// Its lines are read by the profile of gcc's options and nvhpc's own, of which the longer matching
-/// one counts, and nvhpc's where both are equally long. The environment isn't read. Arguments are
-/// written back as gcc's.
+/// Its lines are read by the profile of gcc's options and nvhpc's own. Of two options that match a word
+/// the longer one counts, and nvhpc's if both are equally long. The environment isn't read. Arguments
+/// are written back as gcc's.
 #[derive(Debug, PartialEq, Drop)]
 pub struct Nvhpc {
     /// Whether it is `nvc++`, which takes C files for C++.
     pub nvcplusplus: bool,
-    /// The text of its version, where one is known. It may be empty.
+    /// The text of its version, if one is known. It may be empty.
     pub version: Option<Text>,
 }
 
 impl Nvhpc {
-    ghost use Rattle.std.specs.Prelude.{◌≡◌, IfOk};
-
     /// An equal value, in memory of its own.
     pub fn try_clone(&self, alloc: Global) -> Result<Nvhpc, AllocError>
         ensures { IfOk result (λ c. c ≡ self.now) }
     {
-        let version = match &self.version {
-            None => None,
-            Some(version) => Some(version.try_clone(alloc)?),
-        };
         Ok(Nvhpc {
             nvcplusplus: self.nvcplusplus,
-            version,
+            version: Text::clone_optional(alloc, &self.version)?,
         })
     }
 }
@@ -114,7 +108,7 @@ impl CCompilerImpl for Nvhpc {
     ghost use Rattle.cuda_below.specs.declared.compiler.CCompilerKind.TheVariants as kinds;
     ghost use Rattle.cuda_below.specs.Command.{written};
     ghost use Rattle.cuda_below.specs.GccLine.{gcc_words};
-    ghost use Rattle.host_lines.specs.Nvhpc.{nvhpc_reading};
+    ghost use Rattle.host_lines.specs.Nvhpc as spec;
 
     type Command = SingleCompileCommand;
 
@@ -124,7 +118,7 @@ impl CCompilerImpl for Nvhpc {
 
     ghost version = { λ c. c.version };
 
-    ghost reading = { λ c words cwd _. nvhpc_reading c.nvcplusplus cwd words };
+    ghost reading = { λ c words cwd _. spec.nvhpc_reading c.nvcplusplus cwd words };
 
     ghost writing = { λ _ executable p cwd env_vars _. written gcc_words executable p cwd env_vars };
 
@@ -137,10 +131,7 @@ impl CCompilerImpl for Nvhpc {
     }
 
     fn version(&self, alloc: Global) -> Result<Option<String>, AllocError> {
-        match &self.version {
-            None => Ok(None),
-            Some(version) => Ok(Some(String::from_str(alloc, version.as_str())?)),
-        }
+        Ok(Text::clone_optional(alloc, &self.version)?.map(Text::into_string))
     }
 
     fn parse_arguments(

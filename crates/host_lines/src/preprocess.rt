@@ -1,7 +1,7 @@
 //! The one or two commands that preprocess an input: what nvcc's and nvhpc's have in common.
 
 ghost use Rattle.std.specs.Prelude.{◌≡◌, IfOk};
-ghost use Rattle.host_lines.specs.Preprocess.{common_command as command_in_common, with_words as command_with_words, preprocess_commands};
+ghost use Rattle.host_lines.specs.Preprocess as spec;
 
 use cuda_below::arguments::ParsedArguments;
 use cuda_below::command::SingleCompileCommand;
@@ -19,13 +19,12 @@ pub fn common_command(
     cwd: &str,
     env_vars: Variables,
 ) -> Result<SingleCompileCommand, AllocError>
-    ensures { IfOk result (λ c. c ≡ command_in_common executable.now parsed_args.now name.now cwd.now env_vars) }
+    ensures { IfOk result (λ c. c ≡ spec.common_command executable.now parsed_args.now name.now cwd.now env_vars) }
 {
     let mut arguments = parsed_args.preprocessor_args.try_clone(alloc)?;
     arguments.extend(alloc, parsed_args.common_args.as_slice())?;
-    arguments.push(String::from_str(alloc, "-x")?)?;
-    arguments.push(String::from_str(alloc, name)?)?;
-    arguments.push(String::from_str(alloc, parsed_args.input.as_str())?)?;
+    arguments.push_pair(alloc, "-x", name)?;
+    arguments.push_str(alloc, parsed_args.input.as_str())?;
     Ok(SingleCompileCommand {
         executable: Text::copy_of(alloc, executable)?,
         arguments,
@@ -41,7 +40,7 @@ fn with_words(
     common: &SingleCompileCommand,
     words: &Words,
 ) -> Result<SingleCompileCommand, AllocError>
-    ensures { IfOk result (λ c. c ≡ command_with_words common.now words.now) }
+    ensures { IfOk result (λ c. c ≡ spec.with_words common.now words.now) }
 {
     let mut command = common.try_clone(alloc)?;
     command.arguments.extend(alloc, words.as_slice())?;
@@ -55,7 +54,7 @@ pub fn commands(
     dependency: &Words,
     code: &Words,
 ) -> Result<Vec<SingleCompileCommand>, AllocError>
-    ensures { IfOk result (λ c. c.items ≡ preprocess_commands common.now dependency.now code.now) }
+    ensures { IfOk result (λ c. c.items ≡ spec.preprocess_commands common.now dependency.now code.now) }
 {
     let mut commands = Vec::new(alloc);
     if !dependency.is_empty() {

@@ -11,7 +11,7 @@ pub fn one_list()
         IsText cs first → IsText cs second → first ≡ second }
 {}
 
-/// The words that are computed are those of the grammar, and where none are computed it has none.
+/// The words that are computed are those of the grammar. If none are computed, the grammar has none.
 pub fn computed_words()
     ensures { (cs : List ℕ) →
         MatchOption (split_chars cs) ((words : List (List ℕ)) → ¬ IsText cs words) (IsText cs) }

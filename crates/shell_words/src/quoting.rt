@@ -12,8 +12,9 @@ use std::alloc::{AllocError, Global};
 ///
 /// A space stands between each two. A word of safe characters stays as it is, and any other, the empty word
 /// too, stands in single quotes, with each `'` written as `'\''`. A `=` is safe only in a word that begins with
-/// `-`, since a shell takes `A=b` for an assignment. A first word that a shell knows by itself, as `if` or an
-/// alias, is not told apart.
+/// `-`, since a shell takes `A=b` for an assignment. The first word is written by the same rule, so it has to
+/// be a program: a shell may take another one as its own, such as `if`, an alias, or in bash a job like `%1`,
+/// quoted or not.
 pub fn quote(alloc: Global, words: &[String]) -> Result<String, AllocError>
     // The text, exactly.
     ensures text { IfOk result (λ t.

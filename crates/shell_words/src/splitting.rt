@@ -70,10 +70,10 @@ impl Model for Splitter {
 }
 
 impl Splitter {
-    ghost use Rattle.shell_words.specs.Shell.Splitting.{start, after, applied, finished, begins_piece, reads_between, reads_comment, reads_word, reads_escaped, reads_single_quoted, reads_double_quoted, reads_escaped_in_quotes, Effect};
+    ghost use Rattle.shell_words.specs.Shell.Splitting as spec;
 
     fn new(alloc: Global) -> Self
-        ensures { result ≡ start }
+        ensures { result ≡ spec.start }
     {
         Splitter {
             alloc,
@@ -84,7 +84,7 @@ impl Splitter {
     }
 
     fn read(&mut self, c: char) -> Result<(), AllocError>
-        ensures { OnOk result (self.new ≡ after self.old c) }
+        ensures { OnOk result (self.new ≡ spec.after self.old c) }
     {
         match self.state {
             State::Between => self.read_between(c),
@@ -98,7 +98,7 @@ impl Splitter {
     }
 
     fn read_between(&mut self, c: char) -> Result<(), AllocError>
-        ensures { OnOk result (self.new ≡ applied (reads_between c) self.old) }
+        ensures { OnOk result (self.new ≡ spec.applied (spec.reads_between c) self.old) }
     {
         match c {
             ' ' | '\t' | '\n' => self.state = State::Between,
@@ -109,7 +109,7 @@ impl Splitter {
     }
 
     fn read_comment(&mut self, c: char) -> Result<(), AllocError>
-        ensures { OnOk result (self.new ≡ applied (reads_comment c) self.old) }
+        ensures { OnOk result (self.new ≡ spec.applied (spec.reads_comment c) self.old) }
     {
         self.state = if c == '\n' {
             State::Between
@@ -120,7 +120,7 @@ impl Splitter {
     }
 
     fn read_word(&mut self, c: char) -> Result<(), AllocError>
-        ensures { OnOk result (self.new ≡ applied (reads_word c) self.old) }
+        ensures { OnOk result (self.new ≡ spec.applied (spec.reads_word c) self.old) }
     {
         match c {
             ' ' | '\t' | '\n' => self.end_word(),
@@ -129,7 +129,7 @@ impl Splitter {
     }
 
     fn end_word(&mut self) -> Result<(), AllocError>
-        ensures { OnOk result (self.new ≡ applied (State.Between, Effect.EndsWord) self.old) }
+        ensures { OnOk result (self.new ≡ spec.applied (State.Between, spec.Effect.EndsWord) self.old) }
     {
         let word = mem::replace(&mut self.word, String::new(self.alloc));
         self.words.push(word)?;
@@ -138,7 +138,7 @@ impl Splitter {
     }
 
     fn begin_piece(&mut self, c: char) -> Result<(), AllocError>
-        ensures { OnOk result (self.new ≡ applied (begins_piece c) self.old) }
+        ensures { OnOk result (self.new ≡ spec.applied (spec.begins_piece c) self.old) }
     {
         match c {
             '\\' => self.state = State::Escaped,
@@ -153,7 +153,7 @@ impl Splitter {
     }
 
     fn read_escaped(&mut self, c: char) -> Result<(), AllocError>
-        ensures { OnOk result (self.new ≡ applied (reads_escaped c) self.old) }
+        ensures { OnOk result (self.new ≡ spec.applied (spec.reads_escaped c) self.old) }
     {
         if c != '\n' {
             self.word.push(c)?;
@@ -163,7 +163,7 @@ impl Splitter {
     }
 
     fn read_single_quoted(&mut self, c: char) -> Result<(), AllocError>
-        ensures { OnOk result (self.new ≡ applied (reads_single_quoted c) self.old) }
+        ensures { OnOk result (self.new ≡ spec.applied (spec.reads_single_quoted c) self.old) }
     {
         if c == '\'' {
             self.state = State::Word;
@@ -175,7 +175,7 @@ impl Splitter {
     }
 
     fn read_double_quoted(&mut self, c: char) -> Result<(), AllocError>
-        ensures { OnOk result (self.new ≡ applied (reads_double_quoted c) self.old) }
+        ensures { OnOk result (self.new ≡ spec.applied (spec.reads_double_quoted c) self.old) }
     {
         match c {
             '"' => self.state = State::Word,
@@ -189,7 +189,7 @@ impl Splitter {
     }
 
     fn read_escaped_in_quotes(&mut self, c: char) -> Result<(), AllocError>
-        ensures { OnOk result (self.new ≡ applied (reads_escaped_in_quotes c) self.old) }
+        ensures { OnOk result (self.new ≡ spec.applied (spec.reads_escaped_in_quotes c) self.old) }
     {
         match c {
             '$' | '`' | '"' | '\\' => self.word.push(c)?,
@@ -205,7 +205,7 @@ impl Splitter {
 
     fn finish(mut self) -> Result<Option<Vec<String>>, AllocError>
         ensures { IfOk result (λ found.
-            option_map (λ v. map string_bytes v.items) found ≡ finished self) }
+            option_map (λ v. map string_bytes v.items) found ≡ spec.finished self) }
     {
         match self.state {
             State::Between | State::Comment => {}

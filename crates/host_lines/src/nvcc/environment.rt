@@ -5,11 +5,11 @@ ghost use Rattle.std.specs.Map.{lookup};
 ghost use Rattle.std.specs.Option.{option_copied};
 ghost use Rattle.std.specs.Str.{bytes_eq};
 ghost use Rattle.cuda_below.specs.Variables.{pair_of};
-ghost use Rattle.host_lines.specs.NvccEnvironment.{is_flags_name as is_name_of_flags, without_flags as left_without_flags, shell_words as shell_words_of, added_words as words_added, with_added_words};
+ghost use Rattle.host_lines.specs.NvccEnvironment as spec;
 
-use shell_words::split;
 use cuda_below::variables::Variables;
 use cuda_below::words::Words;
+use shell_words::split;
 use std::alloc::{AllocError, Global};
 
 const PREPENDED: &str = "NVCC_PREPEND_FLAGS";
@@ -18,17 +18,15 @@ const APPENDED: &str = "NVCC_APPEND_FLAGS";
 
 // Whether a variable of this name holds words of an nvcc line.
 fn is_flags_name(name: &str) -> bool
-    ensures { result ≡ is_name_of_flags name.now }
+    ensures { result ≡ spec.is_flags_name name.now }
 {
     name == PREPENDED || name == APPENDED
 }
 
-/// The variables but those that hold words of the line, `NVCC_PREPEND_FLAGS` and `NVCC_APPEND_FLAGS`.
-pub fn without_flags(
-    alloc: Global,
-    env_vars: &[(String, String)],
-) -> Result<Variables, AllocError>
-    ensures { IfOk result (λ v. v ≡ left_without_flags (map pair_of env_vars.now)) }
+/// The variables without `NVCC_PREPEND_FLAGS` and `NVCC_APPEND_FLAGS`. A line that was read has the words
+/// of both already: nvcc would take them twice.
+pub fn without_flags(alloc: Global, env_vars: &[(String, String)]) -> Result<Variables, AllocError>
+    ensures { IfOk result (λ v. v ≡ spec.without_flags (map pair_of env_vars.now)) }
 {
     let mut left = Variables::new(alloc);
     for pair in env_vars {
@@ -53,9 +51,9 @@ fn first_value<'a>(env_vars: &'a [(String, String)], name: &str) -> Option<&'a s
     None
 }
 
-// The shell words of a text; none where it doesn't split.
+// The shell words of a text; none if it doesn't split.
 fn shell_words(alloc: Global, text: &str) -> Result<Words, AllocError>
-    ensures { IfOk result (λ w. w ≡ shell_words_of text.now) }
+    ensures { IfOk result (λ w. w ≡ spec.shell_words text.now) }
 {
     match split(alloc, text)? {
         Some(words) => Ok(Words::from_vec(words)),
@@ -69,7 +67,7 @@ fn added_words(
     env_vars: &[(String, String)],
     name: &str,
 ) -> Result<Words, AllocError>
-    ensures { IfOk result (λ w. w ≡ words_added name.now (map pair_of env_vars.now)) }
+    ensures { IfOk result (λ w. w ≡ spec.added_words name.now (map pair_of env_vars.now)) }
 {
     match first_value(env_vars, name) {
         Some(text) => shell_words(alloc, text),
@@ -77,14 +75,15 @@ fn added_words(
     }
 }
 
-/// A line with the words that the environment adds: before it those of the first `NVCC_PREPEND_FLAGS`, after it those of the
-/// first `NVCC_APPEND_FLAGS`, each split by the shell's rules. A text that doesn't split adds none.
+/// A line with the words that the environment adds, as nvcc takes them: those of the first
+/// `NVCC_PREPEND_FLAGS` before it, and those of the first `NVCC_APPEND_FLAGS` after it. Each text is
+/// split by the shell's rules, and one that doesn't split adds no word.
 pub fn whole_line(
     alloc: Global,
     arguments: &[String],
     env_vars: &[(String, String)],
 ) -> Result<Words, AllocError>
-    ensures { IfOk result (λ w. w ≡ with_added_words (map pair_of env_vars.now) (map string_bytes arguments.now)) }
+    ensures { IfOk result (λ w. w ≡ spec.with_added_words (map pair_of env_vars.now) (map string_bytes arguments.now)) }
 {
     let mut words = added_words(alloc, env_vars, PREPENDED)?;
     words.extend(alloc, arguments)?;

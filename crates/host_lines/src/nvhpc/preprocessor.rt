@@ -4,7 +4,7 @@ ghost use Rattle.std.specs.Prelude.{◌≡◌, map, IfOk, string_bytes};
 ghost use Rattle.std.specs.Option.{option_copied};
 ghost use Rattle.cuda_below.specs.Variables.{pair_of};
 ghost use Rattle.cuda_below.specs.Fault.{UnlessMemory};
-ghost use Rattle.host_lines.specs.Preprocess.{nvhpc_dependency_word as word_for_nvhpc, name_for_nvhpc, nvhpc_refusal as refusal_of_nvhpc, nvhpc_preprocess, commands_seen};
+ghost use Rattle.host_lines.specs.Preprocess as spec;
 
 use super::Nvhpc;
 use crate::preprocess::{commands, common_command};
@@ -19,14 +19,14 @@ use cuda_below::words::Words;
 use std::alloc::{AllocError, Global};
 
 impl Nvhpc {
-    /// The one or two commands that preprocess a line's input: where there are dependency words, first
-    /// the one that writes the dependency file, and last the one that prints the preprocessed code. The
-    /// caller runs them in order, up to the first that fails.
+    /// The one or two commands that preprocess a line's input, as in sccache 0.19.0. The last one prints
+    /// the preprocessed code. If the line has dependency words, the first one writes the dependency file.
+    /// The caller runs them in order, up to the first that fails.
     ///
     /// The words begin with the preprocessor's and the common ones, `-x`, the language's name and the
-    /// input. For the dependency file, the dependency words follow, with `-M` for `-MD` and `-MM` for
-    /// `-MMD`. For the code follows `-E`. The environment is as handed in. It is as sccache 0.19.0's
-    /// nvhpc preprocesses.
+    /// input. For the dependency file the dependency words follow, with `-M` for `-MD` and `-MM` for
+    /// `-MMD`: the words replaced ask for the file beside a compilation, which this isn't. For the code
+    /// follows `-E`. The environment is as handed in.
     ///
     /// Refuses a language that nvhpc can't preprocess, CUDA among them: `NoPreprocess`.
     pub fn preprocess(
@@ -37,8 +37,8 @@ impl Nvhpc {
         cwd: &str,
         env_vars: &[(String, String)],
     ) -> Result<Vec<SingleCompileCommand>, Fault>
-        ensures { UnlessMemory (commands_seen result)
-            (nvhpc_preprocess executable.now parsed_args.now cwd.now (map pair_of env_vars.now)) }
+        ensures { UnlessMemory (spec.commands_seen result)
+            (spec.nvhpc_preprocess executable.now parsed_args.now cwd.now (map pair_of env_vars.now)) }
     {
         let Some(name) = nvhpc_language_name(parsed_args.language) else {
             let text = Text::copy_of(alloc, nvhpc_refusal(parsed_args.language))?;
@@ -48,14 +48,14 @@ impl Nvhpc {
         let common = common_command(alloc, executable, parsed_args, name, cwd, env_vars)?;
         let dependency = nvhpc_dependency_words(alloc, parsed_args.dependency_args.as_slice())?;
         let mut code = Words::new(alloc);
-        code.push(String::from_str(alloc, "-E")?)?;
+        code.push_str(alloc, "-E")?;
         Ok(commands(alloc, &common, &dependency, &code)?)
     }
 }
 
 // nvhpc's word for the dependency file alone.
 fn nvhpc_dependency_word<'a>(word: &'a str) -> &'a str
-    ensures { result.now ≡ word_for_nvhpc word.now }
+    ensures { result.now ≡ spec.nvhpc_dependency_word word.now }
 {
     match word {
         "-MD" => "-M",
@@ -66,18 +66,18 @@ fn nvhpc_dependency_word<'a>(word: &'a str) -> &'a str
 
 // The words for nvhpc's dependency file.
 fn nvhpc_dependency_words(alloc: Global, words: &[String]) -> Result<Words, AllocError>
-    ensures { IfOk result (λ w. w ≡ map word_for_nvhpc (map string_bytes words.now)) }
+    ensures { IfOk result (λ w. w ≡ map spec.nvhpc_dependency_word (map string_bytes words.now)) }
 {
     let mut replaced = Words::new(alloc);
     for word in words {
-        replaced.push(String::from_str(alloc, nvhpc_dependency_word(word.as_str()))?)?;
+        replaced.push_str(alloc, nvhpc_dependency_word(word.as_str()))?;
     }
     Ok(replaced)
 }
 
 // The name that nvhpc has for a language: gcc's, and none for CUDA.
 fn nvhpc_language_name(language: Language) -> Option<&'static str>
-    ensures { option_copied result ≡ name_for_nvhpc language }
+    ensures { option_copied result ≡ spec.name_for_nvhpc language }
 {
     match language {
         Language::Cuda => None,
@@ -87,7 +87,7 @@ fn nvhpc_language_name(language: Language) -> Option<&'static str>
 
 // The text that nvhpc refuses a language with.
 fn nvhpc_refusal(language: Language) -> &'static str
-    ensures { result.now ≡ refusal_of_nvhpc language }
+    ensures { result.now ≡ spec.nvhpc_refusal language }
 {
     match language {
         Language::Cuda => "CUDA compilation not supported by nvhpc",
