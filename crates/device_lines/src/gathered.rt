@@ -142,7 +142,7 @@ pub fn gather<S: SearchableArgInfo<ArgData> + Drop>(
     alloc: Global,
     cwd: &str,
     count: usize,
-    line: ArgsIter<'_, ArgData, S>,
+    line: ArgsIter<'_, S, ArgData>,
 ) -> Result<Gathered, AllocError>
     ensures { IfOk result (λ g. g ≡ fold (with_item cwd.now) nothing_gathered (items_of (S.chosen (table_of line.entry)) (words_left line.entry))) }
 {
