@@ -1,19 +1,32 @@
 # What a newcomer and the gate call.
 PREFIX ?= /usr/local
 
-.PHONY: build demo test install
+.PHONY: help demo build install bench test
 
-# The program, proved and built: crates/cudaplan/out/cudaplan.
-build:
-	cd crates/cudaplan && rt check && rt run -- line cicc /w x.cpp1.ii -o x.ptx > /dev/null
+help:
+	@echo 'make demo             shows what the program prints, unproved, within a minute of a fresh clone'
+	@echo 'make build            proves and builds the program: crates/cudaplan/out/cudaplan'
+	@echo 'make install PREFIX=  installs it, below /usr/local unless PREFIX is given'
+	@echo 'make bench            times the calls of the library'
+	@echo 'make test             the whole gate; its last line is N passed, M failed'
 
 # The device-code line, read and written back.
 demo:
-	@cd crates/cudaplan && rt run -- line cicc /w --device-c -arch compute_80 --module_id_file_name kernel.module_id kernel.cpp1.ii --simt-only -o kernel.ptx 2> /dev/null
+	@echo 'This runs the program unproved, within a minute; make build proves and builds it.'
+	@cd crates/cudaplan && rt try -- line cicc /w --device-c -arch compute_80 --module_id_file_name kernel.module_id kernel.cpp1.ii --simt-only -o kernel.ptx
 
-# The whole gate: every proof from nothing, the must-fail edits, the tests and the program.
-test:
-	rt ci
+# Proves the program and builds it. rt builds a program only when it runs it, and leaves it in out/: so a short line is
+# run, and what it prints is thrown away.
+build:
+	cd crates/cudaplan && rt check && rt run -- line cicc /w x.cpp1.ii -o x.ptx > /dev/null
 
 install: build
 	install -D -m 755 crates/cudaplan/out/cudaplan $(DESTDIR)$(PREFIX)/bin/cudaplan
+
+bench:
+	cd crates/cudabench && rt run -- line 100000 cicc /w --device-c -arch compute_80 --module_id_file_name kernel.module_id kernel.cpp1.ii --simt-only -o kernel.ptx
+
+# The whole gate: every proof from nothing, the must-fail edits, the tests and the programs, and last the calls of the
+# built program.
+test:
+	@.ci/gate

@@ -17,15 +17,15 @@ abbrev pub split_at_last : ℕ → List ℕ → Option (List ℕ × List ℕ)
 split_at_last mark [] = None
 split_at_last mark (c ∷ cs) = onto_front c (split_at_last mark cs) cs mark
 
--- a path up to and with its last `/`, and nothing where it has none
+-- a path up to and with its last `/`, and nothing if it has none
 abbrev pub front_of : List ℕ → List ℕ
 front_of path = option_map_or (λ p. p.0 ++ 47 ∷ []) (split_at_last 47 path) []
 
--- what follows a path's last `/`, and all of it where it has none
+-- what follows a path's last `/`, and all of it if it has none
 abbrev pub last_part : List ℕ → List ℕ
 last_part path = option_map_or (λ p. p.1) (split_at_last 47 path) path
 
--- a name's extension, of its two parts at the last `.`: there is none where that `.` comes first
+-- a name's extension, of its two parts at the last `.`: there is none if that `.` comes first
 abbrev pub extension_of_parts : Option (List ℕ × List ℕ) → Option (List ℕ)
 extension_of_parts None = None
 extension_of_parts (Some ([], extension)) = None

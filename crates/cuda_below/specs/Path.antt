@@ -5,12 +5,12 @@ use Rattle.std.specs.Option.{option_map}
 use Rattle.std.specs.Str.{bytes_eq}
 use Rattle.cuda_below.specs.Extension.{last_part, stem_of}
 
--- a path is absolute where it begins with `/`
+-- a path is absolute if it begins with `/`
 abbrev pub is_absolute_path : List ℕ → Bool
 is_absolute_path [] = false
 is_absolute_path (c ∷ _) = c == 47
 
--- what stands between a folder and a name: nothing where the folder is empty or ends in `/`, else one `/`
+-- what stands between a folder and a name: nothing if the folder is empty or ends in `/`, else one `/`
 abbrev pub separator_after : List ℕ → List ℕ
 separator_after base = if (length base == 0) || ends_with nat_eq base (codes "/") then [] else codes "/"
 
@@ -39,14 +39,14 @@ abbrev pub lacks : ℕ → List ℕ → Bool
 lacks byte [] = true
 lacks byte (c ∷ cs) = not (c == byte) && lacks byte cs
 
--- a name is bare where it holds no `/`
+-- a name is bare if it holds no `/`
 abbrev pub is_bare : List ℕ → Bool
 is_bare name = lacks 47 name
 
 -- The ends of paths are read backwards: below, the first character is the last one of the path, and `before` is
 -- what stands before it, backwards too.
 
--- the part of a text up to and including its last such byte, both backwards; empty where it has none
+-- the part of a text up to and including its last such byte, both backwards; empty if it has none
 abbrev pub through_last_byte : ℕ → List ℕ → List ℕ
 through_last_byte byte [] = []
 through_last_byte byte (c ∷ before) = if c == byte then c ∷ before else through_last_byte byte before
@@ -67,7 +67,7 @@ abbrev pub trimmed_backwards : Bool → List ℕ → List ℕ
 trimmed_backwards keeps_root path = trimmed (is_idle keeps_root) (reverse path)
 
 -- the folder of a name: the text up to and including its last `/`, without the `/` and `.` that it may go without.
--- It is empty where the name has no `/`, and `/` for a name at the root
+-- It is empty if the name has no `/`, and `/` for a name at the root
 abbrev pub folder_of : List ℕ → List ℕ
 folder_of name = reverse (trimmed (is_idle true) (through_last_byte 47 (reverse name)))
 
@@ -76,7 +76,7 @@ abbrev pub proper_name : List ℕ → Option (List ℕ)
 proper_name name = if bytes_eq name [] || (bytes_eq name (codes ".") || bytes_eq name (codes "..")) then None else Some name
 
 -- the file name of a path: what follows the last `/`, once the `/` and `.` are off that it may go without; none
--- where that can be no file name. So `/`, `./` and `/.` have none, nor has `a/..`, but `a/.` has `a`
+-- if that can be no file name. So `/`, `./` and `/.` have none, nor has `a/..`, but `a/.` has `a`
 abbrev pub file_name_of : List ℕ → Option (List ℕ)
 file_name_of path = proper_name (last_part (reverse (trimmed_backwards false path)))
 
@@ -179,7 +179,7 @@ no_stem = refl
 abbrev pub JoinedKeepsFolder : Type 0
 JoinedKeepsFolder = (name f : List ℕ) → is_bare f ≡ true → folder_of (joined (folder_of name) f) ≡ folder_of name
 
--- a bare name that can be a file name is the file name where it is put below any path
+-- a bare name that can be a file name is the file name when it is put below any path
 abbrev pub JoinedHasName : Type 0
 JoinedHasName = (base f : List ℕ) → is_bare f ≡ true → proper_name f ≡ Some f → file_name_of (joined base f) ≡ Some f
 
@@ -187,11 +187,11 @@ JoinedHasName = (base f : List ℕ) → is_bare f ≡ true → proper_name f ≡
 abbrev pub FolderBegins : Type 0
 FolderBegins = (name : List ℕ) → (rest : List ℕ) × (name ≡ folder_of name ++ rest)
 
--- names that aren't absolute are equal where they are below one path
+-- names that aren't absolute are equal if one folder makes equal paths of them
 abbrev pub JoinedCancels : Type 0
 JoinedCancels = (base f g : List ℕ) → is_absolute_path f ≡ false → is_absolute_path g ≡ false → joined base f ≡ joined base g → f ≡ g
 
--- bare names that are put into folders of names make equal paths only where both folders and names are equal
+-- bare names that are put into folders of names make equal paths only if both folders and names are equal
 abbrev pub FoldersCancel : Type 0
 FoldersCancel =
     (m n f g : List ℕ) → is_bare f ≡ true → is_bare g ≡ true → joined (folder_of m) f ≡ joined (folder_of n) g → (folder_of m ≡ folder_of n) × (f ≡ g)

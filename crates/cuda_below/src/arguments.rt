@@ -30,7 +30,7 @@ pub struct ParsedArguments {
     pub double_dash_input: bool,
     /// The input's language, or what the tool makes of it.
     pub language: Language,
-    /// The option that asks for a compilation, as `-c`; empty where the tool needs none.
+    /// The option that asks for a compilation, as `-c`; empty if the tool needs none.
     pub compilation_flag: Text,
     /// The path of the dependency file.
     pub depfile: Option<Text>,

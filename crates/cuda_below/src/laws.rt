@@ -7,7 +7,7 @@ ghost use Rattle.cuda_below.specs.Items.{item_of};
 use crate::arguments::{ColorMode, CompilerArguments, ParsedArguments};
 use crate::bytes::Bytes;
 use crate::command::{Cacheable, SingleCompileCommand};
-use crate::compiler::{CCompilerKind, Places};
+use crate::compiler::{CCompilerKind, NvccHostCompiler, Places};
 use crate::fault::Fault;
 use crate::gcc::ArgData;
 use crate::items::{ArgParseError, Argument, NormalizedDisposition};
@@ -42,6 +42,7 @@ pub fn enum_equality()
     ensures color_mode { TellsEqual ⟦<ColorMode as PartialEq>⟧.eq }
     ensures cacheable { TellsEqual ⟦<Cacheable as PartialEq>⟧.eq }
     ensures compiler_kind { TellsEqual ⟦<CCompilerKind as PartialEq>⟧.eq }
+    ensures host_compiler { TellsEqual ⟦<NvccHostCompiler as PartialEq>⟧.eq }
     ensures gcc_kind { TellsEqual ⟦<ArgData as PartialEq>⟧.eq }
     ensures disposition { TellsEqual ⟦<ArgDisposition as PartialEq>⟧.eq }
     ensures normalized { TellsEqual ⟦<NormalizedDisposition as PartialEq>⟧.eq }

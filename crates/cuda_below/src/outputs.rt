@@ -43,10 +43,11 @@ pub struct Outputs {
 impl Model for Outputs {
     ghost use Rattle.std.specs.Prelude.{List, ℕ, map};
     ghost use Rattle.cuda_below.specs.declared.outputs.ArtifactDescriptor.{ArtifactDescriptor};
+    ghost use Rattle.cuda_below.specs.Outputs.{entry_of};
 
     ghost Value = { List (List ℕ × ArtifactDescriptor) };
 
-    ghost view = { λ o. map (λ e. (e.0.now, e.1)) o.files.entries };
+    ghost view = { λ o. map entry_of o.files.entries };
 }
 
 impl Outputs {
@@ -152,10 +153,11 @@ pub struct Iter<'a> {
 impl<'a> Model for Iter<'a> {
     ghost use Rattle.std.specs.Prelude.{List, ℕ, map};
     ghost use Rattle.cuda_below.specs.declared.outputs.ArtifactDescriptor.{ArtifactDescriptor};
+    ghost use Rattle.cuda_below.specs.Outputs.{entry_of};
 
     ghost Value = { List (List ℕ × ArtifactDescriptor) };
 
-    ghost view = { λ it. map (λ e. (e.0.now, e.1)) it.files };
+    ghost view = { λ it. map entry_of it.files };
 }
 
 impl<'a> Iterator for Iter<'a> {

@@ -68,9 +68,9 @@ impl Output {
 /// What a compiler that was run to its end left.
 #[derive(Debug, PartialEq, Drop)]
 pub struct CompileFinished {
-    /// The code that it exited with, where it did.
+    /// The code that it exited with, if it did.
     pub retcode: Option<i32>,
-    /// The signal that ended it, where one did.
+    /// The signal that ended it, if one did.
     pub signal: Option<i32>,
     /// What it wrote to its standard output.
     pub stdout: Bytes,

@@ -7,6 +7,7 @@ ghost use Rattle.cuda_below.specs.Path.{is_absolute_path, separator_after, joine
 
 use crate::extension::{last, split_last, stem};
 use std::alloc::{AllocError, Global};
+use std::fmt;
 use std::marker::Model;
 use std::str::Chars;
 
@@ -100,6 +101,16 @@ impl Text {
             None => Ok(None),
             Some(text) => Ok(Some(text.try_clone(alloc)?)),
         }
+    }
+}
+
+impl fmt::Display for Text {
+    ghost use Rattle.std.specs.Prelude.{Some};
+
+    ghost output = { λ t. Some t };
+
+    fn fmt<W: fmt::Write>(&self, f: &mut fmt::Formatter<W>) -> fmt::Result {
+        f.write_str(self.as_str())
     }
 }
 

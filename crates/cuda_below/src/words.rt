@@ -141,8 +141,8 @@ impl Words {
         self.words.append(&mut words)
     }
 
-    /// Puts a copy of each of `words` last, in order, after it has made the room for all of them. On
-    /// an error the words stay as they were.
+    /// Puts a copy of each of `words` last, in order, after it has made the room for all of them. The
+    /// copies take their memory where the list has its own. On an error the words stay as they were.
     pub fn extend(&mut self, _alloc: Global, words: &[String]) -> Result<(), AllocError>
         ensures ok { OnOk result (self.new ≡ self.old ++ map string_bytes words.now) }
         ensures err { OnErr result (self.new ≡ self.old) }

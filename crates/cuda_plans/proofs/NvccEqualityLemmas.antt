@@ -1,13 +1,12 @@
 -- `==` on nvcc and on its commands says whether they are equal.
-use Rattle.std.proofs.Common.{◌≡◌, ◌&&◌, Bool, ap, nat_eq, rules, Some, None, refl}
+use Rattle.std.proofs.Common.{◌≡◌, ◌&&◌, Bool, ap, nat_eq, rules}
 use Rattle.std.specs.Option.{option_eq}
 use Rattle.std.specs.Bool.{Decides}
 use Rattle.std.specs.Cmp.Lexicographic.{pointwise}
 use Rattle.std.proofs.lemmas.Bool.Decides.{Decides-and, Decides-like, Decides-eqb}
 use Rattle.std.proofs.lemmas.Slice.Eq.{bytes_eq-Decides}
 use denote.Enum.Bare.{sameb, same_true, true_same}
-use Rattle.cuda_below.specs.Equality.{TellsEqual}
-use Rattle.cuda_below.proofs.EqualityLemmas.{lists, same_variables, variables}
+use Rattle.cuda_below.proofs.EqualityLemmas.{lists, options, same_variables, variables}
 use Rattle.cuda_below.specs.contracts.compiler.NvccHostCompiler as host
 use Rattle.cuda_below.specs.declared.compiler.NvccHostCompiler.{NvccHostCompiler}
 use Rattle.cuda_plans.specs.declared.nvcc.Nvcc.{Nvcc}
@@ -16,13 +15,6 @@ use Rattle.cuda_plans.specs.declared.nvcc.command.NvccCompileCommand.{NvccCompil
 -- compilers of host code
 hosts : (a b : NvccHostCompiler) → Decides (sameb host.the_type a b) (a ≡ b)
 hosts a b = (same_true host.the_type (search rules) a b, true_same host.the_type a b)
-
--- optional values
-options : {A : Type 0} (E : A → A → Bool) → TellsEqual E → TellsEqual (option_eq E)
-options E h None None = (λ _. refl, λ _. refl)
-options E h None (Some y) = (λ e. cc, λ e. cc)
-options E h (Some x) None = (λ e. cc, λ e. cc)
-options E h (Some x) (Some y) = Decides-like (E x y) (ap Some) (λ e. cc) (h x y)
 
 -- nvcc, as a compiler
 abbrev same_compilers : Nvcc → Nvcc → Bool

@@ -24,8 +24,8 @@ pub use Rattle.device_lines.specs.Cicc
 pub use Rattle.device_lines.specs.CudaFE
 pub use Rattle.device_lines.specs.DeviceRows
 pub use Rattle.device_lines.specs.DeviceWords
-pub use Rattle.device_lines.specs.Gathered
 pub use Rattle.device_lines.specs.Input
+pub use Rattle.device_lines.specs.Options
 pub use Rattle.device_lines.specs.Ptxas
 pub use Rattle.device_lines.specs.Reading
 pub use Rattle.device_lines.specs.Reread
@@ -44,5 +44,4 @@ pub use Rattle.host_lines.specs.NvccEnvironment
 pub use Rattle.host_lines.specs.NvccOptions
 pub use Rattle.host_lines.specs.Nvhpc
 pub use Rattle.host_lines.specs.Preprocess
-pub use Rattle.host_lines.specs.Taken
 pub use Rattle.shell_words.specs.Shell

@@ -5,7 +5,7 @@ use Rattle.std.specs.Map.{lookup}
 use Rattle.std.specs.Str.{bytes_eq, chars}
 use Rattle.cuda_below.specs.declared.arguments.ParsedArguments.{ParsedArguments}
 use Rattle.cuda_below.specs.declared.compiler.CCompilerKind.TheVariants as kinds
-use Rattle.cuda_below.specs.declared.gcc.ArgData.{ArgData}
+use Rattle.cuda_below.specs.declared.gcc.options.ArgData.{ArgData}
 use Rattle.cuda_below.specs.Compiler.{Reading, accepted, cannot_cache, not_compilation}
 use Rattle.cuda_below.specs.Gcc.{profile_reading}
 use Rattle.cuda_below.specs.GccOptions.{gcc_entries}
@@ -17,7 +17,7 @@ use Rattle.host_lines.specs.NvccEnvironment.{with_added_words}
 
 -- Reading.
 
--- the entry that a word chooses: that of the gcc profile where its text is longer, else nvcc's own
+-- the entry that a word chooses: that of the gcc profile if its text is longer, else nvcc's own
 abbrev pub nvcc_chosen : List ℕ → Option (Entry ArgData)
 nvcc_chosen word = longer_choice (longest_match gcc_entries word) (longest_match nvcc_options word)
 
@@ -30,7 +30,7 @@ nonempty (c ∷ cs) = (c ∷ cs) ∷ []
 abbrev pub with_flag_word : ParsedArguments → ParsedArguments
 with_flag_word p = record p { common_args = p.common_args ++ nonempty p.compilation_flag }
 
--- the same of a reading, where it accepts the line
+-- the same of a reading, if it accepts the line
 abbrev pub reading_with_flag_word : Reading → Reading
 reading_with_flag_word (accepted p) = accepted (with_flag_word p)
 reading_with_flag_word (cannot_cache text word) = cannot_cache text word
@@ -42,7 +42,7 @@ nvcc_reading words cwd env_vars = reading_with_flag_word (profile_reading nvcc_c
 
 -- The version.
 
--- a version's text, where it is known and not empty
+-- a version's text, if it is known and not empty
 abbrev pub known_version : Option (List ℕ) → Option (List ℕ)
 known_version None = None
 known_version (Some []) = None

@@ -1,36 +1,28 @@
 -- What nvcc arguments are written back as, and the two dry runs of that command.
-use Rattle.std.specs.Prelude.{ℕ, List, [], ◌∷◌, ◌++◌, Bool, true, false, if◌then◌else◌, Result, Ok, Err, codes}
-use Rattle.std.specs.List.{list_any}
-use Rattle.std.specs.Option.{option_map_or, ok_or}
-use Rattle.std.specs.Str.{bytes_eq}
+use Rattle.std.specs.Prelude.{ℕ, List, [], ◌∷◌, ◌++◌, Bool, true, false, if◌then◌else◌, Option, Result, Ok, Err, codes}
+use Rattle.std.specs.Option.{ok_or}
 use Rattle.cuda_below.specs.declared.arguments.ParsedArguments.{ParsedArguments}
 use Rattle.cuda_below.specs.declared.command.SingleCompileCommand.{SingleCompileCommand}
 use Rattle.cuda_below.specs.declared.command.Cacheable.{Cacheable}
 use Rattle.cuda_below.specs.declared.command.Cacheable.TheVariants.{No}
 use Rattle.cuda_below.specs.declared.compiler.Places.{Places}
 use Rattle.cuda_below.specs.declared.fault.Fault.{Fault}
-use Rattle.cuda_below.specs.declared.fault.Fault.TheVariants.{MissingOutput, NoFileName}
-use Rattle.cuda_below.specs.declared.language.Language.{Language}
-use Rattle.cuda_below.specs.GccItems.{name_of_language}
-use Rattle.cuda_below.specs.Outputs.{entry_at}
+use Rattle.cuda_below.specs.declared.fault.Fault.TheVariants.{NoFileName}
+use Rattle.cuda_below.specs.Arguments.{obj_of}
+use Rattle.cuda_below.specs.GccLine.{language_words}
 use Rattle.cuda_below.specs.Path.{is_absolute_path, joined, file_name_of}
 use Rattle.cuda_below.specs.declared.compiler.NvccHostCompiler.{NvccHostCompiler}
 use Rattle.cuda_plans.specs.declared.nvcc.command.NvccCompileCommand.{NvccCompileCommand}
-use Rattle.cuda_plans.specs.declared.nvcc.command.Taken.{Taken}
 use Rattle.host_lines.specs.KeepThreads.{keep_of, threads_of}
 use Rattle.host_lines.specs.NvccEnvironment.{without_flags}
 use Rattle.cuda_below.specs.ObjectFlags.{makes_objects}
 
--- the output's path as it is written: as given under a flag that asks for an object file, else below the working
+-- the output's path as it is written: as given under a flag that asks for an object file, else joined to the working
 -- directory
 abbrev pub output_word : List ℕ → List ℕ → List ℕ → List ℕ
 output_word cwd flag obj = if makes_objects flag then obj else joined cwd obj
 
--- the words that name a language, and none where the option for it has no name for that
-abbrev pub language_words : Language → List (List ℕ)
-language_words language = option_map_or (λ name. codes "-x" ∷ name ∷ []) (name_of_language language) []
-
--- `--`, where the input stood after it
+-- `--`, if the input stood after it
 abbrev pub dashes_words : Bool → List (List ℕ)
 dashes_words true = codes "--" ∷ []
 dashes_words false = []
@@ -58,28 +50,29 @@ abbrev pub and_then : {A B : Type 0} → Result A Fault → (A → Result B Faul
 and_then (Ok x) next = next x
 and_then (Err fault) next = Err fault
 
--- keep words, and after them thread words, taken out of a line at a working directory
-abbrev pub taken_of : List ℕ → List (List ℕ) → Result Taken Fault
+-- keep words, and after them thread words, removed from a line at a working directory: the words that stay, the keep
+-- directory, and how many commands may run at once
+abbrev pub taken_of : List ℕ → List (List ℕ) → Result (List (List ℕ) × Option (List ℕ) × ℕ) Fault
 taken_of cwd words =
     and_then (keep_of cwd words) (λ kept.
     and_then (threads_of kept.0) (λ threaded.
-    Ok (record { words = threaded.0; keep_dir = kept.1; num_parallel = threaded.1 })))
+    Ok (threaded.0, kept.1, threaded.1)))
 
 -- the output's path and its file name; it is refused to have no output, and no file name
 abbrev pub output_of : ParsedArguments → Result (List ℕ × List ℕ) Fault
 output_of p =
-    and_then (ok_or (entry_at (codes "obj") p.outputs) (MissingOutput p.language)) (λ obj.
+    and_then (obj_of p) (λ obj.
     and_then (ok_or (file_name_of obj.path) NoFileName) (λ name.
     Ok (obj.path, name)))
 
 -- the command, of what is taken out of the unhashed words, and the output's path and file name
-abbrev pub nvcc_command : List ℕ → ParsedArguments → List ℕ → List (List ℕ × List ℕ) → NvccHostCompiler → Places → Taken → List ℕ × List ℕ → NvccCompileCommand
+abbrev pub nvcc_command : List ℕ → ParsedArguments → List ℕ → List (List ℕ × List ℕ) → NvccHostCompiler → Places → List (List ℕ) × Option (List ℕ) × ℕ → List ℕ × List ℕ → NvccCompileCommand
 nvcc_command executable p cwd env_vars host_compiler places taken output = record {
   temp_dir = places.temp_dir;
-  keep_dir = taken.keep_dir;
-  num_parallel = taken.num_parallel;
+  keep_dir = taken.1;
+  num_parallel = taken.2;
   executable = executable;
-  arguments = nvcc_words cwd p output.0 taken.words places.canonical_input;
+  arguments = nvcc_words cwd p output.0 taken.0 places.canonical_input;
   compilation_flag = p.compilation_flag;
   env_vars = without_flags env_vars;
   cwd = cwd;

@@ -8,10 +8,11 @@ use Rattle.cuda_below.specs.declared.compiler.Places.{Places}
 use Rattle.cuda_below.specs.declared.fault.Fault.{Fault}
 use Rattle.cuda_below.specs.declared.fault.Fault.TheVariants.{MissingOutput, NoFileName, KeepDirValue, ThreadsValue}
 use Rattle.cuda_below.specs.declared.language.Language.TheVariants.{C, Cuda}
-use Rattle.cuda_below.specs.Compiler.{Reading, accepted, cannot_cache}
+use Rattle.cuda_below.specs.Compiler.{Reading, accepted, cannot_cache, not_compilation}
 use Rattle.cuda_below.specs.GccRows.{compiled}
 use Rattle.cuda_plans.specs.declared.nvcc.Nvcc.{Nvcc}
 use Rattle.cuda_below.specs.declared.compiler.NvccHostCompiler.TheVariants.{Gcc}
+use Rattle.cuda_below.specs.Rows.{spaced}
 use Rattle.cuda_plans.specs.declared.nvcc.command.NvccCompileCommand.{NvccCompileCommand}
 use Rattle.cuda_plans.specs.Nvcc.{nvcc_reading, nvcc_version}
 use Rattle.host_lines.specs.NvccEnvironment.{prepended_name, appended_name}
@@ -26,22 +27,22 @@ read = read_in []
 
 -- the arguments of `-c foo.cu -o foo.o`
 abbrev pub lone_object : ParsedArguments
-lone_object = record (compiled (codes "foo.cu") Cuda (codes "foo.o")) { common_args = codes "-c" ∷ [] }
+lone_object = record (compiled (codes "foo.cu") Cuda (codes "foo.o")) { common_args = spaced "-c" }
 
 -- the line `-c foo.c -o foo.o`
 abbrev pub c_line : List (List ℕ)
-c_line = codes "-c" ∷ codes "foo.c" ∷ codes "-o" ∷ codes "foo.o" ∷ []
+c_line = spaced "-c foo.c -o foo.o"
 
--- the environment adds `-x cu` before a line and a word with a space after it; where the first text doesn't split, it
+-- the environment adds `-x cu` before a line and a word with a space after it; if the first text doesn't split, it
 -- adds nothing; and of two variables of a name the first is read
 abbrev pub EnvironmentAddsWords : Type 0
 EnvironmentAddsWords =
     (read_in ((prepended_name, codes "-x cu") ∷ (appended_name, codes "-DX=\"a b\"") ∷ []) c_line
-    ≡ accepted (record (compiled (codes "foo.c") Cuda (codes "foo.o")) { preprocessor_args = codes "-DX=a b" ∷ []; common_args = codes "-c" ∷ [] }))
+    ≡ accepted (record (compiled (codes "foo.c") Cuda (codes "foo.o")) { preprocessor_args = codes "-DX=a b" ∷ []; common_args = spaced "-c" }))
     × (read_in ((prepended_name, codes "\"a") ∷ (appended_name, codes "-DX=\"a b\"") ∷ []) c_line
-    ≡ accepted (record (compiled (codes "foo.c") C (codes "foo.o")) { preprocessor_args = codes "-DX=a b" ∷ []; common_args = codes "-c" ∷ [] }))
+    ≡ accepted (record (compiled (codes "foo.c") C (codes "foo.o")) { preprocessor_args = codes "-DX=a b" ∷ []; common_args = spaced "-c" }))
     × (read_in ((appended_name, codes "-DA") ∷ (codes "NVCC", codes "-DB") ∷ (appended_name, codes "-DC") ∷ []) c_line
-    ≡ accepted (record (compiled (codes "foo.c") C (codes "foo.o")) { preprocessor_args = codes "-DA" ∷ []; common_args = codes "-c" ∷ [] }))
+    ≡ accepted (record (compiled (codes "foo.c") C (codes "foo.o")) { preprocessor_args = spaced "-DA"; common_args = spaced "-c" }))
 
 pub environment_adds_words : EnvironmentAddsWords
 unfolding chars encode_utf8
@@ -50,9 +51,9 @@ environment_adds_words = (refl, refl, refl)
 -- a single CUDA file is compiled without a flag, and an option may take the flag as its value
 abbrev pub FlagIsEmpty : Type 0
 FlagIsEmpty =
-    (read (codes "foo.cu" ∷ []) ≡ accepted (record (compiled (codes "foo.cu") Cuda (codes "foo.o")) { compilation_flag = [] }))
-    × (read (codes "-Werror" ∷ codes "-c" ∷ codes "foo.cu" ∷ [])
-    ≡ accepted (record (compiled (codes "foo.cu") Cuda (codes "foo.o")) { compilation_flag = []; preprocessor_args = codes "-Werror" ∷ codes "-c" ∷ [] }))
+    (read (spaced "foo.cu") ≡ accepted (record (compiled (codes "foo.cu") Cuda (codes "foo.o")) { compilation_flag = [] }))
+    × (read (spaced "-Werror -c foo.cu")
+    ≡ accepted (record (compiled (codes "foo.cu") Cuda (codes "foo.o")) { compilation_flag = []; preprocessor_args = spaced "-Werror -c" }))
 
 pub flag_is_empty : FlagIsEmpty
 flag_is_empty = (refl, refl)
@@ -60,11 +61,11 @@ flag_is_empty = (refl, refl)
 -- `-t` takes each word that begins with it; `--time` does too, and refuses; the option for the language refuses as `-x`
 abbrev pub OptionsBeginWords : Type 0
 OptionsBeginWords =
-    (read (codes "-c" ∷ codes "foo.cu" ∷ codes "-target=x" ∷ codes "-save-temps=obj" ∷ [])
-    ≡ accepted (record lone_object { common_args = codes "-save-temps=obj" ∷ codes "-c" ∷ []; unhashed_args = codes "-target=x" ∷ [] }))
-    × (read (codes "-c" ∷ codes "foo.cu" ∷ codes "-threads" ∷ codes "4" ∷ []) ≡ cannot_cache (codes "multiple input files") None)
-    × (read (codes "-c" ∷ codes "foo.cu" ∷ codes "--timeout=3" ∷ []) ≡ cannot_cache (codes "--time") None)
-    × (read (codes "-c" ∷ codes "foo.cu" ∷ codes "--x=foo" ∷ []) ≡ cannot_cache (codes "-x") None)
+    (read (spaced "-c foo.cu -target=x -save-temps=obj")
+    ≡ accepted (record lone_object { common_args = spaced "-save-temps=obj -c"; unhashed_args = spaced "-target=x" }))
+    × (read (spaced "-c foo.cu -threads 4") ≡ cannot_cache (codes "multiple input files") None)
+    × (read (spaced "-c foo.cu --timeout=3") ≡ cannot_cache (codes "--time") None)
+    × (read (spaced "-c foo.cu --x=foo") ≡ cannot_cache (codes "-x") None)
 
 pub options_begin_words : OptionsBeginWords
 options_begin_words = (refl, refl, refl, refl)
@@ -82,42 +83,62 @@ abbrev pub words_written : Result (NvccCompileCommand × Cacheable) Fault → Re
 words_written (Ok c) = Ok (c.0.arguments, c.0.output_file_name, (dry_runs c.0).1.arguments)
 words_written (Err fault) = Err fault
 
--- under `-c` the output is written as given, and else below the working directory
+-- what a reading is written back as; nothing if it isn't accepted
+abbrev pub written_back_of : Reading → Option (Result (List (List ℕ) × List ℕ × List (List ℕ)) Fault)
+written_back_of (accepted p) = Some (words_written (write p))
+written_back_of (cannot_cache text word) = None
+written_back_of not_compilation = None
+
+-- what a line is read and written back as
+abbrev pub written_back : List (List ℕ) → Option (Result (List (List ℕ) × List ℕ × List (List ℕ)) Fault)
+written_back words = written_back_of (read words)
+
+-- under `-c` the output is written as given, and else joined to the working directory
 abbrev pub WordsAreWritten : Type 0
 WordsAreWritten =
-    (words_written (write lone_object)
-    ≡ Ok (
-      codes "-x" ∷ codes "cu" ∷ codes "-o" ∷ codes "foo.o" ∷ codes "-c" ∷ codes "/w/foo.cu" ∷ [],
+    (read (spaced "-c foo.cu -o foo.o") ≡ accepted lone_object)
+    × (written_back (spaced "-c foo.cu -o foo.o")
+    ≡ Some (Ok (
+      spaced "-x cu -o foo.o -c /w/foo.cu",
       codes "foo.o",
-      codes "-x" ∷ codes "cu" ∷ codes "-o" ∷ codes "foo.o" ∷ codes "-c" ∷ codes "/w/foo.cu" ∷ codes "--keep-dir" ∷ codes "/t" ∷ codes "--dryrun" ∷ codes "--keep" ∷ [],
-    ))
-    × (words_written (write (record (compiled (codes "foo.cu") Cuda (codes "foo.ptx")) { compilation_flag = codes "-ptx"; common_args = codes "-ptx" ∷ [] }))
-    ≡ Ok (
-      codes "-x" ∷ codes "cu" ∷ codes "-o" ∷ codes "/w/foo.ptx" ∷ codes "-ptx" ∷ codes "/w/foo.cu" ∷ [],
+      spaced "-x cu -o foo.o -c /w/foo.cu --keep-dir /t --dryrun --keep",
+    )))
+    × (written_back (spaced "-ptx foo.cu -o foo.ptx")
+    ≡ Some (Ok (
+      spaced "-x cu -o /w/foo.ptx -ptx /w/foo.cu",
       codes "foo.ptx",
-      codes "-x" ∷ codes "cu" ∷ codes "-o" ∷ codes "/w/foo.ptx" ∷ codes "-ptx" ∷ codes "/w/foo.cu" ∷ codes "--keep-dir" ∷ codes "/t" ∷ codes "--dryrun" ∷ codes "--keep" ∷ [],
-    ))
-    × (words_written (write (record (compiled (codes "foo.cu") Cuda (codes "foo.o")) { compilation_flag = [] }))
-    ≡ Ok (
-      codes "-x" ∷ codes "cu" ∷ codes "-o" ∷ codes "/w/foo.o" ∷ codes "/w/foo.cu" ∷ [],
+      spaced "-x cu -o /w/foo.ptx -ptx /w/foo.cu --keep-dir /t --dryrun --keep",
+    )))
+    × (written_back (spaced "foo.cu")
+    ≡ Some (Ok (
+      spaced "-x cu -o /w/foo.o /w/foo.cu",
       codes "foo.o",
-      codes "-x" ∷ codes "cu" ∷ codes "-o" ∷ codes "/w/foo.o" ∷ codes "/w/foo.cu" ∷ codes "--keep-dir" ∷ codes "/t" ∷ codes "--dryrun" ∷ codes "--keep" ∷ [],
-    ))
+      spaced "-x cu -o /w/foo.o /w/foo.cu --keep-dir /t --dryrun --keep",
+    )))
 
 pub words_are_written : WordsAreWritten
-words_are_written = (refl, refl, refl)
+words_are_written = (refl, refl, refl, refl)
 
--- what is refused first of several: a missing directory, then a missing number, then a missing output; and an output
--- without a file name last
+-- what is refused first of several: a missing directory, then a missing number, then a missing output
 abbrev pub RefusalsHaveAnOrder : Type 0
 RefusalsHaveAnOrder =
-    (write (record lone_object { outputs = []; unhashed_args = codes "--threads" ∷ codes "-keep-dir" ∷ [] }) ≡ Err KeepDirValue)
-    × (write (record lone_object { outputs = []; unhashed_args = codes "-keep" ∷ codes "--threads" ∷ [] }) ≡ Err ThreadsValue)
+    (write (record lone_object { outputs = []; unhashed_args = spaced "--threads -keep-dir" }) ≡ Err KeepDirValue)
+    × (write (record lone_object { outputs = []; unhashed_args = spaced "-keep --threads" }) ≡ Err ThreadsValue)
     × (write (record lone_object { outputs = [] }) ≡ Err (MissingOutput Cuda))
-    × (write (record (compiled (codes "foo.cu") Cuda (codes "..")) { compilation_flag = [] }) ≡ Err NoFileName)
 
 pub refusals_have_an_order : RefusalsHaveAnOrder
-refusals_have_an_order = (refl, refl, refl, refl)
+refusals_have_an_order = (refl, refl, refl)
+
+-- lines that are read and not written: an option of keep or thread words that `--threads` took for its value, and an
+-- output without a file name
+abbrev pub LinesAreRefused : Type 0
+LinesAreRefused =
+    (written_back (spaced "-c foo.cu --threads -keep-dir") ≡ Some (Err KeepDirValue))
+    × (written_back (spaced "-c foo.cu --threads -keep") ≡ Some (Err ThreadsValue))
+    × (written_back (spaced "-c foo.cu -o ..") ≡ Some (Err NoFileName))
+
+pub lines_are_refused : LinesAreRefused
+lines_are_refused = (refl, refl, refl)
 
 -- nvcc of these versions
 abbrev pub of_versions : Option (List ℕ) → Option (List ℕ) → Nvcc

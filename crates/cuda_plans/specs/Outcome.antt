@@ -1,4 +1,4 @@
--- What is left of the answers to commands: outputs, and outputs joined.
+-- The outputs of answers to commands, and outputs joined.
 use Rattle.std.specs.Prelude.{◌≡◌, ℕ, suc, List, [], ◌∷◌, ◌++◌, if◌then◌else◌, Option, Some, None, ℤ, pos, negsuc, unwrap_or, codes, refl}
 use Rattle.std.specs.List.{fold}
 use Rattle.cuda_below.specs.declared.fault.Fault.{Fault}
@@ -33,7 +33,7 @@ abbrev pub output_of_fault : Fault → Output
 output_of_fault (Process output) = output
 output_of_fault fault = output_with (status_of_code (pos 1)) [] (message_of fault)
 
--- a whole number in decimal digits, behind a `-` where it is below 0
+-- a whole number in decimal digits, behind a `-` if it is below 0
 abbrev pub signed_numeral : ℤ → List ℕ
 signed_numeral (pos n) = numeral n
 signed_numeral (negsuc n) = 45 ∷ numeral (suc n)

@@ -32,11 +32,11 @@ steps groups = steps_from 0 groups
 -- The groups of a plan run in chunks: the front group, the device groups by so many at a time, the final group. Groups of
 -- one chunk don't wait for one another's success.
 
--- how many device groups a chunk has, of so many, where so many are to run at once
+-- how many of the device groups a chunk has, if `parallel` of them are to run at once: at least one
 abbrev pub chunk_size : ℕ → ℕ → ℕ
 chunk_size device_groups parallel = max 1 (min device_groups parallel)
 
--- the number of a group's chunk, where there are so many device groups
+-- the number of a group's chunk: 0 for the front group, then the device groups' chunks, and the final group's is last
 abbrev pub chunk_of : ℕ → ℕ → ℕ → ℕ
 chunk_of device_groups parallel group =
     if group == 0 then 0 else (if nat_le group device_groups then 1 + (group - 1) / chunk_size device_groups parallel else device_groups + 1)
@@ -58,7 +58,7 @@ output_of_entry e = output_of_answer e.command.exe e.answer
 abbrev pub fails : AccountEntry → Bool
 fails e = not (is_success (output_of_entry e).status)
 
--- whether a place comes to nothing if another one fails: that is an earlier one of its group, or one of an earlier chunk
+-- whether the command at `p` isn't run if the one at `q` fails: `q` is earlier in the same group, or in an earlier chunk
 abbrev pub depends_on : (ℕ → ℕ) → Place → Place → Bool
 depends_on chunk p q = ((q.group == p.group) && nat_lt q.index p.index) || nat_lt (chunk q.group) (chunk p.group)
 
@@ -66,19 +66,19 @@ depends_on chunk p q = ((q.group == p.group) && nat_lt q.index p.index) || nat_l
 abbrev pub is_due : (ℕ → ℕ) → List AccountEntry → Step → Bool
 is_due chunk account step = not (list_any (λ e. depends_on chunk step.place e.place && fails e) account)
 
--- the due commands of a plan's groups by an account, where so many device groups run at once, in order
+-- the due commands of a plan's groups by an account, with `parallel` device groups at once, in order
 abbrev pub due_steps : List (List NvccGeneratedSubcommand) → ℕ → List AccountEntry → List Step
 due_steps groups parallel account = filter (is_due (chunk_of (device_groups groups) parallel) account) (steps groups)
 
--- what an entry says that was run, and where
+-- the command of an entry, at its place
 abbrev pub step_of : AccountEntry → Step
 step_of e = record { place = e.place; command = e.command }
 
--- an account follows a plan where it is of a beginning of the due commands, each at its place
+-- an account follows a plan if it is of a beginning of the due commands, each at its place
 abbrev pub Follows : List (List NvccGeneratedSubcommand) → ℕ → List AccountEntry → Type 0
 Follows groups parallel account = (rest : List Step) × (due_steps groups parallel account ≡ map step_of account ++ rest)
 
--- and it is whole where it is of all of them
+-- and it is whole if it is of all of them
 abbrev pub IsWhole : List (List NvccGeneratedSubcommand) → ℕ → List AccountEntry → Type 0
 IsWhole groups parallel account = due_steps groups parallel account ≡ map step_of account
 
@@ -86,6 +86,6 @@ IsWhole groups parallel account = due_steps groups parallel account ≡ map step
 abbrev pub output_of_account : List AccountEntry → Output
 output_of_account account = all_aggregated (map output_of_entry account)
 
--- what comes of a whole account: its output, as a refusal where an answer failed
+-- what comes of a whole account: its output, as a refusal if an answer failed
 abbrev pub outcome_of : List AccountEntry → Result Output Fault
 outcome_of account = if list_any fails account then Err (Process (output_of_account account)) else Ok (output_of_account account)

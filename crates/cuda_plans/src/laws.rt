@@ -1,32 +1,37 @@
 //! Laws of whole calls, and schedules worked out by hand, which the definitions compute. The laws of the crates below stand here too.
 
 ghost use Rattle.cuda_below.specs.Equality.{TellsEqual};
-ghost use Rattle.cuda_plans.specs.ScheduleRows.{ThreeKernelsPlan, ChunksOfTwo, FailureEndsItsGroup, ChunkIsFinished, OneAtATime, NoneAtATime, ManyAtATime, FirstFailureIsKept, AllSucceed, FailureOfASuccess};
+ghost use Rattle.cuda_plans.specs.ScheduleRows as rows;
 
-use crate::runner::Place;
-
+use crate::runner::{Answer, Place};
 pub use canonical_names::laws::{alike_runs, canonical_names, worked_likeness, worked_renamings};
-pub use command_groups::laws::{fates, merge, worked_plans, worked_plans_from_bytes};
-pub use command_groups::laws::equality as plan_equality;
-pub use device_lines::laws::{reread, rereading_needs, worked_lines, worked_rereadings};
-pub use dry_runs::laws::equality as dry_run_equality;
-pub use dry_runs::laws::worked_runs;
+pub use command_groups::laws::{
+    equality as plan_equality, fates, merge, worked_plans, worked_plans_from_bytes,
+};
+pub use device_lines::laws::{
+    equality as device_equality, reread, rereading_needs, worked_lines, worked_rereadings,
+};
+pub use dry_runs::laws::{equality as dry_run_equality, worked_runs};
+pub use host_lines::laws::equality as host_equality;
 
-/// `==` on places compares all fields: it says whether two values are equal.
+/// `==` on places and on answers compares all that they hold: it says whether two values are equal.
 pub fn equality()
-    ensures { TellsEqual ⟦<Place as PartialEq>⟧.eq }
-{}
+    ensures place { TellsEqual ⟦<Place as PartialEq>⟧.eq }
+    ensures answer { TellsEqual ⟦<Answer as PartialEq>⟧.eq }
+{
+    cuda_below::laws::equality();
+}
 
 /// Which commands of three kernels run, and what comes of it, by the definitions.
 pub fn worked_schedules()
-    ensures three_kernels_are_planned { ThreeKernelsPlan }
-    ensures chunks_of_two { ChunksOfTwo }
-    ensures failure_ends_its_group { FailureEndsItsGroup }
-    ensures chunk_is_finished { ChunkIsFinished }
-    ensures one_at_a_time { OneAtATime }
-    ensures none_at_a_time { NoneAtATime }
-    ensures many_at_a_time { ManyAtATime }
-    ensures first_failure_is_kept { FirstFailureIsKept }
-    ensures all_succeed { AllSucceed }
-    ensures failure_of_a_success { FailureOfASuccess }
+    ensures three_kernels_are_planned { rows.ThreeKernelsPlan }
+    ensures chunks_of_two { rows.ChunksOfTwo }
+    ensures failure_ends_its_group { rows.FailureEndsItsGroup }
+    ensures chunk_is_finished { rows.ChunkIsFinished }
+    ensures one_at_a_time { rows.OneAtATime }
+    ensures none_at_a_time { rows.NoneAtATime }
+    ensures many_at_a_time { rows.ManyAtATime }
+    ensures first_failure_is_kept { rows.FirstFailureIsKept }
+    ensures all_succeed { rows.AllSucceed }
+    ensures failure_of_a_success { rows.FailureOfASuccess }
 {}

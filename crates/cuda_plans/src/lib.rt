@@ -10,8 +10,8 @@ pub mod runner;
 
 pub use command_groups as plan;
 pub use cuda_below::{
-    arguments, bytes, command, compiler, extension, fault, gcc, items, language, outputs, status, table, text,
-    variables, words,
+    arguments, bytes, command, compiler, extension, fault, gcc, items, language, outputs, status,
+    table, text, variables, words,
 };
 pub use device_lines::{cicc, cudafe, ptxas};
 pub use host_lines::nvhpc;

@@ -1,4 +1,4 @@
-//! Who runs the commands of a plan: where a command stands, and what is answered to it.
+//! The place of a command in a plan, and the answer of whoever ran it.
 
 ghost use Rattle.std.specs.Prelude.{◌≡◌, IfOk};
 

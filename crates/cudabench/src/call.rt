@@ -1,12 +1,6 @@
 //! The program's calls.
 
-/// A tool whose lines are timed.
-#[derive(Clone, Copy, Debug, PartialEq)]
-pub enum Tool {
-    Cicc,
-    Ptxas,
-    CudaFe,
-}
+use plan_texts::Tool;
 
 /// What is timed.
 #[derive(Debug, Drop)]
@@ -30,21 +24,11 @@ pub struct Call<'a> {
     pub work: Work<'a>,
 }
 
-// The tool of a name.
-fn tool_named(name: &str) -> Option<Tool> {
-    match name {
-        "cicc" => Some(Tool::Cicc),
-        "ptxas" => Some(Tool::Ptxas),
-        "cudafe++" => Some(Tool::CudaFe),
-        _ => None,
-    }
-}
-
 // The work that the words after the count are.
 fn work_of<'a>(verb: &str, words: &'a [String]) -> Option<Work<'a>> {
     match (verb, words) {
         ("line", [tool, cwd, line @ ..]) => Some(Work::Line {
-            tool: tool_named(tool.as_str())?,
+            tool: Tool::named(tool.as_str())?,
             cwd: cwd.as_str(),
             words: line,
         }),

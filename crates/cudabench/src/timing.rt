@@ -1,6 +1,6 @@
 //! How long a call of the planner takes.
 
-use crate::call::{Call, Tool, Work};
+use crate::call::{Call, Work};
 use crate::report::Stop;
 use cuda_below::arguments::CompilerArguments;
 use cuda_below::compiler::{CCompilerImpl, Places};
@@ -9,6 +9,7 @@ use cuda_plans::cicc::{Cicc, read_input};
 use cuda_plans::cudafe::CudaFE;
 use cuda_plans::ptxas::Ptxas;
 use cuda_plans::shell;
+use plan_texts::Tool;
 use std::alloc::Global;
 use std::fs::{self, Files};
 use std::time::{Clock, Instant};

@@ -2,7 +2,7 @@
 
 ghost use Rattle.std.specs.Prelude.{◌≡◌, map, string_bytes};
 ghost use Rattle.std.specs.Option.{option_map};
-ghost use Rattle.cudaplan.specs.Call.{tool_of_name};
+ghost use Rattle.cudaplan.specs.Calls as spec;
 
 use plan_texts::{Stop, Tool, run_line};
 use std::alloc::Global;
@@ -18,24 +18,9 @@ struct LineCall<'a> {
     words: &'a [String],
 }
 
-// The tool of a name.
-fn tool_named(name: &str) -> Option<Tool>
-    ensures { result ≡ tool_of_name name.now }
-{
-    match name {
-        "cicc" => Some(Tool::Cicc),
-        "ptxas" => Some(Tool::Ptxas),
-        "cudafe++" => Some(Tool::CudaFe),
-        _ => None,
-    }
-}
-
-ghost use Rattle.cudaplan.specs.Call.{call_of, Ends};
-ghost use Rattle.cudaplan.specs.Calls.{line_of};
-
 // The call that the words are.
 fn line_call<'a>(words: &'a [String]) -> Option<LineCall<'a>>
-    ensures { option_map line_of result ≡ call_of (map string_bytes words.now) }
+    ensures { option_map spec.line_of result ≡ spec.call_of (map string_bytes words.now) }
 {
     let [verb, tool, cwd, line @ ..] = words else {
         return None;
@@ -43,18 +28,30 @@ fn line_call<'a>(words: &'a [String]) -> Option<LineCall<'a>>
     if verb.as_str() != "line" {
         return None;
     }
-    let tool = tool_named(tool.as_str())?;
     Some(LineCall {
-        tool,
+        tool: Tool::named(tool.as_str())?,
         cwd: cwd.as_str(),
         words: line,
     })
 }
 
-// Writes why the program stops to standard error; a failure there has nowhere to be told.
+// Writes why the program stops to standard error; a failed write there is ignored.
 fn complain<E: Write>(alloc: Global, stop: &Stop, err: &mut E) {
     if let Ok(text) = format!(in alloc; "cudaplan: {stop}\n") {
         let _ = err.write_all(text.as_bytes());
+    }
+}
+
+// The exit status of what an engine answers, once it is told why the engine stopped.
+fn ended<E: Write>(alloc: Global, answer: Result<(), Stop>, err: &mut E) -> u8
+    ensures { result ≡ spec.status_of answer }
+{
+    match answer {
+        Ok(()) => 0,
+        Err(stop) => {
+            complain(alloc, &stop, err);
+            1
+        }
     }
 }
 
@@ -67,20 +64,12 @@ pub fn run_program<R: AllocGlobal, W: Write, E: Write>(
     out: &mut W,
     err: &mut E,
 ) -> u8
-    ensures { Ends result (call_of (map string_bytes words.now)) (W.contents out.old) (W.contents out.new) }
+    ensures { spec.Ends result (spec.call_of (map string_bytes words.now)) (W.contents out.old) (W.contents out.new) }
 {
     let Some(call) = line_call(words) else {
         let _ = err.write_all(USAGE.as_bytes());
         return 2;
     };
-    match run_line(rt.alloc(), call.tool, call.cwd, call.words, out) {
-        Ok(()) => 0,
-        Err(stop) => {
-            complain(rt.alloc(), &stop, err);
-            1
-        }
-    }
+    let answer = run_line(rt.alloc(), call.tool, call.cwd, call.words, out);
+    ended(rt.alloc(), answer, err)
 }
-
-#[cfg(test)]
-mod tests;

@@ -1,4 +1,3 @@
-pub mod AnswerLemmas
 pub mod PlaceLemmas
 pub mod ReadingLemmas
 pub mod RereadItems

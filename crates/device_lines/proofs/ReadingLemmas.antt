@@ -5,8 +5,8 @@ use Rattle.std.proofs.lemmas.List.Sums.{fold-append}
 use Rattle.cuda_below.specs.declared.language.Language.{Language}
 use Rattle.cuda_below.specs.Outputs.{with_entry}
 use Rattle.cuda_below.specs.Items.{Item, words_of, kind_of}
-use Rattle.device_lines.specs.declared.cicc.ArgData.{ArgData}
-use Rattle.device_lines.specs.declared.gathered.Gathered.{Gathered}
+use Rattle.device_lines.specs.declared.options.ArgData.{ArgData}
+use Rattle.device_lines.specs.declared.reader.gathered.Gathered.{Gathered}
 use Rattle.device_lines.specs.Reading.{is_common, beside, is_unhashed_kind, output_of, module_id_of, is_generating, reading_of_items}
 use Rattle.device_lines.specs.Gathered.{nothing_gathered, with_item, with_output, reading_of_gathered}
 use Rattle.cuda_below.specs.Lists.{latest}

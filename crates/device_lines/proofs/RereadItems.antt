@@ -10,8 +10,8 @@ use Rattle.cuda_below.specs.Table.{Entry, Matched, lone, joined, awaiting, rest_
 use Rattle.cuda_below.specs.Items.{Item, raw, unknown_flag, flag, with_value, faulty, Said, item, option, items, said_by, said_of, unmatched_item, last_item, separate_item, joined_form, separate_form, may_stand_last, words_of}
 use Rattle.cuda_below.specs.WordsLaw.{is_joined, is_whole}
 use Rattle.cuda_below.proofs.WordsLemmas.{words-are_those_read}
-use Rattle.device_lines.specs.declared.cicc.ArgData.{ArgData}
-use Rattle.device_lines.specs.declared.cicc.ArgData.TheVariants.{Output, PassThrough, UnhashedFlag, GenModuleIdFileFlag, ModuleIdFileName, UnhashedPassThrough, UnhashedOutput}
+use Rattle.device_lines.specs.declared.options.ArgData.{ArgData}
+use Rattle.device_lines.specs.declared.options.ArgData.TheVariants.{Output, PassThrough, UnhashedFlag, GenModuleIdFileFlag, ModuleIdFileName, UnhashedPassThrough, UnhashedOutput}
 use Rattle.device_lines.specs.Reread.{is_filled, AllFilled}
 
 -- what all entries of a list pass, a chosen entry passes

@@ -10,20 +10,20 @@ use Rattle.cuda_below.specs.declared.language.Language.{Language}
 use Rattle.cuda_below.specs.declared.language.Language.TheVariants.{C, Cxx, ObjectiveC, ObjectiveCxx, Cuda, CudaFE, Ptx, Cubin}
 use Rattle.cuda_below.specs.declared.outputs.ArtifactDescriptor.{ArtifactDescriptor}
 use Rattle.cuda_below.specs.declared.arguments.ParsedArguments.{ParsedArguments}
-use Rattle.cuda_below.specs.declared.arguments.ColorMode.TheVariants.{Off}
 use Rattle.cuda_below.specs.declared.command.SingleCompileCommand.{SingleCompileCommand}
 use Rattle.cuda_below.specs.declared.command.Cacheable.{Cacheable}
 use Rattle.cuda_below.specs.declared.table.ArgDisposition.TheVariants.{Separated}
+use Rattle.cuda_below.specs.Arguments.{plain_arguments}
 use Rattle.cuda_below.specs.Path.{is_absolute_path, joined}
 use Rattle.cuda_below.specs.Outputs.{entries_from, entry_at}
 use Rattle.cuda_below.specs.Table.{Entry, longest_match}
 use Rattle.cuda_below.specs.Items.{Item, with_value, items, words_of, kind_of, value_of}
-use Rattle.device_lines.specs.declared.cicc.ArgData.{ArgData}
-use Rattle.device_lines.specs.declared.cicc.ArgData.TheVariants.{Output}
-use Rattle.device_lines.specs.Cicc.{is_input_word, cicc_options}
+use Rattle.device_lines.specs.declared.options.ArgData.{ArgData}
+use Rattle.device_lines.specs.declared.options.ArgData.TheVariants.{Output}
+use Rattle.device_lines.specs.Cicc.{cicc_options}
 use Rattle.device_lines.specs.CudaFE.{cudafe_options}
 use Rattle.device_lines.specs.Ptxas.{ptxas_options}
-use Rattle.device_lines.specs.Reading.{is_unhashed_kind, common_items, unhashed_items, made_at, output_of_kind, output_of, module_id_of_kind, module_id_of, is_generating, module_id, module_id_output, module_id_file, outputs_of, reading_of_items, input_place, reading}
+use Rattle.device_lines.specs.Reading.{is_input_word, is_unhashed_kind, common_items, unhashed_items, made_at, output_of_kind, output_of, module_id_of_kind, module_id_of, is_generating, module_id, module_id_output, module_id_file, outputs_of, reading_of_items, input_place, reading}
 use Rattle.cuda_below.specs.Lists.{last_of}
 use Rattle.cuda_below.specs.declared.command.Cacheable.TheVariants.{Yes}
 use Rattle.cuda_below.specs.Command.{single_command, written, written_to}
@@ -92,27 +92,11 @@ module _ (cwd : List ℕ) (is : List (Item ArgData)) (text path : List ℕ) wher
   arguments-same : (language : Language) (input : List ℕ) (obj : ArtifactDescriptor) → AllByRecursion (λ i. item_fits i ≡ true) is → made_at false (joined cwd path) ≡ obj → entry_at (codes "obj") (outputs_of cwd is) ≡ Some obj → reading_of_items cwd language input again ≡ reading_of_items cwd language input is
   arguments-same language input obj fit at found =
       let outputs : outputs_of cwd again ≡ outputs_of cwd is = outputs-same obj fit at found in
-      λ i. record {
-        input = input;
-        outputs = outputs i;
-        double_dash_input = false;
-        language = language;
-        compilation_flag = [];
-        depfile = None;
-        dependency_args = [];
-        preprocessor_args = [];
+      λ i. record (plain_arguments input language (outputs i)) {
         common_args = flat_map words_of (common-same i);
-        arch_args = [];
         unhashed_args = flat_map words_of (unhashed-same i);
         extra_dist_files = module_id_file cwd (generating-same i) (last_of (ids-same i));
         extra_hash_files = module_id_file cwd (generating-same i) (last_of (ids-same i));
-        uses_external_assembler = false;
-        msvc_show_includes = false;
-        msvc_explicit_language = false;
-        profile_generate = false;
-        color_mode = Off;
-        suppress_rewrite_includes_only = false;
-        too_hard_for_preprocessor_cache_mode = None;
       }
 
 -- the empty word is no input by its end

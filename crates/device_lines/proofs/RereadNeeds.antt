@@ -1,21 +1,21 @@
 -- The law of rereading is false without any of its premises.
-use Rattle.std.proofs.Common.{◌≡◌, ℕ, List, [], ◌∷◌, true, false, Some, None, codes, refl, ap, sym, ◌∙◌, arith}
+use Rattle.std.proofs.Common.{◌≡◌, ℕ, List, [], ◌∷◌, true, false, Option, Some, None, codes, refl, ap, sym, ◌∙◌, arith}
 use Rattle.std.specs.Option.{option_map}
 use Rattle.std.specs.Str.{bytes_eq}
 use Rattle.std.proofs.lemmas.Bool.{false≢true}
-use Rattle.cuda_below.specs.declared.language.Language.TheVariants.{Ptx, Cubin}
+use Rattle.cuda_below.specs.declared.language.Language.TheVariants.{Ptx, CudaFE, Cubin}
 use Rattle.cuda_below.specs.declared.outputs.ArtifactDescriptor.{ArtifactDescriptor}
 use Rattle.cuda_below.specs.declared.arguments.ParsedArguments.{ParsedArguments}
 use Rattle.cuda_below.specs.Outputs.{entry_at}
 use Rattle.cuda_below.specs.Table.{longest_match}
 use Rattle.cuda_below.specs.Items.{items}
-use Rattle.device_lines.specs.Cicc.{cicc_options}
-use Rattle.device_lines.specs.Ptxas.{ptxas_options}
+use Rattle.device_lines.specs.Cicc.{cicc_options, cicc_reading}
+use Rattle.device_lines.specs.CudaFE.{cudafe_options, cudafe_reading}
+use Rattle.device_lines.specs.Ptxas.{ptxas_options, ptxas_reading}
 use Rattle.device_lines.specs.Reading.{made_at, reading_of_items}
 use Rattle.cuda_below.specs.declared.command.Cacheable.TheVariants.{Yes}
 use Rattle.cuda_below.specs.Command.{single_command}
-use Rattle.device_lines.specs.Reread.{AtMostOneInputWord, PtxasLinesRereadWithEmptyValues, PtxasLinesRereadWithSeveralInputs, CiccLinesRereadAnywhere}
-use Rattle.device_lines.specs.RereadRows.{cicc_reading, ptxas_reading}
+use Rattle.device_lines.specs.Reread.{AtMostOneInputWord, PtxasLinesRereadWithEmptyValues, CiccLinesRereadWithSeveralInputs, PtxasLinesRereadWithSeveralInputs, CiccLinesRereadAnywhere, PtxasLinesRereadAnywhere, CudaFELinesRereadAnywhere}
 
 -- two texts that a test tells apart
 differ : (a b : List ℕ) → bytes_eq a b ≡ false → bytes_eq b b ≡ true → a ≡ b → ⊥
@@ -33,28 +33,63 @@ empty_value_is_needed law =
       never : (d : ArtifactDescriptor) → Some None ≡ Some (Some d) → ⊥
       never d e = cc
 
-pub one_input_is_needed : PtxasLinesRereadWithSeveralInputs → ⊥
-one_input_is_needed law =
+-- two words that are equal as optional values
+unwrapped : (a b : List ℕ) → Some a ≡ Some b → a ≡ b
+unwrapped a b e = cc
+
+-- the path of a line's output
+abbrev output_path : ParsedArguments → Option (List ℕ)
+output_path p = option_map (λ (d : ArtifactDescriptor). d.path) (entry_at (codes "obj") p.outputs)
+
+-- two readings whose outputs have different paths
+paths-differ : (a b : List ℕ) → bytes_eq a b ≡ false → bytes_eq b b ≡ true → Some (Some a) ≡ Some (Some b) → ⊥
+paths-differ a b apart same e = differ a b apart same (inner a b e) where
+  inner : (a b : List ℕ) → Some (Some a) ≡ Some (Some b) → a ≡ b
+  inner a b e = cc
+
+pub one_ptxas_input_is_needed : PtxasLinesRereadWithSeveralInputs → ⊥
+one_ptxas_input_is_needed law =
     let line : List (List ℕ) = codes "-x" ∷ codes "a.ptx" ∷ codes "b.ptx" ∷ codes "-o" ∷ codes "c" ∷ [] in
     let back : List (List ℕ) = codes "-x" ∷ codes "b.ptx" ∷ codes "a.ptx" ∷ codes "-o" ∷ codes "/w/c" ∷ [] in
     let first : ParsedArguments = reading_of_items (codes "/w") Cubin (codes "a.ptx") (items (longest_match ptxas_options) (codes "-x" ∷ codes "b.ptx" ∷ codes "-o" ∷ codes "c" ∷ [])) in
     let again : ptxas_reading (codes "/w") back ≡ Some first = law (codes "/w") line refl (refl, (refl, (refl, tt))) first [] [] (single_command [] back (codes "/w") [], Yes) refl refl in
     let inputs : Some (codes "b.ptx") ≡ Some (codes "a.ptx") = ap (option_map (λ p. p.input)) again in
-    differ (codes "b.ptx") (codes "a.ptx") refl refl (unwrapped (codes "b.ptx") (codes "a.ptx") inputs) where
-      unwrapped : (a b : List ℕ) → Some a ≡ Some b → a ≡ b
-      unwrapped a b e = cc
+    differ (codes "b.ptx") (codes "a.ptx") refl refl (unwrapped (codes "b.ptx") (codes "a.ptx") inputs)
 
-pub absolute_folder_is_needed : CiccLinesRereadAnywhere → ⊥
-absolute_folder_is_needed law =
+pub one_cicc_input_is_needed : CiccLinesRereadWithSeveralInputs → ⊥
+one_cicc_input_is_needed law =
+    let line : List (List ℕ) = codes "-x" ∷ codes "a.cpp1.ii" ∷ codes "b.cpp1.ii" ∷ codes "-o" ∷ codes "c" ∷ [] in
+    let back : List (List ℕ) = codes "-x" ∷ codes "b.cpp1.ii" ∷ codes "a.cpp1.ii" ∷ codes "-o" ∷ codes "/w/c" ∷ [] in
+    let first : ParsedArguments = reading_of_items (codes "/w") Ptx (codes "a.cpp1.ii") (items (longest_match cicc_options) (codes "-x" ∷ codes "b.cpp1.ii" ∷ codes "-o" ∷ codes "c" ∷ [])) in
+    let again : cicc_reading (codes "/w") back ≡ Some first = law (codes "/w") line refl first [] [] (single_command [] back (codes "/w") [], Yes) refl refl in
+    let inputs : Some (codes "b.cpp1.ii") ≡ Some (codes "a.cpp1.ii") = ap (option_map (λ p. p.input)) again in
+    differ (codes "b.cpp1.ii") (codes "a.cpp1.ii") refl refl (unwrapped (codes "b.cpp1.ii") (codes "a.cpp1.ii") inputs)
+
+pub absolute_cicc_folder_is_needed : CiccLinesRereadAnywhere → ⊥
+absolute_cicc_folder_is_needed law =
     let line : List (List ℕ) = codes "k.cpp1.ii" ∷ codes "-o" ∷ codes "p" ∷ [] in
     let back : List (List ℕ) = codes "k.cpp1.ii" ∷ codes "-o" ∷ codes "./p" ∷ [] in
     let first : ParsedArguments = reading_of_items (codes ".") Ptx (codes "k.cpp1.ii") (items (longest_match cicc_options) (codes "-o" ∷ codes "p" ∷ [])) in
     let few : AtMostOneInputWord Ptx line = omega arith in
     let again : cicc_reading (codes ".") back ≡ Some first = law (codes ".") line few first [] [] (single_command [] back (codes ".") [], Yes) refl refl in
-    let paths : Some (Some (codes "././p")) ≡ Some (Some (codes "./p")) = ap (option_map (λ p. option_map path_of (entry_at (codes "obj") p.outputs))) again in
-    differ (codes "././p") (codes "./p") refl refl (unwrapped (codes "././p") (codes "./p") paths) where
-      path_of : ArtifactDescriptor → List ℕ
-      path_of d = d.path
+    let paths : Some (Some (codes "././p")) ≡ Some (Some (codes "./p")) = ap (option_map output_path) again in
+    paths-differ (codes "././p") (codes "./p") refl refl paths
 
-      unwrapped : (a b : List ℕ) → Some (Some a) ≡ Some (Some b) → a ≡ b
-      unwrapped a b e = cc
+pub absolute_ptxas_folder_is_needed : PtxasLinesRereadAnywhere → ⊥
+absolute_ptxas_folder_is_needed law =
+    let line : List (List ℕ) = codes "k.ptx" ∷ codes "-o" ∷ codes "p" ∷ [] in
+    let back : List (List ℕ) = codes "k.ptx" ∷ codes "-o" ∷ codes "./p" ∷ [] in
+    let first : ParsedArguments = reading_of_items (codes ".") Cubin (codes "k.ptx") (items (longest_match ptxas_options) (codes "-o" ∷ codes "p" ∷ [])) in
+    let few : AtMostOneInputWord Cubin line = omega arith in
+    let again : ptxas_reading (codes ".") back ≡ Some first = law (codes ".") line few (refl, tt) first [] [] (single_command [] back (codes ".") [], Yes) refl refl in
+    let paths : Some (Some (codes "././p")) ≡ Some (Some (codes "./p")) = ap (option_map output_path) again in
+    paths-differ (codes "././p") (codes "./p") refl refl paths
+
+pub absolute_cudafe_folder_is_needed : CudaFELinesRereadAnywhere → ⊥
+absolute_cudafe_folder_is_needed law =
+    let line : List (List ℕ) = codes "--module_id_file_name" ∷ codes "p" ∷ codes "x" ∷ [] in
+    let back : List (List ℕ) = codes "--module_id_file_name" ∷ codes "./p" ∷ codes "x" ∷ [] in
+    let first : ParsedArguments = reading_of_items (codes ".") CudaFE (codes "x") (items (longest_match cudafe_options) (codes "--module_id_file_name" ∷ codes "p" ∷ [])) in
+    let again : cudafe_reading (codes ".") back ≡ Some first = law (codes ".") line first [] [] (single_command [] back (codes ".") [], Yes) refl refl in
+    let paths : Some (Some (codes "././p")) ≡ Some (Some (codes "./p")) = ap (option_map output_path) again in
+    paths-differ (codes "././p") (codes "./p") refl refl paths

@@ -10,8 +10,8 @@ use Rattle.cuda_below.specs.Path.{joined}
 use Rattle.cuda_below.specs.Table.{Entry}
 use Rattle.cuda_below.specs.Items.{Item, raw, unknown_flag, flag, with_value, faulty, kind_of}
 use Rattle.cuda_below.specs.WordsLaw.{is_joined}
-use Rattle.device_lines.specs.declared.cicc.ArgData.{ArgData}
-use Rattle.device_lines.specs.declared.cicc.ArgData.TheVariants.{Output, PassThrough, UnhashedFlag, GenModuleIdFileFlag, ModuleIdFileName, UnhashedPassThrough, UnhashedOutput}
+use Rattle.device_lines.specs.declared.options.ArgData.{ArgData}
+use Rattle.device_lines.specs.declared.options.ArgData.TheVariants.{Output, PassThrough, UnhashedFlag, GenModuleIdFileFlag, ModuleIdFileName, UnhashedPassThrough, UnhashedOutput}
 use Rattle.device_lines.specs.Reading.{is_unhashed_kind, is_unknown, beside, is_common, unhashed_items, made_at, output_of, is_generating_kind, is_generating, module_id_output}
 use Rattle.device_lines.proofs.RereadWords.{other-kind, unhashed-kind, common_after}
 use Rattle.device_lines.proofs.RereadOutputs.{IsOther, is_other}

@@ -11,9 +11,8 @@ use Rattle.cuda_below.specs.declared.language.Language.{Language}
 use Rattle.cuda_below.specs.declared.language.Language.TheVariants.{C, Cxx, ObjectiveC, ObjectiveCxx, Cuda, CudaFE, Ptx, Cubin}
 use Rattle.cuda_below.specs.Path.{is_absolute_path, separator_after, joined, lacks}
 use Rattle.cuda_below.proofs.PathLemmas.{ends_slash, forwards, false-not_true, not-is}
-use Rattle.device_lines.specs.Cicc.{is_input_word}
 use Rattle.device_lines.proofs.RereadWords.{all-append}
-use Rattle.device_lines.specs.Reading.{place_from_end, first_place, input_place}
+use Rattle.device_lines.specs.Reading.{is_input_word, place_from_end, first_place, input_place}
 
 -- the first place of a list with one more element in front
 position-cons : {X : Type 0} (p : X → Bool) (x : X) (xs : List X) → position p (x ∷ xs) ≡ cond (p x) (Some 0) (option_map suc (position p xs))

@@ -9,8 +9,8 @@ use Rattle.cuda_below.specs.Table.{Entry}
 use Rattle.cuda_below.specs.Items.{Item, raw, unknown_flag, flag, with_value, faulty, items, words_of, kind_of}
 use Rattle.cuda_below.specs.WordsLaw.{is_whole, IsReadOver}
 use Rattle.cuda_below.proofs.WordsLemmas.{lists-read_back, lines-hold_read_items}
-use Rattle.device_lines.specs.declared.cicc.ArgData.{ArgData}
-use Rattle.device_lines.specs.declared.cicc.ArgData.TheVariants.{Output, PassThrough, UnhashedFlag, GenModuleIdFileFlag, ModuleIdFileName, UnhashedPassThrough, UnhashedOutput}
+use Rattle.device_lines.specs.declared.options.ArgData.{ArgData}
+use Rattle.device_lines.specs.declared.options.ArgData.TheVariants.{Output, PassThrough, UnhashedFlag, GenModuleIdFileFlag, ModuleIdFileName, UnhashedPassThrough, UnhashedOutput}
 use Rattle.device_lines.specs.Reading.{is_common_kind, is_unhashed_kind, is_unknown, beside, is_common, common_items, unhashed_items}
 use Rattle.device_lines.specs.Reread.{is_filled, AllFilled, common_words, unhashed_words, KeptWordsReadBack, KeptWordsStay}
 

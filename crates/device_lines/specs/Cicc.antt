@@ -1,20 +1,13 @@
--- cicc's options, and how its input is known.
-use Rattle.std.proofs.Common.{ℕ, List, [], ◌∷◌, Bool, false, Some, None, nat_eq, codes}
-use Rattle.std.specs.List.{ends_with}
-use Rattle.cuda_below.specs.declared.language.Language.{Language}
-use Rattle.cuda_below.specs.declared.language.Language.TheVariants.{C, Cxx, ObjectiveC, ObjectiveCxx, Cuda, CudaFE, Ptx, Cubin}
-use Rattle.cuda_below.specs.declared.table.ArgDisposition.TheVariants.{Separated}
-use Rattle.cuda_below.specs.Table.{Entry}
-use Rattle.device_lines.specs.declared.cicc.ArgData.{ArgData}
-use Rattle.device_lines.specs.declared.cicc.ArgData.TheVariants.{Output, PassThrough, GenModuleIdFileFlag, ModuleIdFileName, UnhashedOutput}
-use Rattle.cuda_below.specs.DeviceFiles.{is_cicc_word, is_ptxas_word}
-
--- an option without a value, and one whose value is the next word
-abbrev pub plain_flag : List ℕ → ArgData → Entry ArgData
-plain_flag text kind = record { text = text; kind = kind; form = None }
-
-abbrev pub separated : List ℕ → ArgData → Entry ArgData
-separated text kind = record { text = text; kind = kind; form = Some Separated }
+-- cicc's options, and what its lines are read as.
+use Rattle.std.specs.Prelude.{ℕ, List, [], ◌∷◌, Option, codes}
+use Rattle.cuda_below.specs.declared.arguments.ParsedArguments.{ParsedArguments}
+use Rattle.cuda_below.specs.declared.language.Language.TheVariants.{Ptx}
+use Rattle.cuda_below.specs.Compiler.{Reading}
+use Rattle.cuda_below.specs.Table.{Entry, longest_match}
+use Rattle.device_lines.specs.declared.options.ArgData.{ArgData}
+use Rattle.device_lines.specs.declared.options.ArgData.TheVariants.{Output, PassThrough, GenModuleIdFileFlag, ModuleIdFileName, UnhashedOutput}
+use Rattle.device_lines.specs.Options.{plain_flag, separated}
+use Rattle.device_lines.specs.Reading.{reading, tool_reading}
 
 -- cicc's option table
 abbrev pub cicc_options : List (Entry ArgData)
@@ -28,13 +21,11 @@ cicc_options =
     separated (codes "-o") Output ∷
     []
 
--- whether a word is by its end the input of the tool that makes this kind of file
-abbrev pub is_input_word : Language → List ℕ → Bool
-is_input_word Ptx word = is_cicc_word word
-is_input_word Cubin word = is_ptxas_word word
-is_input_word C word = false
-is_input_word Cxx word = false
-is_input_word ObjectiveC word = false
-is_input_word ObjectiveCxx word = false
-is_input_word Cuda word = false
-is_input_word CudaFE word = false
+-- what a cicc line is read as at a working directory; if no word ends as its input does, that is the third word from the
+-- end, since a line ends in the input, `-o` and the output
+abbrev pub cicc_reading : List ℕ → List (List ℕ) → Option ParsedArguments
+cicc_reading cwd words = reading (longest_match cicc_options) cwd Ptx 3 words
+
+-- the same, as a compiler answers it
+abbrev pub cicc_answer : List ℕ → List (List ℕ) → Reading
+cicc_answer cwd words = tool_reading cicc_options cwd Ptx 3 words

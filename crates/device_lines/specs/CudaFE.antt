@@ -1,9 +1,13 @@
--- cudafe++'s options.
-use Rattle.std.specs.Prelude.{List, [], ◌∷◌, codes}
-use Rattle.cuda_below.specs.Table.{Entry}
-use Rattle.device_lines.specs.Cicc.{plain_flag, separated}
-use Rattle.device_lines.specs.declared.cicc.ArgData.{ArgData}
-use Rattle.device_lines.specs.declared.cicc.ArgData.TheVariants.{Output, GenModuleIdFileFlag, UnhashedPassThrough, UnhashedOutput}
+-- cudafe++'s options, and what its lines are read as.
+use Rattle.std.specs.Prelude.{ℕ, List, [], ◌∷◌, Option, codes}
+use Rattle.cuda_below.specs.declared.arguments.ParsedArguments.{ParsedArguments}
+use Rattle.cuda_below.specs.declared.language.Language.TheVariants as languages
+use Rattle.cuda_below.specs.Compiler.{Reading}
+use Rattle.cuda_below.specs.Table.{Entry, longest_match}
+use Rattle.device_lines.specs.declared.options.ArgData.{ArgData}
+use Rattle.device_lines.specs.declared.options.ArgData.TheVariants.{Output, GenModuleIdFileFlag, UnhashedPassThrough, UnhashedOutput}
+use Rattle.device_lines.specs.Options.{plain_flag, separated}
+use Rattle.device_lines.specs.Reading.{reading, tool_reading}
 
 -- cudafe++'s option table; the file that the tool is run for is the module id file
 abbrev pub cudafe_options : List (Entry ArgData)
@@ -13,3 +17,11 @@ cudafe_options =
     separated (codes "--module_id_file_name") Output ∷
     separated (codes "--stub_file_name") UnhashedPassThrough ∷
     []
+
+-- what a cudafe++ line is read as at a working directory; its input is the last word
+abbrev pub cudafe_reading : List ℕ → List (List ℕ) → Option ParsedArguments
+cudafe_reading cwd words = reading (longest_match cudafe_options) cwd languages.CudaFE 1 words
+
+-- the same, as a compiler answers it
+abbrev pub cudafe_answer : List ℕ → List (List ℕ) → Reading
+cudafe_answer cwd words = tool_reading cudafe_options cwd languages.CudaFE 1 words

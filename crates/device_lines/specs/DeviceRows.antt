@@ -1,35 +1,56 @@
 -- Lines that are read and written back, worked out by hand.
-use Rattle.std.proofs.Common.{◌≡◌, ℕ, List, [], ◌∷◌, Option, Some, None, Result, Ok, Err, codes, refl}
-use Rattle.cuda_below.specs.declared.language.Language.TheVariants.{Ptx}
+use Rattle.std.proofs.Common.{◌≡◌, ℕ, List, [], ◌∷◌, false, Option, Some, None, Result, Ok, Err, codes, refl}
+use Rattle.cuda_below.specs.declared.language.Language.TheVariants as languages
 use Rattle.cuda_below.specs.declared.command.SingleCompileCommand.{SingleCompileCommand}
 use Rattle.cuda_below.specs.declared.command.Cacheable.{Cacheable}
 use Rattle.cuda_below.specs.declared.fault.Fault.{Fault}
 use Rattle.cuda_below.specs.declared.fault.Fault.TheVariants.{MissingOutput}
 use Rattle.cuda_below.specs.declared.arguments.ParsedArguments.{ParsedArguments}
-use Rattle.cuda_below.specs.Table.{longest_match}
-use Rattle.device_lines.specs.Cicc.{cicc_options}
-use Rattle.device_lines.specs.Reading.{reading}
+use Rattle.cuda_below.specs.Arguments.{plain_arguments}
 use Rattle.cuda_below.specs.Command.{written}
-use Rattle.device_lines.specs.DeviceWords.{cicc_words}
+use Rattle.cuda_below.specs.Rows.{spaced}
+use Rattle.device_lines.specs.Cicc.{cicc_reading}
+use Rattle.device_lines.specs.CudaFE.{cudafe_reading}
+use Rattle.device_lines.specs.Ptxas.{ptxas_reading}
+use Rattle.device_lines.specs.Reading.{made_at}
+use Rattle.device_lines.specs.DeviceWords.{cicc_words, cudafe_words}
 
 -- the words of a command, or why there is none
 abbrev pub words_written : Result (SingleCompileCommand × Cacheable) Fault → Result (List (List ℕ)) Fault
 words_written (Ok c) = Ok c.0.arguments
 words_written (Err fault) = Err fault
 
-abbrev pub written_back_of : Option ParsedArguments → List ℕ → Option (Result (List (List ℕ)) Fault)
-written_back_of None cwd = None
-written_back_of (Some p) cwd = Some (words_written (written cicc_words [] p cwd []))
+-- the words that arguments are written back as at a working directory; nothing if a line is no compilation
+abbrev pub words_back : (ParsedArguments → List ℕ → List (List ℕ)) → List ℕ → Option ParsedArguments → Option (Result (List (List ℕ)) Fault)
+words_back words_to_write cwd None = None
+words_back words_to_write cwd (Some arguments) = Some (words_written (written words_to_write [] arguments cwd []))
 
--- a cicc line, read at a working directory and written back; nothing where it is no compilation
+-- a cicc line, read at a working directory and written back
 abbrev pub cicc_written_back : List ℕ → List (List ℕ) → Option (Result (List (List ℕ)) Fault)
-cicc_written_back cwd words = written_back_of (reading (longest_match cicc_options) cwd Ptx 3 words) cwd
+cicc_written_back cwd words = words_back cicc_words cwd (cicc_reading cwd words)
+
+-- the device-code line
+abbrev pub device_code_words : List (List ℕ)
+device_code_words =
+    spaced "--device-c -arch compute_80 --module_id_file_name kernel.module_id kernel.cpp1.ii --simt-only -o kernel.ptx"
+
+-- it is read at `.`: its output and the module id file, which is read, are joined to that
+abbrev pub DeviceCodeLineIsRead : Type 0
+DeviceCodeLineIsRead =
+    cicc_reading (codes ".") device_code_words ≡ Some (record (plain_arguments (codes "kernel.cpp1.ii") languages.Ptx ((codes "obj", made_at false (codes "./kernel.ptx")) ∷ [])) {
+      common_args = spaced "--device-c -arch compute_80 --module_id_file_name kernel.module_id --simt-only";
+      extra_dist_files = spaced "./kernel.module_id";
+      extra_hash_files = spaced "./kernel.module_id";
+    })
+
+pub device_code_line_is_read : DeviceCodeLineIsRead
+device_code_line_is_read = refl
 
 -- the device-code line: the input moves behind the other words, and the output's path is joined
 abbrev pub DeviceCodeLine : Type 0
 DeviceCodeLine =
-    cicc_written_back (codes "/w") (codes "--device-c" ∷ codes "-arch" ∷ codes "compute_80" ∷ codes "--module_id_file_name" ∷ codes "kernel.module_id" ∷ codes "kernel.cpp1.ii" ∷ codes "--simt-only" ∷ codes "-o" ∷ codes "kernel.ptx" ∷ []) ≡
-    Some (Ok (codes "--device-c" ∷ codes "-arch" ∷ codes "compute_80" ∷ codes "--module_id_file_name" ∷ codes "kernel.module_id" ∷ codes "--simt-only" ∷ codes "kernel.cpp1.ii" ∷ codes "-o" ∷ codes "/w/kernel.ptx" ∷ []))
+    cicc_written_back (codes "/w") device_code_words ≡
+    Some (Ok (spaced "--device-c -arch compute_80 --module_id_file_name kernel.module_id --simt-only kernel.cpp1.ii -o /w/kernel.ptx"))
 
 pub device_code_line : DeviceCodeLine
 device_code_line = refl
@@ -37,22 +58,52 @@ device_code_line = refl
 -- the input is cut out first, so that the word after it follows the one before it: `bar` is the value of `-foo`, and `baz` is dropped
 abbrev pub InputIsCutOutFirst : Type 0
 InputIsCutOutFirst =
-    cicc_written_back (codes "/w") (codes "-foo" ∷ codes "k.cpp1.ii" ∷ codes "bar" ∷ codes "baz" ∷ codes "-o" ∷ codes "p" ∷ []) ≡
-    Some (Ok (codes "-foo" ∷ codes "bar" ∷ codes "k.cpp1.ii" ∷ codes "-o" ∷ codes "/w/p" ∷ []))
+    cicc_written_back (codes "/w") (spaced "-foo k.cpp1.ii bar baz -o p") ≡
+    Some (Ok (spaced "-foo bar k.cpp1.ii -o /w/p"))
 
 pub input_is_cut_out_first : InputIsCutOutFirst
 input_is_cut_out_first = refl
 
--- two words, and the input would be the third from the end
+-- two words, and no word, where the input would be the third from the end
 abbrev pub ShortLineIsNoCompilation : Type 0
-ShortLineIsNoCompilation = cicc_written_back (codes "/w") (codes "a" ∷ codes "b" ∷ []) ≡ None
+ShortLineIsNoCompilation =
+    (cicc_reading (codes "/w") (spaced "a b") ≡ None)
+    × (cicc_reading (codes "/w") [] ≡ None)
+    × (ptxas_reading (codes "/w") [] ≡ None)
+    × (cudafe_reading (codes "/w") [] ≡ None)
 
 pub short_line_is_no_compilation : ShortLineIsNoCompilation
-short_line_is_no_compilation = refl
+short_line_is_no_compilation = (refl, refl, refl, refl)
 
--- a last option without its value is dropped, and without an output nothing is written
+-- of three words none of which ends as an input does, the first is the third from the end; the others are dropped, as raw
+-- words, and no output is left
+abbrev pub ThirdWordFromTheEndIsTheInput : Type 0
+ThirdWordFromTheEndIsTheInput =
+    (cicc_reading (codes "/w") (spaced "a b c") ≡ Some (plain_arguments (codes "a") languages.Ptx []))
+    × (cicc_written_back (codes "/w") (spaced "a b c") ≡ Some (Err (MissingOutput languages.Ptx)))
+
+pub third_word_from_the_end_is_the_input : ThirdWordFromTheEndIsTheInput
+third_word_from_the_end_is_the_input = (refl, refl)
+
+-- a last option without its value is dropped, and without an output nothing is written, by each of the three tools
 abbrev pub FaultyItemIsDropped : Type 0
-FaultyItemIsDropped = cicc_written_back (codes "/w") (codes "k.cpp1.ii" ∷ codes "-o" ∷ []) ≡ Some (Err (MissingOutput Ptx))
+FaultyItemIsDropped =
+    (cicc_written_back (codes "/w") (spaced "k.cpp1.ii -o") ≡ Some (Err (MissingOutput languages.Ptx)))
+    × (words_back cicc_words (codes "/w") (ptxas_reading (codes "/w") (spaced "k.ptx -o")) ≡ Some (Err (MissingOutput languages.Cubin)))
+    × (words_back cudafe_words (codes "/w") (cudafe_reading (codes "/w") (spaced "--module_id_file_name x.cpp4.ii")) ≡ Some (Err (MissingOutput languages.CudaFE)))
 
 pub faulty_item_is_dropped : FaultyItemIsDropped
-faulty_item_is_dropped = refl
+faulty_item_is_dropped = (refl, refl, refl)
+
+-- a cudafe++ line at `/t`: the module id file is its output, and the file that it makes besides is recorded under its
+-- option; the stub file isn't
+abbrev pub HostLineIsRead : Type 0
+HostLineIsRead =
+    cudafe_reading (codes "/t") (spaced "--gen_c_file_name x_0.cudafe1.cpp --stub_file_name x_0.cudafe1.stub.c --gen_module_id_file --module_id_file_name kernel.module_id --simt-only x_0.cpp4.ii")
+    ≡ Some (record (plain_arguments (codes "x_0.cpp4.ii") languages.CudaFE ((codes "--gen_c_file_name", made_at false (codes "/t/x_0.cudafe1.cpp")) ∷ (codes "obj", made_at false (codes "/t/kernel.module_id")) ∷ [])) {
+      common_args = spaced "--gen_module_id_file --simt-only";
+      unhashed_args = spaced "--gen_c_file_name x_0.cudafe1.cpp --stub_file_name x_0.cudafe1.stub.c";
+    })
+
+pub host_line_is_read : HostLineIsRead
+host_line_is_read = refl

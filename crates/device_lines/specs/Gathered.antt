@@ -1,14 +1,14 @@
 -- What reading a device tool's line has gathered, and how one more item changes it.
 use Rattle.std.specs.Prelude.{ℕ, List, [], ◌++◌, Bool, false, ◌||◌, if◌then◌else◌, Option, Some, None, is_some}
 use Rattle.std.specs.List.{fold}
-use Rattle.cuda_below.specs.declared.arguments.ColorMode.TheVariants.{Off}
 use Rattle.cuda_below.specs.declared.arguments.ParsedArguments.{ParsedArguments}
 use Rattle.cuda_below.specs.declared.language.Language.{Language}
 use Rattle.cuda_below.specs.declared.outputs.ArtifactDescriptor.{ArtifactDescriptor}
 use Rattle.cuda_below.specs.Outputs.{with_entry}
+use Rattle.cuda_below.specs.Arguments.{plain_arguments}
 use Rattle.cuda_below.specs.Items.{Item, words_of, kind_of}
-use Rattle.device_lines.specs.declared.cicc.ArgData.{ArgData}
-use Rattle.device_lines.specs.declared.gathered.Gathered.{Gathered}
+use Rattle.device_lines.specs.declared.options.ArgData.{ArgData}
+use Rattle.device_lines.specs.declared.reader.gathered.Gathered.{Gathered}
 use Rattle.device_lines.specs.Reading.{is_common, is_unknown, is_unhashed_kind, output_of, module_id_of, module_id_output, module_id_file, is_generating}
 use Rattle.cuda_below.specs.Lists.{latest}
 
@@ -16,7 +16,7 @@ use Rattle.cuda_below.specs.Lists.{latest}
 abbrev pub nothing_gathered : Gathered
 nothing_gathered = record { common = []; unhashed = []; outputs = []; module_id = None; makes_module_id = false; after_unknown = false }
 
--- one more output, where there is one
+-- one more output, if there is one
 abbrev pub with_output : List (List ℕ × ArtifactDescriptor) → Option (List ℕ × ArtifactDescriptor) → List (List ℕ × ArtifactDescriptor)
 with_output outputs None = outputs
 with_output outputs (Some e) = with_entry outputs e
@@ -38,25 +38,9 @@ with_item cwd g i = record {
 
 -- what has been gathered of all items, as arguments
 abbrev pub reading_of_gathered : List ℕ → Language → List ℕ → Gathered → ParsedArguments
-reading_of_gathered cwd language input g = record {
-  input = input;
-  outputs = fold with_entry g.outputs (module_id_output cwd g.makes_module_id g.module_id);
-  double_dash_input = false;
-  language = language;
-  compilation_flag = [];
-  depfile = None;
-  dependency_args = [];
-  preprocessor_args = [];
+reading_of_gathered cwd language input g = record (plain_arguments input language (fold with_entry g.outputs (module_id_output cwd g.makes_module_id g.module_id))) {
   common_args = g.common;
-  arch_args = [];
   unhashed_args = g.unhashed;
   extra_dist_files = module_id_file cwd g.makes_module_id g.module_id;
   extra_hash_files = module_id_file cwd g.makes_module_id g.module_id;
-  uses_external_assembler = false;
-  msvc_show_includes = false;
-  msvc_explicit_language = false;
-  profile_generate = false;
-  color_mode = Off;
-  suppress_rewrite_includes_only = false;
-  too_hard_for_preprocessor_cache_mode = None;
 }

@@ -4,6 +4,8 @@ pub mod DeviceRows
 pub mod DeviceWords
 pub mod Gathered
 pub mod Input
+pub mod InputStep
+pub mod Options
 pub mod Ptxas
 pub mod Reading
 pub mod Reread

@@ -1,10 +1,14 @@
--- ptxas's options.
-use Rattle.std.specs.Prelude.{ℕ, List, [], ◌∷◌, Some, codes}
+-- ptxas's options, and what its lines are read as.
+use Rattle.std.specs.Prelude.{ℕ, List, [], ◌∷◌, Option, Some, codes}
+use Rattle.cuda_below.specs.declared.arguments.ParsedArguments.{ParsedArguments}
+use Rattle.cuda_below.specs.declared.language.Language.TheVariants.{Cubin}
 use Rattle.cuda_below.specs.declared.table.ArgDisposition.TheVariants.{CanBeSeparated}
-use Rattle.cuda_below.specs.Table.{Entry}
-use Rattle.device_lines.specs.Cicc.{separated}
-use Rattle.device_lines.specs.declared.cicc.ArgData.{ArgData}
-use Rattle.device_lines.specs.declared.cicc.ArgData.TheVariants.{Output, PassThrough}
+use Rattle.cuda_below.specs.Compiler.{Reading}
+use Rattle.cuda_below.specs.Table.{Entry, longest_match}
+use Rattle.device_lines.specs.declared.options.ArgData.{ArgData}
+use Rattle.device_lines.specs.declared.options.ArgData.TheVariants.{Output, PassThrough}
+use Rattle.device_lines.specs.Options.{separated}
+use Rattle.device_lines.specs.Reading.{reading, tool_reading}
 
 -- an option whose value is the next word, or joined to it by `=`, which is the byte 61
 abbrev pub separated_or_equals : List ℕ → ArgData → Entry ArgData
@@ -17,3 +21,12 @@ ptxas_options =
     separated_or_equals (codes "-m") PassThrough ∷
     separated (codes "-o") Output ∷
     []
+
+-- what a ptxas line is read as at a working directory; if no word ends as its input does, that is the third word from the
+-- end, since a line ends in the input, `-o` and the output
+abbrev pub ptxas_reading : List ℕ → List (List ℕ) → Option ParsedArguments
+ptxas_reading cwd words = reading (longest_match ptxas_options) cwd Cubin 3 words
+
+-- the same, as a compiler answers it
+abbrev pub ptxas_answer : List ℕ → List (List ℕ) → Reading
+ptxas_answer cwd words = tool_reading ptxas_options cwd Cubin 3 words

@@ -3,70 +3,60 @@ use Rattle.std.specs.Prelude.{ℕ, ◌-◌, List, [], ◌∷◌, ◌++◌, Bool,
 use Rattle.std.specs.List.{filter_map, flat_map, list_any, remove, fold}
 use Rattle.std.specs.Option.{option_map, option_to_list}
 use Rattle.cuda_below.specs.declared.language.Language.{Language}
+use Rattle.cuda_below.specs.declared.language.Language.TheVariants.{Ptx, Cubin}
 use Rattle.cuda_below.specs.declared.outputs.ArtifactDescriptor.{ArtifactDescriptor}
 use Rattle.cuda_below.specs.declared.arguments.ParsedArguments.{ParsedArguments}
-use Rattle.cuda_below.specs.declared.arguments.ColorMode.TheVariants.{Off}
-use Rattle.cuda_below.specs.declared.arguments.CompilerArguments.{CompilerArguments}
-use Rattle.cuda_below.specs.declared.arguments.CompilerArguments.TheVariants.{NotCompilation}
-use Rattle.cuda_below.specs.declared.arguments.CompilerArguments.TheVariants as answers
+use Rattle.cuda_below.specs.Arguments.{plain_arguments}
+use Rattle.cuda_below.specs.DeviceFiles.{is_cicc_word, is_ptxas_word}
+use Rattle.cuda_below.specs.Lists.{last_of}
 use Rattle.cuda_below.specs.Path.{joined}
 use Rattle.cuda_below.specs.Outputs.{entries_from}
 use Rattle.cuda_below.specs.Compiler.{Reading, accepted, not_compilation}
 use Rattle.cuda_below.specs.Table.{Entry, longest_match}
-use Rattle.cuda_below.specs.Items.{Item, raw, unknown_flag, flag, with_value, faulty, items, words_of, kind_of, text_of, value_of}
-use Rattle.device_lines.specs.declared.cicc.ArgData.{ArgData}
-use Rattle.device_lines.specs.declared.cicc.ArgData.TheVariants.{Output, PassThrough, UnhashedFlag, GenModuleIdFileFlag, ModuleIdFileName, UnhashedPassThrough, UnhashedOutput}
-use Rattle.device_lines.specs.Cicc.{is_input_word}
-use Rattle.cuda_below.specs.Lists.{last_of}
+use Rattle.cuda_below.specs.Items.{Item, raw, unknown_flag, items, words_of, kind_of, text_of, value_of}
+use Rattle.device_lines.specs.declared.options.ArgData.{ArgData}
+use Rattle.device_lines.specs.declared.options.ArgData.TheVariants.{Output, PassThrough, UnhashedFlag, GenModuleIdFileFlag, ModuleIdFileName, UnhashedPassThrough, UnhashedOutput}
 
--- where the input stands if no word is it by its end: so many words from the end, unless there are fewer
+-- whether a word is by its end the input of the tool that makes this kind of file
+abbrev pub is_input_word : Language → List ℕ → Bool
+is_input_word Ptx word = is_cicc_word word
+is_input_word Cubin word = is_ptxas_word word
+is_input_word _ word = false
+
+-- the position that is `offset` words from the end, if the line is that long
 abbrev pub place_from_end : ℕ → ℕ → Option ℕ
 place_from_end offset count = if nat_lt 0 offset && nat_le offset count then Some (count - offset) else None
 
--- the first of two places that there is
+-- the first of two positions that there is
 abbrev pub first_place : Option ℕ → Option ℕ → Option ℕ
 first_place (Some place) other = Some place
 first_place None other = other
 
--- where the input stands: the first word that is it by its end, else by the offset from the end
+-- the position of the input: of the first word that is it by its end, else by the offset from the end
 abbrev pub input_place : Language → ℕ → List (List ℕ) → Option ℕ
 input_place language offset words = first_place (position (is_input_word language) words) (place_from_end offset (length words))
 
 -- the kinds whose words are common, and those whose words are unhashed
 abbrev pub is_common_kind : Option ArgData → Bool
-is_common_kind None = false
-is_common_kind (Some Output) = false
 is_common_kind (Some PassThrough) = true
-is_common_kind (Some UnhashedFlag) = false
 is_common_kind (Some GenModuleIdFileFlag) = true
 is_common_kind (Some ModuleIdFileName) = true
-is_common_kind (Some UnhashedPassThrough) = false
-is_common_kind (Some UnhashedOutput) = false
+is_common_kind _ = false
 
 abbrev pub is_unhashed_kind : Option ArgData → Bool
-is_unhashed_kind None = false
-is_unhashed_kind (Some Output) = false
-is_unhashed_kind (Some PassThrough) = false
 is_unhashed_kind (Some UnhashedFlag) = true
-is_unhashed_kind (Some GenModuleIdFileFlag) = false
-is_unhashed_kind (Some ModuleIdFileName) = false
 is_unhashed_kind (Some UnhashedPassThrough) = true
 is_unhashed_kind (Some UnhashedOutput) = true
+is_unhashed_kind _ = false
 
 -- an unknown flag, and a raw word
 abbrev pub is_unknown : Item ArgData → Bool
-is_unknown (raw word) = false
 is_unknown (unknown_flag word) = true
-is_unknown (flag text kind) = false
-is_unknown (with_value text kind value form) = false
-is_unknown faulty = false
+is_unknown _ = false
 
 abbrev pub is_raw : Item ArgData → Bool
 is_raw (raw word) = true
-is_raw (unknown_flag word) = false
-is_raw (flag text kind) = false
-is_raw (with_value text kind value form) = false
-is_raw faulty = false
+is_raw _ = false
 
 -- each item, beside whether an unknown flag stands right before it
 abbrev pub beside : Bool → List (Item ArgData) → List (Bool × Item ArgData)
@@ -90,42 +80,25 @@ made_at optional path = record { path = path; optional = optional }
 
 -- the output that an item of a kind names: the line's output, or one under its option's text
 abbrev pub output_of_kind : List ℕ → Option ArgData → Item ArgData → Option (List ℕ × ArtifactDescriptor)
-output_of_kind cwd None i = None
 output_of_kind cwd (Some Output) i = Some (codes "obj", made_at false (joined cwd (value_of i)))
-output_of_kind cwd (Some PassThrough) i = None
-output_of_kind cwd (Some UnhashedFlag) i = None
-output_of_kind cwd (Some GenModuleIdFileFlag) i = None
-output_of_kind cwd (Some ModuleIdFileName) i = None
-output_of_kind cwd (Some UnhashedPassThrough) i = None
 output_of_kind cwd (Some UnhashedOutput) i = option_map (λ text. (text, made_at false (joined cwd (value_of i)))) (text_of i)
+output_of_kind cwd _ i = None
 
 abbrev pub output_of : List ℕ → Item ArgData → Option (List ℕ × ArtifactDescriptor)
 output_of cwd i = output_of_kind cwd (kind_of i) i
 
 -- the module id path that an item names
 abbrev pub module_id_of_kind : Option ArgData → List ℕ → Option (List ℕ)
-module_id_of_kind None value = None
-module_id_of_kind (Some Output) value = None
-module_id_of_kind (Some PassThrough) value = None
-module_id_of_kind (Some UnhashedFlag) value = None
-module_id_of_kind (Some GenModuleIdFileFlag) value = None
 module_id_of_kind (Some ModuleIdFileName) value = Some value
-module_id_of_kind (Some UnhashedPassThrough) value = None
-module_id_of_kind (Some UnhashedOutput) value = None
+module_id_of_kind _ value = None
 
 abbrev pub module_id_of : Item ArgData → Option (List ℕ)
 module_id_of i = module_id_of_kind (kind_of i) (value_of i)
 
 -- whether an item says that the tool makes the module id file
 abbrev pub is_generating_kind : Option ArgData → Bool
-is_generating_kind None = false
-is_generating_kind (Some Output) = false
-is_generating_kind (Some PassThrough) = false
-is_generating_kind (Some UnhashedFlag) = false
 is_generating_kind (Some GenModuleIdFileFlag) = true
-is_generating_kind (Some ModuleIdFileName) = false
-is_generating_kind (Some UnhashedPassThrough) = false
-is_generating_kind (Some UnhashedOutput) = false
+is_generating_kind _ = false
 
 abbrev pub is_generating : Item ArgData → Bool
 is_generating i = is_generating_kind (kind_of i)
@@ -134,7 +107,7 @@ is_generating i = is_generating_kind (kind_of i)
 abbrev pub module_id : List (Item ArgData) → Option (List ℕ)
 module_id is = last_of (filter_map module_id_of is)
 
--- where the line makes the module id file, that file is an output that may be left out, recorded after all others
+-- if the line makes the module id file, that file is an output that may be left out, recorded after all others
 abbrev pub module_id_output : List ℕ → Bool → Option (List ℕ) → List (List ℕ × ArtifactDescriptor)
 module_id_output cwd false id = []
 module_id_output cwd true id = option_to_list (option_map (λ path. (codes "--module_id_file_name", made_at true (joined cwd path))) id)
@@ -150,45 +123,30 @@ outputs_of cwd is = entries_from (filter_map (output_of cwd) is ++ module_id_out
 
 -- what the items of a line and its input are read as
 abbrev pub reading_of_items : List ℕ → Language → List ℕ → List (Item ArgData) → ParsedArguments
-reading_of_items cwd language input is = record {
-  input = input;
-  outputs = outputs_of cwd is;
-  double_dash_input = false;
-  language = language;
-  compilation_flag = [];
-  depfile = None;
-  dependency_args = [];
-  preprocessor_args = [];
+reading_of_items cwd language input is = record (plain_arguments input language (outputs_of cwd is)) {
   common_args = flat_map words_of (common_items is);
-  arch_args = [];
   unhashed_args = flat_map words_of (unhashed_items is);
   extra_dist_files = module_id_file cwd (list_any is_generating is) (module_id is);
   extra_hash_files = module_id_file cwd (list_any is_generating is) (module_id is);
-  uses_external_assembler = false;
-  msvc_show_includes = false;
-  msvc_explicit_language = false;
-  profile_generate = false;
-  color_mode = Off;
-  suppress_rewrite_includes_only = false;
-  too_hard_for_preprocessor_cache_mode = None;
 }
 
--- what a line is read as over a table: its input is cut out first, and the items of the other words are read;
--- without an input it is no compilation
+-- what a line is read as over a table, with its input at a position: the input is cut out, and the items of the other
+-- words are read
+abbrev pub reading_around : (List ℕ → Option (Entry ArgData)) → List ℕ → Language → List (List ℕ) → ℕ → ParsedArguments
+reading_around chosen cwd language words place = reading_of_items cwd language (slice_index_or words place []) (items chosen (remove words place))
+
+-- what a line is read as over a table; nothing if it has no input
 abbrev pub reading : (List ℕ → Option (Entry ArgData)) → List ℕ → Language → ℕ → List (List ℕ) → Option ParsedArguments
-reading chosen cwd language offset words =
-    option_map (λ place. reading_of_items cwd language (slice_index_or words place []) (items chosen (remove words place))) (input_place language offset words)
+reading chosen cwd language offset words = option_map (reading_around chosen cwd language words) (input_place language offset words)
 
--- how a reader says it
-abbrev pub answer_of : Option ParsedArguments → CompilerArguments ParsedArguments
-answer_of None = NotCompilation
-answer_of (Some arguments) = answers.Ok arguments
-
--- the same, as the trait of compilers has it
+-- the same as a reader answers it: without an input a line is no compilation
 abbrev pub reading_as_answer : Option ParsedArguments → Reading
 reading_as_answer None = not_compilation
 reading_as_answer (Some arguments) = accepted arguments
 
--- what a device tool's line is read as over a list of options
+abbrev pub line_reading : (List ℕ → Option (Entry ArgData)) → List ℕ → Language → ℕ → List (List ℕ) → Reading
+line_reading chosen cwd language offset words = reading_as_answer (reading chosen cwd language offset words)
+
+-- the same over a list of options
 abbrev pub tool_reading : List (Entry ArgData) → List ℕ → Language → ℕ → List (List ℕ) → Reading
-tool_reading options cwd language offset words = reading_as_answer (reading (longest_match options) cwd language offset words)
+tool_reading options cwd language offset words = line_reading (longest_match options) cwd language offset words

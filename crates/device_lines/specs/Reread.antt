@@ -11,11 +11,11 @@ use Rattle.cuda_below.specs.Path.{is_absolute_path}
 use Rattle.cuda_below.specs.Table.{Entry, longest_match}
 use Rattle.cuda_below.specs.Items.{Item, raw, unknown_flag, flag, with_value, faulty, items, words_of}
 use Rattle.cuda_below.specs.WordsLaw.{is_joined}
-use Rattle.device_lines.specs.declared.cicc.ArgData.{ArgData}
-use Rattle.device_lines.specs.Cicc.{cicc_options, is_input_word}
+use Rattle.device_lines.specs.declared.options.ArgData.{ArgData}
+use Rattle.device_lines.specs.Cicc.{cicc_options}
 use Rattle.device_lines.specs.CudaFE.{cudafe_options}
 use Rattle.device_lines.specs.Ptxas.{ptxas_options}
-use Rattle.device_lines.specs.Reading.{common_items, unhashed_items, input_place, reading}
+use Rattle.device_lines.specs.Reading.{is_input_word, common_items, unhashed_items, input_place, reading}
 use Rattle.cuda_below.specs.Command.{written}
 use Rattle.device_lines.specs.DeviceWords.{cicc_words, cudafe_words}
 
@@ -59,8 +59,8 @@ abbrev pub NoEmptyValue : List (Entry ArgData) → Language → ℕ → List (Li
 NoEmptyValue options language offset words =
     IfSome (input_place language offset words) (λ place. AllFilled (items (longest_match options) (remove words place)))
 
--- a line rereads: where it was read and its writing wasn't refused, the words of the command that it is written
--- back as are read, at the same working directory, as the same arguments
+-- a line rereads: if it was read and its writing wasn't refused, the words of the command that it is written back as are
+-- read, at the same working directory, as the same arguments
 abbrev pub Rereads : List (Entry ArgData) → Language → ℕ → (ParsedArguments → List ℕ → List (List ℕ)) → List ℕ → List (List ℕ) → Type 0
 Rereads options language offset words_to_write cwd words =
     (arguments : ParsedArguments) (executable : List ℕ) (env_vars : List (List ℕ × List ℕ)) (command : SingleCompileCommand × Cacheable) →
@@ -68,12 +68,12 @@ Rereads options language offset words_to_write cwd words =
     written words_to_write executable arguments cwd env_vars ≡ Ok command →
     reading (longest_match options) cwd language offset command.0.arguments ≡ Some arguments
 
--- cicc's lines reread at an absolute working directory, where at most one word has the input's suffix
+-- cicc's lines reread at an absolute working directory, if at most one word has the input's suffix
 abbrev pub CiccLinesReread : Type 0
 CiccLinesReread =
     (cwd : List ℕ) (words : List (List ℕ)) → is_absolute_path cwd ≡ true → AtMostOneInputWord Ptx words → Rereads cicc_options Ptx 3 cicc_words cwd words
 
--- so do ptxas's, where besides no option has an empty value joined to it
+-- so do ptxas's, if besides no option has an empty value joined to it
 abbrev pub PtxasLinesReread : Type 0
 PtxasLinesReread =
     (cwd : List ℕ) (words : List (List ℕ)) → is_absolute_path cwd ≡ true → AtMostOneInputWord Cubin words → NoEmptyValue ptxas_options Cubin 3 words → Rereads ptxas_options Cubin 3 cicc_words cwd words
@@ -82,18 +82,28 @@ PtxasLinesReread =
 abbrev pub CudaFELinesReread : Type 0
 CudaFELinesReread = (cwd : List ℕ) (words : List (List ℕ)) → is_absolute_path cwd ≡ true → Rereads cudafe_options CudaFE 1 cudafe_words cwd words
 
--- The same with a premise left out. None of these is so.
+-- The same with one premise left out, for each tool and each of its premises. None of these is so.
 
 -- ptxas's lines, also with an empty value that is joined to its option
 abbrev pub PtxasLinesRereadWithEmptyValues : Type 0
 PtxasLinesRereadWithEmptyValues =
     (cwd : List ℕ) (words : List (List ℕ)) → is_absolute_path cwd ≡ true → AtMostOneInputWord Cubin words → Rereads ptxas_options Cubin 3 cicc_words cwd words
 
--- ptxas's lines, also with several words that have the input's suffix
+-- cicc's and ptxas's lines, also with several words that have the input's suffix
+abbrev pub CiccLinesRereadWithSeveralInputs : Type 0
+CiccLinesRereadWithSeveralInputs = (cwd : List ℕ) (words : List (List ℕ)) → is_absolute_path cwd ≡ true → Rereads cicc_options Ptx 3 cicc_words cwd words
+
 abbrev pub PtxasLinesRereadWithSeveralInputs : Type 0
 PtxasLinesRereadWithSeveralInputs =
     (cwd : List ℕ) (words : List (List ℕ)) → is_absolute_path cwd ≡ true → NoEmptyValue ptxas_options Cubin 3 words → Rereads ptxas_options Cubin 3 cicc_words cwd words
 
--- cicc's lines, at any working directory
+-- each tool's lines, at any working directory
 abbrev pub CiccLinesRereadAnywhere : Type 0
 CiccLinesRereadAnywhere = (cwd : List ℕ) (words : List (List ℕ)) → AtMostOneInputWord Ptx words → Rereads cicc_options Ptx 3 cicc_words cwd words
+
+abbrev pub PtxasLinesRereadAnywhere : Type 0
+PtxasLinesRereadAnywhere =
+    (cwd : List ℕ) (words : List (List ℕ)) → AtMostOneInputWord Cubin words → NoEmptyValue ptxas_options Cubin 3 words → Rereads ptxas_options Cubin 3 cicc_words cwd words
+
+abbrev pub CudaFELinesRereadAnywhere : Type 0
+CudaFELinesRereadAnywhere = (cwd : List ℕ) (words : List (List ℕ)) → Rereads cudafe_options CudaFE 1 cudafe_words cwd words

@@ -1,34 +1,17 @@
--- Lines that are written back and read again, worked out by hand: lines that the law is about, and for each premise
--- a line without it that isn't read as the same.
+-- Lines that are written back and read again, worked out by hand: lines that the law is about, and for each tool and each
+-- of its premises a line without it that isn't read as the same.
 use Rattle.std.proofs.Common.{◌≡◌, ℕ, List, [], ◌∷◌, Option, Some, None, Result, Ok, Err, codes, refl}
 use Rattle.std.specs.Option.{option_map}
-use Rattle.cuda_below.specs.declared.language.Language.TheVariants.{Ptx, CudaFE, Cubin}
+use Rattle.cuda_below.specs.declared.language.Language.TheVariants.{Cubin}
 use Rattle.cuda_below.specs.declared.fault.Fault.{Fault}
 use Rattle.cuda_below.specs.declared.fault.Fault.TheVariants.{MissingOutput}
 use Rattle.cuda_below.specs.declared.arguments.ParsedArguments.{ParsedArguments}
-use Rattle.cuda_below.specs.Table.{longest_match}
-use Rattle.device_lines.specs.Cicc.{cicc_options}
-use Rattle.device_lines.specs.CudaFE.{cudafe_options}
-use Rattle.device_lines.specs.Ptxas.{ptxas_options}
-use Rattle.device_lines.specs.Reading.{reading}
-use Rattle.cuda_below.specs.Command.{written}
+use Rattle.cuda_below.specs.Rows.{spaced}
+use Rattle.device_lines.specs.Cicc.{cicc_reading}
+use Rattle.device_lines.specs.CudaFE.{cudafe_reading}
+use Rattle.device_lines.specs.Ptxas.{ptxas_reading}
 use Rattle.device_lines.specs.DeviceWords.{cicc_words, cudafe_words}
-use Rattle.device_lines.specs.DeviceRows.{words_written}
-
--- what the three tools' lines are read as at a working directory
-abbrev pub cicc_reading : List ℕ → List (List ℕ) → Option ParsedArguments
-cicc_reading cwd words = reading (longest_match cicc_options) cwd Ptx 3 words
-
-abbrev pub ptxas_reading : List ℕ → List (List ℕ) → Option ParsedArguments
-ptxas_reading cwd words = reading (longest_match ptxas_options) cwd Cubin 3 words
-
-abbrev pub cudafe_reading : List ℕ → List (List ℕ) → Option ParsedArguments
-cudafe_reading cwd words = reading (longest_match cudafe_options) cwd CudaFE 1 words
-
--- the words that arguments are written back as, or why there are none; nothing where a line is no compilation
-abbrev pub words_back : (ParsedArguments → List ℕ → List (List ℕ)) → List ℕ → Option ParsedArguments → Option (Result (List (List ℕ)) Fault)
-words_back words_to_write cwd None = None
-words_back words_to_write cwd (Some arguments) = Some (words_written (written words_to_write [] arguments cwd []))
+use Rattle.device_lines.specs.DeviceRows.{words_back, device_code_words}
 
 -- a line is written back as other words, which are read as the same arguments
 abbrev pub GoesAndComes : (List (List ℕ) → Option ParsedArguments) → (ParsedArguments → List ℕ → List (List ℕ)) → List ℕ → List (List ℕ) → List (List ℕ) → Type 0
@@ -38,8 +21,8 @@ GoesAndComes read words_to_write cwd words back = (words_back words_to_write cwd
 abbrev pub DeviceCodeLineRereads : Type 0
 DeviceCodeLineRereads =
     GoesAndComes (cicc_reading (codes "/w")) cicc_words (codes "/w")
-    (codes "--device-c" ∷ codes "-arch" ∷ codes "compute_80" ∷ codes "--module_id_file_name" ∷ codes "kernel.module_id" ∷ codes "kernel.cpp1.ii" ∷ codes "--simt-only" ∷ codes "-o" ∷ codes "kernel.ptx" ∷ [])
-    (codes "--device-c" ∷ codes "-arch" ∷ codes "compute_80" ∷ codes "--module_id_file_name" ∷ codes "kernel.module_id" ∷ codes "--simt-only" ∷ codes "kernel.cpp1.ii" ∷ codes "-o" ∷ codes "/w/kernel.ptx" ∷ [])
+    device_code_words
+    (spaced "--device-c -arch compute_80 --module_id_file_name kernel.module_id --simt-only kernel.cpp1.ii -o /w/kernel.ptx")
 
 pub device_code_line_rereads : DeviceCodeLineRereads
 device_code_line_rereads = (refl, refl)
@@ -48,8 +31,8 @@ device_code_line_rereads = (refl, refl)
 abbrev pub RenamedHostLineRereads : Type 0
 RenamedHostLineRereads =
     GoesAndComes (cudafe_reading (codes "/t")) cudafe_words (codes "/t")
-    (codes "--gen_c_file_name" ∷ codes "x_0.cudafe1.cpp" ∷ codes "--stub_file_name" ∷ codes "x_0.cudafe1.stub.c" ∷ codes "--gen_module_id_file" ∷ codes "--module_id_file_name" ∷ codes "kernel.module_id" ∷ codes "--simt-only" ∷ codes "x_0.cpp4.ii" ∷ [])
-    (codes "--gen_module_id_file" ∷ codes "--simt-only" ∷ codes "--gen_c_file_name" ∷ codes "x_0.cudafe1.cpp" ∷ codes "--stub_file_name" ∷ codes "x_0.cudafe1.stub.c" ∷ codes "--module_id_file_name" ∷ codes "/t/kernel.module_id" ∷ codes "x_0.cpp4.ii" ∷ [])
+    (spaced "--gen_c_file_name x_0.cudafe1.cpp --stub_file_name x_0.cudafe1.stub.c --gen_module_id_file --module_id_file_name kernel.module_id --simt-only x_0.cpp4.ii")
+    (spaced "--gen_module_id_file --simt-only --gen_c_file_name x_0.cudafe1.cpp --stub_file_name x_0.cudafe1.stub.c --module_id_file_name /t/kernel.module_id x_0.cpp4.ii")
 
 pub renamed_host_line_rereads : RenamedHostLineRereads
 renamed_host_line_rereads = (refl, refl)
@@ -58,8 +41,8 @@ renamed_host_line_rereads = (refl, refl)
 abbrev pub HostLineRereads : Type 0
 HostLineRereads =
     GoesAndComes (cudafe_reading (codes "/t")) cudafe_words (codes "/t")
-    (codes "--c++17" ∷ codes "--static-host-stub" ∷ codes "--device-hidden-visibility" ∷ codes "--gnu_version=120200" ∷ codes "--display_error_number" ∷ codes "--orig_src_file_name" ∷ codes "kernel.cu" ∷ codes "--orig_src_path_name" ∷ codes "/w/kernel.cu" ∷ codes "--allow_managed" ∷ codes "--m64" ∷ codes "--parse_templates" ∷ codes "--gen_c_file_name" ∷ codes "kernel.cudafe1.cpp" ∷ codes "--stub_file_name" ∷ codes "kernel.cudafe1.stub.c" ∷ codes "--gen_module_id_file" ∷ codes "--module_id_file_name" ∷ codes "kernel.module_id" ∷ codes "kernel.cpp4.ii" ∷ [])
-    (codes "--c++17" ∷ codes "--static-host-stub" ∷ codes "--device-hidden-visibility" ∷ codes "--gnu_version=120200" ∷ codes "--display_error_number" ∷ codes "--orig_src_file_name" ∷ codes "kernel.cu" ∷ codes "--orig_src_path_name" ∷ codes "/w/kernel.cu" ∷ codes "--allow_managed" ∷ codes "--m64" ∷ codes "--parse_templates" ∷ codes "--gen_module_id_file" ∷ codes "--gen_c_file_name" ∷ codes "kernel.cudafe1.cpp" ∷ codes "--stub_file_name" ∷ codes "kernel.cudafe1.stub.c" ∷ codes "--module_id_file_name" ∷ codes "/t/kernel.module_id" ∷ codes "kernel.cpp4.ii" ∷ [])
+    (spaced "--c++17 --static-host-stub --device-hidden-visibility --gnu_version=120200 --display_error_number --orig_src_file_name kernel.cu --orig_src_path_name /w/kernel.cu --allow_managed --m64 --parse_templates --gen_c_file_name kernel.cudafe1.cpp --stub_file_name kernel.cudafe1.stub.c --gen_module_id_file --module_id_file_name kernel.module_id kernel.cpp4.ii")
+    (spaced "--c++17 --static-host-stub --device-hidden-visibility --gnu_version=120200 --display_error_number --orig_src_file_name kernel.cu --orig_src_path_name /w/kernel.cu --allow_managed --m64 --parse_templates --gen_module_id_file --gen_c_file_name kernel.cudafe1.cpp --stub_file_name kernel.cudafe1.stub.c --module_id_file_name /t/kernel.module_id kernel.cpp4.ii")
 
 pub host_line_rereads : HostLineRereads
 host_line_rereads = (refl, refl)
@@ -68,8 +51,8 @@ host_line_rereads = (refl, refl)
 abbrev pub AssemblerLineRereads : Type 0
 AssemblerLineRereads =
     GoesAndComes (ptxas_reading (codes "/t")) cicc_words (codes "/t")
-    (codes "-arch=sm_80" ∷ codes "-m64" ∷ codes "kernel.ptx" ∷ codes "-o" ∷ codes "kernel.sm_80.cubin" ∷ [])
-    (codes "-arch=sm_80" ∷ codes "-m64" ∷ codes "kernel.ptx" ∷ codes "-o" ∷ codes "/t/kernel.sm_80.cubin" ∷ [])
+    (spaced "-arch=sm_80 -m64 kernel.ptx -o kernel.sm_80.cubin")
+    (spaced "-arch=sm_80 -m64 kernel.ptx -o /t/kernel.sm_80.cubin")
 
 pub assembler_line_rereads : AssemblerLineRereads
 unfolding lib.Utf8.encode
@@ -79,28 +62,55 @@ assembler_line_rereads = (refl, refl)
 -- is cut out that is `-o`, so the line read again names no output, and its own writing is refused
 abbrev pub EmptyValueIsLost : Type 0
 EmptyValueIsLost =
-    (words_back cicc_words (codes "/w") (ptxas_reading (codes "/w") (codes "-arch=" ∷ codes "k.ptx" ∷ codes "-o" ∷ codes "k.cubin" ∷ [])) ≡ Some (Ok (codes "-arch" ∷ codes "k.ptx" ∷ codes "-o" ∷ codes "/w/k.cubin" ∷ [])))
-    × (words_back cicc_words (codes "/w") (ptxas_reading (codes "/w") (codes "-arch" ∷ codes "k.ptx" ∷ codes "-o" ∷ codes "/w/k.cubin" ∷ [])) ≡ Some (Err (MissingOutput Cubin)))
+    (words_back cicc_words (codes "/w") (ptxas_reading (codes "/w") (spaced "-arch= k.ptx -o k.cubin")) ≡ Some (Ok (spaced "-arch k.ptx -o /w/k.cubin")))
+    × (words_back cicc_words (codes "/w") (ptxas_reading (codes "/w") (spaced "-arch k.ptx -o /w/k.cubin")) ≡ Some (Err (MissingOutput Cubin)))
 
 pub empty_value_is_lost : EmptyValueIsLost
 empty_value_is_lost = (refl, refl)
+
+-- a line is written back as other words, of which another word is the input
+abbrev pub ChangesItsInput : (List (List ℕ) → Option ParsedArguments) → List (List ℕ) → List (List ℕ) → List ℕ → List ℕ → Type 0
+ChangesItsInput read words back input other =
+    (words_back cicc_words (codes "/w") (read words) ≡ Some (Ok back))
+    × (option_map (λ p. p.input) (read words) ≡ Some input)
+    × (option_map (λ p. p.input) (read back) ≡ Some other)
 
 -- of two words with the input's suffix the first is the input; the other one, kept after its flag, is written before it
 -- and is the first when the line is read again
 abbrev pub SecondInputComesFirst : Type 0
 SecondInputComesFirst =
-    (words_back cicc_words (codes "/w") (ptxas_reading (codes "/w") (codes "-x" ∷ codes "a.ptx" ∷ codes "b.ptx" ∷ codes "-o" ∷ codes "c" ∷ [])) ≡ Some (Ok (codes "-x" ∷ codes "b.ptx" ∷ codes "a.ptx" ∷ codes "-o" ∷ codes "/w/c" ∷ [])))
-    × (option_map (λ p. p.input) (ptxas_reading (codes "/w") (codes "-x" ∷ codes "a.ptx" ∷ codes "b.ptx" ∷ codes "-o" ∷ codes "c" ∷ [])) ≡ Some (codes "a.ptx"))
-    × (option_map (λ p. p.input) (ptxas_reading (codes "/w") (codes "-x" ∷ codes "b.ptx" ∷ codes "a.ptx" ∷ codes "-o" ∷ codes "/w/c" ∷ [])) ≡ Some (codes "b.ptx"))
+    ChangesItsInput (ptxas_reading (codes "/w"))
+    (spaced "-x a.ptx b.ptx -o c")
+    (spaced "-x b.ptx a.ptx -o /w/c")
+    (codes "a.ptx") (codes "b.ptx")
+    × ChangesItsInput (cicc_reading (codes "/w"))
+    (spaced "-x a.cpp1.ii b.cpp1.ii -o c")
+    (spaced "-x b.cpp1.ii a.cpp1.ii -o /w/c")
+    (codes "a.cpp1.ii") (codes "b.cpp1.ii")
 
 pub second_input_comes_first : SecondInputComesFirst
-second_input_comes_first = (refl, refl, refl)
+second_input_comes_first = ((refl, refl, refl), (refl, refl, refl))
+
+-- a line at the working directory `.` is written back as other words, and these as others again
+abbrev pub ChangesTwice : (List (List ℕ) → Option ParsedArguments) → (ParsedArguments → List ℕ → List (List ℕ)) → List (List ℕ) → List (List ℕ) → List (List ℕ) → Type 0
+ChangesTwice read words_to_write words back again =
+    (words_back words_to_write (codes ".") (read words) ≡ Some (Ok back)) × (words_back words_to_write (codes ".") (read back) ≡ Some (Ok again))
 
 -- at a working directory that isn't absolute the output is put below it once more by each reading
 abbrev pub RelativeFolderIsJoinedTwice : Type 0
 RelativeFolderIsJoinedTwice =
-    (words_back cicc_words (codes ".") (cicc_reading (codes ".") (codes "k.cpp1.ii" ∷ codes "-o" ∷ codes "p" ∷ [])) ≡ Some (Ok (codes "k.cpp1.ii" ∷ codes "-o" ∷ codes "./p" ∷ [])))
-    × (words_back cicc_words (codes ".") (cicc_reading (codes ".") (codes "k.cpp1.ii" ∷ codes "-o" ∷ codes "./p" ∷ [])) ≡ Some (Ok (codes "k.cpp1.ii" ∷ codes "-o" ∷ codes "././p" ∷ [])))
+    ChangesTwice (cicc_reading (codes ".")) cicc_words
+    (spaced "k.cpp1.ii -o p")
+    (spaced "k.cpp1.ii -o ./p")
+    (spaced "k.cpp1.ii -o ././p")
+    × ChangesTwice (ptxas_reading (codes ".")) cicc_words
+    (spaced "k.ptx -o p")
+    (spaced "k.ptx -o ./p")
+    (spaced "k.ptx -o ././p")
+    × ChangesTwice (cudafe_reading (codes ".")) cudafe_words
+    (spaced "--module_id_file_name p x")
+    (spaced "--module_id_file_name ./p x")
+    (spaced "--module_id_file_name ././p x")
 
 pub relative_folder_is_joined_twice : RelativeFolderIsJoinedTwice
-relative_folder_is_joined_twice = (refl, refl)
+relative_folder_is_joined_twice = ((refl, refl), (refl, refl), (refl, refl))

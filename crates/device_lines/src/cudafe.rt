@@ -1,14 +1,18 @@
 //! The command lines of cudafe++, which parts host code from device code.
 
-ghost use Rattle.std.specs.Prelude.{◌≡◌, map, IfOk};
+ghost use Rattle.std.specs.Prelude.{◌≡◌, None, Err, map, codes, IfOk};
 ghost use Rattle.cuda_below.specs.Table.{entry_of};
 ghost use Rattle.cuda_below.specs.Variables.{pair_of};
-ghost use Rattle.cuda_below.specs.Fault.{UnlessMemory};
-ghost use Rattle.device_lines.specs.CudaFE.{cudafe_options};
+ghost use Rattle.cuda_below.specs.Outputs.{entry_at};
 ghost use Rattle.cuda_below.specs.Command.{written};
-ghost use Rattle.device_lines.specs.DeviceWords.{cudafe_words};
+ghost use Rattle.cuda_below.specs.Fault.{UnlessMemory};
+ghost use Rattle.cuda_below.specs.declared.fault.Fault.TheVariants.{MissingOutput};
+ghost use Rattle.device_lines.specs.CudaFE as spec;
+ghost use Rattle.device_lines.specs.DeviceWords as words;
 
-use crate::cicc::{self, ArgData};
+use crate::options::ArgData;
+use crate::reader::parse_arguments;
+use crate::writer::option_words;
 use cuda_below::arguments::{CompilerArguments, ParsedArguments};
 use cuda_below::command::{Cacheable, SingleCompileCommand};
 use cuda_below::compiler::{CCompilerImpl, CCompilerKind, Places};
@@ -31,23 +35,24 @@ pub const ARGS: [ArgInfo<ArgData>; 4] = [
 
 /// cudafe++'s option table, to be searched.
 pub fn table() -> Table<'static, ArgData>
-    ensures { map entry_of result.rows.now ≡ cudafe_options }
+    ensures { map entry_of result.rows.now ≡ spec.cudafe_options }
 {
     Table { rows: &ARGS }
 }
 
 // The words of a cudafe++ line.
-fn line_words(alloc: Global, parsed_args: &ParsedArguments, obj: &Text) -> Result<Words, AllocError>
-    ensures { IfOk result (λ w. w ≡ cudafe_words parsed_args.now obj.now) }
+fn line_words(alloc: Global, parsed_args: &ParsedArguments, obj: &str) -> Result<Words, AllocError>
+    ensures { IfOk result (λ w. w ≡ words.cudafe_words parsed_args.now obj.now) }
 {
-    let mut words = cicc::option_words(alloc, parsed_args)?;
-    cicc::push_option(alloc, &mut words, "--module_id_file_name", obj.as_str())?;
-    words.push(String::from_str(alloc, parsed_args.input.as_str())?)?;
+    let mut words = option_words(alloc, parsed_args)?;
+    words.push_pair(alloc, "--module_id_file_name", obj)?;
+    words.push_str(alloc, parsed_args.input.as_str())?;
     Ok(words)
 }
 
-/// Writes arguments back as a command that can be cached: the common words, the unhashed ones,
-/// `--module_id_file_name` and the output's path, and the input. The other parts are as handed in.
+/// Writes the arguments of a cudafe++ line back as a command that can be cached: the common words,
+/// the unhashed ones, `--module_id_file_name` and the output's path, and the input. The other parts
+/// are as handed in.
 ///
 /// Refuses arguments without an output `obj`: `MissingOutput`.
 pub fn generate_compile_commands(
@@ -57,35 +62,30 @@ pub fn generate_compile_commands(
     cwd: &str,
     env_vars: &[(String, String)],
 ) -> Result<(SingleCompileCommand, Cacheable), Fault>
-    ensures { UnlessMemory result (written cudafe_words executable.now parsed_args.now cwd.now (map pair_of env_vars.now)) }
+    ensures written { UnlessMemory result
+        (written words.cudafe_words executable.now parsed_args.now cwd.now (map pair_of env_vars.now)) }
+    ensures missing { entry_at (codes "obj") parsed_args.now.outputs ≡ None
+        → result ≡ Err (MissingOutput parsed_args.now.language) }
 {
-    let Some(obj) = parsed_args.outputs.get("obj") else {
-        return Err(Fault::MissingOutput {
-            language: parsed_args.language,
-        });
-    };
-    let words = line_words(alloc, parsed_args, &obj.path)?;
-    Ok(cicc::tool_command(alloc, executable, words, cwd, env_vars)?)
+    let obj = parsed_args.obj()?;
+    let words = line_words(alloc, parsed_args, obj.path.as_str())?;
+    let command = SingleCompileCommand::copy_of(alloc, executable, words, cwd, env_vars)?;
+    Ok((command, Cacheable::Yes))
 }
 
 /// cudafe++, as a compiler.
 #[derive(Debug, PartialEq, Drop)]
 pub struct CudaFE {
-    /// The text of its version, where one is known.
+    /// The text of its version, if one is known.
     pub version: Option<Text>,
 }
 
 impl CudaFE {
-    ghost use Rattle.std.specs.Prelude.{◌≡◌, IfOk};
-
     /// An equal value, in memory of its own.
     pub fn try_clone(&self, alloc: Global) -> Result<CudaFE, AllocError>
         ensures { IfOk result (λ c. c ≡ self.now) }
     {
-        let version = match &self.version {
-            None => None,
-            Some(version) => Some(version.try_clone(alloc)?),
-        };
+        let version = Text::clone_optional(alloc, &self.version)?;
         Ok(CudaFE { version })
     }
 }
@@ -93,11 +93,9 @@ impl CudaFE {
 impl CCompilerImpl for CudaFE {
     ghost use Rattle.std.specs.Prelude.{true};
     ghost use Rattle.cuda_below.specs.declared.compiler.CCompilerKind.TheVariants as kinds;
-    ghost use Rattle.cuda_below.specs.declared.language.Language.TheVariants as languages;
-    ghost use Rattle.device_lines.specs.CudaFE.{cudafe_options};
-    ghost use Rattle.device_lines.specs.Reading.{tool_reading};
+    ghost use Rattle.device_lines.specs.CudaFE as spec;
+    ghost use Rattle.device_lines.specs.DeviceWords as words;
     ghost use Rattle.cuda_below.specs.Command.{written};
-    ghost use Rattle.device_lines.specs.DeviceWords.{cudafe_words};
 
     type Command = SingleCompileCommand;
 
@@ -107,9 +105,9 @@ impl CCompilerImpl for CudaFE {
 
     ghost version = { λ c. c.version };
 
-    ghost reading = { λ _ words cwd _. tool_reading cudafe_options cwd languages.CudaFE 1 words };
+    ghost reading = { λ _ line cwd _. spec.cudafe_answer cwd line };
 
-    ghost writing = { λ _ executable p cwd env_vars _. written cudafe_words executable p cwd env_vars };
+    ghost writing = { λ _ executable p cwd env_vars _. written words.cudafe_words executable p cwd env_vars };
 
     fn kind(&self) -> CCompilerKind {
         CCompilerKind::CudaFE
@@ -120,10 +118,7 @@ impl CCompilerImpl for CudaFE {
     }
 
     fn version(&self, alloc: Global) -> Result<Option<String>, AllocError> {
-        match &self.version {
-            None => Ok(None),
-            Some(version) => Ok(Some(String::from_str(alloc, version.as_str())?)),
-        }
+        Ok(Text::clone_optional(alloc, &self.version)?.map(Text::into_string))
     }
 
     fn parse_arguments(
@@ -133,7 +128,7 @@ impl CCompilerImpl for CudaFE {
         cwd: &str,
         _env_vars: &[(String, String)],
     ) -> Result<CompilerArguments<ParsedArguments>, AllocError> {
-        cicc::parse_arguments(alloc, arguments, cwd, Language::CudaFE, table(), 1)
+        parse_arguments(alloc, arguments, cwd, Language::CudaFE, table(), 1)
     }
 
     fn generate_compile_commands(

@@ -3,6 +3,9 @@
 
 pub mod cicc;
 pub mod cudafe;
-mod gathered;
+mod input;
 pub mod laws;
+mod options;
 pub mod ptxas;
+mod reader;
+mod writer;

@@ -1,31 +1,31 @@
 //! The command lines of ptxas, which makes machine code of PTX.
 
-ghost use Rattle.std.specs.Prelude.{◌≡◌, map};
+ghost use Rattle.std.specs.Prelude.{◌≡◌, map, IfOk};
 ghost use Rattle.cuda_below.specs.Table.{entry_of};
-ghost use Rattle.device_lines.specs.Ptxas.{ptxas_options};
+ghost use Rattle.device_lines.specs.Ptxas as spec;
 
-use crate::cicc::{self, ArgData};
+use crate::cicc::generate_compile_commands;
+use crate::options::ArgData;
+use crate::reader::parse_arguments;
 use cuda_below::arguments::{CompilerArguments, ParsedArguments};
 use cuda_below::command::{Cacheable, SingleCompileCommand};
 use cuda_below::compiler::{CCompilerImpl, CCompilerKind, Places};
 use cuda_below::fault::Fault;
 use cuda_below::language::Language;
-use cuda_below::table::{ArgDisposition, ArgInfo, Table};
+use cuda_below::table::{ArgDisposition, ArgInfo, EITHER_WAY_OR_EQUALS, Table};
 use cuda_below::text::Text;
 use std::alloc::{AllocError, Global};
 
-const SEPARATED_OR_EQUALS: ArgDisposition = ArgDisposition::CanBeSeparated(Some(b'='));
-
 /// ptxas's options, as sccache 0.19.0's table has them.
 pub const ARGS: [ArgInfo<ArgData>; 3] = [
-    ArgInfo::TakeArg("-arch", ArgData::PassThrough, SEPARATED_OR_EQUALS),
-    ArgInfo::TakeArg("-m", ArgData::PassThrough, SEPARATED_OR_EQUALS),
+    ArgInfo::TakeArg("-arch", ArgData::PassThrough, EITHER_WAY_OR_EQUALS),
+    ArgInfo::TakeArg("-m", ArgData::PassThrough, EITHER_WAY_OR_EQUALS),
     ArgInfo::TakeArg("-o", ArgData::Output, ArgDisposition::Separated),
 ];
 
 /// ptxas's option table, to be searched.
 pub fn table() -> Table<'static, ArgData>
-    ensures { map entry_of result.rows.now ≡ ptxas_options }
+    ensures { map entry_of result.rows.now ≡ spec.ptxas_options }
 {
     Table { rows: &ARGS }
 }
@@ -33,21 +33,16 @@ pub fn table() -> Table<'static, ArgData>
 /// ptxas, as a compiler.
 #[derive(Debug, PartialEq, Drop)]
 pub struct Ptxas {
-    /// The text of its version, where one is known.
+    /// The text of its version, if one is known.
     pub version: Option<Text>,
 }
 
 impl Ptxas {
-    ghost use Rattle.std.specs.Prelude.{◌≡◌, IfOk};
-
     /// An equal value, in memory of its own.
     pub fn try_clone(&self, alloc: Global) -> Result<Ptxas, AllocError>
         ensures { IfOk result (λ c. c ≡ self.now) }
     {
-        let version = match &self.version {
-            None => None,
-            Some(version) => Some(version.try_clone(alloc)?),
-        };
+        let version = Text::clone_optional(alloc, &self.version)?;
         Ok(Ptxas { version })
     }
 }
@@ -55,11 +50,9 @@ impl Ptxas {
 impl CCompilerImpl for Ptxas {
     ghost use Rattle.std.specs.Prelude.{true};
     ghost use Rattle.cuda_below.specs.declared.compiler.CCompilerKind.TheVariants as kinds;
-    ghost use Rattle.cuda_below.specs.declared.language.Language.TheVariants as languages;
-    ghost use Rattle.device_lines.specs.Ptxas.{ptxas_options};
-    ghost use Rattle.device_lines.specs.Reading.{tool_reading};
+    ghost use Rattle.device_lines.specs.Ptxas as spec;
+    ghost use Rattle.device_lines.specs.DeviceWords as words;
     ghost use Rattle.cuda_below.specs.Command.{written};
-    ghost use Rattle.device_lines.specs.DeviceWords.{cicc_words};
 
     type Command = SingleCompileCommand;
 
@@ -69,9 +62,9 @@ impl CCompilerImpl for Ptxas {
 
     ghost version = { λ c. c.version };
 
-    ghost reading = { λ _ words cwd _. tool_reading ptxas_options cwd languages.Cubin 3 words };
+    ghost reading = { λ _ line cwd _. spec.ptxas_answer cwd line };
 
-    ghost writing = { λ _ executable p cwd env_vars _. written cicc_words executable p cwd env_vars };
+    ghost writing = { λ _ executable p cwd env_vars _. written words.cicc_words executable p cwd env_vars };
 
     fn kind(&self) -> CCompilerKind {
         CCompilerKind::Ptxas
@@ -82,10 +75,7 @@ impl CCompilerImpl for Ptxas {
     }
 
     fn version(&self, alloc: Global) -> Result<Option<String>, AllocError> {
-        match &self.version {
-            None => Ok(None),
-            Some(version) => Ok(Some(String::from_str(alloc, version.as_str())?)),
-        }
+        Ok(Text::clone_optional(alloc, &self.version)?.map(Text::into_string))
     }
 
     fn parse_arguments(
@@ -95,7 +85,7 @@ impl CCompilerImpl for Ptxas {
         cwd: &str,
         _env_vars: &[(String, String)],
     ) -> Result<CompilerArguments<ParsedArguments>, AllocError> {
-        cicc::parse_arguments(alloc, arguments, cwd, Language::Cubin, table(), 3)
+        parse_arguments(alloc, arguments, cwd, Language::Cubin, table(), 3)
     }
 
     fn generate_compile_commands(
@@ -107,6 +97,6 @@ impl CCompilerImpl for Ptxas {
         env_vars: &[(String, String)],
         _places: &Places,
     ) -> Result<(SingleCompileCommand, Cacheable), Fault> {
-        cicc::generate_compile_commands(alloc, executable, parsed_args, cwd, env_vars)
+        generate_compile_commands(alloc, executable, parsed_args, cwd, env_vars)
     }
 }

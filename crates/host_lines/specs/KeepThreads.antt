@@ -9,6 +9,7 @@ use Rattle.cuda_below.specs.declared.fault.Fault.{Fault}
 use Rattle.cuda_below.specs.declared.fault.Fault.TheVariants.{KeepDirValue, ThreadsValue}
 use Rattle.cuda_below.specs.Path.{joined}
 use Rattle.cuda_below.specs.Lists.{last_of}
+use Rattle.cuda_below.specs.Rows.{spaced}
 
 -- whether a word takes the next one as its value: an option of that kind does, if it isn't itself a value; the word
 -- stands beside whether it is one
@@ -161,63 +162,63 @@ threads_seen (Ok p) = Ok (map string_bytes p.0.items, p.1)
 threads_seen (Err fault) = Err fault
 
 -- Worked examples. The working directory is `/w`.
-pub directory_is_joined : keep_of (codes "/w") (codes "-keep" ∷ codes "-keep-dir" ∷ codes "out" ∷ []) ≡ Ok ([], Some (codes "/w/out"))
+pub directory_is_joined : keep_of (codes "/w") (spaced "-keep -keep-dir out") ≡ Ok ([], Some (codes "/w/out"))
 directory_is_joined = refl
 
-pub directory_alone_keeps_nothing : keep_of (codes "/w") (codes "-keep-dir" ∷ codes "out" ∷ []) ≡ Ok ([], None)
+pub directory_alone_keeps_nothing : keep_of (codes "/w") (spaced "-keep-dir out") ≡ Ok ([], None)
 directory_alone_keeps_nothing = refl
 
-pub keep_option_as_a_value : keep_of (codes "/w") (codes "-keep-dir" ∷ codes "-keep" ∷ []) ≡ Ok ([], None)
+pub keep_option_as_a_value : keep_of (codes "/w") (spaced "-keep-dir -keep") ≡ Ok ([], None)
 keep_option_as_a_value = refl
 
-pub keep_without_a_directory : keep_of (codes "/w") (codes "-keep" ∷ []) ≡ Ok ([], Some (codes "/w"))
+pub keep_without_a_directory : keep_of (codes "/w") (spaced "-keep") ≡ Ok ([], Some (codes "/w"))
 keep_without_a_directory = refl
 
-pub directory_is_missing : keep_of (codes "/w") (codes "-keep-dir" ∷ []) ≡ Err KeepDirValue
+pub directory_is_missing : keep_of (codes "/w") (spaced "-keep-dir") ≡ Err KeepDirValue
 directory_is_missing = refl
 
 pub directory_is_empty : keep_of (codes "/w") (codes "-keep" ∷ codes "-keep-dir" ∷ [] ∷ []) ≡ Ok ([], Some (codes "/w/"))
 directory_is_empty = refl
 
-pub directory_option_as_a_value : keep_of (codes "/w") (codes "-keep" ∷ codes "-keep-dir" ∷ codes "-keep-dir" ∷ []) ≡ Ok ([], Some (codes "/w/-keep-dir"))
+pub directory_option_as_a_value : keep_of (codes "/w") (spaced "-keep -keep-dir -keep-dir") ≡ Ok ([], Some (codes "/w/-keep-dir"))
 directory_option_as_a_value = refl
 
-pub last_directory_counts : keep_of (codes "/w") (codes "--keep-dir" ∷ codes "a" ∷ codes "-g" ∷ codes "--save-temps" ∷ codes "-keep-dir" ∷ codes "/b" ∷ codes "-c" ∷ []) ≡ Ok (codes "-g" ∷ codes "-c" ∷ [], Some (codes "/b"))
+pub last_directory_counts : keep_of (codes "/w") (spaced "--keep-dir a -g --save-temps -keep-dir /b -c") ≡ Ok (spaced "-g -c", Some (codes "/b"))
 last_directory_counts = refl
 
-pub threads_option_stays : keep_of (codes "/w") (codes "--threads" ∷ codes "-keep" ∷ []) ≡ Ok (codes "--threads" ∷ [], Some (codes "/w"))
+pub threads_option_stays : keep_of (codes "/w") (spaced "--threads -keep") ≡ Ok (spaced "--threads", Some (codes "/w"))
 threads_option_stays = refl
 
-pub threads_option_that_stayed : threads_of (codes "--threads" ∷ []) ≡ Err ThreadsValue
+pub threads_option_that_stayed : threads_of (spaced "--threads") ≡ Err ThreadsValue
 threads_option_that_stayed = refl
 
-pub last_number_counts : threads_of (codes "-t1" ∷ codes "-t=2" ∷ codes "-t3" ∷ codes "--threads" ∷ codes "1" ∷ codes "--threads" ∷ codes "2" ∷ []) ≡ Ok ([], 2)
+pub last_number_counts : threads_of (spaced "-t1 -t=2 -t3 --threads 1 --threads 2") ≡ Ok ([], 2)
 last_number_counts = refl
 
-pub joined_number_after_a_separate_one : threads_of (codes "--threads" ∷ codes "4" ∷ codes "-t2" ∷ []) ≡ Ok ([], 2)
+pub joined_number_after_a_separate_one : threads_of (spaced "--threads 4 -t2") ≡ Ok ([], 2)
 joined_number_after_a_separate_one = refl
 
 -- the word `-té=1`: the bytes 195 and 169 are `é`
 pub cut_inside_a_character : threads_of ((45 ∷ 116 ∷ 195 ∷ 169 ∷ 61 ∷ 49 ∷ []) ∷ []) ≡ Ok ([], 1)
 cut_inside_a_character = refl
 
-pub threads_option_as_a_value : threads_of (codes "--threads" ∷ codes "--threads" ∷ []) ≡ Ok ([], 1)
+pub threads_option_as_a_value : threads_of (spaced "--threads --threads") ≡ Ok ([], 1)
 threads_option_as_a_value = refl
 
-pub number_with_a_plus : threads_of (codes "-t+7" ∷ []) ≡ Ok ([], 7)
+pub number_with_a_plus : threads_of (spaced "-t+7") ≡ Ok ([], 7)
 number_with_a_plus = refl
 
-pub number_with_two_pluses : threads_of (codes "-t++7" ∷ []) ≡ Ok ([], 1)
+pub number_with_two_pluses : threads_of (spaced "-t++7") ≡ Ok ([], 1)
 number_with_two_pluses = refl
 
-pub number_with_leading_zeros : threads_of (codes "-t=007" ∷ codes "-g" ∷ []) ≡ Ok (codes "-g" ∷ [], 7)
+pub number_with_leading_zeros : threads_of (spaced "-t=007 -g") ≡ Ok (spaced "-g", 7)
 number_with_leading_zeros = refl
 
-pub greatest_number : threads_of (codes "-t18446744073709551615" ∷ []) ≡ Ok ([], 18446744073709551615)
+pub greatest_number : threads_of (spaced "-t18446744073709551615") ≡ Ok ([], 18446744073709551615)
 greatest_number = refl
 
-pub number_past_the_greatest : threads_of (codes "-t18446744073709551616" ∷ []) ≡ Ok ([], 1)
+pub number_past_the_greatest : threads_of (spaced "-t18446744073709551616") ≡ Ok ([], 1)
 number_past_the_greatest = refl
 
-pub equals_anywhere : threads_of (codes "-t12=" ∷ codes "-t123" ∷ codes "-t4=5" ∷ []) ≡ Ok ([], 123)
+pub equals_anywhere : threads_of (spaced "-t12= -t123 -t4=5") ≡ Ok ([], 123)
 equals_anywhere = refl

@@ -1,33 +1,28 @@
 -- nvhpc's options, and what its lines are read as.
-use Rattle.std.specs.Prelude.{◌≡◌, ℕ, List, [], ◌∷◌, ◌++◌, Bool, true, false, Option, Some, refl, codes}
+use Rattle.std.specs.Prelude.{◌≡◌, ℕ, List, [], ◌∷◌, ◌++◌, Bool, true, false, Option, refl, codes}
 use Rattle.cuda_below.specs.declared.language.Language.TheVariants.{C, Cxx}
-use Rattle.cuda_below.specs.declared.table.ArgDisposition.{ArgDisposition}
-use Rattle.cuda_below.specs.declared.table.ArgDisposition.TheVariants.{CanBeSeparated}
 use Rattle.cuda_below.specs.declared.compiler.CCompilerKind.TheVariants.{Nvhpc}
-use Rattle.cuda_below.specs.declared.gcc.ArgData.{ArgData}
-use Rattle.cuda_below.specs.declared.gcc.ArgData.TheVariants.{PassThrough, PassThroughFlag, PreprocessorArgument, PreprocessorArgumentFlag, PreprocessorArgumentPath, Language, Standard}
+use Rattle.cuda_below.specs.declared.gcc.options.ArgData.{ArgData}
+use Rattle.cuda_below.specs.declared.gcc.options.ArgData.TheVariants.{PassThrough, PassThroughFlag, PreprocessorArgument, PreprocessorArgumentFlag, PreprocessorArgumentPath, Language, Standard}
+use Rattle.cuda_below.specs.Rows.{spaced}
 use Rattle.cuda_below.specs.Table.{Entry, longest_match, longer_choice}
-use Rattle.cuda_below.specs.GccOptions.{flags, options, joined, either_way, gcc_entries, differ}
+use Rattle.cuda_below.specs.GccOptions.{flags, options, joined, either_way, either_way_or_equals, gcc_entries, differ}
 use Rattle.cuda_below.specs.Compiler.{Reading, accepted, not_compilation}
 use Rattle.cuda_below.specs.Gcc.{profile_reading}
 use Rattle.cuda_below.specs.GccRows.{compiled}
 
--- a value in the option's own word after `=`, or the next word; `=` is the byte 61
-abbrev pub either_way_or_equals : ArgDisposition
-either_way_or_equals = CanBeSeparated (Some 61)
-
 -- nvhpc's option table, by form and kind
 abbrev pub nvhpc_options : List (Entry ArgData)
 nvhpc_options =
-    options either_way_or_equals PassThrough (codes "--gcc-toolchain" ∷ codes "-Mconcur" ∷ codes "-Xlinker" ∷ codes "-acc" ∷ codes "-cudalib" ∷ codes "-gpu" ∷ codes "-mcmodel" ∷ codes "-mcpu" ∷ codes "-ta" ∷ codes "-target" ∷ codes "-tp" ∷ [])
-    ++ options either_way PassThrough (codes "--linker-options" ∷ codes "-Xfatbinary" ∷ codes "-Xnvlink" ∷ codes "-Xptxas" ∷ [])
-    ++ options either_way PreprocessorArgumentPath (codes "--include-path" ∷ codes "--system-include-path" ∷ [])
-    ++ options either_way PreprocessorArgument (codes "-Werror" ∷ [])
-    ++ options either_way_or_equals PreprocessorArgument (codes "-Xcompiler" ∷ [])
-    ++ flags PreprocessorArgumentFlag (codes "-Mnostdlib" ∷ codes "-cuda" ∷ [])
-    ++ flags PassThroughFlag (codes "-acclibs" ∷ codes "-c++libs" ∷ codes "-cudaforlibs" ∷ codes "-fortranlibs" ∷ codes "-gopt" ∷ codes "-noswitcherror" ∷ [])
-    ++ options joined Standard (codes "-c++" ∷ [])
-    ++ options either_way_or_equals Language (codes "-x" ∷ [])
+    options either_way_or_equals PassThrough (spaced "--gcc-toolchain -Mconcur -Xlinker -acc -cudalib -gpu -mcmodel -mcpu -ta -target -tp")
+    ++ options either_way PassThrough (spaced "--linker-options -Xfatbinary -Xnvlink -Xptxas")
+    ++ options either_way PreprocessorArgumentPath (spaced "--include-path --system-include-path")
+    ++ options either_way PreprocessorArgument (spaced "-Werror")
+    ++ options either_way_or_equals PreprocessorArgument (spaced "-Xcompiler")
+    ++ flags PreprocessorArgumentFlag (spaced "-Mnostdlib -cuda")
+    ++ flags PassThroughFlag (spaced "-acclibs -c++libs -cudaforlibs -fortranlibs -gopt -noswitcherror")
+    ++ options joined Standard (spaced "-c++")
+    ++ options either_way_or_equals Language (spaced "-x")
 
 pub nvhpc_texts_differ : differ nvhpc_options ≡ true
 nvhpc_texts_differ = refl
@@ -46,24 +41,24 @@ read_by_nvhpc words = nvhpc_reading false (codes ".") words
 
 -- options of gcc's table and of nvhpc's: a value that stood in its option's word becomes a word of its own if the option's
 -- text is long
-pub reads_by_both_tables : read_by_nvhpc (codes "-c" ∷ codes "foo.cpp" ∷ codes "-fabc" ∷ codes "-I" ∷ codes "include-file" ∷ codes "-o" ∷ codes "foo.o" ∷ codes "--include-path" ∷ codes "include-file" ∷ codes "-isystem" ∷ codes "/system/include/file" ∷ codes "-gpu=ccnative" ∷ codes "-Werror" ∷ codes "an_error" ∷ []) ≡ accepted (record (compiled (codes "foo.cpp") Cxx (codes "foo.o")) {
-  preprocessor_args = codes "-Iinclude-file" ∷ codes "--include-path" ∷ codes "include-file" ∷ codes "-isystem" ∷ codes "/system/include/file" ∷ codes "-Werror" ∷ codes "an_error" ∷ [];
-  common_args = codes "-fabc" ∷ codes "-gpu" ∷ codes "ccnative" ∷ [];
+pub reads_by_both_tables : read_by_nvhpc (spaced "-c foo.cpp -fabc -I include-file -o foo.o --include-path include-file -isystem /system/include/file -gpu=ccnative -Werror an_error") ≡ accepted (record (compiled (codes "foo.cpp") Cxx (codes "foo.o")) {
+  preprocessor_args = spaced "-Iinclude-file --include-path include-file -isystem /system/include/file -Werror an_error";
+  common_args = spaced "-fabc -gpu ccnative";
 })
 reads_by_both_tables = refl
 
 -- `=` is a part of a value whose option takes none
-pub takes_an_equals_sign_as_value : read_by_nvhpc (codes "-c" ∷ codes "foo.c" ∷ codes "--include-path=inc" ∷ []) ≡ accepted (record (compiled (codes "foo.c") C (codes "foo.o")) { preprocessor_args = codes "--include-path" ∷ codes "=inc" ∷ [] })
+pub takes_an_equals_sign_as_value : read_by_nvhpc (spaced "-c foo.c --include-path=inc") ≡ accepted (record (compiled (codes "foo.c") C (codes "foo.o")) { preprocessor_args = spaced "--include-path =inc" })
 takes_an_equals_sign_as_value = refl
 
 -- `-acc` takes the flag that asks for the compilation
-pub takes_the_next_word : read_by_nvhpc (codes "-acc" ∷ codes "-c" ∷ codes "foo.c" ∷ []) ≡ not_compilation
+pub takes_the_next_word : read_by_nvhpc (spaced "-acc -c foo.c") ≡ not_compilation
 takes_the_next_word = refl
 
 -- a flag takes no value, so that with one it is an unknown flag
-pub knows_no_flag_with_a_value : read_by_nvhpc (codes "-c" ∷ codes "foo.c" ∷ codes "-save-temps=obj" ∷ []) ≡ accepted (record (compiled (codes "foo.c") C (codes "foo.o")) { common_args = codes "-save-temps=obj" ∷ [] })
+pub knows_no_flag_with_a_value : read_by_nvhpc (spaced "-c foo.c -save-temps=obj") ≡ accepted (record (compiled (codes "foo.c") C (codes "foo.o")) { common_args = spaced "-save-temps=obj" })
 knows_no_flag_with_a_value = refl
 
 -- of two entries with one text nvhpc's counts, which may be joined
-pub joins_by_the_second_table : read_by_nvhpc (codes "-x=c++" ∷ codes "-c" ∷ codes "foo.c" ∷ codes "-Xlinker=-s" ∷ []) ≡ accepted (record (compiled (codes "foo.c") Cxx (codes "foo.o")) { common_args = codes "-Xlinker" ∷ codes "-s" ∷ [] })
+pub joins_by_the_second_table : read_by_nvhpc (spaced "-x=c++ -c foo.c -Xlinker=-s") ≡ accepted (record (compiled (codes "foo.c") Cxx (codes "foo.o")) { common_args = spaced "-Xlinker -s" })
 joins_by_the_second_table = refl

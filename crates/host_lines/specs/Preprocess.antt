@@ -13,6 +13,7 @@ use Rattle.cuda_below.specs.GccItems.{name_of_language}
 use Rattle.cuda_below.specs.GccRows.{compiled}
 use Rattle.cuda_below.specs.declared.compiler.NvccHostCompiler.{NvccHostCompiler}
 use Rattle.cuda_below.specs.declared.compiler.NvccHostCompiler.TheVariants as host
+use Rattle.cuda_below.specs.Rows.{spaced}
 use Rattle.host_lines.specs.NvccEnvironment.{without_flags}
 
 -- what both commands have: their first words are the preprocessor's, the common ones, the language's name and the input
@@ -99,25 +100,25 @@ words_of_commands (Err fault) = Err fault
 abbrev pub with_dependencies : Language → List (List ℕ) → ParsedArguments
 with_dependencies language common = record (compiled (codes "foo.c") language (codes "foo.o")) {
   common_args = common;
-  dependency_args = codes "-MD" ∷ codes "-MF" ∷ codes "foo.o.d" ∷ codes "-MT" ∷ codes "foo.o" ∷ [];
+  dependency_args = spaced "-MD -MF foo.o.d -MT foo.o";
 }
 
-pub nvcc_makes_two_commands : words_of_commands (nvcc_preprocess host.Gcc (codes "nvcc") (with_dependencies Cuda (codes "-fabc" ∷ codes "-c" ∷ [])) (codes "/w") []) ≡ Ok (
-    (codes "-fabc" ∷ codes "-c" ∷ codes "-x" ∷ codes "cu" ∷ codes "foo.c" ∷ codes "-M" ∷ codes "-MF" ∷ codes "foo.o.d" ∷ codes "-MT" ∷ codes "foo.o" ∷ [])
-    ∷ (codes "-fabc" ∷ codes "-c" ∷ codes "-x" ∷ codes "cu" ∷ codes "foo.c" ∷ codes "-E" ∷ codes "-Xcompiler=-P" ∷ []) ∷ [])
+pub nvcc_makes_two_commands : words_of_commands (nvcc_preprocess host.Gcc (codes "nvcc") (with_dependencies Cuda (spaced "-fabc -c")) (codes "/w") []) ≡ Ok (
+    (spaced "-fabc -c -x cu foo.c -M -MF foo.o.d -MT foo.o")
+    ∷ (spaced "-fabc -c -x cu foo.c -E -Xcompiler=-P") ∷ [])
 nvcc_makes_two_commands = refl
 
-pub nvhpc_makes_two_commands : words_of_commands (nvhpc_preprocess (codes "nvc++") (with_dependencies Cxx (codes "-fabc" ∷ [])) (codes "/w") []) ≡ Ok (
-    (codes "-fabc" ∷ codes "-x" ∷ codes "c++" ∷ codes "foo.c" ∷ codes "-M" ∷ codes "-MF" ∷ codes "foo.o.d" ∷ codes "-MT" ∷ codes "foo.o" ∷ [])
-    ∷ (codes "-fabc" ∷ codes "-x" ∷ codes "c++" ∷ codes "foo.c" ∷ codes "-E" ∷ []) ∷ [])
+pub nvhpc_makes_two_commands : words_of_commands (nvhpc_preprocess (codes "nvc++") (with_dependencies Cxx (spaced "-fabc")) (codes "/w") []) ≡ Ok (
+    (spaced "-fabc -x c++ foo.c -M -MF foo.o.d -MT foo.o")
+    ∷ (spaced "-fabc -x c++ foo.c -E") ∷ [])
 nvhpc_makes_two_commands = refl
 
 -- a repeated value goes too
-pub a_repeated_value_goes : nvcc_dependency_words (codes "-MF" ∷ codes "a" ∷ codes "-MT" ∷ codes "a" ∷ []) ≡ codes "-MF" ∷ codes "a" ∷ codes "-MT" ∷ []
+pub a_repeated_value_goes : nvcc_dependency_words (spaced "-MF a -MT a") ≡ spaced "-MF a -MT"
 a_repeated_value_goes = refl
 
 -- words are compared once they are replaced
-pub replaced_words_are_alike : nvcc_dependency_words (codes "--generate-nonsystem-dependencies-with-compile" ∷ codes "-MP" ∷ codes "-MMD" ∷ codes "-MM" ∷ codes "--generate-dependencies-with-compile" ∷ []) ≡ codes "-MM" ∷ codes "-MP" ∷ codes "-M" ∷ []
+pub replaced_words_are_alike : nvcc_dependency_words (spaced "--generate-nonsystem-dependencies-with-compile -MP -MMD -MM --generate-dependencies-with-compile") ≡ spaced "-MM -MP -M"
 replaced_words_are_alike = refl
 
 pub one_command_without_dependencies : words_of_commands (nvcc_preprocess host.Nvhpc (codes "nvcc") (compiled (codes "a.c") Cuda (codes "a.o")) (codes "/w") []) ≡ Ok ((codes "-x" ∷ codes "cu" ∷ codes "a.c" ∷ codes "-E" ∷ [] ∷ []) ∷ [])

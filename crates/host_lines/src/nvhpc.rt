@@ -12,15 +12,9 @@ use cuda_below::command::{Cacheable, SingleCompileCommand};
 use cuda_below::compiler::{CCompilerImpl, CCompilerKind, Places};
 use cuda_below::fault::Fault;
 use cuda_below::gcc::{self, ArgData};
-use cuda_below::table::{ArgDisposition, ArgInfo, Pair, Table};
+use cuda_below::table::{ArgInfo, EITHER_WAY, EITHER_WAY_OR_EQUALS, JOINED, Pair, Table};
 use cuda_below::text::Text;
 use std::alloc::{AllocError, Global};
-
-const JOINED: ArgDisposition = ArgDisposition::Concatenated(None);
-
-const EITHER_WAY: ArgDisposition = ArgDisposition::CanBeSeparated(None);
-
-const EITHER_WAY_OR_EQUALS: ArgDisposition = ArgDisposition::CanBeSeparated(Some(b'='));
 
 /// nvhpc's options besides gcc's, as sccache 0.19.0's table has them. No two have one text.
 pub const ARGS: [ArgInfo<ArgData>; 29] = [

@@ -2,4 +2,4 @@ pub mod Delivery
 pub mod Shown
 pub mod ShownPlan
 pub mod ShownPlanRows
-pub mod Texts
+pub mod Tools

@@ -1,7 +1,7 @@
 //! Laws of nvcc's records, and lines worked out by hand, which the definitions compute.
 
 ghost use Rattle.cuda_below.specs.Equality.{TellsEqual};
-ghost use Rattle.cuda_plans.specs.NvccRows.{EnvironmentAddsWords, FlagIsEmpty, OptionsBeginWords, WordsAreWritten, RefusalsHaveAnOrder, VersionsAreJoined};
+ghost use Rattle.cuda_plans.specs.NvccRows as rows;
 
 use super::{Nvcc, NvccCompileCommand};
 
@@ -13,10 +13,11 @@ pub fn equality()
 
 /// What nvcc lines are read as and written back as, by the definitions.
 pub fn worked_lines()
-    ensures environment_adds_words { EnvironmentAddsWords }
-    ensures flag_is_empty { FlagIsEmpty }
-    ensures options_begin_words { OptionsBeginWords }
-    ensures words_are_written { WordsAreWritten }
-    ensures refusals_have_an_order { RefusalsHaveAnOrder }
-    ensures versions_are_joined { VersionsAreJoined }
+    ensures environment_adds_words { rows.EnvironmentAddsWords }
+    ensures flag_is_empty { rows.FlagIsEmpty }
+    ensures options_begin_words { rows.OptionsBeginWords }
+    ensures words_are_written { rows.WordsAreWritten }
+    ensures refusals_have_an_order { rows.RefusalsHaveAnOrder }
+    ensures lines_are_refused { rows.LinesAreRefused }
+    ensures versions_are_joined { rows.VersionsAreJoined }
 {}

@@ -6,13 +6,7 @@ ghost use Rattle.cuda_below.specs.GccOptions.{differ};
 ghost use Rattle.host_lines.specs.NvccOptions.{nvcc_options};
 
 use cuda_below::gcc::ArgData;
-use cuda_below::table::{ArgDisposition, ArgInfo, Table};
-
-const JOINED: ArgDisposition = ArgDisposition::Concatenated(None);
-
-const EITHER_WAY: ArgDisposition = ArgDisposition::CanBeSeparated(None);
-
-const EQUALS_OR_NEXT: ArgDisposition = ArgDisposition::CanBeSeparated(Some(b'='));
+use cuda_below::table::{ArgDisposition, ArgInfo, EITHER_WAY, EITHER_WAY_OR_EQUALS, JOINED, Table};
 
 /// nvcc's options, as sccache 0.19.0's table has them, beside those of the gcc profile. No two have
 /// one text. `--archive-options options` has its space, so no word without one is that option.
@@ -64,68 +58,120 @@ pub const ARGS: [ArgInfo<ArgData>; 79] = [
     ArgInfo::TakeArg(
         "--archive-options options",
         ArgData::PassThrough,
-        EQUALS_OR_NEXT,
+        EITHER_WAY_OR_EQUALS,
     ),
-    ArgInfo::TakeArg("--compiler-bindir", ArgData::PassThrough, EQUALS_OR_NEXT),
-    ArgInfo::TakeArg("--default-stream", ArgData::PassThrough, EQUALS_OR_NEXT),
-    ArgInfo::TakeArg("--diag-error", ArgData::PassThrough, EQUALS_OR_NEXT),
-    ArgInfo::TakeArg("--diag-suppress", ArgData::PassThrough, EQUALS_OR_NEXT),
-    ArgInfo::TakeArg("--diag-warn", ArgData::PassThrough, EQUALS_OR_NEXT),
-    ArgInfo::TakeArg("--generate-code", ArgData::PassThrough, EQUALS_OR_NEXT),
-    ArgInfo::TakeArg("--gpu-architecture", ArgData::PassThrough, EQUALS_OR_NEXT),
-    ArgInfo::TakeArg("--gpu-code", ArgData::PassThrough, EQUALS_OR_NEXT),
-    ArgInfo::TakeArg("--linker-options", ArgData::PassThrough, EQUALS_OR_NEXT),
-    ArgInfo::TakeArg("--maxrregcount", ArgData::PassThrough, EQUALS_OR_NEXT),
-    ArgInfo::TakeArg("--nvlink-options", ArgData::PassThrough, EQUALS_OR_NEXT),
-    ArgInfo::TakeArg("--ptxas-options", ArgData::PassThrough, EQUALS_OR_NEXT),
-    ArgInfo::TakeArg("-Xarchive", ArgData::PassThrough, EQUALS_OR_NEXT),
-    ArgInfo::TakeArg("-Xlinker", ArgData::PassThrough, EQUALS_OR_NEXT),
-    ArgInfo::TakeArg("-Xnvlink", ArgData::PassThrough, EQUALS_OR_NEXT),
-    ArgInfo::TakeArg("-Xptxas", ArgData::PassThrough, EQUALS_OR_NEXT),
-    ArgInfo::TakeArg("-arch", ArgData::PassThrough, EQUALS_OR_NEXT),
-    ArgInfo::TakeArg("-ccbin", ArgData::PassThrough, EQUALS_OR_NEXT),
-    ArgInfo::TakeArg("-code", ArgData::PassThrough, EQUALS_OR_NEXT),
-    ArgInfo::TakeArg("-default-stream", ArgData::PassThrough, EQUALS_OR_NEXT),
-    ArgInfo::TakeArg("-diag-error", ArgData::PassThrough, EQUALS_OR_NEXT),
-    ArgInfo::TakeArg("-diag-suppress", ArgData::PassThrough, EQUALS_OR_NEXT),
-    ArgInfo::TakeArg("-diag-warn", ArgData::PassThrough, EQUALS_OR_NEXT),
-    ArgInfo::TakeArg("-gencode", ArgData::PassThrough, EQUALS_OR_NEXT),
-    ArgInfo::TakeArg("-maxrregcount", ArgData::PassThrough, EQUALS_OR_NEXT),
-    ArgInfo::TakeArg("--Werror", ArgData::PreprocessorArgument, EQUALS_OR_NEXT),
+    ArgInfo::TakeArg(
+        "--compiler-bindir",
+        ArgData::PassThrough,
+        EITHER_WAY_OR_EQUALS,
+    ),
+    ArgInfo::TakeArg(
+        "--default-stream",
+        ArgData::PassThrough,
+        EITHER_WAY_OR_EQUALS,
+    ),
+    ArgInfo::TakeArg("--diag-error", ArgData::PassThrough, EITHER_WAY_OR_EQUALS),
+    ArgInfo::TakeArg(
+        "--diag-suppress",
+        ArgData::PassThrough,
+        EITHER_WAY_OR_EQUALS,
+    ),
+    ArgInfo::TakeArg("--diag-warn", ArgData::PassThrough, EITHER_WAY_OR_EQUALS),
+    ArgInfo::TakeArg(
+        "--generate-code",
+        ArgData::PassThrough,
+        EITHER_WAY_OR_EQUALS,
+    ),
+    ArgInfo::TakeArg(
+        "--gpu-architecture",
+        ArgData::PassThrough,
+        EITHER_WAY_OR_EQUALS,
+    ),
+    ArgInfo::TakeArg("--gpu-code", ArgData::PassThrough, EITHER_WAY_OR_EQUALS),
+    ArgInfo::TakeArg(
+        "--linker-options",
+        ArgData::PassThrough,
+        EITHER_WAY_OR_EQUALS,
+    ),
+    ArgInfo::TakeArg("--maxrregcount", ArgData::PassThrough, EITHER_WAY_OR_EQUALS),
+    ArgInfo::TakeArg(
+        "--nvlink-options",
+        ArgData::PassThrough,
+        EITHER_WAY_OR_EQUALS,
+    ),
+    ArgInfo::TakeArg(
+        "--ptxas-options",
+        ArgData::PassThrough,
+        EITHER_WAY_OR_EQUALS,
+    ),
+    ArgInfo::TakeArg("-Xarchive", ArgData::PassThrough, EITHER_WAY_OR_EQUALS),
+    ArgInfo::TakeArg("-Xlinker", ArgData::PassThrough, EITHER_WAY_OR_EQUALS),
+    ArgInfo::TakeArg("-Xnvlink", ArgData::PassThrough, EITHER_WAY_OR_EQUALS),
+    ArgInfo::TakeArg("-Xptxas", ArgData::PassThrough, EITHER_WAY_OR_EQUALS),
+    ArgInfo::TakeArg("-arch", ArgData::PassThrough, EITHER_WAY_OR_EQUALS),
+    ArgInfo::TakeArg("-ccbin", ArgData::PassThrough, EITHER_WAY_OR_EQUALS),
+    ArgInfo::TakeArg("-code", ArgData::PassThrough, EITHER_WAY_OR_EQUALS),
+    ArgInfo::TakeArg(
+        "-default-stream",
+        ArgData::PassThrough,
+        EITHER_WAY_OR_EQUALS,
+    ),
+    ArgInfo::TakeArg("-diag-error", ArgData::PassThrough, EITHER_WAY_OR_EQUALS),
+    ArgInfo::TakeArg("-diag-suppress", ArgData::PassThrough, EITHER_WAY_OR_EQUALS),
+    ArgInfo::TakeArg("-diag-warn", ArgData::PassThrough, EITHER_WAY_OR_EQUALS),
+    ArgInfo::TakeArg("-gencode", ArgData::PassThrough, EITHER_WAY_OR_EQUALS),
+    ArgInfo::TakeArg("-maxrregcount", ArgData::PassThrough, EITHER_WAY_OR_EQUALS),
+    ArgInfo::TakeArg(
+        "--Werror",
+        ArgData::PreprocessorArgument,
+        EITHER_WAY_OR_EQUALS,
+    ),
     ArgInfo::TakeArg(
         "--compiler-options",
         ArgData::PreprocessorArgument,
-        EQUALS_OR_NEXT,
+        EITHER_WAY_OR_EQUALS,
     ),
     ArgInfo::TakeArg(
         "--relocatable-device-code",
         ArgData::PreprocessorArgument,
-        EQUALS_OR_NEXT,
+        EITHER_WAY_OR_EQUALS,
     ),
-    ArgInfo::TakeArg("-Werror", ArgData::PreprocessorArgument, EQUALS_OR_NEXT),
-    ArgInfo::TakeArg("-Xcompiler", ArgData::PreprocessorArgument, EQUALS_OR_NEXT),
-    ArgInfo::TakeArg("-rdc", ArgData::PreprocessorArgument, EQUALS_OR_NEXT),
+    ArgInfo::TakeArg(
+        "-Werror",
+        ArgData::PreprocessorArgument,
+        EITHER_WAY_OR_EQUALS,
+    ),
+    ArgInfo::TakeArg(
+        "-Xcompiler",
+        ArgData::PreprocessorArgument,
+        EITHER_WAY_OR_EQUALS,
+    ),
+    ArgInfo::TakeArg("-rdc", ArgData::PreprocessorArgument, EITHER_WAY_OR_EQUALS),
     ArgInfo::TakeArg(
         "--include-path",
         ArgData::PreprocessorArgumentPath,
-        EQUALS_OR_NEXT,
+        EITHER_WAY_OR_EQUALS,
     ),
     ArgInfo::TakeArg(
         "--system-include",
         ArgData::PreprocessorArgumentPath,
-        EQUALS_OR_NEXT,
+        EITHER_WAY_OR_EQUALS,
     ),
     ArgInfo::TakeArg(
         "-isystem",
         ArgData::PreprocessorArgumentPath,
-        EQUALS_OR_NEXT,
+        EITHER_WAY_OR_EQUALS,
     ),
-    ArgInfo::TakeArg("--options-file", ArgData::ExtraHashFile, EQUALS_OR_NEXT),
-    ArgInfo::TakeArg("--keep-dir", ArgData::Unhashed, EQUALS_OR_NEXT),
-    ArgInfo::TakeArg("--threads", ArgData::Unhashed, EQUALS_OR_NEXT),
-    ArgInfo::TakeArg("-keep-dir", ArgData::Unhashed, EQUALS_OR_NEXT),
-    ArgInfo::TakeArg("--x", ArgData::Language, EQUALS_OR_NEXT),
-    ArgInfo::TakeArg("-x", ArgData::Language, EQUALS_OR_NEXT),
+    ArgInfo::TakeArg(
+        "--options-file",
+        ArgData::ExtraHashFile,
+        EITHER_WAY_OR_EQUALS,
+    ),
+    ArgInfo::TakeArg("--keep-dir", ArgData::Unhashed, EITHER_WAY_OR_EQUALS),
+    ArgInfo::TakeArg("--threads", ArgData::Unhashed, EITHER_WAY_OR_EQUALS),
+    ArgInfo::TakeArg("-keep-dir", ArgData::Unhashed, EITHER_WAY_OR_EQUALS),
+    ArgInfo::TakeArg("--x", ArgData::Language, EITHER_WAY_OR_EQUALS),
+    ArgInfo::TakeArg("-x", ArgData::Language, EITHER_WAY_OR_EQUALS),
     ArgInfo::TakeArg("--fdevice-time-trace", ArgData::TooHard, EITHER_WAY),
     ArgInfo::TakeArg("--time", ArgData::TooHard, EITHER_WAY),
     ArgInfo::TakeArg("-fdevice-time-trace", ArgData::TooHard, EITHER_WAY),

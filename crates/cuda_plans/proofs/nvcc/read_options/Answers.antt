@@ -1,7 +1,7 @@
 use Rattle.std.proofs.Common.{◌≡◌, List, false, map, string_bytes, subst}
 use Rattle.std.specs.Result.{IfOk}
 use Rattle.cuda_below.specs.declared.compiler.CCompilerKind.TheVariants as kinds
-use Rattle.cuda_below.specs.declared.gcc.ArgData.{ArgData}
+use Rattle.cuda_below.specs.declared.gcc.options.ArgData.{ArgData}
 use Rattle.cuda_below.specs.Compiler.{reading_of}
 use Rattle.cuda_below.specs.Gcc.{profile_reading}
 use Rattle.cuda_below.specs.GccOptions.{gcc_entries}

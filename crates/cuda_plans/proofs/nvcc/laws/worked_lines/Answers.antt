@@ -1,4 +1,4 @@
-use Rattle.cuda_plans.specs.NvccRows.{environment_adds_words, flag_is_empty, options_begin_words, words_are_written, refusals_have_an_order, versions_are_joined}
+use Rattle.cuda_plans.specs.NvccRows.{environment_adds_words, flag_is_empty, options_begin_words, words_are_written, refusals_have_an_order, lines_are_refused, versions_are_joined}
 use Rattle.cuda_plans.proofs.nvcc.laws.worked_lines.Goals as goal
 
 pub returns : goal.returns
@@ -8,5 +8,6 @@ returns c = record {
   options_begin_words = options_begin_words;
   words_are_written = words_are_written;
   refusals_have_an_order = refusals_have_an_order;
+  lines_are_refused = lines_are_refused;
   versions_are_joined = versions_are_joined;
 }

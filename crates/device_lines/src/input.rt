@@ -1,0 +1,103 @@
+//! A device tool's input, which is preprocessed already: its bytes stand in for a preprocessor's output.
+
+ghost use Rattle.std.specs.Prelude.{◌≡◌, ◌<◌, length, None, IfOk, string_bytes};
+ghost use Rattle.cuda_below.specs.Path.{joined};
+ghost use Rattle.device_lines.specs.Input.{ReadsToEnd};
+ghost use Rattle.device_lines.specs.InputStep.{ReadsOn};
+
+use cuda_below::arguments::ParsedArguments;
+use cuda_below::bytes::Bytes;
+use cuda_below::fault::Fault;
+use cuda_below::status::{ExitStatus, Output};
+use cuda_below::text::join;
+use std::alloc::{AllocError, Global};
+use std::fs::{self, Files};
+use std::io::{ErrorKind, Read};
+
+// The reads after which an input is taken to have no end.
+const MOST_READS: u64 = 1 << 40;
+
+// The bytes that are asked for at once.
+const READ_LENGTH: usize = 16384;
+
+// What one read of an input brought.
+#[derive(Clone, Copy)]
+enum Step {
+    // Bytes, or an interruption: there may be more.
+    GoesOn,
+    Ends,
+    // An error of this kind, which is no interruption.
+    Fails(ErrorKind),
+}
+
+// Reads once, and adds what comes.
+fn read_on<R: Read>(
+    reader: &mut R,
+    buffer: &mut [u8],
+    bytes: &mut Vec<u8>,
+) -> Result<Step, AllocError>
+    requires { 0 < length buffer.old }
+    ensures { ReadsOn (R.remaining reader.old) (R.remaining reader.new) bytes.old.items bytes.new.items result }
+{
+    match reader.read(buffer) {
+        Ok(0) => Ok(Step::Ends),
+        Ok(count) => {
+            bytes.extend_from_slice(&buffer[..count])?;
+            Ok(Step::GoesOn)
+        }
+        Err(error) if error.kind() == ErrorKind::Interrupted => Ok(Step::GoesOn),
+        Err(error) => Ok(Step::Fails(error.kind())),
+    }
+}
+
+/// Reads a device tool's input to its end. As in sccache 0.19.0, the bytes stand in for a
+/// preprocessor's output: they are the standard output of an output of status 0.
+///
+/// Refuses if a read fails, or if 2^40 reads bring no end: `Read`. An interrupted read is tried again.
+pub fn read_input<R: Read + Drop>(alloc: Global, reader: R) -> Result<Output, Fault>
+    ensures { ReadsToEnd (R.remaining reader) result }
+{
+    let mut reader = reader;
+    let mut bytes = Vec::new(alloc);
+    let mut buffer = [0; READ_LENGTH];
+    for _ in 0..MOST_READS {
+        match read_on(&mut reader, &mut buffer, &mut bytes)? {
+            Step::GoesOn => {}
+            Step::Ends => {
+                return Ok(Output {
+                    status: ExitStatus::from_code(0),
+                    stdout: Bytes::from_vec(bytes),
+                    stderr: Bytes::new(alloc),
+                });
+            }
+            Step::Fails(_) => return Err(Fault::Read),
+        }
+    }
+    Err(Fault::Read)
+}
+
+// The path of the arguments' input.
+fn input_path(alloc: Global, cwd: &str, parsed_args: &ParsedArguments) -> Result<String, AllocError>
+    ensures { IfOk result (λ path. string_bytes path ≡ joined cwd.now parsed_args.now.input) }
+{
+    join(alloc, cwd, parsed_args.input.as_str())
+}
+
+/// Reads the input of arguments that were read at the working directory `cwd`. There is nothing to
+/// preprocess: the inputs of cicc, ptxas and cudafe++ are the output of a preprocessor already.
+///
+/// Refuses if the file can't be opened or read: `Read`.
+pub fn preprocess<R: Files>(
+    rt: &R,
+    alloc: Global,
+    cwd: &str,
+    parsed_args: &ParsedArguments,
+) -> Result<Output, Fault>
+    ensures { ReadsToEnd None result }
+{
+    let path = input_path(alloc, cwd, parsed_args)?;
+    let Ok(file) = fs::open(rt, path.as_str()) else {
+        return Err(Fault::Read);
+    };
+    read_input(alloc, file)
+}

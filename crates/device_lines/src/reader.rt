@@ -1,0 +1,112 @@
+//! The reader of a device tool's line, which cicc, ptxas and cudafe++ share.
+
+ghost use Rattle.std.specs.Prelude.{◌≡◌, ◌<◌, [], map, length, position, IfOk, IfSome, string_bytes, slice_index_or};
+ghost use Rattle.cuda_below.specs.Compiler.{reading_of};
+ghost use Rattle.device_lines.specs.Reading as spec;
+
+mod gathered;
+
+use crate::options::ArgData;
+use cuda_below::arguments::{CompilerArguments, ParsedArguments};
+use cuda_below::device_files::{is_cicc_input, is_ptxas_input};
+use cuda_below::items::{ArgsIter, Line};
+use cuda_below::language::Language;
+use cuda_below::table::SearchableArgInfo;
+use cuda_below::text::Text;
+use gathered::Gathered;
+use std::alloc::{AllocError, Global};
+
+// Whether a word is by its end the input of the tool that makes `language`.
+fn is_input(language: Language, word: &str) -> bool
+    ensures { result ≡ spec.is_input_word language word.now }
+{
+    match language {
+        Language::Ptx => is_cicc_input(word),
+        Language::Cubin => is_ptxas_input(word),
+        _ => false,
+    }
+}
+
+// The position of the first word that is the input by its end.
+fn place_by_end(language: Language, words: &[String]) -> Option<usize>
+    ensures { result ≡ position (λ word. spec.is_input_word language (string_bytes word)) words.now }
+{
+    words
+        .iter()
+        .position(|word| is_input(language, word.as_str()))
+}
+
+// The position `offset` words from the end, if the line is that long.
+fn place_from_end(offset: usize, count: usize) -> Option<usize>
+    ensures { result ≡ spec.place_from_end offset count }
+{
+    if offset > 0 && offset <= count {
+        Some(count - offset)
+    } else {
+        None
+    }
+}
+
+// The position of the input: by its end, else `offset` words from the end of the line.
+fn input_place(language: Language, offset: usize, words: &[String]) -> Option<usize>
+    ensures place { result ≡ spec.input_place language offset (map string_bytes words.now) }
+    ensures within { IfSome result (λ place. place < length words.now) }
+{
+    match place_by_end(language, words) {
+        Some(place) => Some(place),
+        None => place_from_end(offset, words.len()),
+    }
+}
+
+// The word at a position.
+fn word_at(words: &[String], place: usize) -> &str
+    requires { place < length words.now }
+    ensures { result.now ≡ slice_index_or (map string_bytes words.now) place [] }
+{
+    words[place].as_str()
+}
+
+// Reads the words around the input.
+fn read_around<S: SearchableArgInfo<ArgData> + Drop>(
+    alloc: Global,
+    arguments: &[String],
+    place: usize,
+    cwd: &str,
+    language: Language,
+    arg_info: S,
+) -> Result<ParsedArguments, AllocError>
+    requires { place < length arguments.now }
+    ensures { IfOk result (λ p. p ≡ spec.reading_around (S.chosen arg_info) cwd.now language (map string_bytes arguments.now) place) }
+{
+    let input = Text::copy_of(alloc, word_at(arguments, place))?;
+    let line = ArgsIter::over(alloc, Line::without(arguments, place), arg_info);
+    let gathered = Gathered::from_line(alloc, cwd, arguments.len(), line)?;
+    gathered.into_arguments(alloc, cwd, language, input)
+}
+
+/// Reads a device tool's line, as sccache 0.19.0's cicc reader does.
+///
+/// The words are UTF-8 texts, without the tool's name; paths are joined to `cwd`. The input is the
+/// first word that ends in `.cpp1.ii` (for `Language::Ptx`) or `.ptx` (for `Language::Cubin`). For
+/// other languages, or if no word ends so, it is the word `input_arg_offset_from_end` words from the
+/// end, which is the last one for 1. The input is cut out first, because it may stand between an
+/// option and its value; the other words are read as items over `arg_info`.
+///
+/// Answers `NotCompilation` if there is no input: the offset is 0, or the line is shorter.
+pub fn parse_arguments<S: SearchableArgInfo<ArgData> + Drop>(
+    alloc: Global,
+    arguments: &[String],
+    cwd: &str,
+    language: Language,
+    arg_info: S,
+    input_arg_offset_from_end: usize,
+) -> Result<CompilerArguments<ParsedArguments>, AllocError>
+    ensures { IfOk result (λ r. reading_of r
+        ≡ spec.line_reading (S.chosen arg_info) cwd.now language input_arg_offset_from_end (map string_bytes arguments.now)) }
+{
+    let Some(place) = input_place(language, input_arg_offset_from_end, arguments) else {
+        return Ok(CompilerArguments::NotCompilation);
+    };
+    let parsed = read_around(alloc, arguments, place, cwd, language, arg_info)?;
+    Ok(CompilerArguments::Ok(parsed))
+}

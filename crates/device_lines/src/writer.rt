@@ -1,0 +1,25 @@
+//! The words that every device tool's line begins with when it is written back.
+
+ghost use Rattle.std.specs.Prelude.{◌≡◌, ◌++◌, IfOk};
+
+use cuda_below::arguments::ParsedArguments;
+use cuda_below::words::Words;
+use std::alloc::{AllocError, Global};
+
+/// The common words, and after them the unhashed ones, with room for three more.
+pub(crate) fn option_words(
+    alloc: Global,
+    parsed_args: &ParsedArguments,
+) -> Result<Words, AllocError>
+    ensures { IfOk result (λ w. w ≡ parsed_args.now.common_args ++ parsed_args.now.unhashed_args) }
+{
+    let (common, unhashed) = (&parsed_args.common_args, &parsed_args.unhashed_args);
+    let room = common
+        .len()
+        .saturating_add(unhashed.len())
+        .saturating_add(3);
+    let mut words = Words::with_capacity(alloc, room)?;
+    words.push_copies(alloc, common.as_slice())?;
+    words.push_copies(alloc, unhashed.as_slice())?;
+    Ok(words)
+}

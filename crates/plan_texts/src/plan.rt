@@ -1,0 +1,145 @@
+//! The text of a plan.
+
+ghost use Rattle.std.specs.Prelude.{◌≡◌, ◌++◌, IfOk, OnOk, map, string_bytes, vec_items};
+ghost use Rattle.std.specs.List.{flat_map};
+ghost use Rattle.cuda_below.specs.Numeral.{numeral};
+ghost use Rattle.plan_texts.specs.ShownPlan as spec;
+
+use command_groups::{Dropped, NvccGeneratedSubcommand, Plan, Reason};
+use cuda_below::command::Cacheable;
+use std::alloc::{AllocError, Global};
+
+// The name of a reason.
+fn reason_name(reason: Reason) -> &'static str
+    ensures { result.now ≡ spec.show_reason reason }
+{
+    match reason {
+        Reason::NotCuda => "NotCuda",
+        Reason::NoCiccGroup => "NoCiccGroup",
+        Reason::NoPtxasGroup => "NoPtxasGroup",
+        Reason::Superseded => "Superseded",
+    }
+}
+
+// Whether a command's outputs may come from a cache.
+fn cacheable_name(cacheable: Cacheable) -> &'static str
+    ensures { result.now ≡ spec.show_cacheable cacheable }
+{
+    match cacheable {
+        Cacheable::Yes => "yes",
+        Cacheable::No => "no",
+    }
+}
+
+// A number in decimal digits.
+fn number_text(alloc: Global, number: usize) -> Result<String, AllocError>
+    ensures { IfOk result (λ text. string_bytes text ≡ numeral number) }
+{
+    format!(in alloc; "{number}")
+}
+
+// Adds a number in decimal digits.
+fn push_number(alloc: Global, text: &mut String, number: usize) -> Result<(), AllocError>
+    ensures { OnOk result (string_bytes text.new ≡ string_bytes text.old ++ numeral number) }
+{
+    text.push_str(number_text(alloc, number)?.as_str())
+}
+
+// Adds a program and its words, each word after one blank, and the end of the line.
+fn push_words(text: &mut String, exe: &str, words: &[String]) -> Result<(), AllocError>
+    ensures { OnOk result (string_bytes text.new ≡ string_bytes text.old ++ spec.show_words exe.now (map string_bytes words.now)) }
+{
+    text.push_str(exe)?;
+    for word in words {
+        text.push_str(" ")?;
+        text.push_str(word.as_str())?;
+    }
+    text.push_str("\n")
+}
+
+// Adds the line of a command.
+fn push_subcommand(text: &mut String, command: &NvccGeneratedSubcommand) -> Result<(), AllocError>
+    ensures { OnOk result (string_bytes text.new ≡ string_bytes text.old ++ spec.show_subcommand command.now) }
+{
+    text.push_str(cacheable_name(command.cacheable))?;
+    text.push_str(" cd ")?;
+    text.push_str(command.cwd.as_str())?;
+    text.push_str(" && ")?;
+    push_words(text, command.exe.as_str(), command.args.as_slice())
+}
+
+// Adds the lines of a group's commands.
+fn push_subcommands(text: &mut String, group: &[NvccGeneratedSubcommand]) -> Result<(), AllocError>
+    ensures { OnOk result (string_bytes text.new ≡ string_bytes text.old ++ flat_map spec.show_subcommand group.now) }
+{
+    for command in group {
+        push_subcommand(text, command)?;
+    }
+    Ok(())
+}
+
+// Adds the lines of a group: its number, then its commands.
+fn push_group(
+    alloc: Global,
+    text: &mut String,
+    number: usize,
+    group: &[NvccGeneratedSubcommand],
+) -> Result<(), AllocError>
+    ensures { OnOk result (string_bytes text.new ≡ string_bytes text.old ++ spec.show_group number group.now) }
+{
+    text.push_str("group ")?;
+    push_number(alloc, text, number)?;
+    text.push_str("\n")?;
+    push_subcommands(text, group)
+}
+
+// Adds the lines of groups, numbered from 0.
+fn push_groups(
+    alloc: Global,
+    text: &mut String,
+    groups: &[Vec<NvccGeneratedSubcommand>],
+) -> Result<(), AllocError>
+    ensures { OnOk result (string_bytes text.new ≡ string_bytes text.old ++ spec.show_groups 0 (map vec_items groups.now)) }
+{
+    for (number, group) in groups.iter().enumerate() {
+        push_group(alloc, text, number, group.as_slice())?;
+    }
+    Ok(())
+}
+
+// Adds the line of a dropped command.
+fn push_dropped(alloc: Global, text: &mut String, dropped: &Dropped) -> Result<(), AllocError>
+    ensures { OnOk result (string_bytes text.new ≡ string_bytes text.old ++ spec.show_dropped dropped.now) }
+{
+    text.push_str("dropped ")?;
+    push_number(alloc, text, dropped.line)?;
+    text.push_str(" run ")?;
+    push_number(alloc, text, dropped.run)?;
+    text.push_str(" ")?;
+    text.push_str(reason_name(dropped.reason))?;
+    text.push_str(" ")?;
+    push_words(text, dropped.exe.as_str(), dropped.args.as_slice())
+}
+
+// Adds the lines of the dropped commands.
+fn push_all_dropped(alloc: Global, text: &mut String, dropped: &[Dropped]) -> Result<(), AllocError>
+    ensures { OnOk result (string_bytes text.new ≡ string_bytes text.old ++ flat_map spec.show_dropped dropped.now) }
+{
+    for command in dropped {
+        push_dropped(alloc, text, command)?;
+    }
+    Ok(())
+}
+
+/// The text of a plan. For each group it has the line `group N`, N from 0, and a line for each
+/// command: `yes` or `no`, whether its outputs may come from a cache, ` cd CWD && EXE`, and each word
+/// after one blank. For each dropped command follows a line `dropped LINE run RUN REASON EXE` and the
+/// words in the same way. No word is quoted, and each line ends in a newline.
+pub fn show_plan(alloc: Global, plan: &Plan) -> Result<String, AllocError>
+    ensures { IfOk result (λ text. string_bytes text ≡ spec.show_plan plan.now) }
+{
+    let mut text = String::new(alloc);
+    push_groups(alloc, &mut text, plan.groups.as_slice())?;
+    push_all_dropped(alloc, &mut text, plan.dropped.as_slice())?;
+    Ok(text)
+}
