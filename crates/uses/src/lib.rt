@@ -1,0 +1,13 @@
+//! Callers of the library, each with its contract: a cicc line for a cache, the dry runs of an nvcc line, shell words.
+#![tactic(auto)]
+
+mod cache;
+mod nvcc_line;
+mod words;
+
+pub use cache::{Digests, Entry, cicc_entry};
+pub use nvcc_line::dry_run_commands;
+pub use words::{known_flags, known_line, requoted};
+
+#[cfg(test)]
+mod tests;

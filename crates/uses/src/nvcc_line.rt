@@ -1,0 +1,37 @@
+//! The dry runs of an nvcc line.
+
+ghost use Rattle.std.specs.Prelude.{◌≡◌, map, string_bytes};
+ghost use Rattle.cuda_below.specs.Fault.{UnlessMemory};
+ghost use Rattle.cuda_below.specs.Variables.{pair_of};
+ghost use Rattle.cuda_plans.specs.Nvcc.{nvcc_reading};
+ghost use Rattle.uses.specs.NvccLine as spec;
+
+use cuda_plans::arguments::CompilerArguments;
+use cuda_plans::command::SingleCompileCommand;
+use cuda_plans::compiler::{CCompilerImpl, Places};
+use cuda_plans::fault::Fault;
+use cuda_plans::nvcc::Nvcc;
+use std::alloc::Global;
+
+/// The two commands whose standard error says what an nvcc line runs; `None` if no cache can serve the
+/// line, or it is no compilation. The refusals are those of nvcc's writer.
+pub fn dry_run_commands(
+    alloc: Global,
+    nvcc: &Nvcc,
+    executable: &str,
+    words: &[String],
+    cwd: &str,
+    env_vars: &[(String, String)],
+    places: &Places,
+) -> Result<Option<(SingleCompileCommand, SingleCompileCommand)>, Fault>
+    ensures { UnlessMemory result (spec.commands_of nvcc.now.host_compiler executable.now cwd.now (map pair_of env_vars.now) places.now
+        (nvcc_reading (map string_bytes words.now) cwd.now (map pair_of env_vars.now))) }
+{
+    let CompilerArguments::Ok(parsed) = nvcc.parse_arguments(alloc, words, cwd, env_vars)? else {
+        return Ok(None);
+    };
+    let (command, _) = nvcc.generate_compile_commands(
+        alloc, executable, &parsed, cwd, env_vars, places,
+    )?;
+    Ok(Some(command.dryrun_commands(alloc)?))
+}
