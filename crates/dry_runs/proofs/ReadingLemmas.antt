@@ -7,7 +7,7 @@ use Rattle.std.specs.Str.{bytes_eq, is_utf8, IsUtf8}
 use Rattle.std.specs.Str.Lines.{lines}
 use Rattle.std.proofs.lemmas.Str.{IsUtf8-from_is_utf8, is_utf8-from_IsUtf8}
 use Rattle.cuda_below.specs.declared.fault.Fault.{Fault}
-use Rattle.cuda_below.specs.declared.fault.Fault.TheVariants.{NotUtf8, BadShell, EmptyCommand, NoPath, NotFound, MissingOutput, NoFileName, KeepDirValue, ThreadsValue, NoPreprocess, Process, Runner, Read, Memory}
+use Rattle.cuda_below.specs.declared.fault.Fault.TheVariants.{NotUtf8, BadShell, EmptyCommand, NoPath, NotFound, Memory}
 use Rattle.cuda_below.specs.Fault.{UnlessMemory}
 use Rattle.dry_runs.specs.declared.commands.DryRun.{DryRun}
 use Rattle.dry_runs.specs.declared.reader.Said.{Said}
@@ -19,20 +19,8 @@ use Rattle.dry_runs.specs.Reading.{dry_run_seen, said_after, nothing_said, with_
 
 -- a refusal of a part is one of the whole
 pub refused : {X Y : Type 0} (fault : Fault) (part : Result X Fault) (whole : Result Y Fault) → ((f : Fault) → part ≡ Err f → whole ≡ Err f) → UnlessMemory {T = X} (Err fault) part → UnlessMemory {T = Y} (Err fault) whole
-refused (NotUtf8 run line) part whole h e = h (NotUtf8 run line) e
-refused (BadShell run line) part whole h e = h (BadShell run line) e
-refused (EmptyCommand run line) part whole h e = h (EmptyCommand run line) e
-refused (NoPath run line) part whole h e = h (NoPath run line) e
-refused (NotFound program) part whole h e = h (NotFound program) e
-refused (MissingOutput language) part whole h e = h (MissingOutput language) e
-refused NoFileName part whole h e = h NoFileName e
-refused KeepDirValue part whole h e = h KeepDirValue e
-refused ThreadsValue part whole h e = h ThreadsValue e
-refused (NoPreprocess text) part whole h e = h (NoPreprocess text) e
-refused (Process output) part whole h e = h (Process output) e
-refused (Runner text) part whole h e = h (Runner text) e
-refused Read part whole h e = h Read e
 refused Memory part whole h e = tt
+refused fault part whole h e = h fault e
 
 -- a fault that is passed on
 pub passed-said : (r : Result (Unit {0}) Fault) (s : Said) (fault : Fault) (whole : Result Said Fault) → IsErrAnd r (λ f. f ≡ fault) → UnlessMemory {T = Said} (Err fault) whole → UnlessMemory (said_after r s) whole
