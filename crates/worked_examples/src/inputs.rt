@@ -1,12 +1,8 @@
 //! Inputs that are preprocessed already, read to their ends.
 
-use cuda_below::arguments::{CompilerArguments, ParsedArguments};
 use cuda_below::fault::Fault;
-use cuda_below::language::Language;
 use cuda_below::status::Output;
 use cuda_plans::cicc;
-use std::alloc::{AllocError, Global};
-use std::fs::{self, Files};
 use std::io::{self, Read};
 use std::process::Abort;
 use std::test::Fail;
@@ -73,49 +69,4 @@ fn all_bytes_are_read(rt: HostRuntime) -> Result<(), Fail> {
 fn failed_reads_are_refused(rt: HostRuntime) {
     let refused = matches!(cicc::read_input(rt.alloc(), Broken), Err(Fault::Read));
     assert!(rt; refused);
-}
-
-// What reading the input of a line at a working directory gives.
-fn input_of<R: Files>(
-    rt: &R,
-    alloc: Global,
-    cwd: &str,
-    parsed: &CompilerArguments<ParsedArguments>,
-) -> Result<Output, Fault> {
-    match parsed {
-        CompilerArguments::Ok(parsed) => cicc::preprocess(rt, alloc, cwd, parsed),
-        _ => Err(Fault::NoFileName),
-    }
-}
-
-fn line_of(alloc: Global, input: &str) -> Result<CompilerArguments<ParsedArguments>, AllocError> {
-    let words = [String::from_str(alloc, input)?];
-    cicc::parse_arguments(
-        alloc,
-        words.as_slice(),
-        ".",
-        Language::CudaFE,
-        cicc::table(),
-        1,
-    )
-}
-
-#[test]
-fn the_named_file_is_read(rt: HostRuntime) -> Result<(), Fail> {
-    // A run that was stopped may have left it.
-    let _ = fs::create_dir(&rt, "inputs_folder");
-    fs::write(&rt, "inputs_folder/kernel.ptx", BYTES.as_slice())?;
-    let parsed = line_of(rt.alloc(), "kernel.ptx")?;
-    let output = input_of(&rt, rt.alloc(), "inputs_folder", &parsed)?;
-    check_output(&rt, &output, BYTES.as_slice());
-    let elsewhere = matches!(input_of(&rt, rt.alloc(), "", &parsed), Err(Fault::Read));
-    assert!(rt; elsewhere);
-    fs::remove_file(&rt, "inputs_folder/kernel.ptx")?;
-    let removed = matches!(
-        input_of(&rt, rt.alloc(), "inputs_folder", &parsed),
-        Err(Fault::Read)
-    );
-    assert!(rt; removed);
-    fs::remove_dir(&rt, "inputs_folder")?;
-    Ok(())
 }

@@ -1,5 +1,5 @@
-//! Tests of what a row of text can't say: equality and clones of records, readers that fail, and files
-//! in a folder. Worked lines and texts are rows of the program `worked_rows`.
+//! Tests of what a row of text can't say: equality and clones of records, and readers that fail. Worked
+//! lines and texts are rows of the program `worked_rows`.
 #![tactic(auto)]
 
 #[cfg(test)]

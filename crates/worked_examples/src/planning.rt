@@ -64,16 +64,26 @@ fn plan(alloc: Global, exe: &str, reason: Reason) -> Result<Plan, AllocError> {
     })
 }
 
+// Whether a plan is that of this group's executable and this reason.
+fn is_plan(alloc: Global, first: &Plan, exe: &str, reason: Reason) -> Result<bool, AllocError> {
+    let other = plan(alloc, exe, reason)?;
+    Ok(*first == other)
+}
+
+// Whether a plan is that of `/b/cicc`, and whether it is one of another group or reason.
+fn likeness(alloc: Global, first: &Plan) -> Result<[bool; 3], AllocError> {
+    Ok([
+        is_plan(alloc, first, "/b/cicc", Reason::NoPtxasGroup)?,
+        is_plan(alloc, first, "/b/ptxas", Reason::NoPtxasGroup)?,
+        is_plan(alloc, first, "/b/cicc", Reason::NotCuda)?,
+    ])
+}
+
 #[test]
 fn plans(rt: HostRuntime) -> Result<(), Fail> {
     let alloc = rt.alloc();
     let first = plan(alloc, "/b/cicc", Reason::NoPtxasGroup)?;
-    let equal = [
-        first == plan(alloc, "/b/cicc", Reason::NoPtxasGroup)?,
-        first == plan(alloc, "/b/ptxas", Reason::NoPtxasGroup)?,
-        first == plan(alloc, "/b/cicc", Reason::NotCuda)?,
-    ];
-    assert_eq!(rt; equal, [true, false, false]);
+    assert_eq!(rt; likeness(alloc, &first)?, [true, false, false]);
     assert_eq!(rt; first.groups.as_slice().len(), 2);
     assert_eq!(rt; first.dropped.as_slice().len(), 1);
     Ok(())
@@ -132,25 +142,36 @@ fn process(alloc: Global) -> Output {
     }
 }
 
-// Whether an answer equals its clone.
-fn equals_its_clone(alloc: Global, answer: &Answer) -> Result<bool, AllocError> {
-    Ok(*answer == answer.try_clone(alloc)?)
+// Whether each answer equals its clone.
+fn equal_their_clones(alloc: Global, answers: &[Answer]) -> Result<bool, AllocError> {
+    for answer in answers {
+        if *answer != answer.try_clone(alloc)? {
+            return Ok(false);
+        }
+    }
+    Ok(true)
 }
 
 #[test]
 fn answers(rt: HostRuntime) -> Result<(), Fail> {
     let alloc = rt.alloc();
-    let code = finished(alloc, Some(1));
+    let answers = [
+        Answer::Finished(finished(alloc, Some(1))),
+        Answer::Ran(process(alloc)),
+        Answer::Failed(Fault::KeepDirValue),
+    ];
+    assert!(rt; equal_their_clones(alloc, answers.as_slice())?);
+    Ok(())
+}
+
+#[test]
+fn unlike_answers(rt: HostRuntime) {
+    let alloc = rt.alloc();
     let equal = [
-        code == code.try_clone(alloc)?,
-        code == finished(alloc, None),
-        equals_its_clone(alloc, &Answer::Finished(code))?,
-        equals_its_clone(alloc, &Answer::Ran(process(alloc)))?,
-        equals_its_clone(alloc, &Answer::Failed(Fault::KeepDirValue))?,
+        finished(alloc, Some(1)) == finished(alloc, None),
         Answer::Failed(Fault::Read) == Answer::Failed(Fault::NoFileName),
     ];
-    assert_eq!(rt; equal, [true, false, true, true, true, false]);
-    Ok(())
+    assert_eq!(rt; equal, [false, false]);
 }
 
 #[test]
