@@ -35,14 +35,14 @@ ends-split text s h =
     sym (take-append-drop (length text - length s) text) ∙ ap (λ t. take (length text - length s) text ++ t) (sym end)
 
 -- of two ends of one text the shorter one is an end of the longer one
-shorter-end : (front other s t : List ℕ) → front ++ s ≡ other ++ t → length s ≤ length t → ends_with nat_eq t s ≡ true
+pub shorter-end : (front other s t : List ℕ) → front ++ s ≡ other ++ t → length s ≤ length t → ends_with nat_eq t s ≡ true
 shorter-end front other s t e le =
     let lengths : length front + length s ≡ length other + length t = sym (length-append front s) ∙ ap length e ∙ length-append other t in
     let places : length front ≡ length other + (length t - length s) = omega (arith, lengths, le) in
     let end : s ≡ drop (length t - length s) t = sym (drop-append_seam front s) ∙ ap (λ x. drop (length front) x) e ∙ ap (λ n. drop n (other ++ t)) places ∙ drop-append-add other t (length t - length s) in
     subst (λ x. bytes_eq s x ≡ true) end (same-itself s)
 
-ends-append : (front s : List ℕ) → ends_with nat_eq (front ++ s) s ≡ true
+pub ends-append : (front s : List ℕ) → ends_with nat_eq (front ++ s) s ≡ true
 ends-append front s =
     let places : length (front ++ s) - length s ≡ length front = omega (arith, length-append front s) in
     subst (λ x. bytes_eq s x ≡ true) (sym (ap (λ n. drop n (front ++ s)) places ∙ drop-append_seam front s)) (same-itself s)

@@ -5,3 +5,11 @@ pub mod CanonicalLemmas
 pub mod CleanLemmas
 pub mod RankLemmas
 pub mod RewriteLemmas
+pub mod SuffixLemmas
+pub mod CountedLemmas
+pub mod WordLemmas
+pub mod ReplaceLemmas
+pub mod ReferenceLemmas
+pub mod AppearanceLemmas
+pub mod PlaceLemmas
+pub mod RemapLemmas

@@ -61,10 +61,10 @@ fold-front seen (x ∷ xs) =
 
 module _ (class name : List ℕ) where
   -- whether the name is among some, and how many of them are of the class
-  abbrev among : List (List ℕ) → Bool
+  abbrev pub among : List (List ℕ) → Bool
   among names = list_any (λ n. bytes_eq n name) names
 
-  abbrev count : List (List ℕ) → ℕ
+  abbrev pub count : List (List ℕ) → ℕ
   count names = length (filter (λ n. ends_with nat_eq n class) names)
 
   count-cons : (n : List ℕ) (names : List (List ℕ)) → cond (ends_with nat_eq n class) 1 0 + count names ≡ count (n ∷ names)
@@ -72,14 +72,14 @@ module _ (class name : List ℕ) where
       elim (ends_with nat_eq n class) as (λ t. cond t 1 0 + count names ≡ length (cond t (n ∷ filter (λ n. ends_with nat_eq n class) names) (filter (λ n. ends_with nat_eq n class) names)))
       [ true ↦ omega arith | false ↦ omega arith ]
 
-  rank-absent : (seen : List (List ℕ)) → among seen ≡ false → rank class seen name ≡ count seen
+  pub rank-absent : (seen : List (List ℕ)) → among seen ≡ false → rank class seen name ≡ count seen
   rank-absent [] h = refl
   rank-absent (n ∷ seen) h =
       let parts = or_parts (bytes_eq n name) (among seen) h in
       ap (λ b. cond b 0 (cond (ends_with nat_eq n class) 1 0 + rank class seen name)) parts.0
       ∙ ap (λ k. cond (ends_with nat_eq n class) 1 0 + k) (rank-absent seen parts.1) ∙ count-cons n seen
 
-  rank-settled : (seen more : List (List ℕ)) → among seen ≡ false → rank class (seen ++ name ∷ more) name ≡ count seen
+  pub rank-settled : (seen more : List (List ℕ)) → among seen ≡ false → rank class (seen ++ name ∷ more) name ≡ count seen
   rank-settled [] more h = ap (λ b. cond b 0 (cond (ends_with nat_eq name class) 1 0 + rank class more name)) (bytes_eq-itself name)
   rank-settled (n ∷ seen) more h =
       let parts = or_parts (bytes_eq n name) (among seen) h in
@@ -96,7 +96,7 @@ module _ (class name : List ℕ) where
   among-add seen x h k = cond_both (list_any (bytes_eq x) seen) seen (seen ++ x ∷ []) (λ s. among s ≡ false) (λ _. h) (λ _. among-push seen x h k)
 
   -- the name, where it is new, is added
-  any-turned : (seen : List (List ℕ)) → list_any (bytes_eq name) seen ≡ among seen
+  pub any-turned : (seen : List (List ℕ)) → list_any (bytes_eq name) seen ≡ among seen
   any-turned [] = refl
   any-turned (n ∷ seen) = ap (λ t. t || list_any (bytes_eq name) seen) (bytes_eq-turned name n) ∙ ap (λ t. bytes_eq n name || t) (any-turned seen)
 
@@ -115,7 +115,7 @@ module _ (class name : List ℕ) where
       ] refl
 
   -- a name that was seen keeps its rank
-  rank-found : (seen more : List (List ℕ)) → among seen ≡ true → rank class (seen ++ more) name ≡ rank class seen name
+  pub rank-found : (seen more : List (List ℕ)) → among seen ≡ true → rank class (seen ++ more) name ≡ rank class seen name
   rank-found [] more h = absurd (false≢true h)
   rank-found (n ∷ seen) more h =
       elim (bytes_eq n name) as (λ b. (b || among seen) ≡ true → cond b 0 (cond (ends_with nat_eq n class) 1 0 + rank class (seen ++ more) name) ≡ cond b 0 (cond (ends_with nat_eq n class) 1 0 + rank class seen name))

@@ -9,7 +9,7 @@ use Rattle.canonical_names.specs.Alike.{holds}
 use Rattle.canonical_names.specs.CanonicalNames.{OtherWordsStay}
 
 -- a text without any place of another stays
-replaced-none : (old new text : List ℕ) → holds old text ≡ false → replaced old new text ≡ text
+pub replaced-none : (old new text : List ℕ) → holds old text ≡ false → replaced old new text ≡ text
 replaced-none old new [] h = refl
 replaced-none old new (c ∷ cs) h =
     let parts = or_parts (starts_with nat_eq (c ∷ cs) old) (holds old cs) h in
@@ -17,24 +17,24 @@ replaced-none old new (c ∷ cs) h =
 
 -- what holds of each name holds of each in the order of their lengths
 module _ (P : List ℕ → Type 0) where
-  insert-each : (names : List (List ℕ)) (name : List ℕ) → AllByRecursion P names → P name → AllByRecursion P (insert_by_length names name)
+  pub insert-each : (names : List (List ℕ)) (name : List ℕ) → AllByRecursion P names → P name → AllByRecursion P (insert_by_length names name)
   insert-each [] name all one = (one, tt)
   insert-each (n ∷ ns) name all one =
       cond_both (nat_lt (length n) (length name)) (name ∷ n ∷ ns) (n ∷ insert_by_length ns name) (AllByRecursion P) (λ _. (one, all)) (λ _. (all.0, insert-each ns name all.1 one))
 
-  fold-each : (names sorted : List (List ℕ)) → AllByRecursion P names → AllByRecursion P sorted → AllByRecursion P (fold insert_by_length sorted names)
+  pub fold-each : (names sorted : List (List ℕ)) → AllByRecursion P names → AllByRecursion P sorted → AllByRecursion P (fold insert_by_length sorted names)
   fold-each [] sorted all done = done
   fold-each (n ∷ ns) sorted all done = fold-each ns (insert_by_length sorted n) all.1 (insert-each sorted n done all.0)
 
 -- none of some names stands in a text
-none-each : (text : List ℕ) (names : List (List ℕ)) → list_any (λ n. holds n text) names ≡ false → AllByRecursion (λ n. holds n text ≡ false) names
+pub none-each : (text : List ℕ) (names : List (List ℕ)) → list_any (λ n. holds n text) names ≡ false → AllByRecursion (λ n. holds n text ≡ false) names
 none-each text [] h = tt
 none-each text (n ∷ ns) h =
     let parts = or_parts (holds n text) (list_any (λ n. holds n text) ns) h in
     (parts.0, none-each text ns parts.1)
 
 -- names that don't stand in a text are replaced nowhere
-fold-none : (new : List ℕ → List ℕ) (text : List ℕ) (names : List (List ℕ)) → AllByRecursion (λ n. holds n text ≡ false) names → fold (λ t name. replaced name (new name) t) text names ≡ text
+pub fold-none : (new : List ℕ → List ℕ) (text : List ℕ) (names : List (List ℕ)) → AllByRecursion (λ n. holds n text ≡ false) names → fold (λ t name. replaced name (new name) t) text names ≡ text
 fold-none new text [] all = refl
 fold-none new text (n ∷ ns) all = ap (λ t. fold (λ t name. replaced name (new name) t) t ns) (replaced-none n (new n) text all.0) ∙ fold-none new text ns all.1
 

@@ -1,7 +1,12 @@
 pub mod Alike
 pub mod AlikeRows
 pub mod CanonicalNames
+pub mod Counted
 pub mod Generated
+pub mod References
 pub mod Renaming
 pub mod RenamingRows
 pub mod Shadow
+pub mod Shown
+pub mod StepShadow
+pub mod SuffixRule

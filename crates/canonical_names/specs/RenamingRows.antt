@@ -89,3 +89,19 @@ EveryCommandCounts =
 pub every_command_counts : EveryCommandCounts
 unfolding dry_runs_compute
 every_command_counts = refl
+
+-- a name of one suffix can be a beginning of a name of another, which then is taken for it
+abbrev pub BeginningIsTakenForTheName : Type 0
+BeginningIsTakenForTheName =
+    renames (codes "a.cudafe1.c" ∷ codes "k.cudafe1.c" ∷ codes "-I=k.cudafe1.cpp" ∷ codes "k.cudafe1.cpp" ∷ []) ≡
+    codes "x_0.cudafe1.c" ∷ codes "x_1.cudafe1.c" ∷ codes "-I=x_1.cudafe1.cpp" ∷ codes "x_0.cudafe1.cpp" ∷ []
+
+pub beginning_is_taken_for_the_name : BeginningIsTakenForTheName
+beginning_is_taken_for_the_name = refl
+
+-- a suffix of the caller's own names files too: that of the source file renames the source file
+abbrev pub SourceFileIsRenamed : Type 0
+SourceFileIsRenamed = renamed_words (codes ".cu" ∷ standard_suffixes) [] (codes "kernel.cu" ∷ codes "-o" ∷ codes "kernel.cpp1.ii" ∷ []) ≡ codes "x_0.cu" ∷ codes "-o" ∷ codes "x_0.cpp1.ii" ∷ []
+
+pub source_file_is_renamed : SourceFileIsRenamed
+source_file_is_renamed = refl

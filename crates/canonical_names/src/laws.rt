@@ -1,8 +1,30 @@
 //! What holds of canonical names, and runs worked out by hand, which the definitions compute.
 
+ghost use Rattle.cuda_below.specs.Equality.{TellsEqual};
 ghost use Rattle.canonical_names.specs.AlikeRows.{OneKernelIsClean, ReferenceIsNotClean, OneKernelIsAlike, OtherPatternIsNotAlike, OneKernelHasAShadow};
 ghost use Rattle.canonical_names.specs.CanonicalNames.{StandardAreSuffixes, DifferentNames, FolderAndClassStay, OtherWordsStay, RankCountsNames, CleanRunIsAMap, AlikeRunsAgree, OneCanonicalRun, RenamedOnceForAll};
-ghost use Rattle.canonical_names.specs.RenamingRows.{LongestReferenceFirst, EarlyReferenceStays, OneMarkIsLeft, FolderStaysAsAPath, FolderLosesItsDot, FirstNameComesAgain, SecondNameComesAgain, OneKernelIsRenamed, EveryCommandCounts};
+ghost use Rattle.canonical_names.specs.RenamingRows.{LongestReferenceFirst, EarlyReferenceStays, OneMarkIsLeft, FolderStaysAsAPath, FolderLosesItsDot, FirstNameComesAgain, SecondNameComesAgain, OneKernelIsRenamed, EveryCommandCounts, BeginningIsTakenForTheName, SourceFileIsRenamed};
+ghost use Rattle.canonical_names.specs.StepShadow.{ShadowIsStepShadow, OneKernelHasStepShadows};
+ghost use Rattle.canonical_names.specs.SuffixRule.{AcceptedAreSuffixes};
+
+use crate::suffixes::Suffixes;
+
+/// `==` on lists of suffixes says whether they are equal.
+pub fn equality()
+    ensures suffixes { TellsEqual ⟦<Suffixes as PartialEq>⟧.eq }
+{}
+
+/// A list of suffixes that may be handed in has all that the laws of canonical names ask of it.
+pub fn accepted_suffixes()
+    ensures { AcceptedAreSuffixes }
+{}
+
+/// A shadow run is one as far as the inputs of cicc go (`implied`), and not the other way round
+/// (`worked`).
+pub fn step_shadows()
+    ensures implied { ShadowIsStepShadow }
+    ensures worked { OneKernelHasStepShadows }
+{}
 
 /// What the words of some commands are renamed to, by the definitions.
 pub fn worked_renamings()
@@ -15,6 +37,8 @@ pub fn worked_renamings()
     ensures second_name_comes_again { SecondNameComesAgain }
     ensures one_kernel_is_renamed { OneKernelIsRenamed }
     ensures every_command_counts { EveryCommandCounts }
+    ensures beginning_is_taken_for_the_name { BeginningIsTakenForTheName }
+    ensures source_file_is_renamed { SourceFileIsRenamed }
 {}
 
 /// Which worked runs are clean, alike or shadows, by the definitions.

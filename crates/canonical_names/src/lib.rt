@@ -1,4 +1,17 @@
 //! Canonical names of the files that nvcc generates, so that a plan doesn't depend on what nvcc calls them.
 #![tactic(auto)]
 
+mod clean;
 pub mod laws;
+mod references;
+mod remap;
+mod renames;
+mod shadow;
+mod suffixes;
+mod words;
+
+pub use clean::is_clean;
+pub use remap::{remap_commands, remap_generated_filenames};
+pub use renames::Renames;
+pub use shadow::{is_shadow, is_step_shadow};
+pub use suffixes::Suffixes;

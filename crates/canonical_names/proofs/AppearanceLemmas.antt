@@ -1,0 +1,149 @@
+-- The names that appear in a run have a class, and a text holds one of them where it holds one of the run's names.
+use Rattle.std.proofs.Common.{◌≡◌, ℕ, ◌++◌, ◌&&◌, ◌||◌, Bool, true, false, not, cond, List, [], ◌∷◌, Option, Some, None, is_some, map, filter, refl, ap, sym, ◌∙◌, subst, nat_eq, fold, codes, length, take, ◌-◌, append_assoc}
+use Rattle.std.specs.List.{list_any, list_all, filter_map, cons_option, ends_with}
+use Rattle.std.specs.Cmp.Lexicographic.{pointwise}
+use Rattle.std.specs.Option.{option_map}
+use Rattle.std.specs.Str.{bytes_eq}
+use Rattle.std.proofs.lemmas.Bool.{false≢true, and_parts, and_from, or_parts}
+use Rattle.std.proofs.lemmas.List.Folds.{list_any-append}
+use Rattle.std.proofs.lemmas.Slice.Eq.{bytes_eq-Decides}
+use Rattle.cuda_below.specs.DeviceFiles.{is_cicc_word}
+use Rattle.cuda_below.specs.Lists.{word_after}
+use Rattle.cuda_below.specs.Path.{joined, is_bare, is_absolute_path, separator_after}
+use Rattle.cuda_below.proofs.EqualityLemmas.{lists}
+use Rattle.dry_runs.specs.CommandLines.{CommandLine, words_of_command}
+use Rattle.canonical_names.specs.Alike.{holds, is_clean_word}
+use Rattle.canonical_names.specs.CanonicalNames.{AreSuffixes}
+use Rattle.canonical_names.specs.Counted.{has_class}
+use Rattle.canonical_names.specs.Generated.{core_of, class_of_name, generated_name, is_generated, begins_with_dash}
+use Rattle.canonical_names.specs.Renaming.{names_of_run}
+use Rattle.canonical_names.specs.Shadow.{appearances, is_plain_output}
+use Rattle.canonical_names.specs.StepShadow.{step_names, ShadowIsStepShadow}
+use Rattle.canonical_names.proofs.CanonicalLemmas.{ends-split, ends-append, two-ends}
+use Rattle.canonical_names.proofs.RankLemmas.{add, run-names}
+use Rattle.canonical_names.proofs.ReferenceLemmas.{no-suffix-no_names, class-found}
+
+-- the names that appear have a class
+all-append : {A : Type 0} (test : A → Bool) (xs ys : List A) → list_all test xs ≡ true → list_all test ys ≡ true → list_all test (xs ++ ys) ≡ true
+all-append test [] ys h k = k
+all-append test (x ∷ xs) ys h k =
+    let parts = and_parts (test x) (list_all test xs) h in
+    and_from (test x) (list_all test (xs ++ ys)) parts.0 (all-append test xs ys parts.1 k)
+
+name-class : (suffixes : List (List ℕ)) (core : List ℕ) (b : Bool) (o : Option (List ℕ)) → class_of_name suffixes core ≡ o → (more : List (List ℕ)) → list_all (has_class suffixes) more ≡ true →
+    list_all (has_class suffixes) (cons_option (option_map (λ (_ : List ℕ). core) (cond b None o)) more) ≡ true
+name-class suffixes core true o e more h = h
+name-class suffixes core false None e more h = h
+name-class suffixes core false (Some class) e more h = and_from (has_class suffixes core) (list_all (has_class suffixes) more) (ap is_some e) h
+
+words-classes : (suffixes words : List (List ℕ)) → list_all (has_class suffixes) (filter_map (generated_name suffixes) words) ≡ true
+words-classes suffixes [] = refl
+words-classes suffixes (w ∷ words) = name-class suffixes (core_of w) (begins_with_dash (core_of w)) (class_of_name suffixes (core_of w)) refl (filter_map (generated_name suffixes) words) (words-classes suffixes words)
+
+pub appearances-classes : (suffixes : List (List ℕ)) (commands : List CommandLine) → list_all (has_class suffixes) (appearances suffixes commands) ≡ true
+appearances-classes suffixes [] = refl
+appearances-classes suffixes (c ∷ commands) =
+    all-append (has_class suffixes) (filter_map (generated_name suffixes) (words_of_command c)) (appearances suffixes commands) (words-classes suffixes (words_of_command c)) (appearances-classes suffixes commands)
+
+-- a test of the different names tests all that appear
+module _ (test : List ℕ → Bool) where
+  seen-tested : (x : List ℕ) (seen : List (List ℕ)) → list_any (bytes_eq x) seen ≡ true → test x ≡ true → list_any test seen ≡ true
+  seen-tested x [] h t = absurd (false≢true h)
+  seen-tested x (y ∷ seen) h t =
+      elim (bytes_eq x y) as (λ b. bytes_eq x y ≡ b → (b || list_any (bytes_eq x) seen) ≡ true → (test y || list_any test seen) ≡ true) [
+        | true ↦ λ e _. ap (λ b. b || list_any test seen) (ap test (sym ((bytes_eq-Decides x y).0 e)) ∙ t)
+        | false ↦ λ _ k. or-right (test y) (list_any test seen) (seen-tested x seen k t)
+      ] refl h where
+        or-right : (a b : Bool) → b ≡ true → (a || b) ≡ true
+        or-right true b h = refl
+        or-right false b h = h
+
+  or_assoc : (a b c : Bool) → ((a || b) || c) ≡ (a || (b || c))
+  or_assoc true b c = refl
+  or_assoc false b c = refl
+
+  absorbed : (a b c : Bool) → (b ≡ true → a ≡ true) → (a || c) ≡ (a || (b || c))
+  absorbed true b c h = refl
+  absorbed false true c h = absurd (false≢true (h refl))
+  absorbed false false c h = refl
+
+  any-added : (xs seen : List (List ℕ)) → list_any test (fold add seen xs) ≡ (list_any test seen || list_any test xs)
+  any-added [] seen = or-nothing (list_any test seen) where
+    or-nothing : (a : Bool) → a ≡ (a || false)
+    or-nothing true = refl
+    or-nothing false = refl
+  any-added (x ∷ xs) seen =
+      elim (list_any (bytes_eq x) seen) as (λ b. list_any (bytes_eq x) seen ≡ b → list_any test (fold add (cond b seen (seen ++ x ∷ [])) xs) ≡ (list_any test seen || (test x || list_any test xs))) [
+        | true ↦ λ e. any-added xs seen ∙ absorbed (list_any test seen) (test x) (list_any test xs) (seen-tested x seen e)
+        | false ↦ λ _.
+            any-added xs (seen ++ x ∷ [])
+            ∙ ap (λ b. b || list_any test xs) (list_any-append test seen (x ∷ []))
+            ∙ or_assoc (list_any test seen) (test x || false) (list_any test xs)
+            ∙ ap (λ b. list_any test seen || b) (or_assoc (test x) false (list_any test xs))
+      ] refl
+
+pub names-tested : (test : List ℕ → Bool) (suffixes : List (List ℕ)) (commands : List CommandLine) → list_any test (names_of_run suffixes commands) ≡ list_any test (appearances suffixes commands)
+names-tested test suffixes commands = ap (list_any test) (run-names suffixes [] commands) ∙ any-added test (appearances suffixes commands) []
+
+-- a word that holds no suffix is clean
+pub clean-without_suffix : (suffixes : List (List ℕ)) (commands : List CommandLine) (word : List ℕ) → list_any (λ s. holds s word) suffixes ≡ false → is_clean_word suffixes (names_of_run suffixes commands) word ≡ true
+clean-without_suffix suffixes commands word none =
+    let no_name : list_any (λ n. holds n word) (names_of_run suffixes commands) ≡ false =
+    names-tested (λ n. holds n word) suffixes commands ∙ no-suffix-no_names suffixes (appearances suffixes commands) word (appearances-classes suffixes commands) none in
+    ap (λ b. is_generated suffixes word || not b) no_name ∙ or-true (is_generated suffixes word) where
+      or-true : (a : Bool) → (a || true) ≡ true
+      or-true true = refl
+      or-true false = refl
+
+-- a name in a folder ends in `.cpp1.ii` where the name does
+joined-split : (folder n : List ℕ) → (front : List ℕ) × (joined folder n ≡ front ++ n)
+joined-split folder n =
+    elim (is_absolute_path n) as (λ b. (front : List ℕ) × (cond b n ((folder ++ separator_after folder) ++ n) ≡ front ++ n)) [ true ↦ ([], refl) | false ↦ (folder ++ separator_after folder, refl) ]
+
+cicc-joined : (suffixes : List (List ℕ)) → AreSuffixes suffixes → (folder n : List ℕ) → has_class suffixes n ≡ true → is_cicc_word (joined folder n) ≡ is_cicc_word n
+cicc-joined suffixes lawful folder n class =
+    let split = joined-split folder n in
+    let found = class-found suffixes n (class_of_name suffixes n) refl class in
+    let cicc = codes ".cpp1.ii" in
+    elim (is_cicc_word n) as (λ b. is_cicc_word n ≡ b → is_cicc_word (joined folder n) ≡ b) [
+      | true ↦ λ e.
+          ap is_cicc_word (split.1 ∙ ap (λ z. split.0 ++ z) (ends-split n cicc e) ∙ sym (append_assoc split.0 (take (length n - length cicc) n) cicc))
+          ∙ ends-append (split.0 ++ take (length n - length cicc) n) cicc
+      | false ↦ λ e. elim (is_cicc_word (joined folder n)) as (λ b. is_cicc_word (joined folder n) ≡ b → b ≡ false) [
+        | true ↦ λ k.
+            let whole = joined folder n in
+            let by_class : whole ≡ (split.0 ++ take (length n - length found.0) n) ++ found.0 = split.1 ∙ ap (λ z. split.0 ++ z) (ends-split n found.0 found.2) ∙ sym (append_assoc split.0 (take (length n - length found.0) n) found.0) in
+            let same : cicc ≡ found.0 = two-ends suffixes lawful cicc found.0 (take (length whole - length cicc) whole) (split.0 ++ take (length n - length found.0) n) lawful.input found.1 (sym (ends-split whole cicc k) ∙ by_class) in
+            absurd (false≢true (sym e ∙ ap (ends_with nat_eq n) same ∙ found.2))
+        | false ↦ λ _. refl
+      ] refl
+    ] refl
+
+filter-joined : (suffixes : List (List ℕ)) → AreSuffixes suffixes → (folder : List ℕ) (names : List (List ℕ)) → list_all (has_class suffixes) names ≡ true → filter is_cicc_word (map (joined folder) names) ≡ map (joined folder) (filter is_cicc_word names)
+filter-joined suffixes lawful folder [] h = refl
+filter-joined suffixes lawful folder (n ∷ names) h =
+    let parts = and_parts (has_class suffixes n) (list_all (has_class suffixes) names) h in
+    let rest = filter-joined suffixes lawful folder names parts.1 in
+    ap (λ b. cond b (joined folder n ∷ filter is_cicc_word (map (joined folder) names)) (filter is_cicc_word (map (joined folder) names))) (cicc-joined suffixes lawful folder n parts.0)
+    ∙ (elim (is_cicc_word n) as (λ b. cond b (joined folder n ∷ filter is_cicc_word (map (joined folder) names)) (filter is_cicc_word (map (joined folder) names)) ≡ map (joined folder) (cond b (n ∷ filter is_cicc_word names) (filter is_cicc_word names)))
+    [ true ↦ ap (λ ns. joined folder n ∷ ns) rest | false ↦ rest ])
+
+all-kept : {A : Type 0} (test kept : A → Bool) (xs : List A) → list_all test xs ≡ true → list_all test (filter kept xs) ≡ true
+all-kept test kept [] h = refl
+all-kept test kept (x ∷ xs) h =
+    let parts = and_parts (test x) (list_all test xs) h in
+    elim (kept x) as (λ b. list_all test (cond b (x ∷ filter kept xs) (filter kept xs)) ≡ true)
+    [ true ↦ and_from (test x) (list_all test (filter kept xs)) parts.0 (all-kept test kept xs parts.1) | false ↦ all-kept test kept xs parts.1 ]
+
+pub shadow-is_step_shadow : ShadowIsStepShadow
+shadow-is_step_shadow suffixes lawful first second folder h =
+    let names = appearances suffixes first in
+    let others = appearances suffixes second in
+    let plain = list_all (λ command. is_plain_output (word_after (codes "-o") (words_of_command command))) second in
+    let one = and_parts (list_all is_bare names) (pointwise bytes_eq others (map (joined folder) names) && plain) h in
+    let two = and_parts (pointwise bytes_eq others (map (joined folder) names)) plain one.1 in
+    let same : others ≡ map (joined folder) names = (lists bytes_eq bytes_eq-Decides others (map (joined folder) names)).0 two.0 in
+    let steps : step_names suffixes second ≡ map (joined folder) (step_names suffixes first) = ap (filter is_cicc_word) same ∙ filter-joined suffixes lawful folder names (appearances-classes suffixes first) in
+    and_from (list_all is_bare (step_names suffixes first)) (pointwise bytes_eq (step_names suffixes second) (map (joined folder) (step_names suffixes first)) && plain)
+    (all-kept is_bare is_cicc_word names one.0)
+    (and_from (pointwise bytes_eq (step_names suffixes second) (map (joined folder) (step_names suffixes first))) plain ((lists bytes_eq bytes_eq-Decides (step_names suffixes second) (map (joined folder) (step_names suffixes first))).1 steps) two.1)

@@ -1,0 +1,252 @@
+-- A name that is new is counted, and a name that was seen keeps its canonical name.
+use Rattle.std.proofs.Common.{◌≡◌, ℕ, ◌+◌, ◌<◌, ◌≤◌, ◌&&◌, ◌||◌, Bool, true, false, cond, suc, zero, List, [], ◌∷◌, ◌++◌, Option, Some, None, is_some, map, filter, length, inl, inr, refl, ap, sym, ◌∙◌, subst, nat_eq, codes, arith, fold, string_bytes, String, slice_set, get_or, replicate, decimal, eqb, eqb-true, ◌≢◌, ◌^◌}
+use Rattle.std.specs.declared.alloc.Global.{Global}
+use Rattle.std.specs.Int.Digits.{digits_of}
+use Rattle.std.specs.List.{Contains, ends_with, list_all, list_any, slice_get}
+use Rattle.std.specs.Map.{lookup}
+use Rattle.std.specs.Option.{unwrap_or, option_copied}
+use denote.Ref.{Bor}
+use Rattle.indexmap.specs.IndexMap.{insert_entry}
+use Rattle.std.specs.Str.{bytes_eq}
+use Rattle.std.proofs.lemmas.Bool.{false≢true, and_parts, and_from, or_parts, eqb-false}
+use Rattle.std.proofs.lemmas.Fmt.{decimal-digits_of, decimal_digit}
+use Rattle.std.proofs.lemmas.List.{map-append, length-append, length-map, get_or_default}
+use Rattle.std.proofs.lemmas.List.Elements.{filter-append}
+use Rattle.std.proofs.lemmas.Slice.Eq.{bytes_eq-Decides}
+use Rattle.cuda_below.specs.Numeral.{numeral}
+use Rattle.cuda_below.specs.Path.{joined, folder_of}
+use Rattle.cuda_below.specs.Variables.{pair_of}
+use Rattle.canonical_names.specs.Counted.{old_names, count_of, with_canonical, has_class, IsCounted, IsCount, decimal_file}
+use Rattle.canonical_names.specs.Generated.{class_of_name}
+use Rattle.canonical_names.specs.Renaming.{rank, canonical_file, canonical_in, canonical_or, canonical_name}
+use Rattle.canonical_names.specs.SuffixRule.{is_apart, are_apart, are_suffixes}
+use Rattle.canonical_names.proofs.CanonicalLemmas.{no-member, head-member, tail-member, member-cases, canonical-at, find-found}
+use Rattle.canonical_names.proofs.RankLemmas.{bytes_eq-itself, any-turned, rank-absent, rank-found, rank-settled}
+use Rattle.canonical_names.proofs.SuffixLemmas.{one-end, all-apart}
+
+-- what is found in the map
+pub known-name : (f : List ℕ → List ℕ) (es : List (String Global × String Global)) (name : List ℕ) → map pair_of es ≡ map (λ n. (n, f n)) (old_names (map pair_of es)) →
+    (v : String Global) → lookup (λ k. bytes_eq name (string_bytes k)) es ≡ Some v → (string_bytes v ≡ f name) × (list_any (bytes_eq name) (old_names (map pair_of es)) ≡ true)
+known-name f [] name all v h = cc
+known-name f (e ∷ es) name all v h =
+    let here : string_bytes e.1 ≡ f (string_bytes e.0) = ap value_of all in
+    elim (bytes_eq name (string_bytes e.0)) as (λ t. bytes_eq name (string_bytes e.0) ≡ t → cond t (Some e.1) (lookup (λ k. bytes_eq name (string_bytes k)) es) ≡ Some v → (string_bytes v ≡ f name) × ((t || list_any (bytes_eq name) (old_names (map pair_of es))) ≡ true)) [
+      | true ↦ λ is k. let found : e.1 ≡ v = cc in (ap string_bytes (sym found) ∙ here ∙ ap f (sym ((bytes_eq-Decides name (string_bytes e.0)).0 is)), refl)
+      | false ↦ λ _ k. known-name f es name (ap rest_of all) v k
+    ] refl h where
+      value_of : List (List ℕ × List ℕ) → List ℕ
+      value_of [] = []
+      value_of (p ∷ ps) = p.1
+
+      rest_of : List (List ℕ × List ℕ) → List (List ℕ × List ℕ)
+      rest_of [] = []
+      rest_of (p ∷ ps) = ps
+
+pub unknown-name : (es : List (String Global × String Global)) (name : List ℕ) → lookup (λ k. bytes_eq name (string_bytes k)) es ≡ None → list_any (bytes_eq name) (old_names (map pair_of es)) ≡ false
+unknown-name [] name h = refl
+unknown-name (e ∷ es) name h =
+    elim (bytes_eq name (string_bytes e.0)) as (λ t. cond t (Some e.1) (lookup (λ k. bytes_eq name (string_bytes k)) es) ≡ None → (t || list_any (bytes_eq name) (old_names (map pair_of es))) ≡ false) [
+      | true ↦ λ k. cc
+      | false ↦ λ k. unknown-name es name k
+    ] h
+
+-- names that were seen keep their canonical names
+same-map : {A B : Type 0} (f g : A → B) (xs : List A) → ((x : A) → Contains xs x → f x ≡ g x) → map f xs ≡ map g xs
+same-map f g [] h = refl
+same-map f g (x ∷ xs) h = ap (λ y. y ∷ map f xs) (h x (head-member x xs)) ∙ ap (λ ys. g x ∷ ys) (same-map f g xs (λ y m. h y (tail-member x xs y m)))
+
+member-among : (names : List (List ℕ)) (m : List ℕ) → Contains names m → list_any (λ n. bytes_eq n m) names ≡ true
+member-among [] m h = absurd (no-member m h)
+member-among (x ∷ xs) m h =
+    elim (bytes_eq x m) as (λ t. bytes_eq x m ≡ t → (t || list_any (λ n. bytes_eq n m) xs) ≡ true) [
+      | true ↦ λ _. refl
+      | false ↦ λ e. elim (member-cases x xs m h) as (λ _. list_any (λ n. bytes_eq n m) xs ≡ true) [
+        | inl is ↦ absurd (false≢true (sym e ∙ ap (λ z. bytes_eq z m) is ∙ bytes_eq-itself m))
+        | inr more ↦ member-among xs m more
+      ]
+    ] refl
+
+canonical-stays : (names more : List (List ℕ)) (m : List ℕ) (o : Option (List ℕ)) → list_any (λ n. bytes_eq n m) names ≡ true → canonical_or (names ++ more) m o ≡ canonical_or names m o
+canonical-stays names more m None h = refl
+canonical-stays names more m (Some class) h = ap (λ k. joined (folder_of m) (canonical_file k class)) (rank-found class m names more h)
+
+rank-same : (class n : List ℕ) (names : List (List ℕ)) → list_any (bytes_eq n) names ≡ false → rank class (names ++ n ∷ []) n ≡ rank class names n
+rank-same class n names new =
+    let absent : list_any (λ m. bytes_eq m n) names ≡ false = sym (any-turned class n names) ∙ new in
+    rank-settled class n names [] absent ∙ sym (rank-absent class n names absent)
+
+-- a new name's rank is the counter of its class
+pub rank-counted : (class n : List ℕ) (names : List (List ℕ)) → list_any (bytes_eq n) names ≡ false → rank class names n ≡ count_of names class
+rank-counted class n names new = rank-absent class n names (sym (any-turned class n names) ∙ new)
+
+-- counters
+count-of-push : (names : List (List ℕ)) (n class : List ℕ) → count_of (names ++ n ∷ []) class ≡ count_of names class + cond (ends_with nat_eq n class) 1 0
+count-of-push names n class =
+    ap length (filter-append (λ m. ends_with nat_eq m class) names (n ∷ [])) ∙ length-append (filter (λ m. ends_with nat_eq m class) names) (filter (λ m. ends_with nat_eq m class) (n ∷ []))
+    ∙ ap (λ k. count_of names class + k) (one (ends_with nat_eq n class)) where
+      one : (b : Bool) → length (cond b (n ∷ []) []) ≡ cond b 1 0
+      one true = refl
+      one false = refl
+
+count-other : (names : List (List ℕ)) (n class : List ℕ) → ends_with nat_eq n class ≡ false → count_of names class ≡ count_of (names ++ n ∷ []) class
+count-other names n class other =
+    let same : count_of (names ++ n ∷ []) class ≡ count_of names class + 0 = count-of-push names n class ∙ ap (λ b. count_of names class + cond b 1 0) other in
+    omega (arith, same)
+
+counts-others : (names : List (List ℕ)) (n s : List ℕ) → ends_with nat_eq n s ≡ true → (suffixes : List (List ℕ)) → list_all (is_apart s) suffixes ≡ true → map (count_of names) suffixes ≡ map (count_of (names ++ n ∷ [])) suffixes
+counts-others names n s ends [] h = refl
+counts-others names n s ends (t ∷ suffixes) h =
+    let parts = and_parts (is_apart s t) (list_all (is_apart s) suffixes) h in
+    ap (λ k. k ∷ map (count_of names) suffixes) (count-other names n t (one-end n s t parts.0 ends))
+    ∙ ap (λ ks. count_of (names ++ n ∷ []) t ∷ ks) (counts-others names n s ends suffixes parts.1)
+
+apart-at : (s : List ℕ) (suffixes : List (List ℕ)) (i : ℕ) (class : List ℕ) → list_all (is_apart s) suffixes ≡ true → slice_get suffixes i ≡ Some class → is_apart s class ≡ true
+apart-at s [] i class h at = cc
+apart-at s (t ∷ suffixes) zero class h at =
+    let is : t ≡ class = cc in
+    subst (λ z. is_apart s z ≡ true) is (and_parts (is_apart s t) (list_all (is_apart s) suffixes) h).0
+apart-at s (t ∷ suffixes) (suc i) class h at = apart-at s suffixes i class (and_parts (is_apart s t) (list_all (is_apart s) suffixes) h).1 at
+
+counts-raised : (names : List (List ℕ)) (n class : List ℕ) → ends_with nat_eq n class ≡ true → (suffixes : List (List ℕ)) → are_apart suffixes ≡ true → (i : ℕ) → slice_get suffixes i ≡ Some class →
+    slice_set (map (count_of names) suffixes) i (count_of names class + 1) ≡ map (count_of (names ++ n ∷ [])) suffixes
+counts-raised names n class ends [] apart i at = cc
+counts-raised names n class ends (s ∷ suffixes) apart zero at =
+    let parts = and_parts (list_all (is_apart s) suffixes) (are_apart suffixes) apart in
+    let is : s ≡ class = cc in
+    let more : count_of names class + 1 ≡ count_of (names ++ n ∷ []) s = sym (ap (λ b. count_of names class + cond b 1 0) ends) ∙ sym (count-of-push names n class) ∙ ap (count_of (names ++ n ∷ [])) (sym is) in
+    ap (λ k. k ∷ map (count_of names) suffixes) more
+    ∙ ap (λ ks. count_of (names ++ n ∷ []) s ∷ ks) (counts-others names n s (ap (ends_with nat_eq n) is ∙ ends) suffixes parts.0)
+counts-raised names n class ends (s ∷ suffixes) apart (suc i) at =
+    let parts = and_parts (list_all (is_apart s) suffixes) (are_apart suffixes) apart in
+    let other : ends_with nat_eq n s ≡ false = elim (ends_with nat_eq n s) as (λ b. ends_with nat_eq n s ≡ b → b ≡ false) [
+      | true ↦ λ e. absurd (false≢true (sym (one-end n s class (apart-at s suffixes i class parts.0 at) e) ∙ ends))
+      | false ↦ λ _. refl
+    ] refl in
+    ap (λ k. k ∷ slice_set (map (count_of names) suffixes) i (count_of names class + 1)) (count-other names n s other)
+    ∙ ap (λ ks. count_of (names ++ n ∷ []) s ∷ ks) (counts-raised names n class ends suffixes parts.1 i at)
+
+pub count-at : (names suffixes : List (List ℕ)) (i : ℕ) (class : List ℕ) → slice_get suffixes i ≡ Some class → (d : ℕ) → get_or (map (count_of names) suffixes) i d ≡ count_of names class
+count-at names [] i class at d = cc
+count-at names (s ∷ suffixes) zero class at d = let is : s ≡ class = cc in ap (count_of names) is
+count-at names (s ∷ suffixes) (suc i) class at d = count-at names suffixes i class at d
+
+pub count-bound : (names : List (List ℕ)) (class : List ℕ) → count_of names class ≤ length names
+count-bound [] class = omega arith
+count-bound (n ∷ names) class =
+    elim (ends_with nat_eq n class) as (λ b. length (cond b (n ∷ filter (λ m. ends_with nat_eq m class) names) (filter (λ m. ends_with nat_eq m class) names)) ≤ length (n ∷ names))
+    [ true ↦ let rest : count_of names class ≤ length names = count-bound names class in omega (arith, rest) | false ↦ let rest : count_of names class ≤ length names = count-bound names class in omega (arith, rest) ]
+
+-- nothing is counted at first
+pub nothing-counted : (suffixes : List (List ℕ)) → are_suffixes suffixes ≡ true → (counts : List ℕ) → counts ≡ replicate (length suffixes) 0 → IsCounted suffixes [] [] counts
+nothing-counted suffixes accepted counts zeros = record { accepted = accepted; classes = refl; canonical = refl; counted = zeros ∙ all-zero suffixes } where
+  all-zero : (suffixes : List (List ℕ)) → replicate (length suffixes) 0 ≡ map (count_of []) suffixes
+  all-zero [] = refl
+  all-zero (s ∷ suffixes) = ap (λ ks. 0 ∷ ks) (all-zero suffixes)
+
+-- one more name is counted
+classes-push : (suffixes names : List (List ℕ)) (n : List ℕ) → list_all (has_class suffixes) names ≡ true → has_class suffixes n ≡ true → list_all (has_class suffixes) (names ++ n ∷ []) ≡ true
+classes-push suffixes [] n h one = and_from (has_class suffixes n) true one refl
+classes-push suffixes (m ∷ names) n h one =
+    let parts = and_parts (has_class suffixes m) (list_all (has_class suffixes) names) h in
+    and_from (has_class suffixes m) (list_all (has_class suffixes) (names ++ n ∷ [])) parts.0 (classes-push suffixes names n parts.1 one)
+
+pub name-counted : (suffixes names : List (List ℕ)) (pairs : List (List ℕ × List ℕ)) (counts : List ℕ) (n class : List ℕ) (i : ℕ) → IsCounted suffixes names pairs counts →
+    slice_get suffixes i ≡ Some class → class_of_name suffixes n ≡ Some class → list_any (bytes_eq n) names ≡ false →
+    IsCounted suffixes (names ++ n ∷ []) (pairs ++ (n, canonical_in names n class) ∷ []) (slice_set counts i (count_of names class + 1))
+name-counted suffixes names pairs counts n class i before at is new =
+    let ends = (find-found (ends_with nat_eq n) suffixes class is).1 in
+    let seen = names ++ n ∷ [] in
+    let old : map (with_canonical suffixes names) names ≡ map (with_canonical suffixes seen) names =
+    same-map (with_canonical suffixes names) (with_canonical suffixes seen) names (λ m among. ap (λ t. (m, t)) (sym (canonical-stays names (n ∷ []) m (class_of_name suffixes m) (member-among names m among)))) in
+    let one : canonical_in names n class ≡ canonical_name suffixes seen n = ap (λ k. joined (folder_of n) (canonical_file k class)) (sym (rank-same class n names new)) ∙ sym (canonical-at suffixes seen n class is) in
+    record {
+      accepted = before.accepted;
+      classes = classes-push suffixes names n before.classes (ap is_some is);
+      canonical = ap (λ ps. ps ++ (n, canonical_in names n class) ∷ []) (before.canonical ∙ old) ∙ ap (λ t. map (with_canonical suffixes seen) names ++ (n, t) ∷ []) one ∙ sym (map-append (with_canonical suffixes seen) names (n ∷ []));
+      counted = ap (λ ks. slice_set ks i (count_of names class + 1)) before.counted ∙ counts-raised names n class ends suffixes (all-apart suffixes before.accepted) i at;
+    }
+
+-- numerals of machine numbers
+pub numeral-decimal : (k : ℕ) → k < 2 ^ 64 → numeral k ≡ decimal k
+numeral-decimal k small =
+    elim (eqb k 0) as (λ b. eqb k 0 ≡ b → cond b (codes "0") (map (λ d. 48 + d) (digits_of 10 k)) ≡ decimal k) [
+      | true ↦ λ e. let none : k ≡ 0 = eqb-true k 0 e in sym (ap decimal none ∙ decimal_digit 0 (omega arith))
+      | false ↦ λ e. let some : k ≢ 0 = eqb-false k 0 e in sym (decimal-digits_of k (omega arith) small)
+    ] refl
+
+pub decimal-file : (k : ℕ) (class : List ℕ) → k < 2 ^ 64 → decimal_file k class ≡ canonical_file k class
+decimal-file k class small = ap (λ n. codes "x_" ++ (n ++ class)) (sym (numeral-decimal k small))
+
+-- a counter is a number of names, of which there are no more than the map has entries
+pub counter-limit : (suffixes names : List (List ℕ)) (pairs : List (List ℕ × List ℕ)) (counts : List ℕ) → IsCounted suffixes names pairs counts → (i : ℕ) → i < length suffixes → get_or counts i 0 ≤ length names
+counter-limit suffixes names pairs counts h i within = subst (λ ks. get_or ks i 0 ≤ length names) (sym h.counted) (limit suffixes i within) where
+  limit : (suffixes : List (List ℕ)) (i : ℕ) → i < length suffixes → get_or (map (count_of names) suffixes) i 0 ≤ length names
+  limit [] i lt = absurd (omega (arith, lt))
+  limit (s ∷ suffixes) zero lt = count-bound names s
+  limit (s ∷ suffixes) (suc i) lt = limit suffixes i (omega (arith, lt))
+
+pub old_names-length : (es : List (String Global × String Global)) → length (old_names (map pair_of es)) ≡ length es
+old_names-length [] = refl
+old_names-length (e ∷ es) = ap suc (old_names-length es)
+
+pub counter-is : (suffixes names : List (List ℕ)) (pairs : List (List ℕ × List ℕ)) (counts : List ℕ) → IsCounted suffixes names pairs counts → (i : ℕ) (class : List ℕ) → slice_get suffixes i ≡ Some class → get_or counts i 0 ≡ count_of names class
+counter-is suffixes names pairs counts h i class at = ap (λ ks. get_or ks i 0) h.counted ∙ count-at names suffixes i class at 0
+
+-- the names of a map with one more entry
+pub old_names-push : (ps : List (List ℕ × List ℕ)) (n c : List ℕ) → old_names (ps ++ (n, c) ∷ []) ≡ old_names ps ++ n ∷ []
+old_names-push ps n c = map-append (λ p. p.0) ps ((n, c) ∷ [])
+
+pub pairs-push : (es : List (String Global × String Global)) (n c : String Global) → map pair_of (es ++ (n, c) ∷ []) ≡ map pair_of es ++ (string_bytes n, string_bytes c) ∷ []
+pairs-push es n c = map-append pair_of es ((n, c) ∷ [])
+
+-- a new name goes last in the map
+pub entry-last : (es : List (String Global × String Global)) (n c : String Global) → list_any (bytes_eq (string_bytes n)) (old_names (map pair_of es)) ≡ false →
+    insert_entry (λ (a b : String Global). bytes_eq (string_bytes a) (string_bytes b)) es n c ≡ es ++ (n, c) ∷ []
+entry-last [] n c h = refl
+entry-last (e ∷ es) n c h =
+    let parts = or_parts (bytes_eq (string_bytes n) (string_bytes e.0)) (list_any (bytes_eq (string_bytes n)) (old_names (map pair_of es))) h in
+    ap (λ b. cond b ((e.0, c) ∷ es) (e ∷ insert_entry (λ (a d : String Global). bytes_eq (string_bytes a) (string_bytes d)) es n c)) parts.0
+    ∙ ap (λ l. e ∷ l) (entry-last es n c parts.1)
+
+pub names-put : (es more : List (String Global × String Global)) (n c : String Global) → more ≡ es ++ (n, c) ∷ [] → old_names (map pair_of more) ≡ old_names (map pair_of es) ++ string_bytes n ∷ []
+names-put es more n c is = ap (λ l. old_names (map pair_of l)) is ∙ ap old_names (pairs-push es n c) ∙ old_names-push (map pair_of es) (string_bytes n) (string_bytes c)
+
+class-at : (suffixes : List (List ℕ)) (i : ℕ) → i < length suffixes → (class : List ℕ) × (slice_get suffixes i ≡ Some class)
+class-at [] i lt = absurd (omega (arith, lt))
+class-at (s ∷ suffixes) zero lt = (s, refl)
+class-at (s ∷ suffixes) (suc i) lt = class-at suffixes i (omega (arith, lt))
+
+pub put-counted : (suffixes : List (List ℕ)) (es more : List (String Global × String Global)) (counts raised : List ℕ) (n c : String Global) (i k : ℕ) → IsCounted suffixes (old_names (map pair_of es)) (map pair_of es) counts →
+    i < length suffixes → class_of_name suffixes (string_bytes n) ≡ slice_get suffixes i → list_any (bytes_eq (string_bytes n)) (old_names (map pair_of es)) ≡ false →
+    string_bytes c ≡ canonical_name suffixes (old_names (map pair_of es)) (string_bytes n) → more ≡ es ++ (n, c) ∷ [] → IsCount suffixes (old_names (map pair_of es)) i k → raised ≡ slice_set counts i (k + 1) →
+    IsCounted suffixes (old_names (map pair_of more)) (map pair_of more) raised
+put-counted suffixes es more counts raised n c i k before within class new canonical is count up =
+    let at = class-at suffixes i within in
+    let names = old_names (map pair_of es) in
+    let of_class : class_of_name suffixes (string_bytes n) ≡ Some at.0 = class ∙ at.1 in
+    let counted = name-counted suffixes names (map pair_of es) counts (string_bytes n) at.0 i before at.1 of_class new in
+    let text : string_bytes c ≡ canonical_in names (string_bytes n) at.0 = canonical ∙ canonical-at suffixes names (string_bytes n) at.0 of_class in
+    let pairs : map pair_of more ≡ map pair_of es ++ (string_bytes n, canonical_in names (string_bytes n) at.0) ∷ [] = ap (map pair_of) is ∙ pairs-push es n c ∙ ap (λ t. map pair_of es ++ (string_bytes n, t) ∷ []) text in
+    let all : raised ≡ slice_set counts i (count_of names at.0 + 1) = up ∙ ap (λ m. slice_set counts i (m + 1)) (count at.0 at.1) in
+    subst (λ ks. IsCounted suffixes (old_names (map pair_of more)) (map pair_of more) ks) (sym all)
+    (subst (λ ps. IsCounted suffixes (old_names (map pair_of more)) ps (slice_set counts i (count_of names at.0 + 1))) (sym pairs)
+    (subst (λ ns. IsCounted suffixes ns (map pair_of es ++ (string_bytes n, canonical_in names (string_bytes n) at.0) ∷ []) (slice_set counts i (count_of names at.0 + 1))) (sym (names-put es more n c is)) counted))
+
+-- the canonical name of a name that is new, by the counter of its class
+pub counted-name : (suffixes names : List (List ℕ)) (n suffix : List ℕ) (i k : ℕ) → i < length suffixes → class_of_name suffixes n ≡ slice_get suffixes i → unwrap_or (slice_get suffixes i) [] ≡ suffix → list_any (bytes_eq n) names ≡ false →
+    IsCount suffixes names i k → k < 2 ^ 64 → joined (folder_of n) (decimal_file k suffix) ≡ canonical_name suffixes names n
+counted-name suffixes names n suffix i k within class given new count small =
+    let at = class-at suffixes i within in
+    let is : suffix ≡ at.0 = sym given ∙ ap (λ o. unwrap_or o []) at.1 in
+    let number : k ≡ rank at.0 names n = count at.0 at.1 ∙ sym (rank-counted at.0 n names new) in
+    ap (joined (folder_of n)) (decimal-file k suffix small ∙ ap (canonical_file k) is ∙ ap (λ m. canonical_file m at.0) number) ∙ sym (canonical-at suffixes names n at.0 (class ∙ at.1))
+
+-- what a counter reads as
+pub counter-read : (suffixes names : List (List ℕ)) (pairs : List (List ℕ × List ℕ)) (counts : List ℕ) → IsCounted suffixes names pairs counts → (i x : ℕ) → i < length suffixes → x ≡ get_or counts i x → x ≡ get_or counts i 0
+counter-read suffixes names pairs counts h i x within read =
+    let all : length counts ≡ length suffixes = ap length h.counted ∙ length-map suffixes (count_of names) in
+    read ∙ get_or_default counts i x 0 (subst (λ n. i < n) (sym all) within)
+
+pub text-or : (o : Option (Bor (List ℕ))) (d : Bor (List ℕ)) → (unwrap_or o d).now ≡ unwrap_or (option_copied o) d.now
+text-or None d = refl
+text-or (Some x) d = refl

@@ -1,0 +1,126 @@
+-- References in the order of their lengths, and what they make of a text.
+use Rattle.std.proofs.Common.{◌≡◌, ℕ, suc, zero, ◌+◌, ◌-◌, ◌<◌, ◌≤◌, ◌&&◌, ◌||◌, ◌++◌, Bool, true, false, cond, List, [], ◌∷◌, Option, Some, None, is_some, map, refl, ap, sym, ◌∙◌, subst, nat_eq, nat_lt, length, fold, take, drop, arith, append_assoc, get_or, inl, inr}
+use Rattle.std.specs.List.{list_any, list_all, ends_with, insert, AllByRecursion, Contains}
+use Rattle.std.proofs.lemmas.Bool.{false≢true, and_parts, lt-ltb, ltb-true, cases_lt}
+use Rattle.std.proofs.lemmas.List.{length-append, get_or_default}
+use Rattle.dry_runs.specs.Replacing.{replaced}
+use Rattle.canonical_names.specs.Alike.{holds}
+use Rattle.canonical_names.specs.Counted.{has_class, with_canonical}
+use Rattle.canonical_names.specs.Generated.{class_of_name}
+use Rattle.canonical_names.specs.Renaming.{insert_by_length, longest_first, canonical_name, rewritten}
+use Rattle.canonical_names.specs.References.{replaced_by, replaced_by_all, insert_pair, longest_pairs_first, AreAsLong}
+use Rattle.canonical_names.specs.declared.references.Reference.{Reference}
+use Rattle.canonical_names.specs.SuffixRule.{is_suffix, are_suffixes}
+use Rattle.canonical_names.proofs.CanonicalLemmas.{find-found, ends-split}
+use Rattle.canonical_names.proofs.ReplaceLemmas.{holds-split, holds-within}
+use Rattle.canonical_names.proofs.RewriteLemmas.{none-each, fold-each, fold-none}
+use Rattle.canonical_names.proofs.SuffixLemmas.{each-member, each-suffix, none-member}
+
+-- what is inserted at its place
+pub inserted-at : {X : Type 0} (f : X → List ℕ × List ℕ) (xs : List X) (x : X) (n : ℕ) → n ≤ length xs → ((k : ℕ) (d : X) → k < n → length (f x).0 ≤ length (f (get_or xs k d)).0) →
+    ((d : X) → n < length xs → length (f (get_or xs n d)).0 < length (f x).0) → map f (insert xs n x) ≡ insert_pair (map f xs) (f x)
+inserted-at f [] x zero within before behind = refl
+inserted-at f [] x (suc n) within before behind = absurd (omega (arith, within))
+inserted-at f (y ∷ xs) x zero within before behind =
+    sym (ap (λ b. cond b (f x ∷ f y ∷ map f xs) (f y ∷ insert_pair (map f xs) (f x))) (lt-ltb (length (f y).0) (length (f x).0) (behind y (omega arith))))
+inserted-at f (y ∷ xs) x (suc n) within before behind =
+    let here : length (f x).0 ≤ length (f y).0 = before 0 y (omega arith) in
+    let not_here : nat_lt (length (f y).0) (length (f x).0) ≡ false = elim (nat_lt (length (f y).0) (length (f x).0)) as (λ b. nat_lt (length (f y).0) (length (f x).0) ≡ b → b ≡ false) [
+      | true ↦ λ e. absurd (let lt = ltb-true (length (f y).0) (length (f x).0) e in omega (arith, lt, here))
+      | false ↦ λ _. refl
+    ] refl in
+    ap (λ ps. f y ∷ ps) (inserted-at f xs x n (omega (arith, within)) (λ k d lt. before (suc k) d (omega (arith, lt))) (λ d lt. behind d (omega (arith, lt))))
+    ∙ sym (ap (λ b. cond b (f x ∷ f y ∷ map f xs) (f y ∷ insert_pair (map f xs) (f x))) not_here)
+
+-- one more reference is as long
+pub as-long-here : (references : List Reference) (i bytes : ℕ) → AreAsLong references i bytes → i < length references → (e : Reference) → bytes ≤ length (get_or references i e).name.now → AreAsLong references (i + 1) bytes
+as-long-here references i bytes before within e here k d lt =
+    elim (cases_lt k i) as (λ _. bytes ≤ length (get_or references k d).name.now) [
+      | inl less ↦ before k d less
+      | inr more ↦
+          let is : i ≡ k = omega (arith, lt, more) in
+          subst (λ j. bytes ≤ length (get_or references j d).name.now) is (subst (λ (r : Reference). bytes ≤ length r.name.now) (get_or_default references i e d within) here)
+    ]
+
+-- pairs of names and what they became are in the order of the names
+module _ (f : List ℕ → List ℕ) where
+  insert-mapped : (names : List (List ℕ)) (n : List ℕ) → insert_pair (map (λ m. (m, f m)) names) (n, f n) ≡ map (λ m. (m, f m)) (insert_by_length names n)
+  insert-mapped [] n = refl
+  insert-mapped (m ∷ names) n =
+      elim (nat_lt (length m) (length n)) as (λ b. cond b ((n, f n) ∷ (m, f m) ∷ map (λ k. (k, f k)) names) ((m, f m) ∷ insert_pair (map (λ k. (k, f k)) names) (n, f n)) ≡ map (λ k. (k, f k)) (cond b (n ∷ m ∷ names) (m ∷ insert_by_length names n)))
+      [ true ↦ refl | false ↦ ap (λ ps. (m, f m) ∷ ps) (insert-mapped names n) ]
+
+  fold-mapped : (names sorted : List (List ℕ)) → fold insert_pair (map (λ m. (m, f m)) sorted) (map (λ m. (m, f m)) names) ≡ map (λ m. (m, f m)) (fold insert_by_length sorted names)
+  fold-mapped [] sorted = refl
+  fold-mapped (n ∷ names) sorted = ap (λ ps. fold insert_pair ps (map (λ m. (m, f m)) names)) (insert-mapped sorted n) ∙ fold-mapped names (insert_by_length sorted n)
+
+  replaced-mapped : (names : List (List ℕ)) (text : List ℕ) → replaced_by_all (map (λ m. (m, f m)) names) text ≡ fold (λ t n. replaced n (f n) t) text names
+  replaced-mapped [] text = refl
+  replaced-mapped (n ∷ names) text = replaced-mapped names (replaced n (f n) text)
+
+-- what all references make of a text
+pub rewritten-by_pairs : (suffixes names : List (List ℕ)) (pairs : List (List ℕ × List ℕ)) → pairs ≡ map (with_canonical suffixes names) names → (text : List ℕ) →
+    replaced_by_all (longest_pairs_first pairs) text ≡ rewritten suffixes names text
+rewritten-by_pairs suffixes names pairs is text =
+    ap (λ ps. replaced_by_all (longest_pairs_first ps) text) is
+    ∙ ap (λ ps. replaced_by_all ps text) (fold-mapped (canonical_name suffixes names) names [])
+    ∙ replaced-mapped (canonical_name suffixes names) (longest_first names) text
+
+-- no name is empty
+first-some : (s : List ℕ) → is_suffix s ≡ true → 0 < length s
+first-some [] h = absurd (false≢true h)
+first-some (c ∷ cs) h = omega arith
+
+pub class-found : (suffixes : List (List ℕ)) (n : List ℕ) (o : Option (List ℕ)) → class_of_name suffixes n ≡ o → is_some o ≡ true → (c : List ℕ) × Contains suffixes c × (ends_with nat_eq n c ≡ true)
+class-found suffixes n None e h = absurd (false≢true h)
+class-found suffixes n (Some c) e h = let found = find-found (ends_with nat_eq n) suffixes c e in (c, found.0, found.1)
+
+named-some : (suffixes : List (List ℕ)) → are_suffixes suffixes ≡ true → (n : List ℕ) → has_class suffixes n ≡ true → 0 < length n
+named-some suffixes accepted n h =
+    let class = class-found suffixes n (class_of_name suffixes n) refl h in
+    let some = first-some class.0 (each-member is_suffix suffixes class.0 (each-suffix suffixes accepted) class.1) in
+    let parts : length n ≡ length (take (length n - length class.0) n) + length class.0 = ap length (ends-split n class.0 class.2) ∙ length-append (take (length n - length class.0) n) class.0 in
+    omega (arith, some, parts)
+
+names-some : (suffixes : List (List ℕ)) → are_suffixes suffixes ≡ true → (names : List (List ℕ)) → list_all (has_class suffixes) names ≡ true → AllByRecursion (λ n. 0 < length n) names
+names-some suffixes accepted [] h = tt
+names-some suffixes accepted (n ∷ names) h =
+    let parts = and_parts (has_class suffixes n) (list_all (has_class suffixes) names) h in
+    (named-some suffixes accepted n parts.0, names-some suffixes accepted names parts.1)
+
+pairs-some : (f : List ℕ → List ℕ) (names : List (List ℕ)) → AllByRecursion (λ n. 0 < length n) names → AllByRecursion (λ (p : List ℕ × List ℕ). 0 < length p.0) (map (λ m. (m, f m)) names)
+pairs-some f [] h = tt
+pairs-some f (n ∷ names) h = (h.0, pairs-some f names h.1)
+
+pub references-some : (suffixes names : List (List ℕ)) (pairs : List (List ℕ × List ℕ)) → are_suffixes suffixes ≡ true → list_all (has_class suffixes) names ≡ true → pairs ≡ map (with_canonical suffixes names) names →
+    AllByRecursion (λ (p : List ℕ × List ℕ). 0 < length p.0) (longest_pairs_first pairs)
+references-some suffixes names pairs accepted classes is =
+    let f = canonical_name suffixes names in
+    subst (AllByRecursion (λ (p : List ℕ × List ℕ). 0 < length p.0)) (sym (ap longest_pairs_first is ∙ fold-mapped f names []))
+    (pairs-some f (longest_first names) (fold-each (λ n. 0 < length n) names [] (names-some suffixes accepted names classes) tt))
+
+-- A text that holds no suffix holds no name: names end in a suffix.
+name-needs_suffix : (suffixes : List (List ℕ)) (text n : List ℕ) → has_class suffixes n ≡ true → list_any (λ s. holds s text) suffixes ≡ false → holds n text ≡ false
+name-needs_suffix suffixes text n class none =
+    elim (holds n text) as (λ b. holds n text ≡ b → b ≡ false) [
+      | true ↦ λ e.
+          let found = class-found suffixes n (class_of_name suffixes n) refl class in
+          let front = take (length n - length found.0) n in
+          let split = holds-split n text e in
+          let whole : text ≡ (split.0 ++ front) ++ (found.0 ++ split.1) =
+          split.2 ∙ ap (λ z. split.0 ++ (z ++ split.1)) (ends-split n found.0 found.2) ∙ ap (λ z. split.0 ++ z) (append_assoc front found.0 split.1) ∙ sym (append_assoc split.0 front (found.0 ++ split.1)) in
+          let held : holds found.0 text ≡ true = ap (holds found.0) whole ∙ holds-within found.0 (split.0 ++ front) split.1 in
+          absurd (false≢true (sym (none-member (λ t. holds t text) suffixes found.0 none found.1) ∙ held))
+      | false ↦ λ _. refl
+    ] refl
+
+pub no-suffix-no_names : (suffixes names : List (List ℕ)) (text : List ℕ) → list_all (has_class suffixes) names ≡ true → list_any (λ s. holds s text) suffixes ≡ false → list_any (λ n. holds n text) names ≡ false
+no-suffix-no_names suffixes [] text classes none = refl
+no-suffix-no_names suffixes (n ∷ names) text classes none =
+    let parts = and_parts (has_class suffixes n) (list_all (has_class suffixes) names) classes in
+    ap (λ b. b || list_any (λ m. holds m text) names) (name-needs_suffix suffixes text n parts.0 none) ∙ no-suffix-no_names suffixes names text parts.1 none
+
+pub rewritten-none : (suffixes names : List (List ℕ)) (text : List ℕ) → list_all (has_class suffixes) names ≡ true → list_any (λ s. holds s text) suffixes ≡ false → text ≡ rewritten suffixes names text
+rewritten-none suffixes names text classes none =
+    let each = none-each text names (no-suffix-no_names suffixes names text classes none) in
+    sym (fold-none (canonical_name suffixes names) text (longest_first names) (fold-each (λ n. holds n text ≡ false) names [] each tt))

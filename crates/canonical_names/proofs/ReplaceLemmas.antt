@@ -1,0 +1,126 @@
+-- What std's search and replacement in texts make, by the definitions that compute.
+use Rattle.std.proofs.Common.{◌≡◌, ◌≢◌, ℕ, suc, zero, ◌+◌, ◌-◌, ◌<◌, ◌≤◌, ◌++◌, ◌||◌, Bool, true, false, cond, List, [], ◌∷◌, inl, inr, refl, ap, sym, ◌∙◌, subst, nat_eq, length, take, drop, append_assoc, arith, append-nil}
+use denote.Ref.{Bor}
+use Rattle.std.specs.List.{starts_with, ends_with, list_any, list_all}
+use Rattle.std.specs.Str.{bytes_eq}
+use Rattle.std.specs.Str.Iter.{HasSubslice}
+use Rattle.std.specs.Str.Pattern.{LacksTextAt, FindsText, HasMatch}
+use Rattle.std.specs.Str.Replace.{ReplacesMatches}
+use Rattle.std.specs.Bool.{MatchBool}
+use Rattle.std.specs.Prelude.{None}
+use Rattle.std.proofs.lemmas.Bool.{false≢true, or_parts, cases_lt}
+use Rattle.std.proofs.lemmas.List.{length-append, take-append-drop, length-take}
+use Rattle.std.proofs.lemmas.Slice.Eq.{bytes_eq-Decides}
+use Rattle.std.proofs.lemmas.Str.Pattern.{contains_text}
+use Rattle.std.proofs.Math.Seq.{drop-append_seam}
+use Rattle.dry_runs.specs.Replacing.{replaced, replaced_past}
+use Rattle.canonical_names.specs.Alike.{holds}
+use Rattle.canonical_names.proofs.RankLemmas.{bytes_eq-itself}
+use Rattle.canonical_names.proofs.RewriteLemmas.{replaced-none}
+
+-- a text begins with what it was put together from
+take-front : (n b : List ℕ) → take (length n) (n ++ b) ≡ n
+take-front [] b = refl
+take-front (x ∷ n) b = ap (λ t. x ∷ t) (take-front n b)
+
+pub starts-append : (n b : List ℕ) → starts_with nat_eq (n ++ b) n ≡ true
+starts-append n b = subst (λ t. bytes_eq n t ≡ true) (sym (take-front n b)) (bytes_eq-itself n)
+
+pub starts-split : (text n : List ℕ) → starts_with nat_eq text n ≡ true → text ≡ n ++ drop (length n) text
+starts-split text n h =
+    let front : n ≡ take (length n) text = (bytes_eq-Decides n (take (length n) text)).0 h in
+    sym (take-append-drop (length n) text) ∙ ap (λ t. t ++ drop (length n) text) (sym front)
+
+-- a text holds another where it is put together round it
+pub holds-within : (n a b : List ℕ) → holds n (a ++ (n ++ b)) ≡ true
+holds-within n [] b = at n (n ++ b) (starts-append n b) where
+  at : (n s : List ℕ) → starts_with nat_eq s n ≡ true → holds n s ≡ true
+  at n [] h = nothing n h where
+    nothing : (n : List ℕ) → starts_with nat_eq [] n ≡ true → bytes_eq n [] ≡ true
+    nothing [] h = refl
+    nothing (x ∷ n) h = absurd (false≢true h)
+  at n (c ∷ cs) h = ap (λ t. t || holds n cs) h
+holds-within n (c ∷ a) b = or-right (starts_with nat_eq (c ∷ (a ++ (n ++ b))) n) (holds n (a ++ (n ++ b))) (holds-within n a b) where
+  or-right : (x y : Bool) → y ≡ true → (x || y) ≡ true
+  or-right true y h = refl
+  or-right false y h = h
+
+pub holds-split : (n s : List ℕ) → holds n s ≡ true → HasSubslice s n
+holds-split n [] h = let none : n ≡ [] = (bytes_eq-Decides n []).0 h in ([], [], ap (λ t. t ++ []) (sym none))
+holds-split n (c ∷ cs) h =
+    elim (starts_with nat_eq (c ∷ cs) n) as (λ t. starts_with nat_eq (c ∷ cs) n ≡ t → (t || holds n cs) ≡ true → HasSubslice (c ∷ cs) n) [
+      | true ↦ λ e _. ([], drop (length n) (c ∷ cs), starts-split (c ∷ cs) n e)
+      | false ↦ λ _ k. let more = holds-split n cs k in (c ∷ more.0, more.1, ap (λ t. c ∷ t) more.2)
+    ] refl h
+
+-- what `contains` answers
+pub contains-holds : (r : Bool) (n s : List ℕ) → MatchBool r (HasMatch (FindsText n) s) (FindsText n s None) → r ≡ holds n s
+contains-holds r n s cases =
+    let both = contains_text r n s cases in
+    elim r as (λ b. r ≡ b → b ≡ holds n s) [
+      | true ↦ λ e. let parts = both.0 e in sym (ap (holds n) parts.2 ∙ holds-within n parts.0 parts.1)
+      | false ↦ λ e. elim (holds n s) as (λ t. holds n s ≡ t → false ≡ t) [
+        | true ↦ λ k. absurd (false≢true (sym e ∙ both.1 (holds-split n s k)))
+        | false ↦ λ _. refl
+      ] refl
+    ] refl
+
+-- one place replaced
+module _ (old new : List ℕ) (some : 0 < length old) where
+  skip : (os t : List ℕ) → replaced_past (length os) old new (os ++ t) ≡ replaced_past 0 old new t
+  skip [] t = refl
+  skip (o ∷ os) t = skip os t
+
+  at-front : (os t : List ℕ) (o : ℕ) → old ≡ o ∷ os → replaced old new (old ++ t) ≡ new ++ replaced old new t
+  at-front os t o is =
+      let here : starts_with nat_eq (o ∷ (os ++ t)) old ≡ true = subst (λ z. starts_with nat_eq (z ++ t) old ≡ true) is (starts-append old t) in
+      let past : length old - 1 ≡ length os = let all : length old ≡ length (o ∷ os) = ap length is in omega (arith, all) in
+      ap (λ z. replaced old new (z ++ t)) is
+      ∙ ap (λ b. cond b new (o ∷ []) ++ replaced_past (cond b (length old - 1) 0) old new (os ++ t)) here
+      ∙ ap (λ k. new ++ replaced_past k old new (os ++ t)) past
+      ∙ ap (λ r. new ++ r) (skip os t)
+
+  begun : (l : List ℕ) → old ≡ l → (t : List ℕ) → replaced old new (old ++ t) ≡ new ++ replaced old new t
+  begun [] is t = absurd (let none : length old ≡ 0 = ap length is in omega (arith, none))
+  begun (o ∷ os) is t = at-front os t o is
+
+  first-place : (front t : List ℕ) → ((i : ℕ) → i < length front → LacksTextAt old (front ++ (old ++ t)) i) → replaced old new (front ++ (old ++ t)) ≡ front ++ (new ++ replaced old new t)
+  first-place [] t lacks = begun old refl t
+  first-place (c ∷ front) t lacks =
+      let text = c ∷ (front ++ (old ++ t)) in
+      let not_here : starts_with nat_eq text old ≡ false = elim (starts_with nat_eq text old) as (λ b. starts_with nat_eq text old ≡ b → b ≡ false) [
+        | true ↦ λ e. absurd (lacks 0 (omega arith) (drop (length old) text) (starts-split text old e))
+        | false ↦ λ _. refl
+      ] refl in
+      ap (λ b. cond b new (c ∷ []) ++ replaced_past (cond b (length old - 1) 0) old new (front ++ (old ++ t))) not_here
+      ∙ ap (λ r. c ∷ r) (first-place front t (λ i lt. lacks (suc i) (omega (arith, lt))))
+
+  nowhere : (s : List ℕ) → ((i : ℕ) → i ≤ length s → LacksTextAt old s i) → replaced old new s ≡ s
+  nowhere s lacks =
+      let none : holds old s ≡ false = elim (holds old s) as (λ b. holds old s ≡ b → b ≡ false) [
+        | true ↦ λ e.
+            let parts = holds-split old s e in
+            let within : length parts.0 ≤ length s = let all : length s ≡ length parts.0 + length (old ++ parts.1) = ap length parts.2 ∙ length-append parts.0 (old ++ parts.1) in omega (arith, all) in
+            absurd (lacks (length parts.0) within parts.1 (ap (drop (length parts.0)) parts.2 ∙ drop-append_seam parts.0 (old ++ parts.1)))
+        | false ↦ λ _. refl
+      ] refl in
+      replaced-none old new s none
+
+  pub all-replaced : (n : ℕ) (p : Bor (List ℕ)) → p.now ≡ old → (s out : List ℕ) → ReplacesMatches (λ (q : Bor (List ℕ)). FindsText q.now) (λ (q r : Bor (List ℕ)). r.now ≡ q.now) new n p s out → out ≡ replaced old new s
+  all-replaced zero p is s out h = h.1 ∙ sym (nowhere s (λ i le. subst (λ z. LacksTextAt z s i) is (h.0 i le)))
+  all-replaced (suc n) p is s out (a, b, q, rest, finds, keeps, continues, whole) =
+      let place = finds.1 in
+      let later : b ≡ a + length old = place.ends ∙ ap (λ z. a + length z) is in
+      let at : drop a s ≡ old ++ drop b s = place.split ∙ ap (λ z. z ++ drop b s) is in
+      let parts : s ≡ take a s ++ (old ++ drop b s) = sym (take-append-drop a s) ∙ ap (λ t. take a s ++ t) at in
+      let lacks : (i : ℕ) → i < length (take a s) → LacksTextAt old (take a s ++ (old ++ drop b s)) i =
+      λ i lt. subst (λ z. LacksTextAt old z i) parts (subst (λ z. LacksTextAt z s i) is (finds.0 i (let least : length (take a s) ≤ a = take-short a s in omega (arith, lt, least)))) in
+      let more : rest ≡ replaced old new (drop b s) = elim continues as (λ _. rest ≡ replaced old new (drop b s)) [
+        | inl on ↦ all-replaced n q (keeps ∙ is) (drop b s) rest on.1
+        | inr none ↦ absurd (let same : a ≡ b = none.0 in omega (arith, same, later))
+      ] in
+      whole ∙ ap (λ r. take a s ++ (new ++ r)) more ∙ sym (ap (replaced old new) parts ∙ first-place (take a s) (drop b s) lacks) where
+        take-short : (a : ℕ) (s : List ℕ) → length (take a s) ≤ a
+        take-short zero s = omega arith
+        take-short (suc a) [] = omega arith
+        take-short (suc a) (c ∷ s) = let rest : length (take a s) ≤ a = take-short a s in omega (arith, rest)

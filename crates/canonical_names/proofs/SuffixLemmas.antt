@@ -1,0 +1,115 @@
+-- What is asked of suffixes follows from the rule by which a list is accepted.
+use Rattle.std.proofs.Common.{◌≡◌, ℕ, ◌+◌, ◌&&◌, ◌||◌, Bool, true, false, not, cond, suc, zero, List, [], ◌∷◌, Option, Some, None, ◌-◌, drop, length, inl, inr, refl, ap, sym, ◌∙◌, subst, nat_eq, eqb, codes, arith, ◌++◌, take, ◌<◌, ◌≤◌}
+use Rattle.std.specs.List.{Contains, ends_with, find, list_all, list_any, slice_get}
+use Rattle.std.specs.Cmp.Lexicographic.{pointwise}
+use Rattle.std.specs.Str.{bytes_eq}
+use Rattle.std.proofs.lemmas.Bool.{false≢true, and_parts, or_parts, cases_lt}
+use Rattle.std.proofs.lemmas.List.Elements.{All-contains}
+use Rattle.std.proofs.lemmas.List.Sums.{AllPass-from_list_all}
+use Rattle.std.proofs.lemmas.Slice.Eq.{bytes_eq-Decides}
+use Rattle.cuda_below.specs.Path.{lacks, is_bare}
+use Rattle.canonical_names.specs.SuffixRule.{is_suffix, is_apart, are_apart, are_suffixes, AcceptedAreSuffixes}
+use Rattle.canonical_names.proofs.CanonicalLemmas.{no-member, head-member, tail-member, member-cases, ends-split, shorter-end}
+
+-- tests
+not-or : (a b : Bool) → not (a || b) ≡ (not a && not b)
+not-or true b = refl
+not-or false b = refl
+
+not-true : (a : Bool) → not a ≡ true → a ≡ false
+not-true true h = sym h
+not-true false h = refl
+
+pub lacks-by_search : (byte : ℕ) (text : List ℕ) → not (list_any (λ c. eqb c byte) text) ≡ lacks byte text
+lacks-by_search byte [] = refl
+lacks-by_search byte (c ∷ cs) = not-or (eqb c byte) (list_any (λ c. eqb c byte) cs) ∙ ap (λ t. not (eqb c byte) && t) (lacks-by_search byte cs)
+
+-- what holds of each holds of a member
+pub each-member : {A : Type 0} (test : A → Bool) (xs : List A) (x : A) → list_all test xs ≡ true → Contains xs x → test x ≡ true
+each-member test xs x all among = All-contains (λ y. test y ≡ true) xs x (AllPass-from_list_all test xs all) among
+
+pub any-member : (x : List ℕ) (xs : List (List ℕ)) → list_any (bytes_eq x) xs ≡ true → Contains xs x
+any-member x [] h = absurd (false≢true h)
+any-member x (y ∷ ys) h =
+    elim (bytes_eq x y) as (λ t. bytes_eq x y ≡ t → (t || list_any (bytes_eq x) ys) ≡ true → Contains (y ∷ ys) x) [
+      | true ↦ λ e _. subst (Contains (y ∷ ys)) (sym ((bytes_eq-Decides x y).0 e)) (head-member y ys)
+      | false ↦ λ _ k. tail-member y ys x (any-member x ys k)
+    ] refl h
+
+-- the parts of the rule
+pub each-suffix : (suffixes : List (List ℕ)) → are_suffixes suffixes ≡ true → list_all is_suffix suffixes ≡ true
+each-suffix suffixes h = (and_parts (list_all is_suffix suffixes) (are_apart suffixes && list_any (bytes_eq (codes ".cpp1.ii")) suffixes) h).0
+
+pub all-apart : (suffixes : List (List ℕ)) → are_suffixes suffixes ≡ true → are_apart suffixes ≡ true
+all-apart suffixes h =
+    (and_parts (are_apart suffixes) (list_any (bytes_eq (codes ".cpp1.ii")) suffixes) (and_parts (list_all is_suffix suffixes) (are_apart suffixes && list_any (bytes_eq (codes ".cpp1.ii")) suffixes) h).1).0
+
+input-member : (suffixes : List (List ℕ)) → are_suffixes suffixes ≡ true → Contains suffixes (codes ".cpp1.ii")
+input-member suffixes h =
+    any-member (codes ".cpp1.ii") suffixes
+    (and_parts (are_apart suffixes) (list_any (bytes_eq (codes ".cpp1.ii")) suffixes) (and_parts (list_all is_suffix suffixes) (are_apart suffixes && list_any (bytes_eq (codes ".cpp1.ii")) suffixes) h).1).1
+
+pub apart-parts : (s t : List ℕ) → is_apart s t ≡ true → (ends_with nat_eq s t ≡ false) × (ends_with nat_eq t s ≡ false)
+apart-parts s t h =
+    let parts = and_parts (not (ends_with nat_eq s t)) (not (ends_with nat_eq t s)) h in
+    (not-true (ends_with nat_eq s t) parts.0, not-true (ends_with nat_eq t s) parts.1)
+
+apart-members : (suffixes : List (List ℕ)) → are_apart suffixes ≡ true → (s t : List ℕ) → Contains suffixes s → Contains suffixes t → ends_with nat_eq s t ≡ true → s ≡ t
+apart-members [] h s t hs ht e = absurd (no-member s hs)
+apart-members (x ∷ xs) h s t hs ht e =
+    let parts = and_parts (list_all (is_apart x) xs) (are_apart xs) h in
+    elim (member-cases x xs s hs) as (λ _. s ≡ t) [
+      | inl xs_is ↦ elim (member-cases x xs t ht) as (λ _. s ≡ t) [
+        | inl xt_is ↦ sym xs_is ∙ xt_is
+        | inr more ↦ absurd (false≢true (sym (apart-parts x t (each-member (is_apart x) xs t parts.0 more)).0 ∙ ap (λ z. ends_with nat_eq z t) xs_is ∙ e))
+      ]
+      | inr later ↦ elim (member-cases x xs t ht) as (λ _. s ≡ t) [
+        | inl xt_is ↦ absurd (false≢true (sym (apart-parts x s (each-member (is_apart x) xs s parts.0 later)).1 ∙ ap (λ z. ends_with nat_eq s z) xt_is ∙ e))
+        | inr more ↦ apart-members xs parts.1 s t later more e
+      ]
+    ]
+
+suffix-bare : (s : List ℕ) → is_suffix s ≡ true → is_bare s ≡ true
+suffix-bare s h = (and_parts _ (is_bare s) (and_parts _ _ h).1).1
+
+pub accepted-are_suffixes : AcceptedAreSuffixes
+accepted-are_suffixes suffixes h = record {
+  apart = apart-members suffixes (all-apart suffixes h);
+  bare = λ s hs. suffix-bare s (each-member is_suffix suffixes s (each-suffix suffixes h) hs);
+  input = input-member suffixes h;
+}
+
+-- a text ends in at most one of two suffixes of which none is an end of the other
+pub one-end : (text s t : List ℕ) → is_apart s t ≡ true → ends_with nat_eq text s ≡ true → ends_with nat_eq text t ≡ false
+one-end text s t apart ends =
+    let none = apart-parts s t apart in
+    elim (ends_with nat_eq text t) as (λ b. ends_with nat_eq text t ≡ b → b ≡ false) [
+      | true ↦ λ e.
+          let both : take (length text - length s) text ++ s ≡ take (length text - length t) text ++ t = sym (ends-split text s ends) ∙ ends-split text t e in
+          elim (cases_lt (length t) (length s)) as (λ _. true ≡ false) [
+            | inl lt ↦ absurd (false≢true (sym none.0 ∙ shorter-end (take (length text - length t) text) (take (length text - length s) text) t s (sym both) (omega (arith, lt))))
+            | inr le ↦ absurd (false≢true (sym none.1 ∙ shorter-end (take (length text - length s) text) (take (length text - length t) text) s t both le))
+          ]
+      | false ↦ λ _. refl
+    ] refl
+
+-- what is left from a place on
+pub drop-got : {A : Type 0} (xs : List A) (i : ℕ) (x : A) → slice_get xs i ≡ Some x → drop i xs ≡ x ∷ drop (suc i) xs
+drop-got [] i x h = cc
+drop-got (y ∷ ys) zero x h = let is : y ≡ x = cc in ap (λ z. z ∷ ys) is
+drop-got (y ∷ ys) (suc i) x h = drop-got ys i x h
+
+pub drop-past : {A : Type 0} (xs : List A) (i : ℕ) → slice_get xs i ≡ None → drop i xs ≡ []
+drop-past [] zero h = refl
+drop-past [] (suc i) h = refl
+drop-past (y ∷ ys) zero h = cc
+drop-past (y ∷ ys) (suc i) h = drop-past ys i h
+
+pub none-member : {A : Type 0} (test : A → Bool) (xs : List A) (x : A) → list_any test xs ≡ false → Contains xs x → test x ≡ false
+none-member test [] x h among = absurd (no-member x among)
+none-member test (y ∷ ys) x h among =
+    let parts = or_parts (test y) (list_any test ys) h in
+    elim (member-cases y ys x among) as (λ _. test x ≡ false) [
+      | inl is ↦ ap test (sym is) ∙ parts.0
+      | inr more ↦ none-member test ys x parts.1 more
+    ]

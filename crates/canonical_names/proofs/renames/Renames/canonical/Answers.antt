@@ -1,0 +1,52 @@
+use Rattle.std.proofs.Common.{◌≡◌, ◌++◌, ◌∷◌, [], ℕ, List, map, ap, ◌∙◌, subst, sym, true, false, cond, Bool, string_bytes, String, Some, None, if◌then◌else◌}
+use Rattle.std.specs.declared.alloc.Global.{Global}
+use Rattle.std.specs.List.{list_any}
+use Rattle.std.specs.Map.{lookup}
+use Rattle.std.specs.Option.{option_copied}
+use Rattle.std.specs.Result.{IfOk, OnOk}
+use Rattle.std.specs.Str.{bytes_eq}
+use Rattle.std.proofs.lemmas.Result.{IfOk-weaker}
+use Rattle.cuda_below.specs.Variables.{pair_of}
+use Rattle.canonical_names.specs.Counted.{old_names}
+use Rattle.canonical_names.specs.Renaming as spec
+use Rattle.canonical_names.proofs.CountedLemmas.{known-name, unknown-name}
+use Rattle.canonical_names.proofs.renames.Renames.canonical.Goals as goal
+
+pub returns-in-Some-clause-name : goal.returns-in-Some-clause-name
+returns-in-Some-clause-name c =
+    let suffixes = c.self.inside.suffixes in
+    let entries = c.self.inside.names.entries in
+    let names = old_names (map pair_of entries) in
+    let name = c.args.name.now in
+    let found : lookup (λ (k : String Global). bytes_eq name (string_bytes k)) entries ≡ Some c.in-Some.known.now = sym c.get.ensures.value ∙ ap option_copied c.in-Some.is in
+    let known = known-name (spec.canonical_name suffixes names) entries name c.self.invariant.canonical c.in-Some.known.now found in
+    subst (λ (r : List (List ℕ) × List (List ℕ)). IfOk c.from_str.result (λ t. string_bytes t ≡ spec.canonical_name r.0 r.1 name)) c.self.view_is
+    (IfOk-weaker c.from_str.result (λ (t : String Global). string_bytes t ≡ c.as_str.result.now) (λ (t : String Global). string_bytes t ≡ spec.canonical_name suffixes names name)
+    (λ t h. h ∙ c.as_str.ensures.value ∙ known.0) c.from_str.ensures.ok)
+
+pub returns-in-Some-clause-names : goal.returns-in-Some-clause-names
+returns-in-Some-clause-names c =
+    let suffixes = c.self.inside.suffixes in
+    let entries = c.self.inside.names.entries in
+    let names = old_names (map pair_of entries) in
+    let name = c.args.name.now in
+    let found : lookup (λ (k : String Global). bytes_eq name (string_bytes k)) entries ≡ Some c.in-Some.known.now = sym c.get.ensures.value ∙ ap option_copied c.in-Some.is in
+    let known = known-name (spec.canonical_name suffixes names) entries name c.self.invariant.canonical c.in-Some.known.now found in
+    subst (λ (r : List (List ℕ) × List (List ℕ)). OnOk c.from_str.result (r ≡ (r.0, if list_any (bytes_eq name) r.1 then r.1 else r.1 ++ name ∷ []))) c.self.view_is
+    (IfOk-weaker c.from_str.result (λ (t : String Global). string_bytes t ≡ c.as_str.result.now) (λ (t : String Global). (suffixes, names) ≡ (suffixes, if list_any (bytes_eq name) names then names else names ++ name ∷ []))
+    (λ t h. ap (λ (b : Bool). (suffixes, cond b names (names ++ name ∷ []))) (sym known.1)) c.from_str.ensures.ok)
+
+pub add-requires-clause-absent : goal.add-requires-clause-absent
+add-requires-clause-absent c =
+    let entries = c.self.inside.names.entries in
+    let name = c.args.name.now in
+    let missing : lookup (λ (k : String Global). bytes_eq name (string_bytes k)) entries ≡ None = sym c.get.ensures.value ∙ ap option_copied c.in_default.is in
+    subst (λ (r : List (List ℕ) × List (List ℕ)). list_any (bytes_eq name) r.1 ≡ false) c.self.view_is (unknown-name entries name missing)
+
+pub returns-clause-names : goal.returns-clause-names
+returns-clause-names c =
+    let entries = c.self.inside.names.entries in
+    let name = c.args.name.now in
+    let missing : lookup (λ (k : String Global). bytes_eq name (string_bytes k)) entries ≡ None = sym c.get.ensures.value ∙ ap option_copied c.in_default.is in
+    let absent : list_any (bytes_eq name) c.args.self.now.1 ≡ false = subst (λ (r : List (List ℕ) × List (List ℕ)). list_any (bytes_eq name) r.1 ≡ false) c.self.view_is (unknown-name entries name missing) in
+    rw absent c.add.ensures.names

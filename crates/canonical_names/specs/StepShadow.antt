@@ -1,0 +1,50 @@
+-- Shadow runs as far as the inputs of cicc go: what preprocess steps write and cicc reads.
+use Rattle.std.specs.Prelude.{◌≡◌, ℕ, List, [], ◌∷◌, ◌++◌, map, filter, Bool, true, false, ◌&&◌, ◌==◌, if◌then◌else◌, refl, codes}
+use Rattle.std.specs.List.{list_all}
+use Rattle.std.specs.Cmp.Lexicographic.{pointwise}
+use Rattle.std.specs.Str.{bytes_eq}
+use Rattle.cuda_below.specs.DeviceFiles.{is_cicc_word}
+use Rattle.cuda_below.specs.Lists.{word_after}
+use Rattle.cuda_below.specs.Path.{joined, is_bare}
+use Rattle.dry_runs.specs.CommandLines.{CommandLine, words_of_command}
+use Rattle.dry_runs.specs.OneKernel.{spaced, one_kernel_commands, one_kernel_in_temporary_commands}
+use Rattle.canonical_names.specs.CanonicalNames.{AreSuffixes}
+use Rattle.canonical_names.specs.Generated.{standard_suffixes}
+use Rattle.canonical_names.specs.Shadow.{appearances, is_plain_output, is_shadow}
+
+-- the generated names of a run that end in `.cpp1.ii`, in the order in which they appear, each as often as it does
+abbrev pub step_names : List (List ℕ) → List CommandLine → List (List ℕ)
+step_names suffixes commands = filter is_cicc_word (appearances suffixes commands)
+
+-- whether the second run shadows the first in a folder as far as these names go: the first run's are bare, the second's are
+-- the same ones put into the folder, appearance by appearance, and the second run's outputs are plain
+abbrev pub is_step_shadow : List (List ℕ) → List CommandLine → List CommandLine → List ℕ → Bool
+is_step_shadow suffixes first second folder =
+    list_all is_bare (step_names suffixes first)
+    && (pointwise bytes_eq (step_names suffixes second) (map (joined folder) (step_names suffixes first))
+    && list_all (λ command. is_plain_output (word_after (codes "-o") (words_of_command command))) second)
+
+-- a shadow is one as far as the inputs of cicc go
+abbrev pub ShadowIsStepShadow : Type 0
+ShadowIsStepShadow =
+    (suffixes : List (List ℕ)) → AreSuffixes suffixes → (first second : List CommandLine) (folder : List ℕ) →
+    is_shadow suffixes first second folder ≡ true → is_step_shadow suffixes first second folder ≡ true
+
+-- the one-kernel dry run in the folder `/t`, where cudafe++ alone names the stub file without it, as nvcc 13.0 has it
+abbrev pub bare_stub_commands : List CommandLine
+bare_stub_commands =
+    map
+    (λ c. if c.0 == 2 then (2, codes "/b/cudafe++", spaced "--gen_c_file_name /t/kernel.cudafe1.cpp --stub_file_name kernel.cudafe1.stub.c --module_id_file_name kernel.module_id --simt-only /t/kernel.cpp4.ii") else c)
+    one_kernel_in_temporary_commands
+
+-- the one-kernel dry run and the same run in the folder `/t` are shadows as far as the inputs of cicc go, and still are where
+-- cudafe++'s stub file is bare, which are no shadows; a run is none of itself
+abbrev pub OneKernelHasStepShadows : Type 0
+OneKernelHasStepShadows =
+    (is_step_shadow standard_suffixes one_kernel_commands one_kernel_in_temporary_commands (codes "/t") ≡ true)
+    × (is_step_shadow standard_suffixes one_kernel_commands bare_stub_commands (codes "/t") ≡ true)
+    × (is_shadow standard_suffixes one_kernel_commands bare_stub_commands (codes "/t") ≡ false)
+    × (is_step_shadow standard_suffixes one_kernel_commands one_kernel_commands (codes "/t") ≡ false)
+
+pub one_kernel_has_step_shadows : OneKernelHasStepShadows
+one_kernel_has_step_shadows = (refl, refl, refl, refl)

@@ -1,0 +1,75 @@
+-- Which lists of suffixes of generated files may be handed in.
+use Rattle.std.specs.Prelude.{◌≡◌, ℕ, List, [], ◌∷◌, Bool, true, false, not, ◌&&◌, ◌-◌, ◌==◌, nat_eq, length, Option, refl, codes}
+use Rattle.std.specs.Char.{is_ascii_alphanumeric}
+use Rattle.std.specs.List.{list_all, list_any, ends_with, slice_get}
+use Rattle.std.specs.Option.{unwrap_or}
+use Rattle.std.specs.Str.{bytes_eq}
+use Rattle.cuda_below.specs.Lists.{is_some_and}
+use Rattle.cuda_below.specs.Path.{is_bare}
+use Rattle.canonical_names.specs.Generated.{standard_suffixes}
+use Rattle.canonical_names.specs.CanonicalNames.{AreSuffixes}
+
+-- the last byte of a text
+abbrev pub last_byte : List ℕ → Option ℕ
+last_byte text = slice_get text (length text - 1)
+
+-- a suffix begins with `.`, ends in an ASCII letter or digit, and holds no `/`
+abbrev pub is_suffix : List ℕ → Bool
+is_suffix text = is_some_and (λ c. c == 46) (slice_get text 0) && (is_some_and is_ascii_alphanumeric (last_byte text) && is_bare text)
+
+-- whether neither of two suffixes is an end of the other
+abbrev pub is_apart : List ℕ → List ℕ → Bool
+is_apart s t = not (ends_with nat_eq s t) && not (ends_with nat_eq t s)
+
+-- whether none is an end of one at another place
+abbrev pub are_apart : List (List ℕ) → Bool
+are_apart [] = true
+are_apart (s ∷ suffixes) = list_all (is_apart s) suffixes && are_apart suffixes
+
+-- whether a list may be handed in: each is a suffix, none is an end of one at another place, and that of cicc's input is
+-- among them
+abbrev pub are_suffixes : List (List ℕ) → Bool
+are_suffixes suffixes = list_all is_suffix suffixes && (are_apart suffixes && list_any (bytes_eq (codes ".cpp1.ii")) suffixes)
+
+-- the suffixes of nvcc's files, unless others were handed in
+abbrev pub suffixes_or_standard : Option (List (List ℕ)) → List (List ℕ)
+suffixes_or_standard handed = unwrap_or handed standard_suffixes
+
+-- a list that may be handed in has all that is asked of it
+abbrev pub AcceptedAreSuffixes : Type 0
+AcceptedAreSuffixes = (suffixes : List (List ℕ)) → are_suffixes suffixes ≡ true → AreSuffixes suffixes
+
+-- examples: the standard ones, and one more; then an empty list, one without cicc's input, suffixes that overlap or stand
+-- twice, and texts that are no suffixes
+pub standard_are_accepted : are_suffixes standard_suffixes ≡ true
+standard_are_accepted = refl
+
+pub one_more_is_accepted : are_suffixes (codes ".cudafe1.gpu" ∷ standard_suffixes) ≡ true
+one_more_is_accepted = refl
+
+pub none_are_refused : are_suffixes [] ≡ false
+none_are_refused = refl
+
+pub lone_host_input_is_refused : are_suffixes (codes ".cpp4.ii" ∷ []) ≡ false
+lone_host_input_is_refused = refl
+
+pub overlap_is_refused : are_suffixes (codes ".ii" ∷ standard_suffixes) ≡ false
+overlap_is_refused = refl
+
+pub second_place_is_refused : are_suffixes (codes ".cpp1.ii" ∷ standard_suffixes) ≡ false
+second_place_is_refused = refl
+
+pub two_that_overlap_are_refused : are_suffixes (codes ".gpu" ∷ codes ".cudafe1.gpu" ∷ standard_suffixes) ≡ false
+two_that_overlap_are_refused = refl
+
+pub empty_suffix_is_refused : are_suffixes ([] ∷ standard_suffixes) ≡ false
+empty_suffix_is_refused = refl
+
+pub suffix_with_a_slash_is_refused : are_suffixes (codes ".a/b" ∷ standard_suffixes) ≡ false
+suffix_with_a_slash_is_refused = refl
+
+pub suffix_without_a_dot_is_refused : are_suffixes (codes "gpu" ∷ standard_suffixes) ≡ false
+suffix_without_a_dot_is_refused = refl
+
+pub suffix_that_ends_in_a_dot_is_refused : are_suffixes (codes ".x." ∷ standard_suffixes) ≡ false
+suffix_that_ends_in_a_dot_is_refused = refl

@@ -1,0 +1,97 @@
+//! Clean runs: those in which no other word holds a generated name.
+
+ghost use Rattle.std.specs.Prelude.{◌≡◌, map, string_bytes};
+ghost use Rattle.std.specs.List.{list_any, list_all, filter_map};
+ghost use Rattle.std.specs.Option.{option_copied};
+ghost use Rattle.cuda_below.specs.Lists.{is_some_and};
+ghost use Rattle.dry_runs.specs.CommandLines.{line_seen};
+ghost use Rattle.canonical_names.specs.Alike as spec;
+ghost use Rattle.canonical_names.specs.Generated as generated;
+ghost use Rattle.canonical_names.specs.Renaming.{names_of_run};
+ghost use Rattle.canonical_names.specs.Shadow.{appearances};
+
+use crate::references::holds;
+use crate::suffixes::Suffixes;
+use dry_runs::DryRun;
+
+// Whether a text holds a generated name of a command.
+fn holds_name_of(text: &str, words: &[String], suffixes: &Suffixes) -> bool
+    ensures { result ≡ list_any (λ n. spec.holds n text.now) (filter_map (generated.generated_name suffixes.now) (map string_bytes words.now)) }
+{
+    for word in words {
+        if is_held(text, suffixes.generated_name(word.as_str())) {
+            return true;
+        }
+    }
+    false
+}
+
+// Whether a text holds a name, where there is one.
+fn is_held(text: &str, name: Option<&str>) -> bool
+    ensures { result ≡ is_some_and (λ n. spec.holds n text.now) (option_copied name.entry) }
+{
+    match name {
+        None => false,
+        Some(name) => holds(text, name),
+    }
+}
+
+// Whether a text holds a generated name of a run.
+fn holds_name(text: &str, commands: &[(usize, String, Vec<String>)], suffixes: &Suffixes) -> bool
+    ensures { result ≡ list_any (λ n. spec.holds n text.now) (appearances suffixes.now (map line_seen commands.now)) }
+{
+    for command in commands {
+        if holds_name_of(text, command.2.as_slice(), suffixes) {
+            return true;
+        }
+    }
+    false
+}
+
+// Whether a word is generated, or holds no generated name of a run. A name ends in a suffix, so a word
+// that holds no suffix is searched for no name.
+fn is_clean_word(word: &str, commands: &[(usize, String, Vec<String>)], suffixes: &Suffixes) -> bool
+    ensures { result ≡ spec.is_clean_word suffixes.now (names_of_run suffixes.now (map line_seen commands.now)) word.now }
+{
+    if suffixes.is_generated(word) {
+        return true;
+    }
+    if !suffixes.stand_in(word) {
+        return true;
+    }
+    !holds_name(word, commands, suffixes)
+}
+
+fn are_clean_words(
+    words: &[String],
+    commands: &[(usize, String, Vec<String>)],
+    suffixes: &Suffixes,
+) -> bool
+    ensures { result ≡ list_all (spec.is_clean_word suffixes.now (names_of_run suffixes.now (map line_seen commands.now))) (map string_bytes words.now) }
+{
+    for word in words {
+        if !is_clean_word(word.as_str(), commands, suffixes) {
+            return false;
+        }
+    }
+    true
+}
+
+fn are_clean(commands: &[(usize, String, Vec<String>)], suffixes: &Suffixes) -> bool
+    ensures { result ≡ spec.is_clean suffixes.now (map line_seen commands.now) }
+{
+    for command in commands {
+        if !are_clean_words(command.2.as_slice(), commands, suffixes) {
+            return false;
+        }
+    }
+    true
+}
+
+/// Whether a run is clean: each of its words is generated, or holds no generated name of the run, of
+/// any command. The laws of canonical names are of clean runs.
+pub fn is_clean(run: &DryRun, suffixes: &Suffixes) -> bool
+    ensures { result ≡ spec.is_clean suffixes.now run.now.commands }
+{
+    are_clean(run.commands.as_slice(), suffixes)
+}

@@ -1,0 +1,73 @@
+//! The words of a command with canonical names in the place of generated ones.
+
+ghost use Rattle.std.specs.Prelude.{◌≡◌, ◌⊎◌, ℕ, map, take, IfOk, OnOk, OnErr, string_bytes};
+ghost use Rattle.canonical_names.specs.Renaming as spec;
+
+use crate::renames::Renames;
+use crate::suffixes::Suffixes;
+use crate::words::{core, with_head};
+use cuda_below::words::Words;
+use dry_runs::Commands;
+use std::alloc::{AllocError, Global};
+
+// One word, renamed. After a refusal the names that were seen may have the word's own.
+fn remap_word(alloc: Global, word: &str, renames: &mut Renames) -> Result<String, AllocError>
+    ensures word { IfOk result (λ t. string_bytes t ≡ spec.renamed_word renames.old.0 renames.old.1 word.now) }
+    ensures names { OnOk result (renames.new ≡ (renames.old.0, spec.seen_after_word renames.old.0 renames.old.1 word.now)) }
+    ensures err { OnErr result ((renames.new ≡ renames.old) ⊎ (renames.new ≡ (renames.old.0, spec.seen_after_word renames.old.0 renames.old.1 word.now))) }
+{
+    let text = core(word);
+    let new = match renames.class(text) {
+        None => renames.rewritten(alloc, text)?,
+        Some(class) => renames.canonical(alloc, text, class)?,
+    };
+    with_head(alloc, word, new)
+}
+
+/// The words of a command with canonical names in the place of generated ones. `renames` has the
+/// names that were seen in the commands before, and gains those of these words, in order.
+///
+/// A word is generated where what is left without every `-Fi` that it begins with doesn't begin with
+/// `-` and ends in one of the suffixes. It becomes `x_`, a number and the suffix, in its folder; the
+/// number is that of the different names of that suffix that were seen before the name's first
+/// appearance. In any other word each name that was seen is replaced by its canonical name, the
+/// longest name first, and of equally long ones the one that was seen first. A word that began with
+/// `-Fi` begins with one `-Fi` again.
+///
+/// A name of one suffix can be a beginning of a name of another: after `k.cudafe1.c` the word
+/// `-I=k.cudafe1.cpp` is taken to refer to that, and not to `k.cudafe1.cpp`, which comes later.
+///
+/// The error is a want of memory; `renames` then holds the names of a beginning of the words.
+pub fn remap_generated_filenames(
+    alloc: Global,
+    args: &[String],
+    renames: &mut Renames,
+) -> Result<Words, AllocError>
+    ensures words { IfOk result (λ words. words ≡ spec.renamed_words renames.old.0 renames.old.1 (map string_bytes args.now)) }
+    ensures names { OnOk result (renames.new ≡ (renames.old.0, spec.seen_after renames.old.0 renames.old.1 (map string_bytes args.now))) }
+    ensures refused { OnErr result ((k : ℕ) × (renames.new ≡ (renames.old.0, spec.seen_after renames.old.0 renames.old.1 (take k (map string_bytes args.now))))) }
+{
+    let mut words = Words::with_capacity(alloc, args.len())?;
+    for word in args {
+        words.push(remap_word(alloc, word.as_str(), renames)?)?;
+    }
+    Ok(words)
+}
+
+/// The commands of a run with canonical names in the place of generated ones: those of all its commands
+/// count, in order.
+pub fn remap_commands(
+    alloc: Global,
+    commands: Commands,
+    suffixes: &Suffixes,
+) -> Result<Commands, AllocError>
+    ensures { IfOk result (λ c. c ≡ spec.renamed suffixes.now commands) }
+{
+    let mut renames = Renames::new(alloc, suffixes)?;
+    let mut renamed = Vec::new(alloc);
+    for (line, program, words) in commands.into_vec() {
+        let words = remap_generated_filenames(alloc, words.as_slice(), &mut renames)?;
+        renamed.push((line, program, words.into_vec()))?;
+    }
+    Ok(Commands::from_vec(renamed))
+}

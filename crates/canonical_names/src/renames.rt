@@ -1,0 +1,192 @@
+//! The canonical names of generated files.
+
+ghost use Rattle.std.specs.Prelude.{◌≡◌, ◌⊎◌, ◌<◌, ◌∷◌, [], ◌++◌, ⊤, map, length, codes, IfOk, OnOk, OnErr, MatchOption, Some, None, if◌then◌else◌, false, true, replicate, ◌^◌, string_bytes};
+ghost use Rattle.std.specs.List.{list_any, slice_get};
+ghost use Rattle.std.specs.Str.{bytes_eq};
+ghost use Rattle.cuda_below.specs.Lists.{with_name};
+ghost use Rattle.cuda_below.specs.Path.{joined, folder_of};
+ghost use Rattle.cuda_below.specs.Variables.{pair_of};
+ghost use Rattle.canonical_names.specs.Generated as generated;
+ghost use Rattle.canonical_names.specs.Counted.{decimal_file, IsCount};
+ghost use Rattle.canonical_names.specs.References.{reference_seen, longest_pairs_first};
+ghost use Rattle.canonical_names.specs.Renaming as spec;
+
+use crate::references::{Reference, insert, rewrite};
+use crate::suffixes::Suffixes;
+use crate::words::begins_with_dash;
+use cuda_below::text::{folder, join};
+use indexmap::IndexMap;
+use std::alloc::{AllocError, Global};
+use std::marker::Model;
+
+/// The canonical names of the generated names that were seen in a run.
+///
+/// It is seen as the pair of its list of suffixes, which no call changes, and of the names that were
+/// seen, in the order of their first appearance.
+#[derive(Drop)]
+pub struct Renames {
+    suffixes: Suffixes,
+    // Each name that was seen, with its canonical name.
+    names: IndexMap<String, String>,
+    // For each suffix the number of names that end in it.
+    counts: Vec<usize>,
+}
+
+impl Model for Renames {
+    ghost use Rattle.std.specs.Prelude.{List, ℕ, map};
+    ghost use Rattle.cuda_below.specs.Variables.{pair_of};
+    ghost use Rattle.canonical_names.specs.Counted.{old_names, IsCounted};
+
+    ghost Value = { List (List ℕ) × List (List ℕ) };
+
+    ghost view = { λ r. (r.suffixes, old_names (map pair_of r.names.entries)) };
+
+    ghost invariant = { λ r. IsCounted r.suffixes (old_names (map pair_of r.names.entries)) (map pair_of r.names.entries) r.counts.items };
+}
+
+// The canonical name of a name: in its folder, `x_`, a number and its suffix.
+fn canonical_name(
+    alloc: Global,
+    name: &str,
+    number: usize,
+    suffix: &str,
+) -> Result<String, AllocError>
+    ensures { IfOk result (λ t. string_bytes t ≡ joined (folder_of name.now) (decimal_file number suffix.now)) }
+{
+    let file = format!(in alloc; "x_{number}{suffix}")?;
+    join(alloc, folder(name), file.as_str())
+}
+
+// As many zeros.
+fn zeros(alloc: Global, count: usize) -> Result<Vec<usize>, AllocError>
+    ensures { IfOk result (λ v. v.items ≡ replicate count 0) }
+{
+    vec![in alloc; 0; count]
+}
+
+impl Renames {
+    /// No names, with a copy of the list of suffixes.
+    pub fn new(alloc: Global, suffixes: &Suffixes) -> Result<Renames, AllocError>
+        ensures { IfOk result (λ r. r ≡ (suffixes.now, [])) }
+    {
+        suffixes.keeps_the_rule();
+        let counts = zeros(alloc, suffixes.len())?;
+        let suffixes = suffixes.try_clone(alloc)?;
+        let names = IndexMap::new(alloc);
+        Ok(Renames {
+            suffixes,
+            names,
+            counts,
+        })
+    }
+
+    // The place of the suffix of a word's core, which is a name where it doesn't begin with `-` and
+    // ends in a suffix.
+    pub(crate) fn class(&self, text: &str) -> Option<usize>
+        ensures none { MatchOption result ((if generated.begins_with_dash text.now then None else generated.class_of_name self.now.0 text.now) ≡ None) (λ i. (if generated.begins_with_dash text.now then None else generated.class_of_name self.now.0 text.now) ≡ slice_get self.now.0 i) }
+        ensures within { MatchOption result ⊤ (λ i. i < length self.now.0) }
+        ensures name { MatchOption result ⊤ (λ i. generated.class_of_name self.now.0 text.now ≡ slice_get self.now.0 i) }
+    {
+        if begins_with_dash(text) {
+            None
+        } else {
+            self.suffixes.class(text)
+        }
+    }
+
+    // The canonical name of a name that ends in the suffix at the place `class`.
+    pub(crate) fn canonical(
+        &mut self,
+        alloc: Global,
+        name: &str,
+        class: usize,
+    ) -> Result<String, AllocError>
+        requires within { class < length self.old.0 }
+        requires class { generated.class_of_name self.old.0 name.now ≡ slice_get self.old.0 class }
+        ensures name { IfOk result (λ t. string_bytes t ≡ spec.canonical_name self.old.0 self.old.1 name.now) }
+        ensures names { OnOk result (self.new ≡ (self.old.0, with_name self.old.1 (Some name.now))) }
+        ensures err { OnErr result (self.new ≡ self.old) }
+    {
+        if let Some(known) = self.names.get(name) {
+            return String::from_str(alloc, known.as_str());
+        }
+        self.add(alloc, name, class)
+    }
+
+    // The canonical name of a name that wasn't seen, which is put last. A refused insertion leaves the
+    // map and the counters as they were.
+    fn add(&mut self, alloc: Global, name: &str, class: usize) -> Result<String, AllocError>
+        requires within { class < length self.old.0 }
+        requires class { generated.class_of_name self.old.0 name.now ≡ slice_get self.old.0 class }
+        requires absent { list_any (bytes_eq name.now) self.old.1 ≡ false }
+        ensures name { IfOk result (λ t. string_bytes t ≡ spec.canonical_name self.old.0 self.old.1 name.now) }
+        ensures names { OnOk result (self.new ≡ (self.old.0, self.old.1 ++ name.now ∷ [])) }
+        ensures err { OnErr result (self.new ≡ self.old) }
+    {
+        let number = self.count(class);
+        let suffix = self.suffixes.get(class).unwrap_or("");
+        let canonical = canonical_name(alloc, name, number, suffix)?;
+        let answer = String::from_str(alloc, canonical.as_str())?;
+        let key = String::from_str(alloc, name)?;
+        self.put(key, canonical, class)?;
+        Ok(answer)
+    }
+
+    // How many names end in the suffix at the place `class`.
+    fn count(&self, class: usize) -> usize
+        requires { class < length self.now.0 }
+        ensures value { IsCount self.now.0 self.now.1 class result }
+        ensures small { result < 2 ^ 63 }
+    {
+        let count = self.counts[class];
+        // A counter never exceeds the number of names.
+        let fits = count <= self.names.len();
+        prove!(fits);
+        count
+    }
+
+    // Puts a new name last. A refused insertion leaves the map and the counters as they were.
+    fn put(&mut self, name: String, canonical: String, class: usize) -> Result<(), AllocError>
+        requires within { class < length self.old.0 }
+        requires class { generated.class_of_name self.old.0 (string_bytes name) ≡ slice_get self.old.0 class }
+        requires absent { list_any (bytes_eq (string_bytes name)) self.old.1 ≡ false }
+        requires canonical { string_bytes canonical ≡ spec.canonical_name self.old.0 self.old.1 (string_bytes name) }
+        ensures names { OnOk result (self.new ≡ (self.old.0, self.old.1 ++ string_bytes name ∷ [])) }
+        ensures err { OnErr result (self.new ≡ self.old) }
+    {
+        let count = self.count(class);
+        self.names.insert(name, canonical)?;
+        self.counts[class] = count + 1;
+        Ok(())
+    }
+
+    // A text with each name that was seen replaced by its canonical name, the longest name first. A
+    // name ends in a suffix, so a text that holds no suffix is searched for no name.
+    pub(crate) fn rewritten(&self, alloc: Global, text: &str) -> Result<String, AllocError>
+        ensures { IfOk result (λ t. string_bytes t ≡ spec.rewritten self.now.0 self.now.1 text.now) }
+    {
+        if !self.suffixes.stand_in(text) {
+            return String::from_str(alloc, text);
+        }
+        let references = longest_first(alloc, &self.names)?;
+        rewrite(alloc, text, references.as_slice())
+    }
+}
+
+// Each name of a map with its canonical name, those of the longest names first.
+fn longest_first<'a>(
+    alloc: Global,
+    names: &'a IndexMap<String, String>,
+) -> Result<Vec<Reference<'a>>, AllocError>
+    ensures { IfOk result (λ r. map reference_seen r.items ≡ longest_pairs_first (map pair_of names.now.entries)) }
+{
+    let mut references = Vec::with_capacity(alloc, names.len())?;
+    for (name, canonical) in names.iter() {
+        let reference = Reference {
+            name: name.as_str(),
+            canonical: canonical.as_str(),
+        };
+        insert(&mut references, reference)?;
+    }
+    Ok(references)
+}

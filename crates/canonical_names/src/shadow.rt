@@ -1,0 +1,214 @@
+//! Shadow runs: a second run whose generated files are those of the first, in a folder for temporary files.
+
+ghost use Rattle.std.specs.Prelude.{◌≡◌, ◌++◌, ◌&&◌, List, ℕ, map, filter, codes, nat_eq, IfOk, OnOk, string_bytes};
+ghost use Rattle.std.specs.Cmp.Lexicographic.{pointwise};
+ghost use Rattle.std.specs.List.{list_all, filter_map};
+ghost use Rattle.std.specs.Option.{option_copied};
+ghost use Rattle.std.specs.Str.{bytes_eq};
+ghost use Rattle.cuda_below.specs.DeviceFiles.{is_cicc_word};
+ghost use Rattle.cuda_below.specs.Lists as lists;
+ghost use Rattle.cuda_below.specs.Path.{joined, is_bare as is_bare_name};
+ghost use Rattle.dry_runs.specs.CommandLines.{line_seen, words_of_command};
+ghost use Rattle.canonical_names.specs.Generated.{generated_name};
+ghost use Rattle.canonical_names.specs.Shadow as spec;
+ghost use Rattle.canonical_names.specs.Shown.{name_shown};
+ghost use Rattle.canonical_names.specs.StepShadow as step;
+
+use crate::suffixes::Suffixes;
+use crate::words::{begins_with_dash, is_bare};
+use cuda_below::device_files::is_cicc_input;
+use cuda_below::text::{file_name, join};
+use dry_runs::DryRun;
+use std::alloc::{AllocError, Global};
+
+// Puts the generated names of a command last.
+fn push_names<'a>(
+    names: &mut Vec<&'a str>,
+    words: &'a [String],
+    suffixes: &Suffixes,
+) -> Result<(), AllocError>
+    ensures { OnOk result (map name_shown names.new.items ≡ map name_shown names.old.items ++ filter_map (generated_name suffixes.now) (map string_bytes words.now)) }
+{
+    for word in words {
+        if let Some(name) = suffixes.generated_name(word.as_str()) {
+            names.push(name)?;
+        }
+    }
+    Ok(())
+}
+
+// The generated names of a run, in the order in which they appear, each as often as it does.
+fn appearances<'a>(
+    alloc: Global,
+    commands: &'a [(usize, String, Vec<String>)],
+    suffixes: &Suffixes,
+) -> Result<Vec<&'a str>, AllocError>
+    ensures { IfOk result (λ names. map name_shown names.items ≡ spec.appearances suffixes.now (map line_seen commands.now)) }
+{
+    let mut names = Vec::new(alloc);
+    for command in commands {
+        push_names(&mut names, command.2.as_slice(), suffixes)?;
+    }
+    Ok(names)
+}
+
+// Those of some names that end in `.cpp1.ii`.
+fn of_steps<'a>(alloc: Global, names: &[&'a str]) -> Result<Vec<&'a str>, AllocError>
+    ensures { IfOk result (λ kept. map name_shown kept.items ≡ filter is_cicc_word (map name_shown names.now)) }
+{
+    let mut kept = Vec::new(alloc);
+    for name in names {
+        let name: &'a str = name;
+        if is_cicc_input(name) {
+            kept.push(name)?;
+        }
+    }
+    Ok(kept)
+}
+
+fn are_bare(names: &[&str]) -> bool
+    ensures { result ≡ list_all is_bare_name (map name_shown names.now) }
+{
+    for name in names {
+        let name: &str = name;
+        if !is_bare(name.as_bytes()) {
+            return false;
+        }
+    }
+    true
+}
+
+// Whether a text is a name put into a folder.
+fn is_joined(alloc: Global, folder: &str, name: &str, text: &str) -> Result<bool, AllocError>
+    ensures { IfOk result (λ b. b ≡ bytes_eq text.now (joined folder.now name.now)) }
+{
+    let path = join(alloc, folder, name)?;
+    Ok(text == path.as_str())
+}
+
+// Whether the names of `second` are those of `first`, put into a folder.
+fn are_joined(
+    alloc: Global,
+    folder: &str,
+    first: &[&str],
+    second: &[&str],
+) -> Result<bool, AllocError>
+    ensures { IfOk result (λ b. b ≡ pointwise bytes_eq (map name_shown second.now) (map (joined folder.now) (map name_shown first.now))) }
+{
+    if first.len() != second.len() {
+        return Ok(false);
+    }
+    for index in 0..first.len() {
+        if !is_joined(alloc, folder, first[index], second[index])? {
+            return Ok(false);
+        }
+    }
+    Ok(true)
+}
+
+// The word right after the first that is `-o`.
+fn output(words: &[String]) -> Option<&str>
+    ensures { option_copied result ≡ lists.word_after (codes "-o") (map string_bytes words.now) }
+{
+    let mut rest = words;
+    while let Some((word, others)) = rest.split_first() {
+        if word.as_str() == "-o" {
+            return Some(others.first()?.as_str());
+        }
+        rest = others;
+    }
+    None
+}
+
+fn is_cicc_file(name: Option<&str>) -> bool
+    ensures { result ≡ spec.is_cicc_file (option_copied name.entry) }
+{
+    match name {
+        None => false,
+        Some(name) => is_cicc_input(name),
+    }
+}
+
+// Whether the file name of an output is no input of cicc, or the output begins with no `-` and ends as
+// such an input does.
+fn is_plain_output(word: Option<&str>) -> bool
+    ensures { result ≡ spec.is_plain_output (option_copied word.entry) }
+{
+    match word {
+        None => true,
+        Some(word) => {
+            !is_cicc_file(file_name(word)) || (!begins_with_dash(word) && is_cicc_input(word))
+        }
+    }
+}
+
+fn are_plain(commands: &[(usize, String, Vec<String>)]) -> bool
+    ensures { result ≡ list_all (λ c. spec.is_plain_output (lists.word_after (codes "-o") (words_of_command c))) (map line_seen commands.now) }
+{
+    for command in commands {
+        if !is_plain_output(output(command.2.as_slice())) {
+            return false;
+        }
+    }
+    true
+}
+
+// Whether names of a first run are bare, those of a second run are the same ones put into a folder, and
+// the second run's outputs are plain.
+fn are_shadows(
+    alloc: Global,
+    first: &[&str],
+    second: &[&str],
+    folder: &str,
+    commands: &[(usize, String, Vec<String>)],
+) -> Result<bool, AllocError>
+    ensures { IfOk result (λ b. b ≡ (list_all is_bare_name (map name_shown first.now) && (pointwise bytes_eq (map name_shown second.now) (map (joined folder.now) (map name_shown first.now)) && list_all (λ c. spec.is_plain_output (lists.word_after (codes "-o") (words_of_command c))) (map line_seen commands.now)))) }
+{
+    if !are_bare(first) {
+        return Ok(false);
+    }
+    Ok(are_joined(alloc, folder, first, second)? && are_plain(commands))
+}
+
+/// Whether a second run shadows a first one in the folder `tmp`: the first run's generated names are
+/// bare, the second's are the same ones put into the folder, appearance by appearance, and the second
+/// run's outputs are plain.
+///
+/// An output is the word after a command's first `-o`. It is plain where its file name doesn't end in
+/// `.cpp1.ii`, or where it begins with no `-` and itself ends so, which `k.cpp1.ii/` doesn't.
+pub fn is_shadow(
+    alloc: Global,
+    run1: &DryRun,
+    run2: &DryRun,
+    tmp: &str,
+    suffixes: &Suffixes,
+) -> Result<bool, AllocError>
+    ensures { IfOk result (λ b. b ≡ spec.is_shadow suffixes.now run1.now.commands run2.now.commands tmp.now) }
+{
+    let first = appearances(alloc, run1.commands.as_slice(), suffixes)?;
+    let second = appearances(alloc, run2.commands.as_slice(), suffixes)?;
+    let commands = run2.commands.as_slice();
+    are_shadows(alloc, first.as_slice(), second.as_slice(), tmp, commands)
+}
+
+/// The same with names that end in `.cpp1.ii` alone, the files that preprocess steps write and cicc
+/// reads.
+///
+/// nvcc 13.0 leaves cudafe++'s stub file bare in its second run. So most of its runs are shadows in this
+/// sense and not in that of `is_shadow`.
+pub fn is_step_shadow(
+    alloc: Global,
+    run1: &DryRun,
+    run2: &DryRun,
+    tmp: &str,
+    suffixes: &Suffixes,
+) -> Result<bool, AllocError>
+    ensures { IfOk result (λ b. b ≡ step.is_step_shadow suffixes.now run1.now.commands run2.now.commands tmp.now) }
+{
+    let first = appearances(alloc, run1.commands.as_slice(), suffixes)?;
+    let second = appearances(alloc, run2.commands.as_slice(), suffixes)?;
+    let first = of_steps(alloc, first.as_slice())?;
+    let second = of_steps(alloc, second.as_slice())?;
+    let commands = run2.commands.as_slice();
+    are_shadows(alloc, first.as_slice(), second.as_slice(), tmp, commands)
+}

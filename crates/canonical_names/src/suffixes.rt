@@ -1,0 +1,320 @@
+//! The suffixes of the files that nvcc generates.
+
+ghost use Rattle.std.specs.Prelude.{◌≡◌, ◌∷◌, [], Ok, Err, map, length, nat_eq, IfOk, MatchOption, OnOk, string_bytes, if◌then◌else◌, None, ◌<◌, ◌==◌, ⊤, true};
+ghost use Rattle.std.specs.List.{slice_get, list_any, list_all, ends_with};
+ghost use Rattle.std.specs.Option.{option_copied, option_map};
+ghost use Rattle.std.specs.Str.{bytes_eq};
+ghost use Rattle.std.specs.Char.{is_ascii_alphanumeric};
+ghost use Rattle.cuda_below.specs.Fault.{UnlessMemory};
+ghost use Rattle.cuda_below.specs.Lists.{is_some_and};
+ghost use Rattle.cuda_below.specs.Path.{is_bare as is_bare_name};
+ghost use Rattle.cuda_below.specs.declared.fault.Fault.TheVariants.{BadSuffixes};
+ghost use Rattle.canonical_names.specs.Alike.{holds as text_holds};
+ghost use Rattle.canonical_names.specs.SuffixRule as spec;
+ghost use Rattle.canonical_names.specs.Generated as generated;
+ghost use Rattle.canonical_names.specs.Generated.{standard_suffixes, class_of_name};
+ghost use Rattle.canonical_names.specs.CanonicalNames.{AreSuffixes};
+
+use crate::references::holds as text_holds;
+use crate::words::{begins_with_dash, core, is_bare};
+use cuda_below::device_files::CICC_INPUT_SUFFIX;
+use cuda_below::fault::Fault;
+use cuda_below::words::Words;
+use std::alloc::{AllocError, Global};
+use std::marker::Model;
+
+/// The suffixes by which the names of generated files are told, seen as their list.
+///
+/// Each begins with `.`, ends in an ASCII letter or digit and holds no `/`; none is an end of one at
+/// another place; and `.cpp1.ii`, that of cicc's input, is among them.
+#[derive(Debug, Drop)]
+pub struct Suffixes {
+    handed: Option<Words>,
+}
+
+impl Model for Suffixes {
+    ghost use Rattle.std.specs.Prelude.{◌≡◌, List, ℕ, true};
+    ghost use Rattle.canonical_names.specs.SuffixRule.{suffixes_or_standard, are_suffixes};
+
+    ghost Value = { List (List ℕ) };
+
+    ghost view = { λ s. suffixes_or_standard s.handed };
+
+    ghost invariant = { λ s. are_suffixes (suffixes_or_standard s.handed) ≡ true };
+}
+
+// A suffix of nvcc's files, by its place among them.
+fn standard_suffix(index: usize) -> Option<&'static str>
+    ensures { option_copied result ≡ slice_get standard_suffixes index }
+{
+    match index {
+        0 => Some(".cpp1.ii"),
+        1 => Some(".cpp4.ii"),
+        2 => Some(".cudafe1.c"),
+        3 => Some(".cudafe1.cpp"),
+        4 => Some(".cudafe1.stub.c"),
+        _ => None,
+    }
+}
+
+// Whether a text begins with `.`, ends in an ASCII letter or digit, and holds no `/`.
+fn is_suffix(text: &str) -> bool
+    ensures { result ≡ spec.is_suffix text.now }
+{
+    begins_with_dot(text.as_bytes())
+        && ends_in_letter_or_digit(text.as_bytes())
+        && is_bare(text.as_bytes())
+}
+
+fn begins_with_dot(text: &[u8]) -> bool
+    ensures { result ≡ is_some_and (λ c. c == 46) (slice_get text.now 0) }
+{
+    match text.first() {
+        None => false,
+        Some(byte) => *byte == b'.',
+    }
+}
+
+fn ends_in_letter_or_digit(text: &[u8]) -> bool
+    ensures { result ≡ is_some_and is_ascii_alphanumeric (spec.last_byte text.now) }
+{
+    match text.last() {
+        None => false,
+        Some(byte) => byte.is_ascii_alphanumeric(),
+    }
+}
+
+// Whether neither `suffix` nor one of `others` is an end of the other.
+fn is_apart_from(suffix: &str, others: &[String]) -> bool
+    ensures { result ≡ list_all (spec.is_apart suffix.now) (map string_bytes others.now) }
+{
+    let suffix = suffix.as_bytes();
+    for other in others {
+        let other = other.as_str().as_bytes();
+        if suffix.ends_with(other) || other.ends_with(suffix) {
+            return false;
+        }
+    }
+    true
+}
+
+fn are_apart(list: &[String]) -> bool
+    ensures { result ≡ spec.are_apart (map string_bytes list.now) }
+{
+    let mut rest = list;
+    while let Some((suffix, others)) = rest.split_first() {
+        if !is_apart_from(suffix.as_str(), others) {
+            return false;
+        }
+        rest = others;
+    }
+    true
+}
+
+fn are_each_suffixes(list: &[String]) -> bool
+    ensures { result ≡ list_all spec.is_suffix (map string_bytes list.now) }
+{
+    for text in list {
+        if !is_suffix(text.as_str()) {
+            return false;
+        }
+    }
+    true
+}
+
+fn holds(list: &[String], suffix: &str) -> bool
+    ensures { result ≡ list_any (bytes_eq suffix.now) (map string_bytes list.now) }
+{
+    for text in list {
+        if suffix == text.as_str() {
+            return true;
+        }
+    }
+    false
+}
+
+fn are_suffixes(list: &[String]) -> bool
+    ensures { result ≡ spec.are_suffixes (map string_bytes list.now) }
+{
+    are_each_suffixes(list) && are_apart(list) && holds(list, CICC_INPUT_SUFFIX)
+}
+
+impl Suffixes {
+    /// The suffixes of the files that nvcc generates: `.cpp1.ii`, `.cpp4.ii`, `.cudafe1.c`,
+    /// `.cudafe1.cpp` and `.cudafe1.stub.c`.
+    pub fn standard() -> Suffixes
+        ensures { result ≡ standard_suffixes }
+    {
+        Suffixes { handed: None }
+    }
+
+    /// The suffixes of `list`, in its order.
+    ///
+    /// A word that ends in one of them is the name of a generated file, so a suffix such as `.cu`
+    /// renames the source file itself.
+    ///
+    /// Each must begin with `.`, end in an ASCII letter or digit and hold no `/`; none may be an end of
+    /// one at another place, so none may stand twice; and `.cpp1.ii` must be among them, since a plan
+    /// groups the device commands by it. Any other list is the fault `BadSuffixes`.
+    pub fn new(alloc: Global, list: &[String]) -> Result<Suffixes, Fault>
+        ensures { UnlessMemory result (if spec.are_suffixes (map string_bytes list.now) then Ok (map string_bytes list.now) else Err BadSuffixes) }
+    {
+        if !are_suffixes(list) {
+            return Err(Fault::BadSuffixes);
+        }
+        let words = Words::copy_of(alloc, list)?;
+        Ok(Suffixes {
+            handed: Some(words),
+        })
+    }
+
+    /// How many suffixes there are.
+    pub fn len(&self) -> usize
+        ensures { result ≡ length self.now }
+    {
+        match &self.handed {
+            None => 5,
+            Some(words) => words.len(),
+        }
+    }
+
+    /// The suffix at the place `index`, counted from 0.
+    pub fn get(&self, index: usize) -> Option<&str>
+        ensures { option_copied result ≡ slice_get self.now index }
+    {
+        match &self.handed {
+            None => standard_suffix(index),
+            Some(words) => word_at(words.as_slice(), index),
+        }
+    }
+
+    /// What holds of every list of suffixes: it keeps the rule (`rule`), and so the laws of canonical
+    /// names hold for it (`asked`).
+    pub fn keeps_the_rule(&self)
+        ensures rule { spec.are_suffixes self.now ≡ true }
+        ensures asked { AreSuffixes self.now }
+    {
+        let _ = &self.handed;
+    }
+
+    /// An equal list, in memory of its own.
+    pub fn try_clone(&self, alloc: Global) -> Result<Suffixes, AllocError>
+        ensures { IfOk result (λ s. s ≡ self.now) }
+    {
+        let handed = match &self.handed {
+            None => None,
+            Some(words) => Some(words.try_clone(alloc)?),
+        };
+        Ok(Suffixes { handed })
+    }
+
+    // The place of the first suffix that a name ends in.
+    pub(crate) fn class(&self, name: &str) -> Option<usize>
+        ensures none { MatchOption result (class_of_name self.now name.now ≡ None) (λ i. class_of_name self.now name.now ≡ slice_get self.now i) }
+        ensures within { MatchOption result ⊤ (λ i. i < length self.now) }
+    {
+        for index in 0..self.len() {
+            if ends_in(name, self.get(index)) {
+                return Some(index);
+            }
+        }
+        None
+    }
+}
+
+impl Suffixes {
+    // Whether one of the suffixes stands somewhere in a text.
+    pub(crate) fn stand_in(&self, text: &str) -> bool
+        ensures { result ≡ list_any (λ s. text_holds s text.now) self.now }
+    {
+        for index in 0..self.len() {
+            if stands_in(text, self.get(index)) {
+                return true;
+            }
+        }
+        false
+    }
+}
+
+impl Suffixes {
+    // The name that a generated word holds: its core.
+    pub(crate) fn generated_name<'a>(&self, word: &'a str) -> Option<&'a str>
+        ensures { option_copied result ≡ generated.generated_name self.now word.now }
+    {
+        let name = core(word);
+        if begins_with_dash(name) {
+            return None;
+        }
+        match self.class(name) {
+            None => None,
+            Some(_) => Some(name),
+        }
+    }
+
+    // Whether a word is generated.
+    pub(crate) fn is_generated(&self, word: &str) -> bool
+        ensures { result ≡ generated.is_generated self.now word.now }
+    {
+        self.generated_name(word).is_some()
+    }
+}
+
+// Whether a suffix stands somewhere in a text, where there is one.
+fn stands_in(text: &str, suffix: Option<&str>) -> bool
+    ensures { result ≡ is_some_and (λ s. text_holds s text.now) (option_copied suffix.entry) }
+{
+    match suffix {
+        None => false,
+        Some(suffix) => text_holds(text, suffix),
+    }
+}
+
+// Whether a name ends in a suffix, where there is one.
+fn ends_in(name: &str, suffix: Option<&str>) -> bool
+    ensures { result ≡ is_some_and (ends_with nat_eq name.now) (option_copied suffix.entry) }
+{
+    match suffix {
+        None => false,
+        Some(suffix) => name.as_bytes().ends_with(suffix.as_bytes()),
+    }
+}
+
+// Whether there are two texts, and they are equal.
+fn are_equal(one: Option<&str>, other: Option<&str>) -> bool
+    ensures { result ≡ is_some_and (λ a. is_some_and (bytes_eq a) (option_copied other.entry)) (option_copied one.entry) }
+{
+    match (one, other) {
+        (Some(one), Some(other)) => one == other,
+        _ => false,
+    }
+}
+
+// A word of a list by its place.
+fn word_at(words: &[String], index: usize) -> Option<&str>
+    ensures { option_copied result ≡ slice_get (map string_bytes words.now) index }
+{
+    Some(words.get(index)?.as_str())
+}
+
+impl PartialEq for Suffixes {
+    ghost use Rattle.std.specs.Prelude.{nat_eq};
+    ghost use Rattle.std.specs.Cmp.Lexicographic.{pointwise};
+    ghost use Rattle.std.specs.Cmp.Rules.{comparing};
+    ghost use Rattle.std.proofs.Common.{rules};
+
+    ghost eq = { pointwise (pointwise nat_eq) };
+
+    ghost laws = { Prim.search (comparing, rules) };
+
+    fn eq(&self, other: &Suffixes) -> bool {
+        if self.len() != other.len() {
+            return false;
+        }
+        for index in 0..self.len() {
+            if !are_equal(self.get(index), other.get(index)) {
+                return false;
+            }
+        }
+        true
+    }
+}

@@ -1,0 +1,60 @@
+//! The words of a dry run: their heads and cores.
+
+ghost use Rattle.std.specs.Prelude.{◌≡◌, ◌++◌, nat_eq, codes, IfOk, string_bytes};
+ghost use Rattle.std.specs.List.{starts_with};
+ghost use Rattle.std.specs.Option.{option_copied};
+ghost use Rattle.cuda_below.specs.Path.{is_bare as is_bare_name};
+ghost use Rattle.cuda_below.specs.Table.{rest_after};
+ghost use Rattle.canonical_names.specs.Generated as spec;
+
+use std::alloc::{AllocError, Global};
+
+// Whether a word begins with `-Fi`.
+fn is_marked(word: &str) -> bool
+    ensures { result ≡ starts_with nat_eq word.now (codes "-Fi") }
+{
+    word.as_bytes().starts_with(b"-Fi")
+}
+
+// A word without the `-Fi` that it begins with.
+fn unmarked(word: &str) -> Option<&str>
+    ensures { option_copied result ≡ rest_after (codes "-Fi") word.now }
+{
+    word.strip_prefix("-Fi")
+}
+
+// The core of a word: what is left without every `-Fi` that it begins with.
+pub(crate) fn core(word: &str) -> &str
+    ensures { result.now ≡ spec.core_of word.now }
+{
+    let mut rest = word;
+    while let Some(front) = unmarked(rest) {
+        rest = front;
+    }
+    rest
+}
+
+// Whether a text begins with `-`.
+pub(crate) fn begins_with_dash(text: &str) -> bool
+    ensures { result ≡ spec.begins_with_dash text.now }
+{
+    text.as_bytes().starts_with(b"-")
+}
+
+// A text behind the head of a word: behind one `-Fi` where the word begins so.
+pub(crate) fn with_head(alloc: Global, word: &str, text: String) -> Result<String, AllocError>
+    ensures { IfOk result (λ t. string_bytes t ≡ spec.head_of word.now ++ string_bytes text) }
+{
+    if is_marked(word) {
+        format!(in alloc; "-Fi{text}")
+    } else {
+        Ok(text)
+    }
+}
+
+// Whether a text holds no `/`.
+pub(crate) fn is_bare(text: &[u8]) -> bool
+    ensures { result ≡ is_bare_name text.now }
+{
+    !text.contains(&b'/')
+}
