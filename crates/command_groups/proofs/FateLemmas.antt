@@ -11,7 +11,7 @@ use Rattle.command_groups.specs.declared.plan.Reason.TheVariants.{NoCiccGroup, N
 use Rattle.cuda_below.specs.Lists.{is_some_and}
 use Rattle.cuda_below.specs.Lists.{with_name}
 use Rattle.command_groups.specs.Stage.{Stage, linking, splitting, device_compiling, assembling, preprocessing, host_compiling, foreign, StagedCommand, opens}
-use Rattle.command_groups.specs.Fate.{Fate, front, device, final, ungrouped, PlacedCommand, is_device, opens_name, opened_names, device_or, makes_last, place_of, placed_after, places, fate_of, with_fates, fates}
+use Rattle.command_groups.specs.Fate.{Fate, front, device, final, ungrouped, PlacedCommand, is_device, opens_name, opened_names, device_or, is_made, place_of, placed_after, places, fate_of, with_fates, fates}
 use Rattle.command_groups.specs.Plan.{is_front, is_final, of_fate, group_of}
 use Rattle.command_groups.specs.FateLaws.{is_ungrouped, regrouped, EachHasOneFate, BeginsWithLastStep, DeviceGroupsBeginWithTheirStep, OuterGroupsAreThere}
 
@@ -156,7 +156,7 @@ place_named names before splitting = tt
 place_named names before (device_compiling None) = tt
 place_named names before (device_compiling (Some name)) = found_named NoCiccGroup (bytes_eq name) names
 place_named names before (assembling None) = tt
-place_named names before (assembling (Some path)) = found_named NoPtxasGroup (makes_last path before) names
+place_named names before (assembling (Some path)) = found_named NoPtxasGroup (is_made path before) names
 place_named names before (preprocessing None) = tt
 place_named names before (preprocessing (Some name)) = new_name_known names name
 place_named names before host_compiling = tt

@@ -48,4 +48,3 @@ in_order (c ∷ cs) = put_in_order c (in_order cs)
 -- the merged list: nvcc's own tools of the first run and all other programs of the second, in order of line and run
 abbrev pub merged : List CommandLine → List CommandLine → List MergedCommand
 merged first second = in_order (map (of_run 1) (selected is_nvcc_stem first) ++ map (of_run 2) (selected is_host_stem second))
-
