@@ -2,6 +2,7 @@ pub mod Fate
 pub mod FateLaws
 pub mod Merge
 pub mod MergeLaws
+pub mod MergedView
 pub mod Plan
 pub mod PlanOfBytes
 pub mod PlanOfBytesRows
