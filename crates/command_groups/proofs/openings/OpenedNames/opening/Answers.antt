@@ -6,9 +6,9 @@ use Rattle.command_groups.proofs.openings.OpenedNames.opening.Goals as goal
 pub returns-in-None : goal.returns-in-None
 returns-in-None c =
     (λ i. numbered (c.in-None.ensures.index i) (c.in-None.ensures.value i)) ∙ sym (opening_seen c.self.inside.steps.entries c.args.name.now)
-    ∙ (λ i. opening_of (sym c.self.view_is i) c.args.name.now)
+    ∙ (λ i. opening_of (c.self.view_is i) c.args.name.now)
 
 pub returns-in-Some : goal.returns-in-Some
 returns-in-Some c =
     (λ i. numbered (c.in-Some.ensures.index i) (c.in-Some.ensures.value i)) ∙ sym (opening_seen c.self.inside.steps.entries c.args.name.now)
-    ∙ (λ i. opening_of (sym c.self.view_is i) c.args.name.now)
+    ∙ (λ i. opening_of (c.self.view_is i) c.args.name.now)
