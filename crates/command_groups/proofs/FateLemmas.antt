@@ -11,33 +11,33 @@ use Rattle.command_groups.specs.declared.plan.Reason.TheVariants.{NoCiccGroup, N
 use Rattle.cuda_below.specs.Lists.{is_some_and}
 use Rattle.cuda_below.specs.Lists.{with_name}
 use Rattle.command_groups.specs.Stage.{Stage, linking, splitting, device_compiling, assembling, preprocessing, host_compiling, foreign, StagedCommand, opens}
-use Rattle.command_groups.specs.Fate.{Fate, front, device, final, ungrouped, PlacedCommand, is_device, opens_name, opened_names, device_or, makes_last, place_of, placed_after, places, fate_of, with_fates, fates}
+use Rattle.command_groups.specs.Fate.{Fate, front, device, final, ungrouped, PlacedCommand, is_device, opens_name, opened_names, device_or, is_made, place_of, placed_after, places, fate_of, with_fates, fates}
 use Rattle.command_groups.specs.Plan.{is_front, is_final, of_fate, group_of}
 use Rattle.command_groups.specs.FateLaws.{is_ungrouped, regrouped, EachHasOneFate, BeginsWithLastStep, DeviceGroupsBeginWithTheirStep, OuterGroupsAreThere}
 
 -- Tests.
 
-both_false : (a b : Bool) → a ≡ false → b ≡ false → (a || b) ≡ false
+pub both_false : (a b : Bool) → a ≡ false → b ≡ false → (a || b) ≡ false
 both_false true b e f = e
 both_false false b e f = f
 
-first_false : (a b : Bool) → (a || b) ≡ false → a ≡ false
+pub first_false : (a b : Bool) → (a || b) ≡ false → a ≡ false
 first_false true b e = e
 first_false false b e = refl
 
-second_false : (a b : Bool) → (a || b) ≡ false → b ≡ false
+pub second_false : (a b : Bool) → (a || b) ≡ false → b ≡ false
 second_false true b e = absurd (false≢true (sym e))
 second_false false b e = e
 
-first_true : (a b : Bool) → a ≡ true → (a || b) ≡ true
+pub first_true : (a b : Bool) → a ≡ true → (a || b) ≡ true
 first_true true b e = refl
 first_true false b e = absurd (false≢true e)
 
-second_true : (a b : Bool) → b ≡ true → (a || b) ≡ true
+pub second_true : (a b : Bool) → b ≡ true → (a || b) ≡ true
 second_true true b e = refl
 second_true false b e = e
 
-true_before_false : (a b : Bool) → (a || b) ≡ true → b ≡ false → a ≡ true
+pub true_before_false : (a b : Bool) → (a || b) ≡ true → b ≡ false → a ≡ true
 true_before_false true b e f = refl
 true_before_false false b e f = absurd (false≢true (sym f ∙ e))
 
@@ -45,19 +45,19 @@ one_of : {P : Type 0} (a b : Bool) → (a ≡ true → P) → (b ≡ true → P)
 one_of true b f g e = f refl
 one_of false b f g e = g e
 
-any_append : {X : Type 0} (test : X → Bool) (xs ys : List X) → list_any test (xs ++ ys) ≡ (list_any test xs || list_any test ys)
+pub any_append : {X : Type 0} (test : X → Bool) (xs ys : List X) → list_any test (xs ++ ys) ≡ (list_any test xs || list_any test ys)
 any_append test [] ys = refl
 any_append test (x ∷ xs) ys =
     let ih : list_any test (xs ++ ys) ≡ (list_any test xs || list_any test ys) = any_append test xs ys in
     elim (test x) as (λ b. (b || list_any test (xs ++ ys)) ≡ ((b || list_any test xs) || list_any test ys)) [ true ↦ refl | false ↦ ih ]
 
-same_text : (a b : List ℕ) → bytes_eq a b ≡ true → a ≡ b
+pub same_text : (a b : List ℕ) → bytes_eq a b ≡ true → a ≡ b
 same_text a b e = (bytes_eq-Decides a b).0 e
 
-equal_texts : (a b : List ℕ) → a ≡ b → bytes_eq a b ≡ true
+pub equal_texts : (a b : List ℕ) → a ≡ b → bytes_eq a b ≡ true
 equal_texts a b e = (bytes_eq-Decides a b).1 e
 
-flipped : (a b : List ℕ) → bytes_eq a b ≡ bytes_eq b a
+pub flipped : (a b : List ℕ) → bytes_eq a b ≡ bytes_eq b a
 flipped a b =
     elim (bytes_eq a b) as (λ r. bytes_eq a b ≡ r → r ≡ bytes_eq b a) [
       | true ↦ λ e. sym (equal_texts b a (sym (same_text a b e)))
@@ -70,7 +70,7 @@ flipped a b =
 
 -- Different names.
 
-abbrev Distinct : List (List ℕ) → Type 0
+abbrev pub Distinct : List (List ℕ) → Type 0
 Distinct [] = Unit {0}
 Distinct (n ∷ ns) = (list_any (bytes_eq n) ns ≡ false) × Distinct ns
 
@@ -81,7 +81,7 @@ distinct_push (n ∷ ns) x d e = (
   distinct_push ns x d.1 (second_false (bytes_eq x n) (list_any (bytes_eq x) ns) e),
 )
 
-distinct_with : (names : List (List ℕ)) (name : Option (List ℕ)) → Distinct names → Distinct (with_name names name)
+pub distinct_with : (names : List (List ℕ)) (name : Option (List ℕ)) → Distinct names → Distinct (with_name names name)
 distinct_with names None d = d
 distinct_with names (Some x) d =
     elim (list_any (bytes_eq x) names) as (λ b. list_any (bytes_eq x) names ≡ b → Distinct (cond b names (names ++ x ∷ [])))
@@ -89,10 +89,10 @@ distinct_with names (Some x) d =
     refl
 
 -- the names after these, once some commands opened theirs
-abbrev names_after : List (List ℕ) → List StagedCommand → List (List ℕ)
+abbrev pub names_after : List (List ℕ) → List StagedCommand → List (List ℕ)
 names_after names commands = fold (λ ns c. with_name ns (opens c.stage)) names commands
 
-distinct_after : (names : List (List ℕ)) (commands : List StagedCommand) → Distinct names → Distinct (names_after names commands)
+pub distinct_after : (names : List (List ℕ)) (commands : List StagedCommand) → Distinct names → Distinct (names_after names commands)
 distinct_after names [] d = d
 distinct_after names (c ∷ cs) d = distinct_after (with_name names (opens c.stage)) cs (distinct_with names (opens c.stage) d)
 
@@ -156,7 +156,7 @@ place_named names before splitting = tt
 place_named names before (device_compiling None) = tt
 place_named names before (device_compiling (Some name)) = found_named NoCiccGroup (bytes_eq name) names
 place_named names before (assembling None) = tt
-place_named names before (assembling (Some path)) = found_named NoPtxasGroup (makes_last path before) names
+place_named names before (assembling (Some path)) = found_named NoPtxasGroup (is_made path before) names
 place_named names before (preprocessing None) = tt
 place_named names before (preprocessing (Some name)) = new_name_known names name
 place_named names before host_compiling = tt

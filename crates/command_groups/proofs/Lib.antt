@@ -1,4 +1,9 @@
+pub mod CuttingLemmas
+pub mod EntryLemmas
 pub mod FateLemmas
 pub mod GroupLemmas
+pub mod GroupingLemmas
 pub mod MergeLemmas
+pub mod OpeningLemmas
+pub mod RisingLemmas
 pub mod SameLemmas

@@ -1,5 +1,5 @@
 -- Where each merged command goes: its place, by the commands before it, and its fate, by the steps after it too.
-use Rattle.std.specs.Prelude.{ℕ, List, [], ◌∷◌, ◌++◌, Bool, false, if◌then◌else◌, Option, Some, None, filter, find}
+use Rattle.std.specs.Prelude.{ℕ, List, [], ◌∷◌, ◌++◌, Bool, true, false, not, ◌&&◌, ◌||◌, if◌then◌else◌, Option, Some, None, find}
 use Rattle.std.specs.List.{list_any, fold}
 use Rattle.std.specs.Str.{bytes_eq}
 use Rattle.command_groups.specs.declared.plan.Reason.{Reason}
@@ -40,10 +40,28 @@ is_device name (device other) = bytes_eq other name
 is_device name final = false
 is_device name (ungrouped reason) = false
 
--- whether, of the placed commands, the last one of a name's group has a path as its last word
-abbrev pub makes_last : List ℕ → List PlacedCommand → List ℕ → Bool
-makes_last path before name =
-    is_some_and (λ p. is_some_and (bytes_eq path) (last_of p.staged.command.words)) (last_of (filter (λ p. is_device name p.place) before))
+-- whether a command opens the group of a name
+abbrev pub opens_name : List ℕ → PlacedCommand → Bool
+opens_name name p = is_some_and (λ opened. bytes_eq opened name) (opens p.staged.stage)
+
+-- whether a stage is one of cicc
+abbrev pub is_device_compiling : Stage → Bool
+is_device_compiling linking = false
+is_device_compiling splitting = false
+is_device_compiling (device_compiling name) = true
+is_device_compiling (assembling path) = false
+is_device_compiling (preprocessing name) = false
+is_device_compiling host_compiling = false
+is_device_compiling foreign = false
+
+-- whether a placed command is a cicc of a name's group with a path as its last word
+abbrev pub makes : List ℕ → List ℕ → PlacedCommand → Bool
+makes path name p = is_device_compiling p.staged.stage && (is_device name p.place && is_some_and (bytes_eq path) (last_of p.staged.command.words))
+
+-- whether, of the placed commands, a cicc of a name's group makes a path, and no step after it opens that group again
+abbrev pub is_made : List ℕ → List PlacedCommand → List ℕ → Bool
+is_made path [] name = false
+is_made path (p ∷ ps) name = (makes path name p && not (list_any (opens_name name) ps)) || is_made path ps name
 
 -- where a preprocess step goes: into the group that it opens, if it opens one
 abbrev pub place_of_step : Option (List ℕ) → Fate
@@ -55,10 +73,10 @@ abbrev pub place_of_cicc : List (List ℕ) → Option (List ℕ) → Fate
 place_of_cicc names None = ungrouped NoCiccGroup
 place_of_cicc names (Some name) = first_group NoCiccGroup (bytes_eq name) names
 
--- where ptxas goes: into the first group, by first appearance of the names, whose last command has ptxas's file as its last word
+-- where ptxas goes: into the first group, by first appearance of the names, that holds a cicc which makes ptxas's file
 abbrev pub place_of_ptxas : List (List ℕ) → List PlacedCommand → Option (List ℕ) → Fate
 place_of_ptxas names before None = ungrouped NoPtxasGroup
-place_of_ptxas names before (Some path) = first_group NoPtxasGroup (makes_last path before) names
+place_of_ptxas names before (Some path) = first_group NoPtxasGroup (is_made path before) names
 
 -- the place of a stage, of the names opened before and the placed commands before
 abbrev pub place_of : List (List ℕ) → List PlacedCommand → Stage → Fate
@@ -78,10 +96,6 @@ placed_after names before (c ∷ cs) =
 
 abbrev pub places : List StagedCommand → List PlacedCommand
 places commands = placed_after [] [] commands
-
--- whether a command opens the group of a name
-abbrev pub opens_name : List ℕ → PlacedCommand → Bool
-opens_name name p = is_some_and (λ opened. bytes_eq opened name) (opens p.staged.stage)
 
 -- the fate of a place, of the commands after it: a device group that is opened again loses what it had
 abbrev pub fate_of : List PlacedCommand → Fate → Fate

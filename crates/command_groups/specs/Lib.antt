@@ -1,9 +1,17 @@
+pub mod Cutting
+pub mod EntryView
 pub mod Fate
 pub mod FateLaws
+pub mod Grouping
+pub mod GroupingView
+pub mod MadeView
 pub mod Merge
 pub mod MergeLaws
+pub mod MergedView
+pub mod Openings
 pub mod Plan
 pub mod PlanOfBytes
 pub mod PlanOfBytesRows
 pub mod PlanRows
 pub mod Stage
+pub mod StageView

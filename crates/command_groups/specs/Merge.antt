@@ -17,9 +17,12 @@ is_nvcc_stem stem = list_any (bytes_eq stem) nvcc_stems
 abbrev pub is_host_stem : List ℕ → Bool
 is_host_stem stem = not (is_nvcc_stem stem)
 
--- the commands of a run whose program has a stem that passes a test; a program without a stem passes none
+-- whether a program has a stem that passes a test, and the commands of a run whose program has
+abbrev pub is_taken : (List ℕ → Bool) → List ℕ → Bool
+is_taken test program = is_some_and test (file_stem_of program)
+
 abbrev pub selected : (List ℕ → Bool) → List CommandLine → List CommandLine
-selected test commands = filter (λ c. is_some_and test (file_stem_of (program_of c))) commands
+selected test commands = filter (λ c. is_taken test (program_of c)) commands
 
 -- a command that is planned: the line and the run that it is of, its program and its words
 pub record MergedCommand : Type 0 where

@@ -101,18 +101,59 @@ abbrev pub step_and_cicc_twice_run : List ℕ
 step_and_cicc_twice_run =
     codes "#$ PATH=/b\n#$ gcc -D__NVCC__ -E k.cu -o k.cpp1.ii\n#$ cicc k.cpp1.ii -o k.ptx\n#$ gcc -D__NVCC__ -E k.cu -o k.cpp1.ii\n#$ cicc k.cpp1.ii -o k.ptx\n#$ ptxas k.ptx -o a.cubin\n#$ ptxas k.ptx -o b.cubin\n"
 
--- the first pair is superseded, and the second ptxas joins no group
+-- the first pair is superseded, and both ptxas commands join the second
 abbrev pub SecondPtxasFromBytes : Type 0
 SecondPtxasFromBytes =
     planned step_and_cicc_twice_run step_and_cicc_twice_run ≡
     Ok
     (plan_with
-    ([] ∷ (step_and_cicc ++ runs Yes (codes "/t") (codes "/b/ptxas") (codes "k.ptx -o a.cubin") ∷ []) ∷ [] ∷ [])
-    (superseded_pair ++ drops NoPtxasGroup 6 1 (codes "/b/ptxas") (codes "k.ptx -o b.cubin") ∷ []))
+    ([] ∷
+    (step_and_cicc ++
+    (runs Yes (codes "/t") (codes "/b/ptxas") (codes "k.ptx -o a.cubin") ∷
+    runs Yes (codes "/t") (codes "/b/ptxas") (codes "k.ptx -o b.cubin") ∷
+    [])) ∷
+    [] ∷
+    [])
+    superseded_pair)
 
 pub second_ptxas_from_bytes : SecondPtxasFromBytes
 unfolding dry_runs_compute
 second_ptxas_from_bytes = refl
+
+-- a dry run of a step, cicc and the same step again, and of a ptxas command
+abbrev pub superseded_cicc_run : List ℕ
+superseded_cicc_run =
+    codes "#$ PATH=/b\n#$ gcc -D__NVCC__ -E k.cu -o k.cpp1.ii\n#$ cicc k.cpp1.ii -o k.ptx\n#$ gcc -D__NVCC__ -E k.cu -o k.cpp1.ii\n#$ ptxas k.ptx -o a.cubin\n"
+
+-- the cicc was superseded, and ptxas joins no group
+abbrev pub SupersededCiccFromBytes : Type 0
+SupersededCiccFromBytes =
+    planned superseded_cicc_run superseded_cicc_run ≡
+    Ok
+    (plan_with
+    ([] ∷ (runs No (codes "/w") (codes "/b/gcc") (codes "-D__NVCC__ -E k.cu -o x_0.cpp1.ii") ∷ []) ∷ [] ∷ [])
+    (superseded_pair ++ drops NoPtxasGroup 4 1 (codes "/b/ptxas") (codes "k.ptx -o a.cubin") ∷ []))
+
+pub superseded_cicc_from_bytes : SupersededCiccFromBytes
+unfolding dry_runs_compute
+superseded_cicc_from_bytes = refl
+
+-- a dry run of a step whose last word is ptxas's file, and of a ptxas command
+abbrev pub step_without_cicc_run : List ℕ
+step_without_cicc_run = codes "#$ PATH=/b\n#$ gcc -D__NVCC__ -E k.cu -o k.cpp1.ii k.ptx\n#$ ptxas k.ptx -o a.cubin\n"
+
+-- no cicc makes that file, and ptxas joins no group
+abbrev pub StepWithoutCiccFromBytes : Type 0
+StepWithoutCiccFromBytes =
+    planned step_without_cicc_run step_without_cicc_run ≡
+    Ok
+    (plan_with
+    ([] ∷ (runs No (codes "/w") (codes "/b/gcc") (codes "-D__NVCC__ -E k.cu -o x_0.cpp1.ii k.ptx") ∷ []) ∷ [] ∷ [])
+    (drops NoPtxasGroup 2 1 (codes "/b/ptxas") (codes "k.ptx -o a.cubin") ∷ []))
+
+pub step_without_cicc_from_bytes : StepWithoutCiccFromBytes
+unfolding dry_runs_compute
+step_without_cicc_from_bytes = refl
 
 -- a dry run whose step makes a file with a `/` at its end
 abbrev pub output_with_a_slash_run : List ℕ

@@ -153,16 +153,73 @@ ReopenedGroup =
 pub reopened_group : ReopenedGroup
 reopened_group = refl
 
--- the first ptxas joins the group whose last command makes its input; after that the last command makes another file, and the second one joins none
+-- both ptxas commands join the group whose cicc makes their input
 abbrev pub SecondPtxas : Type 0
 SecondPtxas =
     plan_of_both (step_and_cicc_twice ++ (at 5 (codes "/b/ptxas") (codes "k.ptx -o a.cubin") ∷ at 6 (codes "/b/ptxas") (codes "k.ptx -o b.cubin") ∷ [])) ≡
     plan_with
-    ([] ∷ (step_and_cicc ++ runs Yes (codes "/t") (codes "/b/ptxas") (codes "k.ptx -o a.cubin") ∷ []) ∷ [] ∷ [])
-    (superseded_pair ++ drops NoPtxasGroup 6 1 (codes "/b/ptxas") (codes "k.ptx -o b.cubin") ∷ [])
+    ([] ∷
+    (step_and_cicc ++
+    (runs Yes (codes "/t") (codes "/b/ptxas") (codes "k.ptx -o a.cubin") ∷
+    runs Yes (codes "/t") (codes "/b/ptxas") (codes "k.ptx -o b.cubin") ∷
+    [])) ∷
+    [] ∷
+    [])
+    superseded_pair
 
 pub second_ptxas : SecondPtxas
 second_ptxas = refl
+
+-- a cicc whose group was opened again makes nothing for ptxas
+abbrev pub SupersededCicc : Type 0
+SupersededCicc =
+    plan_of_both
+    (at 1 (codes "/b/gcc") (codes "-D__NVCC__ -E k.cu -o x_0.cpp1.ii") ∷
+    at 2 (codes "/b/cicc") (codes "x_0.cpp1.ii -o k.ptx") ∷
+    at 3 (codes "/b/gcc") (codes "-D__NVCC__ -E k.cu -o x_0.cpp1.ii") ∷
+    at 4 (codes "/b/ptxas") (codes "k.ptx -o a.cubin") ∷
+    []) ≡
+    plan_with
+    ([] ∷ (runs No (codes "/w") (codes "/b/gcc") (codes "-D__NVCC__ -E k.cu -o x_0.cpp1.ii") ∷ []) ∷ [] ∷ [])
+    (superseded_pair ++ drops NoPtxasGroup 4 1 (codes "/b/ptxas") (codes "k.ptx -o a.cubin") ∷ [])
+
+pub superseded_cicc : SupersededCicc
+superseded_cicc = refl
+
+-- nor does a step, though it is the group's last command and has ptxas's file as its last word
+abbrev pub StepMakesNoPtx : Type 0
+StepMakesNoPtx =
+    plan_of_both
+    (at 1 (codes "/b/gcc") (codes "-D__NVCC__ -E k.cu -o x_0.cpp1.ii k.ptx") ∷ at 2 (codes "/b/ptxas") (codes "k.ptx -o a.cubin") ∷ []) ≡
+    plan_with
+    ([] ∷ (runs No (codes "/w") (codes "/b/gcc") (codes "-D__NVCC__ -E k.cu -o x_0.cpp1.ii k.ptx") ∷ []) ∷ [] ∷ [])
+    (drops NoPtxasGroup 2 1 (codes "/b/ptxas") (codes "k.ptx -o a.cubin") ∷ [])
+
+pub step_makes_no_ptx : StepMakesNoPtx
+step_makes_no_ptx = refl
+
+-- two groups whose cicc make one file share the later ptxas in the first of them
+abbrev pub SharedPtx : Type 0
+SharedPtx =
+    plan_of_both
+    (at 1 (codes "/b/gcc") (codes "-D__NVCC__ -E k.cu -o x_0.cpp1.ii") ∷
+    at 2 (codes "/b/gcc") (codes "-D__NVCC__ -E k.cu -o x_1.cpp1.ii") ∷
+    at 3 (codes "/b/cicc") (codes "x_1.cpp1.ii -o k.ptx") ∷
+    at 4 (codes "/b/cicc") (codes "x_0.cpp1.ii -o k.ptx") ∷
+    at 5 (codes "/b/ptxas") (codes "k.ptx -o a.cubin") ∷
+    []) ≡
+    plan_with
+    ([] ∷
+    (step_and_cicc ++ runs Yes (codes "/t") (codes "/b/ptxas") (codes "k.ptx -o a.cubin") ∷ []) ∷
+    (runs No (codes "/w") (codes "/b/gcc") (codes "-D__NVCC__ -E k.cu -o x_1.cpp1.ii") ∷
+    runs Yes (codes "/t") (codes "/b/cicc") (codes "x_1.cpp1.ii -o k.ptx") ∷
+    []) ∷
+    [] ∷
+    [])
+    []
+
+pub shared_ptx : SharedPtx
+shared_ptx = refl
 
 -- cl preprocesses by `-P`, and gcc doesn't
 abbrev pub cl_step : List CommandLine

@@ -95,6 +95,9 @@ cuda_macros = codes "-D__CUDACC__" ∷ codes "-D__NVCC__" ∷ codes "-D__CUDA_AR
 abbrev pub defines_cuda : List ℕ → Bool
 defines_cuda word = list_any (starts_with nat_eq word) cuda_macros
 
+abbrev pub is_for_cuda : List (List ℕ) → Bool
+is_for_cuda words = list_any defines_cuda words
+
 -- the word by which a host compiler is told to preprocess only
 abbrev pub preprocess_word : NvccHostCompiler → List ℕ
 preprocess_word Gcc = codes "-E"
@@ -113,15 +116,22 @@ opened_name words = option_and_then device_name (option_and_then file_name_of (w
 -- the stage of a program that isn't nvcc's own
 abbrev pub host_stage : NvccHostCompiler → List (List ℕ) → Stage
 host_stage compiler words =
-    if not (list_any defines_cuda words) then foreign else
+    if not (is_for_cuda words) then foreign else
     (if has_word (preprocess_word compiler) words then preprocessing (opened_name words) else host_compiling)
+
+-- the first word that is cicc's input, and the first that is ptxas's
+abbrev pub cicc_input : List (List ℕ) → Option (List ℕ)
+cicc_input words = find is_cicc_word words
+
+abbrev pub ptxas_input : List (List ℕ) → Option (List ℕ)
+ptxas_input words = find is_ptxas_word words
 
 -- the stage of a program with its edited words
 abbrev pub stage_by : ProgramKind → NvccHostCompiler → List (List ℕ) → Stage
 stage_by linker compiler words = linking
 stage_by cudafe compiler words = splitting
-stage_by cicc compiler words = device_compiling (find is_cicc_word words)
-stage_by ptxas compiler words = assembling (find is_ptxas_word words)
+stage_by cicc compiler words = device_compiling (cicc_input words)
+stage_by ptxas compiler words = assembling (ptxas_input words)
 stage_by other compiler words = host_stage compiler words
 
 -- a command, its words edited, and its stage

@@ -3,8 +3,8 @@
 ghost use Rattle.cuda_below.specs.Equality.{TellsEqual};
 ghost use Rattle.command_groups.specs.FateLaws.{EachHasOneFate, DeviceGroupsBeginWithTheirStep, OuterGroupsAreThere};
 ghost use Rattle.command_groups.specs.MergeLaws.{MergedIsInOrder, MergedAreTheSelected};
-ghost use Rattle.command_groups.specs.PlanOfBytesRows.{OneKernelFromBytes, OtherNamesFromBytes, TemporaryNamesFromBytes, KeptNamesFromBytes, NothingFromBytes, HostCodeFromBytes, SecondRunIsBad, FirstRunIsBad, SecondPtxasFromBytes, OutputWithASlashFromBytes, NamelessFromBytes};
-ghost use Rattle.command_groups.specs.PlanRows.{OneKernelPlan, NamesInAFolder, NamesAsTheyAre, EmptyRuns, HostCodeAlone, ReopenedGroup, SecondPtxas, PreprocessesForMsvc, CompilesForGcc, CiccLosesOneWord, CiccKeepsItsWords, NotForCuda, ProgramWithoutAStem, StepWithoutAnOutput, StepWithoutAFileName, OutputWithASlash, SecondGroupIsJoined, MergedByLineAndRun, FoldedEnvironment, MarkedTwice};
+ghost use Rattle.command_groups.specs.PlanOfBytesRows.{OneKernelFromBytes, OtherNamesFromBytes, TemporaryNamesFromBytes, KeptNamesFromBytes, NothingFromBytes, HostCodeFromBytes, SecondRunIsBad, FirstRunIsBad, SecondPtxasFromBytes, SupersededCiccFromBytes, StepWithoutCiccFromBytes, OutputWithASlashFromBytes, NamelessFromBytes};
+ghost use Rattle.command_groups.specs.PlanRows.{OneKernelPlan, NamesInAFolder, NamesAsTheyAre, EmptyRuns, HostCodeAlone, ReopenedGroup, SecondPtxas, SupersededCicc, StepMakesNoPtx, SharedPtx, PreprocessesForMsvc, CompilesForGcc, CiccLosesOneWord, CiccKeepsItsWords, NotForCuda, ProgramWithoutAStem, StepWithoutAnOutput, StepWithoutAFileName, OutputWithASlash, SecondGroupIsJoined, MergedByLineAndRun, FoldedEnvironment, MarkedTwice};
 
 use crate::plan::{Dropped, DroppedCommands, Groups, NvccGeneratedSubcommand, Plan, Reason};
 
@@ -45,6 +45,9 @@ pub fn worked_plans()
     ensures host_code_alone { HostCodeAlone }
     ensures reopened_group { ReopenedGroup }
     ensures second_ptxas { SecondPtxas }
+    ensures superseded_cicc { SupersededCicc }
+    ensures step_makes_no_ptx { StepMakesNoPtx }
+    ensures shared_ptx { SharedPtx }
     ensures preprocesses_for_msvc { PreprocessesForMsvc }
     ensures compiles_for_gcc { CompilesForGcc }
     ensures cicc_loses_one_word { CiccLosesOneWord }
@@ -71,6 +74,8 @@ pub fn worked_plans_from_bytes()
     ensures second_run_is_bad { SecondRunIsBad }
     ensures first_run_is_bad { FirstRunIsBad }
     ensures second_ptxas_from_bytes { SecondPtxasFromBytes }
+    ensures superseded_cicc_from_bytes { SupersededCiccFromBytes }
+    ensures step_without_cicc_from_bytes { StepWithoutCiccFromBytes }
     ensures output_with_a_slash_from_bytes { OutputWithASlashFromBytes }
     ensures nameless_from_bytes { NamelessFromBytes }
 {}

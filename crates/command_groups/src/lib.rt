@@ -1,7 +1,12 @@
 //! What one `nvcc` call runs: its commands in groups, and those that it drops, each with a reason.
 #![tactic(auto)]
 
+mod environment;
+mod grouping;
 pub mod laws;
+mod merge;
+mod openings;
 mod plan;
+mod stage;
 
 pub use plan::{Dropped, DroppedCommands, Groups, NvccGeneratedSubcommand, Plan, Reason};

@@ -46,7 +46,7 @@ pub enum Reason {
     NotCuda,
     /// A cicc command whose input no preprocess step before it makes.
     NoCiccGroup,
-    /// A ptxas command whose input no device group makes last.
+    /// A ptxas command whose input no cicc command of a device group makes.
     NoPtxasGroup,
     /// A command of a device group that a later preprocess step opened again.
     Superseded,

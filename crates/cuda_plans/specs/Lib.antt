@@ -11,6 +11,8 @@ pub use Rattle.canonical_names.specs.Generated
 pub use Rattle.canonical_names.specs.Renaming
 pub use Rattle.canonical_names.specs.RenamingRows
 pub use Rattle.canonical_names.specs.Shadow
+pub use Rattle.canonical_names.specs.StepShadow
+pub use Rattle.canonical_names.specs.SuffixRule
 pub use Rattle.command_groups.specs.Fate
 pub use Rattle.command_groups.specs.FateLaws
 pub use Rattle.command_groups.specs.Merge

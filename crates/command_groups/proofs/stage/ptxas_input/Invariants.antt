@@ -1,0 +1,6 @@
+use Rattle.std.proofs.Common.{◌≡◌, map, string_bytes, drop}
+use Rattle.command_groups.specs.Stage.{ptxas_input}
+use Rattle.command_groups.proofs.stage.ptxas_input.Given as goal
+
+abbrev pub invariant-loop-word : goal.invariant-loop-word
+invariant-loop-word l = ptxas_input (map string_bytes (drop l.word-index l.words)) ≡ ptxas_input (map string_bytes l.words)

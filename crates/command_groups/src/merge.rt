@@ -1,0 +1,98 @@
+//! The commands of two dry runs that are planned, in the order of their lines.
+
+ghost use Rattle.std.specs.Prelude.{◌≡◌, map, IfOk, IsPermutation, IsSorted};
+ghost use Rattle.std.specs.Vec.Iter.{into_iter_items};
+ghost use Rattle.dry_runs.specs.CommandLines.{line_of};
+ghost use Rattle.command_groups.specs.Merge as spec;
+ghost use Rattle.command_groups.specs.MergeLaws.{Rises, RisesInOrder};
+ghost use Rattle.command_groups.specs.MergedView.{command_seen, takes_stem};
+
+use cuda_below::text::file_stem;
+use dry_runs::Commands;
+use itertools::Itertools;
+use std::alloc::{AllocError, Global};
+use std::vec::IntoIter;
+
+/// A command of a dry run that is planned. Commands are compared by line and run first.
+#[derive(Debug, PartialEq, Eq, PartialOrd, Ord, Drop)]
+pub struct SelectedCommand {
+    /// The number of its line in the dry run, from 0.
+    pub line: usize,
+    /// The dry run that it is of: 1 or 2.
+    pub run: usize,
+    /// The program's path.
+    pub program: String,
+    /// The words after the program's name.
+    pub words: Vec<String>,
+}
+
+/// Whether a stem is that of one of nvcc's own tools.
+fn is_nvcc_tool(stem: &str) -> bool
+    ensures { result ≡ spec.is_nvcc_stem stem.now }
+{
+    matches!(stem, "cicc" | "ptxas" | "cudafe++" | "nvlink" | "fatbinary")
+}
+
+// Whether a run gives a program: `own` says that it gives nvcc's own tools, else it gives all others.
+fn takes(own: bool, program: &str) -> bool
+    ensures { result ≡ spec.is_taken (takes_stem own) program.now }
+{
+    match file_stem(program) {
+        None => false,
+        Some(stem) => is_nvcc_tool(stem) == own,
+    }
+}
+
+// The commands of run `run` that are planned, in order: those of nvcc's own tools, or all others.
+fn selected(
+    alloc: Global,
+    run: usize,
+    own: bool,
+    commands: Commands,
+) -> Result<Vec<SelectedCommand>, AllocError>
+    ensures { IfOk result (λ taken. map command_seen taken.items ≡ map (spec.of_run run) (spec.selected (takes_stem own) commands)) }
+{
+    let mut taken = Vec::new(alloc);
+    for (line, program, words) in commands.into_vec() {
+        if takes(own, program.as_str()) {
+            taken.push(SelectedCommand {
+                line,
+                run,
+                program,
+                words,
+            })?;
+        }
+    }
+    Ok(taken)
+}
+
+// Commands sorted by line, run, program and words.
+fn in_order(
+    alloc: Global,
+    commands: Vec<SelectedCommand>,
+) -> Result<IntoIter<SelectedCommand>, AllocError>
+    ensures same { IfOk result (λ sorted. IsPermutation commands.items (into_iter_items sorted)) }
+    ensures sorted { IfOk result (λ sorted. IsSorted ⟦<SelectedCommand as Ord>⟧.cmp (into_iter_items sorted)) }
+{
+    commands.into_iter().sorted(alloc)
+}
+
+/// The commands of two runs that are planned: nvcc's own tools of the first run, and all other programs of the
+/// second, in order of line and run.
+///
+/// A run's commands stand at different lines, in order. So no two of the merged ones share line and run.
+pub fn merge(
+    alloc: Global,
+    first: Commands,
+    second: Commands,
+) -> Result<IntoIter<SelectedCommand>, AllocError>
+    requires first_rises { Rises (map line_of first) }
+    requires second_rises { Rises (map line_of second) }
+    ensures commands { IfOk result (λ merged. map command_seen (into_iter_items merged) ≡ spec.merged first second) }
+    ensures rises { IfOk result (λ merged. RisesInOrder (map command_seen (into_iter_items merged))) }
+{
+    let mut commands = selected(alloc, 1, true, first)?;
+    let mut others = selected(alloc, 2, false, second)?;
+    commands.append(&mut others)?;
+    in_order(alloc, commands)
+}

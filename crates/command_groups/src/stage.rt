@@ -1,0 +1,324 @@
+//! What a merged command does in a compilation: its words as they are run, and its stage.
+
+ghost use Rattle.std.specs.Prelude.{◌≡◌, ℕ, List, nat_eq, map, IfOk, string_bytes};
+ghost use Rattle.std.specs.List.{starts_with};
+ghost use Rattle.std.specs.Option.{option_copied};
+ghost use Rattle.cuda_below.specs.Lists.{last_of, word_after as word_right_after};
+ghost use Rattle.command_groups.specs.MergedView.{command_seen};
+ghost use Rattle.command_groups.specs.Stage as spec;
+ghost use Rattle.command_groups.specs.StageView.{kind_seen, named_stage};
+
+use crate::merge::SelectedCommand;
+use cuda_below::command::Cacheable;
+use cuda_below::compilation_flags::asks_object;
+use cuda_below::compiler::NvccHostCompiler;
+use cuda_below::device_files::{is_cicc_input, is_ptxas_input};
+use cuda_below::text::{file_name, file_stem};
+use std::alloc::{AllocError, Global};
+
+/// The kinds of programs.
+#[derive(Clone, Copy, Debug, PartialEq)]
+pub enum ProgramKind {
+    /// One of nvcc's linkers: `fatbinary` or `nvlink`.
+    Linker,
+    Cudafe,
+    Cicc,
+    Ptxas,
+    /// Any other program.
+    Other,
+}
+
+// The kind of the programs of a stem.
+fn kind_of_stem(stem: &str) -> ProgramKind
+    ensures { kind_seen result ≡ spec.kind_of_stem stem.now }
+{
+    match stem {
+        "fatbinary" | "nvlink" => ProgramKind::Linker,
+        "cudafe++" => ProgramKind::Cudafe,
+        "cicc" => ProgramKind::Cicc,
+        "ptxas" => ProgramKind::Ptxas,
+        _ => ProgramKind::Other,
+    }
+}
+
+// The kind of a program, by its path.
+fn kind_of_program(program: &str) -> ProgramKind
+    ensures { kind_seen result ≡ spec.kind_of_program program.now }
+{
+    match file_stem(program) {
+        None => ProgramKind::Other,
+        Some(stem) => kind_of_stem(stem),
+    }
+}
+
+// Whether a word stands among words.
+fn has_word(words: &[String], word: &str) -> bool
+    ensures { result ≡ spec.has_word word.now (map string_bytes words.now) }
+{
+    for other in words {
+        if word == other.as_str() {
+            return true;
+        }
+    }
+    false
+}
+
+// The words with `new` right before the first that is `word`.
+fn with_word_before(
+    alloc: Global,
+    new: &str,
+    word: &str,
+    words: Vec<String>,
+) -> Result<Vec<String>, AllocError>
+    ensures { IfOk result (λ edited. map string_bytes edited.items ≡ spec.with_word_before new.now word.now (map string_bytes words.items)) }
+{
+    let mut edited = Vec::new(alloc);
+    let mut stands = false;
+    for other in words {
+        if !stands && word == other.as_str() {
+            stands = true;
+            edited.push(String::from_str(alloc, new)?)?;
+        }
+        edited.push(other)?;
+    }
+    Ok(edited)
+}
+
+// The words without the first that is `word`.
+fn without_first_word(
+    alloc: Global,
+    word: &str,
+    words: Vec<String>,
+) -> Result<Vec<String>, AllocError>
+    ensures { IfOk result (λ edited. map string_bytes edited.items ≡ spec.without_first_word word.now (map string_bytes words.items)) }
+{
+    let mut edited = Vec::new(alloc);
+    let mut gone = false;
+    for other in words {
+        if !gone && word == other.as_str() {
+            gone = true;
+        } else {
+            edited.push(other)?;
+        }
+    }
+    Ok(edited)
+}
+
+// cudafe++'s words as they are run.
+fn cudafe_words(alloc: Global, words: Vec<String>) -> Result<Vec<String>, AllocError>
+    ensures { IfOk result (λ edited. map string_bytes edited.items ≡ spec.cudafe_edit (map string_bytes words.items)) }
+{
+    if has_word(words.as_slice(), "--gen_module_id_file") {
+        return Ok(words);
+    }
+    with_word_before(
+        alloc,
+        "--gen_module_id_file",
+        "--module_id_file_name",
+        words,
+    )
+}
+
+// cicc's words as they are run under a compilation flag.
+fn cicc_words(alloc: Global, flag: &str, words: Vec<String>) -> Result<Vec<String>, AllocError>
+    ensures { IfOk result (λ edited. map string_bytes edited.items ≡ spec.cicc_edit flag.now (map string_bytes words.items)) }
+{
+    if asks_object(flag) {
+        without_first_word(alloc, "--gen_module_id_file", words)
+    } else {
+        Ok(words)
+    }
+}
+
+// The words of a program of a kind, as they are run under a compilation flag.
+fn edited_words(
+    alloc: Global,
+    kind: ProgramKind,
+    flag: &str,
+    words: Vec<String>,
+) -> Result<Vec<String>, AllocError>
+    ensures { IfOk result (λ edited. map string_bytes edited.items ≡ spec.edited_by (kind_seen kind) flag.now (map string_bytes words.items)) }
+{
+    match kind {
+        ProgramKind::Cudafe => cudafe_words(alloc, words),
+        ProgramKind::Cicc => cicc_words(alloc, flag, words),
+        ProgramKind::Linker | ProgramKind::Ptxas | ProgramKind::Other => Ok(words),
+    }
+}
+
+/// A command with its words as they are run under a compilation flag.
+///
+/// cudafe++ is told to make the module id file where a word names it. Under a flag that asks for an object, cicc isn't
+/// told so: it reads the file that cudafe++ makes. It is as sccache 0.19.0 changes these words.
+pub fn edited(
+    alloc: Global,
+    flag: &str,
+    command: SelectedCommand,
+) -> Result<SelectedCommand, AllocError>
+    ensures { IfOk result (λ c. command_seen c ≡ spec.edited flag.now (command_seen command)) }
+{
+    let kind = kind_of_program(command.program.as_str());
+    Ok(SelectedCommand {
+        line: command.line,
+        run: command.run,
+        program: command.program,
+        words: edited_words(alloc, kind, flag, command.words)?,
+    })
+}
+
+/// The stages of commands.
+#[derive(Clone, Copy, Debug, PartialEq)]
+pub enum Stage {
+    /// Linking device code.
+    Linking,
+    /// Splitting host code from device code.
+    Splitting,
+    /// Compiling device code.
+    DeviceCompiling,
+    /// Assembling device code.
+    Assembling,
+    /// Preprocessing, into a device group or into none.
+    Preprocessing,
+    /// Compiling host code.
+    HostCompiling,
+    /// What has nothing to do with CUDA.
+    Foreign,
+}
+
+// Whether a word begins with a text.
+fn begins_with(word: &str, beginning: &str) -> bool
+    ensures { result ≡ starts_with nat_eq word.now beginning.now }
+{
+    word.starts_with(beginning)
+}
+
+// Whether a word defines a macro of CUDA's.
+fn defines_cuda(word: &str) -> bool
+    ensures { result ≡ spec.defines_cuda word.now }
+{
+    begins_with(word, "-D__CUDACC__")
+        || begins_with(word, "-D__NVCC__")
+        || begins_with(word, "-D__CUDA_ARCH__")
+        || begins_with(word, "-D__CUDA_ARCH_LIST__")
+}
+
+// Whether one of the words defines a macro of CUDA's.
+fn is_for_cuda(words: &[String]) -> bool
+    ensures { result ≡ spec.is_for_cuda (map string_bytes words.now) }
+{
+    for word in words {
+        if defines_cuda(word.as_str()) {
+            return true;
+        }
+    }
+    false
+}
+
+// The word by which a host compiler is told to preprocess only.
+fn preprocess_word(host_compiler: NvccHostCompiler) -> &'static str
+    ensures { result.now ≡ spec.preprocess_word host_compiler }
+{
+    match host_compiler {
+        NvccHostCompiler::Gcc | NvccHostCompiler::Nvhpc => "-E",
+        NvccHostCompiler::Msvc => "-P",
+    }
+}
+
+// The stage of a program that isn't nvcc's own.
+fn host_stage(host_compiler: NvccHostCompiler, words: &[String]) -> Stage
+    ensures { named_stage result (map string_bytes words.now) ≡ spec.host_stage host_compiler (map string_bytes words.now) }
+{
+    if !is_for_cuda(words) {
+        Stage::Foreign
+    } else if has_word(words, preprocess_word(host_compiler)) {
+        Stage::Preprocessing
+    } else {
+        Stage::HostCompiling
+    }
+}
+
+/// The stage of a command with its edited words. Contracts see it with the name that the words give it.
+pub fn stage_of(host_compiler: NvccHostCompiler, command: &SelectedCommand) -> Stage
+    ensures { named_stage result (command_seen command.now).words ≡ spec.stage_by (spec.kind_of_program (command_seen command.now).program) host_compiler (command_seen command.now).words }
+{
+    match kind_of_program(command.program.as_str()) {
+        ProgramKind::Linker => Stage::Linking,
+        ProgramKind::Cudafe => Stage::Splitting,
+        ProgramKind::Cicc => Stage::DeviceCompiling,
+        ProgramKind::Ptxas => Stage::Assembling,
+        ProgramKind::Other => host_stage(host_compiler, command.words.as_slice()),
+    }
+}
+
+/// The first word that is cicc's input.
+pub fn cicc_input(words: &[String]) -> Option<&str>
+    ensures { option_copied result ≡ spec.cicc_input (map string_bytes words.now) }
+{
+    for word in words {
+        if is_cicc_input(word.as_str()) {
+            return Some(word.as_str());
+        }
+    }
+    None
+}
+
+/// The first word that is ptxas's input.
+pub fn ptxas_input(words: &[String]) -> Option<&str>
+    ensures { option_copied result ≡ spec.ptxas_input (map string_bytes words.now) }
+{
+    for word in words {
+        if is_ptxas_input(word.as_str()) {
+            return Some(word.as_str());
+        }
+    }
+    None
+}
+
+// The word right after the first that is `option`.
+fn word_after<'a>(words: &'a [String], option: &str) -> Option<&'a str>
+    ensures { option_copied result ≡ word_right_after option.now (map string_bytes words.now) }
+{
+    let mut follows = false;
+    for word in words {
+        if follows {
+            return Some(word.as_str());
+        }
+        follows = option == word.as_str();
+    }
+    None
+}
+
+/// The name that a preprocess step with these words opens a device group by: the file name of the word after its first
+/// `-o`, where that is cicc's input by its end.
+pub fn opened_name(words: &[String]) -> Option<&str>
+    ensures { option_copied result ≡ spec.opened_name (map string_bytes words.now) }
+{
+    let name = file_name(word_after(words, "-o")?)?;
+    if is_cicc_input(name) {
+        Some(name)
+    } else {
+        None
+    }
+}
+
+/// The last of the words.
+pub fn last_word(words: &[String]) -> Option<&str>
+    ensures { option_copied result ≡ last_of (map string_bytes words.now) }
+{
+    let mut last = None;
+    for word in words {
+        last = Some(word.as_str());
+    }
+    last
+}
+
+/// Whether the outputs of a stage may come from a cache.
+pub fn cacheable_mark(stage: Stage) -> Cacheable
+    ensures { (words : List (List ℕ)) → result ≡ spec.cacheable_mark (named_stage stage words) }
+{
+    match stage {
+        Stage::Splitting | Stage::DeviceCompiling | Stage::Assembling | Stage::HostCompiling =>
+            Cacheable::Yes,
+        Stage::Linking | Stage::Preprocessing | Stage::Foreign => Cacheable::No,
+    }
+}
