@@ -37,7 +37,7 @@ EmptyRunsShown = show_plan (plan_of (setting Gcc (codes "-c")) [] [] []) ≡ lin
 pub empty_runs_shown : EmptyRunsShown
 empty_runs_shown = refl
 
--- a superseded pair, and a ptxas that joins no group
+-- a superseded pair, and one PTX file that feeds two ptxas steps
 abbrev pub DroppedShown : Type 0
 DroppedShown =
     show_plan (plan_of_both (step_and_cicc_twice ++ (at 5 (codes "/b/ptxas") (codes "k.ptx -o a.cubin") ∷ at 6 (codes "/b/ptxas") (codes "k.ptx -o b.cubin") ∷ []))) ≡
@@ -47,14 +47,29 @@ DroppedShown =
     codes "no cd /w && /b/gcc -D__NVCC__ -E k.cu -o x_0.cpp1.ii" ∷
     codes "yes cd /t && /b/cicc x_0.cpp1.ii -o k.ptx" ∷
     codes "yes cd /t && /b/ptxas k.ptx -o a.cubin" ∷
+    codes "yes cd /t && /b/ptxas k.ptx -o b.cubin" ∷
     codes "group 2" ∷
     codes "dropped 1 run 2 Superseded /b/gcc -D__NVCC__ -E k.cu -o x_0.cpp1.ii" ∷
     codes "dropped 2 run 1 Superseded /b/cicc x_0.cpp1.ii -o k.ptx" ∷
-    codes "dropped 6 run 1 NoPtxasGroup /b/ptxas k.ptx -o b.cubin" ∷
     [])
 
 pub dropped_shown : DroppedShown
 dropped_shown = refl
+
+-- a ptxas whose file no cicc makes
+abbrev pub PtxasWithoutAGroupShown : Type 0
+PtxasWithoutAGroupShown =
+    show_plan (plan_of_both (at 1 (codes "/b/gcc") (codes "-D__NVCC__ -E k.cu -o x_0.cpp1.ii k.ptx") ∷ at 2 (codes "/b/ptxas") (codes "k.ptx -o a.cubin") ∷ [])) ≡
+    lines_of
+    (codes "group 0" ∷
+    codes "group 1" ∷
+    codes "no cd /w && /b/gcc -D__NVCC__ -E k.cu -o x_0.cpp1.ii k.ptx" ∷
+    codes "group 2" ∷
+    codes "dropped 2 run 1 NoPtxasGroup /b/ptxas k.ptx -o a.cubin" ∷
+    [])
+
+pub ptxas_without_a_group_shown : PtxasWithoutAGroupShown
+ptxas_without_a_group_shown = refl
 
 -- a cicc that misses the group of an output with a `/` at its end
 abbrev pub OutputWithASlashShown : Type 0
