@@ -15,6 +15,10 @@ pub enum Work<'a> {
     Split {
         file: &'a str,
     },
+    /// A dry run, the bytes of a file, read as a first run at `/w`.
+    Read {
+        file: &'a str,
+    },
 }
 
 /// A call: what is timed, and how often it is done. It is done at least once.
@@ -35,12 +39,15 @@ fn work_of<'a>(verb: &str, words: &'a [String]) -> Option<Work<'a>> {
         ("split", [file]) => Some(Work::Split {
             file: file.as_str(),
         }),
+        ("read", [file]) => Some(Work::Read {
+            file: file.as_str(),
+        }),
         _ => None,
     }
 }
 
-/// The call that the words after the program's name are: `line N TOOL CWD WORD..` or `split N FILE`,
-/// N a decimal number above zero.
+/// The call that the words after the program's name are: `line N TOOL CWD WORD..`, `split N FILE` or
+/// `read N FILE`, N a decimal number above zero.
 pub fn call_of<'a>(words: &'a [String]) -> Option<Call<'a>> {
     let [verb, count, rest @ ..] = words else {
         return None;

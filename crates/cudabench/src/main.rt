@@ -1,4 +1,5 @@
-//! Times the planner's calls: a tool's line that is read and written back, and a text that is split.
+//! Times the planner's calls: a tool's line that is read and written back, a text that is split, and a dry run
+//! that is read.
 #![tactic(auto)]
 
 use call::call_of;

@@ -3,10 +3,13 @@
 use crate::call::{Call, Work};
 use crate::report::Stop;
 use cuda_below::arguments::CompilerArguments;
+use cuda_below::bytes::Bytes;
 use cuda_below::compiler::{CCompilerImpl, Places};
+use cuda_below::fault::Fault;
 use cuda_below::text::Text;
 use cuda_plans::cicc::{Cicc, read_input};
 use cuda_plans::cudafe::CudaFE;
+use cuda_plans::dry_run::{FirstDir, read_dry_run};
 use cuda_plans::ptxas::Ptxas;
 use cuda_plans::shell;
 use plan_texts::Tool;
@@ -78,21 +81,23 @@ fn mean_of_split<R: Clock>(rt: &R, alloc: Global, count: u64, text: &str) -> Res
     mean_since(rt, start, count)
 }
 
-// The mean time of splitting the text of a file.
-fn mean_of_file<R: Clock + Files>(
-    rt: &R,
-    alloc: Global,
-    count: u64,
-    file: &str,
-) -> Result<u128, Stop> {
-    let Ok(file) = fs::open(rt, file) else {
-        return Err(Stop::Fault(cuda_below::fault::Fault::Read));
+// The mean time of reading a dry run.
+fn mean_of_read<R: Clock>(rt: &R, alloc: Global, count: u64, dry_run: &[u8]) -> Result<u128, Stop> {
+    let Ok(start) = Instant::now(rt) else {
+        return Err(Stop::Clock);
     };
-    let output = read_input(alloc, file)?;
-    match str::from_utf8(output.stdout.as_slice()) {
-        Ok(text) => mean_of_split(rt, alloc, count, text),
-        Err(_) => Err(Stop::NoWords),
+    for _ in 0..count {
+        read_dry_run(alloc, dry_run, 1, "/w", &FirstDir)?;
     }
+    mean_since(rt, start, count)
+}
+
+// The bytes of a file.
+fn bytes_of<R: Files>(rt: &R, alloc: Global, file: &str) -> Result<Bytes, Stop> {
+    let Ok(file) = fs::open(rt, file) else {
+        return Err(Stop::Fault(Fault::Read));
+    };
+    Ok(read_input(alloc, file)?.stdout)
 }
 
 /// The mean time of what a call times, in nanoseconds.
@@ -104,6 +109,12 @@ pub fn mean_of<R: Clock + Files + AllocGlobal>(rt: &R, call: &Call<'_>) -> Resul
             Tool::Ptxas => mean_of_line(rt, alloc, count, &Ptxas { version: None }, cwd, words),
             Tool::CudaFe => mean_of_line(rt, alloc, count, &CudaFE { version: None }, cwd, words),
         },
-        Work::Split { file } => mean_of_file(rt, alloc, count, file),
+        Work::Split { file } => match str::from_utf8(bytes_of(rt, alloc, file)?.as_slice()) {
+            Ok(text) => mean_of_split(rt, alloc, count, text),
+            Err(_) => Err(Stop::NoWords),
+        },
+        Work::Read { file } => {
+            mean_of_read(rt, alloc, count, bytes_of(rt, alloc, file)?.as_slice())
+        }
     }
 }
