@@ -14,8 +14,8 @@ use std::alloc::Global;
 
 impl Nvcc {
     /// The one or two commands that preprocess a line's input, as in sccache 0.19.0. The last one prints
-    /// the preprocessed code. If the line has dependency words, the first one writes the dependency file:
-    /// nvcc can't do both in one call. The caller runs them in order, up to the first that fails.
+    /// the preprocessed code. If the line has dependency words, the first one writes the dependency file.
+    /// The caller runs them in order, up to the first that fails.
     ///
     /// The words begin with the preprocessor's and the common ones, `-x`, the language's name and the
     /// input. For the dependency file the dependency words follow, with `-M` for `-MD` and

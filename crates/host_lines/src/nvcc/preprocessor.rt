@@ -19,8 +19,7 @@ use std::alloc::{AllocError, Global};
 
 /// The one or two commands that preprocess the input of an nvcc line, as in sccache 0.19.0. The last
 /// one prints the preprocessed code. If the line has dependency words, the first one writes the
-/// dependency file: nvcc can't do both in one call. The caller runs them in order, up to the first
-/// that fails.
+/// dependency file. The caller runs them in order, up to the first that fails.
 ///
 /// The words begin with the preprocessor's and the common ones, `-x`, the language's name and the
 /// input. For the dependency file the dependency words follow, with `-M` for `-MD` and
