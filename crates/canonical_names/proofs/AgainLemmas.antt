@@ -2,12 +2,12 @@
 use Rattle.std.proofs.Common.{◌≡◌, ℕ, ◌++◌, ◌&&◌, Bool, true, false, cond, eqb, List, [], ◌∷◌, Option, Some, None, map, refl, ap, sym, ◌∙◌, nat_eq, codes}
 use Rattle.std.specs.List.{All, starts_with}
 use Rattle.std.proofs.lemmas.List.Elements.{All-nil, All-contains}
-use Rattle.cuda_below.specs.Path.{folder_of, separator_after}
-use Rattle.cuda_below.proofs.PathLaw.{folder-begins}
+use Rattle.texts.specs.Path.{folder_of, separator_after}
+use Rattle.texts.proofs.PathLaw.{folder-begins}
 use Rattle.dry_runs.specs.CommandLines.{CommandLine, line_of, program_of, words_of_command}
 use Rattle.canonical_names.specs.Generated.{head_of, core_of, class_of, class_of_name, begins_with_dash, is_file_mark}
 use Rattle.canonical_names.specs.Renaming.{canonical_in, canonical_name, rank, names_of_run, renamed}
-use Rattle.cuda_below.specs.Numeral.{numeral}
+use Rattle.texts.specs.Numeral.{numeral}
 use Rattle.canonical_names.specs.Alike.{core_through, word_through, command_through, IsRenaming}
 use Rattle.canonical_names.specs.CanonicalNames.{AreSuffixes, core_by_all, word_by_all, command_by_all, RenamedOnceForAll}
 use Rattle.canonical_names.proofs.CanonicalLemmas.{HasClass, run-all, canonical-at, different-names, folder_and_class-stay}

@@ -7,10 +7,10 @@ use Rattle.std.specs.Str.{bytes_eq}
 use Rattle.std.proofs.lemmas.Bool.{false≢true, and_parts, and_from, or_parts}
 use Rattle.std.proofs.lemmas.List.Folds.{list_any-append}
 use Rattle.std.proofs.lemmas.Slice.Eq.{bytes_eq-Decides}
-use Rattle.cuda_below.specs.DeviceFiles.{is_cicc_word}
-use Rattle.cuda_below.specs.Lists.{word_after}
-use Rattle.cuda_below.specs.Path.{joined, is_bare, is_absolute_path, separator_after}
-use Rattle.cuda_below.proofs.EqualityLemmas.{lists}
+use Rattle.texts.specs.DeviceFiles.{is_cicc_word}
+use Rattle.texts.specs.Lists.{word_after}
+use Rattle.texts.specs.Path.{joined, is_bare, is_absolute_path, separator_after}
+use Rattle.texts.proofs.EqualityLemmas.{lists}
 use Rattle.dry_runs.specs.CommandLines.{CommandLine, words_of_command}
 use Rattle.canonical_names.specs.Alike.{holds, is_clean_word}
 use Rattle.canonical_names.specs.CanonicalNames.{AreSuffixes}

@@ -13,9 +13,9 @@ use Rattle.std.proofs.lemmas.Fmt.{decimal-digits_of, decimal_digit}
 use Rattle.std.proofs.lemmas.List.{map-append, length-append, length-map, get_or_default}
 use Rattle.std.proofs.lemmas.List.Elements.{filter-append}
 use Rattle.std.proofs.lemmas.Slice.Eq.{bytes_eq-Decides}
-use Rattle.cuda_below.specs.Numeral.{numeral}
-use Rattle.cuda_below.specs.Path.{joined, folder_of}
-use Rattle.cuda_below.specs.Variables.{pair_of}
+use Rattle.texts.specs.Numeral.{numeral}
+use Rattle.texts.specs.Path.{joined, folder_of}
+use Rattle.texts.specs.Variables.{pair_of}
 use Rattle.canonical_names.specs.Counted.{old_names, count_of, with_canonical, has_class, IsCounted, IsCount, decimal_file}
 use Rattle.canonical_names.specs.Generated.{class_of_name}
 use Rattle.canonical_names.specs.Renaming.{rank, canonical_file, canonical_in, canonical_or, canonical_name}

@@ -3,7 +3,7 @@ use Rattle.std.proofs.Common.{◌≡◌, ◌≢◌, ℕ, ◌+◌, ◌<◌, ◌&&
 use Rattle.std.specs.List.{find, list_any, slice_get}
 use Rattle.std.specs.Cmp.Lexicographic.{pointwise}
 use Rattle.std.specs.Str.{bytes_eq}
-use Rattle.cuda_below.specs.Lists.{is_some_and}
+use Rattle.texts.specs.Lists.{is_some_and}
 use Rattle.canonical_names.proofs.SuffixLemmas.{drop-got}
 
 module _ {A : Type 0} where

@@ -7,7 +7,7 @@ use Rattle.std.proofs.lemmas.Slice.Eq.{bytes_eq-Decides}
 use Rattle.dry_runs.specs.CommandLines.{CommandLine, words_of_command}
 use Rattle.canonical_names.specs.Generated.{generated_name}
 use Rattle.canonical_names.specs.Renaming.{rank, seen_after_word, seen_after}
-use Rattle.cuda_below.specs.Lists.{with_name}
+use Rattle.texts.specs.Lists.{with_name}
 use Rattle.canonical_names.specs.Shadow.{appearances}
 use Rattle.canonical_names.specs.CanonicalNames.{before_name, RankCountsNames}
 

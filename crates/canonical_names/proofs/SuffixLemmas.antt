@@ -7,7 +7,7 @@ use Rattle.std.proofs.lemmas.Bool.{false≢true, and_parts, or_parts, cases_lt}
 use Rattle.std.proofs.lemmas.List.Elements.{All-contains}
 use Rattle.std.proofs.lemmas.List.Sums.{AllPass-from_list_all}
 use Rattle.std.proofs.lemmas.Slice.Eq.{bytes_eq-Decides}
-use Rattle.cuda_below.specs.Path.{lacks, is_bare}
+use Rattle.texts.specs.Path.{lacks, is_bare}
 use Rattle.canonical_names.specs.SuffixRule.{is_suffix, is_apart, are_apart, are_suffixes, AcceptedAreSuffixes}
 use Rattle.canonical_names.proofs.CanonicalLemmas.{no-member, head-member, tail-member, member-cases, ends-split, shorter-end}
 

@@ -3,7 +3,7 @@ use Rattle.std.proofs.Common.{◌≡◌, ℕ, ◌++◌, List, [], ◌∷◌, tru
 use Rattle.std.proofs.lemmas.Bool.{false≢true}
 use Rattle.std.specs.List.{Contains}
 use Rattle.std.proofs.lemmas.List.Elements.{All-from_recursion, All-contains}
-use Rattle.cuda_below.specs.Path.{folder_of}
+use Rattle.texts.specs.Path.{folder_of}
 use Rattle.dry_runs.specs.CommandLines.{CommandLine}
 use Rattle.canonical_names.specs.Generated.{standard_suffixes, class_of_name}
 use Rattle.canonical_names.specs.Renaming.{names_of_run}

@@ -3,12 +3,12 @@ use Rattle.std.specs.Prelude.{◌≡◌, ℕ, ◌+◌, List, [], ◌∷◌, ◌+
 use Rattle.std.specs.Int.Digits.{digits_of}
 use Rattle.std.specs.List.{list_any, ends_with}
 use Rattle.std.specs.Str.{bytes_eq}
-use Rattle.cuda_below.specs.Path.{joined, folder_of}
+use Rattle.texts.specs.Path.{joined, folder_of}
 use Rattle.dry_runs.specs.CommandLines.{CommandLine, line_of, program_of, words_of_command}
 use Rattle.canonical_names.specs.Generated.{head_of, core_of, class_of, class_of_name, generated_name}
 use Rattle.dry_runs.specs.Replacing.{replaced}
-use Rattle.cuda_below.specs.Lists.{with_name}
-use Rattle.cuda_below.specs.Numeral.{numeral}
+use Rattle.texts.specs.Lists.{with_name}
+use Rattle.texts.specs.Numeral.{numeral}
 
 -- Names are seen in the order of their first appearance, each once.
 

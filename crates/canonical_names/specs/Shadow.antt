@@ -3,11 +3,11 @@ use Rattle.std.specs.Prelude.{ℕ, List, [], ◌∷◌, map, Bool, true, false, 
 use Rattle.std.specs.List.{list_all, filter_map, flat_map}
 use Rattle.std.specs.Cmp.Lexicographic.{pointwise}
 use Rattle.std.specs.Str.{bytes_eq}
-use Rattle.cuda_below.specs.Path.{joined, is_bare, file_name_of}
-use Rattle.cuda_below.specs.DeviceFiles.{is_cicc_word}
+use Rattle.texts.specs.Path.{joined, is_bare, file_name_of}
+use Rattle.texts.specs.DeviceFiles.{is_cicc_word}
 use Rattle.dry_runs.specs.CommandLines.{CommandLine, words_of_command}
 use Rattle.canonical_names.specs.Generated.{begins_with_dash, generated_name}
-use Rattle.cuda_below.specs.Lists.{word_after}
+use Rattle.texts.specs.Lists.{word_after}
 
 -- the generated names of a run, in the order in which they appear, each as often as it does
 abbrev pub appearances : List (List ℕ) → List CommandLine → List (List ℕ)

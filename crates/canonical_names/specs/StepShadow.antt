@@ -3,9 +3,9 @@ use Rattle.std.specs.Prelude.{◌≡◌, ℕ, List, [], ◌∷◌, ◌++◌, map
 use Rattle.std.specs.List.{list_all}
 use Rattle.std.specs.Cmp.Lexicographic.{pointwise}
 use Rattle.std.specs.Str.{bytes_eq}
-use Rattle.cuda_below.specs.DeviceFiles.{is_cicc_word}
-use Rattle.cuda_below.specs.Lists.{word_after}
-use Rattle.cuda_below.specs.Path.{joined, is_bare}
+use Rattle.texts.specs.DeviceFiles.{is_cicc_word}
+use Rattle.texts.specs.Lists.{word_after}
+use Rattle.texts.specs.Path.{joined, is_bare}
 use Rattle.dry_runs.specs.CommandLines.{CommandLine, words_of_command}
 use Rattle.dry_runs.specs.OneKernel.{spaced, one_kernel_commands, one_kernel_in_temporary_commands}
 use Rattle.canonical_names.specs.CanonicalNames.{AreSuffixes}

@@ -4,8 +4,8 @@ use Rattle.std.specs.Char.{is_ascii_alphanumeric}
 use Rattle.std.specs.List.{list_all, list_any, ends_with, slice_get}
 use Rattle.std.specs.Option.{unwrap_or}
 use Rattle.std.specs.Str.{bytes_eq}
-use Rattle.cuda_below.specs.Lists.{is_some_and}
-use Rattle.cuda_below.specs.Path.{is_bare}
+use Rattle.texts.specs.Lists.{is_some_and}
+use Rattle.texts.specs.Path.{is_bare}
 use Rattle.canonical_names.specs.Generated.{standard_suffixes}
 use Rattle.canonical_names.specs.CanonicalNames.{AreSuffixes}
 

@@ -3,7 +3,7 @@
 ghost use Rattle.std.specs.Prelude.{◌≡◌, map, string_bytes};
 ghost use Rattle.std.specs.List.{list_any, list_all, filter_map};
 ghost use Rattle.std.specs.Option.{option_copied};
-ghost use Rattle.cuda_below.specs.Lists.{is_some_and};
+ghost use Rattle.texts.specs.Lists.{is_some_and};
 ghost use Rattle.dry_runs.specs.CommandLines.{line_seen};
 ghost use Rattle.canonical_names.specs.Alike as spec;
 ghost use Rattle.canonical_names.specs.Generated as generated;

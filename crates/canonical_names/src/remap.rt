@@ -6,9 +6,9 @@ ghost use Rattle.canonical_names.specs.Renaming as spec;
 use crate::renames::Renames;
 use crate::suffixes::Suffixes;
 use crate::words::{core, with_head};
-use cuda_below::words::Words;
 use dry_runs::Commands;
 use std::alloc::{AllocError, Global};
+use texts::words::Words;
 
 // One word, renamed. After a refusal the names that were seen may have the word's own.
 fn remap_word(alloc: Global, word: &str, renames: &mut Renames) -> Result<String, AllocError>

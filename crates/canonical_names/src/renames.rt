@@ -3,9 +3,9 @@
 ghost use Rattle.std.specs.Prelude.{◌≡◌, ◌⊎◌, ◌<◌, ◌∷◌, [], ◌++◌, ⊤, map, length, codes, IfOk, OnOk, OnErr, MatchOption, Some, None, if◌then◌else◌, false, true, replicate, ◌^◌, string_bytes};
 ghost use Rattle.std.specs.List.{list_any, slice_get};
 ghost use Rattle.std.specs.Str.{bytes_eq};
-ghost use Rattle.cuda_below.specs.Lists.{with_name};
-ghost use Rattle.cuda_below.specs.Path.{joined, folder_of};
-ghost use Rattle.cuda_below.specs.Variables.{pair_of};
+ghost use Rattle.texts.specs.Lists.{with_name};
+ghost use Rattle.texts.specs.Path.{joined, folder_of};
+ghost use Rattle.texts.specs.Variables.{pair_of};
 ghost use Rattle.canonical_names.specs.Generated as generated;
 ghost use Rattle.canonical_names.specs.Counted.{decimal_file, IsCount};
 ghost use Rattle.canonical_names.specs.References.{reference_seen, longest_pairs_first};
@@ -14,10 +14,10 @@ ghost use Rattle.canonical_names.specs.Renaming as spec;
 use crate::references::{Reference, insert, rewrite};
 use crate::suffixes::Suffixes;
 use crate::words::begins_with_dash;
-use cuda_below::text::{folder, join};
 use indexmap::IndexMap;
 use std::alloc::{AllocError, Global};
 use std::marker::Model;
+use texts::text::{folder, join};
 
 /// The canonical names of the generated names that were seen in a run.
 ///
@@ -34,7 +34,7 @@ pub struct Renames {
 
 impl Model for Renames {
     ghost use Rattle.std.specs.Prelude.{List, ℕ, map};
-    ghost use Rattle.cuda_below.specs.Variables.{pair_of};
+    ghost use Rattle.texts.specs.Variables.{pair_of};
     ghost use Rattle.canonical_names.specs.Counted.{old_names, IsCounted};
 
     ghost Value = { List (List ℕ) × List (List ℕ) };

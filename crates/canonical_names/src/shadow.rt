@@ -5,9 +5,9 @@ ghost use Rattle.std.specs.Cmp.Lexicographic.{pointwise};
 ghost use Rattle.std.specs.List.{list_all, filter_map};
 ghost use Rattle.std.specs.Option.{option_copied};
 ghost use Rattle.std.specs.Str.{bytes_eq};
-ghost use Rattle.cuda_below.specs.DeviceFiles.{is_cicc_word};
-ghost use Rattle.cuda_below.specs.Lists as lists;
-ghost use Rattle.cuda_below.specs.Path.{joined, is_bare as is_bare_name};
+ghost use Rattle.texts.specs.DeviceFiles.{is_cicc_word};
+ghost use Rattle.texts.specs.Lists as lists;
+ghost use Rattle.texts.specs.Path.{joined, is_bare as is_bare_name};
 ghost use Rattle.dry_runs.specs.CommandLines.{line_seen, words_of_command};
 ghost use Rattle.canonical_names.specs.Generated.{generated_name};
 ghost use Rattle.canonical_names.specs.Shadow as spec;
@@ -16,10 +16,10 @@ ghost use Rattle.canonical_names.specs.StepShadow as step;
 
 use crate::suffixes::Suffixes;
 use crate::words::{begins_with_dash, is_bare};
-use cuda_below::device_files::is_cicc_input;
-use cuda_below::text::{file_name, join};
 use dry_runs::DryRun;
 use std::alloc::{AllocError, Global};
+use texts::device_files::is_cicc_input;
+use texts::text::{file_name, join};
 
 // Puts the generated names of a command last.
 fn push_names<'a>(

@@ -5,10 +5,10 @@ ghost use Rattle.std.specs.List.{slice_get, list_any, list_all, ends_with};
 ghost use Rattle.std.specs.Option.{option_copied, option_map};
 ghost use Rattle.std.specs.Str.{bytes_eq};
 ghost use Rattle.std.specs.Char.{is_ascii_alphanumeric};
-ghost use Rattle.cuda_below.specs.Fault.{UnlessMemory};
-ghost use Rattle.cuda_below.specs.Lists.{is_some_and};
-ghost use Rattle.cuda_below.specs.Path.{is_bare as is_bare_name};
-ghost use Rattle.cuda_below.specs.declared.fault.Fault.TheVariants.{BadSuffixes};
+ghost use Rattle.texts.specs.Fault.{UnlessMemory};
+ghost use Rattle.texts.specs.Lists.{is_some_and};
+ghost use Rattle.texts.specs.Path.{is_bare as is_bare_name};
+ghost use Rattle.texts.specs.declared.fault.Fault.TheVariants.{BadSuffixes};
 ghost use Rattle.canonical_names.specs.Alike.{holds as text_holds};
 ghost use Rattle.canonical_names.specs.SuffixRule as spec;
 ghost use Rattle.canonical_names.specs.Generated as generated;
@@ -17,11 +17,11 @@ ghost use Rattle.canonical_names.specs.CanonicalNames.{AreSuffixes};
 
 use crate::references::holds as text_holds;
 use crate::words::{begins_with_dash, core, is_bare};
-use cuda_below::device_files::CICC_INPUT_SUFFIX;
-use cuda_below::fault::Fault;
-use cuda_below::words::Words;
 use std::alloc::{AllocError, Global};
 use std::marker::Model;
+use texts::device_files::CICC_INPUT_SUFFIX;
+use texts::fault::Fault;
+use texts::words::Words;
 
 /// The suffixes by which the names of generated files are told, seen as their list.
 ///

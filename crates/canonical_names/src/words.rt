@@ -3,8 +3,8 @@
 ghost use Rattle.std.specs.Prelude.{◌≡◌, ◌++◌, nat_eq, codes, IfOk, string_bytes};
 ghost use Rattle.std.specs.List.{starts_with};
 ghost use Rattle.std.specs.Option.{option_copied};
-ghost use Rattle.cuda_below.specs.Path.{is_bare as is_bare_name};
-ghost use Rattle.cuda_below.specs.Table.{rest_after};
+ghost use Rattle.texts.specs.Path.{is_bare as is_bare_name};
+ghost use Rattle.texts.specs.Lists.{rest_after};
 ghost use Rattle.canonical_names.specs.Generated as spec;
 
 use std::alloc::{AllocError, Global};

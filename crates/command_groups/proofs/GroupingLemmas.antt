@@ -5,7 +5,7 @@ use Rattle.std.specs.List.{list_any, find, AllByRecursion}
 use Rattle.std.specs.Str.{bytes_eq}
 use Rattle.std.proofs.lemmas.Bool.{false≢true, and_parts, eqb-true, eq-eqb}
 use Rattle.indexmap.specs.IndexMap.{insert_entry}
-use Rattle.cuda_below.specs.Lists.{is_some_and, with_name, last_of}
+use Rattle.texts.specs.Lists.{is_some_and, with_name, last_of}
 use Rattle.command_groups.specs.declared.openings.Opening.{Opening}
 use Rattle.command_groups.specs.declared.grouping.Label.{Label}
 use Rattle.command_groups.specs.declared.grouping.Label.TheVariants.{Front, Device, Final, Ungrouped}

@@ -8,8 +8,8 @@ use Rattle.std.proofs.lemmas.Slice.Eq.{bytes_eq-Decides}
 use denote.Enum.Bare.{sameb, same_true, true_same}
 use Rattle.cuda_below.specs.contracts.command.Cacheable as cacheable
 use Rattle.cuda_below.specs.declared.command.Cacheable.{Cacheable}
-use Rattle.cuda_below.specs.Equality.{TellsEqual}
-use Rattle.cuda_below.proofs.EqualityLemmas.{lists, same_variables, variables}
+use Rattle.texts.specs.Equality.{TellsEqual}
+use Rattle.texts.proofs.EqualityLemmas.{lists, same_variables, variables}
 use Rattle.command_groups.specs.contracts.plan.Reason as reason
 use Rattle.command_groups.specs.declared.plan.Reason.{Reason}
 use Rattle.command_groups.specs.declared.plan.NvccGeneratedSubcommand.{NvccGeneratedSubcommand}

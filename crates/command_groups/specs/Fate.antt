@@ -4,9 +4,9 @@ use Rattle.std.specs.List.{list_any, fold}
 use Rattle.std.specs.Str.{bytes_eq}
 use Rattle.command_groups.specs.declared.plan.Reason.{Reason}
 use Rattle.command_groups.specs.declared.plan.Reason.TheVariants.{NotCuda, NoCiccGroup, NoPtxasGroup, Superseded}
-use Rattle.cuda_below.specs.Lists.{last_of}
-use Rattle.cuda_below.specs.Lists.{with_name}
-use Rattle.cuda_below.specs.Lists.{is_some_and}
+use Rattle.texts.specs.Lists.{last_of}
+use Rattle.texts.specs.Lists.{with_name}
+use Rattle.texts.specs.Lists.{is_some_and}
 use Rattle.command_groups.specs.Stage.{Stage, linking, splitting, device_compiling, assembling, preprocessing, host_compiling, foreign, StagedCommand, opens}
 
 -- where a command goes: the front group, the device group of a name, the final group, or none for a reason

@@ -2,7 +2,7 @@
 use Rattle.std.specs.Prelude.{ℕ, List, [], ◌∷◌, ◌++◌, length, fold, Option, Some, None}
 use Rattle.std.specs.Str.{bytes_eq}
 use Rattle.indexmap.specs.IndexMap.{insert_entry}
-use Rattle.cuda_below.specs.Lists.{last_of}
+use Rattle.texts.specs.Lists.{last_of}
 use Rattle.command_groups.specs.declared.openings.Opening.{Opening}
 use Rattle.command_groups.specs.declared.grouping.Label.{Label}
 use Rattle.command_groups.specs.declared.grouping.Label.TheVariants.{Front, Device, Final, Ungrouped}

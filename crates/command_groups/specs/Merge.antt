@@ -2,9 +2,9 @@
 use Rattle.std.specs.Prelude.{ℕ, List, [], ◌∷◌, ◌++◌, Bool, false, not, ◌&&◌, ◌||◌, ◌==◌, nat_lt, nat_le, if◌then◌else◌, Option, Some, None, map, filter, codes}
 use Rattle.std.specs.List.{list_any, fold}
 use Rattle.std.specs.Str.{bytes_eq}
-use Rattle.cuda_below.specs.Path.{file_stem_of}
+use Rattle.texts.specs.Path.{file_stem_of}
 use Rattle.dry_runs.specs.CommandLines.{CommandLine, line_of, program_of, words_of_command}
-use Rattle.cuda_below.specs.Lists.{is_some_and}
+use Rattle.texts.specs.Lists.{is_some_and}
 
 -- the stems of nvcc's own tools
 abbrev pub nvcc_stems : List (List ℕ)

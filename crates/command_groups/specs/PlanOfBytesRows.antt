@@ -1,7 +1,7 @@
 -- Plans of dry runs worked out by hand, from their bytes on.
 use Rattle.std.proofs.Common.{◌≡◌, ℕ, List, [], ◌∷◌, ◌++◌, Option, Some, None, Result, Ok, Err, codes, refl}
-use Rattle.cuda_below.specs.declared.fault.Fault.{Fault}
-use Rattle.cuda_below.specs.declared.fault.Fault.TheVariants.{NoPath, BadShell}
+use Rattle.texts.specs.declared.fault.Fault.{Fault}
+use Rattle.texts.specs.declared.fault.Fault.TheVariants.{NoPath, BadShell}
 use Rattle.cuda_below.specs.declared.compiler.NvccHostCompiler.TheVariants.{Gcc}
 use Rattle.cuda_below.specs.declared.command.Cacheable.TheVariants.{Yes, No}
 use Rattle.command_groups.specs.declared.plan.Plan.{Plan}

@@ -5,13 +5,13 @@ use Rattle.std.specs.Option.{option_and_then}
 use Rattle.std.specs.Str.{bytes_eq}
 use Rattle.cuda_below.specs.declared.command.Cacheable.{Cacheable}
 use Rattle.cuda_below.specs.declared.command.Cacheable.TheVariants.{Yes, No}
-use Rattle.cuda_below.specs.Path.{file_name_of, file_stem_of}
+use Rattle.texts.specs.Path.{file_name_of, file_stem_of}
 use Rattle.cuda_below.specs.declared.compiler.NvccHostCompiler.{NvccHostCompiler}
 use Rattle.cuda_below.specs.declared.compiler.NvccHostCompiler.TheVariants.{Gcc, Msvc, Nvhpc}
-use Rattle.cuda_below.specs.DeviceFiles.{is_cicc_word, is_ptxas_word}
+use Rattle.texts.specs.DeviceFiles.{is_cicc_word, is_ptxas_word}
 use Rattle.command_groups.specs.Merge.{MergedCommand}
-use Rattle.cuda_below.specs.Lists.{word_after}
-use Rattle.cuda_below.specs.ObjectFlags.{makes_objects}
+use Rattle.texts.specs.Lists.{word_after}
+use Rattle.texts.specs.ObjectFlags.{makes_objects}
 
 -- the kinds of programs: nvcc's linkers, cudafe++, cicc, ptxas, and any other program
 pub data ProgramKind : Type 0 where

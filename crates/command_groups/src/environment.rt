@@ -1,11 +1,11 @@
 //! The environment that the commands of a plan run in.
 
 ghost use Rattle.std.specs.Prelude.{◌≡◌, map, IfOk, string_bytes};
-ghost use Rattle.cuda_below.specs.Variables.{pair_of};
+ghost use Rattle.texts.specs.Variables.{pair_of};
 ghost use Rattle.dry_runs.specs.Environment as spec;
 
-use cuda_below::variables::Variables;
 use std::alloc::{AllocError, Global};
+use texts::variables::Variables;
 
 // An environment in which a variable is set: where its name is known, the first pair of that name has the new value; else
 // the pair comes last.

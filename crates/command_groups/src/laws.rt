@@ -1,6 +1,6 @@
 //! Laws of plans, and plans worked out by hand, which the definitions compute.
 
-ghost use Rattle.cuda_below.specs.Equality.{TellsEqual};
+ghost use Rattle.texts.specs.Equality.{TellsEqual};
 ghost use Rattle.command_groups.specs.FateLaws.{EachHasOneFate, DeviceGroupsBeginWithTheirStep, OuterGroupsAreThere};
 ghost use Rattle.command_groups.specs.MergeLaws.{MergedIsInOrder, MergedAreTheSelected};
 ghost use Rattle.command_groups.specs.PlanOfBytesRows.{OneKernelFromBytes, OtherNamesFromBytes, TemporaryNamesFromBytes, KeptNamesFromBytes, NothingFromBytes, HostCodeFromBytes, SecondRunIsBad, FirstRunIsBad, SecondPtxasFromBytes, SupersededCiccFromBytes, StepWithoutCiccFromBytes, OutputWithASlashFromBytes, NamelessFromBytes};

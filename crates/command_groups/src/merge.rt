@@ -7,11 +7,11 @@ ghost use Rattle.command_groups.specs.Merge as spec;
 ghost use Rattle.command_groups.specs.MergeLaws.{Rises, RisesInOrder};
 ghost use Rattle.command_groups.specs.MergedView.{command_seen, takes_stem};
 
-use cuda_below::text::file_stem;
 use dry_runs::Commands;
 use itertools::Itertools;
 use std::alloc::{AllocError, Global};
 use std::vec::IntoIter;
+use texts::text::file_stem;
 
 /// A command of a dry run that is planned. Commands are compared by line and run first.
 #[derive(Debug, PartialEq, Eq, PartialOrd, Ord, Drop)]

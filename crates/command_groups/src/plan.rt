@@ -3,11 +3,11 @@
 ghost use Rattle.std.specs.Prelude.{◌≡◌, map, vec_items, IfOk};
 
 use cuda_below::command::Cacheable;
-use cuda_below::text::Text;
-use cuda_below::variables::Variables;
-use cuda_below::words::Words;
 use std::alloc::{AllocError, Global};
 use std::marker::Model;
+use texts::text::Text;
+use texts::variables::Variables;
+use texts::words::Words;
 
 /// A command that nvcc generated, as a plan runs it.
 #[derive(Debug, PartialEq, Drop)]

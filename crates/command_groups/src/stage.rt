@@ -3,18 +3,18 @@
 ghost use Rattle.std.specs.Prelude.{◌≡◌, ℕ, List, nat_eq, map, IfOk, string_bytes};
 ghost use Rattle.std.specs.List.{starts_with};
 ghost use Rattle.std.specs.Option.{option_copied};
-ghost use Rattle.cuda_below.specs.Lists.{last_of, word_after as word_right_after};
+ghost use Rattle.texts.specs.Lists.{last_of, word_after as word_right_after};
 ghost use Rattle.command_groups.specs.MergedView.{command_seen};
 ghost use Rattle.command_groups.specs.Stage as spec;
 ghost use Rattle.command_groups.specs.StageView.{kind_seen, named_stage};
 
 use crate::merge::SelectedCommand;
 use cuda_below::command::Cacheable;
-use cuda_below::compilation_flags::asks_object;
 use cuda_below::compiler::NvccHostCompiler;
-use cuda_below::device_files::{is_cicc_input, is_ptxas_input};
-use cuda_below::text::{file_name, file_stem};
 use std::alloc::{AllocError, Global};
+use texts::compilation_flags::asks_object;
+use texts::device_files::{is_cicc_input, is_ptxas_input};
+use texts::text::{file_name, file_stem};
 
 /// The kinds of programs.
 #[derive(Clone, Copy, Debug, PartialEq)]

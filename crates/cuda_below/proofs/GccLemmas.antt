@@ -4,14 +4,14 @@ use Rattle.std.specs.List.{list_any}
 use Rattle.std.specs.Option.{option_or}
 use Rattle.cuda_below.specs.declared.gcc.options.ArgData.{ArgData}
 use Rattle.cuda_below.specs.declared.gcc.options.ArgData.TheVariants.{TooHard, TooHardFlag, PassThrough, PassThroughFlag, PreprocessorArgument, PreprocessorArgumentFlag, PreprocessorArgumentPath, DepArgumentPath, DepTarget, NeedDepTarget, DoCompilation, Output, Language, Arch, Standard, ExtraHashFile, Unhashed, UnhashedFlag}
-use Rattle.cuda_below.specs.declared.table.ArgDisposition.{ArgDisposition}
-use Rattle.cuda_below.specs.Path.{joined}
-use Rattle.cuda_below.specs.Table.{Entry}
-use Rattle.cuda_below.specs.Items.{Item, raw, unknown_flag, flag, with_value, faulty, Said, item, option, said_of, last_item, separate_item, joined_form, may_stand_last, Completes, normal_form, value_words}
+use Rattle.option_items.specs.declared.table.ArgDisposition.{ArgDisposition}
+use Rattle.texts.specs.Path.{joined}
+use Rattle.option_items.specs.Table.{Entry}
+use Rattle.option_items.specs.Items.{Item, raw, unknown_flag, flag, with_value, faulty, Said, item, option, said_of, last_item, separate_item, joined_form, may_stand_last, Completes, normal_form, value_words}
 use Rattle.cuda_below.specs.GccItems.{Asked, is_double_dash, items_to_dashes, has_double_dash, first_refusal, refusal_of, words_to, to_inputs, to_common, to_preprocessor, to_unhashed, to_architectures, to_dependencies, hash_files, language_said, flag_said, output_said, dependency_file_said, target_said, needs_target_item, written_form}
 use Rattle.cuda_below.specs.GccSteps.{with_option, with_item}
 use Rattle.cuda_below.specs.Gcc.{unless_refused}
-use Rattle.cuda_below.proofs.ItemLemmas.{items-completed}
+use Rattle.option_items.proofs.ItemLemmas.{items-completed}
 
 -- the last thing said, after another
 abbrev said_after : {A B : Type 0} → (A → Option B) → Option B → List A → Option B

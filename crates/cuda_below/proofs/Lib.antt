@@ -1,10 +1,3 @@
-pub mod EqualityLemmas
-pub mod ExtensionLemmas
 pub mod GccLemmas
-pub mod ItemLemmas
-pub mod ListLemmas
-pub mod PathLaw
-pub mod PathLemmas
+pub mod RecordLemmas
 pub mod Sorted
-pub mod TableLemmas
-pub mod WordsLemmas

@@ -1,13 +1,13 @@
 -- The arguments of a line that says nothing but its input, the file that a command is run for, and answers.
 use Rattle.std.specs.Prelude.{ℕ, List, [], false, Option, Some, None, Result, Ok, Err, codes}
-use Rattle.cuda_below.specs.declared.language.Language.{Language}
+use Rattle.texts.specs.declared.language.Language.{Language}
 use Rattle.cuda_below.specs.declared.arguments.ParsedArguments.{ParsedArguments}
 use Rattle.cuda_below.specs.declared.arguments.ColorMode.TheVariants.{Off}
 use Rattle.cuda_below.specs.declared.arguments.CompilerArguments.{CompilerArguments}
 use Rattle.cuda_below.specs.declared.arguments.CompilerArguments.TheVariants as answer
 use Rattle.cuda_below.specs.declared.outputs.ArtifactDescriptor.{ArtifactDescriptor}
-use Rattle.cuda_below.specs.declared.fault.Fault.{Fault}
-use Rattle.cuda_below.specs.declared.fault.Fault.TheVariants.{MissingOutput}
+use Rattle.texts.specs.declared.fault.Fault.{Fault}
+use Rattle.texts.specs.declared.fault.Fault.TheVariants.{MissingOutput}
 use Rattle.cuda_below.specs.Outputs.{entry_at}
 
 -- the arguments of a line with this input, language and outputs, without any word

@@ -5,7 +5,7 @@ use Rattle.cuda_below.specs.declared.outputs.ArtifactDescriptor.{ArtifactDescrip
 use Rattle.cuda_below.specs.declared.command.SingleCompileCommand.{SingleCompileCommand}
 use Rattle.cuda_below.specs.declared.command.Cacheable.{Cacheable}
 use Rattle.cuda_below.specs.declared.command.Cacheable.TheVariants.{Yes}
-use Rattle.cuda_below.specs.declared.fault.Fault.{Fault}
+use Rattle.texts.specs.declared.fault.Fault.{Fault}
 use Rattle.cuda_below.specs.Arguments.{obj_or_missing, obj_of}
 
 -- a command with these words that takes no part in a jobserver

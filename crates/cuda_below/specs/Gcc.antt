@@ -1,8 +1,8 @@
 -- What the gcc reader answers: this project's profile of gcc's options.
 use Rattle.std.specs.Prelude.{ℕ, List, [], ◌∷◌, ◌++◌, Bool, true, false, ◌&&◌, ◌||◌, if◌then◌else◌, Option, Some, None, is_some, is_none, unwrap_or, Result, Ok, Err, codes}
 use Rattle.std.specs.Option.{option_map, option_or}
-use Rattle.cuda_below.specs.declared.language.Language.{Language}
-use Rattle.cuda_below.specs.declared.language.Language.TheVariants.{C, Cxx, Cuda}
+use Rattle.texts.specs.declared.language.Language.{Language}
+use Rattle.texts.specs.declared.language.Language.TheVariants.{C, Cxx, Cuda}
 use Rattle.cuda_below.specs.declared.compiler.CCompilerKind.{CCompilerKind}
 use Rattle.cuda_below.specs.declared.compiler.CCompilerKind.TheVariants.{Nvcc}
 use Rattle.cuda_below.specs.declared.outputs.ArtifactDescriptor.{ArtifactDescriptor}
@@ -10,10 +10,10 @@ use Rattle.cuda_below.specs.declared.arguments.ColorMode.TheVariants.{Auto}
 use Rattle.cuda_below.specs.declared.arguments.ParsedArguments.{ParsedArguments}
 use Rattle.cuda_below.specs.declared.gcc.options.ArgData.{ArgData}
 use Rattle.cuda_below.specs.Compiler.{Reading, accepted, cannot_cache, not_compilation}
-use Rattle.cuda_below.specs.Extension.{with_extension}
-use Rattle.cuda_below.specs.Language.{language_of_file}
+use Rattle.texts.specs.Extension.{with_extension}
+use Rattle.texts.specs.Language.{language_of_file}
 use Rattle.cuda_below.specs.Outputs.{with_entry}
-use Rattle.cuda_below.specs.Table.{Entry}
+use Rattle.option_items.specs.Table.{Entry}
 use Rattle.cuda_below.specs.GccItems.{Asked, items_to_dashes, has_double_dash, first_refusal, asked_of}
 
 -- a file's language for a compiler that takes C for C++, or doesn't

@@ -4,15 +4,15 @@ use Rattle.std.specs.List.{flat_map, list_any}
 use Rattle.std.specs.Option.{option_and_then, option_or}
 use Rattle.std.specs.Map.{lookup}
 use Rattle.std.specs.Str.{bytes_eq}
-use Rattle.cuda_below.specs.declared.language.Language.{Language}
-use Rattle.cuda_below.specs.declared.language.Language.TheVariants.{C, Cxx, ObjectiveC, ObjectiveCxx, Cuda, CudaFE, Ptx, Cubin}
-use Rattle.cuda_below.specs.declared.items.NormalizedDisposition.{NormalizedDisposition}
-use Rattle.cuda_below.specs.declared.items.NormalizedDisposition.TheVariants as normal
+use Rattle.texts.specs.declared.language.Language.{Language}
+use Rattle.texts.specs.declared.language.Language.TheVariants.{C, Cxx, ObjectiveC, ObjectiveCxx, Cuda, CudaFE, Ptx, Cubin}
+use Rattle.option_items.specs.declared.items.NormalizedDisposition.{NormalizedDisposition}
+use Rattle.option_items.specs.declared.items.NormalizedDisposition.TheVariants as normal
 use Rattle.cuda_below.specs.declared.gcc.options.ArgData.{ArgData}
 use Rattle.cuda_below.specs.declared.gcc.options.ArgData.TheVariants.{TooHard, TooHardFlag, PassThrough, PassThroughFlag, PreprocessorArgument, PreprocessorArgumentFlag, PreprocessorArgumentPath, DepArgumentPath, DepTarget, NeedDepTarget, DoCompilation, Output, Language as LanguageOption, Arch, Standard, ExtraHashFile, Unhashed, UnhashedFlag}
-use Rattle.cuda_below.specs.Path.{joined}
-use Rattle.cuda_below.specs.Table.{Entry}
-use Rattle.cuda_below.specs.Items.{Item, raw, unknown_flag, flag, with_value, faulty, item, option, said_of, last_item, separate_item, items, normalized, words_of, text_of}
+use Rattle.texts.specs.Path.{joined}
+use Rattle.option_items.specs.Table.{Entry}
+use Rattle.option_items.specs.Items.{Item, raw, unknown_flag, flag, with_value, faulty, item, option, said_of, last_item, separate_item, items, normalized, words_of, text_of}
 
 module _ {T : Type 0} where
   -- whether an item is the unknown flag `--`

@@ -2,12 +2,12 @@
 use Rattle.std.specs.Prelude.{◌≡◌, ℕ, List, [], ◌∷◌, ◌++◌, Bool, true, not, ◌&&◌, map, Some, None, refl}
 use Rattle.std.specs.List.{list_any}
 use Rattle.std.specs.Str.{bytes_eq}
-use Rattle.cuda_below.specs.declared.table.ArgDisposition.{ArgDisposition}
-use Rattle.cuda_below.specs.declared.table.ArgDisposition.TheVariants.{Separated, Concatenated, CanBeSeparated}
+use Rattle.option_items.specs.declared.table.ArgDisposition.{ArgDisposition}
+use Rattle.option_items.specs.declared.table.ArgDisposition.TheVariants.{Separated, Concatenated, CanBeSeparated}
 use Rattle.cuda_below.specs.declared.gcc.options.ArgData.{ArgData}
 use Rattle.cuda_below.specs.declared.gcc.options.ArgData.TheVariants.{TooHard, TooHardFlag, PassThrough, PreprocessorArgument, PreprocessorArgumentFlag, PreprocessorArgumentPath, DepArgumentPath, DepTarget, NeedDepTarget, DoCompilation, Output, Language, Arch, Standard}
-use Rattle.cuda_below.specs.Rows.{spaced}
-use Rattle.cuda_below.specs.Table.{Entry}
+use Rattle.texts.specs.Rows.{spaced}
+use Rattle.option_items.specs.Table.{Entry}
 
 -- the entries of one kind for texts that are flags, and for texts that take a value in one form
 abbrev pub flags : ArgData → List (List ℕ) → List (Entry ArgData)

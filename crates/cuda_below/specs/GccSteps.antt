@@ -4,8 +4,8 @@ use Rattle.std.specs.Option.{option_or}
 use Rattle.cuda_below.specs.declared.gcc.options.ArgData.{ArgData}
 use Rattle.cuda_below.specs.declared.gcc.options.ArgData.TheVariants.{DepArgumentPath, DepTarget, NeedDepTarget, DoCompilation, Output, Language, ExtraHashFile}
 use Rattle.cuda_below.specs.declared.gcc.gathered.Gathered.{Gathered}
-use Rattle.cuda_below.specs.Path.{joined}
-use Rattle.cuda_below.specs.Items.{Item, raw, unknown_flag, flag, with_value, faulty, normal_form, value_words}
+use Rattle.texts.specs.Path.{joined}
+use Rattle.option_items.specs.Items.{Item, raw, unknown_flag, flag, with_value, faulty, normal_form, value_words}
 use Rattle.cuda_below.specs.GccItems.{Asked, Destination, inputs, common, preprocessor, unhashed, architectures, dependencies, nowhere, destination_of_kind, language_named, written_form}
 
 -- what the items ask for, as the code has it

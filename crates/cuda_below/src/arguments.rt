@@ -3,12 +3,12 @@
 ghost use Rattle.std.specs.Prelude.{◌≡◌, IfOk, MatchResult, Ok, Err};
 ghost use Rattle.cuda_below.specs.Arguments as spec;
 
-use crate::fault::Fault;
-use crate::language::Language;
 use crate::outputs::{ArtifactDescriptor, OBJ, Outputs};
-use crate::text::Text;
-use crate::words::Words;
 use std::alloc::{AllocError, Global};
+use texts::fault::Fault;
+use texts::language::Language;
+use texts::text::Text;
+use texts::words::Words;
 
 /// Whether a compiler colours its messages.
 #[derive(Clone, Copy, Debug, PartialEq)]

@@ -1,13 +1,13 @@
 //! The commands that a plan or a compiler is made of.
 
 ghost use Rattle.std.specs.Prelude.{◌≡◌, IfOk, map, string_bytes};
-ghost use Rattle.cuda_below.specs.Variables.{pair_of};
+ghost use Rattle.texts.specs.Variables.{pair_of};
 ghost use Rattle.cuda_below.specs.Command.{single_command};
 
-use crate::text::Text;
-use crate::variables::Variables;
-use crate::words::Words;
 use std::alloc::{AllocError, Global};
+use texts::text::Text;
+use texts::variables::Variables;
+use texts::words::Words;
 
 /// Whether a command's outputs may come from a cache.
 #[derive(Clone, Copy, Debug, PartialEq)]

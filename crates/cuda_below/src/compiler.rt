@@ -2,15 +2,15 @@
 
 ghost use Rattle.std.specs.Prelude.{◌≡◌, IfOk, map, string_bytes};
 ghost use Rattle.std.specs.Option.{option_map};
-ghost use Rattle.cuda_below.specs.Variables.{pair_of};
-ghost use Rattle.cuda_below.specs.Fault.{UnlessMemory};
+ghost use Rattle.texts.specs.Variables.{pair_of};
+ghost use Rattle.texts.specs.Fault.{UnlessMemory};
 ghost use Rattle.cuda_below.specs.Compiler.{reading_of};
 
 use crate::arguments::{CompilerArguments, ParsedArguments};
 use crate::command::{Cacheable, CompileCommandImpl};
-use crate::fault::Fault;
-use crate::text::Text;
 use std::alloc::{AllocError, Global};
+use texts::fault::Fault;
+use texts::text::Text;
 
 /// The tools whose command lines are read. Readers tell by it which tool's line they read.
 #[derive(Clone, Copy, Debug, PartialEq)]
@@ -46,7 +46,7 @@ pub trait CCompilerImpl {
     ghost use Rattle.cuda_below.specs.declared.compiler.Places.{Places};
     ghost use Rattle.cuda_below.specs.declared.arguments.ParsedArguments.{ParsedArguments};
     ghost use Rattle.cuda_below.specs.declared.command.Cacheable.{Cacheable};
-    ghost use Rattle.cuda_below.specs.declared.fault.Fault.{Fault};
+    ghost use Rattle.texts.specs.declared.fault.Fault.{Fault};
     ghost use Rattle.cuda_below.specs.Compiler.{Reading};
 
     /// What the compiler's command is.

@@ -3,7 +3,7 @@
 
 ghost use Rattle.std.specs.Prelude.{◌≡◌, map, IfOk, MatchResult, string_bytes};
 ghost use Rattle.std.specs.Option.{option_copied};
-ghost use Rattle.cuda_below.specs.Items.{item_of};
+ghost use Rattle.option_items.specs.Items.{item_of};
 ghost use Rattle.cuda_below.specs.Compiler.{reading_of};
 ghost use Rattle.cuda_below.specs.GccItems.{refusal_of_option, refusal_of, is_double_dash};
 ghost use Rattle.cuda_below.specs.GccSteps.{asked_by};
@@ -18,12 +18,12 @@ mod options;
 
 use crate::arguments::{CompilerArguments, ParsedArguments};
 use crate::compiler::CCompilerKind;
-use crate::items::{Argument, Line, read_item};
-use crate::table::SearchableArgInfo;
 use gathered::Gathered;
 use languages::language_from_gcc_arg;
 pub use languages::{language_to_gcc_arg, push_language};
 pub use line::generate_compile_commands;
+use option_items::items::{Argument, Line, read_item};
+use option_items::table::SearchableArgInfo;
 pub use options::{ARGS, ArgData, table};
 use std::alloc::{AllocError, Global};
 

@@ -1,23 +1,23 @@
 //! Laws of the records.
 
-ghost use Rattle.cuda_below.specs.Equality.{TellsEqual, TellsEqualBy};
+ghost use Rattle.texts.specs.Equality.{TellsEqual, TellsEqualBy};
 ghost use Rattle.cuda_below.specs.Arguments.{answer_seen};
-ghost use Rattle.cuda_below.specs.Items.{item_of};
+ghost use Rattle.option_items.specs.Items.{item_of};
 
 use crate::arguments::{ColorMode, CompilerArguments, ParsedArguments};
-use crate::bytes::Bytes;
 use crate::command::{Cacheable, SingleCompileCommand};
 use crate::compiler::{CCompilerKind, NvccHostCompiler, Places};
-use crate::fault::Fault;
 use crate::gcc::ArgData;
-use crate::items::{ArgParseError, Argument, NormalizedDisposition};
-use crate::language::Language;
 use crate::outputs::{ArtifactDescriptor, Outputs};
-use crate::status::{CompileFinished, ExitStatus, Output};
-use crate::table::ArgDisposition;
-use crate::text::Text;
-use crate::variables::Variables;
-use crate::words::Words;
+use option_items::items::{ArgParseError, Argument, NormalizedDisposition};
+use option_items::table::ArgDisposition;
+use texts::bytes::Bytes;
+use texts::fault::Fault;
+use texts::language::Language;
+use texts::status::{CompileFinished, ExitStatus, Output};
+use texts::text::Text;
+use texts::variables::Variables;
+use texts::words::Words;
 
 /// `==` compares all fields: it says whether two values are equal.
 pub fn equality()

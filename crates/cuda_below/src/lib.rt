@@ -1,21 +1,17 @@
-//! The layer below the planner: texts, option tables, items, records and faults.
+//! The layer below the planner: the records of a line and a command, the trait of compilers, and the gcc profile.
+//!
+//! The layers below it are handed on.
 #![tactic(auto)]
 
 pub mod arguments;
-pub mod bytes;
 pub mod command;
-pub mod compilation_flags;
 pub mod compiler;
-pub mod device_files;
-pub mod extension;
-pub mod fault;
 pub mod gcc;
-pub mod items;
-pub mod language;
 pub mod laws;
 pub mod outputs;
-pub mod status;
-pub mod table;
-pub mod text;
-pub mod variables;
-pub mod words;
+
+pub use option_items::{items, table};
+pub use texts::{
+    bytes, compilation_flags, device_files, extension, fault, language, status, text, variables,
+    words,
+};

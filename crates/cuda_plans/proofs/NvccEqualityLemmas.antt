@@ -6,7 +6,7 @@ use Rattle.std.specs.Cmp.Lexicographic.{pointwise}
 use Rattle.std.proofs.lemmas.Bool.Decides.{Decides-and, Decides-like, Decides-eqb}
 use Rattle.std.proofs.lemmas.Slice.Eq.{bytes_eq-Decides}
 use denote.Enum.Bare.{sameb, same_true, true_same}
-use Rattle.cuda_below.proofs.EqualityLemmas.{lists, options, same_variables, variables}
+use Rattle.texts.proofs.EqualityLemmas.{lists, options, same_variables, variables}
 use Rattle.cuda_below.specs.contracts.compiler.NvccHostCompiler as host
 use Rattle.cuda_below.specs.declared.compiler.NvccHostCompiler.{NvccHostCompiler}
 use Rattle.cuda_plans.specs.declared.nvcc.Nvcc.{Nvcc}

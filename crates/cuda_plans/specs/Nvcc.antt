@@ -9,7 +9,7 @@ use Rattle.cuda_below.specs.declared.gcc.options.ArgData.{ArgData}
 use Rattle.cuda_below.specs.Compiler.{Reading, accepted, cannot_cache, not_compilation}
 use Rattle.cuda_below.specs.Gcc.{profile_reading}
 use Rattle.cuda_below.specs.GccOptions.{gcc_entries}
-use Rattle.cuda_below.specs.Table.{Entry, longest_match, longer_choice}
+use Rattle.option_items.specs.Table.{Entry, longest_match, longer_choice}
 use Rattle.cuda_plans.specs.declared.nvcc.Nvcc.{Nvcc}
 use Rattle.host_lines.specs.NvccOptions.{nvcc_options}
 use Rattle.shell_words.specs.Shell.Splitting.{split_chars}

@@ -6,16 +6,16 @@ use Rattle.cuda_below.specs.declared.command.SingleCompileCommand.{SingleCompile
 use Rattle.cuda_below.specs.declared.command.Cacheable.{Cacheable}
 use Rattle.cuda_below.specs.declared.command.Cacheable.TheVariants.{No}
 use Rattle.cuda_below.specs.declared.compiler.Places.{Places}
-use Rattle.cuda_below.specs.declared.fault.Fault.{Fault}
-use Rattle.cuda_below.specs.declared.fault.Fault.TheVariants.{NoFileName}
+use Rattle.texts.specs.declared.fault.Fault.{Fault}
+use Rattle.texts.specs.declared.fault.Fault.TheVariants.{NoFileName}
 use Rattle.cuda_below.specs.Arguments.{obj_of}
 use Rattle.cuda_below.specs.GccLine.{language_words}
-use Rattle.cuda_below.specs.Path.{is_absolute_path, joined, file_name_of}
+use Rattle.texts.specs.Path.{is_absolute_path, joined, file_name_of}
 use Rattle.cuda_below.specs.declared.compiler.NvccHostCompiler.{NvccHostCompiler}
 use Rattle.cuda_plans.specs.declared.nvcc.command.NvccCompileCommand.{NvccCompileCommand}
 use Rattle.host_lines.specs.KeepThreads.{keep_of, threads_of}
 use Rattle.host_lines.specs.NvccEnvironment.{without_flags}
-use Rattle.cuda_below.specs.ObjectFlags.{makes_objects}
+use Rattle.texts.specs.ObjectFlags.{makes_objects}
 
 -- the output's path as it is written: as given under a flag that asks for an object file, else joined to the working
 -- directory

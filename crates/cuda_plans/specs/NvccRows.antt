@@ -5,14 +5,14 @@ use Rattle.std.specs.Char.{encode_utf8}
 use Rattle.cuda_below.specs.declared.arguments.ParsedArguments.{ParsedArguments}
 use Rattle.cuda_below.specs.declared.command.Cacheable.{Cacheable}
 use Rattle.cuda_below.specs.declared.compiler.Places.{Places}
-use Rattle.cuda_below.specs.declared.fault.Fault.{Fault}
-use Rattle.cuda_below.specs.declared.fault.Fault.TheVariants.{MissingOutput, NoFileName, KeepDirValue, ThreadsValue}
-use Rattle.cuda_below.specs.declared.language.Language.TheVariants.{C, Cuda}
+use Rattle.texts.specs.declared.fault.Fault.{Fault}
+use Rattle.texts.specs.declared.fault.Fault.TheVariants.{MissingOutput, NoFileName, KeepDirValue, ThreadsValue}
+use Rattle.texts.specs.declared.language.Language.TheVariants.{C, Cuda}
 use Rattle.cuda_below.specs.Compiler.{Reading, accepted, cannot_cache, not_compilation}
 use Rattle.cuda_below.specs.GccRows.{compiled}
 use Rattle.cuda_plans.specs.declared.nvcc.Nvcc.{Nvcc}
 use Rattle.cuda_below.specs.declared.compiler.NvccHostCompiler.TheVariants.{Gcc}
-use Rattle.cuda_below.specs.Rows.{spaced}
+use Rattle.texts.specs.Rows.{spaced}
 use Rattle.cuda_plans.specs.declared.nvcc.command.NvccCompileCommand.{NvccCompileCommand}
 use Rattle.cuda_plans.specs.Nvcc.{nvcc_reading, nvcc_version}
 use Rattle.host_lines.specs.NvccEnvironment.{prepended_name, appended_name}

@@ -1,17 +1,17 @@
 -- The outputs of answers to commands, and outputs joined.
 use Rattle.std.specs.Prelude.{◌≡◌, ℕ, suc, List, [], ◌∷◌, ◌++◌, if◌then◌else◌, Option, Some, None, ℤ, pos, negsuc, unwrap_or, codes, refl}
 use Rattle.std.specs.List.{fold}
-use Rattle.cuda_below.specs.declared.fault.Fault.{Fault}
-use Rattle.cuda_below.specs.declared.fault.Fault.TheVariants.{Process, Runner}
-use Rattle.cuda_below.specs.declared.status.Output.{Output}
-use Rattle.cuda_below.specs.declared.status.CompileFinished.{CompileFinished}
-use Rattle.cuda_below.specs.Endings.{status_of_signal, is_success, code_of_status, signal_of_status}
-use Rattle.cuda_below.specs.Fault.{message_of}
-use Rattle.cuda_below.specs.Path.{file_stem_of}
-use Rattle.cuda_below.specs.Status.{status_of_code}
+use Rattle.texts.specs.declared.fault.Fault.{Fault}
+use Rattle.texts.specs.declared.fault.Fault.TheVariants.{Process, Runner}
+use Rattle.texts.specs.declared.status.Output.{Output}
+use Rattle.texts.specs.declared.status.CompileFinished.{CompileFinished}
+use Rattle.texts.specs.Endings.{status_of_signal, is_success, code_of_status, signal_of_status}
+use Rattle.texts.specs.Fault.{message_of}
+use Rattle.texts.specs.Path.{file_stem_of}
+use Rattle.texts.specs.Status.{status_of_code}
 use Rattle.cuda_plans.specs.declared.runner.Answer.{Answer}
 use Rattle.cuda_plans.specs.declared.runner.Answer.TheVariants.{Ran, Finished, Failed}
-use Rattle.cuda_below.specs.Numeral.{numeral}
+use Rattle.texts.specs.Numeral.{numeral}
 
 abbrev pub output_with : ℤ → List ℕ → List ℕ → Output
 output_with status stdout stderr = record { status = status; stdout = stdout; stderr = stderr }

@@ -1,10 +1,10 @@
 -- In which order a plan's commands run, which of them run at all once one fails, and what comes of it.
 use Rattle.std.specs.Prelude.{◌≡◌, ℕ, ◌+◌, ◌-◌, ◌/◌, min, max, List, [], ◌∷◌, ◌++◌, Bool, not, ◌&&◌, ◌||◌, ◌==◌, nat_lt, nat_le, if◌then◌else◌, length, map, filter, Result, Ok, Err}
 use Rattle.std.specs.List.{list_any}
-use Rattle.cuda_below.specs.declared.fault.Fault.{Fault}
-use Rattle.cuda_below.specs.declared.fault.Fault.TheVariants.{Process}
-use Rattle.cuda_below.specs.declared.status.Output.{Output}
-use Rattle.cuda_below.specs.Endings.{is_success}
+use Rattle.texts.specs.declared.fault.Fault.{Fault}
+use Rattle.texts.specs.declared.fault.Fault.TheVariants.{Process}
+use Rattle.texts.specs.declared.status.Output.{Output}
+use Rattle.texts.specs.Endings.{is_success}
 use Rattle.command_groups.specs.declared.plan.NvccGeneratedSubcommand.{NvccGeneratedSubcommand}
 use Rattle.cuda_plans.specs.declared.runner.Answer.{Answer}
 use Rattle.cuda_plans.specs.declared.runner.Place.{Place}

@@ -1,6 +1,6 @@
 //! Laws of whole calls, and schedules worked out by hand, which the definitions compute. The laws of the crates below stand here too.
 
-ghost use Rattle.cuda_below.specs.Equality.{TellsEqual};
+ghost use Rattle.texts.specs.Equality.{TellsEqual};
 ghost use Rattle.cuda_plans.specs.ScheduleRows as rows;
 
 use crate::runner::{Answer, Place};

@@ -9,10 +9,9 @@ pub mod nvcc;
 pub mod runner;
 
 pub use command_groups as plan;
-pub use cuda_below::{
-    arguments, bytes, command, compiler, extension, fault, gcc, items, language, outputs, status,
-    table, text, variables, words,
-};
+pub use cuda_below::{arguments, command, compiler, gcc, outputs};
 pub use device_lines::{cicc, cudafe, ptxas};
 pub use host_lines::nvhpc;
+pub use option_items::{items, table};
 pub use shell_words as shell;
+pub use texts::{bytes, extension, fault, language, status, text, variables, words};

@@ -2,9 +2,9 @@
 
 ghost use Rattle.std.specs.Prelude.{◌≡◌, IfOk};
 
-use cuda_below::fault::Fault;
-use cuda_below::status::{CompileFinished, Output};
 use std::alloc::{AllocError, Global};
+use texts::fault::Fault;
+use texts::status::{CompileFinished, Output};
 
 /// Where a command of a plan stands.
 #[derive(Clone, Copy, Debug, PartialEq)]

@@ -1,9 +1,9 @@
 //! What the program prints.
 
-use cuda_below::fault::Fault;
 use std::alloc::{AllocError, Global};
 use std::fmt;
 use std::io::Write;
+use texts::fault::Fault;
 
 /// Why nothing was timed.
 #[derive(Debug, Drop)]

@@ -3,10 +3,7 @@
 use crate::call::{Call, Work};
 use crate::report::Stop;
 use cuda_below::arguments::CompilerArguments;
-use cuda_below::bytes::Bytes;
 use cuda_below::compiler::{CCompilerImpl, Places};
-use cuda_below::fault::Fault;
-use cuda_below::text::Text;
 use cuda_plans::cicc::{Cicc, read_input};
 use cuda_plans::cudafe::CudaFE;
 use cuda_plans::dry_run::{FirstDir, read_dry_run};
@@ -16,6 +13,9 @@ use plan_texts::Tool;
 use std::alloc::Global;
 use std::fs::{self, Files};
 use std::time::{Clock, Instant};
+use texts::bytes::Bytes;
+use texts::fault::Fault;
+use texts::text::Text;
 
 // Reads a line and writes it back once.
 fn write_back<C: CCompilerImpl>(

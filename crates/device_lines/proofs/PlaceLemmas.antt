@@ -1,6 +1,6 @@
 -- Places in a line.
 use Rattle.std.proofs.Common.{◌≡◌, ℕ, List, [], ◌∷◌, Bool, not, map, length, refl, String, Global, string_bytes}
-use Rattle.cuda_below.specs.declared.language.Language.{Language}
+use Rattle.texts.specs.declared.language.Language.{Language}
 use Rattle.device_lines.specs.Reading.{is_input_word, input_place, first_place, place_from_end}
 use Rattle.std.specs.List.{position, prefix_len}
 use Rattle.std.proofs.lemmas.List.{length-map}

@@ -2,14 +2,14 @@
 use Rattle.std.proofs.Common.{◌≡◌, ℕ, List, [], ◌∷◌, ◌++◌, Bool, true, false, cond, ◌||◌, Some, None, map, refl, ap, sym, ◌∙◌, append_assoc, append-nil, filter}
 use Rattle.std.specs.List.{filter_map, cons_option, flat_map, list_any, fold}
 use Rattle.std.proofs.lemmas.List.Sums.{fold-append}
-use Rattle.cuda_below.specs.declared.language.Language.{Language}
+use Rattle.texts.specs.declared.language.Language.{Language}
 use Rattle.cuda_below.specs.Outputs.{with_entry}
-use Rattle.cuda_below.specs.Items.{Item, words_of, kind_of}
+use Rattle.option_items.specs.Items.{Item, words_of, kind_of}
 use Rattle.device_lines.specs.declared.options.ArgData.{ArgData}
 use Rattle.device_lines.specs.declared.reader.gathered.Gathered.{Gathered}
 use Rattle.device_lines.specs.Reading.{is_common, beside, is_unhashed_kind, output_of, module_id_of, is_generating, reading_of_items}
 use Rattle.device_lines.specs.Gathered.{nothing_gathered, with_item, with_output, reading_of_gathered}
-use Rattle.cuda_below.specs.Lists.{latest}
+use Rattle.texts.specs.Lists.{latest}
 
 -- words put after those so far, where a test says so
 kept_words : (b : Bool) (so_far words rest : List (List ℕ)) → cond b (so_far ++ words) so_far ++ rest ≡ so_far ++ cond b (words ++ rest) rest

@@ -6,25 +6,25 @@ use Rattle.std.specs.Option.{option_map}
 use Rattle.std.proofs.lemmas.Grind.{flat_map-append}
 use Rattle.std.proofs.lemmas.List.Elements.{filter-append, filter_map-append}
 use Rattle.std.proofs.lemmas.List.Folds.{list_any-append}
-use Rattle.cuda_below.specs.declared.language.Language.{Language}
-use Rattle.cuda_below.specs.declared.language.Language.TheVariants.{C, Cxx, ObjectiveC, ObjectiveCxx, Cuda, CudaFE, Ptx, Cubin}
+use Rattle.texts.specs.declared.language.Language.{Language}
+use Rattle.texts.specs.declared.language.Language.TheVariants.{C, Cxx, ObjectiveC, ObjectiveCxx, Cuda, CudaFE, Ptx, Cubin}
 use Rattle.cuda_below.specs.declared.outputs.ArtifactDescriptor.{ArtifactDescriptor}
 use Rattle.cuda_below.specs.declared.arguments.ParsedArguments.{ParsedArguments}
 use Rattle.cuda_below.specs.declared.command.SingleCompileCommand.{SingleCompileCommand}
 use Rattle.cuda_below.specs.declared.command.Cacheable.{Cacheable}
-use Rattle.cuda_below.specs.declared.table.ArgDisposition.TheVariants.{Separated}
+use Rattle.option_items.specs.declared.table.ArgDisposition.TheVariants.{Separated}
 use Rattle.cuda_below.specs.Arguments.{plain_arguments}
-use Rattle.cuda_below.specs.Path.{is_absolute_path, joined}
+use Rattle.texts.specs.Path.{is_absolute_path, joined}
 use Rattle.cuda_below.specs.Outputs.{entries_from, entry_at}
-use Rattle.cuda_below.specs.Table.{Entry, longest_match}
-use Rattle.cuda_below.specs.Items.{Item, with_value, items, words_of, kind_of, value_of}
+use Rattle.option_items.specs.Table.{Entry, longest_match}
+use Rattle.option_items.specs.Items.{Item, with_value, items, words_of, kind_of, value_of}
 use Rattle.device_lines.specs.declared.options.ArgData.{ArgData}
 use Rattle.device_lines.specs.declared.options.ArgData.TheVariants.{Output}
 use Rattle.device_lines.specs.Cicc.{cicc_options}
 use Rattle.device_lines.specs.CudaFE.{cudafe_options}
 use Rattle.device_lines.specs.Ptxas.{ptxas_options}
 use Rattle.device_lines.specs.Reading.{is_input_word, is_unhashed_kind, common_items, unhashed_items, made_at, output_of_kind, output_of, module_id_of_kind, module_id_of, is_generating, module_id, module_id_output, module_id_file, outputs_of, reading_of_items, input_place, reading}
-use Rattle.cuda_below.specs.Lists.{last_of}
+use Rattle.texts.specs.Lists.{last_of}
 use Rattle.cuda_below.specs.declared.command.Cacheable.TheVariants.{Yes}
 use Rattle.cuda_below.specs.Command.{single_command, written, written_to}
 use Rattle.device_lines.specs.DeviceWords.{cicc_words, cudafe_words}

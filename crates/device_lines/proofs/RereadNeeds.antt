@@ -3,12 +3,12 @@ use Rattle.std.proofs.Common.{◌≡◌, ℕ, List, [], ◌∷◌, true, false, 
 use Rattle.std.specs.Option.{option_map}
 use Rattle.std.specs.Str.{bytes_eq}
 use Rattle.std.proofs.lemmas.Bool.{false≢true}
-use Rattle.cuda_below.specs.declared.language.Language.TheVariants.{Ptx, CudaFE, Cubin}
+use Rattle.texts.specs.declared.language.Language.TheVariants.{Ptx, CudaFE, Cubin}
 use Rattle.cuda_below.specs.declared.outputs.ArtifactDescriptor.{ArtifactDescriptor}
 use Rattle.cuda_below.specs.declared.arguments.ParsedArguments.{ParsedArguments}
 use Rattle.cuda_below.specs.Outputs.{entry_at}
-use Rattle.cuda_below.specs.Table.{longest_match}
-use Rattle.cuda_below.specs.Items.{items}
+use Rattle.option_items.specs.Table.{longest_match}
+use Rattle.option_items.specs.Items.{items}
 use Rattle.device_lines.specs.Cicc.{cicc_options, cicc_reading}
 use Rattle.device_lines.specs.CudaFE.{cudafe_options, cudafe_reading}
 use Rattle.device_lines.specs.Ptxas.{ptxas_options, ptxas_reading}

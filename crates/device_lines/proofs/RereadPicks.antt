@@ -4,12 +4,12 @@ use Rattle.std.specs.List.{AllByRecursion, filter_map, cons_option, list_any}
 use Rattle.std.specs.Str.{bytes_eq}
 use Rattle.std.proofs.lemmas.Bool.{false≢true}
 use Rattle.cuda_below.specs.declared.outputs.ArtifactDescriptor.{ArtifactDescriptor}
-use Rattle.cuda_below.specs.declared.table.ArgDisposition.{ArgDisposition}
-use Rattle.cuda_below.specs.declared.table.ArgDisposition.TheVariants.{Separated, Concatenated, CanBeSeparated, CanBeConcatenated}
-use Rattle.cuda_below.specs.Path.{joined}
-use Rattle.cuda_below.specs.Table.{Entry}
-use Rattle.cuda_below.specs.Items.{Item, raw, unknown_flag, flag, with_value, faulty, kind_of}
-use Rattle.cuda_below.specs.WordsLaw.{is_joined}
+use Rattle.option_items.specs.declared.table.ArgDisposition.{ArgDisposition}
+use Rattle.option_items.specs.declared.table.ArgDisposition.TheVariants.{Separated, Concatenated, CanBeSeparated, CanBeConcatenated}
+use Rattle.texts.specs.Path.{joined}
+use Rattle.option_items.specs.Table.{Entry}
+use Rattle.option_items.specs.Items.{Item, raw, unknown_flag, flag, with_value, faulty, kind_of}
+use Rattle.option_items.specs.WordsLaw.{is_joined}
 use Rattle.device_lines.specs.declared.options.ArgData.{ArgData}
 use Rattle.device_lines.specs.declared.options.ArgData.TheVariants.{Output, PassThrough, UnhashedFlag, GenModuleIdFileFlag, ModuleIdFileName, UnhashedPassThrough, UnhashedOutput}
 use Rattle.device_lines.specs.Reading.{is_unhashed_kind, is_unknown, beside, is_common, unhashed_items, made_at, output_of, is_generating_kind, is_generating, module_id_output}

@@ -7,10 +7,10 @@ use Rattle.std.proofs.Math.Seq.{drop-append-add, get_or-append_seam}
 use Rattle.std.proofs.lemmas.Bool.{false≢true, and_parts}
 use Rattle.std.proofs.lemmas.Bool.Decides.{Decides-ltb, nat_tests}
 use Rattle.std.proofs.lemmas.List.{length-append, drop-append-le}
-use Rattle.cuda_below.specs.declared.language.Language.{Language}
-use Rattle.cuda_below.specs.declared.language.Language.TheVariants.{C, Cxx, ObjectiveC, ObjectiveCxx, Cuda, CudaFE, Ptx, Cubin}
-use Rattle.cuda_below.specs.Path.{is_absolute_path, separator_after, joined, lacks}
-use Rattle.cuda_below.proofs.PathLemmas.{ends_slash, forwards, false-not_true, not-is}
+use Rattle.texts.specs.declared.language.Language.{Language}
+use Rattle.texts.specs.declared.language.Language.TheVariants.{C, Cxx, ObjectiveC, ObjectiveCxx, Cuda, CudaFE, Ptx, Cubin}
+use Rattle.texts.specs.Path.{is_absolute_path, separator_after, joined, lacks}
+use Rattle.texts.proofs.PathLemmas.{ends_slash, forwards, false-not_true, not-is}
 use Rattle.device_lines.proofs.RereadWords.{all-append}
 use Rattle.device_lines.specs.Reading.{is_input_word, place_from_end, first_place, input_place}
 

@@ -2,15 +2,15 @@
 use Rattle.std.specs.Prelude.{ℕ, List, [], ◌++◌, Bool, false, ◌||◌, if◌then◌else◌, Option, Some, None, is_some}
 use Rattle.std.specs.List.{fold}
 use Rattle.cuda_below.specs.declared.arguments.ParsedArguments.{ParsedArguments}
-use Rattle.cuda_below.specs.declared.language.Language.{Language}
+use Rattle.texts.specs.declared.language.Language.{Language}
 use Rattle.cuda_below.specs.declared.outputs.ArtifactDescriptor.{ArtifactDescriptor}
 use Rattle.cuda_below.specs.Outputs.{with_entry}
 use Rattle.cuda_below.specs.Arguments.{plain_arguments}
-use Rattle.cuda_below.specs.Items.{Item, words_of, kind_of}
+use Rattle.option_items.specs.Items.{Item, words_of, kind_of}
 use Rattle.device_lines.specs.declared.options.ArgData.{ArgData}
 use Rattle.device_lines.specs.declared.reader.gathered.Gathered.{Gathered}
 use Rattle.device_lines.specs.Reading.{is_common, is_unknown, is_unhashed_kind, output_of, module_id_of, module_id_output, module_id_file, is_generating}
-use Rattle.cuda_below.specs.Lists.{latest}
+use Rattle.texts.specs.Lists.{latest}
 
 -- nothing yet
 abbrev pub nothing_gathered : Gathered

@@ -1,9 +1,9 @@
 -- What is read of an input file.
 use Rattle.std.specs.Prelude.{◌≡◌, ℕ, List, [], Option, Result, Err, IfSome, pos, MatchResult}
-use Rattle.cuda_below.specs.declared.fault.Fault.{Fault}
-use Rattle.cuda_below.specs.declared.fault.Fault.TheVariants.{Read}
-use Rattle.cuda_below.specs.declared.status.Output.{Output}
-use Rattle.cuda_below.specs.Fault.{UnlessMemory}
+use Rattle.texts.specs.declared.fault.Fault.{Fault}
+use Rattle.texts.specs.declared.fault.Fault.TheVariants.{Read}
+use Rattle.texts.specs.declared.status.Output.{Output}
+use Rattle.texts.specs.Fault.{UnlessMemory}
 
 -- a file's bytes, as a program that succeeds would print them
 abbrev pub printed : List ℕ → Output

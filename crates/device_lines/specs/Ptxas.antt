@@ -1,10 +1,10 @@
 -- ptxas's options, and what its lines are read as.
 use Rattle.std.specs.Prelude.{ℕ, List, [], ◌∷◌, Option, Some, codes}
 use Rattle.cuda_below.specs.declared.arguments.ParsedArguments.{ParsedArguments}
-use Rattle.cuda_below.specs.declared.language.Language.TheVariants.{Cubin}
-use Rattle.cuda_below.specs.declared.table.ArgDisposition.TheVariants.{CanBeSeparated}
+use Rattle.texts.specs.declared.language.Language.TheVariants.{Cubin}
+use Rattle.option_items.specs.declared.table.ArgDisposition.TheVariants.{CanBeSeparated}
 use Rattle.cuda_below.specs.Compiler.{Reading}
-use Rattle.cuda_below.specs.Table.{Entry, longest_match}
+use Rattle.option_items.specs.Table.{Entry, longest_match}
 use Rattle.device_lines.specs.declared.options.ArgData.{ArgData}
 use Rattle.device_lines.specs.declared.options.ArgData.TheVariants.{Output, PassThrough}
 use Rattle.device_lines.specs.Options.{separated}

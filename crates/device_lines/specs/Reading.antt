@@ -2,18 +2,18 @@
 use Rattle.std.specs.Prelude.{ℕ, ◌-◌, List, [], ◌∷◌, ◌++◌, Bool, true, false, ◌&&◌, ◌||◌, if◌then◌else◌, nat_lt, nat_le, Option, Some, None, length, map, position, filter, codes, slice_index_or}
 use Rattle.std.specs.List.{filter_map, flat_map, list_any, remove, fold}
 use Rattle.std.specs.Option.{option_map, option_to_list}
-use Rattle.cuda_below.specs.declared.language.Language.{Language}
-use Rattle.cuda_below.specs.declared.language.Language.TheVariants.{Ptx, Cubin}
+use Rattle.texts.specs.declared.language.Language.{Language}
+use Rattle.texts.specs.declared.language.Language.TheVariants.{Ptx, Cubin}
 use Rattle.cuda_below.specs.declared.outputs.ArtifactDescriptor.{ArtifactDescriptor}
 use Rattle.cuda_below.specs.declared.arguments.ParsedArguments.{ParsedArguments}
 use Rattle.cuda_below.specs.Arguments.{plain_arguments}
-use Rattle.cuda_below.specs.DeviceFiles.{is_cicc_word, is_ptxas_word}
-use Rattle.cuda_below.specs.Lists.{last_of}
-use Rattle.cuda_below.specs.Path.{joined}
+use Rattle.texts.specs.DeviceFiles.{is_cicc_word, is_ptxas_word}
+use Rattle.texts.specs.Lists.{last_of}
+use Rattle.texts.specs.Path.{joined}
 use Rattle.cuda_below.specs.Outputs.{entries_from}
 use Rattle.cuda_below.specs.Compiler.{Reading, accepted, not_compilation}
-use Rattle.cuda_below.specs.Table.{Entry, longest_match}
-use Rattle.cuda_below.specs.Items.{Item, raw, unknown_flag, items, words_of, kind_of, text_of, value_of}
+use Rattle.option_items.specs.Table.{Entry, longest_match}
+use Rattle.option_items.specs.Items.{Item, raw, unknown_flag, items, words_of, kind_of, text_of, value_of}
 use Rattle.device_lines.specs.declared.options.ArgData.{ArgData}
 use Rattle.device_lines.specs.declared.options.ArgData.TheVariants.{Output, PassThrough, UnhashedFlag, GenModuleIdFileFlag, ModuleIdFileName, UnhashedPassThrough, UnhashedOutput}
 

@@ -2,15 +2,15 @@
 use Rattle.std.specs.Prelude.{◌≡◌, ℕ, ◌≤◌, List, [], ◌++◌, Bool, true, not, ◌&&◌, Option, Some, Ok, IfSome, length, filter}
 use Rattle.std.specs.List.{AllByRecursion, flat_map, remove}
 use Rattle.std.specs.Str.{bytes_eq}
-use Rattle.cuda_below.specs.declared.language.Language.{Language}
-use Rattle.cuda_below.specs.declared.language.Language.TheVariants.{Ptx, CudaFE, Cubin}
+use Rattle.texts.specs.declared.language.Language.{Language}
+use Rattle.texts.specs.declared.language.Language.TheVariants.{Ptx, CudaFE, Cubin}
 use Rattle.cuda_below.specs.declared.arguments.ParsedArguments.{ParsedArguments}
 use Rattle.cuda_below.specs.declared.command.SingleCompileCommand.{SingleCompileCommand}
 use Rattle.cuda_below.specs.declared.command.Cacheable.{Cacheable}
-use Rattle.cuda_below.specs.Path.{is_absolute_path}
-use Rattle.cuda_below.specs.Table.{Entry, longest_match}
-use Rattle.cuda_below.specs.Items.{Item, raw, unknown_flag, flag, with_value, faulty, items, words_of}
-use Rattle.cuda_below.specs.WordsLaw.{is_joined}
+use Rattle.texts.specs.Path.{is_absolute_path}
+use Rattle.option_items.specs.Table.{Entry, longest_match}
+use Rattle.option_items.specs.Items.{Item, raw, unknown_flag, flag, with_value, faulty, items, words_of}
+use Rattle.option_items.specs.WordsLaw.{is_joined}
 use Rattle.device_lines.specs.declared.options.ArgData.{ArgData}
 use Rattle.device_lines.specs.Cicc.{cicc_options}
 use Rattle.device_lines.specs.CudaFE.{cudafe_options}

@@ -2,11 +2,11 @@
 -- of its premises a line without it that isn't read as the same.
 use Rattle.std.proofs.Common.{◌≡◌, ℕ, List, [], ◌∷◌, Option, Some, None, Result, Ok, Err, codes, refl}
 use Rattle.std.specs.Option.{option_map}
-use Rattle.cuda_below.specs.declared.language.Language.TheVariants.{Cubin}
-use Rattle.cuda_below.specs.declared.fault.Fault.{Fault}
-use Rattle.cuda_below.specs.declared.fault.Fault.TheVariants.{MissingOutput}
+use Rattle.texts.specs.declared.language.Language.TheVariants.{Cubin}
+use Rattle.texts.specs.declared.fault.Fault.{Fault}
+use Rattle.texts.specs.declared.fault.Fault.TheVariants.{MissingOutput}
 use Rattle.cuda_below.specs.declared.arguments.ParsedArguments.{ParsedArguments}
-use Rattle.cuda_below.specs.Rows.{spaced}
+use Rattle.texts.specs.Rows.{spaced}
 use Rattle.device_lines.specs.Cicc.{cicc_reading}
 use Rattle.device_lines.specs.CudaFE.{cudafe_reading}
 use Rattle.device_lines.specs.Ptxas.{ptxas_reading}

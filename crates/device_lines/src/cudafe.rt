@@ -1,12 +1,12 @@
 //! The command lines of cudafe++, which parts host code from device code.
 
 ghost use Rattle.std.specs.Prelude.{◌≡◌, None, Err, map, codes, IfOk};
-ghost use Rattle.cuda_below.specs.Table.{entry_of};
-ghost use Rattle.cuda_below.specs.Variables.{pair_of};
+ghost use Rattle.option_items.specs.Table.{entry_of};
+ghost use Rattle.texts.specs.Variables.{pair_of};
 ghost use Rattle.cuda_below.specs.Outputs.{entry_at};
 ghost use Rattle.cuda_below.specs.Command.{written};
-ghost use Rattle.cuda_below.specs.Fault.{UnlessMemory};
-ghost use Rattle.cuda_below.specs.declared.fault.Fault.TheVariants.{MissingOutput};
+ghost use Rattle.texts.specs.Fault.{UnlessMemory};
+ghost use Rattle.texts.specs.declared.fault.Fault.TheVariants.{MissingOutput};
 ghost use Rattle.device_lines.specs.CudaFE as spec;
 ghost use Rattle.device_lines.specs.DeviceWords as words;
 
@@ -16,12 +16,12 @@ use crate::writer::option_words;
 use cuda_below::arguments::{CompilerArguments, ParsedArguments};
 use cuda_below::command::{Cacheable, SingleCompileCommand};
 use cuda_below::compiler::{CCompilerImpl, CCompilerKind, Places};
-use cuda_below::fault::Fault;
-use cuda_below::language::Language;
-use cuda_below::table::{ArgDisposition, ArgInfo, Table};
-use cuda_below::text::Text;
-use cuda_below::words::Words;
+use option_items::table::{ArgDisposition, ArgInfo, Table};
 use std::alloc::{AllocError, Global};
+use texts::fault::Fault;
+use texts::language::Language;
+use texts::text::Text;
+use texts::words::Words;
 
 const SEPARATED: ArgDisposition = ArgDisposition::Separated;
 

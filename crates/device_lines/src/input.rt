@@ -1,18 +1,18 @@
 //! A device tool's input, which is preprocessed already: its bytes stand in for a preprocessor's output.
 
 ghost use Rattle.std.specs.Prelude.{◌≡◌, ◌<◌, length, None, IfOk, string_bytes};
-ghost use Rattle.cuda_below.specs.Path.{joined};
+ghost use Rattle.texts.specs.Path.{joined};
 ghost use Rattle.device_lines.specs.Input.{ReadsToEnd};
 ghost use Rattle.device_lines.specs.InputStep.{ReadsOn};
 
 use cuda_below::arguments::ParsedArguments;
-use cuda_below::bytes::Bytes;
-use cuda_below::fault::Fault;
-use cuda_below::status::{ExitStatus, Output};
-use cuda_below::text::join;
 use std::alloc::{AllocError, Global};
 use std::fs::{self, Files};
 use std::io::{ErrorKind, Read};
+use texts::bytes::Bytes;
+use texts::fault::Fault;
+use texts::status::{ExitStatus, Output};
+use texts::text::join;
 
 // The reads after which an input is taken to have no end.
 const MOST_READS: u64 = 1 << 40;

@@ -1,8 +1,8 @@
 //! What holds of the lines of cicc, cudafe++ and ptxas, and lines worked out by hand, which the definitions compute.
 
 ghost use Rattle.std.specs.Prelude.{List, ℕ, Option};
-ghost use Rattle.cuda_below.specs.Equality.{TellsEqual};
-ghost use Rattle.cuda_below.specs.Table.{Entry};
+ghost use Rattle.texts.specs.Equality.{TellsEqual};
+ghost use Rattle.option_items.specs.Table.{Entry};
 ghost use Rattle.device_lines.specs.declared.options.ArgData.{ArgData as Kind};
 ghost use Rattle.device_lines.specs.DeviceRows as rows;
 ghost use Rattle.device_lines.specs.Reread as spec;

@@ -1,7 +1,7 @@
 //! The command lines of ptxas, which makes machine code of PTX.
 
 ghost use Rattle.std.specs.Prelude.{◌≡◌, map, IfOk};
-ghost use Rattle.cuda_below.specs.Table.{entry_of};
+ghost use Rattle.option_items.specs.Table.{entry_of};
 ghost use Rattle.device_lines.specs.Ptxas as spec;
 
 use crate::cicc::generate_compile_commands;
@@ -10,11 +10,11 @@ use crate::reader::parse_arguments;
 use cuda_below::arguments::{CompilerArguments, ParsedArguments};
 use cuda_below::command::{Cacheable, SingleCompileCommand};
 use cuda_below::compiler::{CCompilerImpl, CCompilerKind, Places};
-use cuda_below::fault::Fault;
-use cuda_below::language::Language;
-use cuda_below::table::{ArgDisposition, ArgInfo, EITHER_WAY_OR_EQUALS, Table};
-use cuda_below::text::Text;
+use option_items::table::{ArgDisposition, ArgInfo, EITHER_WAY_OR_EQUALS, Table};
 use std::alloc::{AllocError, Global};
+use texts::fault::Fault;
+use texts::language::Language;
+use texts::text::Text;
 
 /// ptxas's options, as sccache 0.19.0's table has them.
 pub const ARGS: [ArgInfo<ArgData>; 3] = [

@@ -8,13 +8,13 @@ mod gathered;
 
 use crate::options::ArgData;
 use cuda_below::arguments::{CompilerArguments, ParsedArguments};
-use cuda_below::device_files::{is_cicc_input, is_ptxas_input};
-use cuda_below::items::{ArgsIter, Line};
-use cuda_below::language::Language;
-use cuda_below::table::SearchableArgInfo;
-use cuda_below::text::Text;
 use gathered::Gathered;
+use option_items::items::{ArgsIter, Line};
+use option_items::table::SearchableArgInfo;
 use std::alloc::{AllocError, Global};
+use texts::device_files::{is_cicc_input, is_ptxas_input};
+use texts::language::Language;
+use texts::text::Text;
 
 // Whether a word is by its end the input of the tool that makes `language`.
 fn is_input(language: Language, word: &str) -> bool

@@ -3,8 +3,8 @@
 ghost use Rattle.std.specs.Prelude.{◌≡◌, ◌++◌, IfOk};
 
 use cuda_below::arguments::ParsedArguments;
-use cuda_below::words::Words;
 use std::alloc::{AllocError, Global};
+use texts::words::Words;
 
 /// The common words, and after them the unhashed ones, with room for three more.
 pub(crate) fn option_words(

@@ -7,16 +7,16 @@ use Rattle.std.specs.Ordering.{on, eq_of_both}
 use Rattle.std.specs.Str.Pattern.{RFindsChar, SplitsAroundMatch}
 use Rattle.std.proofs.lemmas.Str.Pattern.{IsSplitOnceResult, split_once_first}
 use Rattle.std.proofs.Math.Seq.{take-length}
-use Rattle.cuda_below.specs.Path.{lacks, is_bare}
-use Rattle.cuda_below.proofs.PathLemmas.{parted-char}
+use Rattle.texts.specs.Path.{lacks, is_bare}
+use Rattle.texts.proofs.PathLemmas.{parted-char}
 use Rattle.std.specs.Bool.{Decides}
 use Rattle.std.specs.Cmp.{unsigned_Decides}
 use Rattle.std.proofs.lemmas.Bool.Decides.{Decides-and, Decides-like}
 use Rattle.std.proofs.lemmas.Slice.Eq.{bytes_eq-Decides}
-use Rattle.cuda_below.specs.Equality.{TellsEqual}
-use Rattle.cuda_below.proofs.EqualityLemmas.{lists, variables, same_variables}
+use Rattle.texts.specs.Equality.{TellsEqual}
+use Rattle.texts.proofs.EqualityLemmas.{lists, variables, same_variables}
 use Rattle.dry_runs.specs.declared.commands.DryRun.{DryRun}
-use Rattle.cuda_below.proofs.ListLemmas.{pointwise-texts}
+use Rattle.texts.proofs.ListLemmas.{pointwise-texts}
 use Rattle.dry_runs.specs.CommandLines.{CommandLine, line_seen}
 use Rattle.dry_runs.specs.FirstDir.{first_folder_of}
 

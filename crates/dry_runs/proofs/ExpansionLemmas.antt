@@ -8,8 +8,8 @@ use Rattle.std.proofs.lemmas.List.Sums.{split_at_first, passes_at_first}
 use Rattle.std.proofs.lemmas.List.Folds.{length-prefix_len}
 use Rattle.std.proofs.lemmas.Str.Pattern.{IsSplitOnceResult, split_once_first}
 use Rattle.std.proofs.Math.Seq.{take-length, take-append_seam, drop-append_seam}
-use Rattle.cuda_below.specs.Path.{lacks}
-use Rattle.cuda_below.specs.Table.{rest_after}
+use Rattle.texts.specs.Path.{lacks}
+use Rattle.texts.specs.Lists.{rest_after}
 use Rattle.dry_runs.specs.Environment.{Variable, is_name_byte, assigned, assignment, is_followed, refers, expanded_by, expanded}
 use Rattle.dry_runs.specs.Replacing.{replaced_past, replaced}
 use Rattle.dry_runs.specs.Reading.{IsCutAt, is_name}

@@ -6,9 +6,9 @@ use Rattle.std.specs.Result.{IsErrAnd}
 use Rattle.std.specs.Str.{bytes_eq, is_utf8, IsUtf8}
 use Rattle.std.specs.Str.Lines.{lines}
 use Rattle.std.proofs.lemmas.Str.{IsUtf8-from_is_utf8, is_utf8-from_IsUtf8}
-use Rattle.cuda_below.specs.declared.fault.Fault.{Fault}
-use Rattle.cuda_below.specs.declared.fault.Fault.TheVariants.{NotUtf8, BadShell, EmptyCommand, NoPath, NotFound, Memory}
-use Rattle.cuda_below.specs.Fault.{UnlessMemory}
+use Rattle.texts.specs.declared.fault.Fault.{Fault}
+use Rattle.texts.specs.declared.fault.Fault.TheVariants.{NotUtf8, BadShell, EmptyCommand, NoPath, NotFound, Memory}
+use Rattle.texts.specs.Fault.{UnlessMemory}
 use Rattle.dry_runs.specs.declared.commands.DryRun.{DryRun}
 use Rattle.dry_runs.specs.declared.reader.Said.{Said}
 use Rattle.dry_runs.specs.CommandLines.{CommandLine}

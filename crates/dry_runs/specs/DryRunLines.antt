@@ -2,7 +2,7 @@
 use Rattle.std.specs.Prelude.{◌≡◌, ℕ, List, [], ◌∷◌, Option, Some, None, refl, codes}
 use Rattle.std.specs.List.{enumerate_from}
 use Rattle.std.specs.Str.Lines.{lines}
-use Rattle.cuda_below.specs.Table.{rest_after}
+use Rattle.texts.specs.Lists.{rest_after}
 
 -- the lines, each with its number from 0 on. A line ends at a newline, and one carriage return right before that
 -- newline goes too; an empty rest behind the last newline is no line

@@ -4,7 +4,7 @@ use Rattle.std.specs.List.{find, take_while}
 use Rattle.std.specs.Option.{option_map}
 use Rattle.std.specs.Str.{chars, bytes_eq}
 use Rattle.ucd_perl.specs.Perl.{is_word_char}
-use Rattle.cuda_below.specs.Table.{rest_after}
+use Rattle.texts.specs.Lists.{rest_after}
 use Rattle.dry_runs.specs.Replacing.{replaced}
 
 -- a variable and its value

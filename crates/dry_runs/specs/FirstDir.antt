@@ -1,7 +1,7 @@
 -- A look-up that looks at no file.
 use Rattle.std.specs.Prelude.{◌≡◌, ℕ, List, [], ◌∷◌, ◌==◌, if◌then◌else◌, Option, Some, None, refl, codes}
 use Rattle.std.specs.List.{before_first}
-use Rattle.cuda_below.specs.Path.{joined, is_bare}
+use Rattle.texts.specs.Path.{joined, is_bare}
 
 -- the first folder of a `PATH`: what stands before its first `:`
 abbrev pub first_folder_of : List ℕ → List ℕ

@@ -3,9 +3,9 @@
 ghost use Rattle.std.specs.Prelude.{◌≡◌, ◌∷◌, ◌++◌, [], map, OnOk, string_bytes};
 ghost use Rattle.dry_runs.specs.CommandLines.{line_seen};
 
-use cuda_below::variables::Variables;
 use std::alloc::{AllocError, Global};
 use std::marker::Model;
+use texts::variables::Variables;
 
 /// The command lines of a dry run, in order: of each the number of its line, its program's path, and
 /// its words. Contracts see the list of these, as texts.

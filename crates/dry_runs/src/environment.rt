@@ -4,9 +4,9 @@ ghost use Rattle.std.specs.Prelude.{◌≡◌, ◌++◌, ◌<◌, ◌≤◌, not
 ghost use Rattle.std.specs.List.{list_all};
 ghost use Rattle.std.specs.Option.{option_copied, option_map};
 ghost use Rattle.std.specs.Str.{chars};
-ghost use Rattle.cuda_below.specs.Path.{lacks};
-ghost use Rattle.cuda_below.specs.Table.{rest_after};
-ghost use Rattle.cuda_below.specs.Variables.{pair_of};
+ghost use Rattle.texts.specs.Path.{lacks};
+ghost use Rattle.texts.specs.Lists.{rest_after};
+ghost use Rattle.texts.specs.Variables.{pair_of};
 ghost use Rattle.dry_runs.specs.DryRun.{shell_words};
 ghost use Rattle.dry_runs.specs.Environment as spec;
 ghost use Rattle.dry_runs.specs.Replacing as replacing;

@@ -1,7 +1,7 @@
 //! Reading a dry run.
 
 ghost use Rattle.std.specs.Prelude.{◌≡◌, codes};
-ghost use Rattle.cuda_below.specs.Fault.{UnlessMemory};
+ghost use Rattle.texts.specs.Fault.{UnlessMemory};
 ghost use Rattle.dry_runs.specs.DryRun.{dry_run_of};
 ghost use Rattle.dry_runs.specs.Reading.{dry_run_seen};
 
@@ -9,10 +9,10 @@ use crate::commands::{Commands, DryRun};
 use crate::environment::{assignment, expanded_words};
 use crate::lines::{first_line, marked};
 use crate::which::Which;
-use cuda_below::fault::Fault;
-use cuda_below::text::Text;
-use cuda_below::variables::Variables;
 use std::alloc::{AllocError, Global};
+use texts::fault::Fault;
+use texts::text::Text;
+use texts::variables::Variables;
 
 /// Reads what `nvcc --dryrun` printed: its commands, each with its line, its program's path and its words,
 /// and what its environment lines set.
@@ -103,7 +103,7 @@ struct Said {
 
 impl Said {
     ghost use Rattle.std.specs.Prelude.{◌≡◌, ◌∷◌, [], map, List, ℕ, OnOk, string_bytes};
-    ghost use Rattle.cuda_below.specs.Fault.{UnlessMemory};
+    ghost use Rattle.texts.specs.Fault.{UnlessMemory};
     ghost use Rattle.dry_runs.specs.Environment.{first_value, expanded};
     ghost use Rattle.dry_runs.specs.DryRun.{meaning, meaning_marked, meaning_of_words, meaning_by_path, shell_words};
     ghost use Rattle.dry_runs.specs.DryRunLines.{marked_text};

@@ -2,11 +2,11 @@
 
 ghost use Rattle.std.specs.Prelude.{◌≡◌, IfOk, MatchOption, string_bytes, ℕ, List, Option};
 ghost use Rattle.std.specs.Option.{option_map};
-ghost use Rattle.cuda_below.specs.Path.{is_bare as is_bare_name};
+ghost use Rattle.texts.specs.Path.{is_bare as is_bare_name};
 ghost use Rattle.dry_runs.specs.FirstDir.{first_folder_of};
 
-use cuda_below::text::join;
 use std::alloc::{AllocError, Global};
+use texts::text::join;
 
 /// A look-up of programs.
 pub trait Which {

@@ -3,7 +3,7 @@ use Rattle.std.proofs.Common.{◌≡◌, ◌∙◌, ℕ, List, [], ◌∷◌, �
 use Rattle.std.specs.List.{filter_map, cons_option, list_any, fold}
 use Rattle.host_lines.specs.declared.nvcc.taking.KeepWords.{KeepWords}
 use Rattle.host_lines.specs.declared.nvcc.taking.ThreadWords.{ThreadWords}
-use Rattle.cuda_below.specs.Lists.{latest}
+use Rattle.texts.specs.Lists.{latest}
 use Rattle.host_lines.specs.KeepThreads.{valued, is_unfinished, words_alone, is_keep_dir, sets_keep, is_no_keep_word, keep_of, is_threads, is_no_thread_word, number_given, threads_of}
 use Rattle.host_lines.specs.Taken.{nothing_kept, with_keep_word, keep_of_gathered, no_threads, with_thread_word, threads_of_gathered}
 

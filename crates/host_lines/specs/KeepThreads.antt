@@ -5,11 +5,11 @@ use Rattle.std.specs.List.{filter_map, list_any, starts_with}
 use Rattle.std.specs.Option.{option_and_then, option_map}
 use Rattle.std.specs.declared.alloc.Global.{Global}
 use Rattle.std.specs.Str.{bytes_eq, all_ascii_digits}
-use Rattle.cuda_below.specs.declared.fault.Fault.{Fault}
-use Rattle.cuda_below.specs.declared.fault.Fault.TheVariants.{KeepDirValue, ThreadsValue}
-use Rattle.cuda_below.specs.Path.{joined}
-use Rattle.cuda_below.specs.Lists.{last_of}
-use Rattle.cuda_below.specs.Rows.{spaced}
+use Rattle.texts.specs.declared.fault.Fault.{Fault}
+use Rattle.texts.specs.declared.fault.Fault.TheVariants.{KeepDirValue, ThreadsValue}
+use Rattle.texts.specs.Path.{joined}
+use Rattle.texts.specs.Lists.{last_of}
+use Rattle.texts.specs.Rows.{spaced}
 
 -- whether a word takes the next one as its value: an option of that kind does, if it isn't itself a value; the word
 -- stands beside whether it is one

@@ -1,11 +1,11 @@
 -- The options that the nvcc reader knows beside those of the gcc profile.
 use Rattle.std.specs.Prelude.{◌≡◌, List, ◌∷◌, ◌++◌, true, refl, codes}
-use Rattle.cuda_below.specs.declared.table.ArgDisposition.TheVariants.{Separated}
+use Rattle.option_items.specs.declared.table.ArgDisposition.TheVariants.{Separated}
 use Rattle.cuda_below.specs.declared.gcc.options.ArgData.{ArgData}
 use Rattle.cuda_below.specs.declared.gcc.options.ArgData.TheVariants.{TooHard, PassThrough, PreprocessorArgument, PreprocessorArgumentFlag, PreprocessorArgumentPath, DepArgumentPath, NeedDepTarget, DoCompilation, Language, ExtraHashFile, Unhashed, UnhashedFlag}
 use Rattle.cuda_below.specs.GccOptions.{flags, options, joined, either_way, either_way_or_equals, differ}
-use Rattle.cuda_below.specs.Rows.{spaced}
-use Rattle.cuda_below.specs.Table.{Entry}
+use Rattle.texts.specs.Rows.{spaced}
+use Rattle.option_items.specs.Table.{Entry}
 
 -- the entries, by form and kind; one text holds a space
 abbrev pub nvcc_options : List (Entry ArgData)

@@ -1,11 +1,11 @@
 -- nvhpc's options, and what its lines are read as.
 use Rattle.std.specs.Prelude.{◌≡◌, ℕ, List, [], ◌∷◌, ◌++◌, Bool, true, false, Option, refl, codes}
-use Rattle.cuda_below.specs.declared.language.Language.TheVariants.{C, Cxx}
+use Rattle.texts.specs.declared.language.Language.TheVariants.{C, Cxx}
 use Rattle.cuda_below.specs.declared.compiler.CCompilerKind.TheVariants.{Nvhpc}
 use Rattle.cuda_below.specs.declared.gcc.options.ArgData.{ArgData}
 use Rattle.cuda_below.specs.declared.gcc.options.ArgData.TheVariants.{PassThrough, PassThroughFlag, PreprocessorArgument, PreprocessorArgumentFlag, PreprocessorArgumentPath, Language, Standard}
-use Rattle.cuda_below.specs.Rows.{spaced}
-use Rattle.cuda_below.specs.Table.{Entry, longest_match, longer_choice}
+use Rattle.texts.specs.Rows.{spaced}
+use Rattle.option_items.specs.Table.{Entry, longest_match, longer_choice}
 use Rattle.cuda_below.specs.GccOptions.{flags, options, joined, either_way, either_way_or_equals, gcc_entries, differ}
 use Rattle.cuda_below.specs.Compiler.{Reading, accepted, not_compilation}
 use Rattle.cuda_below.specs.Gcc.{profile_reading}

@@ -2,18 +2,18 @@
 use Rattle.std.specs.Prelude.{◌≡◌, ℕ, List, [], ◌∷◌, ◌++◌, not, ◌||◌, if◌then◌else◌, Option, Some, None, Result, Ok, Err, Vec, map, filter, codes, refl}
 use Rattle.std.specs.Str.{bytes_eq}
 use Rattle.std.specs.declared.alloc.Global.{Global}
-use Rattle.cuda_below.specs.declared.language.Language.{Language}
-use Rattle.cuda_below.specs.declared.language.Language.TheVariants.{Cxx, Cuda, Ptx}
+use Rattle.texts.specs.declared.language.Language.{Language}
+use Rattle.texts.specs.declared.language.Language.TheVariants.{Cxx, Cuda, Ptx}
 use Rattle.cuda_below.specs.declared.arguments.ParsedArguments.{ParsedArguments}
 use Rattle.cuda_below.specs.declared.command.SingleCompileCommand.{SingleCompileCommand}
-use Rattle.cuda_below.specs.declared.fault.Fault.{Fault}
-use Rattle.cuda_below.specs.declared.fault.Fault.TheVariants.{NoPreprocess}
+use Rattle.texts.specs.declared.fault.Fault.{Fault}
+use Rattle.texts.specs.declared.fault.Fault.TheVariants.{NoPreprocess}
 use Rattle.cuda_below.specs.Command.{single_command}
 use Rattle.cuda_below.specs.GccItems.{name_of_language}
 use Rattle.cuda_below.specs.GccRows.{compiled}
 use Rattle.cuda_below.specs.declared.compiler.NvccHostCompiler.{NvccHostCompiler}
 use Rattle.cuda_below.specs.declared.compiler.NvccHostCompiler.TheVariants as host
-use Rattle.cuda_below.specs.Rows.{spaced}
+use Rattle.texts.specs.Rows.{spaced}
 use Rattle.host_lines.specs.NvccEnvironment.{without_flags}
 
 -- what both commands have: their first words are the preprocessor's, the common ones, the language's name and the input

@@ -1,9 +1,9 @@
 -- What taking keep words and thread words out has gathered, and how one more word changes it.
 use Rattle.std.specs.Prelude.{ℕ, List, [], ◌∷◌, ◌++◌, false, ◌||◌, if◌then◌else◌, Option, Some, None, Result}
-use Rattle.cuda_below.specs.declared.fault.Fault.{Fault}
+use Rattle.texts.specs.declared.fault.Fault.{Fault}
 use Rattle.host_lines.specs.declared.nvcc.taking.KeepWords.{KeepWords}
 use Rattle.host_lines.specs.declared.nvcc.taking.ThreadWords.{ThreadWords}
-use Rattle.cuda_below.specs.Lists.{latest}
+use Rattle.texts.specs.Lists.{latest}
 use Rattle.host_lines.specs.KeepThreads.{takes_value, is_keep_dir, sets_keep, is_no_keep_word, keep_answer, is_threads, is_no_thread_word, number_given, threads_answer}
 
 -- no keep words yet

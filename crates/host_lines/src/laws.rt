@@ -1,6 +1,6 @@
 //! Laws of the compilers' records.
 
-ghost use Rattle.cuda_below.specs.Equality.{TellsEqual};
+ghost use Rattle.texts.specs.Equality.{TellsEqual};
 
 use crate::nvhpc::Nvhpc;
 

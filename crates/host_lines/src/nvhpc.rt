@@ -1,7 +1,7 @@
 //! The command lines of nvhpc, NVIDIA's compilers for C and C++.
 
 ghost use Rattle.std.specs.Prelude.{◌≡◌, true, map, IfOk};
-ghost use Rattle.cuda_below.specs.Table.{entry_of};
+ghost use Rattle.option_items.specs.Table.{entry_of};
 ghost use Rattle.cuda_below.specs.GccOptions.{differ};
 ghost use Rattle.host_lines.specs.Nvhpc as spec;
 
@@ -10,11 +10,11 @@ mod preprocessor;
 use cuda_below::arguments::{CompilerArguments, ParsedArguments};
 use cuda_below::command::{Cacheable, SingleCompileCommand};
 use cuda_below::compiler::{CCompilerImpl, CCompilerKind, Places};
-use cuda_below::fault::Fault;
 use cuda_below::gcc::{self, ArgData};
-use cuda_below::table::{ArgInfo, EITHER_WAY, EITHER_WAY_OR_EQUALS, JOINED, Pair, Table};
-use cuda_below::text::Text;
+use option_items::table::{ArgInfo, EITHER_WAY, EITHER_WAY_OR_EQUALS, JOINED, Pair, Table};
 use std::alloc::{AllocError, Global};
+use texts::fault::Fault;
+use texts::text::Text;
 
 /// nvhpc's options besides gcc's, as sccache 0.19.0's table has them. No two have one text.
 pub const ARGS: [ArgInfo<ArgData>; 29] = [

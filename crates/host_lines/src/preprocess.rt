@@ -5,10 +5,10 @@ ghost use Rattle.host_lines.specs.Preprocess as spec;
 
 use cuda_below::arguments::ParsedArguments;
 use cuda_below::command::SingleCompileCommand;
-use cuda_below::text::Text;
-use cuda_below::variables::Variables;
-use cuda_below::words::Words;
 use std::alloc::{AllocError, Global};
+use texts::text::Text;
+use texts::variables::Variables;
+use texts::words::Words;
 
 /// What both commands have.
 pub fn common_command(

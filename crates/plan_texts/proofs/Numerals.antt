@@ -4,7 +4,7 @@ use Rattle.std.specs.Fmt.{decimal}
 use Rattle.std.specs.Int.Digits.{digits_of}
 use Rattle.std.proofs.lemmas.Bool.{eqb-false}
 use Rattle.std.proofs.lemmas.Fmt.{decimal_digit, decimal-digits_of}
-use Rattle.cuda_below.specs.Numeral.{numeral}
+use Rattle.texts.specs.Numeral.{numeral}
 
 positive : (n : ℕ) → eqb n 0 ≡ false → 0 < n
 positive n h = let some : n ≢ 0 = eqb-false n 0 h in omega (arith, some)

@@ -4,8 +4,8 @@ use Rattle.std.specs.List.{flat_map}
 use Rattle.cuda_below.specs.declared.arguments.ParsedArguments.{ParsedArguments}
 use Rattle.cuda_below.specs.declared.command.Cacheable.{Cacheable}
 use Rattle.cuda_below.specs.declared.compiler.Places.{Places}
-use Rattle.cuda_below.specs.declared.fault.Fault.{Fault}
-use Rattle.cuda_below.specs.declared.language.Language.TheVariants.{Ptx, Cubin, CudaFE}
+use Rattle.texts.specs.declared.fault.Fault.{Fault}
+use Rattle.texts.specs.declared.language.Language.TheVariants.{Ptx, Cubin, CudaFE}
 use Rattle.cuda_below.specs.Command.{written}
 use Rattle.cuda_below.specs.Compiler.{Reading, accepted, cannot_cache, not_compilation}
 use Rattle.device_lines.specs.Cicc.{cicc_options}

@@ -7,7 +7,7 @@ use Rattle.command_groups.specs.declared.plan.Dropped.{Dropped}
 use Rattle.command_groups.specs.declared.plan.Reason.{Reason}
 use Rattle.command_groups.specs.declared.plan.Reason.TheVariants.{NotCuda, NoCiccGroup, NoPtxasGroup, Superseded}
 use Rattle.command_groups.specs.declared.plan.Plan.{Plan}
-use Rattle.cuda_below.specs.Numeral.{numeral}
+use Rattle.texts.specs.Numeral.{numeral}
 
 -- a program and its words, each word after one blank, and the end of the line
 abbrev pub show_words : List ℕ → List (List ℕ) → List ℕ

@@ -11,12 +11,12 @@ use crate::tool::Tool;
 use cuda_below::arguments::{CompilerArguments, ParsedArguments};
 use cuda_below::command::CompileCommandImpl;
 use cuda_below::compiler::{CCompilerImpl, Places};
-use cuda_below::text::Text;
 use device_lines::cicc::Cicc;
 use device_lines::cudafe::CudaFE;
 use device_lines::ptxas::Ptxas;
 use std::alloc::{AllocError, Global};
 use std::io::Write;
+use texts::text::Text;
 
 // Each word on a line of its own.
 fn shown_words(alloc: Global, words: &[String]) -> Result<String, AllocError>

@@ -2,7 +2,7 @@
 
 ghost use Rattle.std.specs.Prelude.{◌≡◌, ◌++◌, IfOk, OnOk, map, string_bytes, vec_items};
 ghost use Rattle.std.specs.List.{flat_map};
-ghost use Rattle.cuda_below.specs.Numeral.{numeral};
+ghost use Rattle.texts.specs.Numeral.{numeral};
 ghost use Rattle.plan_texts.specs.ShownPlan as spec;
 
 use command_groups::{Dropped, NvccGeneratedSubcommand, Plan, Reason};

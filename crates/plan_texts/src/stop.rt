@@ -1,7 +1,7 @@
 //! Why the program stops.
 
-use cuda_below::fault::Fault;
 use std::alloc::AllocError;
+use texts::fault::Fault;
 use thiserror::Error;
 
 /// Why nothing more is printed. Its text is what follows `cudaplan: `.
@@ -31,7 +31,7 @@ impl From<Fault> for Stop {
 
 impl From<AllocError> for Stop {
     ghost use Rattle.std.specs.Prelude.{◌≡◌};
-    ghost use Rattle.cuda_below.specs.declared.fault.Fault.TheVariants.{Memory};
+    ghost use Rattle.texts.specs.declared.fault.Fault.TheVariants.{Memory};
     ghost use Rattle.plan_texts.specs.declared.stop.Stop.TheVariants as stops;
 
     ghost from_gives = { λ _ e. e ≡ stops.Fault Memory };

@@ -3,7 +3,7 @@ use Rattle.std.specs.Prelude.{ℕ, List, [], map, Option, Some, None, Result, Ok
 use Rattle.cuda_below.specs.declared.arguments.ParsedArguments.{ParsedArguments}
 use Rattle.cuda_below.specs.declared.command.Cacheable.{Cacheable}
 use Rattle.cuda_below.specs.declared.command.SingleCompileCommand.{SingleCompileCommand}
-use Rattle.cuda_below.specs.declared.fault.Fault.{Fault}
+use Rattle.texts.specs.declared.fault.Fault.{Fault}
 use Rattle.cuda_below.specs.declared.outputs.ArtifactDescriptor.{ArtifactDescriptor}
 use Rattle.cuda_below.specs.Command.{written}
 use Rattle.cuda_below.specs.Compiler.{Reading, accepted, cannot_cache, not_compilation}

@@ -1,6 +1,5 @@
 //! Compilers as values: each equals its clone, and no compiler of another version.
 
-use cuda_below::text::Text;
 use cuda_plans::cicc::Cicc;
 use cuda_plans::cudafe::CudaFE;
 use cuda_plans::nvcc::{Nvcc, NvccHostCompiler};
@@ -8,6 +7,7 @@ use cuda_plans::nvhpc::Nvhpc;
 use cuda_plans::ptxas::Ptxas;
 use std::alloc::{AllocError, Global};
 use std::test::Fail;
+use texts::text::Text;
 
 fn version(alloc: Global) -> Result<Option<Text>, AllocError> {
     Ok(Some(Text::copy_of(alloc, "12.4")?))

@@ -1,12 +1,12 @@
 //! Texts, lists of words, bytes and environments as values.
 
 use crate::words::{joined, words};
-use cuda_below::bytes::Bytes;
-use cuda_below::text::Text;
-use cuda_below::variables::Variables;
-use cuda_below::words::Words;
 use std::alloc::{AllocError, Global};
 use std::test::Fail;
+use texts::bytes::Bytes;
+use texts::text::Text;
+use texts::variables::Variables;
+use texts::words::Words;
 
 #[test]
 fn texts(rt: HostRuntime) -> Result<(), Fail> {

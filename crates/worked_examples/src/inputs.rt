@@ -1,11 +1,11 @@
 //! Inputs that are preprocessed already, read to their ends.
 
-use cuda_below::fault::Fault;
-use cuda_below::status::Output;
 use cuda_plans::cicc;
 use std::io::{self, Read};
 use std::process::Abort;
 use std::test::Fail;
+use texts::fault::Fault;
+use texts::status::Output;
 
 // Any bytes, of which the second is no UTF-8.
 const BYTES: [u8; 3] = [0, 0xff, 0x0a];

@@ -1,17 +1,17 @@
 //! The records of dry runs and plans.
 
-use cuda_below::bytes::Bytes;
 use cuda_below::command::Cacheable;
-use cuda_below::fault::Fault;
-use cuda_below::status::{CompileFinished, ExitStatus, Output};
-use cuda_below::text::Text;
-use cuda_below::variables::Variables;
-use cuda_below::words::Words;
 use cuda_plans::dry_run::{Commands, DryRun};
 use cuda_plans::plan::{Dropped, DroppedCommands, Groups, NvccGeneratedSubcommand, Plan, Reason};
 use cuda_plans::runner::{Answer, Place};
 use std::alloc::{AllocError, Global};
 use std::test::Fail;
+use texts::bytes::Bytes;
+use texts::fault::Fault;
+use texts::status::{CompileFinished, ExitStatus, Output};
+use texts::text::Text;
+use texts::variables::Variables;
+use texts::words::Words;
 
 fn subcommand(alloc: Global, exe: &str) -> Result<NvccGeneratedSubcommand, AllocError> {
     let mut args = Words::new(alloc);

@@ -1,12 +1,12 @@
 //! Outputs, statuses and faults as values.
 
-use cuda_below::bytes::Bytes;
-use cuda_below::fault::Fault;
 use cuda_below::outputs::{ArtifactDescriptor, Outputs};
-use cuda_below::status::{ExitStatus, Output};
-use cuda_below::text::Text;
 use std::alloc::{AllocError, Global};
 use std::test::Fail;
+use texts::bytes::Bytes;
+use texts::fault::Fault;
+use texts::status::{ExitStatus, Output};
+use texts::text::Text;
 
 fn file(alloc: Global, path: &str, optional: bool) -> Result<ArtifactDescriptor, AllocError> {
     Ok(ArtifactDescriptor {

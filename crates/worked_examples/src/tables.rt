@@ -1,11 +1,11 @@
 //! A table's row alone, and the words of a line that are left.
 
 use crate::words::{joined, words};
-use cuda_below::items::Line;
-use cuda_below::table::{ArgDisposition, ArgInfo, Match};
-use cuda_below::words::Words;
+use option_items::items::Line;
+use option_items::table::{ArgDisposition, ArgInfo, Match};
 use std::alloc::{AllocError, Global};
 use std::test::Fail;
+use texts::words::Words;
 
 // What an option of this form makes of a word.
 fn matched(form: ArgDisposition, word: &str) -> &str {

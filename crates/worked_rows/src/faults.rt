@@ -4,11 +4,11 @@ use crate::answer::Answer;
 use crate::names::language_named;
 use crate::row::Row;
 use crate::stop::Stop;
-use cuda_below::bytes::Bytes;
-use cuda_below::fault::Fault;
-use cuda_below::status::{ExitStatus, Output};
-use cuda_below::text::Text;
 use std::alloc::{AllocError, Global};
+use texts::bytes::Bytes;
+use texts::fault::Fault;
+use texts::status::{ExitStatus, Output};
+use texts::text::Text;
 
 // The number that a word is.
 fn number(word: &str) -> Result<usize, Stop> {

@@ -7,12 +7,12 @@ use crate::stop::Stop;
 use crate::tools::read;
 use crate::{reading, writing};
 use cuda_below::arguments::CompilerArguments;
-use cuda_below::fault::Fault;
-use cuda_below::status::Output;
 use cuda_plans::cicc;
 use std::alloc::Global;
 use std::fs::Files;
 use std::io::{self, Read};
+use texts::fault::Fault;
+use texts::status::Output;
 
 // A reader that gives one byte at a time.
 #[derive(Drop)]

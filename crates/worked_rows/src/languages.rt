@@ -6,14 +6,14 @@ use crate::row::Row;
 use crate::stop::Stop;
 use cuda_below::compiler::{CCompilerImpl, CCompilerKind};
 use cuda_below::gcc::language_to_gcc_arg;
-use cuda_below::language::Language;
-use cuda_below::text::Text;
 use cuda_plans::cicc::Cicc;
 use cuda_plans::cudafe::CudaFE;
 use cuda_plans::nvcc::{Nvcc, NvccHostCompiler};
 use cuda_plans::nvhpc::Nvhpc;
 use cuda_plans::ptxas::Ptxas;
 use std::alloc::Global;
+use texts::language::Language;
+use texts::text::Text;
 
 fn kind_name(kind: CCompilerKind) -> &'static str {
     match kind {

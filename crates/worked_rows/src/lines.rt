@@ -8,8 +8,8 @@ use crate::tools::{Written, preprocess, read, write};
 use crate::{reading, writing};
 use cuda_below::arguments::{CompilerArguments, ParsedArguments};
 use cuda_below::command::{Cacheable, CompileCommandImpl, SingleCompileCommand};
-use cuda_below::fault::Fault;
 use std::alloc::Global;
+use texts::fault::Fault;
 
 // Whether a line is read as these arguments.
 fn is_read(read: &CompilerArguments<ParsedArguments>, parsed: &ParsedArguments) -> bool {

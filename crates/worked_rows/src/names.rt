@@ -2,10 +2,10 @@
 
 use crate::stop::Stop;
 use cuda_below::gcc;
-use cuda_below::language::Language;
-use cuda_below::table::ArgDisposition;
 use cuda_plans::cicc;
+use option_items::table::ArgDisposition;
 use std::alloc::{AllocError, Global};
+use texts::language::Language;
 
 /// The name of a language.
 pub fn language_name(language: Language) -> &'static str {

@@ -3,11 +3,11 @@
 use crate::answer::Answer;
 use crate::row::Row;
 use crate::stop::Stop;
-use cuda_below::extension::{extension, last, with_extension};
-use cuda_below::text::{file_name, file_stem, folder, is_absolute, join};
 use cuda_plans::cicc::{CICC_INPUT_SUFFIX, PTXAS_INPUT_SUFFIX, is_cicc_input, is_ptxas_input};
 use cuda_plans::dry_run::{FirstDir, Which};
 use std::alloc::Global;
+use texts::extension::{extension, last, with_extension};
+use texts::text::{file_name, file_stem, folder, is_absolute, join};
 
 // What a call on one path answers.
 fn of_path(alloc: Global, call: &str, path: &str) -> Result<Answer, Stop> {

@@ -5,8 +5,8 @@ use crate::names::language_name;
 use crate::stop::Stop;
 use cuda_below::arguments::{ColorMode, CompilerArguments, ParsedArguments};
 use cuda_below::outputs::{ArtifactDescriptor, Outputs};
-use cuda_below::text::Text;
 use std::alloc::{AllocError, Global};
+use texts::text::Text;
 
 // Every key that a reader gives an output.
 const KEYS: [&str; 6] = [

@@ -6,11 +6,11 @@ use crate::stop::Stop;
 use crate::tools::{Tool, tool_named};
 use cuda_below::arguments::ParsedArguments;
 use cuda_below::compiler::Places;
-use cuda_below::language::Language;
 use cuda_below::outputs::Outputs;
-use cuda_below::text::Text;
-use cuda_below::words::Words;
 use std::alloc::Global;
+use texts::language::Language;
+use texts::text::Text;
+use texts::words::Words;
 
 /// The tool whose line it is, the working directory, the environment and the places, and what is put
 /// into the line's arguments in place of what was read.

@@ -5,11 +5,11 @@ use crate::names::{Named, form_name};
 use crate::row::Row;
 use crate::stop::Stop;
 use cuda_below::gcc;
-use cuda_below::items::{ArgsIter, Argument, NormalizedDisposition};
-use cuda_below::table::{ArgDisposition, ArgInfo, Pair, SearchableArgInfo, Table};
-use cuda_below::words::Words;
 use cuda_plans::{cicc, cudafe, nvcc, nvhpc, ptxas};
+use option_items::items::{ArgsIter, Argument, NormalizedDisposition};
+use option_items::table::{ArgDisposition, ArgInfo, Pair, SearchableArgInfo, Table};
 use std::alloc::Global;
+use texts::words::Words;
 
 // What is done over a table.
 #[derive(Drop)]

@@ -6,16 +6,16 @@ use crate::stop::Stop;
 use cuda_below::arguments::{CompilerArguments, ParsedArguments};
 use cuda_below::command::{Cacheable, SingleCompileCommand};
 use cuda_below::compiler::{CCompilerImpl, CCompilerKind};
-use cuda_below::fault::Fault;
 use cuda_below::gcc;
-use cuda_below::language::Language;
-use cuda_below::table::{ArgInfo, Pair, Table};
 use cuda_plans::cicc::{self, Cicc};
 use cuda_plans::cudafe::CudaFE;
 use cuda_plans::nvcc::{Nvcc, NvccCompileCommand, NvccHostCompiler};
 use cuda_plans::nvhpc::Nvhpc;
 use cuda_plans::ptxas::Ptxas;
+use option_items::table::{ArgInfo, Pair, Table};
 use std::alloc::{AllocError, Global};
+use texts::fault::Fault;
+use texts::language::Language;
 
 /// A tool.
 #[derive(Clone, Copy)]

@@ -4,9 +4,9 @@ use crate::answer::Answer;
 use crate::stop::Stop;
 use crate::tools::Written;
 use cuda_below::command::{Cacheable, CompileCommandImpl, SingleCompileCommand};
-use cuda_below::fault::Fault;
 use cuda_plans::nvcc::{NvccCompileCommand, NvccHostCompiler};
 use std::alloc::{AllocError, Global};
+use texts::fault::Fault;
 
 // Adds the parts that any command has but its words.
 fn add_parts<C: CompileCommandImpl>(

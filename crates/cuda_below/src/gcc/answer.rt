@@ -7,12 +7,12 @@ ghost use Rattle.cuda_below.specs.Gcc as spec;
 use super::gathered::{Gathered, push_two};
 use crate::arguments::{ColorMode, CompilerArguments, ParsedArguments};
 use crate::compiler::CCompilerKind;
-use crate::extension::with_extension;
-use crate::language::Language;
 use crate::outputs::{ArtifactDescriptor, Outputs};
-use crate::text::Text;
-use crate::words::Words;
 use std::alloc::{AllocError, Global};
+use texts::extension::with_extension;
+use texts::language::Language;
+use texts::text::Text;
+use texts::words::Words;
 
 impl Gathered {
     ghost use Rattle.cuda_below.specs.GccSteps.{asked_by};

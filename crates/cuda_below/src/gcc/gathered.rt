@@ -1,16 +1,16 @@
 //! What the items of a gcc line ask for.
 
 ghost use Rattle.std.specs.Prelude.{◌≡◌, [], ◌∷◌, ◌++◌, true, false, OnOk};
-ghost use Rattle.cuda_below.specs.Items.{item_of, words_of, text_of};
+ghost use Rattle.option_items.specs.Items.{item_of, words_of, text_of};
 ghost use Rattle.cuda_below.specs.GccItems as spec;
 
 use super::ArgData;
 use super::languages::language_from_gcc_arg;
-use crate::items::{Argument, Line, NormalizedDisposition};
-use crate::language::Language;
-use crate::text::{Text, join};
-use crate::words::Words;
+use option_items::items::{Argument, Line, NormalizedDisposition};
 use std::alloc::{AllocError, Global};
+use texts::language::Language;
+use texts::text::{Text, join};
+use texts::words::Words;
 
 /// What the items so far ask for.
 #[derive(Drop)]

@@ -5,9 +5,9 @@ ghost use Rattle.std.specs.Option.{option_copied};
 ghost use Rattle.cuda_below.specs.GccItems.{language_named, name_of_language};
 ghost use Rattle.cuda_below.specs.GccLine.{language_words};
 
-use crate::language::Language;
-use crate::words::Words;
 use std::alloc::{AllocError, Global};
+use texts::language::Language;
+use texts::words::Words;
 
 /// The name that the option `-x` has for a language; `None` for one that gcc doesn't compile.
 pub fn language_to_gcc_arg(language: Language) -> Option<&'static str>

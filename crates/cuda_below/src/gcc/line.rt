@@ -1,9 +1,9 @@
 //! Writing gcc's arguments back as a command.
 
 ghost use Rattle.std.specs.Prelude.{◌≡◌, ◌++◌, map, None, Err, codes, IfOk, OnOk};
-ghost use Rattle.cuda_below.specs.Variables.{pair_of};
-ghost use Rattle.cuda_below.specs.Fault.{UnlessMemory};
-ghost use Rattle.cuda_below.specs.declared.fault.Fault.TheVariants.{MissingOutput};
+ghost use Rattle.texts.specs.Variables.{pair_of};
+ghost use Rattle.texts.specs.Fault.{UnlessMemory};
+ghost use Rattle.texts.specs.declared.fault.Fault.TheVariants.{MissingOutput};
 ghost use Rattle.cuda_below.specs.Outputs.{entry_at};
 ghost use Rattle.cuda_below.specs.Command.{written};
 ghost use Rattle.cuda_below.specs.GccLine.{flag_words, input_words, option_words, gcc_words};
@@ -12,11 +12,11 @@ use super::gathered::push_two;
 use super::languages::push_language;
 use crate::arguments::ParsedArguments;
 use crate::command::{Cacheable, SingleCompileCommand};
-use crate::fault::Fault;
-use crate::text::Text;
-use crate::variables::Variables;
-use crate::words::Words;
 use std::alloc::{AllocError, Global};
+use texts::fault::Fault;
+use texts::text::Text;
+use texts::variables::Variables;
+use texts::words::Words;
 
 // Puts the flag that asks for a compilation last, if there is one.
 fn push_flag(alloc: Global, words: &mut Words, flag: &str) -> Result<(), AllocError>

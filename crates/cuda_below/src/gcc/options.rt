@@ -1,10 +1,10 @@
 //! The options that the gcc reader knows: this project's profile of gcc's options.
 
 ghost use Rattle.std.specs.Prelude.{◌≡◌, true, map};
-ghost use Rattle.cuda_below.specs.Table.{entry_of};
+ghost use Rattle.option_items.specs.Table.{entry_of};
 ghost use Rattle.cuda_below.specs.GccOptions.{gcc_entries, differ};
 
-use crate::table::{ArgDisposition, ArgInfo, EITHER_WAY, JOINED, JOINED_BY_EQUALS, Table};
+use option_items::table::{ArgDisposition, ArgInfo, EITHER_WAY, JOINED, JOINED_BY_EQUALS, Table};
 
 /// What an option of a gcc-like compiler is for.
 #[derive(Clone, Copy, Debug, PartialEq)]

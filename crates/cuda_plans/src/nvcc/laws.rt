@@ -1,6 +1,6 @@
 //! Laws of nvcc's records, and lines worked out by hand, which the definitions compute.
 
-ghost use Rattle.cuda_below.specs.Equality.{TellsEqual};
+ghost use Rattle.texts.specs.Equality.{TellsEqual};
 ghost use Rattle.cuda_plans.specs.NvccRows as rows;
 
 use super::{Nvcc, NvccCompileCommand};

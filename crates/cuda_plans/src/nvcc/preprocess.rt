@@ -1,16 +1,16 @@
 //! The commands that preprocess the input of an nvcc line.
 
 ghost use Rattle.std.specs.Prelude.{map};
-ghost use Rattle.cuda_below.specs.Variables.{pair_of};
-ghost use Rattle.cuda_below.specs.Fault.{UnlessMemory};
+ghost use Rattle.texts.specs.Variables.{pair_of};
+ghost use Rattle.texts.specs.Fault.{UnlessMemory};
 ghost use Rattle.host_lines.specs.Preprocess as spec;
 
 use super::Nvcc;
 use cuda_below::arguments::ParsedArguments;
 use cuda_below::command::SingleCompileCommand;
-use cuda_below::fault::Fault;
 use host_lines::nvcc;
 use std::alloc::Global;
+use texts::fault::Fault;
 
 impl Nvcc {
     /// The one or two commands that preprocess a line's input, as in sccache 0.19.0. The last one prints

@@ -2,21 +2,21 @@
 
 ghost use Rattle.std.specs.Prelude.{◌≡◌, true, false, IfOk, OnOk};
 ghost use Rattle.std.specs.List.{fold};
-ghost use Rattle.cuda_below.specs.ArgsIter.{words_left, table_of};
-ghost use Rattle.cuda_below.specs.Items.{items, item_of, item_read};
+ghost use Rattle.option_items.specs.ArgsIter.{words_left, table_of};
+ghost use Rattle.option_items.specs.Items.{items, item_of, item_read};
 ghost use Rattle.cuda_below.specs.Outputs.{with_entry};
-ghost use Rattle.cuda_below.specs.Path.{joined};
+ghost use Rattle.texts.specs.Path.{joined};
 ghost use Rattle.device_lines.specs.Reading as spec;
 
 use crate::options::ArgData;
 use cuda_below::arguments::ParsedArguments;
-use cuda_below::items::{ArgParseError, ArgsIter, Argument};
-use cuda_below::language::Language;
 use cuda_below::outputs::{ArtifactDescriptor, OBJ, Outputs};
-use cuda_below::table::SearchableArgInfo;
-use cuda_below::text::{Text, join};
-use cuda_below::words::Words;
+use option_items::items::{ArgParseError, ArgsIter, Argument};
+use option_items::table::SearchableArgInfo;
 use std::alloc::{AllocError, Global};
+use texts::language::Language;
+use texts::text::{Text, join};
+use texts::words::Words;
 
 /// The words and files of the items so far.
 #[derive(Debug, Drop)]

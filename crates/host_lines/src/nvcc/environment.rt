@@ -4,13 +4,13 @@ ghost use Rattle.std.specs.Prelude.{◌≡◌, ◌++◌, map, IfOk, string_bytes
 ghost use Rattle.std.specs.Map.{lookup};
 ghost use Rattle.std.specs.Option.{option_copied};
 ghost use Rattle.std.specs.Str.{bytes_eq};
-ghost use Rattle.cuda_below.specs.Variables.{pair_of};
+ghost use Rattle.texts.specs.Variables.{pair_of};
 ghost use Rattle.host_lines.specs.NvccEnvironment as spec;
 
-use cuda_below::variables::Variables;
-use cuda_below::words::Words;
 use shell_words::split;
 use std::alloc::{AllocError, Global};
+use texts::variables::Variables;
+use texts::words::Words;
 
 const PREPENDED: &str = "NVCC_PREPEND_FLAGS";
 

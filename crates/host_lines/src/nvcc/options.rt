@@ -1,12 +1,14 @@
 //! nvcc's own options.
 
 ghost use Rattle.std.specs.Prelude.{◌≡◌, true, map};
-ghost use Rattle.cuda_below.specs.Table.{entry_of};
+ghost use Rattle.option_items.specs.Table.{entry_of};
 ghost use Rattle.cuda_below.specs.GccOptions.{differ};
 ghost use Rattle.host_lines.specs.NvccOptions.{nvcc_options};
 
 use cuda_below::gcc::ArgData;
-use cuda_below::table::{ArgDisposition, ArgInfo, EITHER_WAY, EITHER_WAY_OR_EQUALS, JOINED, Table};
+use option_items::table::{
+    ArgDisposition, ArgInfo, EITHER_WAY, EITHER_WAY_OR_EQUALS, JOINED, Table,
+};
 
 /// nvcc's options, as sccache 0.19.0's table has them, beside those of the gcc profile. No two have
 /// one text. `--archive-options options` has its space, so no word without one is that option.

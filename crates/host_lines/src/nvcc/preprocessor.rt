@@ -1,8 +1,8 @@
 //! The commands that preprocess the input of an nvcc line.
 
 ghost use Rattle.std.specs.Prelude.{◌≡◌, map, IfOk, string_bytes};
-ghost use Rattle.cuda_below.specs.Variables.{pair_of};
-ghost use Rattle.cuda_below.specs.Fault.{UnlessMemory};
+ghost use Rattle.texts.specs.Variables.{pair_of};
+ghost use Rattle.texts.specs.Fault.{UnlessMemory};
 ghost use Rattle.host_lines.specs.Preprocess as spec;
 
 use super::environment::without_flags;
@@ -10,12 +10,12 @@ use crate::preprocess::{commands, common_command};
 use cuda_below::arguments::ParsedArguments;
 use cuda_below::command::SingleCompileCommand;
 use cuda_below::compiler::NvccHostCompiler;
-use cuda_below::fault::Fault;
 use cuda_below::gcc::language_to_gcc_arg;
-use cuda_below::text::Text;
-use cuda_below::words::Words;
 use indexmap::IndexSet;
 use std::alloc::{AllocError, Global};
+use texts::fault::Fault;
+use texts::text::Text;
+use texts::words::Words;
 
 /// The one or two commands that preprocess the input of an nvcc line, as in sccache 0.19.0. The last
 /// one prints the preprocessed code. If the line has dependency words, the first one writes the

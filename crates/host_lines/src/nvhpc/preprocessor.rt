@@ -2,21 +2,21 @@
 
 ghost use Rattle.std.specs.Prelude.{◌≡◌, map, IfOk, string_bytes};
 ghost use Rattle.std.specs.Option.{option_copied};
-ghost use Rattle.cuda_below.specs.Variables.{pair_of};
-ghost use Rattle.cuda_below.specs.Fault.{UnlessMemory};
+ghost use Rattle.texts.specs.Variables.{pair_of};
+ghost use Rattle.texts.specs.Fault.{UnlessMemory};
 ghost use Rattle.host_lines.specs.Preprocess as spec;
 
 use super::Nvhpc;
 use crate::preprocess::{commands, common_command};
 use cuda_below::arguments::ParsedArguments;
 use cuda_below::command::SingleCompileCommand;
-use cuda_below::fault::Fault;
 use cuda_below::gcc::language_to_gcc_arg;
-use cuda_below::language::Language;
-use cuda_below::text::Text;
-use cuda_below::variables::Variables;
-use cuda_below::words::Words;
 use std::alloc::{AllocError, Global};
+use texts::fault::Fault;
+use texts::language::Language;
+use texts::text::Text;
+use texts::variables::Variables;
+use texts::words::Words;
 
 impl Nvhpc {
     /// The one or two commands that preprocess a line's input, as in sccache 0.19.0. The last one prints

@@ -1,5 +1,5 @@
 use Rattle.std.proofs.Common.{◌≡◌, map, fold}
-use Rattle.cuda_below.specs.Variables.{pair_of}
+use Rattle.texts.specs.Variables.{pair_of}
 use Rattle.canonical_names.specs.References.{reference_seen, insert_pair, longest_pairs_first}
 use Rattle.canonical_names.proofs.renames.longest_first.Given as goal
 

@@ -1,6 +1,6 @@
 use Rattle.std.proofs.Common.{◌≡◌, map, drop}
 use Rattle.std.specs.List.{list_all}
-use Rattle.cuda_below.specs.Path.{is_bare}
+use Rattle.texts.specs.Path.{is_bare}
 use Rattle.canonical_names.specs.Shown.{name_shown}
 use Rattle.canonical_names.proofs.shadow.are_bare.Given as goal
 

@@ -1,6 +1,6 @@
 use Rattle.std.proofs.Common.{◌≡◌, map, drop, codes}
 use Rattle.std.specs.List.{list_all}
-use Rattle.cuda_below.specs.Lists.{word_after}
+use Rattle.texts.specs.Lists.{word_after}
 use Rattle.dry_runs.specs.CommandLines.{line_seen, words_of_command}
 use Rattle.canonical_names.specs.Shadow.{is_plain_output}
 use Rattle.canonical_names.proofs.shadow.are_plain.Given as goal

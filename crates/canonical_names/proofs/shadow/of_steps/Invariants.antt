@@ -1,5 +1,5 @@
 use Rattle.std.proofs.Common.{◌≡◌, ◌++◌, map, filter, drop}
-use Rattle.cuda_below.specs.DeviceFiles.{is_cicc_word}
+use Rattle.texts.specs.DeviceFiles.{is_cicc_word}
 use Rattle.canonical_names.specs.Shown.{name_shown}
 use Rattle.canonical_names.proofs.shadow.of_steps.Given as goal
 

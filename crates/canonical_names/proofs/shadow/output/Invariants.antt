@@ -1,5 +1,5 @@
 use Rattle.std.proofs.Common.{◌≡◌, map, length, codes, string_bytes}
-use Rattle.cuda_below.specs.Lists.{word_after}
+use Rattle.texts.specs.Lists.{word_after}
 use Rattle.canonical_names.proofs.shadow.output.Given as goal
 
 abbrev pub invariant-loop-word : goal.invariant-loop-word

@@ -1,5 +1,5 @@
 use Rattle.std.proofs.Common.{codes}
-use Rattle.cuda_below.proofs.TableLemmas.{rest_after-stripped}
+use Rattle.texts.proofs.RestLemmas.{rest_after-stripped}
 use Rattle.canonical_names.proofs.words.unmarked.Goals as goal
 
 pub returns : goal.returns

@@ -1,6 +1,6 @@
 use Rattle.std.proofs.Common.{◌≡◌, ◌++◌, map}
 use Rattle.std.specs.Prelude.{if◌then◌else◌}
-use Rattle.cuda_below.specs.Variables.{pair_of}
+use Rattle.texts.specs.Variables.{pair_of}
 use Rattle.dry_runs.specs.Environment.{with_variable}
 use Rattle.command_groups.proofs.environment.with_variable.Given as goal
 

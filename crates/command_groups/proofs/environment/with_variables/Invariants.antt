@@ -1,5 +1,5 @@
 use Rattle.std.proofs.Common.{◌≡◌, map, drop}
-use Rattle.cuda_below.specs.Variables.{pair_of}
+use Rattle.texts.specs.Variables.{pair_of}
 use Rattle.dry_runs.specs.Environment.{with_variables}
 use Rattle.command_groups.proofs.environment.with_variables.Given as goal
 

@@ -1,6 +1,6 @@
 use Rattle.std.proofs.Common.{◌≡◌, Some, map, fold, string_bytes, drop}
 use Rattle.std.specs.Option.{option_copied}
-use Rattle.cuda_below.specs.Lists.{last_of}
+use Rattle.texts.specs.Lists.{last_of}
 use Rattle.command_groups.proofs.stage.last_word.Given as goal
 
 -- the last word is the last one of those that are left, or else the last one so far

@@ -1,6 +1,6 @@
 use Rattle.std.proofs.Common.{◌≡◌, map, string_bytes, drop}
 use Rattle.std.specs.Prelude.{if◌then◌else◌}
-use Rattle.cuda_below.specs.Lists.{first_word, word_after}
+use Rattle.texts.specs.Lists.{first_word, word_after}
 use Rattle.command_groups.proofs.stage.word_after.Given as goal
 
 -- the word is the first that is left, or stands after the option among those that are left

@@ -1,10 +1,10 @@
 use Rattle.std.proofs.Common.{Option, Result, length, arith, ap, sym, subst, ◌∙◌}
 use Rattle.std.specs.Option.{option_map, option_copied}
 use Rattle.cuda_below.specs.declared.gcc.options.ArgData.{ArgData}
-use Rattle.cuda_below.specs.declared.items.Argument.{Argument}
-use Rattle.cuda_below.specs.declared.items.ArgParseError.{ArgParseError}
-use Rattle.cuda_below.specs.Table.{Entry, entry_of}
-use Rattle.cuda_below.specs.Items.{Completes, said_of, item_of, item_read}
+use Rattle.option_items.specs.declared.items.Argument.{Argument}
+use Rattle.option_items.specs.declared.items.ArgParseError.{ArgParseError}
+use Rattle.option_items.specs.Table.{Entry, entry_of}
+use Rattle.option_items.specs.Items.{Completes, said_of, item_of, item_read}
 use Rattle.cuda_below.specs.GccSteps.{asked_by}
 use Rattle.cuda_below.proofs.GccLemmas.{gathering_after, words-completed, after_item, after_refusal, after_dashes}
 use Rattle.cuda_below.proofs.gcc.gather.Goals as goal

@@ -4,7 +4,7 @@ use Rattle.std.specs.Cmp.Lexicographic.{pointwise}
 use Rattle.std.proofs.lemmas.Bool.Decides.{Decides-and, Decides-like}
 use Rattle.std.proofs.lemmas.Slice.Eq.{bytes_eq-Decides}
 use Rattle.cuda_below.specs.declared.arguments.CompilerArguments.TheVariants as answer
-use Rattle.cuda_below.proofs.EqualityLemmas.{options}
+use Rattle.texts.proofs.EqualityLemmas.{options}
 use Rattle.cuda_below.proofs.laws.answer_equality.Goals as goal
 
 pub returns : goal.returns

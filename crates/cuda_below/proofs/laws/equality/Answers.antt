@@ -1,7 +1,8 @@
 use Rattle.std.proofs.Common.{nat_eq}
 use Rattle.std.specs.Cmp.Lexicographic.{pointwise}
 use Rattle.std.proofs.lemmas.Slice.Eq.{bytes_eq-Decides}
-use Rattle.cuda_below.proofs.EqualityLemmas.{lists, variables, outputs, arguments, commands}
+use Rattle.texts.proofs.EqualityLemmas.{lists, variables}
+use Rattle.cuda_below.proofs.RecordLemmas.{outputs, arguments, commands}
 use Rattle.cuda_below.proofs.laws.equality.Goals as goal
 
 pub returns-clause-words : goal.returns-clause-words

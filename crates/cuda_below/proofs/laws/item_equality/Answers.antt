@@ -2,8 +2,8 @@ use Rattle.std.proofs.Common.{◌≡◌, ap, nat_eq, string_bytes, rules}
 use Rattle.std.specs.Cmp.Lexicographic.{pointwise}
 use Rattle.std.proofs.lemmas.Bool.Decides.{Decides-and, Decides-like}
 use Rattle.std.proofs.lemmas.Slice.Eq.{bytes_eq-Decides}
-use Rattle.cuda_below.specs.declared.items.Argument.TheVariants.{Raw, UnknownFlag, Flag, WithValue}
-use Rattle.cuda_below.specs.Items.{raw, unknown_flag, flag, with_value}
+use Rattle.option_items.specs.declared.items.Argument.TheVariants.{Raw, UnknownFlag, Flag, WithValue}
+use Rattle.option_items.specs.Items.{raw, unknown_flag, flag, with_value}
 use Rattle.cuda_below.proofs.laws.item_equality.Goals as goal
 
 pub returns : goal.returns

@@ -3,7 +3,7 @@ use Rattle.std.specs.Cmp.Lexicographic.{pointwise}
 use Rattle.std.specs.Option.{option_eq}
 use Rattle.std.proofs.lemmas.Bool.Decides.{Decides-like}
 use Rattle.std.proofs.lemmas.Slice.Eq.{bytes_eq-Decides}
-use Rattle.cuda_below.proofs.EqualityLemmas.{options}
+use Rattle.texts.proofs.EqualityLemmas.{options}
 use Rattle.device_lines.proofs.laws.equality.Goals as goal
 
 pub returns-clause-cicc : goal.returns-clause-cicc

@@ -1,8 +1,8 @@
 use Rattle.std.proofs.Common.{◌≡◌, [], ◌∙◌, ap, subst, map, string_bytes, slice_index_or}
 use Rattle.std.specs.List.{fold, remove}
 use Rattle.std.specs.Result.{IfOk}
-use Rattle.cuda_below.specs.ArgsIter.{words_left}
-use Rattle.cuda_below.specs.Items.{items}
+use Rattle.option_items.specs.ArgsIter.{words_left}
+use Rattle.option_items.specs.Items.{items}
 use Rattle.device_lines.proofs.ReadingLemmas.{reading-gathered}
 use Rattle.device_lines.specs.Gathered.{nothing_gathered, with_item, reading_of_gathered}
 use Rattle.device_lines.proofs.reader.read_around.Goals as goal

@@ -1,4 +1,4 @@
-use Rattle.cuda_below.proofs.TableLemmas.{rest_after-stripped}
+use Rattle.texts.proofs.RestLemmas.{rest_after-stripped}
 use Rattle.dry_runs.proofs.environment.behind_name.Goals as goal
 
 pub returns-clause-rest : goal.returns-clause-rest

@@ -1,6 +1,6 @@
 use Rattle.std.proofs.Common.{◌≡◌, true, ◌∙◌, map, drop, string_bytes, subst, sym}
-use Rattle.cuda_below.specs.Path.{lacks}
-use Rattle.cuda_below.specs.Variables.{pair_of}
+use Rattle.texts.specs.Path.{lacks}
+use Rattle.texts.specs.Variables.{pair_of}
 use Rattle.dry_runs.proofs.ExpansionLemmas.{expanded-nothing, lacking}
 use Rattle.dry_runs.proofs.environment.expanded.Goals as goal
 

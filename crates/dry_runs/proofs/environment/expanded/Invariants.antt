@@ -1,5 +1,5 @@
 use Rattle.std.proofs.Common.{◌≡◌, map, drop, string_bytes}
-use Rattle.cuda_below.specs.Variables.{pair_of}
+use Rattle.texts.specs.Variables.{pair_of}
 use Rattle.dry_runs.specs.Environment as spec
 use Rattle.dry_runs.proofs.environment.expanded.Given as goal
 

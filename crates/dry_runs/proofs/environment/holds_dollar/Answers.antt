@@ -1,5 +1,5 @@
 use Rattle.std.proofs.Common.{not, ◌∙◌, ap, sym}
-use Rattle.cuda_below.specs.Path.{lacks}
+use Rattle.texts.specs.Path.{lacks}
 use Rattle.dry_runs.proofs.ExpansionLemmas.{lacks-not}
 use Rattle.dry_runs.proofs.environment.holds_dollar.Goals as goal
 

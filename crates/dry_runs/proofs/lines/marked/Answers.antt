@@ -1,5 +1,5 @@
 use Rattle.std.proofs.Common.{codes}
-use Rattle.cuda_below.proofs.TableLemmas.{rest_after-stripped}
+use Rattle.texts.proofs.RestLemmas.{rest_after-stripped}
 use Rattle.dry_runs.proofs.lines.marked.Goals as goal
 
 pub returns : goal.returns

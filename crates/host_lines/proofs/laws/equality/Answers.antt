@@ -4,7 +4,7 @@ use Rattle.std.specs.Cmp.Lexicographic.{pointwise}
 use Rattle.std.specs.Option.{option_eq}
 use Rattle.std.proofs.lemmas.Bool.Decides.{Decides-and, Decides-like}
 use Rattle.std.proofs.lemmas.Slice.Eq.{bytes_eq-Decides}
-use Rattle.cuda_below.proofs.EqualityLemmas.{bools, options}
+use Rattle.texts.proofs.EqualityLemmas.{bools, options}
 use Rattle.host_lines.proofs.laws.equality.Goals as goal
 
 pub returns : goal.returns

@@ -1,5 +1,5 @@
 use Rattle.std.proofs.Common.{◌≡◌, [], ◌∷◌, ◌++◌, OnOk, map, string_bytes, subst, ap, ◌∙◌, codes}
-use Rattle.cuda_below.specs.Numeral.{numeral}
+use Rattle.texts.specs.Numeral.{numeral}
 use Rattle.plan_texts.specs.ShownPlan.{show_reason, show_words}
 use Rattle.plan_texts.proofs.Pushing.{pushed}
 use Rattle.plan_texts.proofs.plan.push_dropped.Goals as goal

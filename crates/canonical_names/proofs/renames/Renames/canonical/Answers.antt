@@ -6,7 +6,7 @@ use Rattle.std.specs.Option.{option_copied}
 use Rattle.std.specs.Result.{IfOk, OnOk}
 use Rattle.std.specs.Str.{bytes_eq}
 use Rattle.std.proofs.lemmas.Result.{IfOk-weaker}
-use Rattle.cuda_below.specs.Variables.{pair_of}
+use Rattle.texts.specs.Variables.{pair_of}
 use Rattle.canonical_names.specs.Counted.{old_names}
 use Rattle.canonical_names.specs.Renaming as spec
 use Rattle.canonical_names.proofs.CountedLemmas.{known-name, unknown-name}

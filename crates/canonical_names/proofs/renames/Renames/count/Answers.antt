@@ -1,5 +1,5 @@
 use Rattle.std.proofs.Common.{◌≡◌, ◌<◌, ◌≤◌, ℕ, List, length, get_or, map, sym, subst, ◌∙◌, arith}
-use Rattle.cuda_below.specs.Variables.{pair_of}
+use Rattle.texts.specs.Variables.{pair_of}
 use Rattle.canonical_names.specs.Counted.{old_names, IsCount}
 use Rattle.canonical_names.proofs.CountedLemmas.{counter-read, counter-limit, counter-is, old_names-length}
 use Rattle.canonical_names.proofs.renames.Renames.count.Goals as goal

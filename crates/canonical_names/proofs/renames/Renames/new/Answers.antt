@@ -1,7 +1,7 @@
 use Rattle.std.proofs.Common.{◌≡◌, ℕ, List, [], map, length, replicate, ap, ◌∙◌, subst, sym, true}
 use Rattle.std.specs.declared.alloc.Global.{Global}
 use Rattle.std.proofs.Common.{String}
-use Rattle.cuda_below.specs.Variables.{pair_of}
+use Rattle.texts.specs.Variables.{pair_of}
 use Rattle.canonical_names.specs.Counted.{old_names, IsCounted}
 use Rattle.canonical_names.specs.SuffixRule.{are_suffixes}
 use Rattle.canonical_names.proofs.CountedLemmas.{nothing-counted}

@@ -1,6 +1,6 @@
 use Rattle.std.proofs.Common.{◌≡◌, ℕ, List, true, false, ap, sym, ◌∙◌, drop, length, ◌<◌, subst}
 use Rattle.std.specs.List.{list_any, slice_get}
-use Rattle.cuda_below.specs.Lists.{is_some_and}
+use Rattle.texts.specs.Lists.{is_some_and}
 use Rattle.canonical_names.specs.Alike.{holds}
 use Rattle.canonical_names.proofs.PlaceLemmas.{any-later, any-here}
 use Rattle.canonical_names.proofs.suffixes.Suffixes.stand_in.Goals as goal

@@ -2,7 +2,7 @@ use Rattle.std.proofs.Common.{◌∙◌, ap}
 use Rattle.std.proofs.lemmas.Map.Text.{is_eq-slice_cmp}
 use Rattle.std.specs.Str.{bytes_eq}
 use Rattle.cuda_below.specs.Outputs.{entry_at}
-use Rattle.cuda_below.proofs.ListLemmas.{lookup-map}
+use Rattle.texts.proofs.ListLemmas.{lookup-map}
 use Rattle.cuda_below.proofs.outputs.Outputs.get.Goals as goal
 
 pub returns : goal.returns

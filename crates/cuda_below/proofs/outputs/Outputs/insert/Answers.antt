@@ -2,7 +2,7 @@ use Rattle.std.proofs.Common.{◌∙◌, ap, map}
 use Rattle.std.specs.Ordering.{nat_cmp}
 use Rattle.std.specs.Cmp.Lexicographic.{slice_cmp}
 use Rattle.std.specs.BTreeMap.{insert_entry}
-use Rattle.cuda_below.proofs.ListLemmas.{map-insert_entry}
+use Rattle.texts.proofs.ListLemmas.{map-insert_entry}
 use Rattle.cuda_below.proofs.outputs.Outputs.insert.Goals as goal
 
 pub returns-clause-ok : goal.returns-clause-ok

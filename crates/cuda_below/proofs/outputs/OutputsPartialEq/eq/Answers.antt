@@ -2,7 +2,7 @@ use Rattle.std.proofs.Common.{◌∙◌, nat_eq}
 use Rattle.std.specs.Bool.{beq}
 use Rattle.std.specs.Cmp.Lexicographic.{pointwise}
 use Rattle.std.specs.Ordering.{on, eq_of_both}
-use Rattle.cuda_below.proofs.ListLemmas.{pointwise-map}
+use Rattle.texts.proofs.ListLemmas.{pointwise-map}
 use Rattle.cuda_below.proofs.outputs.OutputsPartialEq.eq.Goals as goal
 
 pub returns : goal.returns

@@ -1,8 +1,8 @@
 use Rattle.std.proofs.Common.{◌≡◌, List, map, string_bytes, subst}
 use Rattle.std.specs.Result.{IfOk}
-use Rattle.cuda_below.specs.declared.language.Language.TheVariants as languages
+use Rattle.texts.specs.declared.language.Language.TheVariants as languages
 use Rattle.cuda_below.specs.Compiler.{reading_of}
-use Rattle.cuda_below.specs.Table.{Entry}
+use Rattle.option_items.specs.Table.{Entry}
 use Rattle.device_lines.specs.declared.options.ArgData.{ArgData}
 use Rattle.device_lines.specs.Reading.{tool_reading}
 use Rattle.device_lines.proofs.ptxas.PtxasCCompilerImpl.parse_arguments.Goals as goal

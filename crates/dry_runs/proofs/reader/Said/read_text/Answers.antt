@@ -1,5 +1,5 @@
 use Rattle.std.proofs.Common.{ap, sym, subst}
-use Rattle.cuda_below.specs.Fault.{UnlessMemory}
+use Rattle.texts.specs.Fault.{UnlessMemory}
 use Rattle.dry_runs.specs.DryRun.{meaning_marked}
 use Rattle.dry_runs.specs.Reading.{said_after, said_next}
 use Rattle.dry_runs.proofs.reader.Said.read_text.Goals as goal

@@ -1,7 +1,7 @@
 use Rattle.std.proofs.Common.{◌≡◌, map, drop}
 use Rattle.std.specs.Map.{lookup}
 use Rattle.std.specs.Str.{bytes_eq}
-use Rattle.cuda_below.specs.Variables.{pair_of}
+use Rattle.texts.specs.Variables.{pair_of}
 use Rattle.host_lines.proofs.nvcc.environment.first_value.Given as goal
 
 abbrev pub invariant-loop-pair : goal.invariant-loop-pair

@@ -1,5 +1,5 @@
 use Rattle.std.proofs.Common.{◌≡◌, ◌++◌, map, drop}
-use Rattle.cuda_below.specs.Variables.{pair_of}
+use Rattle.texts.specs.Variables.{pair_of}
 use Rattle.host_lines.specs.NvccEnvironment.{without_flags}
 use Rattle.host_lines.proofs.nvcc.environment.without_flags.Given as goal
 

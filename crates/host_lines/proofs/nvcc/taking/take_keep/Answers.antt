@@ -1,7 +1,7 @@
 use Rattle.std.proofs.Common.{◌∙◌, ap, sym, subst, map, string_bytes, arith}
 use Rattle.std.specs.List.{fold}
 use Rattle.std.proofs.lemmas.List.{at_drop_all}
-use Rattle.cuda_below.specs.Fault.{UnlessMemory}
+use Rattle.texts.specs.Fault.{UnlessMemory}
 use Rattle.host_lines.specs.Taken.{with_keep_word, keep_of_gathered}
 use Rattle.host_lines.specs.KeepThreads.{keep_seen}
 use Rattle.host_lines.proofs.TakingLemmas.{keep_gathered}

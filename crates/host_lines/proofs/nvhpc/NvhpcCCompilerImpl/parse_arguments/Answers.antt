@@ -5,7 +5,7 @@ use Rattle.cuda_below.specs.declared.gcc.options.ArgData.{ArgData}
 use Rattle.cuda_below.specs.Compiler.{reading_of}
 use Rattle.cuda_below.specs.Gcc.{profile_reading}
 use Rattle.cuda_below.specs.GccOptions.{gcc_entries}
-use Rattle.cuda_below.specs.Table.{Entry, entry_of, longest_match, longer_choice}
+use Rattle.option_items.specs.Table.{Entry, entry_of, longest_match, longer_choice}
 use Rattle.host_lines.proofs.nvhpc.NvhpcCCompilerImpl.parse_arguments.Goals as goal
 
 pub returns : goal.returns

@@ -1,7 +1,7 @@
 use Rattle.std.proofs.Common.{◌≡◌, ◌∷◌, sym, ap, subst, ◌∙◌}
 use Rattle.std.specs.List.{fold}
-use Rattle.cuda_below.specs.ArgsIter.{words_left}
-use Rattle.cuda_below.specs.Items.{item_read, items}
+use Rattle.option_items.specs.ArgsIter.{words_left}
+use Rattle.option_items.specs.Items.{item_read, items}
 use Rattle.device_lines.specs.Gathered.{with_item}
 use Rattle.device_lines.proofs.reader.gathered.Gathered.from_line.Goals as goal
 

@@ -1,7 +1,7 @@
 use Rattle.std.proofs.Common.{◌≡◌, length}
 use Rattle.std.specs.List.{fold}
-use Rattle.cuda_below.specs.ArgsIter.{words_left, table_of}
-use Rattle.cuda_below.specs.Items.{items}
+use Rattle.option_items.specs.ArgsIter.{words_left, table_of}
+use Rattle.option_items.specs.Items.{items}
 use Rattle.device_lines.specs.Gathered.{nothing_gathered, with_item}
 use Rattle.device_lines.proofs.reader.gathered.Gathered.from_line.Given as goal
 

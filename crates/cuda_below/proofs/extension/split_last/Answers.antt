@@ -1,5 +1,0 @@
-use Rattle.cuda_below.proofs.ExtensionLemmas.{split_at_last-split}
-use Rattle.cuda_below.proofs.extension.split_last.Goals as goal
-
-pub returns : goal.returns
-returns c = split_at_last-split _ _ _ c.rsplit_once.ensures.cases c.requires

@@ -1,5 +1,0 @@
-use Rattle.cuda_below.proofs.TableLemmas.{rest_after-stripped}
-use Rattle.cuda_below.proofs.table.rest_of.Goals as goal
-
-pub returns : goal.returns
-returns c = rest_after-stripped _ _ _ c.strip_prefix.ensures.cases

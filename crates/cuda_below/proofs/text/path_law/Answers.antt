@@ -1,5 +1,0 @@
-use Rattle.cuda_below.proofs.PathLaw.{joined-keeps_folder, joined-has_name, folder-begins, joined-cancels, folders-cancel}
-use Rattle.cuda_below.proofs.text.path_law.Goals as goal
-
-pub returns : goal.returns
-returns c = record { folder = joined-keeps_folder; name = joined-has_name; beginning = folder-begins; cancel = joined-cancels; folders = folders-cancel }

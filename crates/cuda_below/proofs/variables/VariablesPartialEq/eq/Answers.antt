@@ -1,6 +1,0 @@
-use Rattle.std.proofs.Common.{◌∙◌}
-use Rattle.cuda_below.proofs.ListLemmas.{pointwise-pairs}
-use Rattle.cuda_below.proofs.variables.VariablesPartialEq.eq.Goals as goal
-
-pub returns : goal.returns
-returns c = rw (← c.as_slice.ensures, ← c.as_slice-2.ensures) (c.eq.ensures ∙ pointwise-pairs c.as_slice.result.now c.as_slice-2.result.now)

@@ -1,0 +1,5 @@
+pub mod ArgsIter
+pub mod Items
+pub mod LongestMatch
+pub mod Table
+pub mod WordsLaw

@@ -1,0 +1,428 @@
+//! The items of a command line, read word by word over an option table.
+
+ghost use Rattle.std.specs.Prelude.{◌≡◌, ◌∷◌, [], ◌++◌, ◌<◌, length, map, Some, MatchOption, IfOk, OnOk, OnErr, string_bytes};
+ghost use Rattle.std.specs.Option.{option_map, option_copied};
+ghost use Rattle.std.specs.List.{remove};
+ghost use Rattle.option_items.specs.Table.{entry_of};
+ghost use Rattle.option_items.specs.Items.{item_of, item_read};
+ghost use Rattle.option_items.specs.Items as spec;
+ghost use Rattle.option_items.specs.WordsLaw as law;
+
+use crate::table::{ArgDisposition, ArgInfo, Match, SearchableArgInfo};
+use std::alloc::{AllocError, Global};
+use std::marker::{Model, PhantomData};
+use texts::words::Words;
+
+/// The words of a command line that are still to be read, in order, seen as the list of their texts.
+#[derive(Debug, Drop)]
+pub struct Line<'a> {
+    front: &'a [String],
+    back: &'a [String],
+}
+
+impl<'a> Model for Line<'a> {
+    ghost use Rattle.std.specs.Prelude.{List, ℕ, map, string_bytes, ◌++◌};
+
+    ghost Value = { List (List ℕ) };
+
+    ghost view = { λ l. map string_bytes l.front.now ++ map string_bytes l.back.now };
+}
+
+impl<'a> Line<'a> {
+    /// All of `words`.
+    pub fn new(words: &'a [String]) -> Line<'a>
+        ensures { result ≡ map string_bytes words.entry.now }
+    {
+        Line {
+            front: words,
+            back: &[],
+        }
+    }
+
+    /// The words but the one at `place`.
+    pub fn without(words: &'a [String], place: usize) -> Line<'a>
+        requires { place < length words.now }
+        ensures { result ≡ remove (map string_bytes words.entry.now) place }
+    {
+        Line {
+            front: &words[..place],
+            back: &words[place + 1..],
+        }
+    }
+
+    /// Takes the first word.
+    pub fn next_word(&mut self) -> Option<&'a str>
+        ensures { MatchOption result ((self.old ≡ []) × (self.new ≡ [])) (λ word. self.old ≡ word.now ∷ self.new) }
+    {
+        if let Some((word, rest)) = self.front.split_first() {
+            self.front = rest;
+            return Some(word.as_str());
+        }
+        let (word, rest) = self.back.split_first()?;
+        self.back = rest;
+        Some(word.as_str())
+    }
+
+    /// Puts the words that are left last among `words`. On an error these stay as they were.
+    pub fn write(self, alloc: Global, words: &mut Words) -> Result<(), AllocError>
+        ensures ok { OnOk result (words.new ≡ words.old ++ self.entry) }
+        ensures err { OnErr result (words.new ≡ words.old) }
+    {
+        let mut left = Words::copy_of(alloc, self.front)?;
+        left.extend(alloc, self.back)?;
+        words.append(left)
+    }
+}
+
+/// An item of a command line. `T` is the kind that its table gives each option.
+#[derive(Debug, PartialEq, Drop)]
+pub enum Argument<T: Copy> {
+    /// A word that is no option.
+    Raw(String),
+    /// A word that begins with `-` and that no entry matches.
+    UnknownFlag(String),
+    /// An option without a value: its text and kind.
+    Flag(&'static str, T),
+    /// An option with a value: its text, kind and value, and how the value stood.
+    WithValue(&'static str, T, String, ArgDisposition),
+}
+
+/// How the words of an option are to stand that may be written both ways.
+#[derive(Clone, Copy, Debug, PartialEq)]
+pub enum NormalizedDisposition {
+    /// The option and its value as two words.
+    Separated,
+    /// Both in one word.
+    Concatenated,
+}
+
+/// Why a word is no item.
+#[derive(Clone, Copy, Debug, PartialEq)]
+pub enum ArgParseError {
+    /// The line ends where an option's value would stand.
+    UnexpectedEndOfArgs,
+}
+
+impl<T: Copy> Argument<T> {
+    /// The option's kind, if the item is an option.
+    pub fn get_data(&self) -> Option<&T>
+        ensures { option_copied result ≡ spec.kind_of (item_of self.now) }
+    {
+        match self {
+            Argument::Raw(_) | Argument::UnknownFlag(_) => None,
+            Argument::Flag(_, kind) => Some(kind),
+            Argument::WithValue(_, kind, _, _) => Some(kind),
+        }
+    }
+
+    /// The option's text, if the item is an option of the table.
+    pub fn flag_str(&self) -> Option<&'static str>
+        ensures { option_copied result ≡ spec.text_of (item_of self.now) }
+    {
+        match self {
+            Argument::Raw(_) | Argument::UnknownFlag(_) => None,
+            Argument::Flag(text, _) => Some(text),
+            Argument::WithValue(text, _, _, _) => Some(text),
+        }
+    }
+
+    /// The option's value, as the line gives it; empty for an item that takes none.
+    pub fn value(&self) -> &str
+        ensures { result.now ≡ spec.value_of (item_of self.now) }
+    {
+        match self {
+            Argument::Raw(_) | Argument::UnknownFlag(_) | Argument::Flag(_, _) => "",
+            Argument::WithValue(_, _, value, _) => value.as_str(),
+        }
+    }
+
+    /// The same item, to be written as `disposition` says if its option may be written both ways.
+    /// Any other item stays as it is.
+    pub fn normalize(self, disposition: NormalizedDisposition) -> Argument<T>
+        ensures { item_of result ≡ spec.normalized disposition (item_of self) }
+    {
+        match self {
+            Argument::WithValue(text, kind, value, form) => {
+                Argument::WithValue(text, kind, value, form.normalize(disposition))
+            }
+            item => item,
+        }
+    }
+
+    // The item of a word that no entry matches.
+    fn unmatched(alloc: Global, word: &str) -> Result<Argument<T>, AllocError>
+        ensures { IfOk result (λ a. item_of a ≡ spec.unmatched_item word.now) }
+    {
+        let text = String::from_str(alloc, word)?;
+        if word.as_bytes().first() == Some(&b'-') {
+            Ok(Argument::UnknownFlag(text))
+        } else {
+            Ok(Argument::Raw(text))
+        }
+    }
+
+    /// The words that the item is written as, in memory of their own: those of `write`.
+    pub fn words(&self, alloc: Global) -> Result<Words, AllocError>
+        ensures { IfOk result (λ words. words ≡ spec.words_of (item_of self.now)) }
+    {
+        let mut words = Words::new(alloc);
+        match self {
+            Argument::Raw(word) | Argument::UnknownFlag(word) => {
+                words.push(String::from_str(alloc, word.as_str())?)?;
+            }
+            Argument::Flag(text, _) => words.push(String::from_str(alloc, text)?)?,
+            Argument::WithValue(text, _, value, form) => {
+                let value = String::from_str(alloc, value.as_str())?;
+                write_value(alloc, text, value, *form, &mut words)?;
+            }
+        }
+        Ok(words)
+    }
+
+    /// Puts the words that the item is written as last among `words`, and takes the item's texts for
+    /// them. An option with its value is two words; it is one word if the value was joined, with the
+    /// delimiter between them if there is one and the value isn't empty. On an error `words` stay as
+    /// they were.
+    pub fn write(self, alloc: Global, words: &mut Words) -> Result<(), AllocError>
+        ensures ok { OnOk result (words.new ≡ words.old ++ spec.words_of (item_of self)) }
+        ensures err { OnErr result (words.new ≡ words.old) }
+    {
+        match self {
+            Argument::Raw(word) | Argument::UnknownFlag(word) => words.push(word),
+            Argument::Flag(text, _) => words.push(String::from_str(alloc, text)?),
+            Argument::WithValue(text, _, value, form) => {
+                write_value(alloc, text, value, form, words)
+            }
+        }
+    }
+}
+
+impl ArgDisposition {
+    // How a value is written that stood like this.
+    fn normalize(self, disposition: NormalizedDisposition) -> ArgDisposition
+        ensures { result ≡ spec.normal_form disposition self }
+    {
+        match self {
+            ArgDisposition::CanBeSeparated(delimiter)
+            | ArgDisposition::CanBeConcatenated(delimiter) => match disposition {
+                NormalizedDisposition::Separated => ArgDisposition::Separated,
+                NormalizedDisposition::Concatenated => ArgDisposition::Concatenated(delimiter),
+            },
+            ArgDisposition::Separated | ArgDisposition::Concatenated(_) => self,
+        }
+    }
+}
+
+// The words of an option with its value.
+fn write_value(
+    alloc: Global,
+    text: &str,
+    value: String,
+    form: ArgDisposition,
+    words: &mut Words,
+) -> Result<(), AllocError>
+    ensures ok { OnOk result (words.new ≡ words.old ++ spec.value_words text.now (string_bytes value) form) }
+    ensures err { OnErr result (words.new ≡ words.old) }
+{
+    match form {
+        ArgDisposition::Separated | ArgDisposition::CanBeConcatenated(_) => {
+            words.push_two(String::from_str(alloc, text)?, value)
+        }
+        ArgDisposition::Concatenated(delimiter) | ArgDisposition::CanBeSeparated(delimiter) => {
+            words.push(joined_word(alloc, text, delimiter, value.as_str())?)
+        }
+    }
+}
+
+// An option and its value in one word.
+fn joined_word(
+    alloc: Global,
+    text: &str,
+    delimiter: Option<u8>,
+    value: &str,
+) -> Result<String, AllocError>
+    ensures { IfOk result (λ word. string_bytes word
+        ≡ (text.now ++ spec.delimiter_before value.now delimiter) ++ value.now) }
+{
+    let room = text.len().saturating_add(value.len()).saturating_add(1);
+    let mut word = String::with_capacity(alloc, room)?;
+    word.push_str(text)?;
+    if let Some(byte) = delimiter
+        && !value.is_empty()
+    {
+        word.push(char::from(byte))?;
+    }
+    word.push_str(value)?;
+    Ok(word)
+}
+
+/// The items of a line, over a table. It reads each word once, and gives at most as many items as
+/// there are words.
+///
+/// If memory is refused it gives nothing more, and `refused` tells. The words left are then those
+/// after the item that memory was refused for.
+#[derive(Drop)]
+pub struct ArgsIter<'a, S: SearchableArgInfo<T> + Drop, T: Copy> {
+    alloc: Global,
+    line: Line<'a>,
+    table: S,
+    refused: bool,
+    kinds: PhantomData<T>,
+}
+
+impl<'a, S: SearchableArgInfo<T> + Drop, T: Copy> ArgsIter<'a, S, T> {
+    ghost use Rattle.std.specs.Prelude.{false, true};
+    ghost use Rattle.option_items.specs.ArgsIter.{words_left, is_refused, table_of};
+
+    /// The items of `words`.
+    pub fn new(alloc: Global, words: &'a [String], table: S) -> ArgsIter<'a, S, T>
+        ensures words { words_left result ≡ map string_bytes words.entry.now }
+        ensures table { table_of result ≡ table }
+        ensures goes_on { is_refused result ≡ false }
+    {
+        ArgsIter::over(alloc, Line::new(words), table)
+    }
+
+    /// The items of the words of `line`.
+    pub fn over(alloc: Global, line: Line<'a>, table: S) -> ArgsIter<'a, S, T>
+        ensures words { words_left result ≡ line.entry }
+        ensures table { table_of result ≡ table }
+        ensures goes_on { is_refused result ≡ false }
+    {
+        ArgsIter {
+            alloc,
+            line,
+            table,
+            refused: false,
+            kinds: PhantomData,
+        }
+    }
+
+    /// Whether memory was refused, so that the items that came are only a beginning.
+    pub fn refused(&self) -> bool
+        ensures { result ≡ is_refused self.now }
+    {
+        self.refused
+    }
+}
+
+impl<'a, S: SearchableArgInfo<T> + Drop, T: Copy> Iterator for ArgsIter<'a, S, T> {
+    ghost use Rattle.std.specs.Prelude.{◌≡◌, length};
+    ghost use Rattle.std.specs.Iterator.{at_most};
+    ghost use Rattle.std.specs.Option.{option_map};
+
+    type Item = Result<Argument<T>, ArgParseError>;
+
+    ghost next_gives = { λ s r t. spec.ReadsItem (S.chosen s.table) s.line s.refused (option_map item_read r) t.line t.refused
+        × (t.table ≡ s.table) };
+
+    ghost remaining = { λ s. at_most (length s.line) };
+
+    fn next(&mut self) -> Option<Result<Argument<T>, ArgParseError>> {
+        if self.refused {
+            return None;
+        }
+        let word = self.line.next_word()?;
+        let row = self.table.search(word);
+        match read_item(self.alloc, row, word, &mut self.line) {
+            Ok(item) => Some(item),
+            Err(_) => {
+                self.refused = true;
+                None
+            }
+        }
+    }
+}
+
+/// The item that `word` begins, whose table row is `row`. An option takes its value from `line`, also
+/// if memory is then refused.
+///
+/// `ArgsIter` reads a whole line by it. A reader that needs the words between two items calls it itself.
+pub fn read_item<T: Copy>(
+    alloc: Global,
+    row: Option<&ArgInfo<T>>,
+    word: &str,
+    line: &mut Line<'_>,
+) -> Result<Result<Argument<T>, ArgParseError>, AllocError>
+    ensures item { IfOk result (λ r. spec.Completes
+        (spec.said_of word.now (option_map entry_of (option_copied row.entry))) line.old (item_read r) line.new) }
+    ensures left { line.new
+        ≡ spec.words_past (spec.said_of word.now (option_map entry_of (option_copied row.entry))) line.old }
+{
+    let Some(row) = row else {
+        return Ok(Ok(Argument::unmatched(alloc, word)?));
+    };
+    match row.matches(word) {
+        None => Ok(Ok(Argument::unmatched(alloc, word)?)),
+        Some(Match::Lone) => Ok(Ok(Argument::Flag(row.text(), row.kind()))),
+        Some(Match::Joined(value)) => Ok(Ok(row.joined(String::from_str(alloc, value)?))),
+        Some(Match::Awaiting) => match line.next_word() {
+            Some(value) => Ok(Ok(row.separate(String::from_str(alloc, value)?))),
+            None => Ok(row.last(alloc)),
+        },
+    }
+}
+
+impl<T: Copy> ArgInfo<T> {
+    // The option with a value that was joined to it.
+    fn joined(&self, value: String) -> Argument<T>
+        ensures { item_of result
+            ≡ spec.with_value (entry_of self.now).text (entry_of self.now).kind (string_bytes value)
+            (spec.joined_form (entry_of self.now).form) }
+    {
+        let form = match self.disposition() {
+            None => ArgDisposition::Concatenated(None),
+            Some(ArgDisposition::CanBeConcatenated(delimiter)) => {
+                ArgDisposition::CanBeSeparated(delimiter)
+            }
+            Some(disposition) => disposition,
+        };
+        Argument::WithValue(self.text(), self.kind(), value, form)
+    }
+
+    // The option with a value that was the next word.
+    fn separate(&self, value: String) -> Argument<T>
+        ensures { item_of result ≡ spec.separate_item (entry_of self.now) (string_bytes value) }
+    {
+        let form = match self.disposition() {
+            Some(ArgDisposition::CanBeSeparated(delimiter))
+            | Some(ArgDisposition::CanBeConcatenated(delimiter)) => {
+                ArgDisposition::CanBeConcatenated(delimiter)
+            }
+            _ => ArgDisposition::Separated,
+        };
+        Argument::WithValue(self.text(), self.kind(), value, form)
+    }
+
+    // The option as the last word of a line, where its value would be the next one.
+    fn last(&self, alloc: Global) -> Result<Argument<T>, ArgParseError>
+        ensures { item_read result ≡ spec.last_item (entry_of self.now) }
+    {
+        match self.disposition() {
+            Some(ArgDisposition::CanBeSeparated(None))
+            | Some(ArgDisposition::CanBeConcatenated(None)) => Ok(self.joined(String::new(alloc))),
+            _ => Err(ArgParseError::UnexpectedEndOfArgs),
+        }
+    }
+}
+
+/// A law, over every table: the words that an item is written as are read as that item again.
+///
+/// A line is cut into the parts that its items were read from (`parts`). It is said of items that
+/// are whole: not faulty, and with no value that is both joined and empty. Wherever such an item
+/// stands in a line, its words are the part that it was read from (`placed`). If it is a line's first
+/// item, the line begins with its words, and the later items are those of the words after them
+/// (`written`).
+///
+/// Each item of a line counts as read from one (`read`). The words of a whole item that is read from
+/// some line are read as that item whatever words come after them (`reread`). So are the words of a
+/// list of such items (`lists`), and a line whose items are all whole is written as itself (`lines`).
+pub fn words_law<T: Copy, S: SearchableArgInfo<T>>()
+    ensures parts { (table : S) → law.LinesAreTheirParts (S.chosen table) }
+    ensures placed { (table : S) → law.WholeItemsAreTheirParts (S.chosen table) }
+    ensures read { (table : S) → law.LinesHoldReadItems (S.chosen table) }
+    ensures written { (table : S) → law.WordsAreThoseRead (S.chosen table) }
+    ensures reread { (table : S) → law.WordsReadBack (S.chosen table) }
+    ensures lists { (table : S) → law.ListsReadBack (S.chosen table) }
+    ensures lines { (table : S) → law.WholeLinesAreKept (S.chosen table) }
+{}

@@ -1,0 +1,6 @@
+pub mod EqualityLemmas
+pub mod ExtensionLemmas
+pub mod ListLemmas
+pub mod PathLaw
+pub mod PathLemmas
+pub mod RestLemmas

@@ -1,0 +1,6 @@
+use Rattle.std.proofs.Common.{◌∙◌}
+use Rattle.texts.proofs.ListLemmas.{pointwise-texts}
+use Rattle.texts.proofs.words.WordsPartialEq.eq.Goals as goal
+
+pub returns : goal.returns
+returns c = rw (← c.as_slice.ensures, ← c.as_slice-2.ensures) (c.eq.ensures ∙ pointwise-texts c.as_slice.result.now c.as_slice-2.result.now)

@@ -1,0 +1,45 @@
+-- The texts of the languages, and the languages of files.
+use Rattle.std.specs.Prelude.{◌≡◌, ℕ, List, [], ◌∷◌, Option, Some, None, refl, codes}
+use Rattle.std.specs.Option.{option_and_then}
+use Rattle.std.specs.Map.{lookup}
+use Rattle.std.specs.Str.{bytes_eq}
+use Rattle.texts.specs.declared.language.Language.{Language}
+use Rattle.texts.specs.declared.language.Language.TheVariants.{C, Cxx, ObjectiveC, ObjectiveCxx, Cuda, CudaFE, Ptx, Cubin}
+use Rattle.texts.specs.Extension.{extension_of}
+
+-- a language's text in messages
+abbrev pub language_text : Language → List ℕ
+language_text C = codes "c"
+language_text Cxx = codes "c++"
+language_text ObjectiveC = codes "objc"
+language_text ObjectiveCxx = codes "objc++"
+language_text Cuda = codes "cuda"
+language_text CudaFE = codes "cuda"
+language_text Ptx = codes "ptx"
+language_text Cubin = codes "cubin"
+
+-- the languages of files, by their extensions
+abbrev pub language_extensions : List (List ℕ × Language)
+language_extensions =
+    (codes "c", C) ∷ (codes "cc", Cxx) ∷ (codes "cpp", Cxx) ∷ (codes "cxx", Cxx) ∷ (codes "c++", Cxx) ∷ (codes "C", Cxx)
+    ∷ (codes "m", ObjectiveC) ∷ (codes "mm", ObjectiveCxx) ∷ (codes "M", ObjectiveCxx) ∷ (codes "cu", Cuda) ∷ []
+
+-- the language of a file, by its path
+abbrev pub language_of_file : List ℕ → Option Language
+language_of_file path = option_and_then (λ extension. lookup (bytes_eq extension) language_extensions) (extension_of path)
+
+-- examples
+pub language_of_a_c_file : language_of_file (codes "a/foo.c") ≡ Some C
+language_of_a_c_file = refl
+
+pub language_of_a_capital_c_file : language_of_file (codes "foo.C") ≡ Some Cxx
+language_of_a_capital_c_file = refl
+
+pub language_of_a_cuda_file : language_of_file (codes "k.tar.cu") ≡ Some Cuda
+language_of_a_cuda_file = refl
+
+pub language_of_a_text_file : language_of_file (codes "a.txt") ≡ None
+language_of_a_text_file = refl
+
+pub language_of_a_hidden_file : language_of_file (codes "c.c/.c") ≡ None
+language_of_a_hidden_file = refl

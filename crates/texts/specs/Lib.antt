@@ -1,0 +1,13 @@
+pub mod DeviceFiles
+pub mod Endings
+pub mod Equality
+pub mod Extension
+pub mod Fault
+pub mod Language
+pub mod Lists
+pub mod Numeral
+pub mod ObjectFlags
+pub mod Path
+pub mod Rows
+pub mod Status
+pub mod Variables
