@@ -1,5 +1,5 @@
 -- `==` on the records says whether they are equal.
-use Rattle.std.proofs.Common.{◌≡◌, ℕ, ◌&&◌, List, nat_eq, ap, rules}
+use Rattle.std.proofs.Common.{◌≡◌, ℕ, Bool, ◌&&◌, List, nat_eq, ap, rules}
 use Rattle.std.specs.Option.{option_eq}
 use Rattle.std.specs.Bool.{Decides, beq}
 use Rattle.std.specs.Cmp.Lexicographic.{pointwise}
