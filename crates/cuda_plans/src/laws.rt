@@ -4,7 +4,7 @@ ghost use Rattle.texts.specs.Equality.{TellsEqual};
 ghost use Rattle.cuda_plans.specs.ScheduleRows as rows;
 
 use crate::runner::{Answer, Place};
-pub use canonical_names::laws::{alike_runs, canonical_names, worked_likeness, worked_renamings};
+pub use canonical_names::laws::{canonical_names, renaming, worked_likeness, worked_renamings};
 pub use command_groups::laws::{
     equality as plan_equality, fates, merge, worked_plans, worked_plans_from_bytes,
 };
