@@ -136,13 +136,15 @@ has_one_fate_each s variables first second = record {
   in_order = group_is_in_order s first second;
 }
 
+one_answer : (r : Result Plan Fault) (p q : Plan) → r ≡ Ok p → r ≡ Ok q → p ≡ q
+one_answer r p q e f = cc
+
 pub planned_commands_have_one_fate : PlannedCommandsHaveOneFate
 planned_commands_have_one_fate suffixes keep_dir s which first second plan e =
     let lines = meanings which 1 s.cwd [] (numbered_lines first) in
     let more = meanings which 2 s.cwd [] (numbered_lines second) in
     let read = planned_runs_are_readable suffixes keep_dir s which first second plan e in
     let said : Says which s.cwd first second = record { one = _; two = _; one_is_read = ap (run_or_fault lines) read.0; two_is_read = ap (run_or_fault more) read.1 } in
-    let is : plan_of s said.one.1 (named suffixes keep_dir said.one.0) (named suffixes keep_dir said.two.0) ≡ plan = inject (sym (planned suffixes keep_dir s which first second said.one said.two said.one_is_read said.two_is_read) ∙ e) in
-    (said, subst (HasOneFateEach s said.one.1 (named suffixes keep_dir said.one.0) (named suffixes keep_dir said.two.0)) is (has_one_fate_each s said.one.1 (named suffixes keep_dir said.one.0) (named suffixes keep_dir said.two.0))) where
-      inject : {p q : Plan} → Ok p ≡ Ok q → p ≡ q
-      inject e = cc
+    let exact : Plan = plan_of s said.one.1 (named suffixes keep_dir said.one.0) (named suffixes keep_dir said.two.0) in
+    let is : exact ≡ plan = one_answer (planning_of suffixes keep_dir s which first second) exact plan (planned suffixes keep_dir s which first second said.one said.two said.one_is_read said.two_is_read) e in
+    (said, subst (HasOneFateEach s said.one.1 (named suffixes keep_dir said.one.0) (named suffixes keep_dir said.two.0)) is (has_one_fate_each s said.one.1 (named suffixes keep_dir said.one.0) (named suffixes keep_dir said.two.0)))
