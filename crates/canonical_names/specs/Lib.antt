@@ -5,6 +5,7 @@ pub mod Counted
 pub mod Generated
 pub mod References
 pub mod Renaming
+pub mod RenamingNeeds
 pub mod RenamingRows
 pub mod Shadow
 pub mod Shown
