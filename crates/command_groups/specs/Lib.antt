@@ -11,8 +11,10 @@ pub mod MergedView
 pub mod Openings
 pub mod Plan
 pub mod PlanLaws
+pub mod PlanNeeds
 pub mod PlanOfBytes
 pub mod PlanOfBytesRows
 pub mod PlanRows
+pub mod ShadowLaws
 pub mod Stage
 pub mod StageView
