@@ -1,6 +1,7 @@
 //! What one `nvcc` call runs: its commands in groups, and those that it drops, each with a reason.
 #![tactic(auto)]
 
+mod cutting;
 mod environment;
 mod grouping;
 pub mod laws;
