@@ -8,6 +8,8 @@ pub mod laws;
 mod merge;
 mod openings;
 mod plan;
+mod planning;
 mod stage;
 
 pub use plan::{Dropped, DroppedCommands, Groups, NvccGeneratedSubcommand, Plan, Reason};
+pub use planning::group_nvcc_subcommands_by_compilation_stage;
