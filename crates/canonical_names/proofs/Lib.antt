@@ -13,3 +13,4 @@ pub mod ReferenceLemmas
 pub mod AppearanceLemmas
 pub mod PlaceLemmas
 pub mod RemapLemmas
+pub mod LongestLemmas
