@@ -14,5 +14,6 @@ pub mod Plan
 pub mod PlanOfBytes
 pub mod PlanOfBytesRows
 pub mod PlanRows
+pub mod Selection
 pub mod Stage
 pub mod StageView
