@@ -116,6 +116,20 @@ fn group_of(opened: &OpenedNames, label: Label) -> Result<usize, Reason>
     }
 }
 
+// Puts a command at the end of the group at a place.
+fn push_at(
+    groups: &mut Vec<Vec<NvccGeneratedSubcommand>>,
+    place: usize,
+    command: NvccGeneratedSubcommand,
+) -> Result<(), AllocError>
+    requires { place < length groups.old.items }
+    ensures groups { OnOk result (map vec_items groups.new.items ≡ spec.put_at place command (map vec_items groups.old.items)) }
+    ensures length { OnOk result (length groups.new.items ≡ length groups.old.items) }
+{
+    groups[place].push(command)?;
+    Ok(())
+}
+
 // The groups and the dropped commands so far.
 #[derive(Drop)]
 struct Cut {
@@ -154,7 +168,7 @@ impl Cut {
         match group_of(opened, labelled.label) {
             Ok(place) => {
                 let command = subcommand(alloc, setting, labelled)?;
-                self.groups[place].push(command)?;
+                push_at(&mut self.groups, place, command)?;
             }
             Err(reason) => {
                 self.dropped.push(dropped(labelled.command, reason))?;
