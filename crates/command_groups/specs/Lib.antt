@@ -15,5 +15,6 @@ pub mod PlanOfBytes
 pub mod PlanOfBytesRows
 pub mod PlanRows
 pub mod Selection
+pub mod SelectionRows
 pub mod Stage
 pub mod StageView

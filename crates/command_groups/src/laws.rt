@@ -5,6 +5,7 @@ ghost use Rattle.command_groups.specs.FateLaws.{EachHasOneFate, DeviceGroupsBegi
 ghost use Rattle.command_groups.specs.MergeLaws.{MergedIsInOrder, MergedAreTheSelected};
 ghost use Rattle.command_groups.specs.PlanOfBytesRows.{OneKernelFromBytes, OtherNamesFromBytes, TemporaryNamesFromBytes, KeptNamesFromBytes, NothingFromBytes, HostCodeFromBytes, SecondRunIsBad, FirstRunIsBad, SecondPtxasFromBytes, SupersededCiccFromBytes, StepWithoutCiccFromBytes, OutputWithASlashFromBytes, NamelessFromBytes};
 ghost use Rattle.command_groups.specs.PlanRows.{OneKernelPlan, NamesInAFolder, NamesAsTheyAre, EmptyRuns, HostCodeAlone, ReopenedGroup, SecondPtxas, SupersededCicc, StepMakesNoPtx, SharedPtx, PreprocessesForMsvc, CompilesForGcc, CiccLosesOneWord, CiccKeepsItsWords, NotForCuda, ProgramWithoutAStem, StepWithoutAnOutput, StepWithoutAFileName, OutputWithASlash, SecondGroupIsJoined, MergedByLineAndRun, FoldedEnvironment, MarkedTwice};
+ghost use Rattle.command_groups.specs.SelectionRows as selections;
 
 use crate::plan::{Dropped, DroppedCommands, Groups, NvccGeneratedSubcommand, Plan, Reason};
 
@@ -78,4 +79,15 @@ pub fn worked_plans_from_bytes()
     ensures step_without_cicc_from_bytes { StepWithoutCiccFromBytes }
     ensures output_with_a_slash_from_bytes { OutputWithASlashFromBytes }
     ensures nameless_from_bytes { NamelessFromBytes }
+{}
+
+/// What is selected of dry runs, and the environment behind them, by the definitions.
+pub fn worked_selections()
+    ensures one_of_one_kernel { selections.OneOfOneKernel }
+    ensures folded_behind_one_kernel { selections.FoldedBehindOneKernel }
+    ensures all_names_count { selections.AllNamesCount }
+    ensures names_stay { selections.NamesStay }
+    ensures nothing_is_selected { selections.NothingIsSelected }
+    ensures later_line_sets_too { selections.LaterLineSetsToo }
+    ensures bad_run_is_refused { selections.BadRunIsRefused }
 {}

@@ -59,7 +59,21 @@ fn named(
     }
 }
 
-/// The commands of one dry run whose program has a stem that `select` takes, in order.
+/// The commands of one dry run whose program has a stem that `select` takes, in order: of each the number of its line,
+/// its program's path and its words.
+///
+/// `run`, `cwd` and `which` are for `read_dry_run`, which reads the run. A program's stem is its file name without the
+/// last extension; a program without one isn't selected, and `select` may be asked of any text.
+///
+/// If `remap`, generated files, told by `suffixes`, get canonical names. The names of all commands of the run count, and
+/// not just those of the selected ones, so a name has the same number whatever is selected.
+///
+/// The run's environment lines are folded into `env_vars`: a known name gets its value at its first place, and a new one
+/// comes last. All environment lines count, those behind a selected command too.
+///
+/// A run that can't be read is refused as `read_dry_run` refuses it. After an error `env_vars` is as it was.
+///
+/// The rules are those of sccache 0.19.0's selection.
 pub fn select_nvcc_subcommands<F: Fn(&str) -> bool + Drop, W: Which>(
     alloc: Global,
     dry_run: &[u8],
