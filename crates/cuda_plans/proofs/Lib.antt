@@ -1,2 +1,6 @@
+pub mod NumeralLemmas
 pub mod NvccEqualityLemmas
+pub mod OutcomeLemmas
 pub mod PlaceLemmas
+pub mod RunningLemmas
+pub mod ScheduleLemmas

@@ -1,6 +1,7 @@
 //! Laws of whole calls, and schedules worked out by hand, which the definitions compute. The laws of the crates below stand here too.
 
 ghost use Rattle.texts.specs.Equality.{TellsEqual};
+ghost use Rattle.cuda_plans.specs.OutcomeLaws.{AggregationIsAssociative, EmptySuccessIsNeutralFirst, EmptySuccessIsNeutralLast};
 ghost use Rattle.cuda_plans.specs.ScheduleRows as rows;
 
 use crate::runner::{Answer, Place};
@@ -21,6 +22,13 @@ pub fn equality()
 {
     cuda_below::laws::equality();
 }
+
+/// How outputs are joined doesn't depend on brackets, and an empty success changes nothing.
+pub fn joined_outputs()
+    ensures associative { AggregationIsAssociative }
+    ensures empty_success_first { EmptySuccessIsNeutralFirst }
+    ensures empty_success_last { EmptySuccessIsNeutralLast }
+{}
 
 /// Which commands of three kernels run, and what comes of it, by the definitions.
 pub fn worked_schedules()
