@@ -7,7 +7,8 @@ use Rattle.texts.specs.DeviceFiles.{is_cicc_word}
 use Rattle.texts.specs.Lists.{word_after}
 use Rattle.texts.specs.Path.{joined, is_bare}
 use Rattle.dry_runs.specs.CommandLines.{CommandLine, words_of_command}
-use Rattle.dry_runs.specs.OneKernel.{spaced, one_kernel_commands, one_kernel_in_temporary_commands}
+use Rattle.texts.specs.Rows.{spaced}
+use Rattle.dry_runs.specs.OneKernel.{one_kernel_commands, one_kernel_in_temporary_commands}
 use Rattle.canonical_names.specs.CanonicalNames.{AreSuffixes}
 use Rattle.canonical_names.specs.Generated.{standard_suffixes}
 use Rattle.canonical_names.specs.Shadow.{appearances, is_plain_output, is_shadow}

@@ -5,5 +5,6 @@ pub mod GroupLemmas
 pub mod GroupingLemmas
 pub mod MergeLemmas
 pub mod OpeningLemmas
+pub mod PutLemmas
 pub mod RisingLemmas
 pub mod SameLemmas

@@ -1,4 +1,5 @@
 pub mod Cutting
+pub mod CuttingView
 pub mod EntryView
 pub mod Fate
 pub mod FateLaws

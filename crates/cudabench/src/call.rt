@@ -19,6 +19,10 @@ pub enum Work<'a> {
     Read {
         file: &'a str,
     },
+    /// The commands of a dry run that is read before, with canonical names in the place of generated ones.
+    Rename {
+        file: &'a str,
+    },
 }
 
 /// A call: what is timed, and how often it is done. It is done at least once.
@@ -42,12 +46,15 @@ fn work_of<'a>(verb: &str, words: &'a [String]) -> Option<Work<'a>> {
         ("read", [file]) => Some(Work::Read {
             file: file.as_str(),
         }),
+        ("rename", [file]) => Some(Work::Rename {
+            file: file.as_str(),
+        }),
         _ => None,
     }
 }
 
-/// The call that the words after the program's name are: `line N TOOL CWD WORD..`, `split N FILE` or
-/// `read N FILE`, N a decimal number above zero.
+/// The call that the words after the program's name are: `line N TOOL CWD WORD..`, `split N FILE`,
+/// `read N FILE` or `rename N FILE`, N a decimal number above zero.
 pub fn call_of<'a>(words: &'a [String]) -> Option<Call<'a>> {
     let [verb, count, rest @ ..] = words else {
         return None;

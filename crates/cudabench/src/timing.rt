@@ -6,7 +6,7 @@ use cuda_below::arguments::CompilerArguments;
 use cuda_below::compiler::{CCompilerImpl, Places};
 use cuda_plans::cicc::{Cicc, read_input};
 use cuda_plans::cudafe::CudaFE;
-use cuda_plans::dry_run::{FirstDir, read_dry_run};
+use cuda_plans::dry_run::{FirstDir, Renames, Suffixes, read_dry_run, remap_generated_filenames};
 use cuda_plans::ptxas::Ptxas;
 use cuda_plans::shell;
 use plan_texts::Tool;
@@ -92,6 +92,37 @@ fn mean_of_read<R: Clock>(rt: &R, alloc: Global, count: u64, dry_run: &[u8]) -> 
     mean_since(rt, start, count)
 }
 
+// Renames the words of commands once.
+fn rename(
+    alloc: Global,
+    commands: &[(usize, String, Vec<String>)],
+    suffixes: &Suffixes,
+) -> Result<(), Stop> {
+    let mut renames = Renames::new(alloc, suffixes)?;
+    for command in commands {
+        remap_generated_filenames(alloc, command.2.as_slice(), &mut renames)?;
+    }
+    Ok(())
+}
+
+// The mean time of renaming the commands of a dry run, which is read before.
+fn mean_of_rename<R: Clock>(
+    rt: &R,
+    alloc: Global,
+    count: u64,
+    dry_run: &[u8],
+) -> Result<u128, Stop> {
+    let run = read_dry_run(alloc, dry_run, 1, "/w", &FirstDir)?;
+    let suffixes = Suffixes::standard();
+    let Ok(start) = Instant::now(rt) else {
+        return Err(Stop::Clock);
+    };
+    for _ in 0..count {
+        rename(alloc, run.commands.as_slice(), &suffixes)?;
+    }
+    mean_since(rt, start, count)
+}
+
 // The bytes of a file.
 fn bytes_of<R: Files>(rt: &R, alloc: Global, file: &str) -> Result<Bytes, Stop> {
     let Ok(file) = fs::open(rt, file) else {
@@ -115,6 +146,9 @@ pub fn mean_of<R: Clock + Files + AllocGlobal>(rt: &R, call: &Call<'_>) -> Resul
         },
         Work::Read { file } => {
             mean_of_read(rt, alloc, count, bytes_of(rt, alloc, file)?.as_slice())
+        }
+        Work::Rename { file } => {
+            mean_of_rename(rt, alloc, count, bytes_of(rt, alloc, file)?.as_slice())
         }
     }
 }
