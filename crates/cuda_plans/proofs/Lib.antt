@@ -1,3 +1,4 @@
+pub mod ExecutionLemmas
 pub mod NumeralLemmas
 pub mod NvccEqualityLemmas
 pub mod OutcomeLemmas

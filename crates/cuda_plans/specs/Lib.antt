@@ -1,5 +1,6 @@
 pub mod Nvcc
 pub mod NvccCommand
+pub mod NvccPlan
 pub mod NvccRows
 pub mod Outcome
 pub mod OutcomeLaws
