@@ -1,7 +1,10 @@
 pub mod Nvcc
 pub mod NvccCommand
+pub mod NvccPlan
 pub mod NvccRows
 pub mod Outcome
+pub mod OutcomeLaws
+pub mod Running
 pub mod Schedule
 pub mod ScheduleRows
 pub use Rattle.canonical_names.specs.Alike
