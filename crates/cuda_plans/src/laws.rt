@@ -7,6 +7,7 @@ use crate::runner::{Answer, Place};
 pub use canonical_names::laws::{alike_runs, canonical_names, worked_likeness, worked_renamings};
 pub use command_groups::laws::{
     equality as plan_equality, fates, merge, worked_plans, worked_plans_from_bytes,
+    worked_selections,
 };
 pub use device_lines::laws::{
     equality as device_equality, reread, rereading_needs, worked_lines, worked_rereadings,
