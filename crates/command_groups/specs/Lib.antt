@@ -11,6 +11,7 @@ pub mod MergeLaws
 pub mod MergedView
 pub mod Openings
 pub mod Plan
+pub mod PlanLaws
 pub mod PlanOfBytes
 pub mod PlanOfBytesRows
 pub mod PlanRows
