@@ -18,3 +18,4 @@ pub mod ReferenceLemmas
 pub mod AppearanceLemmas
 pub mod PlaceLemmas
 pub mod RemapLemmas
+pub mod LongestLemmas

@@ -1,6 +1,6 @@
 -- The plan that labels are cut into is the plan of the fates.
-use Rattle.std.proofs.Common.{◌≡◌, ℕ, suc, zero, ◌+◌, List, [], ◌∷◌, ◌++◌, Bool, true, false, cond, map, length, refl, sym, ap, ◌∙◌, arith, append_assoc, Option, Some, None, Result, Ok, Err}
-use Rattle.std.specs.Prelude.{◌==◌, ◌||◌, slice_get, fold, replicate, filter_map, if◌then◌else◌}
+use Rattle.std.proofs.Common.{◌≡◌, ℕ, suc, zero, List, [], ◌∷◌, ◌++◌, true, false, cond, map, length, refl, sym, ap, ◌∙◌, arith, append_assoc, Option, Some, None, Result, Ok, Err}
+use Rattle.std.specs.Prelude.{◌==◌, slice_get, fold, replicate, filter_map, if◌then◌else◌}
 use Rattle.std.specs.List.{list_any}
 use Rattle.std.specs.Str.{bytes_eq}
 use Rattle.std.proofs.lemmas.Bool.{false≢true}
@@ -11,15 +11,14 @@ use Rattle.command_groups.specs.declared.grouping.Label.{Label}
 use Rattle.command_groups.specs.declared.grouping.Label.TheVariants.{Front, Device, Final, Ungrouped}
 use Rattle.command_groups.specs.declared.plan.NvccGeneratedSubcommand.{NvccGeneratedSubcommand}
 use Rattle.command_groups.specs.declared.plan.Dropped.{Dropped}
-use Rattle.command_groups.specs.declared.plan.Plan.{Plan}
 use Rattle.command_groups.specs.declared.plan.Reason.{Reason}
 use Rattle.command_groups.specs.declared.plan.Reason.TheVariants.{Superseded}
 use Rattle.command_groups.specs.Stage.{StagedCommand}
-use Rattle.command_groups.specs.Fate.{Fate, front, device, final, ungrouped, PlacedCommand, is_device, opened_names, fates}
+use Rattle.command_groups.specs.Fate.{Fate, device, ungrouped, PlacedCommand, is_device}
 use Rattle.command_groups.specs.Plan.{PlanSetting, subcommand_of, is_front, is_final, of_fate, group_of, dropped_by, groups_of, plan_of_staged}
-use Rattle.command_groups.specs.Openings.{Opened, names_of, is_live}
+use Rattle.command_groups.specs.Openings.{Opened, names_of}
 use Rattle.command_groups.specs.Grouping.{Labelled, GroupingState, grouped}
-use Rattle.command_groups.specs.Cutting.{fate_at, fate_by, settled, dropped_for, group_of_label, put_at, CutState, nothing_cut, with_grouped, with_labelled, cut_of, plan_by_labels}
+use Rattle.command_groups.specs.Cutting.{fate_at, fate_by, settled, dropped_for, group_of_label, put_at, CutState, nothing_cut, with_grouped, with_labelled, plan_by_labels}
 use Rattle.command_groups.proofs.FateLemmas.{Distinct, first_false, second_false, same_text, equal_texts}
 use Rattle.command_groups.proofs.GroupingLemmas.{labels_are_fates, names_are_opened, names_are_distinct, stands}
 

@@ -1,6 +1,6 @@
 -- The entries of a map by names, seen as texts.
-use Rattle.std.proofs.Common.{◌≡◌, ℕ, zero, suc, ◌+◌, ◌<◌, List, [], ◌∷◌, Bool, true, false, cond, not, nat_lt, map, length, refl, sym, ap, ◌∙◌, arith, Option, Some, None, String, Global, string_bytes}
-use Rattle.std.specs.Prelude.{◌==◌, slice_get, position}
+use Rattle.std.proofs.Common.{◌≡◌, ℕ, zero, suc, ◌+◌, ◌<◌, List, [], ◌∷◌, true, false, cond, not, nat_lt, map, length, refl, sym, ap, ◌∙◌, arith, Option, Some, None, String, Global, string_bytes}
+use Rattle.std.specs.Prelude.{slice_get, position}
 use Rattle.std.specs.List.{position_or_len}
 use Rattle.std.specs.Map.{lookup, keys_of}
 use Rattle.std.specs.Option.{option_map}

@@ -8,6 +8,7 @@ pub mod OpeningLemmas
 pub mod OpenerLemmas
 pub mod PlanLemmas
 pub mod PlanNeedLemmas
+pub mod PutLemmas
 pub mod RisingLemmas
 pub mod SameLemmas
 pub mod ShadowLawLemmas

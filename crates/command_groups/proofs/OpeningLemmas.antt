@@ -1,5 +1,5 @@
 -- Openings of device groups.
-use Rattle.std.proofs.Common.{◌≡◌, ℕ, suc, zero, ◌<◌, ◌≤◌, List, [], ◌∷◌, ◌++◌, Bool, true, false, cond, not, nat_lt, map, length, refl, sym, ap, ◌∙◌, ◌⊎◌, inl, inr, arith, Option, Some, None}
+use Rattle.std.proofs.Common.{◌≡◌, ℕ, suc, zero, ◌<◌, ◌≤◌, List, [], ◌∷◌, ◌++◌, Bool, true, false, cond, length, refl, sym, ap, ◌∙◌, ◌⊎◌, inl, inr, arith, Option, Some, None}
 use Rattle.std.specs.Prelude.{◌==◌, ◌&&◌, ◌||◌, nat_le, slice_get, if◌then◌else◌}
 use Rattle.std.specs.List.{list_any, find, AllByRecursion}
 use Rattle.std.specs.Str.{bytes_eq}
@@ -15,7 +15,7 @@ use Rattle.command_groups.specs.Fate.{Fate, front, device, final, ungrouped, dev
 use Rattle.command_groups.specs.Openings.{Opened, names_of, opening_at, further, opening_of, number_of, is_live, lower, first_live_after, first_live}
 use Rattle.command_groups.specs.Grouping.{device_label}
 use Rattle.command_groups.specs.Cutting.{fate_at, fate_by}
-use Rattle.command_groups.proofs.FateLemmas.{Distinct, same_text, equal_texts, first_false, second_false, second_true}
+use Rattle.command_groups.proofs.FateLemmas.{Distinct, same_text, first_false, second_false, second_true}
 
 -- The names.
 

@@ -5,7 +5,7 @@ use Rattle.std.specs.List.{list_any}
 use Rattle.std.specs.Str.{bytes_eq}
 use Rattle.std.proofs.lemmas.Bool.{false≢true}
 use Rattle.cuda_below.specs.declared.compiler.NvccHostCompiler.TheVariants.{Gcc}
-use Rattle.dry_runs.specs.CommandLines.{CommandLine}
+use Rattle.dry_runs.specs.OneKernel.{at}
 use Rattle.canonical_names.specs.Alike.{Alike}
 use Rattle.canonical_names.specs.AlikeRows.{run_with}
 use Rattle.canonical_names.specs.Generated.{standard_suffixes}
@@ -15,7 +15,7 @@ use Rattle.command_groups.specs.declared.plan.Plan.{Plan}
 use Rattle.command_groups.specs.Plan.{PlanSetting}
 use Rattle.command_groups.specs.PlanLaws.{AreCleanAndAlike}
 use Rattle.command_groups.specs.PlanNeeds.{PlansAgreeFirstUnclean, PlansAgreeSecondUnclean, PlansAgreeByAnyMap, PlansAgreeInOtherFolders, PlansAgreeWithKeepDirectory, PlansAgreeWithAnyVariables}
-use Rattle.command_groups.specs.PlanRows.{at, setting}
+use Rattle.command_groups.specs.PlanRows.{setting}
 
 -- whether the words of a plan's dropped commands are these, and whether some command of a plan has variables
 abbrev drops_words : List (List (List ℕ)) → Plan → Bool

@@ -1,5 +1,5 @@
 -- The commands of a dry run stand at rising lines, and their names change none.
-use Rattle.std.proofs.Common.{◌≡◌, ℕ, ◌+◌, ◌<◌, List, [], ◌∷◌, true, false, map, refl, sym, ap, subst, ◌∙◌, arith, Option, Some, None, Result, Ok, Err}
+use Rattle.std.proofs.Common.{◌≡◌, ℕ, ◌+◌, ◌<◌, List, [], ◌∷◌, true, false, map, refl, sym, ap, subst, ◌∙◌, arith, Option, Some, None, Ok}
 use Rattle.std.specs.Prelude.{◌&&◌, nat_lt, codes, if◌then◌else◌}
 use Rattle.std.specs.Str.Lines.{lines}
 use Rattle.std.specs.List.{list_all, filter_map, enumerate_from}
@@ -8,9 +8,11 @@ use Rattle.std.proofs.lemmas.Bool.{lt-ltb}
 use Rattle.texts.specs.declared.fault.Fault.{Fault}
 use Rattle.texts.specs.declared.fault.Fault.TheVariants.{NotUtf8}
 use Rattle.dry_runs.specs.CommandLines.{CommandLine, line_of, words_of_command}
-use Rattle.dry_runs.specs.DryRun.{LookUp, Meaning, Ignored, Assigns, Runs, Bad, shell_words, meaning_found, meaning_by_path, meaning_of_words, meaning_assigned, meaning_marked, meaning, environment_after, meanings, assigned_by, command_of, fault_of, run_or_fault, dry_run_of}
+use Rattle.dry_runs.specs.DryRun.{LookUp, Meaning, Ignored, Assigns, Runs, Bad, meaning_found, meaning_by_path, meaning_of_words, meaning_assigned, meaning_marked, meaning, environment_after, meanings, assigned_by, command_of, fault_of, run_or_fault, dry_run_of}
 use Rattle.dry_runs.specs.DryRunLines.{numbered_lines, marked_text}
-use Rattle.dry_runs.specs.Environment.{Variable, assignment, expanded, first_value}
+use Rattle.dry_runs.specs.Environment.{Variable, assignment, expanded}
+use Rattle.texts.specs.Variables.{first_value}
+use Rattle.shell_words.specs.Shell.Splitting.{shell_words}
 use Rattle.canonical_names.specs.Renaming.{seen_after, renamed_after}
 use Rattle.command_groups.specs.MergeLaws.{Rises}
 use Rattle.command_groups.specs.PlanOfBytes.{named}

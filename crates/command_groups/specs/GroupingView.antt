@@ -1,5 +1,5 @@
 -- The labelled commands of code, seen as those of the definitions.
-use Rattle.std.specs.Prelude.{List, map}
+use Rattle.std.specs.Prelude.{map}
 use Rattle.command_groups.specs.declared.grouping.LabelledCommand.{LabelledCommand}
 use Rattle.command_groups.specs.declared.grouping.Grouping.{Grouping}
 use Rattle.command_groups.specs.Grouping.{Labelled, GroupingState}

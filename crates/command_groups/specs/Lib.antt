@@ -1,4 +1,5 @@
 pub mod Cutting
+pub mod CuttingView
 pub mod EntryView
 pub mod Fate
 pub mod FateLaws
@@ -15,6 +16,9 @@ pub mod PlanNeeds
 pub mod PlanOfBytes
 pub mod PlanOfBytesRows
 pub mod PlanRows
+pub mod Selection
+pub mod SelectionRows
 pub mod ShadowLaws
+pub mod ShadowRows
 pub mod Stage
 pub mod StageView

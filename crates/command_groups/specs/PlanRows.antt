@@ -1,6 +1,6 @@
 -- Plans worked out by hand, of commands whose words are renamed already.
-use Rattle.std.proofs.Common.{◌≡◌, ℕ, List, [], ◌∷◌, ◌++◌, ◌==◌, codes, refl}
-use Rattle.std.specs.List.{slice_split}
+use Rattle.std.proofs.Common.{◌≡◌, ℕ, List, [], ◌∷◌, ◌++◌, codes, refl}
+use Rattle.texts.specs.Rows.{blank_separated}
 use Rattle.cuda_below.specs.declared.command.Cacheable.{Cacheable}
 use Rattle.cuda_below.specs.declared.command.Cacheable.TheVariants.{Yes, No}
 use Rattle.cuda_below.specs.declared.compiler.NvccHostCompiler.{NvccHostCompiler}
@@ -11,18 +11,12 @@ use Rattle.command_groups.specs.declared.plan.Reason.{Reason}
 use Rattle.command_groups.specs.declared.plan.Reason.TheVariants.{NotCuda, NoCiccGroup, NoPtxasGroup, Superseded}
 use Rattle.command_groups.specs.declared.plan.Plan.{Plan}
 use Rattle.dry_runs.specs.CommandLines.{CommandLine}
+use Rattle.dry_runs.specs.OneKernel.{at, commands_of}
 use Rattle.command_groups.specs.Merge.{MergedCommand, merged}
 use Rattle.dry_runs.specs.Environment.{with_variables}
 use Rattle.command_groups.specs.Plan.{PlanSetting, plan_of}
 
--- How the rows are written: a line's words in one text, with blanks between them.
-
-abbrev pub spaced : List ℕ → List (List ℕ)
-spaced text = slice_split (λ c. c == 32) text
-
--- a command line of a dry run
-abbrev pub at : ℕ → List ℕ → List ℕ → CommandLine
-at line program words = (line, program, spaced words)
+-- How the rows are written: a line's words in one text, with blanks between them (`at`, `blank_separated`).
 
 -- the setting of most rows, under a host compiler and a compilation flag
 abbrev pub setting : NvccHostCompiler → List ℕ → PlanSetting
@@ -38,36 +32,24 @@ plan_of_both commands = plan_of (setting Gcc (codes "-c")) path_set commands com
 
 -- what a group holds: a command in its folder, and one that host code is compiled by
 abbrev pub runs : Cacheable → List ℕ → List ℕ → List ℕ → NvccGeneratedSubcommand
-runs cacheable cwd exe words = record { exe = exe; args = spaced words; cwd = cwd; env_vars = path_set; cacheable = cacheable }
+runs cacheable cwd exe words = record { exe = exe; args = blank_separated words; cwd = cwd; env_vars = path_set; cacheable = cacheable }
 
 abbrev pub compiles : List ℕ → List ℕ → NvccGeneratedSubcommand
 compiles exe words = record {
   exe = exe;
-  args = spaced words;
+  args = blank_separated words;
   cwd = codes "/w";
   env_vars = (codes "PATH", codes "/b") ∷ (codes "__SCCACHE_THIS_IS_A_CUDA_COMPILATION__", []) ∷ [];
   cacheable = Yes;
 }
 
 abbrev pub drops : Reason → ℕ → ℕ → List ℕ → List ℕ → Dropped
-drops reason line run exe words = record { line = line; run = run; exe = exe; args = spaced words; reason = reason }
+drops reason line run exe words = record { line = line; run = run; exe = exe; args = blank_separated words; reason = reason }
 
 abbrev pub plan_with : List (List NvccGeneratedSubcommand) → List Dropped → Plan
 plan_with groups dropped = record { groups = groups; dropped = dropped }
 
--- the one-kernel dry run, the names of its generated files made of a text
-abbrev pub one_kernel : List ℕ → List CommandLine
-one_kernel name =
-    at 1 (codes "/b/gcc") (codes "-D__CUDACC__ -E -x c++ kernel.cu -o " ++ (name ++ codes ".cpp4.ii")) ∷
-    at 2 (codes "/b/cudafe++") (codes "--gen_c_file_name " ++ (name ++ (codes ".cudafe1.cpp --stub_file_name " ++ (name ++ (codes ".cudafe1.stub.c --module_id_file_name kernel.module_id --simt-only " ++ (name ++ codes ".cpp4.ii")))))) ∷
-    at 3 (codes "/b/gcc") (codes "-D__CUDA_ARCH__=800 -D__CUDACC__ -E -x c++ kernel.cu -o " ++ (name ++ codes ".cpp1.ii")) ∷
-    at 4 (codes "/b/cicc") (codes "--device-c -arch compute_80 --module_id_file_name kernel.module_id --gen_c_file_name " ++ (name ++ (codes ".cudafe1.c --stub_file_name " ++ (name ++ (codes ".cudafe1.stub.c --gen_device_file_name kernel.cudafe1.gpu " ++ (name ++ codes ".cpp1.ii --simt-only -o kernel.ptx")))))) ∷
-    at 5 (codes "/b/ptxas") (codes "-arch=sm_80 --compile-only kernel.ptx -o kernel.cubin") ∷
-    at 6 (codes "/b/fatbinary") (codes "--create=kernel.fatbin --image3=kind=elf,sm=80,file=kernel.cubin --embedded-fatbin=kernel.fatbin.c --device-c") ∷
-    at 7 (codes "/b/gcc") (codes "-D__CUDA_ARCH__=800 -D__CUDACC__ -c -x c++ " ++ (name ++ codes ".cudafe1.cpp -o kernel.o")) ∷
-    []
-
--- its plan, the names of the first run's files made of one text and those of the second run's of another
+-- the plan of the one-kernel dry run, the names of the first run's files made of one text and those of the second run's of another
 abbrev pub one_kernel_plan : List ℕ → List ℕ → Plan
 one_kernel_plan name second =
     plan_with
@@ -87,7 +69,7 @@ one_kernel_plan name second =
 -- both runs with canonical names
 abbrev pub OneKernelPlan : Type 0
 OneKernelPlan =
-    plan_of_both (one_kernel (codes "x_0")) ≡ one_kernel_plan (codes "x_0") (codes "x_0")
+    plan_of_both (commands_of (codes "x_0")) ≡ one_kernel_plan (codes "x_0") (codes "x_0")
 
 pub one_kernel_is_planned : OneKernelPlan
 one_kernel_is_planned = refl
@@ -95,7 +77,7 @@ one_kernel_is_planned = refl
 -- the second run names its files in the folder of temporary files, and the device group is the same, since it has the file name
 abbrev pub NamesInAFolder : Type 0
 NamesInAFolder =
-    plan_of (setting Gcc (codes "-c")) path_set (one_kernel (codes "x_0")) (one_kernel (codes "/t/x_0")) ≡ one_kernel_plan (codes "x_0") (codes "/t/x_0")
+    plan_of (setting Gcc (codes "-c")) path_set (commands_of (codes "x_0")) (commands_of (codes "/t/x_0")) ≡ one_kernel_plan (codes "x_0") (codes "/t/x_0")
 
 pub names_in_a_folder : NamesInAFolder
 names_in_a_folder = refl
@@ -103,7 +85,7 @@ names_in_a_folder = refl
 -- no word is renamed
 abbrev pub NamesAsTheyAre : Type 0
 NamesAsTheyAre =
-    plan_of_both (one_kernel (codes "kernel")) ≡ one_kernel_plan (codes "kernel") (codes "kernel")
+    plan_of_both (commands_of (codes "kernel")) ≡ one_kernel_plan (codes "kernel") (codes "kernel")
 
 pub names_as_they_are : NamesAsTheyAre
 names_as_they_are = refl

@@ -4,10 +4,12 @@ ghost use Rattle.texts.specs.Equality.{TellsEqual};
 ghost use Rattle.command_groups.specs.FateLaws.{EachHasOneFate, DeviceGroupsBeginWithTheirStep, OuterGroupsAreThere};
 ghost use Rattle.command_groups.specs.MergeLaws.{MergedIsInOrder, MergedAreTheSelected};
 ghost use Rattle.command_groups.specs.PlanLaws.{AlikePairsHaveOnePlan, AlikeTextsHaveOnePlan, ReadableRunsArePlanned, PlannedRunsAreReadable, FirstRunIsRefused, SecondRunIsRefused, PlannedCommandsHaveOneFate};
-ghost use Rattle.command_groups.specs.PlanNeeds.{PlansAgreeFirstUnclean, PlansAgreeSecondUnclean, PlansAgreeByAnyMap, PlansAgreeInOtherFolders, PlansAgreeWithKeepDirectory, PlansAgreeWithAnyVariables, EarlierStepStandsTogether, LaterStepStandsApart, TwoStepsStandApart, FolderStandsApart};
+ghost use Rattle.command_groups.specs.PlanNeeds.{PlansAgreeFirstUnclean, PlansAgreeSecondUnclean, PlansAgreeByAnyMap, PlansAgreeInOtherFolders, PlansAgreeWithKeepDirectory, PlansAgreeWithAnyVariables};
 ghost use Rattle.command_groups.specs.PlanOfBytesRows.{OneKernelFromBytes, OtherNamesFromBytes, TemporaryNamesFromBytes, KeptNamesFromBytes, NothingFromBytes, HostCodeFromBytes, SecondRunIsBad, FirstRunIsBad, SecondPtxasFromBytes, SupersededCiccFromBytes, StepWithoutCiccFromBytes, OutputWithASlashFromBytes, NamelessFromBytes};
 ghost use Rattle.command_groups.specs.PlanRows.{OneKernelPlan, NamesInAFolder, NamesAsTheyAre, EmptyRuns, HostCodeAlone, ReopenedGroup, SecondPtxas, SupersededCicc, StepMakesNoPtx, SharedPtx, PreprocessesForMsvc, CompilesForGcc, CiccLosesOneWord, CiccKeepsItsWords, NotForCuda, ProgramWithoutAStem, StepWithoutAnOutput, StepWithoutAFileName, OutputWithASlash, SecondGroupIsJoined, MergedByLineAndRun, FoldedEnvironment, MarkedTwice};
+ghost use Rattle.command_groups.specs.SelectionRows as selections;
 ghost use Rattle.command_groups.specs.ShadowLaws.{ShadowsStandTogether, StepShadowsStandTogether};
+ghost use Rattle.command_groups.specs.ShadowRows as shadows;
 
 use crate::plan::{Dropped, DroppedCommands, Groups, NvccGeneratedSubcommand, Plan, Reason};
 
@@ -139,12 +141,25 @@ pub fn plans_need()
     ensures variables { PlansAgreeWithAnyVariables → ⊥ }
 {}
 
-/// Shadow runs worked out by hand: a cicc and its step that stand together (`earlier_step`), and such
-/// as don't, since the step stands at a later line (`later_step`), two steps make the input
+/// Shadow runs worked out by hand: a cicc and its step that stand together, of the one-kernel dry run
+/// with cudafe++'s stub file bare in the second run (`one_kernel`) and alone (`earlier_step`); and
+/// such as don't, since the step stands at a later line (`later_step`), two steps make the input
 /// (`two_steps`), or the input has a folder (`folder`).
 pub fn worked_shadows()
-    ensures earlier_step { EarlierStepStandsTogether }
-    ensures later_step { LaterStepStandsApart }
-    ensures two_steps { TwoStepsStandApart }
-    ensures folder { FolderStandsApart }
+    ensures one_kernel { shadows.OneKernelStandsTogether }
+    ensures earlier_step { shadows.EarlierStepStandsTogether }
+    ensures later_step { shadows.LaterStepStandsApart }
+    ensures two_steps { shadows.TwoStepsStandApart }
+    ensures folder { shadows.FolderStandsApart }
+{}
+
+/// What is selected of dry runs, and the environment behind them, by the definitions.
+pub fn worked_selections()
+    ensures one_of_one_kernel { selections.OneOfOneKernel }
+    ensures folded_behind_one_kernel { selections.FoldedBehindOneKernel }
+    ensures all_names_count { selections.AllNamesCount }
+    ensures names_stay { selections.NamesStay }
+    ensures nothing_is_selected { selections.NothingIsSelected }
+    ensures later_line_sets_too { selections.LaterLineSetsToo }
+    ensures bad_run_is_refused { selections.BadRunIsRefused }
 {}

@@ -1,12 +1,17 @@
 //! What one `nvcc` call runs: its commands in groups, and those that it drops, each with a reason.
 #![tactic(auto)]
 
+mod cutting;
 mod environment;
 mod grouping;
 pub mod laws;
 mod merge;
 mod openings;
 mod plan;
+mod planning;
+mod select;
 mod stage;
 
 pub use plan::{Dropped, DroppedCommands, Groups, NvccGeneratedSubcommand, Plan, Reason};
+pub use planning::group_nvcc_subcommands_by_compilation_stage;
+pub use select::select_nvcc_subcommands;

@@ -1,8 +1,5 @@
 -- What an nvcc line is read as, and what is said of nvcc as a compiler.
-use Rattle.std.specs.Prelude.{ℕ, List, [], ◌∷◌, ◌++◌, Bool, false, not, ◌||◌, map, filter, Option, Some, None, unwrap_or, encode_utf8_all, codes}
-use Rattle.std.specs.Option.{option_map, option_map_or}
-use Rattle.std.specs.Map.{lookup}
-use Rattle.std.specs.Str.{bytes_eq, chars}
+use Rattle.std.specs.Prelude.{ℕ, List, [], ◌∷◌, ◌++◌, false, not, ◌||◌, Option, Some, None, codes}
 use Rattle.cuda_below.specs.declared.arguments.ParsedArguments.{ParsedArguments}
 use Rattle.cuda_below.specs.declared.compiler.CCompilerKind.TheVariants as kinds
 use Rattle.cuda_below.specs.declared.gcc.options.ArgData.{ArgData}
@@ -12,7 +9,6 @@ use Rattle.cuda_below.specs.GccOptions.{gcc_entries}
 use Rattle.option_items.specs.Table.{Entry, longest_match, longer_choice}
 use Rattle.cuda_plans.specs.declared.nvcc.Nvcc.{Nvcc}
 use Rattle.host_lines.specs.NvccOptions.{nvcc_options}
-use Rattle.shell_words.specs.Shell.Splitting.{split_chars}
 use Rattle.host_lines.specs.NvccEnvironment.{with_added_words}
 
 -- Reading.

@@ -1,6 +1,6 @@
 -- What was said so far, with what the lines that are left mean, is what the whole dry run says.
 use Rattle.std.proofs.Common.{◌≡◌, ℕ, ◌+◌, add-one, Bool, true, false, cond, ◌&&◌, List, [], ◌∷◌, ◌++◌, Option, Some, None, Result, Ok, Err, refl, ap, sym, ◌∙◌, subst, append_assoc, append-nil, codes}
-use Rattle.std.specs.List.{filter_map, find, enumerate_from}
+use Rattle.std.specs.List.{filter_map, enumerate_from}
 use Rattle.std.specs.Option.{option_map, is_none}
 use Rattle.std.specs.Result.{IsErrAnd}
 use Rattle.std.specs.Str.{bytes_eq, is_utf8, IsUtf8}
@@ -12,7 +12,8 @@ use Rattle.texts.specs.Fault.{UnlessMemory}
 use Rattle.dry_runs.specs.declared.commands.DryRun.{DryRun}
 use Rattle.dry_runs.specs.declared.reader.Said.{Said}
 use Rattle.dry_runs.specs.CommandLines.{CommandLine}
-use Rattle.dry_runs.specs.Environment.{Variable, first_value}
+use Rattle.texts.specs.Variables.{first_value}
+use Rattle.dry_runs.specs.Environment.{Variable}
 use Rattle.dry_runs.specs.DryRun.{LookUp, Meaning, Ignored, Assigns, Runs, Bad, meaning, meaning_marked, meanings, meaning_found, meaning_by_path, environment_after, assigned_by, command_of, fault_of, run_of_meanings, run_or_fault, dry_run_of}
 use Rattle.dry_runs.specs.DryRunLines.{marked_text}
 use Rattle.dry_runs.specs.Reading.{dry_run_seen, said_after, nothing_said, with_variable, with_command, said_next, found_or_fault}
@@ -40,18 +41,18 @@ not_found-next which run cwd s line program words (Some path) fault h = cc
 abbrev pub IsKept : Said → Type 0
 IsKept s = s.path ≡ first_value (codes "PATH") s.env
 
-first_value-after : (name : List ℕ) (env : List Variable) (v : Variable) → first_value name (env ++ v ∷ []) ≡ cond (is_none (first_value name env) && bytes_eq v.0 name) (Some v.1) (first_value name env)
-first_value-after name [] v = elim (bytes_eq v.0 name) as (λ b. option_map (λ (w : Variable). w.1) (cond b (Some v) None) ≡ cond b (Some v.1) None) [ true ↦ refl | false ↦ refl ]
+first_value-after : (name : List ℕ) (env : List Variable) (v : Variable) → first_value name (env ++ v ∷ []) ≡ cond (is_none (first_value name env) && bytes_eq name v.0) (Some v.1) (first_value name env)
+first_value-after name [] v = elim (bytes_eq name v.0) as (λ b. cond b (Some v.1) None ≡ cond b (Some v.1) None) [ true ↦ refl | false ↦ refl ]
 first_value-after name (e ∷ env) v =
-    elim (bytes_eq e.0 name)
-    as (λ b. option_map (λ (w : Variable). w.1) (cond b (Some e) (find (λ w. bytes_eq w.0 name) (env ++ v ∷ []))) ≡ cond (is_none (option_map (λ (w : Variable). w.1) (cond b (Some e) (find (λ w. bytes_eq w.0 name) env))) && bytes_eq v.0 name) (Some v.1) (option_map (λ (w : Variable). w.1) (cond b (Some e) (find (λ w. bytes_eq w.0 name) env))))
+    elim (bytes_eq name e.0)
+    as (λ b. cond b (Some e.1) (first_value name (env ++ v ∷ [])) ≡ cond (is_none (cond b (Some e.1) (first_value name env)) && bytes_eq name v.0) (Some v.1) (cond b (Some e.1) (first_value name env)))
     [ true ↦ refl | false ↦ first_value-after name env v ]
 
 pub kept-next : (s t : Said) (m : Meaning) → IsKept s → said_next s m ≡ Ok t → IsKept t
 kept-next s t Ignored h e = let now : s ≡ t = cc in subst IsKept now h
 kept-next s t (Assigns v) h e =
     let now : with_variable s v ≡ t = cc in
-    subst IsKept now (ap (λ p. cond (is_none p && bytes_eq v.0 (codes "PATH")) (Some v.1) p) h ∙ sym (first_value-after (codes "PATH") s.env v))
+    subst IsKept now (ap (λ p. cond (is_none p && bytes_eq (codes "PATH") v.0) (Some v.1) p) h ∙ sym (first_value-after (codes "PATH") s.env v))
 kept-next s t (Runs command) h e = let now : with_command s command ≡ t = cc in subst IsKept now h
 kept-next s t (Bad fault) h e = cc
 

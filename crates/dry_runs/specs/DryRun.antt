@@ -1,14 +1,14 @@
 -- What a dry run says: its commands and its environment, or the first line that is bad.
-use Rattle.std.specs.Prelude.{ℕ, List, [], ◌∷◌, ◌++◌, map, Option, Some, None, Result, Ok, Err, encode_utf8_all, if◌then◌else◌, codes}
+use Rattle.std.specs.Prelude.{ℕ, List, [], ◌∷◌, ◌++◌, Option, Some, None, Result, Ok, Err, if◌then◌else◌, codes}
 use Rattle.std.specs.List.{filter_map}
-use Rattle.std.specs.Option.{option_map}
-use Rattle.std.specs.Str.{chars, is_utf8}
+use Rattle.std.specs.Str.{is_utf8}
 use Rattle.texts.specs.declared.fault.Fault.{Fault}
 use Rattle.texts.specs.declared.fault.Fault.TheVariants.{NotUtf8, BadShell, EmptyCommand, NoPath, NotFound}
 use Rattle.dry_runs.specs.CommandLines.{CommandLine}
-use Rattle.dry_runs.specs.Environment.{Variable, assignment, expanded, first_value}
+use Rattle.texts.specs.Variables.{first_value}
+use Rattle.dry_runs.specs.Environment.{Variable, assignment, expanded}
 use Rattle.dry_runs.specs.DryRunLines.{numbered_lines, marked_text}
-use Rattle.shell_words.specs.Shell.Splitting.{split_chars}
+use Rattle.shell_words.specs.Shell.Splitting.{shell_words}
 
 -- a look-up: the program's path, by its name, the value of `PATH` and the working directory
 abbrev pub LookUp : Type 0
@@ -20,10 +20,6 @@ pub data Meaning : Type 0 where
   Assigns : List ℕ × List ℕ → Meaning
   Runs : ℕ × List ℕ × List (List ℕ) → Meaning
   Bad : Fault → Meaning
-
--- the shell words of a text, all as bytes
-abbrev pub shell_words : List ℕ → Option (List (List ℕ))
-shell_words text = option_map (map encode_utf8_all) (split_chars (chars text))
 
 -- A line stands in the run of a number, and is read with a look-up and a working directory.
 module _ (which : LookUp) (run : ℕ) (cwd : List ℕ) where

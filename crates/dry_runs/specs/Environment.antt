@@ -1,7 +1,6 @@
 -- Environment lines, and the expansion of references to them.
 use Rattle.std.specs.Prelude.{◌≡◌, ℕ, List, [], ◌∷◌, ◌++◌, Bool, false, not, ◌==◌, ◌&&◌, ◌||◌, nat_le, length, drop, fold, if◌then◌else◌, Option, Some, None, refl, codes}
-use Rattle.std.specs.List.{find, take_while}
-use Rattle.std.specs.Option.{option_map}
+use Rattle.std.specs.List.{take_while}
 use Rattle.std.specs.Str.{chars, bytes_eq}
 use Rattle.ucd_perl.specs.Perl.{is_word_char}
 use Rattle.texts.specs.Lists.{rest_after}
@@ -52,10 +51,6 @@ expanded_by text v =
 -- a text with the variables of an environment expanded, one after the other
 abbrev pub expanded : List Variable → List ℕ → List ℕ
 expanded env text = fold expanded_by text env
-
--- the value of the first variable of a name
-abbrev pub first_value : List ℕ → List Variable → Option (List ℕ)
-first_value name env = option_map (λ v. v.1) (find (λ v. bytes_eq v.0 name) env)
 
 -- examples: a digit is no byte of a name, the first `=` ends it, and the value may be empty
 pub assigns : assignment (codes "A_B=c=d") ≡ Some (codes "A_B", codes "c=d")

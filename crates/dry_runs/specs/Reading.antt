@@ -55,7 +55,7 @@ abbrev pub with_variable : Said → Variable → Said
 with_variable s v = record {
   commands = s.commands;
   env = s.env ++ v ∷ [];
-  path = if is_none s.path && bytes_eq v.0 (codes "PATH") then Some v.1 else s.path;
+  path = if is_none s.path && bytes_eq (codes "PATH") v.0 then Some v.1 else s.path;
 }
 
 -- one more command

@@ -7,7 +7,7 @@ ghost use Rattle.std.specs.Str.{chars};
 ghost use Rattle.texts.specs.Path.{lacks};
 ghost use Rattle.texts.specs.Lists.{rest_after};
 ghost use Rattle.texts.specs.Variables.{pair_of};
-ghost use Rattle.dry_runs.specs.DryRun.{shell_words};
+ghost use Rattle.shell_words.specs.Shell.Splitting.{shell_words};
 ghost use Rattle.dry_runs.specs.Environment as spec;
 ghost use Rattle.dry_runs.specs.Replacing as replacing;
 ghost use Rattle.dry_runs.specs.Reading as reading;

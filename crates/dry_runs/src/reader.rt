@@ -104,8 +104,10 @@ struct Said {
 impl Said {
     ghost use Rattle.std.specs.Prelude.{◌≡◌, ◌∷◌, [], map, List, ℕ, OnOk, string_bytes};
     ghost use Rattle.texts.specs.Fault.{UnlessMemory};
-    ghost use Rattle.dry_runs.specs.Environment.{first_value, expanded};
-    ghost use Rattle.dry_runs.specs.DryRun.{meaning, meaning_marked, meaning_of_words, meaning_by_path, shell_words};
+    ghost use Rattle.texts.specs.Variables.{first_value};
+    ghost use Rattle.dry_runs.specs.Environment.{expanded};
+    ghost use Rattle.dry_runs.specs.DryRun.{meaning, meaning_marked, meaning_of_words, meaning_by_path};
+    ghost use Rattle.shell_words.specs.Shell.Splitting.{shell_words};
     ghost use Rattle.dry_runs.specs.DryRunLines.{marked_text};
     ghost use Rattle.dry_runs.specs.Reading.{nothing_said, with_variable, said_after, said_next, run_seen};
 
@@ -174,7 +176,7 @@ impl Said {
     fn assign(&mut self, alloc: Global, name: &str, value: &str) -> Result<(), AllocError>
         ensures { OnOk result (self.new ≡ with_variable self.old (name.now, value.now)) }
     {
-        if self.path.is_none() && name == "PATH" {
+        if self.path.is_none() && "PATH" == name {
             self.path = Some(Text::copy_of(alloc, value)?);
         }
         let name = String::from_str(alloc, name)?;

@@ -1,9 +1,9 @@
 -- The words that the environment adds to an nvcc line.
-use Rattle.std.specs.Prelude.{ℕ, List, [], ◌∷◌, ◌++◌, Bool, not, ◌||◌, map, filter, unwrap_or, encode_utf8_all, codes}
-use Rattle.std.specs.Option.{option_map, option_map_or}
-use Rattle.std.specs.Map.{lookup}
-use Rattle.std.specs.Str.{bytes_eq, chars}
-use Rattle.shell_words.specs.Shell.Splitting.{split_chars}
+use Rattle.std.specs.Prelude.{ℕ, List, [], ◌∷◌, ◌++◌, Bool, not, ◌||◌, filter, unwrap_or, codes}
+use Rattle.std.specs.Option.{option_map_or}
+use Rattle.std.specs.Str.{bytes_eq}
+use Rattle.texts.specs.Variables.{first_value}
+use Rattle.shell_words.specs.Shell.Splitting.{shell_words}
 
 -- the names of the variables that nvcc takes words from: those before a line's words, and those after them
 abbrev pub prepended_name : List ℕ
@@ -20,13 +20,13 @@ is_flags_name name = bytes_eq name prepended_name || bytes_eq name appended_name
 abbrev pub without_flags : List (List ℕ × List ℕ) → List (List ℕ × List ℕ)
 without_flags env_vars = filter (λ variable. not (is_flags_name variable.0)) env_vars
 
--- the shell words of a text, and none if it doesn't split
-abbrev pub shell_words : List ℕ → List (List ℕ)
-shell_words text = unwrap_or (option_map (map encode_utf8_all) (split_chars (chars text))) []
+-- the shell words of a variable's value, and none if it doesn't split
+abbrev pub words_of_value : List ℕ → List (List ℕ)
+words_of_value text = unwrap_or (shell_words text) []
 
 -- the words that the first variable of a name adds, and none if there is no such variable
 abbrev pub added_words : List ℕ → List (List ℕ × List ℕ) → List (List ℕ)
-added_words name env_vars = option_map_or shell_words (lookup (bytes_eq name) env_vars) []
+added_words name env_vars = option_map_or words_of_value (first_value name env_vars) []
 
 -- a line with the words that the environment adds
 abbrev pub with_added_words : List (List ℕ × List ℕ) → List (List ℕ) → List (List ℕ)

@@ -3,7 +3,8 @@ use Rattle.std.proofs.Common.{◌≡◌, ℕ, List, [], ◌∷◌, ◌++◌, cod
 use Rattle.std.specs.List.{flat_map}
 use Rattle.cuda_below.specs.declared.compiler.NvccHostCompiler.TheVariants.{Gcc}
 use Rattle.command_groups.specs.Plan.{plan_of}
-use Rattle.command_groups.specs.PlanRows.{at, setting, plan_of_both, one_kernel, step_and_cicc_twice}
+use Rattle.dry_runs.specs.OneKernel.{at, commands_of}
+use Rattle.command_groups.specs.PlanRows.{setting, plan_of_both, step_and_cicc_twice}
 use Rattle.plan_texts.specs.ShownPlan.{show_plan}
 
 -- a text of lines
@@ -13,7 +14,7 @@ lines_of lines = flat_map (λ line. line ++ 10 ∷ []) lines
 -- the one-kernel dry run
 abbrev pub OneKernelShown : Type 0
 OneKernelShown =
-    show_plan (plan_of_both (one_kernel (codes "x_0"))) ≡
+    show_plan (plan_of_both (commands_of (codes "x_0"))) ≡
     lines_of
     (codes "group 0" ∷
     codes "no cd /w && /b/gcc -D__CUDACC__ -E -x c++ kernel.cu -o x_0.cpp4.ii" ∷

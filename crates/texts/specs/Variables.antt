@@ -1,7 +1,13 @@
 -- Environment variables, as pairs of texts.
-use Rattle.std.specs.Prelude.{ℕ, List, String, string_bytes}
+use Rattle.std.specs.Prelude.{ℕ, List, Option, String, string_bytes}
+use Rattle.std.specs.Map.{lookup}
+use Rattle.std.specs.Str.{bytes_eq}
 use Rattle.std.specs.declared.alloc.Global.{Global}
 
 -- the texts of a name and its value
 abbrev pub pair_of : String Global × String Global → List ℕ × List ℕ
 pair_of p = (string_bytes p.0, string_bytes p.1)
+
+-- the value of the first variable of a name
+abbrev pub first_value : List ℕ → List (List ℕ × List ℕ) → Option (List ℕ)
+first_value name variables = lookup (bytes_eq name) variables

@@ -1,12 +1,12 @@
 -- What a cache needs of a cicc line.
 use Rattle.std.specs.Prelude.{ℕ, List, [], map, Option, Some, None, Result, Ok, Err}
-use Rattle.cuda_below.specs.declared.arguments.ParsedArguments.{ParsedArguments}
-use Rattle.cuda_below.specs.declared.command.Cacheable.{Cacheable}
-use Rattle.cuda_below.specs.declared.command.SingleCompileCommand.{SingleCompileCommand}
-use Rattle.texts.specs.declared.fault.Fault.{Fault}
-use Rattle.cuda_below.specs.declared.outputs.ArtifactDescriptor.{ArtifactDescriptor}
-use Rattle.cuda_below.specs.Command.{written}
-use Rattle.cuda_below.specs.Compiler.{Reading, accepted, cannot_cache, not_compilation}
+use Rattle.cuda_plans.specs.declared.arguments.ParsedArguments.{ParsedArguments}
+use Rattle.cuda_plans.specs.declared.command.Cacheable.{Cacheable}
+use Rattle.cuda_plans.specs.declared.command.SingleCompileCommand.{SingleCompileCommand}
+use Rattle.cuda_plans.specs.declared.fault.Fault.{Fault}
+use Rattle.cuda_plans.specs.declared.outputs.ArtifactDescriptor.{ArtifactDescriptor}
+use Rattle.cuda_plans.specs.Command.{written}
+use Rattle.cuda_plans.specs.Compiler.{Reading, accepted, cannot_cache, not_compilation}
 use Rattle.cuda_plans.specs.DeviceWords.{cicc_words}
 use Rattle.uses.specs.declared.cache.Entry.{Entry}
 

@@ -1,6 +1,6 @@
 -- What is read of a line.
 use Rattle.std.specs.Prelude.{ℕ, List, Option, Some, None}
-use Rattle.cuda_below.specs.Compiler.{Reading, accepted, cannot_cache, not_compilation}
+use Rattle.cuda_plans.specs.Compiler.{Reading, accepted, cannot_cache, not_compilation}
 
 -- the common words of a line that was read
 abbrev pub common_words : Reading → Option (List (List ℕ))

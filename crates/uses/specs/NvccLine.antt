@@ -1,11 +1,11 @@
 -- The dry runs of an nvcc line.
 use Rattle.std.specs.Prelude.{ℕ, List, Option, Some, None, Result, Ok, Err}
-use Rattle.cuda_below.specs.declared.command.Cacheable.{Cacheable}
-use Rattle.cuda_below.specs.declared.command.SingleCompileCommand.{SingleCompileCommand}
-use Rattle.cuda_below.specs.declared.compiler.NvccHostCompiler.{NvccHostCompiler}
-use Rattle.cuda_below.specs.declared.compiler.Places.{Places}
-use Rattle.texts.specs.declared.fault.Fault.{Fault}
-use Rattle.cuda_below.specs.Compiler.{Reading, accepted, cannot_cache, not_compilation}
+use Rattle.cuda_plans.specs.declared.command.Cacheable.{Cacheable}
+use Rattle.cuda_plans.specs.declared.command.SingleCompileCommand.{SingleCompileCommand}
+use Rattle.cuda_plans.specs.declared.compiler.NvccHostCompiler.{NvccHostCompiler}
+use Rattle.cuda_plans.specs.declared.compiler.Places.{Places}
+use Rattle.cuda_plans.specs.declared.fault.Fault.{Fault}
+use Rattle.cuda_plans.specs.Compiler.{Reading, accepted, cannot_cache, not_compilation}
 use Rattle.cuda_plans.specs.declared.nvcc.command.NvccCompileCommand.{NvccCompileCommand}
 use Rattle.cuda_plans.specs.NvccCommand.{dry_runs, nvcc_written}
 

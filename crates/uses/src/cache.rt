@@ -1,10 +1,10 @@
 //! What a cache needs of a cicc line.
 
 ghost use Rattle.std.specs.Prelude.{◌≡◌, map, IfOk, string_bytes};
-ghost use Rattle.texts.specs.Fault.{UnlessMemory};
+ghost use Rattle.cuda_plans.specs.Fault.{UnlessMemory};
 ghost use Rattle.cuda_plans.specs.Cicc.{cicc_options};
 ghost use Rattle.cuda_plans.specs.Reading.{tool_reading};
-ghost use Rattle.texts.specs.declared.language.Language.TheVariants.{Ptx};
+ghost use Rattle.cuda_plans.specs.declared.language.Language.TheVariants.{Ptx};
 ghost use Rattle.uses.specs.Cache as spec;
 
 use cuda_plans::arguments::{CompilerArguments, ParsedArguments};

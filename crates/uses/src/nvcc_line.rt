@@ -1,8 +1,8 @@
 //! The dry runs of an nvcc line.
 
 ghost use Rattle.std.specs.Prelude.{◌≡◌, map, string_bytes};
-ghost use Rattle.texts.specs.Fault.{UnlessMemory};
-ghost use Rattle.texts.specs.Variables.{pair_of};
+ghost use Rattle.cuda_plans.specs.Fault.{UnlessMemory};
+ghost use Rattle.cuda_plans.specs.Variables.{pair_of};
 ghost use Rattle.cuda_plans.specs.Nvcc.{nvcc_reading};
 ghost use Rattle.uses.specs.NvccLine as spec;
 

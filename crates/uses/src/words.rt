@@ -2,8 +2,8 @@
 
 ghost use Rattle.std.specs.Prelude.{◌≡◌, [], ◌∷◌, Some, codes, map, IfOk, string_bytes};
 ghost use Rattle.std.specs.Option.{option_map};
-ghost use Rattle.texts.specs.declared.language.Language.TheVariants.{Ptx};
-ghost use Rattle.texts.specs.Rows.{spaced};
+ghost use Rattle.cuda_plans.specs.declared.language.Language.TheVariants.{Ptx};
+ghost use Rattle.cuda_plans.specs.Rows.{spaced};
 ghost use Rattle.cuda_plans.specs.Cicc.{cicc_options};
 ghost use Rattle.cuda_plans.specs.Reading.{tool_reading};
 ghost use Rattle.uses.specs.Known as spec;

@@ -1,10 +1,9 @@
 //! The environment of an nvcc line.
 
 ghost use Rattle.std.specs.Prelude.{◌≡◌, ◌++◌, map, IfOk, string_bytes};
-ghost use Rattle.std.specs.Map.{lookup};
 ghost use Rattle.std.specs.Option.{option_copied};
-ghost use Rattle.std.specs.Str.{bytes_eq};
 ghost use Rattle.texts.specs.Variables.{pair_of};
+ghost use Rattle.texts.specs.Variables as variables;
 ghost use Rattle.host_lines.specs.NvccEnvironment as spec;
 
 use shell_words::split;
@@ -41,7 +40,7 @@ pub fn without_flags(alloc: Global, env_vars: &[(String, String)]) -> Result<Var
 
 // The value of the first variable of a name.
 fn first_value<'a>(env_vars: &'a [(String, String)], name: &str) -> Option<&'a str>
-    ensures { option_copied result ≡ lookup (bytes_eq name.now) (map pair_of env_vars.now) }
+    ensures { option_copied result ≡ variables.first_value name.now (map pair_of env_vars.now) }
 {
     for pair in env_vars {
         if name == pair.0.as_str() {
@@ -51,9 +50,9 @@ fn first_value<'a>(env_vars: &'a [(String, String)], name: &str) -> Option<&'a s
     None
 }
 
-// The shell words of a text; none if it doesn't split.
-fn shell_words(alloc: Global, text: &str) -> Result<Words, AllocError>
-    ensures { IfOk result (λ w. w ≡ spec.shell_words text.now) }
+// The shell words of a variable's value; none if it doesn't split.
+fn words_of_value(alloc: Global, text: &str) -> Result<Words, AllocError>
+    ensures { IfOk result (λ w. w ≡ spec.words_of_value text.now) }
 {
     match split(alloc, text)? {
         Some(words) => Ok(Words::from_vec(words)),
@@ -70,7 +69,7 @@ fn added_words(
     ensures { IfOk result (λ w. w ≡ spec.added_words name.now (map pair_of env_vars.now)) }
 {
     match first_value(env_vars, name) {
-        Some(text) => shell_words(alloc, text),
+        Some(text) => words_of_value(alloc, text),
         None => Ok(Words::new(alloc)),
     }
 }

@@ -1,6 +1,7 @@
 -- The words of a text, computed. They are those of the grammar: the law `computed_words` says it.
-use Rattle.std.specs.Prelude.{ℕ, ◌==◌, ◌≡◌, refl, if◌then◌else◌, List, [], ◌∷◌, ◌++◌, Option, Some, None, encode_utf8_all, codes}
+use Rattle.std.specs.Prelude.{ℕ, ◌==◌, ◌≡◌, refl, if◌then◌else◌, List, [], ◌∷◌, ◌++◌, map, Option, Some, None, encode_utf8_all, codes}
 use Rattle.std.specs.Option.{option_map}
+use Rattle.std.specs.Str.{chars}
 use Rattle.shell_words.specs.declared.splitting.State.{State}
 use Rattle.shell_words.specs.declared.splitting.State.TheVariants.{Between, Comment, Word, Escaped, SingleQuoted, DoubleQuoted, EscapedInQuotes}
 use Rattle.shell_words.specs.Shell.{newline, hash, backslash, single_quote, double_quote, is_blank, is_escapable}
@@ -119,6 +120,10 @@ ended EscapedInQuotes words word = None
 
 abbrev pub finished : Splitting → Option (List (List ℕ))
 finished s = ended s.state s.words s.word
+
+-- the shell words of a text, all as bytes
+abbrev pub shell_words : List ℕ → Option (List (List ℕ))
+shell_words text = option_map (map encode_utf8_all) (split_chars (chars text))
 
 -- Worked examples. The first is the text  a\ b "c$d\e" '' # x
 pub quotes_and_escapes : split_chars (codes "a\\ b \"c$d\\e\" '' # x") ≡ Some (codes "a b" ∷ codes "c$d\\e" ∷ [] ∷ [])

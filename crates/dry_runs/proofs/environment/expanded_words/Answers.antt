@@ -1,7 +1,7 @@
 use Rattle.std.proofs.Common.{◌≡◌, ◌∙◌, IfOk, map, string_bytes, subst, sym}
 use Rattle.std.specs.Option.{option_map}
 use Rattle.texts.specs.Variables.{pair_of}
-use Rattle.dry_runs.specs.DryRun.{shell_words}
+use Rattle.shell_words.specs.Shell.Splitting.{shell_words}
 use Rattle.dry_runs.proofs.ExpansionLemmas.{expanded-nothing, lacking}
 use Rattle.dry_runs.proofs.environment.expanded_words.Goals as goal
 

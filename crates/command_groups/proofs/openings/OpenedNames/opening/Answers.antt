@@ -1,4 +1,4 @@
-use Rattle.std.proofs.Common.{◌≡◌, sym, ◌∙◌}
+use Rattle.std.proofs.Common.{sym, ◌∙◌}
 use Rattle.command_groups.specs.Openings.{opening_of}
 use Rattle.command_groups.proofs.EntryLemmas.{numbered, opening_seen}
 use Rattle.command_groups.proofs.openings.OpenedNames.opening.Goals as goal

@@ -1,5 +1,5 @@
 use Rattle.std.proofs.Common.{Some, codes, ◌∙◌, ap, sym, map, string_bytes}
-use Rattle.dry_runs.specs.Environment.{first_value}
+use Rattle.texts.specs.Variables.{first_value}
 use Rattle.dry_runs.specs.DryRun.{meaning_by_path}
 use Rattle.dry_runs.specs.Reading.{said_next}
 use Rattle.dry_runs.proofs.ReadingLemmas.{passed-said, not_found-refused}

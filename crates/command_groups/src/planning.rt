@@ -1,0 +1,140 @@
+//! The plan of two dry runs.
+
+ghost use Rattle.std.specs.Prelude.{◌≡◌, map, IfOk};
+ghost use Rattle.std.specs.Option.{option_copied};
+ghost use Rattle.texts.specs.Fault.{UnlessMemory};
+ghost use Rattle.texts.specs.Variables.{pair_of};
+ghost use Rattle.dry_runs.specs.CommandLines.{line_of};
+ghost use Rattle.dry_runs.specs.DryRun.{dry_run_of};
+ghost use Rattle.dry_runs.specs.Reading.{dry_run_seen};
+ghost use Rattle.command_groups.specs.CuttingView.{setting_seen};
+ghost use Rattle.command_groups.specs.MergeLaws.{Rises};
+ghost use Rattle.command_groups.specs.Plan.{staged_commands, plan_of_staged};
+ghost use Rattle.command_groups.specs.PlanOfBytes as spec;
+
+use crate::cutting::{Setting, plan_of_commands};
+use crate::environment::with_variables;
+use crate::merge::merge;
+use crate::plan::Plan;
+use canonical_names::{Suffixes, remap_commands};
+use cuda_below::compiler::NvccHostCompiler;
+use dry_runs::{Commands, DryRun, Which, read_dry_run};
+use std::alloc::{AllocError, Global};
+use texts::fault::Fault;
+
+// Reads a dry run. Its commands stand at rising lines.
+fn read_run<W: Which>(
+    alloc: Global,
+    dry_run: &[u8],
+    run: usize,
+    cwd: &str,
+    which: &W,
+) -> Result<DryRun, Fault>
+    ensures said { UnlessMemory (dry_run_seen result) (dry_run_of run dry_run.now cwd.now (W.answer which.now)) }
+    ensures rises { IfOk result (λ said. Rises (map line_of said.commands)) }
+{
+    read_dry_run(alloc, dry_run, run, cwd, which)
+}
+
+// The commands of a run as they are planned: with canonical names, unless files are kept in a folder.
+fn named(
+    alloc: Global,
+    suffixes: &Suffixes,
+    keep_dir: Option<&str>,
+    commands: Commands,
+) -> Result<Commands, AllocError>
+    ensures { IfOk result (λ c. c ≡ spec.named suffixes.now (option_copied keep_dir.entry) commands) }
+{
+    match keep_dir {
+        None => remap_commands(alloc, commands, suffixes),
+        Some(_) => Ok(commands),
+    }
+}
+
+// The plan of the commands of two runs that were read.
+fn plan_of_runs(
+    alloc: Global,
+    suffixes: &Suffixes,
+    keep_dir: Option<&str>,
+    setting: &Setting<'_>,
+    first: Commands,
+    second: Commands,
+) -> Result<Plan, AllocError>
+    requires first_rises { Rises (map line_of first) }
+    requires second_rises { Rises (map line_of second) }
+    ensures { IfOk result (λ plan. plan ≡ plan_of_staged (setting_seen setting.now) (staged_commands (setting_seen setting.now) (spec.named suffixes.now (option_copied keep_dir.entry) first) (spec.named suffixes.now (option_copied keep_dir.entry) second))) }
+{
+    let first = named(alloc, suffixes, keep_dir, first)?;
+    let second = named(alloc, suffixes, keep_dir, second)?;
+    plan_of_commands(alloc, setting, merge(alloc, first, second)?)
+}
+
+/// What one nvcc call runs, by two dry runs of it: its commands in groups, and those that stand in none, each with its
+/// reason.
+///
+/// - `dry1` and `dry2` are what nvcc prints on standard error with `--dryrun --keep`, and `dry2` with `--keep-dir` and
+///   `tmp` too. nvcc's own tools (cicc, ptxas, cudafe++, nvlink and fatbinary, by their stems) are those of `dry1`,
+///   and run in `tmp`; all other programs are those of `dry2`, and run in `cwd`. A program without a stem is left out.
+///   The commands are planned in order of their lines, and on equal lines the first run's comes first.
+/// - `compilation_flag` is the option that says what nvcc makes, as `-c`.
+/// - `keep_dir` is the folder that the call keeps generated files in. If there is none, the generated files of each run
+///   get canonical names, told by `suffixes`; else all names stay.
+/// - `env_vars` is the call's environment. All commands have it with the first run's environment lines folded in: a
+///   known name gets its value at its first place, and a new one comes last.
+/// - `which` looks up the programs of both runs from `cwd`.
+///
+/// Each command has a group, or a reason why it has none:
+///
+/// - cudafe++ stands in the front group. If `--gen_module_id_file` isn't among its words, it is put before the first
+///   `--module_id_file_name`.
+/// - A program that isn't nvcc's own and has no word that begins with `-D__CUDACC__`, `-D__NVCC__`, `-D__CUDA_ARCH__`
+///   or `-D__CUDA_ARCH_LIST__` is `NotCuda`. With such a word and `-E`, or `-P` if `host_compiler` is `Msvc`, it is a
+///   preprocess step: if the word after its first `-o` has a file name that ends in `.cpp1.ii`, it opens a device group
+///   of that name and stands in it, else it stands in the front group. Any other one compiles host code: it stands in
+///   the final group, and has the variable `__SCCACHE_THIS_IS_A_CUDA_COMPILATION__`, empty, last in its environment.
+/// - cicc stands in the device group that its first `.cpp1.ii` word names, or is `NoCiccGroup`. If `compilation_flag`
+///   asks for an object, it loses its first `--gen_module_id_file`.
+/// - ptxas stands in the first device group with a cicc whose last word is ptxas's first `.ptx` word, or is
+///   `NoPtxasGroup`. If ciccs of two groups write one file, every ptxas of that file stands in the first of them.
+/// - nvlink and fatbinary stand in the final group.
+///
+/// A step that opens a group again empties it in its place: what stood there is `Superseded`. Device groups stand in
+/// order of first appearance of their names.
+///
+/// A run that can't be read is refused by its first bad line, as `read_dry_run` refuses it, and the first run's refusal
+/// comes first. So the faults are `NotUtf8`, `BadShell`, `EmptyCommand`, `NoPath`, `NotFound` and `Memory`, which may
+/// come in place of any other answer.
+///
+/// As sccache 0.19.0's grouping, except that sccache has ptxas join a group only by its last command, so that of two
+/// ptxas of one file the second is lost; that it drops commands in silence; and that its device groups have no fixed
+/// order, nor the refusals of two bad runs.
+pub fn group_nvcc_subcommands_by_compilation_stage<W: Which>(
+    alloc: Global,
+    dry1: &[u8],
+    dry2: &[u8],
+    compilation_flag: &str,
+    cwd: &str,
+    tmp: &str,
+    keep_dir: Option<&str>,
+    env_vars: &[(String, String)],
+    host_compiler: NvccHostCompiler,
+    which: &W,
+    suffixes: &Suffixes,
+) -> Result<Plan, Fault>
+    ensures { UnlessMemory result (spec.planning_of suffixes.now (option_copied keep_dir.entry)
+        (record { cwd = cwd.now; tmp = tmp.now; flag = compilation_flag.now; host_compiler = host_compiler; env_vars = map pair_of env_vars.now })
+        (W.answer which.now) dry1.now dry2.now) }
+{
+    let first = read_run(alloc, dry1, 1, cwd, which)?;
+    let second = read_run(alloc, dry2, 2, cwd, which)?;
+    let setting = Setting {
+        cwd,
+        tmp,
+        compilation_flag,
+        host_compiler,
+        env_vars: with_variables(alloc, env_vars, first.env.as_slice())?,
+    };
+    let (first, second) = (first.commands, second.commands);
+    let plan = plan_of_runs(alloc, suffixes, keep_dir, &setting, first, second)?;
+    Ok(plan)
+}
