@@ -74,12 +74,11 @@ any-front front text bare proper = by_split (split_at_last 47 front) refl where
   by_split None e = (front, ap file_name_of (sym (joined-nothing (front ++ text))) ∙ joined-has_name [] (front ++ text) (lacks-append 47 front text (unsplit-lacks 47 front e) bare) (proper front))
   by_split (Some p) e =
       let parts = split-text 47 front p.0 p.1 e in
-      let rest : is_bare (p.1 ++ text) ≡ true = lacks-append 47 p.1 text parts.1 bare in
-      (
+      let rest : is_bare (p.1 ++ text) ≡ true = lacks-append 47 p.1 text parts.1 bare in (
         p.1,
         ap (λ z. file_name_of (z ++ text)) parts.0
-        ∙ ap file_name_of (append_assoc p.0 (47 ∷ p.1) text ∙ sym (append_assoc p.0 (47 ∷ []) (p.1 ++ text)) ∙ sym (joined-slash p.0 (p.1 ++ text) rest))
-        ∙ joined-has_name (p.0 ++ 47 ∷ []) (p.1 ++ text) rest (proper p.1),
+            ∙ ap file_name_of (append_assoc p.0 (47 ∷ p.1) text ∙ sym (append_assoc p.0 (47 ∷ []) (p.1 ++ text)) ∙ sym (joined-slash p.0 (p.1 ++ text) rest))
+            ∙ joined-has_name (p.0 ++ 47 ∷ []) (p.1 ++ text) rest (proper p.1),
       )
 
 -- a path that ends as cicc's input does has such a file name

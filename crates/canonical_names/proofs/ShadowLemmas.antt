@@ -51,8 +51,8 @@ word-front (a ∷ b ∷ c ∷ rest) =
       | true ↦ λ e. (
         more.0,
         marked-text a b c rest e ∙ more.1
-        ∙ ap (λ m. more.0 ++ (cond m (codes "-Fi") [] ++ core_of rest)) (sym (mark-turned a b c ∙ e))
-        ∙ ap (λ t. more.0 ++ (head_of (a ∷ b ∷ c ∷ rest) ++ t)) (sym (ap (λ m. cond m (core_of rest) (a ∷ b ∷ c ∷ rest)) e)),
+            ∙ ap (λ m. more.0 ++ (cond m (codes "-Fi") [] ++ core_of rest)) (sym (mark-turned a b c ∙ e))
+            ∙ ap (λ t. more.0 ++ (head_of (a ∷ b ∷ c ∷ rest) ++ t)) (sym (ap (λ m. cond m (core_of rest) (a ∷ b ∷ c ∷ rest)) e)),
       )
       | false ↦ λ e. unmarked-front (a ∷ b ∷ c ∷ rest) (long-unmarked a b c rest e)
     ] refl

@@ -1,6 +1,6 @@
 -- The fate of a command whose group one step opens, and that doesn't stand before that step.
 use Rattle.std.proofs.Common.{◌≡◌, ℕ, List, [], ◌∷◌, ◌++◌, ◌||◌, Bool, true, false, cond, Option, Some, None, map, filter, refl, sym, ap, subst, ◌∙◌}
-use Rattle.std.specs.List.{Contains, AllByRecursion, list_any, list_all, find}
+use Rattle.std.specs.List.{Contains, AllByRecursion, list_any, list_all}
 use Rattle.std.specs.Str.{bytes_eq}
 use Rattle.std.proofs.lemmas.Bool.{false≢true, and_parts}
 use Rattle.std.proofs.lemmas.List.Elements.{All-from_recursion, All-contains}
@@ -11,7 +11,7 @@ use Rattle.command_groups.specs.Merge.{is_in_order}
 use Rattle.command_groups.specs.MergeLaws.{InOrder}
 use Rattle.command_groups.specs.Stage.{Stage, linking, splitting, device_compiling, assembling, preprocessing, host_compiling, foreign, StagedCommand, opens}
 use Rattle.command_groups.specs.Fate.{Fate, device, ungrouped, PlacedCommand, opens_name, place_of, placed_after, places, fate_of, with_fates, fates}
-use Rattle.command_groups.proofs.FateLemmas.{first_false, second_false, both_false, same_text, equal_texts, known_with, new_name_known, placed_staged}
+use Rattle.command_groups.proofs.FateLemmas.{second_false, same_text, known_with, new_name_known, placed_staged}
 
 -- lists of which one element passes a test
 module _ {X : Type 0} (test : X → Bool) where

@@ -1,5 +1,5 @@
 -- Plans of dry runs that can be read, and of dry runs that are alike.
-use Rattle.std.proofs.Common.{◌≡◌, ℕ, List, [], ◌∷◌, ◌++◌, ◌&&◌, Bool, true, false, cond, map, filter, Option, None, Result, Ok, Err, refl, sym, ap, subst, ◌∙◌}
+use Rattle.std.proofs.Common.{◌≡◌, ℕ, List, [], ◌∷◌, Bool, true, false, cond, map, Option, None, Result, Ok, refl, sym, ap, subst, ◌∙◌}
 use Rattle.std.specs.List.{list_all}
 use Rattle.std.proofs.lemmas.Bool.{and_parts, and_from}
 use Rattle.texts.specs.declared.fault.Fault.{Fault}
@@ -17,7 +17,7 @@ use Rattle.command_groups.specs.MergeLaws.{InOrder}
 use Rattle.command_groups.specs.Plan.{PlanSetting, of_fate, staged_commands, plan_of}
 use Rattle.command_groups.specs.PlanOfBytes.{named, plan_or_fault, planning_of}
 use Rattle.command_groups.specs.PlanLaws.{AreCleanAndAlike, AlikePairsHaveOnePlan, AlikeTextsHaveOnePlan, faults_of_run, ReadableRunsArePlanned, PlannedRunsAreReadable, FirstRunIsRefused, SecondRunIsRefused, GroupIsInOrder, HasOneFateEach, Says, PlannedCommandsHaveOneFate}
-use Rattle.command_groups.specs.Stage.{StagedCommand, staged}
+use Rattle.command_groups.specs.Stage.{staged}
 use Rattle.command_groups.proofs.FateLemmas.{each_has_one_fate, fates_staged, placed_staged}
 use Rattle.command_groups.proofs.MergeLemmas.{merged_is_in_order, merged_are_the_selected}
 
@@ -42,13 +42,12 @@ alike_texts_have_one_plan suffixes lawful s which first second other_first other
     let one = firsts.one_says in
     let two = seconds.one_says in
     let other_one = firsts.other_says in
-    let other_two = seconds.other_says in
-    (
+    let other_two = seconds.other_says in (
       plan_of s one.1 (named suffixes None one.0) (named suffixes None two.0),
       planned suffixes None s which first second one two firsts.one_is_read seconds.one_is_read,
       planned suffixes None s which other_first other_second other_one other_two firsts.other_is_read seconds.other_is_read
-      ∙ ap Ok (ap (λ v. plan_of s v (named suffixes None other_one.0) (named suffixes None other_two.0)) (sym same)
-      ∙ sym (alike_pairs_have_one_plan suffixes lawful s one.1 one.0 two.0 other_one.0 other_two.0 firsts.like seconds.like)),
+          ∙ ap Ok (ap (λ v. plan_of s v (named suffixes None other_one.0) (named suffixes None other_two.0)) (sym same)
+          ∙ sym (alike_pairs_have_one_plan suffixes lawful s one.1 one.0 two.0 other_one.0 other_two.0 firsts.like seconds.like)),
     )
 
 -- Runs that can be read.

@@ -1,10 +1,11 @@
 -- Runs for which the laws of plans fail once a premise is left out.
-use Rattle.std.proofs.Common.{◌≡◌, ℕ, List, [], ◌∷◌, Bool, true, false, not, eqb, length, None, map, refl, sym, ap, ◌∙◌, codes}
+use Rattle.std.proofs.Common.{◌≡◌, ℕ, List, [], ◌∷◌, Bool, true, false, not, eqb, length, map, refl, sym, ap, ◌∙◌, codes}
 use Rattle.std.specs.Cmp.Lexicographic.{pointwise}
 use Rattle.std.specs.List.{list_any}
 use Rattle.std.specs.Str.{bytes_eq}
 use Rattle.std.proofs.lemmas.Bool.{false≢true}
 use Rattle.cuda_below.specs.declared.compiler.NvccHostCompiler.TheVariants.{Gcc}
+use Rattle.dry_runs.specs.CommandLines.{CommandLine}
 use Rattle.dry_runs.specs.OneKernel.{at}
 use Rattle.canonical_names.specs.Alike.{Alike}
 use Rattle.canonical_names.specs.AlikeRows.{run_with}

@@ -5,7 +5,7 @@ use Rattle.std.specs.List.{Contains, list_any, list_all, find, starts_with, filt
 use Rattle.std.specs.Cmp.Lexicographic.{pointwise}
 use Rattle.std.specs.Option.{option_map, option_and_then}
 use Rattle.std.specs.Str.{bytes_eq}
-use Rattle.std.proofs.lemmas.Bool.{false≢true, and_parts, and_from, or_cases, not-true, ltb-true}
+use Rattle.std.proofs.lemmas.Bool.{false≢true, and_parts, or_cases, ltb-true}
 use Rattle.std.proofs.lemmas.List.Elements.{Contains-append_left}
 use Rattle.std.proofs.lemmas.List.Folds.{list_any-append}
 use Rattle.std.proofs.lemmas.List.Sorted.{Contains-permutation}
@@ -18,8 +18,8 @@ use Rattle.texts.specs.ObjectFlags.{makes_objects}
 use Rattle.texts.specs.Path.{joined, is_bare, is_absolute_path, separator_after, file_name_of, file_stem_of}
 use Rattle.dry_runs.specs.CommandLines.{CommandLine, line_of, program_of, words_of_command}
 use Rattle.canonical_names.specs.CanonicalNames.{AreSuffixes, word_by_all, command_by_all}
-use Rattle.canonical_names.specs.Generated.{core_of, class_of, generated_name, begins_with_dash}
-use Rattle.canonical_names.specs.Renaming.{canonical_file, canonical_in, canonical_name, rank, names_of_run, renamed}
+use Rattle.canonical_names.specs.Generated.{core_of, generated_name, begins_with_dash}
+use Rattle.canonical_names.specs.Renaming.{canonical_file, canonical_name, rank, names_of_run, renamed}
 use Rattle.canonical_names.specs.Shadow.{appearances, is_plain_output}
 use Rattle.canonical_names.specs.StepShadow.{step_names, is_step_shadow}
 use Rattle.canonical_names.proofs.AgainLemmas.{dash-unmarked}
@@ -34,12 +34,12 @@ use Rattle.canonical_names.proofs.ShadowLemmas.{test-kept, class-by_end, plain-c
 use Rattle.canonical_names.proofs.ShadowRankLemmas.{cicc-joined_name, step-names_keep_rank}
 use Rattle.canonical_names.proofs.SuffixLemmas.{any-member, each-member}
 use Rattle.command_groups.specs.declared.plan.Reason.TheVariants.{NoCiccGroup}
-use Rattle.command_groups.specs.Fate.{Fate, device, device_or, PlacedCommand, place_of, places, fates}
+use Rattle.command_groups.specs.Fate.{device, device_or, PlacedCommand, place_of, places, fates}
 use Rattle.command_groups.specs.Merge.{MergedCommand, of_run, is_taken, is_nvcc_stem, is_host_stem, selected, is_in_order, put_in_order, in_order, merged}
 use Rattle.command_groups.specs.MergeLaws.{InOrder}
 use Rattle.command_groups.specs.Plan.{PlanSetting, staged_commands}
 use Rattle.command_groups.specs.ShadowLaws.{is_step, writes, is_step_to, planned_command, IsFedBy, HasFate, StandTogether, StepShadowsStandTogether, ShadowsStandTogether}
-use Rattle.command_groups.specs.Stage.{ProgramKind, linker, cudafe, cicc, ptxas, other, kind_of_optional_stem, kind_of_program, has_word, without_first_word, cicc_edit, edited_by, Stage, device_compiling, preprocessing, host_compiling, foreign, StagedCommand, staged, stage_by, opens, cuda_macros, defines_cuda, is_for_cuda, preprocess_word, device_name, opened_name, cicc_input}
+use Rattle.command_groups.specs.Stage.{ProgramKind, linker, cudafe, cicc, ptxas, other, kind_of_optional_stem, kind_of_program, has_word, without_first_word, cicc_edit, edited_by, device_compiling, preprocessing, host_compiling, foreign, StagedCommand, staged, stage_by, opens, defines_cuda, is_for_cuda, preprocess_word, device_name, opened_name, cicc_input}
 use Rattle.command_groups.proofs.FateLemmas.{both_false, first_true, second_true, same_text, equal_texts, fates_staged, placed_staged}
 use Rattle.command_groups.proofs.MergeLemmas.{merged_is_in_order, merged_are_the_selected}
 use Rattle.command_groups.proofs.OpenerLemmas.{filter_holds, filter_member, opener, opener_place, fate_settled}
@@ -53,7 +53,7 @@ module _ (test : MergedCommand → Bool) where
       elim (is_in_order c d) as (λ r. filter test (cond r (c ∷ d ∷ ds) (d ∷ put_in_order c ds)) ≡ filter test (d ∷ ds)) [
         | true ↦ ap (λ b. cond b (c ∷ filter test (d ∷ ds)) (filter test (d ∷ ds))) h
         | false ↦ elim (test d) as (λ b. cond b (d ∷ filter test (put_in_order c ds)) (filter test (put_in_order c ds)) ≡ cond b (d ∷ filter test ds) (filter test ds))
-        [ true ↦ ap (λ t. d ∷ t) (put_out c ds h) | false ↦ put_out c ds h ]
+            [ true ↦ ap (λ t. d ∷ t) (put_out c ds h) | false ↦ put_out c ds h ]
       ]
 
   put_in : (c : MergedCommand) (ds : List MergedCommand) → test c ≡ true → filter test ds ≡ [] → filter test (put_in_order c ds) ≡ c ∷ []
@@ -62,7 +62,7 @@ module _ (test : MergedCommand → Bool) where
       elim (is_in_order c d) as (λ r. filter test (cond r (c ∷ d ∷ ds) (d ∷ put_in_order c ds)) ≡ c ∷ []) [
         | true ↦ ap (λ b. cond b (c ∷ filter test (d ∷ ds)) (filter test (d ∷ ds))) h ∙ ap (λ t. c ∷ t) k
         | false ↦ elim (test d) as (λ b. cond b (d ∷ filter test ds) (filter test ds) ≡ [] → cond b (d ∷ filter test (put_in_order c ds)) (filter test (put_in_order c ds)) ≡ c ∷ [])
-        [ true ↦ λ e. cc | false ↦ λ e. put_in c ds h e ] k
+            [ true ↦ λ e. cc | false ↦ λ e. put_in c ds h e ] k
       ]
 
   sort_none : (cs : List MergedCommand) → filter test cs ≡ [] → filter test (in_order cs) ≡ []
@@ -371,12 +371,12 @@ module _ (suffixes : List (List ℕ)) (lawful : AreSuffixes suffixes) (s : PlanS
   output_is c h (Some v) e =
       same-tests (is_some_and is_file (option_and_then device_name (file_name_of (word_by_all suffixes twos v)))) (bytes_eq path v)
       (λ t.
-          let found = plain-outputs_stay_apart suffixes lawful twos v (rank (codes ".cpp1.ii") ones name) (sym (ap is_plain_output e) ∙ plain_each c h) (opened_file (file_name_of (word_by_all suffixes twos v)) t) in
-          let known = name_known suffixes lawful second c v h (after_member (codes "-o") (words_of_command c) v e) found.0 found.1 in
-          equal_texts path v (rank-apart (codes ".cpp1.ii") twos path v path_known known path_ends found.1 (sym ranks ∙ sym found.2)))
+      let found = plain-outputs_stay_apart suffixes lawful twos v (rank (codes ".cpp1.ii") ones name) (sym (ap is_plain_output e) ∙ plain_each c h) (opened_file (file_name_of (word_by_all suffixes twos v)) t) in
+      let known = name_known suffixes lawful second c v h (after_member (codes "-o") (words_of_command c) v e) found.0 found.1 in
+      equal_texts path v (rank-apart (codes ".cpp1.ii") twos path v path_known known path_ends found.1 (sym ranks ∙ sym found.2)))
       (λ t.
-          subst (λ z. is_some_and is_file (option_and_then device_name (file_name_of (word_by_all suffixes twos z))) ≡ true) (same_text path v t)
-          (ap (λ r. is_some_and is_file (option_and_then device_name r)) path_file ∙ file_opens))
+      subst (λ z. is_some_and is_file (option_and_then device_name (file_name_of (word_by_all suffixes twos z))) ≡ true) (same_text path v t)
+      (ap (λ r. is_some_and is_file (option_and_then device_name r)) path_file ∙ file_opens))
 
   -- a command of the second run opens the group exactly if it is a step that writes the path
   abbrev opens_file : MergedCommand → Bool
