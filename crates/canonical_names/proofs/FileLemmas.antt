@@ -1,5 +1,5 @@
 -- File names of paths that end in a given text.
-use Rattle.std.proofs.Common.{◌≡◌, ℕ, ◌-◌, ◌++◌, ◌&&◌, ◌||◌, Bool, true, false, not, cond, eqb, eqb-true, List, [], ◌∷◌, Option, Some, None, refl, ap, sym, ◌∙◌, subst, nat_eq, length, take, reverse, append_assoc, append-nil, codes}
+use Rattle.std.proofs.Common.{◌≡◌, ℕ, ◌-◌, ◌++◌, ◌&&◌, ◌||◌, Bool, true, false, not, cond, eqb, List, [], ◌∷◌, Option, Some, None, refl, ap, sym, ◌∙◌, subst, nat_eq, length, take, reverse, append_assoc, append-nil, codes}
 use Rattle.std.specs.List.{ends_with}
 use Rattle.std.specs.Option.{option_map_or}
 use Rattle.std.specs.Str.{bytes_eq}
@@ -10,7 +10,6 @@ use Rattle.texts.specs.Extension.{onto_front, split_at_last, last_part}
 use Rattle.texts.specs.Path.{joined, is_bare, is_absolute_path, separator_after, lacks, trimmed, is_idle, proper_name, file_name_of}
 use Rattle.texts.proofs.PathLaw.{joined-has_name}
 use Rattle.texts.proofs.PathLemmas.{lacks-append, unsplit-lacks, split-text, reverse-cons, not-is}
-use Rattle.canonical_names.specs.Generated.{begins_with_dash}
 use Rattle.canonical_names.specs.Shadow.{is_cicc_file}
 use Rattle.canonical_names.proofs.AgainLemmas.{and-none}
 use Rattle.canonical_names.proofs.CanonicalLemmas.{ends-split, ends-append}

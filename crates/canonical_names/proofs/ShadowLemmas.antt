@@ -1,5 +1,5 @@
 -- Which renamed words are options, inputs of cicc, and outputs that open a group.
-use Rattle.std.proofs.Common.{◌≡◌, ℕ, ◌-◌, ◌++◌, ◌&&◌, ◌||◌, ◌⊎◌, Bool, true, false, not, cond, eqb, eqb-true, List, [], ◌∷◌, Option, Some, None, inl, inr, refl, ap, sym, ◌∙◌, subst, nat_eq, length, take, drop, append_assoc, codes}
+use Rattle.std.proofs.Common.{◌≡◌, ℕ, ◌-◌, ◌++◌, ◌&&◌, ◌⊎◌, Bool, true, false, not, cond, eqb, eqb-true, List, [], ◌∷◌, Option, Some, None, inl, inr, refl, ap, sym, ◌∙◌, nat_eq, length, take, drop, append_assoc, codes}
 use Rattle.std.specs.List.{Contains, starts_with, ends_with}
 use Rattle.std.proofs.lemmas.Bool.{false≢true, and_parts, or_cases, not-true}
 use Rattle.std.proofs.lemmas.List.{append_cancel_left, append_cancel_right}

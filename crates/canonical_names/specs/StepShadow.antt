@@ -1,5 +1,5 @@
 -- Shadow runs as far as the inputs of cicc go: what preprocess steps write and cicc reads.
-use Rattle.std.specs.Prelude.{◌≡◌, ℕ, List, [], ◌∷◌, ◌++◌, map, filter, Bool, true, false, ◌&&◌, ◌==◌, if◌then◌else◌, Some, refl, codes}
+use Rattle.std.specs.Prelude.{◌≡◌, ℕ, List, map, filter, Bool, true, false, ◌&&◌, ◌==◌, if◌then◌else◌, Some, refl, codes}
 use Rattle.std.specs.List.{list_all}
 use Rattle.std.specs.Cmp.Lexicographic.{pointwise}
 use Rattle.std.specs.Str.{bytes_eq}
