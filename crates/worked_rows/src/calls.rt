@@ -3,7 +3,9 @@
 use crate::answer::Answer;
 use crate::row::Row;
 use crate::stop::Stop;
-use crate::{faults, inputs, languages, lines, paths, renaming, runs, shell_texts, tables, taken};
+use crate::{
+    faults, inputs, languages, lines, paths, plans, renaming, runs, shell_texts, tables, taken,
+};
 use std::alloc::Global;
 use std::fs::Files;
 
@@ -45,6 +47,7 @@ pub fn answer_of<R: Files + AllocGlobal>(rt: &R, alloc: Global, row: &Row) -> Re
             runs::answer(rt, alloc, row)
         }
         "rename" | "suffixes" | "standard_suffixes" => renaming::answer(alloc, row),
+        "plan" | "plan_whole" | "plan_text" => plans::answer(rt, alloc, row),
         _ => Err(Stop::Form("an unknown call")),
     }
 }

@@ -7,14 +7,14 @@ use cuda_plans::dry_run::Suffixes;
 use std::alloc::Global;
 use std::fs::{self, Files};
 
-// The bytes of a file, which lies beside the rows.
-fn bytes_of_file<R: Files>(rt: &R, alloc: Global, name: &str) -> Result<Vec<u8>, Stop> {
+/// The bytes of a file, which lies beside the rows.
+pub fn bytes_of_file<R: Files>(rt: &R, alloc: Global, name: &str) -> Result<Vec<u8>, Stop> {
     let Ok(file) = fs::open(rt, name) else {
-        return Err(Stop::Form("a dry run that cannot be opened"));
+        return Err(Stop::Form("a file that cannot be opened"));
     };
     match read_input(alloc, file) {
         Ok(output) => Ok(output.stdout.into_vec()),
-        Err(_) => Err(Stop::Form("a dry run that cannot be read")),
+        Err(_) => Err(Stop::Form("a file that cannot be read")),
     }
 }
 
@@ -121,20 +121,25 @@ pub struct Handed {
 }
 
 impl Handed {
-    /// What settings hand in.
-    pub fn of(alloc: Global, settings: &[String]) -> Result<Handed, Stop> {
-        let mut handed = Handed {
+    /// Nothing yet.
+    pub fn new(alloc: Global) -> Handed {
+        Handed {
             files: Vec::new(alloc),
             suffixes: Vec::new(alloc),
-        };
+        }
+    }
+
+    /// What settings hand in.
+    pub fn of(alloc: Global, settings: &[String]) -> Result<Handed, Stop> {
+        let mut handed = Handed::new(alloc);
         for setting in settings {
             handed.take(alloc, setting.as_str())?;
         }
         Ok(handed)
     }
 
-    // Takes a setting.
-    fn take(&mut self, alloc: Global, setting: &str) -> Result<(), Stop> {
+    /// Takes a setting.
+    pub fn take(&mut self, alloc: Global, setting: &str) -> Result<(), Stop> {
         if let Some(name) = setting.strip_prefix("file=") {
             self.files.push(String::from_str(alloc, name)?)?;
             return Ok(());

@@ -20,6 +20,8 @@ mod lines;
 mod names;
 mod parts;
 mod paths;
+mod plan_settings;
+mod plans;
 mod reading;
 mod renaming;
 mod report;

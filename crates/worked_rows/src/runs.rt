@@ -25,8 +25,8 @@ fn add_place(alloc: Global, answer: &mut Answer, run: usize, line: usize) -> Res
     answer.add(alloc, &["at", run.as_str(), line.as_str()])
 }
 
-// The facts of a refusal, with the run and the line where its message doesn't tell them.
-fn refused_at(alloc: Global, fault: &Fault) -> Result<Answer, Stop> {
+/// The facts of a refusal, with the run and the line where its message doesn't tell them.
+pub fn refused_at(alloc: Global, fault: &Fault) -> Result<Answer, Stop> {
     let mut answer = refused(alloc, fault)?;
     match fault {
         Fault::BadShell { run, line } | Fault::EmptyCommand { run, line } => {

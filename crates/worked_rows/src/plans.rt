@@ -1,0 +1,176 @@
+//! The calls on plans of two dry runs.
+
+use crate::answer::Answer;
+use crate::handed::bytes_of_file;
+use crate::plan_settings::PlanSettings;
+use crate::row::Row;
+use crate::runs::refused_at;
+use crate::stop::Stop;
+use cuda_plans::command::Cacheable;
+use cuda_plans::fault::Fault;
+use cuda_plans::plan::{Dropped, NvccGeneratedSubcommand, Plan, Reason};
+use plan_texts::show_plan;
+use std::alloc::{AllocError, Global};
+use std::fs::Files;
+
+fn reason_name(reason: Reason) -> &'static str {
+    match reason {
+        Reason::NotCuda => "NotCuda",
+        Reason::NoCiccGroup => "NoCiccGroup",
+        Reason::NoPtxasGroup => "NoPtxasGroup",
+        Reason::Superseded => "Superseded",
+    }
+}
+
+fn is_cloned(alloc: Global, command: &NvccGeneratedSubcommand) -> Result<bool, AllocError> {
+    let clone = command.try_clone(alloc)?;
+    Ok(*command == clone)
+}
+
+// Adds a command's environment, and that it is unlike its clone, if it is.
+fn add_environment(
+    alloc: Global,
+    answer: &mut Answer,
+    command: &NvccGeneratedSubcommand,
+) -> Result<(), Stop> {
+    for variable in command.env_vars.iter() {
+        answer.add(alloc, &["env", variable.0.as_str(), variable.1.as_str()])?;
+    }
+    if !is_cloned(alloc, command)? {
+        answer.add(alloc, &["unlike-its-clone"])?;
+    }
+    Ok(())
+}
+
+// Adds a command: whether its outputs may come from a cache, its folder, its program and its words.
+fn add_command(
+    alloc: Global,
+    answer: &mut Answer,
+    command: &NvccGeneratedSubcommand,
+) -> Result<(), Stop> {
+    let name = match command.cacheable {
+        Cacheable::Yes => "yes",
+        Cacheable::No => "no",
+    };
+    let heads = [name, command.cwd.as_str(), command.exe.as_str()];
+    answer.add_headed(alloc, heads.as_slice(), command.args.as_slice())
+}
+
+// Adds a group: its number, and its commands, with their environments if asked.
+fn add_group(
+    alloc: Global,
+    answer: &mut Answer,
+    number: usize,
+    group: &[NvccGeneratedSubcommand],
+    is_whole: bool,
+) -> Result<(), Stop> {
+    let number = format!(in alloc; "{number}")?;
+    answer.add_pair(alloc, "group", number.as_str())?;
+    for command in group {
+        add_command(alloc, answer, command)?;
+        if is_whole {
+            add_environment(alloc, answer, command)?;
+        }
+    }
+    Ok(())
+}
+
+// Adds a dropped command by its parts.
+fn add_dropped_words(
+    alloc: Global,
+    answer: &mut Answer,
+    line: &str,
+    run: &str,
+    reason: &str,
+    exe: &str,
+    words: &[String],
+) -> Result<(), Stop> {
+    answer.add_headed(alloc, &["dropped", line, run, reason, exe], words)
+}
+
+// Adds a dropped command: its line, its run, the reason, its program and its words.
+fn add_dropped(alloc: Global, answer: &mut Answer, dropped: &Dropped) -> Result<(), Stop> {
+    let (line, run) = (dropped.line, dropped.run);
+    let (line, run) = (format!(in alloc; "{line}")?, format!(in alloc; "{run}")?);
+    add_dropped_words(
+        alloc,
+        answer,
+        line.as_str(),
+        run.as_str(),
+        reason_name(dropped.reason),
+        dropped.exe.as_str(),
+        dropped.args.as_slice(),
+    )
+}
+
+// Adds each dropped command.
+fn add_all_dropped(alloc: Global, answer: &mut Answer, plan: &Plan) -> Result<(), Stop> {
+    for dropped in plan.dropped.as_slice() {
+        add_dropped(alloc, answer, dropped)?;
+    }
+    Ok(())
+}
+
+// A plan, as facts.
+fn shown(alloc: Global, plan: &Plan, is_whole: bool) -> Result<Answer, Stop> {
+    let mut answer = Answer::new(alloc);
+    for (number, group) in plan.groups.as_slice().iter().enumerate() {
+        add_group(alloc, &mut answer, number, group.as_slice(), is_whole)?;
+    }
+    add_all_dropped(alloc, &mut answer, plan)?;
+    Ok(answer)
+}
+
+// Whether a plan's text is what a file holds.
+fn compared<R: Files>(rt: &R, alloc: Global, plan: &Plan, file: &str) -> Result<Answer, Stop> {
+    let text = show_plan(alloc, plan)?;
+    let wanted = bytes_of_file(rt, alloc, file)?;
+    Answer::of_bool(alloc, text.as_str().as_bytes() == wanted.as_slice())
+}
+
+// What a call on a plan answers.
+fn of_plan<R: Files>(
+    rt: &R,
+    alloc: Global,
+    call: &str,
+    plan: &Result<Plan, Fault>,
+    text_file: &str,
+) -> Result<Answer, Stop> {
+    match (call, plan) {
+        (_, Err(fault)) => refused_at(alloc, fault),
+        ("plan", Ok(plan)) => shown(alloc, plan, false),
+        ("plan_whole", Ok(plan)) => shown(alloc, plan, true),
+        ("plan_text", Ok(plan)) => compared(rt, alloc, plan, text_file),
+        _ => Err(Stop::Form("another call on a plan")),
+    }
+}
+
+// The plan of two runs, or of one that is both.
+fn planned(
+    alloc: Global,
+    settings: &PlanSettings<'_>,
+    runs: &[Vec<u8>],
+) -> Result<Result<Plan, Fault>, Stop> {
+    let suffixes = settings.handed.suffixes(alloc)?;
+    match runs {
+        [both] => Ok(settings.plan(alloc, both.as_slice(), both.as_slice(), &suffixes)),
+        [first, second] => {
+            Ok(settings.plan(alloc, first.as_slice(), second.as_slice(), &suffixes))
+        }
+        _ => Err(Stop::Form("another number of dry runs")),
+    }
+}
+
+/// What a call that plans two dry runs answers.
+pub fn answer<R: Files + AllocGlobal>(rt: &R, alloc: Global, row: &Row) -> Result<Answer, Stop> {
+    let settings = PlanSettings::of(alloc, row)?;
+    let runs = settings.handed.runs(rt, alloc, row.words.as_slice())?;
+    let plan = planned(alloc, &settings, runs.as_slice())?;
+    of_plan(
+        rt,
+        alloc,
+        row.call.as_str(),
+        &plan,
+        settings.text_file.as_str(),
+    )
+}
