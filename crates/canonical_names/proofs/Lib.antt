@@ -3,6 +3,7 @@ pub mod AgreeLemmas
 pub mod AlikeLemmas
 pub mod CanonicalLemmas
 pub mod CleanLemmas
+pub mod OnceLemmas
 pub mod RankLemmas
 pub mod RewriteLemmas
 pub mod SuffixLemmas

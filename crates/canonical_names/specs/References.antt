@@ -1,5 +1,6 @@
 -- References to generated names within words.
-use Rattle.std.specs.Prelude.{ℕ, ◌<◌, ◌≤◌, List, [], ◌∷◌, nat_lt, fold, length, if◌then◌else◌, slice_index_or}
+use Rattle.std.specs.Prelude.{ℕ, ◌<◌, ◌≤◌, ⊤, List, [], ◌∷◌, nat_lt, fold, length, if◌then◌else◌, slice_index_or}
+use Rattle.std.specs.List.{AllByRecursion}
 use Rattle.dry_runs.specs.Replacing.{replaced}
 use Rattle.canonical_names.specs.declared.references.Reference.{Reference}
 
@@ -22,6 +23,11 @@ insert_pair (q ∷ qs) p = if nat_lt (length q.0) (length p.0) then p ∷ q ∷ 
 -- pairs, those of the longest names first
 abbrev pub longest_pairs_first : List (List ℕ × List ℕ) → List (List ℕ × List ℕ)
 longest_pairs_first pairs = fold insert_pair [] pairs
+
+-- no pair's name is longer than that of a pair before it
+abbrev pub Descend : List (List ℕ × List ℕ) → Type 0
+Descend [] = ⊤
+Descend (p ∷ ps) = AllByRecursion (λ q. length q.0 ≤ length p.0) ps × Descend ps
 
 -- the references before a place have names of at least so many bytes
 abbrev pub AreAsLong : List Reference → ℕ → ℕ → Type 0

@@ -1,13 +1,13 @@
 //! Words that refer to generated files.
 
-ghost use Rattle.std.specs.Prelude.{◌≡◌, ◌<◌, ◌≤◌, ⊤, length, map, IfOk, OnOk, ℕ, string_bytes};
+ghost use Rattle.std.specs.Prelude.{◌≡◌, ◌<◌, ◌≤◌, [], length, map, IfOk, OnOk, string_bytes};
 ghost use Rattle.std.specs.List.{AllByRecursion};
 ghost use Rattle.canonical_names.specs.Alike as alike;
 ghost use Rattle.canonical_names.specs.References as spec;
-ghost use Rattle.canonical_names.specs.Renaming.{insert_by_length};
 ghost use Rattle.dry_runs.specs.Replacing.{replaced};
 
 use std::alloc::{AllocError, Global};
+use std::marker::Model;
 
 /// A name that was seen, and its canonical name.
 #[derive(Clone, Copy, Debug)]
@@ -64,27 +64,57 @@ pub(crate) fn rewrite(
 
 // The place of a name of so many bytes among the longest first: behind all that are at least as long.
 fn place(references: &[Reference<'_>], bytes: usize) -> usize
+    requires { spec.Descend (map spec.reference_seen references.now) }
     ensures within { result ≤ length references.now }
     ensures before { spec.AreAsLong references.now result bytes }
     ensures behind { spec.IsShorter references.now result bytes }
 {
-    for index in 0..references.len() {
-        let reference = &references[index];
-        if reference.name.len() < bytes {
-            return index;
-        }
-    }
-    references.len()
+    references.partition_point(|reference| bytes <= reference.name.len())
 }
 
-// Puts a reference at its place among the longest first.
-pub(crate) fn insert<'a>(
-    references: &mut Vec<Reference<'a>>,
-    reference: Reference<'a>,
-) -> Result<(), AllocError>
-    ensures { OnOk result (map spec.reference_seen references.new.items ≡ spec.insert_pair (map spec.reference_seen references.old.items) (spec.reference_seen reference.entry)) }
-{
-    let place = place(references.as_slice(), reference.name.len());
-    references.insert(place, reference)?;
-    Ok(())
+/// References, those of the longest names first. Contracts see each name with its canonical name.
+#[derive(Debug, Drop)]
+pub(crate) struct LongestFirst<'a> {
+    references: Vec<Reference<'a>>,
+}
+
+impl<'a> Model for LongestFirst<'a> {
+    ghost use Rattle.std.specs.Prelude.{List, ℕ, map};
+    ghost use Rattle.canonical_names.specs.References.{reference_seen, Descend};
+
+    ghost Value = { List (List ℕ × List ℕ) };
+
+    ghost view = { λ r. map reference_seen r.references.items };
+
+    ghost invariant = { λ r. Descend (map reference_seen r.references.items) };
+}
+
+impl<'a> LongestFirst<'a> {
+    /// No references, with room for so many.
+    pub(crate) fn with_capacity(
+        alloc: Global,
+        capacity: usize,
+    ) -> Result<LongestFirst<'a>, AllocError>
+        ensures { IfOk result (λ r. r ≡ []) }
+    {
+        Ok(LongestFirst {
+            references: Vec::with_capacity(alloc, capacity)?,
+        })
+    }
+
+    /// Puts a reference behind all whose names are at least as long.
+    pub(crate) fn insert(&mut self, reference: Reference<'a>) -> Result<(), AllocError>
+        ensures { OnOk result (self.new ≡ spec.insert_pair self.old (spec.reference_seen reference.entry)) }
+    {
+        let place = place(self.references.as_slice(), reference.name.len());
+        self.references.insert(place, reference)?;
+        Ok(())
+    }
+
+    /// The references as a slice.
+    pub(crate) fn as_slice(&self) -> &[Reference<'a>]
+        ensures { map spec.reference_seen result.now ≡ self.now }
+    {
+        self.references.as_slice()
+    }
 }

@@ -24,7 +24,7 @@ returns-then-not-stand_in c =
 pub rewrite-requires : goal.rewrite-requires
 rewrite-requires c =
     let pairs = map pair_of c.self.inside.names.entries in
-    let all : map reference_seen c.as_slice.result.now ≡ longest_pairs_first pairs = ap (map reference_seen) c.as_slice.ensures.value ∙ c.in_ok-references.ensures in
+    let all : map reference_seen c.as_slice.result.now ≡ longest_pairs_first pairs = c.as_slice.ensures ∙ c.in_ok-references.ensures in
     subst (AllByRecursion (λ (p : List ℕ × List ℕ). 0 < length p.0)) (sym all)
     (references-some c.self.inside.suffixes (old_names pairs) pairs c.self.invariant.accepted c.self.invariant.classes c.self.invariant.canonical)
 
@@ -33,7 +33,7 @@ returns c =
     let suffixes = c.self.inside.suffixes in
     let pairs = map pair_of c.self.inside.names.entries in
     let text = c.args.text.now in
-    let all : map reference_seen c.as_slice.result.now ≡ longest_pairs_first pairs = ap (map reference_seen) c.as_slice.ensures.value ∙ c.in_ok-references.ensures in
+    let all : map reference_seen c.as_slice.result.now ≡ longest_pairs_first pairs = c.as_slice.ensures ∙ c.in_ok-references.ensures in
     subst (λ (r : List (List ℕ) × List (List ℕ)). IfOk c.rewrite.result (λ t. string_bytes t ≡ spec.rewritten r.0 r.1 text)) c.self.view_is
     (IfOk-weaker c.rewrite.result (λ (t : String Global). string_bytes t ≡ replaced_by_all (map reference_seen c.as_slice.result.now) text) (λ (t : String Global). string_bytes t ≡ spec.rewritten suffixes (old_names pairs) text)
     (λ t h. h ∙ ap (λ ps. replaced_by_all ps text) all ∙ rewritten-by_pairs suffixes (old_names pairs) pairs c.self.invariant.canonical text) c.rewrite.ensures)
