@@ -113,11 +113,13 @@ pub fn suffix_list(alloc: Global, words: &[String]) -> Result<Vec<String>, Stop>
     Ok(list)
 }
 
-/// What a row's settings hand in: files of dry runs, and suffixes of generated files.
+/// What a row's settings hand in: files of dry runs, suffixes of generated files, and variables.
 #[derive(Drop)]
 pub struct Handed {
     files: Vec<String>,
     suffixes: Vec<String>,
+    /// The variables of the call.
+    pub env_vars: Vec<(String, String)>,
 }
 
 impl Handed {
@@ -126,6 +128,7 @@ impl Handed {
         Handed {
             files: Vec::new(alloc),
             suffixes: Vec::new(alloc),
+            env_vars: Vec::new(alloc),
         }
     }
 
@@ -138,16 +141,33 @@ impl Handed {
         Ok(handed)
     }
 
-    /// Takes a setting.
-    pub fn take(&mut self, alloc: Global, setting: &str) -> Result<(), Stop> {
-        if let Some(name) = setting.strip_prefix("file=") {
-            self.files.push(String::from_str(alloc, name)?)?;
+    // Takes the value of a setting.
+    fn take_value(&mut self, alloc: Global, name: &str, value: &str) -> Result<(), Stop> {
+        if let Some(variable) = name.strip_prefix('$') {
+            let variable = String::from_str(alloc, variable)?;
+            self.env_vars
+                .push((variable, String::from_str(alloc, value)?))?;
             return Ok(());
         }
-        match setting.strip_prefix("suffix=") {
-            Some(word) => push_suffix(alloc, word, &mut self.suffixes),
-            None => Err(Stop::Form("an unknown setting")),
+        match name {
+            "file" => self.files.push(String::from_str(alloc, value)?)?,
+            "suffix" => push_suffix(alloc, value, &mut self.suffixes)?,
+            _ => return Err(Stop::Form("an unknown setting")),
         }
+        Ok(())
+    }
+
+    /// Takes a setting.
+    pub fn take(&mut self, alloc: Global, setting: &str) -> Result<(), Stop> {
+        match setting.split_once('=') {
+            Some((name, value)) => self.take_value(alloc, name, value),
+            None => Err(Stop::Form("a setting without a value")),
+        }
+    }
+
+    /// The suffixes as they are handed in.
+    pub fn suffix_words(&self) -> &[String] {
+        self.suffixes.as_slice()
     }
 
     /// The suffixes, or those of nvcc's files where none are handed in.

@@ -27,6 +27,7 @@ mod renaming;
 mod report;
 mod row;
 mod runs;
+mod selection;
 mod settings;
 mod shell_texts;
 mod stop;

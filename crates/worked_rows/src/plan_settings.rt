@@ -7,6 +7,7 @@ use cuda_plans::compiler::NvccHostCompiler;
 use cuda_plans::dry_run::{FirstDir, Suffixes};
 use cuda_plans::fault::Fault;
 use cuda_plans::plan::{Plan, group_nvcc_subcommands_by_compilation_stage};
+use plan_texts::{Stop as PlanStop, run_plan};
 use std::alloc::Global;
 
 /// The working directory, the folder for temporary files and the compilation flag of a row, and its
@@ -17,9 +18,8 @@ pub struct PlanSettings<'a> {
     tmp: &'a str,
     flag: &'a str,
     keep_dir: Option<String>,
-    env_vars: Vec<(String, String)>,
     host_compiler: NvccHostCompiler,
-    /// The dry runs and suffixes.
+    /// The dry runs, suffixes and variables.
     pub handed: Handed,
     /// The file that holds the plan's text.
     pub text_file: String,
@@ -45,7 +45,6 @@ impl<'a> PlanSettings<'a> {
             tmp: tmp.as_str(),
             flag: flag.as_str(),
             keep_dir: None,
-            env_vars: Vec::new(alloc),
             host_compiler: NvccHostCompiler::Gcc,
             handed: Handed::new(alloc),
             text_file: String::new(alloc),
@@ -61,12 +60,6 @@ impl<'a> PlanSettings<'a> {
         let Some((name, value)) = setting.split_once('=') else {
             return Err(Stop::Form("a setting without a value"));
         };
-        if let Some(variable) = name.strip_prefix('$') {
-            let variable = String::from_str(alloc, variable)?;
-            self.env_vars
-                .push((variable, String::from_str(alloc, value)?))?;
-            return Ok(());
-        }
         match name {
             "keep" => self.keep_dir = Some(String::from_str(alloc, value)?),
             "host" => self.host_compiler = host_named(value)?,
@@ -92,10 +85,25 @@ impl<'a> PlanSettings<'a> {
             self.cwd,
             self.tmp,
             self.keep_dir.as_deref(),
-            self.env_vars.as_slice(),
+            self.handed.env_vars.as_slice(),
             self.host_compiler,
             &FirstDir,
             suffixes,
         )
+    }
+
+    /// The text of the plan of two dry runs, with the suffixes behind the standard ones.
+    pub fn plan_text(
+        &self,
+        alloc: Global,
+        first: &[u8],
+        second: &[u8],
+    ) -> Result<Vec<u8>, PlanStop> {
+        let mut text = Vec::new(alloc);
+        let further = self.handed.suffix_words();
+        run_plan(
+            alloc, self.cwd, self.tmp, self.flag, first, second, further, &mut text,
+        )?;
+        Ok(text)
     }
 }

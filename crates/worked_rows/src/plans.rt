@@ -9,7 +9,7 @@ use crate::stop::Stop;
 use cuda_plans::command::Cacheable;
 use cuda_plans::fault::Fault;
 use cuda_plans::plan::{Dropped, NvccGeneratedSubcommand, Plan, Reason};
-use plan_texts::show_plan;
+use plan_texts::Stop as PlanStop;
 use std::alloc::{AllocError, Global};
 use std::fs::Files;
 
@@ -121,56 +121,83 @@ fn shown(alloc: Global, plan: &Plan, is_whole: bool) -> Result<Answer, Stop> {
     Ok(answer)
 }
 
-// Whether a plan's text is what a file holds.
-fn compared<R: Files>(rt: &R, alloc: Global, plan: &Plan, file: &str) -> Result<Answer, Stop> {
-    let text = show_plan(alloc, plan)?;
-    let wanted = bytes_of_file(rt, alloc, file)?;
-    Answer::of_bool(alloc, text.as_str().as_bytes() == wanted.as_slice())
+// What a call on a plan answers.
+fn of_plan(alloc: Global, call: &str, plan: &Result<Plan, Fault>) -> Result<Answer, Stop> {
+    match plan {
+        Err(fault) => refused_at(alloc, fault),
+        Ok(plan) => shown(alloc, plan, call == "plan_whole"),
+    }
 }
 
-// What a call on a plan answers.
-fn of_plan<R: Files>(
+// The lines of a plan's text, as facts.
+fn lines_of(alloc: Global, text: &str) -> Result<Answer, Stop> {
+    let mut answer = Answer::new(alloc);
+    for line in text.lines() {
+        answer.add_text(alloc, "text", line)?;
+    }
+    Ok(answer)
+}
+
+// A plan's text, as facts, or whether it is what a file holds, where one is named.
+fn compared<R: Files>(rt: &R, alloc: Global, text: &[u8], file: &str) -> Result<Answer, Stop> {
+    if !file.is_empty() {
+        let wanted = bytes_of_file(rt, alloc, file)?;
+        return Answer::of_bool(alloc, text == wanted.as_slice());
+    }
+    match str::from_utf8(text) {
+        Ok(text) => lines_of(alloc, text),
+        Err(_) => Err(Stop::Form("a plan's text that isn't UTF-8")),
+    }
+}
+
+// What the text of a plan is, or why there is none.
+fn of_text<R: Files>(
+    rt: &R,
+    alloc: Global,
+    text: &Result<Vec<u8>, PlanStop>,
+    file: &str,
+) -> Result<Answer, Stop> {
+    match text {
+        Ok(text) => compared(rt, alloc, text.as_slice(), file),
+        Err(PlanStop::Fault(fault)) => refused_at(alloc, fault),
+        Err(_) => Err(Stop::Form("a text that cannot be written")),
+    }
+}
+
+// What a call on the plan of two runs answers.
+fn planned<R: Files>(
     rt: &R,
     alloc: Global,
     call: &str,
-    plan: &Result<Plan, Fault>,
-    text_file: &str,
+    settings: &PlanSettings<'_>,
+    first: &[u8],
+    second: &[u8],
 ) -> Result<Answer, Stop> {
-    match (call, plan) {
-        (_, Err(fault)) => refused_at(alloc, fault),
-        ("plan", Ok(plan)) => shown(alloc, plan, false),
-        ("plan_whole", Ok(plan)) => shown(alloc, plan, true),
-        ("plan_text", Ok(plan)) => compared(rt, alloc, plan, text_file),
-        _ => Err(Stop::Form("another call on a plan")),
+    if call == "plan_text" {
+        let text = settings.plan_text(alloc, first, second);
+        return of_text(rt, alloc, &text, settings.text_file.as_str());
     }
+    let suffixes = settings.handed.suffixes(alloc)?;
+    of_plan(alloc, call, &settings.plan(alloc, first, second, &suffixes))
 }
 
-// The plan of two runs, or of one that is both.
-fn planned(
-    alloc: Global,
-    settings: &PlanSettings<'_>,
-    runs: &[Vec<u8>],
-) -> Result<Result<Plan, Fault>, Stop> {
-    let suffixes = settings.handed.suffixes(alloc)?;
-    match runs {
-        [both] => Ok(settings.plan(alloc, both.as_slice(), both.as_slice(), &suffixes)),
+/// What a call that plans two dry runs answers. One dry run is both.
+pub fn answer<R: Files + AllocGlobal>(rt: &R, alloc: Global, row: &Row) -> Result<Answer, Stop> {
+    let call = row.call.as_str();
+    let settings = PlanSettings::of(alloc, row)?;
+    let runs = settings.handed.runs(rt, alloc, row.words.as_slice())?;
+    match runs.as_slice() {
+        [both] => planned(rt, alloc, call, &settings, both.as_slice(), both.as_slice()),
         [first, second] => {
-            Ok(settings.plan(alloc, first.as_slice(), second.as_slice(), &suffixes))
+            planned(
+                rt,
+                alloc,
+                call,
+                &settings,
+                first.as_slice(),
+                second.as_slice(),
+            )
         }
         _ => Err(Stop::Form("another number of dry runs")),
     }
-}
-
-/// What a call that plans two dry runs answers.
-pub fn answer<R: Files + AllocGlobal>(rt: &R, alloc: Global, row: &Row) -> Result<Answer, Stop> {
-    let settings = PlanSettings::of(alloc, row)?;
-    let runs = settings.handed.runs(rt, alloc, row.words.as_slice())?;
-    let plan = planned(alloc, &settings, runs.as_slice())?;
-    of_plan(
-        rt,
-        alloc,
-        row.call.as_str(),
-        &plan,
-        settings.text_file.as_str(),
-    )
 }
