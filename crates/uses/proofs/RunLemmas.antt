@@ -1,5 +1,5 @@
 -- A runner that starts nothing records all commands of a plan.
-use Rattle.std.proofs.Common.{◌≡◌, ℕ, List, [], ◌∷◌, ◌++◌, Bool, true, false, not, ◌&&◌, ◌||◌, cond, refl, ap, sym, ◌∙◌, map, filter, subst, Result, Ok, Err}
+use Rattle.std.proofs.Common.{◌≡◌, ℕ, List, [], ◌∷◌, Bool, true, false, not, ◌&&◌, ◌||◌, cond, refl, ap, sym, ◌∙◌, map, filter, subst, Result, Ok, Err}
 use Rattle.std.specs.List.{list_any}
 use Rattle.std.specs.Result.{IsErrAnd}
 use Rattle.cuda_plans.specs.declared.fault.Fault.{Fault}
@@ -9,7 +9,7 @@ use Rattle.cuda_plans.specs.declared.plan.Plan.{Plan}
 use Rattle.cuda_plans.specs.declared.runner.Place.{Place}
 use Rattle.cuda_plans.specs.declared.status.Output.{Output}
 use Rattle.cuda_plans.specs.Fault.{UnlessMemory}
-use Rattle.cuda_plans.specs.Schedule.{Step, AccountEntry, steps, chunk_of, device_groups, depends_on, fails, is_due, step_of, output_of_account, outcome_of, Gains, RunsAs, ExecutesAs}
+use Rattle.cuda_plans.specs.Schedule.{Step, steps, chunk_of, device_groups, depends_on, fails, is_due, step_of, output_of_account, Gains, RunsAs, ExecutesAs}
 use Rattle.uses.specs.declared.runs.Recorder.{Recorder}
 use Rattle.uses.specs.declared.runs.Started.{Started}
 use Rattle.uses.specs.Runs.{entry_of, step_seen, steps_of, steps_seen}

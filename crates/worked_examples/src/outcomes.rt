@@ -84,7 +84,8 @@ fn gives(
     alloc: Global,
     exe: &str,
     left: (Option<i32>, Option<i32>),
-    want: (ExitStatus, &str),
+    status: ExitStatus,
+    says: &str,
 ) -> Result<bool, AllocError> {
     let finished = CompileFinished {
         retcode: left.0,
@@ -92,30 +93,22 @@ fn gives(
         stdout: Bytes::copy_of(alloc, b"out")?,
         stderr: Bytes::copy_of(alloc, b"err")?,
     };
-    let (status, says) = want;
     Ok(compile_result_to_output(alloc, exe, finished)? == output(alloc, status, "out", says)?)
 }
 
 #[test]
 fn finished_compilers_are_outputs(rt: HostRuntime) -> Result<(), Fail> {
     let alloc = rt.alloc();
-    let success = (ExitStatus::from_code(0), "err");
-    assert!(rt; gives(alloc, "ptxas", (Some(0), None), success)?);
-    assert!(rt; gives(alloc, "ptxas", (None, None), success)?);
-    assert!(rt;
-        gives(
-            alloc,
-            "ptxas",
-            (Some(1), None),
-            (ExitStatus::from_code(1), "err")
-        )?
-    );
-    let killed = (
-        ExitStatus::from_signal(9),
-        "ptxas terminated (signal: 9)err",
-    );
-    assert!(rt; gives(alloc, "/usr/bin/ptxas", (None, Some(9)), killed)?);
-    let killed = (ExitStatus::from_signal(11), "/ terminated (signal: 11)err");
-    assert!(rt; gives(alloc, "/", (Some(1), Some(11)), killed)?);
+    let success = ExitStatus::from_code(0);
+    assert!(rt; gives(alloc, "ptxas", (Some(0), None), success, "err")?);
+    assert!(rt; gives(alloc, "ptxas", (None, None), success, "err")?);
+    let failure = ExitStatus::from_code(1);
+    assert!(rt; gives(alloc, "ptxas", (Some(1), None), failure, "err")?);
+    let killed = ExitStatus::from_signal(9);
+    let says = "ptxas terminated (signal: 9)err";
+    assert!(rt; gives(alloc, "/usr/bin/ptxas", (None, Some(9)), killed, says)?);
+    let fault = ExitStatus::from_signal(11);
+    let says = "/ terminated (signal: 11)err";
+    assert!(rt; gives(alloc, "/", (Some(1), Some(11)), fault, says)?);
     Ok(())
 }

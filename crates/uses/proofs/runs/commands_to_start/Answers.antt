@@ -1,4 +1,4 @@
-use Rattle.std.proofs.Common.{◌≡◌, ◌∙◌, ℕ, List, ap, sym, map, subst, Result, Ok, Err}
+use Rattle.std.proofs.Common.{◌∙◌, ℕ, List, ap, sym, map, subst, Result, Ok, Err}
 use Rattle.cuda_plans.specs.declared.fault.Fault.{Fault}
 use Rattle.cuda_plans.specs.declared.plan.Plan.{Plan}
 use Rattle.cuda_plans.specs.Fault.{UnlessMemory}
