@@ -14,15 +14,15 @@ use Rattle.canonical_names.proofs.CanonicalLemmas.{HasClass, run-all, canonical-
 use Rattle.canonical_names.proofs.RankLemmas.{eqb-turned}
 
 -- a text has no mark where it doesn't begin with `-Fi`
-record Unmarked (text : List ℕ) : Type 0 where
+pub record Unmarked (text : List ℕ) : Type 0 where
   pub no_head : starts_with nat_eq text (codes "-Fi") ≡ false
   pub whole : core_of text ≡ text
 
-and-none : (b : Bool) → (b && false) ≡ false
+pub and-none : (b : Bool) → (b && false) ≡ false
 and-none true = refl
 and-none false = refl
 
-mark-turned : (a b c : ℕ) → (eqb 45 a && (eqb 70 b && (eqb 105 c && true))) ≡ is_file_mark a b c
+pub mark-turned : (a b c : ℕ) → (eqb 45 a && (eqb 70 b && (eqb 105 c && true))) ≡ is_file_mark a b c
 mark-turned a b c = rw (eqb-turned 45 a, eqb-turned 70 b, eqb-turned 105 c) (shape (eqb a 45) (eqb b 70) (eqb c 105)) where
   shape : (x y z : Bool) → (x && (y && (z && true))) ≡ ((x && y) && z)
   shape true true true = refl
@@ -30,16 +30,16 @@ mark-turned a b c = rw (eqb-turned 45 a, eqb-turned 70 b, eqb-turned 105 c) (sha
   shape true false z = refl
   shape false y z = refl
 
-long-unmarked : (a b c : ℕ) (rest : List ℕ) → is_file_mark a b c ≡ false → Unmarked (a ∷ b ∷ c ∷ rest)
+pub long-unmarked : (a b c : ℕ) (rest : List ℕ) → is_file_mark a b c ≡ false → Unmarked (a ∷ b ∷ c ∷ rest)
 long-unmarked a b c rest h = record {
   no_head = mark-turned a b c ∙ h;
   whole = ap (λ t. cond t (core_of rest) (a ∷ b ∷ c ∷ rest)) h;
 }
 
-one-unmarked : (a : ℕ) → Unmarked (a ∷ [])
+pub one-unmarked : (a : ℕ) → Unmarked (a ∷ [])
 one-unmarked a = record { no_head = and-none (eqb 45 a); whole = refl }
 
-two-unmarked : (a b : ℕ) → Unmarked (a ∷ b ∷ [])
+pub two-unmarked : (a b : ℕ) → Unmarked (a ∷ b ∷ [])
 two-unmarked a b = record { no_head = ap (λ t. eqb 45 a && t) (and-none (eqb 70 b)) ∙ and-none (eqb 45 a); whole = refl }
 
 core-unmarked : (word : List ℕ) → Unmarked (core_of word)
@@ -50,7 +50,7 @@ core-unmarked (a ∷ b ∷ c ∷ rest) =
     elim (is_file_mark a b c) as (λ t. is_file_mark a b c ≡ t → Unmarked (cond t (core_of rest) (a ∷ b ∷ c ∷ rest)))
     [ true ↦ λ _. core-unmarked rest | false ↦ λ e. long-unmarked a b c rest e ] refl
 
-dash-unmarked : (text : List ℕ) → begins_with_dash text ≡ false → Unmarked text
+pub dash-unmarked : (text : List ℕ) → begins_with_dash text ≡ false → Unmarked text
 dash-unmarked [] h = record { no_head = refl; whole = refl }
 dash-unmarked (a ∷ []) h = one-unmarked a
 dash-unmarked (a ∷ b ∷ []) h = two-unmarked a b
@@ -66,7 +66,7 @@ dash-front : (front rest : List ℕ) (x : ℕ) (more : List ℕ) → eqb x 45 �
 dash-front [] rest x more other h = other
 dash-front (c ∷ front) rest x more other h = h
 
-dash-canonical : (names : List (List ℕ)) (core class : List ℕ) → begins_with_dash core ≡ false → begins_with_dash (canonical_in names core class) ≡ false
+pub dash-canonical : (names : List (List ℕ)) (core class : List ℕ) → begins_with_dash core ≡ false → begins_with_dash (canonical_in names core class) ≡ false
 dash-canonical names core class h =
     let begins = folder-begins core in
     dash-front (folder_of core) begins.0 120 (95 ∷ numeral (rank class names core) ++ class) refl (sym (ap begins_with_dash begins.1) ∙ h)
@@ -84,7 +84,7 @@ told-by suffixes f word text u class core =
       through t (Some c) = refl
 
 module _ (suffixes : List (List ℕ)) (lawful : AreSuffixes suffixes) (names : List (List ℕ)) where
-  not-dash : (word class : List ℕ) (b : Bool) → begins_with_dash (core_of word) ≡ b → cond b None (class_of_name suffixes (core_of word)) ≡ Some class → (begins_with_dash (core_of word) ≡ false) × (class_of_name suffixes (core_of word) ≡ Some class)
+  pub not-dash : (word class : List ℕ) (b : Bool) → begins_with_dash (core_of word) ≡ b → cond b None (class_of_name suffixes (core_of word)) ≡ Some class → (begins_with_dash (core_of word) ≡ false) × (class_of_name suffixes (core_of word) ≡ Some class)
   not-dash word class true e h = cc
   not-dash word class false e h = (e, h)
 

@@ -20,7 +20,7 @@ use Rattle.canonical_names.proofs.AlikeLemmas.{ToldWord, Told, names_told, run-t
 use Rattle.canonical_names.proofs.AgainLemmas.{told-run, canonical-renaming}
 
 -- members of a mapped list
-mapped-member : {A B : Type 0} (f : A → B) (xs : List A) (x : A) → Contains xs x → Contains (map f xs) (f x)
+pub mapped-member : {A B : Type 0} (f : A → B) (xs : List A) (x : A) → Contains xs x → Contains (map f xs) (f x)
 mapped-member f [] x h = absurd (no-member x h)
 mapped-member f (y ∷ ys) x h =
     elim (member-cases y ys x h) as (λ _. Contains (map f (y ∷ ys)) (f x)) [
@@ -28,7 +28,7 @@ mapped-member f (y ∷ ys) x h =
       | inr more ↦ tail-member (f y) (map f ys) (f x) (mapped-member f ys x more)
     ]
 
-member-mapped : {A B : Type 0} (f : A → B) (xs : List A) (y : B) → Contains (map f xs) y → (x : A) × Contains xs x × (f x ≡ y)
+pub member-mapped : {A B : Type 0} (f : A → B) (xs : List A) (y : B) → Contains (map f xs) y → (x : A) × Contains xs x × (f x ≡ y)
 member-mapped f [] y h = absurd (no-member y h)
 member-mapped f (x ∷ xs) y h =
     elim (member-cases (f x) (map f xs) y h) as (λ _. (z : _) × Contains (x ∷ xs) z × (f z ≡ y)) [

@@ -24,7 +24,7 @@ use Rattle.canonical_names.proofs.RankLemmas.{add, run-names}
 use Rattle.canonical_names.proofs.ReferenceLemmas.{no-suffix-no_names, class-found}
 
 -- the names that appear have a class
-all-append : {A : Type 0} (test : A → Bool) (xs ys : List A) → list_all test xs ≡ true → list_all test ys ≡ true → list_all test (xs ++ ys) ≡ true
+pub all-append : {A : Type 0} (test : A → Bool) (xs ys : List A) → list_all test xs ≡ true → list_all test ys ≡ true → list_all test (xs ++ ys) ≡ true
 all-append test [] ys h k = k
 all-append test (x ∷ xs) ys h k =
     let parts = and_parts (test x) (list_all test xs) h in
@@ -96,7 +96,7 @@ clean-without_suffix suffixes commands word none =
       or-true false = refl
 
 -- a name in a folder ends in `.cpp1.ii` where the name does
-joined-split : (folder n : List ℕ) → (front : List ℕ) × (joined folder n ≡ front ++ n)
+pub joined-split : (folder n : List ℕ) → (front : List ℕ) × (joined folder n ≡ front ++ n)
 joined-split folder n =
     elim (is_absolute_path n) as (λ b. (front : List ℕ) × (cond b n ((folder ++ separator_after folder) ++ n) ≡ front ++ n)) [ true ↦ ([], refl) | false ↦ (folder ++ separator_after folder, refl) ]
 

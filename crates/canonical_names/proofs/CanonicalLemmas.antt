@@ -73,7 +73,7 @@ numeral-cases m n true false em en e = absurd (no-zero_digit n (positive n en) e
 numeral-cases m n false true em en e = absurd (no-zero_digit m (positive m em) (sym e))
 numeral-cases m n false false em en e = same_from_digits_of 10 m n (omega arith) (shift-cancel (digits_of 10 m) (digits_of 10 n) e)
 
-numeral-same : (m n : ℕ) → numeral m ≡ numeral n → m ≡ n
+pub numeral-same : (m n : ℕ) → numeral m ≡ numeral n → m ≡ n
 numeral-same m n e = numeral-cases m n (eqb m 0) (eqb n 0) refl refl e
 
 -- canonical files are bare
@@ -92,7 +92,7 @@ lacks-shifted (d ∷ ds) =
 lacks-numeral : (k : ℕ) → lacks 47 (numeral k) ≡ true
 lacks-numeral k = cond_both (eqb k 0) (codes "0") (map (λ d. 48 + d) (digits_of 10 k)) (λ t. lacks 47 t ≡ true) (λ _. refl) (λ _. lacks-shifted (digits_of 10 k))
 
-file-bare : (k : ℕ) (class : List ℕ) → is_bare class ≡ true → is_bare (canonical_file k class) ≡ true
+pub file-bare : (k : ℕ) (class : List ℕ) → is_bare class ≡ true → is_bare (canonical_file k class) ≡ true
 file-bare k class bare = lacks-append 47 (codes "x_") (numeral k ++ class) refl (lacks-append 47 (numeral k) class (lacks-numeral k) bare)
 
 -- members of lists
@@ -147,10 +147,10 @@ pub canonical-at : (suffixes seen : List (List ℕ)) (name class : List ℕ) →
 canonical-at suffixes seen name class h = ap (canonical_or seen name) h
 
 -- a canonical name ends in its class
-canonical-front : List (List ℕ) → List ℕ → List ℕ → List ℕ
+pub canonical-front : List (List ℕ) → List ℕ → List ℕ → List ℕ
 canonical-front seen name class = (folder_of name ++ separator_after (folder_of name)) ++ (codes "x_" ++ numeral (rank class seen name))
 
-canonical-split : (seen : List (List ℕ)) (name class : List ℕ) → canonical_in seen name class ≡ canonical-front seen name class ++ class
+pub canonical-split : (seen : List (List ℕ)) (name class : List ℕ) → canonical_in seen name class ≡ canonical-front seen name class ++ class
 unfolding canonical-front
 canonical-split seen name class = sym (append_assoc (folder_of name ++ separator_after (folder_of name)) (codes "x_" ++ numeral (rank class seen name)) class)
 
@@ -193,7 +193,7 @@ later-member x xs m h differs =
       | inr more ↦ more
     ]
 
-rank-apart : (class : List ℕ) (names : List (List ℕ)) (m n : List ℕ) → Contains names m → Contains names n → ends_with nat_eq m class ≡ true → ends_with nat_eq n class ≡ true → rank class names m ≡ rank class names n → m ≡ n
+pub rank-apart : (class : List ℕ) (names : List (List ℕ)) (m n : List ℕ) → Contains names m → Contains names n → ends_with nat_eq m class ≡ true → ends_with nat_eq n class ≡ true → rank class names m ≡ rank class names n → m ≡ n
 rank-apart class [] m n hm hn cm cn e = absurd (no-member m hm)
 rank-apart class (x ∷ xs) m n hm hn cm cn e =
     rank-cases class x m n xs (bytes_eq x m) (bytes_eq x n) refl refl cm cn

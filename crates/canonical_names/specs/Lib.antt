@@ -6,6 +6,7 @@ pub mod Generated
 pub mod LongestView
 pub mod References
 pub mod Renaming
+pub mod RenamingNeeds
 pub mod RenamingRows
 pub mod Shadow
 pub mod Shown

@@ -1,16 +1,17 @@
 -- Shadow runs as far as the inputs of cicc go: what preprocess steps write and cicc reads.
-use Rattle.std.specs.Prelude.{◌≡◌, ℕ, List, [], ◌∷◌, ◌++◌, map, filter, Bool, true, false, ◌&&◌, ◌==◌, if◌then◌else◌, refl, codes}
+use Rattle.std.specs.Prelude.{◌≡◌, ℕ, List, [], ◌∷◌, ◌++◌, map, filter, Bool, true, false, ◌&&◌, ◌==◌, if◌then◌else◌, Some, refl, codes}
 use Rattle.std.specs.List.{list_all}
 use Rattle.std.specs.Cmp.Lexicographic.{pointwise}
 use Rattle.std.specs.Str.{bytes_eq}
 use Rattle.texts.specs.DeviceFiles.{is_cicc_word}
 use Rattle.texts.specs.Lists.{word_after}
-use Rattle.texts.specs.Path.{joined, is_bare}
+use Rattle.texts.specs.Path.{joined, is_bare, file_name_of}
 use Rattle.dry_runs.specs.CommandLines.{CommandLine, words_of_command}
 use Rattle.texts.specs.Rows.{spaced}
 use Rattle.dry_runs.specs.OneKernel.{one_kernel_commands, one_kernel_in_temporary_commands}
-use Rattle.canonical_names.specs.CanonicalNames.{AreSuffixes}
-use Rattle.canonical_names.specs.Generated.{standard_suffixes}
+use Rattle.canonical_names.specs.CanonicalNames.{AreSuffixes, word_by_all}
+use Rattle.canonical_names.specs.Generated.{standard_suffixes, begins_with_dash}
+use Rattle.canonical_names.specs.Renaming.{rank, canonical_file, names_of_run}
 use Rattle.canonical_names.specs.Shadow.{appearances, is_plain_output, is_shadow}
 
 -- the generated names of a run that end in `.cpp1.ii`, in the order in which they appear, each as often as it does
@@ -30,6 +31,20 @@ abbrev pub ShadowIsStepShadow : Type 0
 ShadowIsStepShadow =
     (suffixes : List (List ℕ)) → AreSuffixes suffixes → (first second : List CommandLine) (folder : List ℕ) →
     is_shadow suffixes first second folder ≡ true → is_step_shadow suffixes first second folder ≡ true
+
+-- the inputs of cicc in one run, and the same ones in the folder in the other, have one rank, and so one canonical file name
+abbrev pub StepNamesKeepRank : Type 0
+StepNamesKeepRank =
+    (suffixes : List (List ℕ)) → AreSuffixes suffixes → (first second : List CommandLine) (folder : List ℕ) → is_step_shadow suffixes first second folder ≡ true →
+    (name : List ℕ) → is_bare name ≡ true → is_cicc_word name ≡ true →
+    rank (codes ".cpp1.ii") (names_of_run suffixes first) name ≡ rank (codes ".cpp1.ii") (names_of_run suffixes second) (joined folder name)
+
+-- of plain outputs only an input of cicc gets a canonical file name of its class, and that of its own rank
+abbrev pub PlainOutputsStayApart : Type 0
+PlainOutputsStayApart =
+    (suffixes : List (List ℕ)) → AreSuffixes suffixes → (names : List (List ℕ)) (word : List ℕ) (k : ℕ) → is_plain_output (Some word) ≡ true →
+    file_name_of (word_by_all suffixes names word) ≡ Some (canonical_file k (codes ".cpp1.ii")) →
+    (begins_with_dash word ≡ false) × (is_cicc_word word ≡ true) × (rank (codes ".cpp1.ii") names word ≡ k)
 
 -- the one-kernel dry run in the folder `/t`, where cudafe++ alone names the stub file without it, as nvcc 13.0 has it
 abbrev pub bare_stub_commands : List CommandLine

@@ -3,8 +3,9 @@
 ghost use Rattle.texts.specs.Equality.{TellsEqual};
 ghost use Rattle.canonical_names.specs.AlikeRows.{OneKernelIsClean, ReferenceIsNotClean, OneKernelIsAlike, OtherPatternIsNotAlike, OneKernelHasAShadow};
 ghost use Rattle.canonical_names.specs.CanonicalNames.{StandardAreSuffixes, DifferentNames, FolderAndClassStay, OtherWordsStay, RankCountsNames, CleanRunIsAMap, AlikeRunsAgree, OneCanonicalRun, RenamedOnceForAll};
+ghost use Rattle.canonical_names.specs.RenamingNeeds.{Agree, AreAlikeFirstUnclean, AreAlikeSecondUnclean, AreCleanByAnyMap, AreCleanInOtherFolders, OneRunIsAlikeFirstUnclean, OneRunIsAlikeSecondUnclean, EveryRunIsRenamedOnce};
 ghost use Rattle.canonical_names.specs.RenamingRows.{LongestReferenceFirst, EarlyReferenceStays, OneMarkIsLeft, FolderStaysAsAPath, FolderLosesItsDot, FirstNameComesAgain, SecondNameComesAgain, OneKernelIsRenamed, EveryCommandCounts, BeginningIsTakenForTheName, SourceFileIsRenamed};
-ghost use Rattle.canonical_names.specs.StepShadow.{ShadowIsStepShadow, OneKernelHasStepShadows};
+ghost use Rattle.canonical_names.specs.StepShadow.{ShadowIsStepShadow, StepNamesKeepRank, PlainOutputsStayApart, OneKernelHasStepShadows};
 ghost use Rattle.canonical_names.specs.SuffixRule.{AcceptedAreSuffixes};
 
 use crate::suffixes::Suffixes;
@@ -20,9 +21,13 @@ pub fn accepted_suffixes()
 {}
 
 /// A shadow run is one as far as the inputs of cicc go (`implied`), and not the other way round
-/// (`worked`).
+/// (`worked`). Then an input of cicc and the same one in the folder have one rank (`ranks`), and of
+/// the second run's plain outputs only such an input gets a canonical file name of that class
+/// (`outputs`).
 pub fn step_shadows()
     ensures implied { ShadowIsStepShadow }
+    ensures ranks { StepNamesKeepRank }
+    ensures outputs { PlainOutputsStayApart }
     ensures worked { OneKernelHasStepShadows }
 {}
 
@@ -75,4 +80,20 @@ pub fn renaming()
     ensures alike { OneCanonicalRun }
     ensures different { DifferentNames }
     ensures once { RenamedOnceForAll }
+{}
+
+/// None of the premises of `renaming` can be left out. Runs that are alike don't all have one
+/// canonical run if one of them isn't clean (`agree_first_clean`, `agree_second_clean`), if the map
+/// of their names isn't one-to-one (`agree_one_to_one`) or changes a folder (`agree_folder`). Runs
+/// that have one aren't all alike if one of them isn't clean (`alike_first_clean`,
+/// `alike_second_clean`). And not every run is renamed once for all: with a suffix of the caller's, a
+/// text that refers to a name can become a generated name (`once_clean`).
+pub fn renaming_needs()
+    ensures agree_first_clean { Agree AreAlikeFirstUnclean → ⊥ }
+    ensures agree_second_clean { Agree AreAlikeSecondUnclean → ⊥ }
+    ensures agree_one_to_one { Agree AreCleanByAnyMap → ⊥ }
+    ensures agree_folder { Agree AreCleanInOtherFolders → ⊥ }
+    ensures alike_first_clean { OneRunIsAlikeFirstUnclean → ⊥ }
+    ensures alike_second_clean { OneRunIsAlikeSecondUnclean → ⊥ }
+    ensures once_clean { EveryRunIsRenamedOnce → ⊥ }
 {}

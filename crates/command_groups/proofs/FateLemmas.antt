@@ -109,7 +109,7 @@ abbrev AllNamed : List (List ℕ) → List PlacedCommand → Type 0
 AllNamed names [] = Unit {0}
 AllNamed names (p ∷ ps) = Named names p.place × AllNamed names ps
 
-known_with : (names : List (List ℕ)) (name : Option (List ℕ)) (m : List ℕ) → list_any (bytes_eq m) names ≡ true → list_any (bytes_eq m) (with_name names name) ≡ true
+pub known_with : (names : List (List ℕ)) (name : Option (List ℕ)) (m : List ℕ) → list_any (bytes_eq m) names ≡ true → list_any (bytes_eq m) (with_name names name) ≡ true
 known_with names None m e = e
 known_with names (Some x) m e =
     elim (list_any (bytes_eq x) names) as (λ b. list_any (bytes_eq m) (cond b names (names ++ x ∷ [])) ≡ true)
@@ -129,7 +129,7 @@ all_named_push : (names : List (List ℕ)) (ps : List PlacedCommand) (p : Placed
 all_named_push names [] p h k = (k, tt)
 all_named_push names (q ∷ qs) p h k = (h.0, all_named_push names qs p h.1 k)
 
-new_name_known : (names : List (List ℕ)) (x : List ℕ) → list_any (bytes_eq x) (with_name names (Some x)) ≡ true
+pub new_name_known : (names : List (List ℕ)) (x : List ℕ) → list_any (bytes_eq x) (with_name names (Some x)) ≡ true
 new_name_known names x =
     elim (list_any (bytes_eq x) names) as (λ b. list_any (bytes_eq x) names ≡ b → list_any (bytes_eq x) (cond b names (names ++ x ∷ [])) ≡ true) [
       | true ↦ λ e. e

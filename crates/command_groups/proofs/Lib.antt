@@ -5,7 +5,10 @@ pub mod GroupLemmas
 pub mod GroupingLemmas
 pub mod MergeLemmas
 pub mod OpeningLemmas
+pub mod OpenerLemmas
 pub mod PlanLemmas
+pub mod PlanNeedLemmas
 pub mod PutLemmas
 pub mod RisingLemmas
 pub mod SameLemmas
+pub mod ShadowLawLemmas

@@ -92,7 +92,7 @@ staged_in_order s c (d ∷ ds) h =
     let parts = and_parts (is_in_order c d) (list_all (is_in_order c) ds) h in
     and_from (is_in_order c d) (list_all (is_in_order (staged s.host_compiler s.flag c).command) (map (λ t. t.command) (map (staged s.host_compiler s.flag) ds))) parts.0 (staged_in_order s c ds parts.1)
 
-all_staged_in_order : (s : PlanSetting) (cs : List MergedCommand) → InOrder cs → InOrder (map (λ t. t.command) (map (staged s.host_compiler s.flag) cs))
+pub all_staged_in_order : (s : PlanSetting) (cs : List MergedCommand) → InOrder cs → InOrder (map (λ t. t.command) (map (staged s.host_compiler s.flag) cs))
 all_staged_in_order s [] h = tt
 all_staged_in_order s (c ∷ cs) h = (staged_in_order s c cs h.0, all_staged_in_order s cs h.1)
 

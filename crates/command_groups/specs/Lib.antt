@@ -12,10 +12,13 @@ pub mod MergedView
 pub mod Openings
 pub mod Plan
 pub mod PlanLaws
+pub mod PlanNeeds
 pub mod PlanOfBytes
 pub mod PlanOfBytesRows
 pub mod PlanRows
 pub mod Selection
 pub mod SelectionRows
+pub mod ShadowLaws
+pub mod ShadowRows
 pub mod Stage
 pub mod StageView

@@ -4,9 +4,12 @@ ghost use Rattle.texts.specs.Equality.{TellsEqual};
 ghost use Rattle.command_groups.specs.FateLaws.{EachHasOneFate, DeviceGroupsBeginWithTheirStep, OuterGroupsAreThere};
 ghost use Rattle.command_groups.specs.MergeLaws.{MergedIsInOrder, MergedAreTheSelected};
 ghost use Rattle.command_groups.specs.PlanLaws.{AlikePairsHaveOnePlan, AlikeTextsHaveOnePlan, ReadableRunsArePlanned, PlannedRunsAreReadable, FirstRunIsRefused, SecondRunIsRefused, PlannedCommandsHaveOneFate};
+ghost use Rattle.command_groups.specs.PlanNeeds.{PlansAgreeFirstUnclean, PlansAgreeSecondUnclean, PlansAgreeByAnyMap, PlansAgreeInOtherFolders, PlansAgreeWithKeepDirectory, PlansAgreeWithAnyVariables};
 ghost use Rattle.command_groups.specs.PlanOfBytesRows.{OneKernelFromBytes, OtherNamesFromBytes, TemporaryNamesFromBytes, KeptNamesFromBytes, NothingFromBytes, HostCodeFromBytes, SecondRunIsBad, FirstRunIsBad, SecondPtxasFromBytes, SupersededCiccFromBytes, StepWithoutCiccFromBytes, OutputWithASlashFromBytes, NamelessFromBytes};
 ghost use Rattle.command_groups.specs.PlanRows.{OneKernelPlan, NamesInAFolder, NamesAsTheyAre, EmptyRuns, HostCodeAlone, ReopenedGroup, SecondPtxas, SupersededCicc, StepMakesNoPtx, SharedPtx, PreprocessesForMsvc, CompilesForGcc, CiccLosesOneWord, CiccKeepsItsWords, NotForCuda, ProgramWithoutAStem, StepWithoutAnOutput, StepWithoutAFileName, OutputWithASlash, SecondGroupIsJoined, MergedByLineAndRun, FoldedEnvironment, MarkedTwice};
 ghost use Rattle.command_groups.specs.SelectionRows as selections;
+ghost use Rattle.command_groups.specs.ShadowLaws.{ShadowsStandTogether, StepShadowsStandTogether};
+ghost use Rattle.command_groups.specs.ShadowRows as shadows;
 
 use crate::plan::{Dropped, DroppedCommands, Groups, NvccGeneratedSubcommand, Plan, Reason};
 
@@ -47,6 +50,23 @@ pub fn fates()
 pub fn plans()
     ensures alike_pairs { AlikePairsHaveOnePlan }
     ensures alike_texts { AlikeTextsHaveOnePlan }
+{}
+
+/// A law of shadow runs, for every list of suffixes that may be handed in: if the second of two clean
+/// runs shadows the first in the folder of temporary files, which is absolute, then a cicc command of
+/// the first run and the step that makes its input both stand in the device group of that input's
+/// canonical name (`stand_together`).
+///
+/// The input is the first of cicc's words that ends so, is bare and doesn't begin with `-`; exactly
+/// one preprocess step of the second run writes it in that folder, and stands at an earlier line.
+pub fn shadow()
+    ensures stand_together { ShadowsStandTogether }
+{}
+
+/// The law of `shadow`, of runs of which the second shadows the first as far as the inputs of cicc
+/// go: it asks less, and `shadow` follows from it.
+pub fn step_shadow()
+    ensures stand_together { StepShadowsStandTogether }
 {}
 
 /// What two dry runs are planned as, with a keep directory or without.
@@ -106,6 +126,31 @@ pub fn worked_plans_from_bytes()
     ensures step_without_cicc_from_bytes { StepWithoutCiccFromBytes }
     ensures output_with_a_slash_from_bytes { OutputWithASlashFromBytes }
     ensures nameless_from_bytes { NamelessFromBytes }
+{}
+
+/// None of the premises of `plans` can be left out. Pairs of runs that are alike don't all have equal
+/// plans if one run of a pair isn't clean (`first_clean`, `second_clean`), if the map of their names
+/// isn't one-to-one (`one_to_one`) or changes a folder (`folder`), with a keep directory
+/// (`no_keep_directory`), or if the first runs set other variables (`variables`).
+pub fn plans_need()
+    ensures first_clean { PlansAgreeFirstUnclean → ⊥ }
+    ensures second_clean { PlansAgreeSecondUnclean → ⊥ }
+    ensures one_to_one { PlansAgreeByAnyMap → ⊥ }
+    ensures folder { PlansAgreeInOtherFolders → ⊥ }
+    ensures no_keep_directory { PlansAgreeWithKeepDirectory → ⊥ }
+    ensures variables { PlansAgreeWithAnyVariables → ⊥ }
+{}
+
+/// Shadow runs worked out by hand: a cicc and its step that stand together, of the one-kernel dry run
+/// with cudafe++'s stub file bare in the second run (`one_kernel`) and alone (`earlier_step`); and
+/// such as don't, since the step stands at a later line (`later_step`), two steps make the input
+/// (`two_steps`), or the input has a folder (`folder`).
+pub fn worked_shadows()
+    ensures one_kernel { shadows.OneKernelStandsTogether }
+    ensures earlier_step { shadows.EarlierStepStandsTogether }
+    ensures later_step { shadows.LaterStepStandsApart }
+    ensures two_steps { shadows.TwoStepsStandApart }
+    ensures folder { shadows.FolderStandsApart }
 {}
 
 /// What is selected of dry runs, and the environment behind them, by the definitions.

@@ -7,10 +7,12 @@ ghost use Rattle.cuda_plans.specs.ScheduleRows as rows;
 ghost use Rattle.device_lines.specs.Reread.{CiccLinesReread, PtxasLinesReread, CudaFELinesReread};
 
 use crate::runner::{Answer, Place};
-pub use canonical_names::laws::{canonical_names, renaming, worked_likeness, worked_renamings};
+pub use canonical_names::laws::{
+    canonical_names, renaming, renaming_needs, step_shadows, worked_likeness, worked_renamings,
+};
 pub use command_groups::laws::{
-    equality as plan_equality, fates, merge, planning, plans, worked_plans,
-    worked_plans_from_bytes, worked_selections,
+    equality as plan_equality, fates, merge, planning, plans, plans_need, shadow, step_shadow,
+    worked_plans, worked_plans_from_bytes, worked_selections, worked_shadows,
 };
 pub use device_lines::laws::{
     equality as device_equality, reread, rereading_needs, worked_lines, worked_rereadings,

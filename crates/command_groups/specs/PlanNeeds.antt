@@ -1,0 +1,40 @@
+-- The laws of plans with one premise left out of each. None of these is so.
+use Rattle.std.specs.Prelude.{◌≡◌, ℕ, List, Option, Some, None}
+use Rattle.dry_runs.specs.CommandLines.{CommandLine}
+use Rattle.dry_runs.specs.Environment.{Variable}
+use Rattle.canonical_names.specs.CanonicalNames.{AreSuffixes}
+use Rattle.canonical_names.specs.RenamingNeeds.{AreAlikeFirstUnclean, AreAlikeSecondUnclean, AreCleanByAnyMap, AreCleanInOtherFolders}
+use Rattle.command_groups.specs.Plan.{PlanSetting, plan_of}
+use Rattle.command_groups.specs.PlanLaws.{AreCleanAndAlike}
+use Rattle.command_groups.specs.PlanOfBytes.{named}
+
+-- pairs of runs that are alike in some way have equal plans, with a keep directory or none
+abbrev pub PlansAgree : (List (List ℕ) → List CommandLine → List CommandLine → Type 0) → Option (List ℕ) → Type 0
+PlansAgree Relation keep_dir =
+    (suffixes : List (List ℕ)) → AreSuffixes suffixes → (s : PlanSetting) (variables : List Variable) (first second other_first other_second : List CommandLine) →
+    Relation suffixes first other_first → Relation suffixes second other_second →
+    plan_of s variables (named suffixes keep_dir first) (named suffixes keep_dir second) ≡ plan_of s variables (named suffixes keep_dir other_first) (named suffixes keep_dir other_second)
+
+-- they have so if one run need not be clean, if the map need not be one-to-one, or need not keep folders
+abbrev pub PlansAgreeFirstUnclean : Type 0
+PlansAgreeFirstUnclean = PlansAgree AreAlikeFirstUnclean None
+
+abbrev pub PlansAgreeSecondUnclean : Type 0
+PlansAgreeSecondUnclean = PlansAgree AreAlikeSecondUnclean None
+
+abbrev pub PlansAgreeByAnyMap : Type 0
+PlansAgreeByAnyMap = PlansAgree AreCleanByAnyMap None
+
+abbrev pub PlansAgreeInOtherFolders : Type 0
+PlansAgreeInOtherFolders = PlansAgree AreCleanInOtherFolders None
+
+-- they have so with a keep directory too
+abbrev pub PlansAgreeWithKeepDirectory : Type 0
+PlansAgreeWithKeepDirectory = (keep_dir : List ℕ) → PlansAgree AreCleanAndAlike (Some keep_dir)
+
+-- they have so whatever the first runs' variables are
+abbrev pub PlansAgreeWithAnyVariables : Type 0
+PlansAgreeWithAnyVariables =
+    (suffixes : List (List ℕ)) → AreSuffixes suffixes → (s : PlanSetting) (variables others : List Variable) (first second other_first other_second : List CommandLine) →
+    AreCleanAndAlike suffixes first other_first → AreCleanAndAlike suffixes second other_second →
+    plan_of s variables (named suffixes None first) (named suffixes None second) ≡ plan_of s others (named suffixes None other_first) (named suffixes None other_second)
