@@ -6,7 +6,7 @@
 set -u
 cd "$(dirname "$0")/.."
 program=$(realpath "${1:-crates/cudaplan/out/cudaplan}")
-data=crates/cudaplan/data
+data=crates/worked_rows/data/dry_runs
 scratch=$(mktemp -d)
 trap 'rm -rf "$scratch"' EXIT
 passed=0
@@ -84,10 +84,10 @@ refused_lines() {
 # what the dry runs of real calls plan, each with its compilation flag
 good_plans() {
     local file name plan
-    for file in "$data"/*.plan; do
-        name=${file%.plan}
-        plan=$(cat "$file"; printf .)
-        check "the plan of ${name##*/}" 0 "${plan%.}" '' plan /w /t "$(cat "$name.flag")" "$name.dry1" "$name.dry2"
+    for file in "$data"/*.flag; do
+        name=${file%.flag}
+        plan=$(cat "$name.plan"; printf .)
+        check "the plan of ${name##*/}" 0 "${plan%.}" '' plan /w /t "$(cat "$file")" "$name.dry1" "$name.dry2"
     done
     : > "$scratch/none"
     check 'empty dry runs' 0 $'group 0\ngroup 1\n' '' plan /w /t -c "$scratch/none" "$scratch/none"

@@ -1,3 +1,4 @@
 pub mod Cache
 pub mod Known
 pub mod NvccLine
+pub mod Runs

@@ -1,11 +1,15 @@
 //! Each caller, called once.
 
-use crate::{Digests, cicc_entry, dry_run_commands, known_flags, requoted};
+use crate::{Digests, cicc_entry, commands_to_start, dry_run_commands, known_flags, requoted};
 use cuda_plans::command::CompileCommandImpl;
 use cuda_plans::compiler::Places;
-use cuda_plans::nvcc::{Nvcc, NvccHostCompiler};
+use cuda_plans::dry_run::FirstDir;
+use cuda_plans::nvcc::{Nvcc, NvccCompileCommand, NvccHostCompiler};
+use cuda_plans::runner::Place;
 use cuda_plans::shell;
 use cuda_plans::text::Text;
+use cuda_plans::variables::Variables;
+use cuda_plans::words::Words;
 use std::alloc::{AllocError, Global};
 use std::test::Fail;
 
@@ -89,6 +93,40 @@ fn nvcc_line_has_two_dry_runs(rt: HostRuntime) -> Result<(), Fail> {
     assert_eq!(rt;
         shell::quote(alloc, second.get_arguments())?.as_str(),
         "-x cu -o k.o -c /w/k.cu --keep-dir /t --dryrun --keep"
+    );
+    Ok(())
+}
+
+// The call `nvcc -c k.cu -o k.o`.
+fn call(alloc: Global) -> Result<NvccCompileCommand, AllocError> {
+    Ok(NvccCompileCommand {
+        temp_dir: Text::copy_of(alloc, "/t")?,
+        keep_dir: None,
+        num_parallel: 1,
+        executable: Text::copy_of(alloc, "/bin/nvcc")?,
+        arguments: Words::from_vec(words(alloc, "-x cu -o k.o -c /w/k.cu")?),
+        compilation_flag: Text::copy_of(alloc, "-c")?,
+        env_vars: Variables::new(alloc),
+        cwd: Text::copy_of(alloc, "/w")?,
+        host_compiler: NvccHostCompiler::Gcc,
+        output_file_name: Text::copy_of(alloc, "k.o")?,
+    })
+}
+
+#[test]
+fn plan_is_recorded(rt: HostRuntime) -> Result<(), Fail> {
+    let alloc = rt.alloc();
+    let dry_run = b"#$ PATH=/b\n#$ gcc -D__NVCC__ -c k.cpp -o k.o\n";
+    let recorder = commands_to_start(alloc, &call(alloc)?, dry_run, dry_run, &FirstDir)?;
+    let [started] = recorder.started.as_slice() else {
+        assert!(rt; false, "not one command");
+        return Ok(());
+    };
+    assert!(rt; started.place == Place { group: 1, index: 0 });
+    assert_eq!(rt; started.command.exe.as_str(), "/b/gcc");
+    assert_eq!(rt;
+        shell::quote(alloc, started.command.args.as_slice())?.as_str(),
+        "-D__NVCC__ -c k.cpp -o k.o"
     );
     Ok(())
 }

@@ -9,9 +9,13 @@ mod holders;
 #[cfg(test)]
 mod inputs;
 #[cfg(test)]
+mod outcomes;
+#[cfg(test)]
 mod planning;
 #[cfg(test)]
 mod records;
+#[cfg(test)]
+mod running;
 #[cfg(test)]
 mod tables;
 #[cfg(test)]

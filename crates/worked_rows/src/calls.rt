@@ -3,9 +3,25 @@
 use crate::answer::Answer;
 use crate::row::Row;
 use crate::stop::Stop;
-use crate::{faults, inputs, languages, lines, paths, renaming, runs, shell_texts, tables, taken};
+use crate::{
+    faults, inputs, languages, lines, paths, plans, renaming, runs, selection, shell_texts, tables,
+    taken,
+};
 use std::alloc::Global;
 use std::fs::Files;
+
+// What a row's call on dry runs answers, and on what is made of them.
+fn on_dry_runs<R: Files + AllocGlobal>(rt: &R, alloc: Global, row: &Row) -> Result<Answer, Stop> {
+    match row.call.as_str() {
+        "read" | "read_whole" | "rename_run" | "is_clean" | "is_shadow" | "is_step_shadow" => {
+            runs::answer(rt, alloc, row)
+        }
+        "rename" | "suffixes" | "standard_suffixes" => renaming::answer(alloc, row),
+        "select" => selection::answer(rt, alloc, row),
+        "plan" | "plan_whole" | "plan_text" => plans::answer(rt, alloc, row),
+        _ => Err(Stop::Form("an unknown call")),
+    }
+}
 
 /// What a row's call answers. A file that a row names lies beside the rows.
 ///
@@ -41,10 +57,6 @@ pub fn answer_of<R: Files + AllocGlobal>(rt: &R, alloc: Global, row: &Row) -> Re
         | "is_ptxas_input"
         | "input_suffixes"
         | "found" => { paths::answer(alloc, row) }
-        "read" | "read_whole" | "rename_run" | "is_clean" | "is_shadow" | "is_step_shadow" => {
-            runs::answer(rt, alloc, row)
-        }
-        "rename" | "suffixes" | "standard_suffixes" => renaming::answer(alloc, row),
-        _ => Err(Stop::Form("an unknown call")),
+        _ => on_dry_runs(rt, alloc, row),
     }
 }

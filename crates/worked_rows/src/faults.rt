@@ -71,6 +71,7 @@ fn plain_fault(name: &str) -> Result<Fault, Stop> {
         "ThreadsValue" => Ok(Fault::ThreadsValue),
         "Read" => Ok(Fault::Read),
         "Memory" => Ok(Fault::Memory),
+        "BadSuffixes" => Ok(Fault::BadSuffixes),
         _ => Err(Stop::Form("an unknown fault")),
     }
 }

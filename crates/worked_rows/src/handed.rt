@@ -7,14 +7,14 @@ use cuda_plans::dry_run::Suffixes;
 use std::alloc::Global;
 use std::fs::{self, Files};
 
-// The bytes of a file, which lies beside the rows.
-fn bytes_of_file<R: Files>(rt: &R, alloc: Global, name: &str) -> Result<Vec<u8>, Stop> {
+/// The bytes of a file, which lies beside the rows.
+pub fn bytes_of_file<R: Files>(rt: &R, alloc: Global, name: &str) -> Result<Vec<u8>, Stop> {
     let Ok(file) = fs::open(rt, name) else {
-        return Err(Stop::Form("a dry run that cannot be opened"));
+        return Err(Stop::Form("a file that cannot be opened"));
     };
     match read_input(alloc, file) {
         Ok(output) => Ok(output.stdout.into_vec()),
-        Err(_) => Err(Stop::Form("a dry run that cannot be read")),
+        Err(_) => Err(Stop::Form("a file that cannot be read")),
     }
 }
 
@@ -113,36 +113,61 @@ pub fn suffix_list(alloc: Global, words: &[String]) -> Result<Vec<String>, Stop>
     Ok(list)
 }
 
-/// What a row's settings hand in: files of dry runs, and suffixes of generated files.
+/// What a row's settings hand in: files of dry runs, suffixes of generated files, and variables.
 #[derive(Drop)]
 pub struct Handed {
     files: Vec<String>,
     suffixes: Vec<String>,
+    /// The variables of the call.
+    pub env_vars: Vec<(String, String)>,
 }
 
 impl Handed {
-    /// What settings hand in.
-    pub fn of(alloc: Global, settings: &[String]) -> Result<Handed, Stop> {
-        let mut handed = Handed {
+    /// Nothing yet.
+    pub fn new(alloc: Global) -> Handed {
+        Handed {
             files: Vec::new(alloc),
             suffixes: Vec::new(alloc),
-        };
+            env_vars: Vec::new(alloc),
+        }
+    }
+
+    /// What settings hand in.
+    pub fn of(alloc: Global, settings: &[String]) -> Result<Handed, Stop> {
+        let mut handed = Handed::new(alloc);
         for setting in settings {
             handed.take(alloc, setting.as_str())?;
         }
         Ok(handed)
     }
 
-    // Takes a setting.
-    fn take(&mut self, alloc: Global, setting: &str) -> Result<(), Stop> {
-        if let Some(name) = setting.strip_prefix("file=") {
-            self.files.push(String::from_str(alloc, name)?)?;
+    // Takes the value of a setting.
+    fn take_value(&mut self, alloc: Global, name: &str, value: &str) -> Result<(), Stop> {
+        if let Some(variable) = name.strip_prefix('$') {
+            let variable = String::from_str(alloc, variable)?;
+            self.env_vars
+                .push((variable, String::from_str(alloc, value)?))?;
             return Ok(());
         }
-        match setting.strip_prefix("suffix=") {
-            Some(word) => push_suffix(alloc, word, &mut self.suffixes),
-            None => Err(Stop::Form("an unknown setting")),
+        match name {
+            "file" => self.files.push(String::from_str(alloc, value)?)?,
+            "suffix" => push_suffix(alloc, value, &mut self.suffixes)?,
+            _ => return Err(Stop::Form("an unknown setting")),
         }
+        Ok(())
+    }
+
+    /// Takes a setting.
+    pub fn take(&mut self, alloc: Global, setting: &str) -> Result<(), Stop> {
+        match setting.split_once('=') {
+            Some((name, value)) => self.take_value(alloc, name, value),
+            None => Err(Stop::Form("a setting without a value")),
+        }
+    }
+
+    /// The suffixes as they are handed in.
+    pub fn suffix_words(&self) -> &[String] {
+        self.suffixes.as_slice()
     }
 
     /// The suffixes, or those of nvcc's files where none are handed in.

@@ -25,8 +25,8 @@ fn add_place(alloc: Global, answer: &mut Answer, run: usize, line: usize) -> Res
     answer.add(alloc, &["at", run.as_str(), line.as_str()])
 }
 
-// The facts of a refusal, with the run and the line where its message doesn't tell them.
-fn refused_at(alloc: Global, fault: &Fault) -> Result<Answer, Stop> {
+/// The facts of a refusal, with the run and the line where its message doesn't tell them.
+pub fn refused_at(alloc: Global, fault: &Fault) -> Result<Answer, Stop> {
     let mut answer = refused(alloc, fault)?;
     match fault {
         Fault::BadShell { run, line } | Fault::EmptyCommand { run, line } => {
@@ -50,8 +50,8 @@ fn add_command(
     answer.add_headed(alloc, heads.as_slice(), command.2.as_slice())
 }
 
-// Adds each command.
-fn add_commands(alloc: Global, answer: &mut Answer, commands: &Commands) -> Result<(), Stop> {
+/// Adds each command.
+pub fn add_commands(alloc: Global, answer: &mut Answer, commands: &Commands) -> Result<(), Stop> {
     for command in commands.as_slice() {
         add_command(alloc, answer, "line", command)?;
     }
@@ -166,8 +166,8 @@ fn of_two(
     }
 }
 
-// The number of a run that a word is.
-fn number_of(word: &str) -> Result<usize, Stop> {
+/// The number of a run that a word is.
+pub fn number_of(word: &str) -> Result<usize, Stop> {
     match word.parse::<usize>() {
         Ok(number) => Ok(number),
         Err(_) => Err(Stop::Form("no number of a run")),

@@ -169,6 +169,9 @@ fn normalize<T: Copy, S: SearchableArgInfo<T> + Drop>(
             item.normalize(form).write(alloc, &mut words)?;
         }
     }
+    if items.refused() {
+        return Err(Stop::Memory);
+    }
     let mut answer = Answer::new(alloc);
     answer.add_words(alloc, "written", words.as_slice())?;
     Ok(answer)
