@@ -1,0 +1,11 @@
+//! Plans for other tools: the text of a plan as a shell script and as a file for Ninja.
+#![tactic(auto)]
+
+mod command;
+mod judging;
+pub mod laws;
+mod refusal;
+mod shell;
+
+pub use refusal::Refusal;
+pub use shell::shell_script;
