@@ -103,6 +103,43 @@ good_plans() {
     check 'a dropped command' 0 "${plan%.}" '' plan /w /t -c "$scratch/foreign" "$scratch/foreign"
 }
 
+# plans NAME OUT LINE..: plans these lines behind one that sets PATH, as both runs. OUT ends in a mark behind its newline.
+plans() {
+    local name=$1 out=$2
+    shift 2
+    lines_of run '#$ PATH=/b' "$@"
+    check "$name" 0 "${out%.}" '' plan /w /t -c "$scratch/run" "$scratch/run"
+}
+
+# steps that open a group again, files that several commands read, and commands that find no group
+grouped_plans() {
+    local step='#$ gcc -D__NVCC__ -E k.cu -o k.cpp1.ii' cicc='#$ cicc k.cpp1.ii -o k.ptx'
+    local stepped='no cd /w && /b/gcc -D__NVCC__ -E k.cu -o x_0.cpp1.ii' compiled='yes cd /t && /b/cicc x_0.cpp1.ii -o k.ptx'
+    local lost_step='dropped 1 run 2 Superseded /b/gcc -D__NVCC__ -E k.cu -o x_0.cpp1.ii'
+    local lost_cicc='dropped 2 run 1 Superseded /b/cicc x_0.cpp1.ii -o k.ptx'
+    plans 'a group that is opened again' "$(lines 'group 0' 'group 1' "$stepped" "$compiled" 'group 2' "$lost_step" "$lost_cicc")" \
+        "$step" "$cicc" "$step" "$cicc"
+    plans 'two ptxas commands for one file' "$(lines 'group 0' 'group 1' "$stepped" "$compiled" 'yes cd /t && /b/ptxas k.ptx -o a.cubin' \
+        'yes cd /t && /b/ptxas k.ptx -o b.cubin' 'group 2')" "$step" "$cicc" '#$ ptxas k.ptx -o a.cubin' '#$ ptxas k.ptx -o b.cubin'
+    plans 'a ptxas command behind a superseded cicc' "$(lines 'group 0' 'group 1' "$stepped" 'group 2' "$lost_step" "$lost_cicc" \
+        'dropped 4 run 1 NoPtxasGroup /b/ptxas k.ptx -o a.cubin')" "$step" "$cicc" "$step" '#$ ptxas k.ptx -o a.cubin'
+    plans 'a step that names a PTX file' "$(lines 'group 0' 'group 1' "$stepped k.ptx" 'group 2' \
+        'dropped 2 run 1 NoPtxasGroup /b/ptxas k.ptx -o a.cubin')" "$step k.ptx" '#$ ptxas k.ptx -o a.cubin'
+    plans 'an output with a slash' "$(lines 'group 0' 'group 1' 'no cd /w && /b/gcc -D__NVCC__ -E k.cu -o k.cpp1.ii/' 'group 2' \
+        'dropped 2 run 1 NoCiccGroup /b/cicc x_0.cpp1.ii -o k.ptx')" "$step/" "$cicc"
+    plans 'a step without an output' "$(lines 'group 0' 'no cd /w && /b/gcc -D__NVCC__ -E k.cu -o' 'group 1')" '#$ gcc -D__NVCC__ -E k.cu -o'
+}
+
+# a thousand host compilers, in order
+long_plan() {
+    local commands=() want=('group 0' 'group 1') number
+    for number in {1..1000}; do
+        commands+=("#\$ gcc -D__NVCC__ -c $number.cpp")
+        want+=("yes cd /w && /b/gcc -D__NVCC__ -c $number.cpp")
+    done
+    plans 'a thousand commands' "$(lines "${want[@]}")" "${commands[@]}"
+}
+
 # lines_of FILE LINE..: writes lines to a file of the scratch folder.
 lines_of() {
     local file=$1
@@ -211,6 +248,8 @@ closed_streams() {
 good_lines
 refused_lines
 good_plans
+grouped_plans
+long_plan
 refused_plans
 other_calls
 long_lines

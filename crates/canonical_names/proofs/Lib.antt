@@ -14,3 +14,4 @@ pub mod ReferenceLemmas
 pub mod AppearanceLemmas
 pub mod PlaceLemmas
 pub mod RemapLemmas
+pub mod LongestLemmas

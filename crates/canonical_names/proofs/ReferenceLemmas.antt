@@ -1,80 +1,19 @@
 -- References in the order of their lengths, and what they make of a text.
-use Rattle.std.proofs.Common.{◌≡◌, ℕ, suc, zero, ◌+◌, ◌-◌, ◌<◌, ◌≤◌, ◌&&◌, ◌||◌, ◌++◌, Bool, true, false, cond, List, [], ◌∷◌, Option, Some, None, is_some, map, refl, ap, sym, ◌∙◌, subst, nat_eq, nat_lt, leb, leb-true, length, fold, take, drop, arith, append_assoc, get_or}
-use Rattle.std.specs.List.{list_any, list_all, ends_with, insert, AllByRecursion, Contains}
-use Rattle.std.specs.List.Sorted.{IsPartitionedBy}
-use Rattle.std.proofs.lemmas.Bool.{false≢true, and_parts, lt-ltb, ltb-true, ltb-false, le-leb, cond_both}
+use Rattle.std.proofs.Common.{◌≡◌, ℕ, ◌+◌, ◌-◌, ◌<◌, ◌||◌, ◌++◌, true, false, cond, List, [], ◌∷◌, Option, Some, None, is_some, map, refl, ap, sym, ◌∙◌, subst, nat_eq, nat_lt, length, fold, take, arith, append_assoc}
+use Rattle.std.specs.List.{list_any, list_all, ends_with, AllByRecursion, Contains}
+use Rattle.std.proofs.lemmas.Bool.{false≢true, and_parts}
 use Rattle.std.proofs.lemmas.List.{length-append}
 use Rattle.dry_runs.specs.Replacing.{replaced}
 use Rattle.canonical_names.specs.Alike.{holds}
 use Rattle.canonical_names.specs.Counted.{has_class, with_canonical}
 use Rattle.canonical_names.specs.Generated.{class_of_name}
 use Rattle.canonical_names.specs.Renaming.{insert_by_length, longest_first, canonical_name, rewritten}
-use Rattle.canonical_names.specs.References.{replaced_by, replaced_by_all, reference_seen, insert_pair, longest_pairs_first, Descend}
-use Rattle.canonical_names.specs.declared.references.Reference.{Reference}
+use Rattle.canonical_names.specs.References.{replaced_by_all, insert_pair, longest_pairs_first}
 use Rattle.canonical_names.specs.SuffixRule.{is_suffix, are_suffixes}
 use Rattle.canonical_names.proofs.CanonicalLemmas.{find-found, ends-split}
 use Rattle.canonical_names.proofs.ReplaceLemmas.{holds-split, holds-within}
 use Rattle.canonical_names.proofs.RewriteLemmas.{none-each, fold-each, fold-none}
 use Rattle.canonical_names.proofs.SuffixLemmas.{each-member, each-suffix, none-member}
-
--- what is inserted at its place
-pub inserted-at : {X : Type 0} (f : X → List ℕ × List ℕ) (xs : List X) (x : X) (n : ℕ) → n ≤ length xs → ((k : ℕ) (d : X) → k < n → length (f x).0 ≤ length (f (get_or xs k d)).0) →
-    ((d : X) → n < length xs → length (f (get_or xs n d)).0 < length (f x).0) → map f (insert xs n x) ≡ insert_pair (map f xs) (f x)
-inserted-at f [] x zero within before behind = refl
-inserted-at f [] x (suc n) within before behind = absurd (omega (arith, within))
-inserted-at f (y ∷ xs) x zero within before behind =
-    sym (ap (λ b. cond b (f x ∷ f y ∷ map f xs) (f y ∷ insert_pair (map f xs) (f x))) (lt-ltb (length (f y).0) (length (f x).0) (behind y (omega arith))))
-inserted-at f (y ∷ xs) x (suc n) within before behind =
-    let here : length (f x).0 ≤ length (f y).0 = before 0 y (omega arith) in
-    let not_here : nat_lt (length (f y).0) (length (f x).0) ≡ false = elim (nat_lt (length (f y).0) (length (f x).0)) as (λ b. nat_lt (length (f y).0) (length (f x).0) ≡ b → b ≡ false) [
-      | true ↦ λ e. absurd (let lt = ltb-true (length (f y).0) (length (f x).0) e in omega (arith, lt, here))
-      | false ↦ λ _. refl
-    ] refl in
-    ap (λ ps. f y ∷ ps) (inserted-at f xs x n (omega (arith, within)) (λ k d lt. before (suc k) d (omega (arith, lt))) (λ d lt. behind d (omega (arith, lt))))
-    ∙ sym (ap (λ b. cond b (f x ∷ f y ∷ map f xs) (f y ∷ insert_pair (map f xs) (f x))) not_here)
-
--- what is no longer than a name is no longer than a longer one
-all-shorter : (n m : ℕ) → n ≤ m → (ps : List (List ℕ × List ℕ)) → AllByRecursion (λ (q : List ℕ × List ℕ). length q.0 ≤ n) ps → AllByRecursion (λ (q : List ℕ × List ℕ). length q.0 ≤ m) ps
-all-shorter n m le [] h = tt
-all-shorter n m le (p ∷ ps) h = let here = h.0 in (omega (arith, here, le), all-shorter n m le ps h.1)
-
--- what holds of each pair and of one more holds of each with that put in
-insert-all : (P : List ℕ × List ℕ → Type 0) (ps : List (List ℕ × List ℕ)) (p : List ℕ × List ℕ) → AllByRecursion P ps → P p → AllByRecursion P (insert_pair ps p)
-insert-all P [] p all one = (one, tt)
-insert-all P (q ∷ qs) p all one = cond_both (nat_lt (length q.0) (length p.0)) (p ∷ q ∷ qs) (q ∷ insert_pair qs p) (AllByRecursion P) (λ _. (one, all)) (λ _. (all.0, insert-all P qs p all.1 one))
-
--- pairs still descend with one more put in
-pub insert-descends : (ps : List (List ℕ × List ℕ)) (p : List ℕ × List ℕ) → Descend ps → Descend (insert_pair ps p)
-insert-descends [] p h = (tt, tt)
-insert-descends (q ∷ qs) p h =
-    elim (nat_lt (length q.0) (length p.0)) as (λ b. nat_lt (length q.0) (length p.0) ≡ b → Descend (cond b (p ∷ q ∷ qs) (q ∷ insert_pair qs p))) [
-      | true ↦ λ e.
-          let less = ltb-true (length q.0) (length p.0) e in
-          let le : length q.0 ≤ length p.0 = omega (arith, less) in
-          ((le, all-shorter (length q.0) (length p.0) le qs h.0), h)
-      | false ↦ λ e.
-          let le : length p.0 ≤ length q.0 = ltb-false (length q.0) (length p.0) e in
-          (insert-all (λ r. length r.0 ≤ length q.0) qs p h.0 le, insert-descends qs p h.1)
-    ] refl
-
--- of references that descend, those as long as a bound stand before the others
-all-at : (n : ℕ) (xs : List Reference) → AllByRecursion (λ (q : List ℕ × List ℕ). length q.0 ≤ n) (map reference_seen xs) → (j : ℕ) (d : Reference) → j < length xs → length (get_or xs j d).name.now ≤ n
-all-at n [] h j d lt = absurd (omega (arith, lt))
-all-at n (x ∷ xs) h zero d lt = h.0
-all-at n (x ∷ xs) h (suc j) d lt = all-at n xs h.1 j d (omega (arith, lt))
-
-descends-at : (xs : List Reference) → Descend (map reference_seen xs) → (i j : ℕ) (d : Reference) → i ≤ j → j < length xs → length (get_or xs j d).name.now ≤ length (get_or xs i d).name.now
-descends-at [] h i j d le lt = absurd (omega (arith, lt))
-descends-at (x ∷ xs) h zero zero d le lt = omega arith
-descends-at (x ∷ xs) h zero (suc j) d le lt = all-at (length x.name.now) xs h.0 j d (omega (arith, lt))
-descends-at (x ∷ xs) h (suc i) zero d le lt = absurd (omega (arith, le))
-descends-at (x ∷ xs) h (suc i) (suc j) d le lt = descends-at xs h.1 i j d (omega (arith, le)) (omega (arith, lt))
-
-pub parted-by_length : (bytes : ℕ) (xs : List Reference) → Descend (map reference_seen xs) → IsPartitionedBy (λ r. leb bytes (length r.name.now)) xs
-parted-by_length bytes xs h i j d le lt long =
-    let shorter = descends-at xs h i j d le lt in
-    let far = leb-true bytes (length (get_or xs j d).name.now) long in
-    le-leb bytes (length (get_or xs i d).name.now) (omega (arith, shorter, far))
 
 -- pairs of names and what they became are in the order of the names
 module _ (f : List ℕ → List ℕ) where

@@ -1,12 +1,14 @@
 //! Words that refer to generated files.
 
-ghost use Rattle.std.specs.Prelude.{◌≡◌, ◌<◌, ◌≤◌, [], length, map, IfOk, OnOk, string_bytes};
+ghost use Rattle.std.specs.Prelude.{◌≡◌, ◌<◌, [], length, IfOk, OnOk, string_bytes};
 ghost use Rattle.std.specs.List.{AllByRecursion};
 ghost use Rattle.canonical_names.specs.Alike as alike;
 ghost use Rattle.canonical_names.specs.References as spec;
 ghost use Rattle.dry_runs.specs.Replacing.{replaced};
 
 use std::alloc::{AllocError, Global};
+use std::cmp::Reverse;
+use std::collections::BTreeMap;
 use std::marker::Model;
 
 /// A name that was seen, and its canonical name.
@@ -46,75 +48,54 @@ fn replace_reference(
     replace(alloc, text.as_str(), reference.name, reference.canonical)
 }
 
-// `text` with the names of `references` replaced, one after the other.
-pub(crate) fn rewrite(
-    alloc: Global,
-    text: &str,
-    references: &[Reference<'_>],
-) -> Result<String, AllocError>
-    requires { AllByRecursion (λ p. 0 < length p.0) (map spec.reference_seen references.now) }
-    ensures { IfOk result (λ t. string_bytes t ≡ spec.replaced_by_all (map spec.reference_seen references.now) text.now) }
-{
-    let mut rewritten = String::from_str(alloc, text)?;
-    for reference in references {
-        rewritten = replace_reference(alloc, rewritten, *reference)?;
-    }
-    Ok(rewritten)
-}
-
-// The place of a name of so many bytes among the longest first: behind all that are at least as long.
-fn place(references: &[Reference<'_>], bytes: usize) -> usize
-    requires { spec.Descend (map spec.reference_seen references.now) }
-    ensures within { result ≤ length references.now }
-    ensures before { spec.AreAsLong references.now result bytes }
-    ensures behind { spec.IsShorter references.now result bytes }
-{
-    references.partition_point(|reference| bytes <= reference.name.len())
-}
-
-/// References, those of the longest names first. Contracts see each name with its canonical name.
-#[derive(Debug, Drop)]
+/// References, those of the longest names first, and of equally long ones the one that was put in first.
+/// Contracts see each name with its canonical name.
+#[derive(Drop)]
 pub(crate) struct LongestFirst<'a> {
-    references: Vec<Reference<'a>>,
+    // Each by the length of its name and by how many were there before it.
+    references: BTreeMap<(Reverse<usize>, usize), Reference<'a>>,
 }
 
 impl<'a> Model for LongestFirst<'a> {
-    ghost use Rattle.std.specs.Prelude.{List, ℕ, map};
-    ghost use Rattle.canonical_names.specs.References.{reference_seen, Descend};
+    ghost use Rattle.std.specs.Prelude.{List, ℕ, map, length};
+    ghost use Rattle.canonical_names.specs.References.{reference_seen};
+    ghost use Rattle.canonical_names.specs.LongestView.{entry_seen, IsKeyed};
 
     ghost Value = { List (List ℕ × List ℕ) };
 
-    ghost view = { λ r. map reference_seen r.references.items };
+    ghost view = { λ r. map entry_seen r.references.entries };
 
-    ghost invariant = { λ r. Descend (map reference_seen r.references.items) };
+    ghost invariant = { λ r. IsKeyed (length r.references.entries) r.references.entries };
 }
 
 impl<'a> LongestFirst<'a> {
-    /// No references, with room for so many.
-    pub(crate) fn with_capacity(
-        alloc: Global,
-        capacity: usize,
-    ) -> Result<LongestFirst<'a>, AllocError>
-        ensures { IfOk result (λ r. r ≡ []) }
+    /// No references.
+    pub(crate) fn new(alloc: Global) -> LongestFirst<'a>
+        ensures { result ≡ [] }
     {
-        Ok(LongestFirst {
-            references: Vec::with_capacity(alloc, capacity)?,
-        })
+        LongestFirst {
+            references: BTreeMap::new(alloc),
+        }
     }
 
     /// Puts a reference behind all whose names are at least as long.
     pub(crate) fn insert(&mut self, reference: Reference<'a>) -> Result<(), AllocError>
         ensures { OnOk result (self.new ≡ spec.insert_pair self.old (spec.reference_seen reference.entry)) }
     {
-        let place = place(self.references.as_slice(), reference.name.len());
-        self.references.insert(place, reference)?;
+        let key = (Reverse(reference.name.len()), self.references.len());
+        self.references.insert(key, reference)?;
         Ok(())
     }
 
-    /// The references as a slice.
-    pub(crate) fn as_slice(&self) -> &[Reference<'a>]
-        ensures { map spec.reference_seen result.now ≡ self.now }
+    /// `text` with the names of the references replaced, one after the other.
+    pub(crate) fn rewrite(&self, alloc: Global, text: &str) -> Result<String, AllocError>
+        requires { AllByRecursion (λ p. 0 < length p.0) self.now }
+        ensures { IfOk result (λ t. string_bytes t ≡ spec.replaced_by_all self.now text.now) }
     {
-        self.references.as_slice()
+        let mut rewritten = String::from_str(alloc, text)?;
+        for (_, reference) in self.references.iter() {
+            rewritten = replace_reference(alloc, rewritten, *reference)?;
+        }
+        Ok(rewritten)
     }
 }

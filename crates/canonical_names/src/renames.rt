@@ -11,7 +11,7 @@ ghost use Rattle.canonical_names.specs.Counted.{decimal_file, IsCount};
 ghost use Rattle.canonical_names.specs.References.{longest_pairs_first};
 ghost use Rattle.canonical_names.specs.Renaming as spec;
 
-use crate::references::{LongestFirst, Reference, rewrite};
+use crate::references::{LongestFirst, Reference};
 use crate::suffixes::Suffixes;
 use crate::words::begins_with_dash;
 use indexmap::IndexMap;
@@ -169,7 +169,7 @@ impl Renames {
             return String::from_str(alloc, text);
         }
         let references = longest_first(alloc, &self.names)?;
-        rewrite(alloc, text, references.as_slice())
+        references.rewrite(alloc, text)
     }
 }
 
@@ -180,7 +180,7 @@ fn longest_first<'a>(
 ) -> Result<LongestFirst<'a>, AllocError>
     ensures { IfOk result (λ r. r ≡ longest_pairs_first (map pair_of names.now.entries)) }
 {
-    let mut references = LongestFirst::with_capacity(alloc, names.len())?;
+    let mut references = LongestFirst::new(alloc);
     for (name, canonical) in names.iter() {
         references.insert(Reference {
             name: name.as_str(),

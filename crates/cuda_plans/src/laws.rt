@@ -2,13 +2,15 @@
 
 ghost use Rattle.texts.specs.Equality.{TellsEqual};
 ghost use Rattle.command_groups.specs.PlanLaws.{AlikeTextsHaveOnePlan, ReadableRunsArePlanned, PlannedRunsAreReadable, FirstRunIsRefused, SecondRunIsRefused, PlannedCommandsHaveOneFate};
+ghost use Rattle.cuda_plans.specs.OutcomeLaws.{AggregationIsAssociative, EmptySuccessIsNeutralFirst, EmptySuccessIsNeutralLast};
 ghost use Rattle.cuda_plans.specs.ScheduleRows as rows;
 ghost use Rattle.device_lines.specs.Reread.{CiccLinesReread, PtxasLinesReread, CudaFELinesReread};
 
 use crate::runner::{Answer, Place};
 pub use canonical_names::laws::{canonical_names, renaming, worked_likeness, worked_renamings};
 pub use command_groups::laws::{
-    equality as plan_equality, fates, merge, planning, plans, worked_plans, worked_plans_from_bytes,
+    equality as plan_equality, fates, merge, planning, plans, worked_plans,
+    worked_plans_from_bytes, worked_selections,
 };
 pub use device_lines::laws::{
     equality as device_equality, reread, rereading_needs, worked_lines, worked_rereadings,
@@ -50,6 +52,13 @@ pub fn planning_theorem()
     ensures cicc_rereads { CiccLinesReread }
     ensures ptxas_rereads { PtxasLinesReread }
     ensures cudafe_rereads { CudaFELinesReread }
+{}
+
+/// How outputs are joined doesn't depend on brackets, and an empty success changes nothing.
+pub fn joined_outputs()
+    ensures associative { AggregationIsAssociative }
+    ensures empty_success_first { EmptySuccessIsNeutralFirst }
+    ensures empty_success_last { EmptySuccessIsNeutralLast }
 {}
 
 /// Which commands of three kernels run, and what comes of it, by the definitions.
