@@ -1,3 +1,4 @@
+pub mod Pushing
 pub mod QuotedLemmas
 pub mod ReadBackLemmas
 pub mod TextLemmas

@@ -3,30 +3,32 @@ use Rattle.std.proofs.Common.{ℕ, List, [], ◌∷◌, ◌++◌, ◌≡◌, ◌
 use Rattle.std.specs.List.{list_all, flat_map}
 use Rattle.std.proofs.lemmas.Bool.{cond_both, cond-false, and_parts, or_cases, eqb-true}
 use Rattle.std.proofs.lemmas.Bool.Decides.{nat_tests}
-use Rattle.shell_words.specs.declared.splitting.State.TheVariants.{Between, Word, Escaped, SingleQuoted}
 use Rattle.shell_words.specs.Shell.{hash, backslash, single_quote, double_quote, is_blank}
-use Rattle.shell_words.specs.Shell.Splitting.{Gives, EndsWord, words_from}
+use Rattle.shell_words.specs.Shell.Splitting.{Gives, EndsWord, begins_piece, reads_between, words_from}
 use Rattle.shell_words.specs.Shell.Quoting.{is_safe, is_plain, quoted_char, quoted_word, further, quoted}
 use Rattle.shell_words.proofs.ShellSoundLemmas.{reading, begins_bare}
 
+-- The states of the splitter have no names here: between words it is `(reads_between 32).0`, in a word `(begins_piece 97).0`, in
+-- single quotes `(begins_piece 39).0`, and behind a backslash `(begins_piece 92).0`.
+
 -- ---- a word in quotes
 
-char_then : (c : ℕ) (rest word : List ℕ) (words : List (List ℕ)) → words_from SingleQuoted rest ≡ Some (word ∷ words) → words_from SingleQuoted (quoted_char c ++ rest) ≡ Some ((c ∷ word) ∷ words)
+char_then : (c : ℕ) (rest word : List ℕ) (words : List (List ℕ)) → words_from (begins_piece 39).0 rest ≡ Some (word ∷ words) → words_from (begins_piece 39).0 (quoted_char c ++ rest) ≡ Some ((c ∷ word) ∷ words)
 char_then c rest word words found =
     cond_both (c == single_quote) (single_quote ∷ backslash ∷ single_quote ∷ single_quote ∷ []) (c ∷ [])
-    (λ text. words_from SingleQuoted (text ++ rest) ≡ Some ((c ∷ word) ∷ words))
+    (λ text. words_from (begins_piece 39).0 (text ++ rest) ≡ Some ((c ∷ word) ∷ words))
     (λ is.
-    reading SingleQuoted single_quote (backslash ∷ single_quote ∷ single_quote ∷ rest) Word (Gives []) ((single_quote ∷ word) ∷ words) refl
-    (reading Word backslash (single_quote ∷ single_quote ∷ rest) Escaped (Gives []) ((single_quote ∷ word) ∷ words) refl
-    (reading Escaped single_quote (single_quote ∷ rest) Word (Gives (single_quote ∷ [])) (word ∷ words) refl
-    (reading Word single_quote rest SingleQuoted (Gives []) (word ∷ words) refl found)))
+    reading (begins_piece 39).0 single_quote (backslash ∷ single_quote ∷ single_quote ∷ rest) (begins_piece 97).0 (Gives []) ((single_quote ∷ word) ∷ words) refl
+    (reading (begins_piece 97).0 backslash (single_quote ∷ single_quote ∷ rest) (begins_piece 92).0 (Gives []) ((single_quote ∷ word) ∷ words) refl
+    (reading (begins_piece 92).0 single_quote (single_quote ∷ rest) (begins_piece 97).0 (Gives (single_quote ∷ [])) (word ∷ words) refl
+    (reading (begins_piece 97).0 single_quote rest (begins_piece 39).0 (Gives []) (word ∷ words) refl found)))
     ∙ ap (λ x. Some ((x ∷ word) ∷ words)) (sym (eqb-true c single_quote is)))
-    (λ is_not. reading SingleQuoted c rest SingleQuoted (Gives (c ∷ [])) (word ∷ words) (cond-false _ _ _ is_not) found)
+    (λ is_not. reading (begins_piece 39).0 c rest (begins_piece 39).0 (Gives (c ∷ [])) (word ∷ words) (cond-false _ _ _ is_not) found)
 
-chars_then : (word rest : List ℕ) (words : List (List ℕ)) → words_from Word rest ≡ Some ([] ∷ words) → words_from SingleQuoted (flat_map quoted_char word ++ single_quote ∷ rest) ≡ Some (word ∷ words)
-chars_then [] rest words found = reading SingleQuoted single_quote rest Word (Gives []) ([] ∷ words) refl found
+chars_then : (word rest : List ℕ) (words : List (List ℕ)) → words_from (begins_piece 97).0 rest ≡ Some ([] ∷ words) → words_from (begins_piece 39).0 (flat_map quoted_char word ++ single_quote ∷ rest) ≡ Some (word ∷ words)
+chars_then [] rest words found = reading (begins_piece 39).0 single_quote rest (begins_piece 97).0 (Gives []) ([] ∷ words) refl found
 chars_then (c ∷ word) rest words found =
-    ap (words_from SingleQuoted) (append_assoc (quoted_char c) (flat_map quoted_char word) (single_quote ∷ rest))
+    ap (words_from (begins_piece 39).0) (append_assoc (quoted_char c) (flat_map quoted_char word) (single_quote ∷ rest))
     ∙ char_then c (flat_map quoted_char word ++ single_quote ∷ rest) word words (chars_then word rest words found)
 
 -- ---- a plain word
@@ -62,43 +64,43 @@ of_plain c option h =
     ⊎_elim (λ safe. of_safe c safe) (λ equals. of_equals c (eqb-true c 61 (and_parts option (c == 61) equals).1))
     (or_cases (is_safe c) (option && (c == 61)) h)
 
-plain_chars_then : (option : Bool) (cs rest : List ℕ) (words : List (List ℕ)) → list_all (λ c. is_safe c || (option && (c == 61))) cs ≡ true → words_from Word rest ≡ Some ([] ∷ words) → words_from Word (cs ++ rest) ≡ Some (cs ∷ words)
+plain_chars_then : (option : Bool) (cs rest : List ℕ) (words : List (List ℕ)) → list_all (λ c. is_safe c || (option && (c == 61))) cs ≡ true → words_from (begins_piece 97).0 rest ≡ Some ([] ∷ words) → words_from (begins_piece 97).0 (cs ++ rest) ≡ Some (cs ∷ words)
 plain_chars_then option [] rest words plain found = found
 plain_chars_then option (c ∷ cs) rest words plain found =
     let parts = and_parts (is_safe c || (option && (c == 61))) (list_all (λ c. is_safe c || (option && (c == 61))) cs) plain in
     let is = of_plain c option parts.0 in
-    reading Word c (cs ++ rest) Word (Gives (c ∷ [])) (cs ∷ words)
+    reading (begins_piece 97).0 c (cs ++ rest) (begins_piece 97).0 (Gives (c ∷ [])) (cs ∷ words)
     (cond-false _ _ _ is.not_blank ∙ begins_bare c is.not_single is.not_double is.not_backslash)
     (plain_chars_then option cs rest words parts.1 found)
 
-plain_then : (word rest : List ℕ) (words : List (List ℕ)) → is_plain word ≡ true → words_from Word rest ≡ Some ([] ∷ words) → words_from Between (word ++ rest) ≡ Some (word ∷ words)
+plain_then : (word rest : List ℕ) (words : List (List ℕ)) → is_plain word ≡ true → words_from (begins_piece 97).0 rest ≡ Some ([] ∷ words) → words_from (reads_between 32).0 (word ++ rest) ≡ Some (word ∷ words)
 plain_then [] rest words plain found = absurd cc
 plain_then (c ∷ cs) rest words plain found =
     let parts = and_parts (is_safe c) (list_all (λ d. is_safe d || ((c == 45) && (d == 61))) cs) plain in
     let is = of_safe c parts.0 in
-    reading Between c (cs ++ rest) Word (Gives (c ∷ [])) (cs ∷ words)
+    reading (reads_between 32).0 c (cs ++ rest) (begins_piece 97).0 (Gives (c ∷ [])) (cs ∷ words)
     (cond-false _ _ _ is.not_blank ∙ cond-false _ _ _ is.not_hash ∙ begins_bare c is.not_single is.not_double is.not_backslash)
     (plain_chars_then (c == 45) cs rest words parts.1 found)
 
 -- ---- words
 
-word_then : (word rest : List ℕ) (words : List (List ℕ)) → words_from Word rest ≡ Some ([] ∷ words) → words_from Between (quoted_word word ++ rest) ≡ Some (word ∷ words)
+word_then : (word rest : List ℕ) (words : List (List ℕ)) → words_from (begins_piece 97).0 rest ≡ Some ([] ∷ words) → words_from (reads_between 32).0 (quoted_word word ++ rest) ≡ Some (word ∷ words)
 word_then word rest words found =
     cond_both (is_plain word) word (single_quote ∷ (flat_map quoted_char word ++ single_quote ∷ []))
-    (λ text. words_from Between (text ++ rest) ≡ Some (word ∷ words))
+    (λ text. words_from (reads_between 32).0 (text ++ rest) ≡ Some (word ∷ words))
     (λ plain. plain_then word rest words plain found)
-    (λ not_plain. reading Between single_quote ((flat_map quoted_char word ++ single_quote ∷ []) ++ rest) SingleQuoted (Gives []) (word ∷ words) refl
-    (ap (words_from SingleQuoted) (append_assoc (flat_map quoted_char word) (single_quote ∷ []) rest) ∙ chars_then word rest words found))
+    (λ not_plain. reading (reads_between 32).0 single_quote ((flat_map quoted_char word ++ single_quote ∷ []) ++ rest) (begins_piece 39).0 (Gives []) (word ∷ words) refl
+    (ap (words_from (begins_piece 39).0) (append_assoc (flat_map quoted_char word) (single_quote ∷ []) rest) ∙ chars_then word rest words found))
 
-further_then : (words : List (List ℕ)) (rest : List ℕ) (more : List (List ℕ)) → words_from Word rest ≡ Some ([] ∷ more) → words_from Word (further words ++ rest) ≡ Some ([] ∷ (words ++ more))
+further_then : (words : List (List ℕ)) (rest : List ℕ) (more : List (List ℕ)) → words_from (begins_piece 97).0 rest ≡ Some ([] ∷ more) → words_from (begins_piece 97).0 (further words ++ rest) ≡ Some ([] ∷ (words ++ more))
 further_then [] rest more found = found
 further_then (word ∷ words) rest more found =
-    reading Word 32 ((quoted_word word ++ further words) ++ rest) Between EndsWord (word ∷ (words ++ more)) refl
-    (ap (words_from Between) (append_assoc (quoted_word word) (further words) rest)
+    reading (begins_piece 97).0 32 ((quoted_word word ++ further words) ++ rest) (reads_between 32).0 EndsWord (word ∷ (words ++ more)) refl
+    (ap (words_from (reads_between 32).0) (append_assoc (quoted_word word) (further words) rest)
     ∙ word_then word (further words ++ rest) (words ++ more) (further_then words rest more found))
 
 -- quoted words, and a text behind them that ends the last one
-pub quoted_then : (word : List ℕ) (words : List (List ℕ)) (rest : List ℕ) (more : List (List ℕ)) → words_from Word rest ≡ Some ([] ∷ more) → words_from Between (quoted (word ∷ words) ++ rest) ≡ Some (word ∷ (words ++ more))
+pub quoted_then : (word : List ℕ) (words : List (List ℕ)) (rest : List ℕ) (more : List (List ℕ)) → words_from (begins_piece 97).0 rest ≡ Some ([] ∷ more) → words_from (reads_between 32).0 (quoted (word ∷ words) ++ rest) ≡ Some (word ∷ (words ++ more))
 quoted_then word words rest more found =
-    ap (words_from Between) (append_assoc (quoted_word word) (further words) rest)
+    ap (words_from (reads_between 32).0) (append_assoc (quoted_word word) (further words) rest)
     ∙ word_then word (further words ++ rest) (words ++ more) (further_then words rest more found)

@@ -42,17 +42,21 @@ scalars_words (word ∷ words) are =
 
 -- what is written of UTF-8 is UTF-8
 pub written_utf8 : (words : List (List ℕ)) → AllByRecursion IsUtf8 words → IsUtf8 (written words)
-written_utf8 words are = (quoted (map chars words), scalars_words words are, refl)
+written_utf8 words are = (quoted (map chars words), (scalars_words words are, refl))
 
 -- the characters of words that are written before a text
 pub written_chars : (words : List (List ℕ)) (rest : List ℕ) → AllByRecursion IsUtf8 words → chars (written words ++ rest) ≡ quoted (map chars words) ++ chars rest
 written_chars words rest are =
     chars-append (written words) rest (written_utf8 words are) ∙ ap (λ t. t ++ chars rest) (chars-encodes (quoted (map chars words)) (scalars_words words are))
 
+-- the characters of a text of ASCII
+pub plain_text : (cs : List ℕ) → scalars cs ≡ true → encode_utf8_all cs ≡ cs → chars cs ≡ cs
+plain_text cs are same = ap chars (sym same) ∙ chars-encodes cs are
+
 -- the characters of a text of ASCII before a text
 pub plain_chars : (cs rest : List ℕ) → scalars cs ≡ true → encode_utf8_all cs ≡ cs → chars (cs ++ rest) ≡ cs ++ chars rest
 plain_chars cs rest are same =
-    chars-append cs rest (cs, are, same) ∙ ap (λ t. t ++ chars rest) (ap chars (sym same) ∙ chars-encodes cs are)
+    chars-append cs rest (cs, (are, same)) ∙ ap (λ t. t ++ chars rest) (plain_text cs are same)
 
 -- words are spelled by their characters
 pub spelled_words : (words : List (List ℕ)) → AllByRecursion IsUtf8 words → map encode_utf8_all (map chars words) ≡ words
@@ -61,11 +65,7 @@ spelled_words (word ∷ words) are = cc (encodes-chars word are.0, spelled_words
 
 -- assignments of UTF-8 are UTF-8
 pub assignments_utf8 : (variables : List (List ℕ × List ℕ)) → AllByRecursion (λ p. IsUtf8 p.0 × IsUtf8 p.1) variables → AllByRecursion IsUtf8 (map assignment variables)
+unfolding lib.Utf8.encode
 assignments_utf8 [] are = tt
 assignments_utf8 (p ∷ variables) are =
-    (IsUtf8-append p.0 (61 ∷ p.1) are.0.0 (IsUtf8-append (61 ∷ []) p.1 (61 ∷ [], refl, refl) are.0.1), assignments_utf8 variables are.1)
-
--- what holds of all of two lists holds of all of both
-pub all_of_both : (xs ys : List (List ℕ)) → AllByRecursion IsUtf8 xs → AllByRecursion IsUtf8 ys → AllByRecursion IsUtf8 (xs ++ ys)
-all_of_both [] ys first second = second
-all_of_both (x ∷ xs) ys first second = (first.0, all_of_both xs ys first.1 second)
+    (IsUtf8-append p.0 (61 ∷ p.1) are.0.0 (IsUtf8-append (61 ∷ []) p.1 (61 ∷ [], (refl, refl)) are.0.1), assignments_utf8 variables are.1)

@@ -1,6 +1,6 @@
 //! The text of a command, as a shell runs it.
 
-ghost use Rattle.std.specs.Prelude.{◌≡◌, ◌++◌, ◌∷◌, [], IfOk, OnOk, map, string_bytes};
+ghost use Rattle.std.specs.Prelude.{◌≡◌, ◌++◌, ◌∷◌, [], IfOk, OnOk, map, codes, string_bytes};
 ghost use Rattle.texts.specs.Variables.{pair_of};
 ghost use Rattle.plan_exports.specs.CommandText as spec;
 
@@ -65,15 +65,16 @@ fn push_env(
     push_words(alloc, text, "env", variables.as_slice())
 }
 
-// Adds a command's program and words.
+// Adds a command's program and words, and what ends its text.
 fn push_run(
     alloc: Global,
     text: &mut String,
     command: &NvccGeneratedSubcommand,
 ) -> Result<(), AllocError>
-    ensures { OnOk result (string_bytes text.new ≡ string_bytes text.old ++ spec.written (command.now.exe ∷ command.now.args)) }
+    ensures { OnOk result (string_bytes text.new ≡ string_bytes text.old ++ (spec.written (command.now.exe ∷ command.now.args) ++ codes " )")) }
 {
-    push_words(alloc, text, command.exe.as_str(), command.args.as_slice())
+    push_words(alloc, text, command.exe.as_str(), command.args.as_slice())?;
+    text.push_str(" )")
 }
 
 // Adds a command's text, with a launcher's text in front of its program.
@@ -91,6 +92,5 @@ pub fn push_command(
     push_env(alloc, text, command)?;
     text.push_str(" ")?;
     text.push_str(launcher)?;
-    push_run(alloc, text, command)?;
-    text.push_str(" )")
+    push_run(alloc, text, command)
 }

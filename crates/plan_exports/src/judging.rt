@@ -128,10 +128,7 @@ fn judge_group(form: Form, group: &[NvccGeneratedSubcommand]) -> Result<(), Refu
 }
 
 // The first refusal of the commands of groups.
-pub fn judge_groups(
-    form: Form,
-    groups: &[Vec<NvccGeneratedSubcommand>],
-) -> Result<(), Refusal>
+pub fn judge_groups(form: Form, groups: &[Vec<NvccGeneratedSubcommand>]) -> Result<(), Refusal>
     ensures { result ≡ spec.judged_groups form (map vec_items groups.now) }
 {
     for group in groups {
