@@ -9,7 +9,7 @@ use Rattle.shell_words.specs.Shell.{backslash, single_quote}
 use Rattle.shell_words.specs.Shell.Quoting.{is_plain, quoted_char, quoted_word, further, quoted}
 use Rattle.plan_exports.specs.CommandText.{written, assignment}
 
-scalars_append : (xs ys : List ℕ) → scalars xs ≡ true → scalars ys ≡ true → scalars (xs ++ ys) ≡ true
+pub scalars_append : (xs ys : List ℕ) → scalars xs ≡ true → scalars ys ≡ true → scalars (xs ++ ys) ≡ true
 scalars_append [] ys first second = second
 scalars_append (c ∷ xs) ys first second =
     let parts = and_parts _ (scalars xs) first in

@@ -20,14 +20,14 @@ fn holds(form: Form, byte: u8) -> bool
 }
 
 // Whether a form can hold the bytes of a text.
-fn holds_text(form: Form, text: &[u8]) -> bool
+pub fn holds_text(form: Form, text: &[u8]) -> bool
     ensures { result ≡ spec.holds_text form text.now }
 {
     text.iter().all(|byte| holds(form, *byte))
 }
 
 // Whether a form can hold all words.
-fn holds_words(form: Form, words: &[String]) -> bool
+pub fn holds_words(form: Form, words: &[String]) -> bool
     ensures { result ≡ list_all (spec.holds_text form) (map string_bytes words.now) }
 {
     for word in words {

@@ -4,8 +4,10 @@
 mod command;
 mod judging;
 pub mod laws;
+mod ninja;
 mod refusal;
 mod shell;
 
+pub use ninja::ninja_file;
 pub use refusal::Refusal;
 pub use shell::shell_script;
