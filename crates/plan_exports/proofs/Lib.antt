@@ -1,0 +1,7 @@
+pub mod EscapedLemmas
+pub mod Numerals
+pub mod Pushing
+pub mod QuotedLemmas
+pub mod ReadBackLemmas
+pub mod TextLemmas
+pub mod ValueLemmas

@@ -1,0 +1,14 @@
+use Rattle.std.proofs.Common.{◌+◌, ◌++◌, string_bytes, drop, sym, ap, ◌∙◌}
+use Rattle.std.specs.List.{flat_map}
+use Rattle.plan_exports.specs.Graph.{comment}
+use Rattle.plan_exports.proofs.Pushing.{pushed, next-left}
+use Rattle.plan_exports.proofs.ninja.push_comments.Goals as goal
+
+pub loop-command-preserved : goal.loop-command-preserved
+loop-command-preserved c =
+    let commands = c.args.dropped.now in
+    let i = c.loop-command.command-index in
+    let before = string_bytes c.loop-command.text in
+    pushed before (comment c.command-item.result) (string_bytes c.push_comment.new.text) (flat_map comment (drop (i + 1) commands)) c.in_ok-push_comment.ensures
+    ∙ ap (λ cs. before ++ flat_map comment cs) (sym (next-left commands i c.command-item.result c.loop-command-test.true c.command-item.is))
+    ∙ c.loop-command.invariant

@@ -1,0 +1,7 @@
+pub mod Answers
+pub mod CommandText
+pub mod Graph
+pub mod Judging
+pub mod ReadBack
+pub mod ReadValue
+pub mod Script

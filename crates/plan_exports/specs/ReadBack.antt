@@ -1,0 +1,26 @@
+-- A shell reads a command's text as the command's words, and a script as those of all its commands.
+use Rattle.std.specs.Prelude.{◌≡◌, ℕ, List, [], ◌∷◌, ◌++◌, Some, codes}
+use Rattle.std.specs.List.{AllByRecursion, flat_map}
+use Rattle.std.specs.Str.{IsUtf8}
+use Rattle.shell_words.specs.Shell.Splitting.{shell_words}
+use Rattle.command_groups.specs.declared.plan.NvccGeneratedSubcommand.{NvccGeneratedSubcommand}
+use Rattle.command_groups.specs.declared.plan.Plan.{Plan}
+use Rattle.plan_exports.specs.CommandText.{command_text, command_words}
+use Rattle.plan_exports.specs.Script.{script}
+
+-- all that a command says is UTF-8, as it is of each record of the program's
+pub record IsOfTexts (c : NvccGeneratedSubcommand) : Type 0 where
+  pub cwd : IsUtf8 c.cwd
+  pub variables : AllByRecursion (λ p. IsUtf8 p.0 × IsUtf8 p.1) c.env_vars
+  pub exe : IsUtf8 c.exe
+  pub args : AllByRecursion IsUtf8 c.args
+
+-- the words of a command's text are the command's
+abbrev pub CommandsReadBack : Type 0
+CommandsReadBack = (c : NvccGeneratedSubcommand) → IsOfTexts c → shell_words (command_text [] c) ≡ Some (command_words c)
+
+-- the words of a script are those of `set -e` and then of each command, in order
+abbrev pub ScriptsReadBack : Type 0
+ScriptsReadBack =
+    (plan : Plan) → AllByRecursion (AllByRecursion IsOfTexts) plan.groups →
+    shell_words (script plan) ≡ Some (codes "set" ∷ codes "-e" ∷ flat_map (flat_map command_words) plan.groups)

@@ -1,0 +1,16 @@
+//! What holds of every plan that is written.
+
+ghost use Rattle.plan_exports.specs.ReadBack.{CommandsReadBack, ScriptsReadBack};
+ghost use Rattle.plan_exports.specs.ReadValue.{ValuesReadBack};
+
+/// A shell reads what is written as the words that it was written of: each command's text, and the whole
+/// script, so that no command, no word and no variable of a plan is left out.
+pub fn read_back()
+    ensures commands { CommandsReadBack }
+    ensures scripts { ScriptsReadBack }
+{}
+
+/// Ninja reads each value as the text that it was written of.
+pub fn values_read_back()
+    ensures { ValuesReadBack }
+{}

@@ -1,0 +1,398 @@
+//! A plan as a file for Ninja.
+
+ghost use Rattle.std.specs.Prelude.{◌≡◌, ◌++◌, IfOk, OnOk, map, encode_utf8_all, string_bytes, vec_items};
+ghost use Rattle.std.specs.List.{flat_map, list_all};
+ghost use Rattle.texts.specs.Numeral.{numeral};
+ghost use Rattle.plan_exports.specs.Answers.{Answers};
+ghost use Rattle.plan_exports.specs.Graph as spec;
+
+use crate::command::{push_command, push_words};
+use crate::judging::{holds_text, holds_words, judge_groups};
+use crate::refusal::{Form, Refusal};
+use command_groups::{Dropped, NvccGeneratedSubcommand, Plan, Reason};
+use cuda_below::command::Cacheable;
+use std::alloc::{AllocError, Global};
+
+// Adds a character of a value: `$` is written twice.
+fn push_char(text: &mut String, c: char) -> Result<(), AllocError>
+    ensures { OnOk result (string_bytes text.new ≡ string_bytes text.old ++ encode_utf8_all (spec.escaped_char c)) }
+{
+    if c == '$' {
+        text.push_str("$$")
+    } else {
+        text.push(c)
+    }
+}
+
+// Adds a text as the value of a variable.
+fn push_escaped(text: &mut String, value: &str) -> Result<(), AllocError>
+    ensures { OnOk result (string_bytes text.new ≡ string_bytes text.old ++ spec.escaped value.now) }
+{
+    for c in value.chars() {
+        push_char(text, c)?;
+    }
+    Ok(())
+}
+
+// A number in decimal digits.
+fn number_text(alloc: Global, number: usize) -> Result<String, AllocError>
+    ensures { IfOk result (λ text. string_bytes text ≡ numeral number) }
+{
+    format!(in alloc; "{number}")
+}
+
+// Adds a number in decimal digits.
+fn push_number(alloc: Global, text: &mut String, number: usize) -> Result<(), AllocError>
+    ensures { OnOk result (string_bytes text.new ≡ string_bytes text.old ++ numeral number) }
+{
+    text.push_str(number_text(alloc, number)?.as_str())
+}
+
+// Adds the name of a stamp.
+fn push_stamp(
+    alloc: Global,
+    text: &mut String,
+    group: usize,
+    place: usize,
+) -> Result<(), AllocError>
+    ensures { OnOk result (string_bytes text.new ≡ string_bytes text.old ++ spec.stamp group place) }
+{
+    text.push_str("zigrunk.")?;
+    push_number(alloc, text, group)?;
+    text.push_str(".")?;
+    push_number(alloc, text, place)
+}
+
+// Adds a blank and a stamp below the folder of temporary files.
+fn push_stamp_below(
+    alloc: Global,
+    text: &mut String,
+    group: usize,
+    place: usize,
+) -> Result<(), AllocError>
+    ensures { OnOk result (string_bytes text.new ≡ string_bytes text.old ++ spec.stamp_below group place) }
+{
+    text.push_str(" ${tmp}/")?;
+    push_stamp(alloc, text, group, place)
+}
+
+// The path of a stamp.
+fn stamp_path(alloc: Global, tmp: &str, group: usize, place: usize) -> Result<String, AllocError>
+    ensures { IfOk result (λ path. string_bytes path ≡ spec.stamp_path tmp.now group place) }
+{
+    let mut path = String::from_str(alloc, tmp)?;
+    path.push_str("/")?;
+    push_stamp(alloc, &mut path, group, place)?;
+    Ok(path)
+}
+
+// What stands in front of a program.
+fn launcher(cacheable: Cacheable) -> &'static str
+    ensures { result.now ≡ spec.launcher cacheable }
+{
+    match cacheable {
+        Cacheable::Yes => "${ZIGRUNK_LAUNCHER-} ",
+        Cacheable::No => "",
+    }
+}
+
+// Adds that a stamp is touched.
+fn push_touch(
+    alloc: Global,
+    text: &mut String,
+    tmp: &str,
+    group: usize,
+    place: usize,
+) -> Result<(), AllocError>
+    ensures { OnOk result (string_bytes text.new ≡ string_bytes text.old ++ spec.touch tmp.now group place) }
+{
+    let path = stamp_path(alloc, tmp, group, place)?;
+    text.push_str(" && touch ")?;
+    push_words(alloc, text, path.as_str(), &[])
+}
+
+// What an edge runs.
+fn edge_command(
+    alloc: Global,
+    tmp: &str,
+    group: usize,
+    place: usize,
+    command: &NvccGeneratedSubcommand,
+) -> Result<String, AllocError>
+    ensures { IfOk result (λ text. string_bytes text ≡ spec.edge_command tmp.now group place command.now) }
+{
+    let mut text = String::new(alloc);
+    push_command(alloc, &mut text, launcher(command.cacheable), command)?;
+    push_touch(alloc, &mut text, tmp, group, place)?;
+    Ok(text)
+}
+
+// Adds the line of what an edge runs.
+fn push_edge_line(text: &mut String, command: &str) -> Result<(), AllocError>
+    ensures { OnOk result (string_bytes text.new ≡ string_bytes text.old ++ spec.edge_line command.now) }
+{
+    text.push_str("\n  line = ")?;
+    push_escaped(text, command)?;
+    text.push_str("\n")
+}
+
+// Adds what a command needs: the one before it in its group, and for the first what the group needs.
+fn push_needs(
+    alloc: Global,
+    text: &mut String,
+    group: usize,
+    place: usize,
+    first: &str,
+) -> Result<(), AllocError>
+    ensures { OnOk result (string_bytes text.new ≡ string_bytes text.old ++ spec.needs_at group place first.now) }
+{
+    if place == 0 {
+        text.push_str(first)
+    } else {
+        push_stamp_below(alloc, text, group, place - 1)
+    }
+}
+
+// Adds the edge of a command.
+fn push_edge(
+    alloc: Global,
+    text: &mut String,
+    tmp: &str,
+    group: usize,
+    place: usize,
+    first: &str,
+    command: &NvccGeneratedSubcommand,
+) -> Result<(), AllocError>
+    ensures { OnOk result (string_bytes text.new ≡ string_bytes text.old ++ spec.edge tmp.now group place (spec.needs_at group place first.now) command.now) }
+{
+    let line = edge_command(alloc, tmp, group, place, command)?;
+    text.push_str("build")?;
+    push_stamp_below(alloc, text, group, place)?;
+    text.push_str(": run")?;
+    push_needs(alloc, text, group, place, first)?;
+    push_edge_line(text, line.as_str())
+}
+
+// Adds the edges of a group's commands.
+fn push_edges(
+    alloc: Global,
+    text: &mut String,
+    tmp: &str,
+    group: usize,
+    first: &str,
+    commands: &[NvccGeneratedSubcommand],
+) -> Result<(), AllocError>
+    ensures { OnOk result (string_bytes text.new ≡ string_bytes text.old ++ spec.edges_from tmp.now group 0 first.now commands.now) }
+{
+    for (place, command) in commands.iter().enumerate() {
+        push_edge(alloc, text, tmp, group, place, first, command)?;
+    }
+    Ok(())
+}
+
+// Adds the stamp of a group's last command, if it has one.
+fn push_last_stamp(
+    alloc: Global,
+    text: &mut String,
+    group: usize,
+    commands: &[NvccGeneratedSubcommand],
+) -> Result<(), AllocError>
+    ensures { OnOk result (string_bytes text.new ≡ string_bytes text.old ++ spec.last_stamp group commands.now) }
+{
+    if commands.len() == 0 {
+        return Ok(());
+    }
+    push_stamp_below(alloc, text, group, commands.len() - 1)
+}
+
+// Adds the same for a group below a number.
+fn push_last_below(
+    alloc: Global,
+    text: &mut String,
+    below: usize,
+    group: usize,
+    commands: &[NvccGeneratedSubcommand],
+) -> Result<(), AllocError>
+    ensures { OnOk result (string_bytes text.new ≡ string_bytes text.old ++ spec.last_below below group commands.now) }
+{
+    if group < below {
+        push_last_stamp(alloc, text, group, commands)
+    } else {
+        Ok(())
+    }
+}
+
+// The last stamps of the groups below a number.
+fn last_stamps(
+    alloc: Global,
+    below: usize,
+    groups: &[Vec<NvccGeneratedSubcommand>],
+) -> Result<String, AllocError>
+    ensures { IfOk result (λ text. string_bytes text ≡ spec.last_stamps below 0 (map vec_items groups.now)) }
+{
+    let mut text = String::new(alloc);
+    for (group, commands) in groups.iter().enumerate() {
+        push_last_below(alloc, &mut text, below, group, commands.as_slice())?;
+    }
+    Ok(text)
+}
+
+// How many groups the first command of a group waits for.
+fn waits_for(count: usize, group: usize) -> usize
+    ensures { result ≡ spec.waits_for count group }
+{
+    if group == 0 {
+        0
+    } else if count.saturating_sub(group) == 1 {
+        group
+    } else {
+        1
+    }
+}
+
+// What a group needs.
+fn group_needs(
+    alloc: Global,
+    groups: &[Vec<NvccGeneratedSubcommand>],
+    group: usize,
+) -> Result<String, AllocError>
+    ensures { IfOk result (λ text. string_bytes text ≡ spec.group_needs (map vec_items groups.now) group) }
+{
+    last_stamps(alloc, waits_for(groups.len(), group), groups)
+}
+
+// Adds the edges of groups.
+fn push_groups(
+    alloc: Global,
+    text: &mut String,
+    tmp: &str,
+    groups: &[Vec<NvccGeneratedSubcommand>],
+) -> Result<(), AllocError>
+    ensures { OnOk result (string_bytes text.new ≡ string_bytes text.old ++ spec.group_edges tmp.now (map vec_items groups.now) 0 (map vec_items groups.now)) }
+{
+    for (group, commands) in groups.iter().enumerate() {
+        let first = group_needs(alloc, groups, group)?;
+        push_edges(alloc, text, tmp, group, first.as_str(), commands.as_slice())?;
+    }
+    Ok(())
+}
+
+// The name of a reason.
+fn reason_name(reason: Reason) -> &'static str
+    ensures { result.now ≡ spec.reason_name reason }
+{
+    match reason {
+        Reason::NotCuda => "NotCuda",
+        Reason::NoCiccGroup => "NoCiccGroup",
+        Reason::NoPtxasGroup => "NoPtxasGroup",
+        Reason::Superseded => "Superseded",
+    }
+}
+
+// Adds the reason and the words of a dropped command.
+fn push_comment_words(alloc: Global, text: &mut String, dropped: &Dropped) -> Result<(), AllocError>
+    ensures { OnOk result (string_bytes text.new ≡ string_bytes text.old ++ spec.comment_words dropped.now) }
+{
+    text.push_str(" ")?;
+    text.push_str(reason_name(dropped.reason))?;
+    text.push_str(" ")?;
+    push_words(alloc, text, dropped.exe.as_str(), dropped.args.as_slice())?;
+    text.push_str("\n")
+}
+
+// Adds a dropped command, as a comment.
+fn push_comment(alloc: Global, text: &mut String, dropped: &Dropped) -> Result<(), AllocError>
+    ensures { OnOk result (string_bytes text.new ≡ string_bytes text.old ++ spec.comment dropped.now) }
+{
+    text.push_str("# dropped line ")?;
+    push_number(alloc, text, dropped.line)?;
+    text.push_str(" run ")?;
+    push_number(alloc, text, dropped.run)?;
+    push_comment_words(alloc, text, dropped)
+}
+
+// Adds the dropped commands, as comments.
+fn push_comments(alloc: Global, text: &mut String, dropped: &[Dropped]) -> Result<(), AllocError>
+    ensures { OnOk result (string_bytes text.new ≡ string_bytes text.old ++ flat_map spec.comment dropped.now) }
+{
+    for command in dropped {
+        push_comment(alloc, text, command)?;
+    }
+    Ok(())
+}
+
+// The lines behind the folder's.
+fn rule() -> &'static str
+    ensures { result.now ≡ spec.rule }
+{
+    "\nbuilddir = ${tmp}\nrule run\n  command = ${line}\n"
+}
+
+// Adds the first lines.
+fn push_head(text: &mut String, tmp: &str) -> Result<(), AllocError>
+    ensures { OnOk result (string_bytes text.new ≡ string_bytes text.old ++ spec.head tmp.now) }
+{
+    text.push_str("tmp = ")?;
+    push_escaped(text, tmp)?;
+    text.push_str(rule())
+}
+
+// The file of a plan.
+fn graph(alloc: Global, tmp: &str, plan: &Plan) -> Result<String, AllocError>
+    ensures { IfOk result (λ text. string_bytes text ≡ spec.graph tmp.now plan.now) }
+{
+    let mut text = String::new(alloc);
+    push_head(&mut text, tmp)?;
+    push_groups(alloc, &mut text, tmp, plan.groups.as_slice())?;
+    push_comments(alloc, &mut text, plan.dropped.as_slice())?;
+    Ok(text)
+}
+
+// Whether a comment can hold a dropped command.
+fn holds_dropped(dropped: &Dropped) -> bool
+    ensures { result ≡ spec.holds_dropped dropped.now }
+{
+    holds_text(Form::Ninja, dropped.exe.as_bytes())
+        && holds_words(Form::Ninja, dropped.args.as_slice())
+}
+
+// Whether comments can hold the dropped commands.
+fn hold_all_dropped(dropped: &[Dropped]) -> bool
+    ensures { result ≡ list_all spec.holds_dropped dropped.now }
+{
+    for command in dropped {
+        if !holds_dropped(command) {
+            return false;
+        }
+    }
+    true
+}
+
+// Why a file can't hold the folder of temporary files or the dropped commands.
+fn judge_rest(tmp: &str, dropped: &[Dropped]) -> Result<(), Refusal>
+    ensures { result ≡ spec.judged_rest tmp.now dropped.now }
+{
+    if holds_text(Form::Ninja, tmp.as_bytes()) && hold_all_dropped(dropped) {
+        Ok(())
+    } else {
+        Err(Refusal::Unheld)
+    }
+}
+
+/// A plan as a file for Ninja: an edge for each command, which runs it and then touches its stamp, a
+/// file below `tmp`. A command needs the one before it in its group. The first of a device group needs
+/// the front group's last, and the first of the final group the last of each group before it; a group
+/// without commands is needed by none. In front of a program whose outputs may come from a cache stands
+/// what the variable `ZIGRUNK_LAUNCHER` says when it runs, which may be nothing. Dropped commands stand
+/// behind the edges, as comments. `tmp` is to be an absolute path; Ninja's own files lie there too.
+///
+/// Refuses a text that no line of such a file can hold, one with a NUL, a newline or a carriage return
+/// (`Refusal::Unheld`): `tmp` and the dropped commands first, and then each command; and what
+/// [`shell_script`](crate::shell_script) refuses.
+pub fn ninja_file(alloc: Global, tmp: &str, plan: &Plan) -> Result<String, Refusal>
+    ensures { Answers result (spec.ninja_answer tmp.now plan.now) }
+{
+    judge_rest(tmp, plan.dropped.as_slice())?;
+    judge_groups(Form::Ninja, plan.groups.as_slice())?;
+    Ok(graph(alloc, tmp, plan)?)
+}
