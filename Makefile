@@ -12,10 +12,11 @@ help:
 	@echo 'make refused-memory   refuses each growth of memory of the worked rows in turn'
 	@echo 'make test             the whole gate; its last line is N passed, M failed'
 
-# The device-code line, read and written back.
+# The device-code line, read and written back, and the plan of two real dry runs.
 demo:
 	@echo 'This runs the program unproved, within a minute; make build proves and builds it.'
 	@cd crates/cudaplan && rt try -- line cicc /w --device-c -arch compute_80 --module_id_file_name kernel.module_id kernel.cpp1.ii --simt-only -o kernel.ptx
+	@cd crates/cudaplan && rt try --data one_target.dry1=data/one_target.dry1 --data one_target.dry2=data/one_target.dry2 -- plan /w /t -c one_target.dry1 one_target.dry2
 
 # Proves the program and builds it. rt builds a program only when it runs it, and leaves it in out/: so a short line is
 # run, and what it prints is thrown away.

@@ -6,12 +6,13 @@
 set -u
 cd "$(dirname "$0")/.."
 program=$(realpath "${1:-crates/cudaplan/out/cudaplan}")
+data=crates/cudaplan/data
 scratch=$(mktemp -d)
 trap 'rm -rf "$scratch"' EXIT
 passed=0
 failed=0
 
-readonly USAGE=$'usage: cudaplan line TOOL CWD WORD.. | plan CWD TMP FLAG DRY1 DRY2\n'
+readonly USAGE=$'usage: cudaplan line TOOL CWD WORD.. | plan CWD TMP FLAG DRY1 DRY2 SUFFIX..\n'
 readonly NO_COMPILATION=$'cudaplan: not a compilation\n'
 readonly CANNOT_WRITE=$'cudaplan: cannot write\n'
 
@@ -80,6 +81,101 @@ refused_lines() {
     check 'cudafe++ without an output' 1 '' $'cudaplan: Missing "cuda" file output\n' line cudafe++ /t x.cpp4.ii
 }
 
+# what the dry runs of real calls plan, each with its compilation flag
+good_plans() {
+    local file name plan
+    for file in "$data"/*.plan; do
+        name=${file%.plan}
+        plan=$(cat "$file"; printf .)
+        check "the plan of ${name##*/}" 0 "${plan%.}" '' plan /w /t "$(cat "$name.flag")" "$name.dry1" "$name.dry2"
+    done
+    : > "$scratch/none"
+    check 'empty dry runs' 0 $'group 0\ngroup 1\n' '' plan /w /t -c "$scratch/none" "$scratch/none"
+    lines_of steps '#$ PATH=/b' '#$ gcc -D__NVCC__ -E k.cu -o k.cpp1.ii' '#$ cicc --gen_device_file_name k.cudafe1.gpu k.cpp1.ii -o k.ptx'
+    plan=$(lines 'group 0' 'group 1' 'no cd /w && /b/gcc -D__NVCC__ -E k.cu -o x_0.cpp1.ii' \
+        'yes cd /t && /b/cicc --gen_device_file_name k.cudafe1.gpu x_0.cpp1.ii -o k.ptx' 'group 2')
+    check 'no further suffix' 0 "${plan%.}" '' plan /w /t -c "$scratch/steps" "$scratch/steps"
+    plan=$(lines 'group 0' 'group 1' 'no cd /w && /b/gcc -D__NVCC__ -E k.cu -o x_0.cpp1.ii' \
+        'yes cd /t && /b/cicc --gen_device_file_name x_0.cudafe1.gpu x_0.cpp1.ii -o k.ptx' 'group 2')
+    check 'a further suffix' 0 "${plan%.}" '' plan /w /t -c "$scratch/steps" "$scratch/steps" .cudafe1.gpu
+    lines_of foreign '#$ PATH=/b' '#$ "" x'
+    plan=$(lines 'group 0' 'group 1' 'dropped 1 run 2 NotCuda /b/ x')
+    check 'a dropped command' 0 "${plan%.}" '' plan /w /t -c "$scratch/foreign" "$scratch/foreign"
+}
+
+# plans NAME OUT LINE..: plans these lines behind one that sets PATH, as both runs. OUT ends in a mark behind its newline.
+plans() {
+    local name=$1 out=$2
+    shift 2
+    lines_of run '#$ PATH=/b' "$@"
+    check "$name" 0 "${out%.}" '' plan /w /t -c "$scratch/run" "$scratch/run"
+}
+
+# steps that open a group again, files that several commands read, and commands that find no group
+grouped_plans() {
+    local step='#$ gcc -D__NVCC__ -E k.cu -o k.cpp1.ii' cicc='#$ cicc k.cpp1.ii -o k.ptx'
+    local stepped='no cd /w && /b/gcc -D__NVCC__ -E k.cu -o x_0.cpp1.ii' compiled='yes cd /t && /b/cicc x_0.cpp1.ii -o k.ptx'
+    local lost_step='dropped 1 run 2 Superseded /b/gcc -D__NVCC__ -E k.cu -o x_0.cpp1.ii'
+    local lost_cicc='dropped 2 run 1 Superseded /b/cicc x_0.cpp1.ii -o k.ptx'
+    plans 'a group that is opened again' "$(lines 'group 0' 'group 1' "$stepped" "$compiled" 'group 2' "$lost_step" "$lost_cicc")" \
+        "$step" "$cicc" "$step" "$cicc"
+    plans 'two ptxas commands for one file' "$(lines 'group 0' 'group 1' "$stepped" "$compiled" 'yes cd /t && /b/ptxas k.ptx -o a.cubin' \
+        'yes cd /t && /b/ptxas k.ptx -o b.cubin' 'group 2')" "$step" "$cicc" '#$ ptxas k.ptx -o a.cubin' '#$ ptxas k.ptx -o b.cubin'
+    plans 'a ptxas command behind a superseded cicc' "$(lines 'group 0' 'group 1' "$stepped" 'group 2' "$lost_step" "$lost_cicc" \
+        'dropped 4 run 1 NoPtxasGroup /b/ptxas k.ptx -o a.cubin')" "$step" "$cicc" "$step" '#$ ptxas k.ptx -o a.cubin'
+    plans 'a step that names a PTX file' "$(lines 'group 0' 'group 1' "$stepped k.ptx" 'group 2' \
+        'dropped 2 run 1 NoPtxasGroup /b/ptxas k.ptx -o a.cubin')" "$step k.ptx" '#$ ptxas k.ptx -o a.cubin'
+    plans 'an output with a slash' "$(lines 'group 0' 'group 1' 'no cd /w && /b/gcc -D__NVCC__ -E k.cu -o k.cpp1.ii/' 'group 2' \
+        'dropped 2 run 1 NoCiccGroup /b/cicc x_0.cpp1.ii -o k.ptx')" "$step/" "$cicc"
+    plans 'a step without an output' "$(lines 'group 0' 'no cd /w && /b/gcc -D__NVCC__ -E k.cu -o' 'group 1')" '#$ gcc -D__NVCC__ -E k.cu -o'
+}
+
+# a thousand host compilers, in order
+long_plan() {
+    local commands=() want=('group 0' 'group 1') number
+    for number in {1..1000}; do
+        commands+=("#\$ gcc -D__NVCC__ -c $number.cpp")
+        want+=("yes cd /w && /b/gcc -D__NVCC__ -c $number.cpp")
+    done
+    plans 'a thousand commands' "$(lines "${want[@]}")" "${commands[@]}"
+}
+
+# lines_of FILE LINE..: writes lines to a file of the scratch folder.
+lines_of() {
+    local file=$1
+    shift
+    printf '%s\n' "$@" > "$scratch/$file"
+}
+
+# files that can't be read, suffixes that aren't taken, and dry runs that are bad; the files are read first, then the
+# suffixes are judged, and the first run's refusal comes before that of the second
+refused_plans() {
+    local good=$data/one_target.dry1 unread=$'cudaplan: cannot read input\n' suffix
+    : > "$scratch/none"
+    check 'no first file' 1 '' "$unread" plan /w /t -c "$scratch/missing" "$good"
+    check 'no second file' 1 '' "$unread" plan /w /t -c "$good" "$scratch/missing"
+    check 'a folder as first file' 1 '' "$unread" plan /w /t -c "$scratch" "$good"
+    check 'a folder as second file' 1 '' "$unread" plan /w /t -c "$good" "$scratch"
+    check 'a file without a name' 1 '' "$unread" plan /w /t -c '' "$good"
+    for suffix in .ii .cpp1.ii '' .a/b gpu .x.; do
+        check "suffix '$suffix'" 1 '' $'cudaplan: bad generated suffixes\n' plan /w /t -c "$good" "$good" "$suffix"
+    done
+    check 'two suffixes that overlap' 1 '' $'cudaplan: bad generated suffixes\n' plan /w /t -c "$good" "$good" .gpu .cudafe1.gpu
+    lines_of pathless '#$ gcc'
+    lines_of quoted '#$ gcc "a'
+    lines_of comment '#$ # note'
+    lines_of lost '#$ PATH=' '#$ gcc'
+    printf 'x\n\xff\n' > "$scratch/bytes"
+    check 'no PATH in the first run' 1 '' $'cudaplan: run 1 line 0: no PATH\n' plan /w /t -c "$scratch/pathless" "$scratch/pathless"
+    check 'no PATH in the second run' 1 '' $'cudaplan: run 2 line 0: no PATH\n' plan /w /t -c "$scratch/none" "$scratch/pathless"
+    check 'an open quote' 1 '' $'cudaplan: Could not parse shell line\n' plan /w /t -c "$scratch/quoted" "$scratch/pathless"
+    check 'a command without words' 1 '' $'cudaplan: Could not split shell line\n' plan /w /t -c "$scratch/comment" "$scratch/none"
+    check 'a program that is not found' 1 '' $'cudaplan: gcc: not found\n' plan /w /t -c "$scratch/lost" "$scratch/none"
+    check 'a line that is not UTF-8' 1 '' $'cudaplan: run 1 line 1: not UTF-8\n' plan /w /t -c "$scratch/bytes" "$scratch/none"
+    check 'a missing file before a bad suffix' 1 '' "$unread" plan /w /t -c "$scratch/pathless" "$scratch/missing" .ii
+    check 'a bad suffix before a bad run' 1 '' $'cudaplan: bad generated suffixes\n' plan /w /t -c "$scratch/pathless" "$scratch/none" .ii
+}
+
 # words that are no call
 other_calls() {
     check 'no words' 2 '' "$USAGE"
@@ -88,6 +184,8 @@ other_calls() {
     check 'line alone' 2 '' "$USAGE" line
     check 'line without a directory' 2 '' "$USAGE" line cicc
     check 'unknown tool' 2 '' "$USAGE" line gcc /w x
+    check 'plan with one file' 2 '' "$USAGE" plan /w /t -c "$data/one_target.dry1"
+    check 'plan alone' 2 '' "$USAGE" plan
     check 'a tool in capitals' 2 '' "$USAGE" line Cicc /w k.cpp1.ii -o k.ptx
     check 'a word that is not UTF-8' 2 '' "$USAGE" line cicc /w k.cpp1.ii $'\xff' -o k.ptx
     check 'a last word that is not UTF-8' 2 '' "$USAGE" line cicc /w k.cpp1.ii -o k.ptx $'\xc3'
@@ -128,6 +226,10 @@ closed_streams() {
     echo $? > "$scratch/status"
     judge 'a closed standard output' 1 '' "$CANNOT_WRITE"
 
+    "$program" plan /w /t -c "$data/one_target.dry1" "$data/one_target.dry2" > /dev/full 2> "$scratch/err"
+    echo $? > "$scratch/status"
+    judge 'a plan to a full disk' 1 '' "$CANNOT_WRITE"
+
     "$program" "${call[@]}" > /dev/full 2> /dev/full
     echo $? > "$scratch/status"
     : > "$scratch/err"
@@ -145,6 +247,10 @@ closed_streams() {
 
 good_lines
 refused_lines
+good_plans
+grouped_plans
+long_plan
+refused_plans
 other_calls
 long_lines
 closed_streams

@@ -1,4 +1,4 @@
--- A renamed word has the head and the class that it had, so a run and its canonical run are alike.
+-- A renamed word has the head and the class that it had, so the same is told of a run and of its canonical run.
 use Rattle.std.proofs.Common.{◌≡◌, ℕ, ◌++◌, ◌&&◌, Bool, true, false, cond, eqb, List, [], ◌∷◌, Option, Some, None, map, refl, ap, sym, ◌∙◌, nat_eq, codes}
 use Rattle.std.specs.List.{All, starts_with}
 use Rattle.std.proofs.lemmas.List.Elements.{All-nil, All-contains}
@@ -6,14 +6,12 @@ use Rattle.texts.specs.Path.{folder_of, separator_after}
 use Rattle.texts.proofs.PathLaw.{folder-begins}
 use Rattle.dry_runs.specs.CommandLines.{CommandLine, line_of, program_of, words_of_command}
 use Rattle.canonical_names.specs.Generated.{head_of, core_of, class_of, class_of_name, begins_with_dash, is_file_mark}
-use Rattle.canonical_names.specs.Renaming.{canonical_in, canonical_name, rank, names_of_run, renamed}
+use Rattle.canonical_names.specs.Renaming.{canonical_in, canonical_name, rank, names_of_run}
 use Rattle.texts.specs.Numeral.{numeral}
 use Rattle.canonical_names.specs.Alike.{core_through, word_through, command_through, IsRenaming}
-use Rattle.canonical_names.specs.CanonicalNames.{AreSuffixes, core_by_all, word_by_all, command_by_all, RenamedOnceForAll}
+use Rattle.canonical_names.specs.CanonicalNames.{AreSuffixes, core_by_all, word_by_all, command_by_all}
 use Rattle.canonical_names.proofs.CanonicalLemmas.{HasClass, run-all, canonical-at, different-names, folder_and_class-stay}
 use Rattle.canonical_names.proofs.RankLemmas.{eqb-turned}
-use Rattle.canonical_names.proofs.CleanLemmas.{clean-run_is_a_map}
-use Rattle.canonical_names.proofs.AlikeLemmas.{alike-runs_agree}
 
 -- a text has no mark where it doesn't begin with `-Fi`
 record Unmarked (text : List ℕ) : Type 0 where
@@ -90,7 +88,7 @@ module _ (suffixes : List (List ℕ)) (lawful : AreSuffixes suffixes) (names : L
   not-dash word class true e h = cc
   not-dash word class false e h = (e, h)
 
-  told-word : (word : List ℕ) (o : Option (List ℕ)) → class_of suffixes word ≡ o → word_through suffixes (canonical_name suffixes names) word ≡ word_through suffixes (λ n. n) (head_of word ++ core_by_all names (core_of word) o)
+  pub told-word : (word : List ℕ) (o : Option (List ℕ)) → class_of suffixes word ≡ o → word_through suffixes (canonical_name suffixes names) word ≡ word_through suffixes (λ n. n) (head_of word ++ core_by_all names (core_of word) o)
   told-word word None e =
       told-by suffixes (canonical_name suffixes names) word (core_of word) (core-unmarked word) refl (ap (core_through (canonical_name suffixes names) (core_of word)) e)
   told-word word (Some class) e =
@@ -124,10 +122,3 @@ canonical-renaming suffixes lawful commands =
       keeps_folder = λ n h. let class = All-contains (HasClass suffixes) names n classes h in (folder_and_class-stay suffixes lawful names n class.0 class.1).0;
       keeps_class = λ n h. let class = All-contains (HasClass suffixes) names n classes h in (folder_and_class-stay suffixes lawful names n class.0 class.1).1 ∙ sym class.1;
     }
-
-pub renamed-once : RenamedOnceForAll
-renamed-once suffixes lawful commands one other =
-    let names = names_of_run suffixes commands in
-    let mapped : renamed suffixes commands ≡ map (command_by_all suffixes names) commands = clean-run_is_a_map suffixes commands one in
-    sym (alike-runs_agree suffixes lawful commands (renamed suffixes commands) one other
-    (canonical_name suffixes names, canonical-renaming suffixes lawful commands, told-run suffixes lawful names commands ∙ ap (map (command_through suffixes (λ n. n))) (sym mapped)))

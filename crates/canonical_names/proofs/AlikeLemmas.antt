@@ -26,16 +26,16 @@ abbrev pub Told : Type 0
 Told = ℕ × List ℕ × List ToldWord
 
 -- lists under a map
-map-append : {A B : Type 0} (f : A → B) (xs ys : List A) → map f (xs ++ ys) ≡ map f xs ++ map f ys
+pub map-append : {A B : Type 0} (f : A → B) (xs ys : List A) → map f (xs ++ ys) ≡ map f xs ++ map f ys
 map-append f [] ys = refl
 map-append f (x ∷ xs) ys = ap (λ t. f x ∷ t) (map-append f xs ys)
 
-map-same : {A : Type 0} (xs : List A) → map (λ x. x) xs ≡ xs
+pub map-same : {A : Type 0} (xs : List A) → map (λ x. x) xs ≡ xs
 map-same [] = refl
 map-same (x ∷ xs) = ap (λ t. x ∷ t) (map-same xs)
 
 -- tests that hold of the same
-same-tests : (a b : Bool) → (a ≡ true → b ≡ true) → (b ≡ true → a ≡ true) → a ≡ b
+pub same-tests : (a b : Bool) → (a ≡ true → b ≡ true) → (b ≡ true → a ≡ true) → a ≡ b
 same-tests true b h k = sym (h refl)
 same-tests false true h k = k refl
 same-tests false false h k = refl
@@ -91,13 +91,13 @@ module _ (suffixes : List (List ℕ)) (lawful : AreSuffixes suffixes) (names : L
       (λ e. subst (λ z. bytes_eq m z ≡ true) (renaming.one_to_one m n hm hn ((bytes_eq-Decides (f m) (f n)).0 e)) (bytes_eq-itself m))
       (λ e. subst (λ z. bytes_eq (f m) (f z) ≡ true) ((bytes_eq-Decides m n).0 e) (bytes_eq-itself (f m)))
 
-  any-mapped : (x : List ℕ) (part : List (List ℕ)) → Contains names x → ((n : List ℕ) → Contains part n → Contains names n) → list_any (bytes_eq (f x)) (map f part) ≡ list_any (bytes_eq x) part
+  pub any-mapped : (x : List ℕ) (part : List (List ℕ)) → Contains names x → ((n : List ℕ) → Contains part n → Contains names n) → list_any (bytes_eq (f x)) (map f part) ≡ list_any (bytes_eq x) part
   any-mapped x [] hx within = refl
   any-mapped x (n ∷ part) hx within =
       ap (λ b. b || list_any (bytes_eq (f x)) (map f part)) (bytes-mapped x n hx (within n (head-member n part)))
       ∙ ap (λ b. bytes_eq x n || b) (any-mapped x part hx (λ m h. within m (tail-member n part m h)))
 
-  add-mapped : (seen : List (List ℕ)) (x : List ℕ) → Contains names x → ((n : List ℕ) → Contains seen n → Contains names n) → add (map f seen) (f x) ≡ map f (add seen x)
+  pub add-mapped : (seen : List (List ℕ)) (x : List ℕ) → Contains names x → ((n : List ℕ) → Contains seen n → Contains names n) → add (map f seen) (f x) ≡ map f (add seen x)
   add-mapped seen x hx within =
       ap (λ b. cond b (map f seen) (map f seen ++ f x ∷ [])) (any-mapped x seen hx within)
       ∙ elim (list_any (bytes_eq x) seen) as (λ b. cond b (map f seen) (map f seen ++ f x ∷ []) ≡ map f (cond b seen (seen ++ x ∷ [])))
@@ -116,7 +116,7 @@ module _ (suffixes : List (List ℕ)) (lawful : AreSuffixes suffixes) (names : L
       ap (λ s. fold add s (map f xs)) (add-mapped seen x hx (within-all seen (x ∷ xs) all)) ∙ fold-mapped (add seen x) xs all
 
   -- ranks under the renaming
-  class-found : (class y : List ℕ) → Contains suffixes class → ends_with nat_eq y class ≡ true → class_of_name suffixes y ≡ Some class
+  pub class-found : (class y : List ℕ) → Contains suffixes class → ends_with nat_eq y class ≡ true → class_of_name suffixes y ≡ Some class
   class-found class y hc e =
       find-only (ends_with nat_eq y) suffixes class hc e
       (λ z among passes. two-ends suffixes lawful z class (take (length y - length z) y) (take (length y - length class) y) among hc (sym (ends-split y z passes) ∙ ends-split y class e))
@@ -127,7 +127,7 @@ module _ (suffixes : List (List ℕ)) (lawful : AreSuffixes suffixes) (names : L
       (λ e. (find-found (ends_with nat_eq x) suffixes class (sym (renaming.keeps_class x hx) ∙ class-found class (f x) hc e)).1)
       (λ e. (find-found (ends_with nat_eq (f x)) suffixes class (renaming.keeps_class x hx ∙ class-found class x hc e)).1)
 
-  rank-mapped : (class n : List ℕ) → Contains suffixes class → Contains names n → (part : List (List ℕ)) → ((m : List ℕ) → Contains part m → Contains names m) → rank class (map f part) (f n) ≡ rank class part n
+  pub rank-mapped : (class n : List ℕ) → Contains suffixes class → Contains names n → (part : List (List ℕ)) → ((m : List ℕ) → Contains part m → Contains names m) → rank class (map f part) (f n) ≡ rank class part n
   rank-mapped class n hc hn [] within = refl
   rank-mapped class n hc hn (x ∷ part) within =
       let hx = within x (head-member x part) in

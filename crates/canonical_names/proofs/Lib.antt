@@ -3,6 +3,7 @@ pub mod AgreeLemmas
 pub mod AlikeLemmas
 pub mod CanonicalLemmas
 pub mod CleanLemmas
+pub mod OnceLemmas
 pub mod RankLemmas
 pub mod RewriteLemmas
 pub mod SuffixLemmas
@@ -13,3 +14,4 @@ pub mod ReferenceLemmas
 pub mod AppearanceLemmas
 pub mod PlaceLemmas
 pub mod RemapLemmas
+pub mod LongestLemmas

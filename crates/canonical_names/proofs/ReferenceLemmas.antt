@@ -1,46 +1,19 @@
 -- References in the order of their lengths, and what they make of a text.
-use Rattle.std.proofs.Common.{◌≡◌, ℕ, suc, zero, ◌+◌, ◌-◌, ◌<◌, ◌≤◌, ◌&&◌, ◌||◌, ◌++◌, Bool, true, false, cond, List, [], ◌∷◌, Option, Some, None, is_some, map, refl, ap, sym, ◌∙◌, subst, nat_eq, nat_lt, length, fold, take, drop, arith, append_assoc, get_or, inl, inr}
-use Rattle.std.specs.List.{list_any, list_all, ends_with, insert, AllByRecursion, Contains}
-use Rattle.std.proofs.lemmas.Bool.{false≢true, and_parts, lt-ltb, ltb-true, cases_lt}
-use Rattle.std.proofs.lemmas.List.{length-append, get_or_default}
+use Rattle.std.proofs.Common.{◌≡◌, ℕ, ◌+◌, ◌-◌, ◌<◌, ◌||◌, ◌++◌, true, false, cond, List, [], ◌∷◌, Option, Some, None, is_some, map, refl, ap, sym, ◌∙◌, subst, nat_eq, nat_lt, length, fold, take, arith, append_assoc}
+use Rattle.std.specs.List.{list_any, list_all, ends_with, AllByRecursion, Contains}
+use Rattle.std.proofs.lemmas.Bool.{false≢true, and_parts}
+use Rattle.std.proofs.lemmas.List.{length-append}
 use Rattle.dry_runs.specs.Replacing.{replaced}
 use Rattle.canonical_names.specs.Alike.{holds}
 use Rattle.canonical_names.specs.Counted.{has_class, with_canonical}
 use Rattle.canonical_names.specs.Generated.{class_of_name}
 use Rattle.canonical_names.specs.Renaming.{insert_by_length, longest_first, canonical_name, rewritten}
-use Rattle.canonical_names.specs.References.{replaced_by, replaced_by_all, insert_pair, longest_pairs_first, AreAsLong}
-use Rattle.canonical_names.specs.declared.references.Reference.{Reference}
+use Rattle.canonical_names.specs.References.{replaced_by_all, insert_pair, longest_pairs_first}
 use Rattle.canonical_names.specs.SuffixRule.{is_suffix, are_suffixes}
 use Rattle.canonical_names.proofs.CanonicalLemmas.{find-found, ends-split}
 use Rattle.canonical_names.proofs.ReplaceLemmas.{holds-split, holds-within}
 use Rattle.canonical_names.proofs.RewriteLemmas.{none-each, fold-each, fold-none}
 use Rattle.canonical_names.proofs.SuffixLemmas.{each-member, each-suffix, none-member}
-
--- what is inserted at its place
-pub inserted-at : {X : Type 0} (f : X → List ℕ × List ℕ) (xs : List X) (x : X) (n : ℕ) → n ≤ length xs → ((k : ℕ) (d : X) → k < n → length (f x).0 ≤ length (f (get_or xs k d)).0) →
-    ((d : X) → n < length xs → length (f (get_or xs n d)).0 < length (f x).0) → map f (insert xs n x) ≡ insert_pair (map f xs) (f x)
-inserted-at f [] x zero within before behind = refl
-inserted-at f [] x (suc n) within before behind = absurd (omega (arith, within))
-inserted-at f (y ∷ xs) x zero within before behind =
-    sym (ap (λ b. cond b (f x ∷ f y ∷ map f xs) (f y ∷ insert_pair (map f xs) (f x))) (lt-ltb (length (f y).0) (length (f x).0) (behind y (omega arith))))
-inserted-at f (y ∷ xs) x (suc n) within before behind =
-    let here : length (f x).0 ≤ length (f y).0 = before 0 y (omega arith) in
-    let not_here : nat_lt (length (f y).0) (length (f x).0) ≡ false = elim (nat_lt (length (f y).0) (length (f x).0)) as (λ b. nat_lt (length (f y).0) (length (f x).0) ≡ b → b ≡ false) [
-      | true ↦ λ e. absurd (let lt = ltb-true (length (f y).0) (length (f x).0) e in omega (arith, lt, here))
-      | false ↦ λ _. refl
-    ] refl in
-    ap (λ ps. f y ∷ ps) (inserted-at f xs x n (omega (arith, within)) (λ k d lt. before (suc k) d (omega (arith, lt))) (λ d lt. behind d (omega (arith, lt))))
-    ∙ sym (ap (λ b. cond b (f x ∷ f y ∷ map f xs) (f y ∷ insert_pair (map f xs) (f x))) not_here)
-
--- one more reference is as long
-pub as-long-here : (references : List Reference) (i bytes : ℕ) → AreAsLong references i bytes → i < length references → (e : Reference) → bytes ≤ length (get_or references i e).name.now → AreAsLong references (i + 1) bytes
-as-long-here references i bytes before within e here k d lt =
-    elim (cases_lt k i) as (λ _. bytes ≤ length (get_or references k d).name.now) [
-      | inl less ↦ before k d less
-      | inr more ↦
-          let is : i ≡ k = omega (arith, lt, more) in
-          subst (λ j. bytes ≤ length (get_or references j d).name.now) is (subst (λ (r : Reference). bytes ≤ length r.name.now) (get_or_default references i e d within) here)
-    ]
 
 -- pairs of names and what they became are in the order of the names
 module _ (f : List ℕ → List ℕ) where

@@ -78,11 +78,11 @@ AlikeRunsAgree =
     (suffixes : List (List ℕ)) → AreSuffixes suffixes → (first second : List CommandLine) →
     is_clean suffixes first ≡ true → is_clean suffixes second ≡ true → Alike suffixes first second → renamed suffixes first ≡ renamed suffixes second
 
--- a clean run whose canonical run is clean too is renamed once for all
+-- a clean run is renamed once for all: the canonical run of its canonical run is that run
 abbrev pub RenamedOnceForAll : Type 0
 RenamedOnceForAll =
     (suffixes : List (List ℕ)) → AreSuffixes suffixes → (commands : List CommandLine) →
-    is_clean suffixes commands ≡ true → is_clean suffixes (renamed suffixes commands) ≡ true → renamed suffixes (renamed suffixes commands) ≡ renamed suffixes commands
+    is_clean suffixes commands ≡ true → renamed suffixes (renamed suffixes commands) ≡ renamed suffixes commands
 
 -- clean runs that have one canonical run are alike
 abbrev pub OneCanonicalRun : Type 0

@@ -1,5 +1,5 @@
 -- References to generated names within words.
-use Rattle.std.specs.Prelude.{ℕ, ◌<◌, ◌≤◌, List, [], ◌∷◌, nat_lt, fold, length, if◌then◌else◌, slice_index_or}
+use Rattle.std.specs.Prelude.{ℕ, List, [], ◌∷◌, nat_lt, fold, length, if◌then◌else◌}
 use Rattle.dry_runs.specs.Replacing.{replaced}
 use Rattle.canonical_names.specs.declared.references.Reference.{Reference}
 
@@ -22,11 +22,3 @@ insert_pair (q ∷ qs) p = if nat_lt (length q.0) (length p.0) then p ∷ q ∷ 
 -- pairs, those of the longest names first
 abbrev pub longest_pairs_first : List (List ℕ × List ℕ) → List (List ℕ × List ℕ)
 longest_pairs_first pairs = fold insert_pair [] pairs
-
--- the references before a place have names of at least so many bytes
-abbrev pub AreAsLong : List Reference → ℕ → ℕ → Type 0
-AreAsLong references n bytes = (k : ℕ) (d : Reference) → k < n → bytes ≤ length (slice_index_or references k d).name.now
-
--- the reference at a place, where there is one, has a name of fewer bytes
-abbrev pub IsShorter : List Reference → ℕ → ℕ → Type 0
-IsShorter references n bytes = (d : Reference) → n < length references → length (slice_index_or references n d).name.now < bytes

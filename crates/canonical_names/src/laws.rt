@@ -53,25 +53,26 @@ pub fn worked_likeness()
 /// What holds of the canonical names of every run, for every list of suffixes of which none is an
 /// end of another and none holds `/`, as those of nvcc (`standard`).
 ///
-/// Different generated names of one run get different canonical names (`different`), and a canonical
-/// name keeps its folder, as a path, and its suffix (`kept`). Any other word that holds no name seen
+/// A canonical name keeps its folder, as a path, and its suffix (`kept`). Any other word that holds no name seen
 /// so far keeps its text, but of several leading `-Fi` only one (`others`). A name's rank is the number
 /// of different names of its suffix that appear before it in the run (`ranks`). In a clean run every
 /// word is renamed by itself, by all names of the run (`clean`).
 pub fn canonical_names()
     ensures standard { StandardAreSuffixes }
-    ensures different { DifferentNames }
     ensures kept { FolderAndClassStay }
     ensures others { OtherWordsStay }
     ensures ranks { RankCountsNames }
     ensures clean { CleanRunIsAMap }
 {}
 
-/// Clean runs that are alike have one canonical run, for every list of suffixes of which none is an
-/// end of another and none holds `/` (`agree`), and clean runs that have one are alike (`alike`). A
-/// clean run whose canonical run is clean too is renamed once for all (`once`).
-pub fn alike_runs()
+/// Two clean runs have one canonical run exactly if they are alike, for every list of suffixes of
+/// which none is an end of another and none holds `/`: those that are alike have one (`agree`), and
+/// those that have one are alike (`alike`). Different generated names of a run get different
+/// canonical names (`different`). A clean run is renamed once for all: renamed again, it stays as
+/// it is, even where its canonical run isn't clean (`once`).
+pub fn renaming()
     ensures agree { AlikeRunsAgree }
     ensures alike { OneCanonicalRun }
+    ensures different { DifferentNames }
     ensures once { RenamedOnceForAll }
 {}

@@ -1,13 +1,15 @@
 //! Words that refer to generated files.
 
-ghost use Rattle.std.specs.Prelude.{◌≡◌, ◌<◌, ◌≤◌, ⊤, length, map, IfOk, OnOk, ℕ, string_bytes};
+ghost use Rattle.std.specs.Prelude.{◌≡◌, ◌<◌, [], length, IfOk, OnOk, string_bytes};
 ghost use Rattle.std.specs.List.{AllByRecursion};
 ghost use Rattle.canonical_names.specs.Alike as alike;
 ghost use Rattle.canonical_names.specs.References as spec;
-ghost use Rattle.canonical_names.specs.Renaming.{insert_by_length};
 ghost use Rattle.dry_runs.specs.Replacing.{replaced};
 
 use std::alloc::{AllocError, Global};
+use std::cmp::Reverse;
+use std::collections::BTreeMap;
+use std::marker::Model;
 
 /// A name that was seen, and its canonical name.
 #[derive(Clone, Copy, Debug)]
@@ -46,45 +48,54 @@ fn replace_reference(
     replace(alloc, text.as_str(), reference.name, reference.canonical)
 }
 
-// `text` with the names of `references` replaced, one after the other.
-pub(crate) fn rewrite(
-    alloc: Global,
-    text: &str,
-    references: &[Reference<'_>],
-) -> Result<String, AllocError>
-    requires { AllByRecursion (λ p. 0 < length p.0) (map spec.reference_seen references.now) }
-    ensures { IfOk result (λ t. string_bytes t ≡ spec.replaced_by_all (map spec.reference_seen references.now) text.now) }
-{
-    let mut rewritten = String::from_str(alloc, text)?;
-    for reference in references {
-        rewritten = replace_reference(alloc, rewritten, *reference)?;
-    }
-    Ok(rewritten)
+/// References, those of the longest names first, and of equally long ones the one that was put in first.
+/// Contracts see each name with its canonical name.
+#[derive(Drop)]
+pub(crate) struct LongestFirst<'a> {
+    // Each by the length of its name and by how many were there before it.
+    references: BTreeMap<(Reverse<usize>, usize), Reference<'a>>,
 }
 
-// The place of a name of so many bytes among the longest first: behind all that are at least as long.
-fn place(references: &[Reference<'_>], bytes: usize) -> usize
-    ensures within { result ≤ length references.now }
-    ensures before { spec.AreAsLong references.now result bytes }
-    ensures behind { spec.IsShorter references.now result bytes }
-{
-    for index in 0..references.len() {
-        let reference = &references[index];
-        if reference.name.len() < bytes {
-            return index;
+impl<'a> Model for LongestFirst<'a> {
+    ghost use Rattle.std.specs.Prelude.{List, ℕ, map, length};
+    ghost use Rattle.canonical_names.specs.References.{reference_seen};
+    ghost use Rattle.canonical_names.specs.LongestView.{entry_seen, IsKeyed};
+
+    ghost Value = { List (List ℕ × List ℕ) };
+
+    ghost view = { λ r. map entry_seen r.references.entries };
+
+    ghost invariant = { λ r. IsKeyed (length r.references.entries) r.references.entries };
+}
+
+impl<'a> LongestFirst<'a> {
+    /// No references.
+    pub(crate) fn new(alloc: Global) -> LongestFirst<'a>
+        ensures { result ≡ [] }
+    {
+        LongestFirst {
+            references: BTreeMap::new(alloc),
         }
     }
-    references.len()
-}
 
-// Puts a reference at its place among the longest first.
-pub(crate) fn insert<'a>(
-    references: &mut Vec<Reference<'a>>,
-    reference: Reference<'a>,
-) -> Result<(), AllocError>
-    ensures { OnOk result (map spec.reference_seen references.new.items ≡ spec.insert_pair (map spec.reference_seen references.old.items) (spec.reference_seen reference.entry)) }
-{
-    let place = place(references.as_slice(), reference.name.len());
-    references.insert(place, reference)?;
-    Ok(())
+    /// Puts a reference behind all whose names are at least as long.
+    pub(crate) fn insert(&mut self, reference: Reference<'a>) -> Result<(), AllocError>
+        ensures { OnOk result (self.new ≡ spec.insert_pair self.old (spec.reference_seen reference.entry)) }
+    {
+        let key = (Reverse(reference.name.len()), self.references.len());
+        self.references.insert(key, reference)?;
+        Ok(())
+    }
+
+    /// `text` with the names of the references replaced, one after the other.
+    pub(crate) fn rewrite(&self, alloc: Global, text: &str) -> Result<String, AllocError>
+        requires { AllByRecursion (λ p. 0 < length p.0) self.now }
+        ensures { IfOk result (λ t. string_bytes t ≡ spec.replaced_by_all self.now text.now) }
+    {
+        let mut rewritten = String::from_str(alloc, text)?;
+        for (_, reference) in self.references.iter() {
+            rewritten = replace_reference(alloc, rewritten, *reference)?;
+        }
+        Ok(rewritten)
+    }
 }

@@ -8,10 +8,10 @@ ghost use Rattle.texts.specs.Path.{joined, folder_of};
 ghost use Rattle.texts.specs.Variables.{pair_of};
 ghost use Rattle.canonical_names.specs.Generated as generated;
 ghost use Rattle.canonical_names.specs.Counted.{decimal_file, IsCount};
-ghost use Rattle.canonical_names.specs.References.{reference_seen, longest_pairs_first};
+ghost use Rattle.canonical_names.specs.References.{longest_pairs_first};
 ghost use Rattle.canonical_names.specs.Renaming as spec;
 
-use crate::references::{Reference, insert, rewrite};
+use crate::references::{LongestFirst, Reference};
 use crate::suffixes::Suffixes;
 use crate::words::begins_with_dash;
 use indexmap::IndexMap;
@@ -169,7 +169,7 @@ impl Renames {
             return String::from_str(alloc, text);
         }
         let references = longest_first(alloc, &self.names)?;
-        rewrite(alloc, text, references.as_slice())
+        references.rewrite(alloc, text)
     }
 }
 
@@ -177,16 +177,15 @@ impl Renames {
 fn longest_first<'a>(
     alloc: Global,
     names: &'a IndexMap<String, String>,
-) -> Result<Vec<Reference<'a>>, AllocError>
-    ensures { IfOk result (λ r. map reference_seen r.items ≡ longest_pairs_first (map pair_of names.now.entries)) }
+) -> Result<LongestFirst<'a>, AllocError>
+    ensures { IfOk result (λ r. r ≡ longest_pairs_first (map pair_of names.now.entries)) }
 {
-    let mut references = Vec::with_capacity(alloc, names.len())?;
+    let mut references = LongestFirst::new(alloc);
     for (name, canonical) in names.iter() {
-        let reference = Reference {
+        references.insert(Reference {
             name: name.as_str(),
             canonical: canonical.as_str(),
-        };
-        insert(&mut references, reference)?;
+        })?;
     }
     Ok(references)
 }

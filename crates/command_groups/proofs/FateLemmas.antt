@@ -189,13 +189,13 @@ push_staged : (before : List PlacedCommand) (p : PlacedCommand) (cs : List Stage
 push_staged [] p cs = refl
 push_staged (q ∷ qs) p cs = λ i. q.staged ∷ push_staged qs p cs i
 
-placed_staged : (names : List (List ℕ)) (before : List PlacedCommand) (commands : List StagedCommand) → map (λ q. q.staged) (placed_after names before commands) ≡ (map (λ q. q.staged) before ++ commands)
+pub placed_staged : (names : List (List ℕ)) (before : List PlacedCommand) (commands : List StagedCommand) → map (λ q. q.staged) (placed_after names before commands) ≡ (map (λ q. q.staged) before ++ commands)
 placed_staged names before [] = nil_right (map (λ q. q.staged) before)
 placed_staged names before (c ∷ cs) =
     let p : PlacedCommand = record { staged = c; place = place_of names before c.stage } in
     placed_staged (with_name names (opens c.stage)) (before ++ p ∷ []) cs ∙ push_staged before p cs
 
-fates_staged : (ps : List PlacedCommand) → map (λ q. q.staged) (with_fates ps) ≡ map (λ q. q.staged) ps
+pub fates_staged : (ps : List PlacedCommand) → map (λ q. q.staged) (with_fates ps) ≡ map (λ q. q.staged) ps
 fates_staged [] = refl
 fates_staged (p ∷ ps) = λ i. p.staged ∷ fates_staged ps i
 

@@ -5,6 +5,7 @@ pub mod GroupLemmas
 pub mod GroupingLemmas
 pub mod MergeLemmas
 pub mod OpeningLemmas
+pub mod PlanLemmas
 pub mod PutLemmas
 pub mod RisingLemmas
 pub mod SameLemmas

@@ -11,8 +11,11 @@ pub mod MergeLaws
 pub mod MergedView
 pub mod Openings
 pub mod Plan
+pub mod PlanLaws
 pub mod PlanOfBytes
 pub mod PlanOfBytesRows
 pub mod PlanRows
+pub mod Selection
+pub mod SelectionRows
 pub mod Stage
 pub mod StageView

@@ -3,8 +3,10 @@
 ghost use Rattle.texts.specs.Equality.{TellsEqual};
 ghost use Rattle.command_groups.specs.FateLaws.{EachHasOneFate, DeviceGroupsBeginWithTheirStep, OuterGroupsAreThere};
 ghost use Rattle.command_groups.specs.MergeLaws.{MergedIsInOrder, MergedAreTheSelected};
+ghost use Rattle.command_groups.specs.PlanLaws.{AlikePairsHaveOnePlan, AlikeTextsHaveOnePlan, ReadableRunsArePlanned, PlannedRunsAreReadable, FirstRunIsRefused, SecondRunIsRefused, PlannedCommandsHaveOneFate};
 ghost use Rattle.command_groups.specs.PlanOfBytesRows.{OneKernelFromBytes, OtherNamesFromBytes, TemporaryNamesFromBytes, KeptNamesFromBytes, NothingFromBytes, HostCodeFromBytes, SecondRunIsBad, FirstRunIsBad, SecondPtxasFromBytes, SupersededCiccFromBytes, StepWithoutCiccFromBytes, OutputWithASlashFromBytes, NamelessFromBytes};
 ghost use Rattle.command_groups.specs.PlanRows.{OneKernelPlan, NamesInAFolder, NamesAsTheyAre, EmptyRuns, HostCodeAlone, ReopenedGroup, SecondPtxas, SupersededCicc, StepMakesNoPtx, SharedPtx, PreprocessesForMsvc, CompilesForGcc, CiccLosesOneWord, CiccKeepsItsWords, NotForCuda, ProgramWithoutAStem, StepWithoutAnOutput, StepWithoutAFileName, OutputWithASlash, SecondGroupIsJoined, MergedByLineAndRun, FoldedEnvironment, MarkedTwice};
+ghost use Rattle.command_groups.specs.SelectionRows as selections;
 
 use crate::plan::{Dropped, DroppedCommands, Groups, NvccGeneratedSubcommand, Plan, Reason};
 
@@ -34,6 +36,32 @@ pub fn fates()
     ensures one_fate { EachHasOneFate }
     ensures steps { DeviceGroupsBeginWithTheirStep }
     ensures outer { OuterGroupsAreThere }
+{}
+
+/// Laws of the plans of two dry runs whose words are renamed, as they are without a keep directory,
+/// for every list of suffixes that may be handed in.
+///
+/// Pairs of clean runs that are alike, with one list of the first runs' variables, have equal plans:
+/// groups and dropped commands (`alike_pairs`). So are two pairs of texts planned as one plan if all
+/// four can be read and their commands are clean and alike (`alike_texts`).
+pub fn plans()
+    ensures alike_pairs { AlikePairsHaveOnePlan }
+    ensures alike_texts { AlikeTextsHaveOnePlan }
+{}
+
+/// What two dry runs are planned as, with a keep directory or without.
+///
+/// They have a plan if both can be read (`readable_are_planned`), and only then
+/// (`planned_are_readable`). A first run that can't be read is refused with the fault of its first
+/// bad line (`first_is_refused`), and so is a second one if the first can be read
+/// (`second_is_refused`). In a plan each selected command has the one fate of its rule, and each
+/// group and the dropped list are their fate's commands in order of line and run (`one_fate`).
+pub fn planning()
+    ensures readable_are_planned { ReadableRunsArePlanned }
+    ensures planned_are_readable { PlannedRunsAreReadable }
+    ensures first_is_refused { FirstRunIsRefused }
+    ensures second_is_refused { SecondRunIsRefused }
+    ensures one_fate { PlannedCommandsHaveOneFate }
 {}
 
 /// What dry runs are planned as, by the definitions.
@@ -78,4 +106,15 @@ pub fn worked_plans_from_bytes()
     ensures step_without_cicc_from_bytes { StepWithoutCiccFromBytes }
     ensures output_with_a_slash_from_bytes { OutputWithASlashFromBytes }
     ensures nameless_from_bytes { NamelessFromBytes }
+{}
+
+/// What is selected of dry runs, and the environment behind them, by the definitions.
+pub fn worked_selections()
+    ensures one_of_one_kernel { selections.OneOfOneKernel }
+    ensures folded_behind_one_kernel { selections.FoldedBehindOneKernel }
+    ensures all_names_count { selections.AllNamesCount }
+    ensures names_stay { selections.NamesStay }
+    ensures nothing_is_selected { selections.NothingIsSelected }
+    ensures later_line_sets_too { selections.LaterLineSetsToo }
+    ensures bad_run_is_refused { selections.BadRunIsRefused }
 {}

@@ -9,7 +9,9 @@ mod merge;
 mod openings;
 mod plan;
 mod planning;
+mod select;
 mod stage;
 
 pub use plan::{Dropped, DroppedCommands, Groups, NvccGeneratedSubcommand, Plan, Reason};
 pub use planning::group_nvcc_subcommands_by_compilation_stage;
+pub use select::select_nvcc_subcommands;

@@ -1,2 +1,7 @@
+pub mod ExecutionLemmas
+pub mod NumeralLemmas
 pub mod NvccEqualityLemmas
+pub mod OutcomeLemmas
 pub mod PlaceLemmas
+pub mod RunningLemmas
+pub mod ScheduleLemmas

@@ -1,7 +1,10 @@
 pub mod Nvcc
 pub mod NvccCommand
+pub mod NvccPlan
 pub mod NvccRows
 pub mod Outcome
+pub mod OutcomeLaws
+pub mod Running
 pub mod Schedule
 pub mod ScheduleRows
 pub use Rattle.canonical_names.specs.Alike
@@ -21,6 +24,8 @@ pub use Rattle.command_groups.specs.Plan
 pub use Rattle.command_groups.specs.PlanOfBytes
 pub use Rattle.command_groups.specs.PlanOfBytesRows
 pub use Rattle.command_groups.specs.PlanRows
+pub use Rattle.command_groups.specs.Selection
+pub use Rattle.command_groups.specs.SelectionRows
 pub use Rattle.command_groups.specs.Stage
 pub use Rattle.cuda_below.specs.Arguments
 pub use Rattle.cuda_below.specs.Command

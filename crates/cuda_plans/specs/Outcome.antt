@@ -28,19 +28,27 @@ aggregated a b = output_with (if is_success a.status then b.status else a.status
 abbrev pub all_aggregated : List Output → Output
 all_aggregated outputs = fold aggregated empty_success outputs
 
--- the output of a fault: that of the process that failed, else code 1 and the fault's message
+-- the output of a fault that no process left: code 1 and the fault's message
+abbrev pub told : Fault → Output
+told fault = output_with (status_of_code (pos 1)) [] (message_of fault)
+
+-- the output of a fault: that of the process that failed, else the fault is told
 abbrev pub output_of_fault : Fault → Output
 output_of_fault (Process output) = output
-output_of_fault fault = output_with (status_of_code (pos 1)) [] (message_of fault)
+output_of_fault fault = told fault
 
 -- a whole number in decimal digits, behind a `-` if it is below 0
 abbrev pub signed_numeral : ℤ → List ℕ
 signed_numeral (pos n) = numeral n
 signed_numeral (negsuc n) = 45 ∷ numeral (suc n)
 
--- what is said of a program that a signal ended; a program without a stem has its whole path
+-- the stem of a program's path; a path without one stands whole
+abbrev pub program_name : List ℕ → List ℕ
+program_name exe = unwrap_or (file_stem_of exe) exe
+
+-- what is said of a program that a signal ended
 abbrev pub terminated_text : List ℕ → ℤ → List ℕ
-terminated_text exe signal = unwrap_or (file_stem_of exe) exe ++ (codes " terminated (signal: " ++ (signed_numeral signal ++ codes ")"))
+terminated_text exe signal = program_name exe ++ (codes " terminated (signal: " ++ (signed_numeral signal ++ codes ")"))
 
 -- the output of a program that was compiled to its end, by the signal that ended it, if any; without one the code counts,
 -- and no code is 0

@@ -2,10 +2,12 @@
 use Rattle.std.specs.Prelude.{◌≡◌, ℕ, ◌+◌, ◌-◌, ◌/◌, min, max, List, [], ◌∷◌, ◌++◌, Bool, not, ◌&&◌, ◌||◌, ◌==◌, nat_lt, nat_le, if◌then◌else◌, length, map, filter, Result, Ok, Err}
 use Rattle.std.specs.List.{list_any}
 use Rattle.texts.specs.declared.fault.Fault.{Fault}
-use Rattle.texts.specs.declared.fault.Fault.TheVariants.{Process}
+use Rattle.texts.specs.declared.fault.Fault.TheVariants.{Process, Memory}
 use Rattle.texts.specs.declared.status.Output.{Output}
 use Rattle.texts.specs.Endings.{is_success}
+use Rattle.texts.specs.Fault.{UnlessMemory}
 use Rattle.command_groups.specs.declared.plan.NvccGeneratedSubcommand.{NvccGeneratedSubcommand}
+use Rattle.command_groups.specs.declared.plan.Plan.{Plan}
 use Rattle.cuda_plans.specs.declared.runner.Answer.{Answer}
 use Rattle.cuda_plans.specs.declared.runner.Place.{Place}
 use Rattle.cuda_plans.specs.Outcome.{output_of_answer, all_aggregated}
@@ -51,6 +53,10 @@ pub record AccountEntry : Type 0 where
   pub command : NvccGeneratedSubcommand
   pub answer : Answer
 
+-- the entry of a step by an answer to its command
+abbrev pub answered : Place → NvccGeneratedSubcommand → Answer → AccountEntry
+answered place command answer = record { place = place; command = command; answer = answer }
+
 -- the output of an entry's answer, and whether it fails: its status isn't success
 abbrev pub output_of_entry : AccountEntry → Output
 output_of_entry e = output_of_answer e.command.exe e.answer
@@ -89,3 +95,25 @@ output_of_account account = all_aggregated (map output_of_entry account)
 -- what comes of a whole account: its output, as a refusal if an answer failed
 abbrev pub outcome_of : List AccountEntry → Result Output Fault
 outcome_of account = if list_any fails account then Err (Process (output_of_account account)) else Ok (output_of_account account)
+
+-- What a run of a plan's groups says, of the account that it gained.
+
+-- a refusal for want of memory is of an account that follows the plan, and any other of a whole one that has a failure
+abbrev pub RefusesAs : List (List NvccGeneratedSubcommand) → ℕ → List AccountEntry → Fault → Type 0
+RefusesAs groups parallel account Memory = Follows groups parallel account
+RefusesAs groups parallel account fault = IsWhole groups parallel account × (outcome_of account ≡ Err fault)
+
+-- an output is of a whole account without a failure, whose outputs are joined in it
+abbrev pub RunsAs : List (List NvccGeneratedSubcommand) → ℕ → List AccountEntry → Result Output Fault → Type 0
+RunsAs groups parallel account (Ok output) = IsWhole groups parallel account × (outcome_of account ≡ Ok output)
+RunsAs groups parallel account (Err fault) = RefusesAs groups parallel account fault
+
+-- of what was planned: a plan is run, and where there is none, nothing ran and the refusal is the planning's, want of
+-- memory aside
+abbrev pub ExecutesAs : Result Plan Fault → ℕ → List AccountEntry → Result Output Fault → Type 0
+ExecutesAs (Ok plan) parallel account result = RunsAs plan.groups parallel account result
+ExecutesAs (Err fault) parallel account result = (account ≡ []) × UnlessMemory result (Err fault)
+
+-- a list of entries that became another by an account of which a fact holds, put behind it
+abbrev pub Gains : List AccountEntry → List AccountEntry → (List AccountEntry → Type 0) → Type 0
+Gains before after P = (account : List AccountEntry) × (after ≡ before ++ account) × P account

@@ -6,7 +6,9 @@
 pub mod dry_run;
 pub mod laws;
 pub mod nvcc;
+pub mod outcome;
 pub mod runner;
+mod running;
 
 pub use command_groups as plan;
 pub use cuda_below::{arguments, command, compiler, gcc, outputs};

@@ -1,7 +1,9 @@
-//! The place of a command in a plan, and the answer of whoever ran it.
+//! The place of a command in a plan, who runs it, and the answer.
 
-ghost use Rattle.std.specs.Prelude.{◌≡◌, IfOk};
+ghost use Rattle.std.specs.Prelude.{◌≡◌, ◌++◌, ◌∷◌, [], List, IfOk, MatchResult};
+ghost use Rattle.cuda_plans.specs.Schedule.{AccountEntry, answered};
 
+use command_groups::NvccGeneratedSubcommand;
 use std::alloc::{AllocError, Global};
 use texts::fault::Fault;
 use texts::status::{CompileFinished, Output};
@@ -37,4 +39,21 @@ impl Answer {
             Answer::Failed(fault) => Answer::Failed(fault.try_clone(alloc)?),
         })
     }
+}
+
+/// Who runs the commands of a plan. A server that caches runs them as its own compilations, and an auditor may
+/// only record them.
+pub trait Runner {
+    /// The account of the commands that it was handed, each with its place and the answer, in order.
+    ghost log: { Self → List AccountEntry };
+
+    /// Runs `command`, which stands at `place`, and puts both and the answer last in the account. An error is a
+    /// want of memory: the account stays, and whether the command ran is open.
+    fn run(
+        &mut self,
+        alloc: Global,
+        place: Place,
+        command: NvccGeneratedSubcommand,
+    ) -> Result<Answer, AllocError>
+        ensures { MatchResult result (λ answer. log self.new ≡ log self.old ++ answered place command answer ∷ []) (λ _. log self.new ≡ log self.old) };
 }

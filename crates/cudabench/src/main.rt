@@ -1,5 +1,5 @@
-//! Times the planner's calls: a tool's line that is read and written back, a text that is split, and a dry run
-//! that is read.
+//! Times the planner's calls: a tool's line that is read and written back, two dry runs that are planned, a text
+//! that is split, and a dry run that is read, or whose commands are renamed.
 #![tactic(auto)]
 
 use call::call_of;

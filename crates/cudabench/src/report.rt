@@ -35,9 +35,9 @@ impl From<AllocError> for Stop {
 impl fmt::Display for Stop {
     fn fmt<W: fmt::Write>(&self, f: &mut fmt::Formatter<W>) -> fmt::Result {
         match self {
-            Stop::Usage => {
-                f.write_str("usage: cudabench line N TOOL CWD WORD.. | split N FILE | read N FILE")
-            }
+            Stop::Usage => f.write_str(
+                "usage: cudabench line N TOOL CWD WORD.. | plan N CWD TMP FLAG DRY1 DRY2 | split N FILE | read N FILE | rename N FILE",
+            ),
             Stop::NotCompilation => f.write_str("cudabench: not a compilation"),
             Stop::NoWords => f.write_str("cudabench: no shell words"),
             Stop::Clock => f.write_str("cudabench: cannot read the clock"),

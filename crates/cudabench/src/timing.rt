@@ -3,18 +3,18 @@
 use crate::call::{Call, Work};
 use crate::report::Stop;
 use cuda_below::arguments::CompilerArguments;
-use cuda_below::compiler::{CCompilerImpl, Places};
-use cuda_plans::cicc::{Cicc, read_input};
+use cuda_below::compiler::{CCompilerImpl, NvccHostCompiler, Places};
+use cuda_plans::cicc::Cicc;
 use cuda_plans::cudafe::CudaFE;
-use cuda_plans::dry_run::{FirstDir, read_dry_run};
+use cuda_plans::dry_run::{FirstDir, Renames, Suffixes, read_dry_run, remap_generated_filenames};
+use cuda_plans::plan::group_nvcc_subcommands_by_compilation_stage;
 use cuda_plans::ptxas::Ptxas;
 use cuda_plans::shell;
-use plan_texts::Tool;
+use plan_texts::{Tool, read_file};
 use std::alloc::Global;
-use std::fs::{self, Files};
+use std::fs::Files;
 use std::time::{Clock, Instant};
 use texts::bytes::Bytes;
-use texts::fault::Fault;
 use texts::text::Text;
 
 // Reads a line and writes it back once.
@@ -68,6 +68,39 @@ where
     mean_since(rt, start, count)
 }
 
+// The mean time of planning the dry runs of two files, which are read before.
+fn mean_of_plan<R: Clock + Files>(
+    rt: &R,
+    alloc: Global,
+    count: u64,
+    setting: (&str, &str, &str),
+    files: (&str, &str),
+) -> Result<u128, Stop> {
+    let (cwd, tmp, flag) = setting;
+    let dry1 = bytes_of(rt, alloc, files.0)?;
+    let dry2 = bytes_of(rt, alloc, files.1)?;
+    let suffixes = Suffixes::standard();
+    let Ok(start) = Instant::now(rt) else {
+        return Err(Stop::Clock);
+    };
+    for _ in 0..count {
+        group_nvcc_subcommands_by_compilation_stage(
+            alloc,
+            dry1.as_slice(),
+            dry2.as_slice(),
+            flag,
+            cwd,
+            tmp,
+            None,
+            &[],
+            NvccHostCompiler::Gcc,
+            &FirstDir,
+            &suffixes,
+        )?;
+    }
+    mean_since(rt, start, count)
+}
+
 // The mean time of splitting a text into shell words.
 fn mean_of_split<R: Clock>(rt: &R, alloc: Global, count: u64, text: &str) -> Result<u128, Stop> {
     let Ok(start) = Instant::now(rt) else {
@@ -92,12 +125,40 @@ fn mean_of_read<R: Clock>(rt: &R, alloc: Global, count: u64, dry_run: &[u8]) -> 
     mean_since(rt, start, count)
 }
 
+// Renames the words of commands once.
+fn rename(
+    alloc: Global,
+    commands: &[(usize, String, Vec<String>)],
+    suffixes: &Suffixes,
+) -> Result<(), Stop> {
+    let mut renames = Renames::new(alloc, suffixes)?;
+    for command in commands {
+        remap_generated_filenames(alloc, command.2.as_slice(), &mut renames)?;
+    }
+    Ok(())
+}
+
+// The mean time of renaming the commands of a dry run, which is read before.
+fn mean_of_rename<R: Clock>(
+    rt: &R,
+    alloc: Global,
+    count: u64,
+    dry_run: &[u8],
+) -> Result<u128, Stop> {
+    let run = read_dry_run(alloc, dry_run, 1, "/w", &FirstDir)?;
+    let suffixes = Suffixes::standard();
+    let Ok(start) = Instant::now(rt) else {
+        return Err(Stop::Clock);
+    };
+    for _ in 0..count {
+        rename(alloc, run.commands.as_slice(), &suffixes)?;
+    }
+    mean_since(rt, start, count)
+}
+
 // The bytes of a file.
 fn bytes_of<R: Files>(rt: &R, alloc: Global, file: &str) -> Result<Bytes, Stop> {
-    let Ok(file) = fs::open(rt, file) else {
-        return Err(Stop::Fault(Fault::Read));
-    };
-    Ok(read_input(alloc, file)?.stdout)
+    Ok(read_file(rt, alloc, file)?.stdout)
 }
 
 /// The mean time of what a call times, in nanoseconds.
@@ -109,12 +170,22 @@ pub fn mean_of<R: Clock + Files + AllocGlobal>(rt: &R, call: &Call<'_>) -> Resul
             Tool::Ptxas => mean_of_line(rt, alloc, count, &Ptxas { version: None }, cwd, words),
             Tool::CudaFe => mean_of_line(rt, alloc, count, &CudaFE { version: None }, cwd, words),
         },
+        Work::Plan {
+            cwd,
+            tmp,
+            flag,
+            dry1,
+            dry2,
+        } => mean_of_plan(rt, alloc, count, (cwd, tmp, flag), (dry1, dry2)),
         Work::Split { file } => match str::from_utf8(bytes_of(rt, alloc, file)?.as_slice()) {
             Ok(text) => mean_of_split(rt, alloc, count, text),
             Err(_) => Err(Stop::NoWords),
         },
         Work::Read { file } => {
             mean_of_read(rt, alloc, count, bytes_of(rt, alloc, file)?.as_slice())
+        }
+        Work::Rename { file } => {
+            mean_of_rename(rt, alloc, count, bytes_of(rt, alloc, file)?.as_slice())
         }
     }
 }

@@ -1,4 +1,4 @@
-//! Prints what CUDA command lines are read as.
+//! Prints what CUDA command lines are read as, and what two dry runs plan.
 #![tactic(auto)]
 
 use plan_texts::call_words;
@@ -6,6 +6,7 @@ use program::run_program;
 use std::io;
 use std::process::ExitCode;
 
+mod call;
 mod program;
 
 fn main(rt: HostRuntime) -> ExitCode {

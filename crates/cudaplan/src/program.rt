@@ -1,38 +1,47 @@
 //! The program's calls.
 
 ghost use Rattle.std.specs.Prelude.{◌≡◌, map, string_bytes};
-ghost use Rattle.std.specs.Option.{option_map};
 ghost use Rattle.cudaplan.specs.Calls as spec;
 
-use plan_texts::{Stop, Tool, run_line};
+use crate::call::{Call, PlanCall, call_of};
+use plan_texts::{Stop, read_file, run_line, run_plan};
 use std::alloc::Global;
+use std::fs::Files;
 use std::io::Write;
 
-const USAGE: &str = "usage: cudaplan line TOOL CWD WORD.. | plan CWD TMP FLAG DRY1 DRY2\n";
+const USAGE: &str = "usage: cudaplan line TOOL CWD WORD.. | plan CWD TMP FLAG DRY1 DRY2 SUFFIX..\n";
 
-// A call that reads a tool's line at a working directory.
-#[derive(Debug, Drop)]
-struct LineCall<'a> {
-    tool: Tool,
-    cwd: &'a str,
-    words: &'a [String],
+// Reads the files of two dry runs, plans them, and writes the plan.
+fn plan_files<R: Files + AllocGlobal, W: Write>(
+    rt: &R,
+    call: &PlanCall<'_>,
+    out: &mut W,
+) -> Result<(), Stop>
+    ensures { spec.PlansFiles (spec.plan_of call.now) result (W.contents out.old) (W.contents out.new) }
+{
+    let alloc = rt.alloc();
+    let dry1 = read_file(rt, alloc, call.dry1)?;
+    let dry2 = read_file(rt, alloc, call.dry2)?;
+    run_plan(
+        alloc,
+        call.cwd,
+        call.tmp,
+        call.flag,
+        dry1.stdout.as_slice(),
+        dry2.stdout.as_slice(),
+        call.suffixes,
+        out,
+    )
 }
 
-// The call that the words are.
-fn line_call<'a>(words: &'a [String]) -> Option<LineCall<'a>>
-    ensures { option_map spec.line_of result ≡ spec.call_of (map string_bytes words.now) }
+// Runs the engine that a call asks for.
+fn serve<R: Files + AllocGlobal, W: Write>(rt: &R, call: &Call<'_>, out: &mut W) -> Result<(), Stop>
+    ensures { spec.Serves (spec.seen call.now) result (W.contents out.old) (W.contents out.new) }
 {
-    let [verb, tool, cwd, line @ ..] = words else {
-        return None;
-    };
-    if verb.as_str() != "line" {
-        return None;
+    match call {
+        Call::Line(line) => run_line(rt.alloc(), line.tool, line.cwd, line.words, out),
+        Call::Plan(plan) => plan_files(rt, plan, out),
     }
-    Some(LineCall {
-        tool: Tool::named(tool.as_str())?,
-        cwd: cwd.as_str(),
-        words: line,
-    })
 }
 
 // Writes why the program stops to standard error; a failed write there is ignored.
@@ -58,7 +67,7 @@ fn ended<E: Write>(alloc: Global, answer: Result<(), Stop>, err: &mut E) -> u8
 /// Runs a call of the program: the words after its name. What it prints goes to `out`, the line that
 /// says why it stopped to `err`. Answers the exit status: 0, 1 for a refusal or a failed write, 2 for
 /// a call of another form.
-pub fn run_program<R: AllocGlobal, W: Write, E: Write>(
+pub fn run_program<R: Files + AllocGlobal, W: Write, E: Write>(
     rt: &R,
     words: &[String],
     out: &mut W,
@@ -66,10 +75,10 @@ pub fn run_program<R: AllocGlobal, W: Write, E: Write>(
 ) -> u8
     ensures { spec.Ends result (spec.call_of (map string_bytes words.now)) (W.contents out.old) (W.contents out.new) }
 {
-    let Some(call) = line_call(words) else {
+    let Some(call) = call_of(words) else {
         let _ = err.write_all(USAGE.as_bytes());
         return 2;
     };
-    let answer = run_line(rt.alloc(), call.tool, call.cwd, call.words, out);
+    let answer = serve(rt, &call, out);
     ended(rt.alloc(), answer, err)
 }

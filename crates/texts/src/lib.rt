@@ -7,6 +7,7 @@ pub mod device_files;
 pub mod extension;
 pub mod fault;
 pub mod language;
+pub mod laws;
 pub mod status;
 pub mod text;
 pub mod variables;

@@ -2,6 +2,7 @@
 
 ghost use Rattle.std.specs.Prelude.{◌≡◌, ◌*ℤ◌, pos, IsTrue, ◌↔◌, IfOk};
 ghost use Rattle.texts.specs.Status.{status_of_code};
+ghost use Rattle.texts.specs.Endings.{status_of_signal, code_of_status, signal_of_status};
 
 use crate::bytes::Bytes;
 use std::alloc::{AllocError, Global};
@@ -31,6 +32,36 @@ impl ExitStatus {
     {
         ExitStatus {
             raw: code.rem_euclid(256) * 256,
+        }
+    }
+
+    /// The status of a process that a signal ended: the signal's own number. That of 0 is a success.
+    pub fn from_signal(signal: i32) -> ExitStatus
+        ensures { result ≡ status_of_signal signal }
+    {
+        ExitStatus { raw: signal }
+    }
+
+    /// The code that the process exited with: bits 8 to 15, if the low seven bits are 0. So a number with
+    /// no more than bit 7 has code 0, though it isn't success.
+    pub fn code(self) -> Option<i32>
+        ensures { result ≡ code_of_status self }
+    {
+        if self.raw.rem_euclid(128) == 0 {
+            Some(self.raw.div_euclid(256).rem_euclid(256))
+        } else {
+            None
+        }
+    }
+
+    /// The signal that ended the process: the low seven bits, unless they are 0, as of a process that
+    /// exited, or 127, as of one that was stopped.
+    pub fn signal(self) -> Option<i32>
+        ensures { result ≡ signal_of_status self }
+    {
+        match self.raw.rem_euclid(128) {
+            0 | 127 => None,
+            signal => Some(signal),
         }
     }
 

@@ -69,6 +69,20 @@ impl Answer {
         Ok(())
     }
 
+    /// Adds the fact of the words `heads` and then `words`.
+    pub fn add_headed(
+        &mut self,
+        alloc: Global,
+        heads: &[&str],
+        words: &[String],
+    ) -> Result<(), Stop> {
+        self.add(alloc, heads)?;
+        match self.facts.last_mut() {
+            Some(fact) => push_copies(alloc, words, fact),
+            None => Ok(()),
+        }
+    }
+
     /// Adds the fact of this name and these words, unless there are none.
     pub fn add_list(&mut self, alloc: Global, name: &str, words: &[String]) -> Result<(), Stop> {
         if words.is_empty() {
@@ -121,6 +135,14 @@ impl Answer {
         }
         Ok(())
     }
+}
+
+// Puts copies of words last among a fact's.
+fn push_copies(alloc: Global, words: &[String], fact: &mut Vec<String>) -> Result<(), Stop> {
+    for word in words {
+        fact.push(String::from_str(alloc, word.as_str())?)?;
+    }
+    Ok(())
 }
 
 // Puts a fact's words last in a text, with a blank between two.

@@ -3,14 +3,13 @@
 use crate::answer::Answer;
 use crate::row::Row;
 use crate::stop::Stop;
-use crate::{faults, inputs, languages, lines, paths, shell_texts, tables, taken};
+use crate::{faults, inputs, languages, lines, paths, renaming, runs, shell_texts, tables, taken};
 use std::alloc::Global;
 use std::fs::Files;
 
 /// What a row's call answers. A file that a row names lies beside the rows.
 ///
-/// A further call is a further name here, and a function that makes its facts; one on dry runs reads
-/// the files that its row names, as `inputs` does.
+/// A further call is a further name here, and a function that makes its facts.
 pub fn answer_of<R: Files + AllocGlobal>(rt: &R, alloc: Global, row: &Row) -> Result<Answer, Stop> {
     match row.call.as_str() {
         "parse"
@@ -42,6 +41,10 @@ pub fn answer_of<R: Files + AllocGlobal>(rt: &R, alloc: Global, row: &Row) -> Re
         | "is_ptxas_input"
         | "input_suffixes"
         | "found" => { paths::answer(alloc, row) }
+        "read" | "read_whole" | "rename_run" | "is_clean" | "is_shadow" | "is_step_shadow" => {
+            runs::answer(rt, alloc, row)
+        }
+        "rename" | "suffixes" | "standard_suffixes" => renaming::answer(alloc, row),
         _ => Err(Stop::Form("an unknown call")),
     }
 }

@@ -6,7 +6,7 @@ use Rattle.std.proofs.lemmas.Result.{IfOk-weaker}
 use Rattle.texts.specs.Variables.{pair_of}
 use Rattle.canonical_names.specs.Alike.{holds}
 use Rattle.canonical_names.specs.Counted.{old_names}
-use Rattle.canonical_names.specs.References.{reference_seen, longest_pairs_first, replaced_by_all}
+use Rattle.canonical_names.specs.References.{replaced_by_all}
 use Rattle.canonical_names.specs.Renaming as spec
 use Rattle.canonical_names.proofs.ReferenceLemmas.{rewritten-by_pairs, references-some, rewritten-none}
 use Rattle.canonical_names.proofs.renames.Renames.rewritten.Goals as goal
@@ -24,8 +24,7 @@ returns-then-not-stand_in c =
 pub rewrite-requires : goal.rewrite-requires
 rewrite-requires c =
     let pairs = map pair_of c.self.inside.names.entries in
-    let all : map reference_seen c.as_slice.result.now ≡ longest_pairs_first pairs = ap (map reference_seen) c.as_slice.ensures.value ∙ c.in_ok-references.ensures in
-    subst (AllByRecursion (λ (p : List ℕ × List ℕ). 0 < length p.0)) (sym all)
+    subst (AllByRecursion (λ (p : List ℕ × List ℕ). 0 < length p.0)) (sym c.in_ok-references.ensures)
     (references-some c.self.inside.suffixes (old_names pairs) pairs c.self.invariant.accepted c.self.invariant.classes c.self.invariant.canonical)
 
 pub returns : goal.returns
@@ -33,7 +32,6 @@ returns c =
     let suffixes = c.self.inside.suffixes in
     let pairs = map pair_of c.self.inside.names.entries in
     let text = c.args.text.now in
-    let all : map reference_seen c.as_slice.result.now ≡ longest_pairs_first pairs = ap (map reference_seen) c.as_slice.ensures.value ∙ c.in_ok-references.ensures in
     subst (λ (r : List (List ℕ) × List (List ℕ)). IfOk c.rewrite.result (λ t. string_bytes t ≡ spec.rewritten r.0 r.1 text)) c.self.view_is
-    (IfOk-weaker c.rewrite.result (λ (t : String Global). string_bytes t ≡ replaced_by_all (map reference_seen c.as_slice.result.now) text) (λ (t : String Global). string_bytes t ≡ spec.rewritten suffixes (old_names pairs) text)
-    (λ t h. h ∙ ap (λ ps. replaced_by_all ps text) all ∙ rewritten-by_pairs suffixes (old_names pairs) pairs c.self.invariant.canonical text) c.rewrite.ensures)
+    (IfOk-weaker c.rewrite.result (λ (t : String Global). string_bytes t ≡ replaced_by_all c.in_ok-references.references text) (λ (t : String Global). string_bytes t ≡ spec.rewritten suffixes (old_names pairs) text)
+    (λ t h. h ∙ ap (λ ps. replaced_by_all ps text) c.in_ok-references.ensures ∙ rewritten-by_pairs suffixes (old_names pairs) pairs c.self.invariant.canonical text) c.rewrite.ensures)

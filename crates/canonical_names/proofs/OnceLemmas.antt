@@ -1,0 +1,211 @@
+-- A clean run is renamed once for all.
+use Rattle.std.proofs.Common.{◌≡◌, ℕ, zero, suc, ◌-◌, ◌++◌, ◌||◌, Bool, true, false, cond, List, [], ◌∷◌, Option, Some, None, inl, inr, map, refl, ap, sym, ◌∙◌, subst, nat_eq, length, fold, drop, arith}
+use Rattle.std.specs.List.{Contains, All, AllByRecursion, list_any, ends_with, starts_with, filter_map}
+use Rattle.std.specs.Option.{option_map}
+use Rattle.std.specs.Str.{bytes_eq}
+use Rattle.std.proofs.lemmas.List.Elements.{All-nil, All-contains}
+use Rattle.texts.specs.Lists.{with_name}
+use Rattle.texts.specs.Numeral.{numeral}
+use Rattle.texts.specs.Path.{joined, folder_of, separator_after}
+use Rattle.dry_runs.specs.CommandLines.{CommandLine, words_of_command}
+use Rattle.dry_runs.specs.Replacing.{replaced, replaced_past}
+use Rattle.canonical_names.specs.Generated.{head_of, core_of, class_of, class_of_name, generated_name, begins_with_dash}
+use Rattle.canonical_names.specs.Renaming.{canonical_file, canonical_in, canonical_name, rank, longest_first, rewritten, renamed_core, renamed_word, renamed_words, renamed_after, renamed, with_words, seen_after_word, seen_after, names_of_run}
+use Rattle.canonical_names.specs.Alike.{core_through, IsRenaming}
+use Rattle.canonical_names.specs.CanonicalNames.{AreSuffixes, core_by_all, word_by_all, command_by_all, RenamedOnceForAll}
+use Rattle.canonical_names.specs.Shadow.{appearances}
+use Rattle.canonical_names.proofs.AgainLemmas.{told-word, canonical-renaming}
+use Rattle.canonical_names.proofs.AlikeLemmas.{ToldWord, added-member, add-mapped, within-all, rank-mapped}
+use Rattle.canonical_names.proofs.CanonicalLemmas.{HasClass, run-all, canonical-at, no-member, head-member, tail-member, member-cases, find-found}
+use Rattle.canonical_names.proofs.CleanLemmas.{clean-run_is_a_map}
+use Rattle.canonical_names.proofs.RankLemmas.{add, bytes_eq-itself, fold-append, words-names, run-names, fold-front, rank-found, rank-stable}
+use Rattle.canonical_names.proofs.ReplaceLemmas.{starts-split}
+use Rattle.canonical_names.proofs.RewriteLemmas.{fold-each}
+
+-- a text that isn't empty, replaced by itself
+one-less : (n : ℕ) → suc n - 1 ≡ n
+one-less n = omega arith
+
+past-itself : (x : ℕ) (xs : List ℕ) (k : ℕ) (text : List ℕ) → replaced_past k (x ∷ xs) (x ∷ xs) text ≡ drop k text
+past-itself x xs zero [] = refl
+past-itself x xs (suc k) [] = refl
+past-itself x xs (suc k) (c ∷ cs) = past-itself x xs k cs
+past-itself x xs zero (c ∷ cs) =
+    elim (starts_with nat_eq (c ∷ cs) (x ∷ xs)) as (λ b. starts_with nat_eq (c ∷ cs) (x ∷ xs) ≡ b → cond b (x ∷ xs) (c ∷ []) ++ replaced_past (cond b (length (x ∷ xs) - 1) 0) (x ∷ xs) (x ∷ xs) cs ≡ c ∷ cs) [
+      | true ↦ λ e.
+          ap (λ n. (x ∷ xs) ++ replaced_past n (x ∷ xs) (x ∷ xs) cs) (one-less (length xs))
+          ∙ ap (λ t. (x ∷ xs) ++ t) (past-itself x xs (length xs) cs)
+          ∙ sym (starts-split (c ∷ cs) (x ∷ xs) e)
+      | false ↦ λ _. ap (λ t. c ∷ t) (past-itself x xs zero cs)
+    ] refl
+
+replaced-itself : (front : List ℕ) (x : ℕ) (xs text : List ℕ) → replaced (front ++ x ∷ xs) (front ++ x ∷ xs) text ≡ text
+replaced-itself [] x xs text = past-itself x xs zero text
+replaced-itself (c ∷ front) x xs text = past-itself c (front ++ x ∷ xs) zero text
+
+-- names whose replacement leaves a text as it is
+fold-same : (new : List ℕ → List ℕ) (text : List ℕ) (names : List (List ℕ)) → AllByRecursion (λ n. replaced n (new n) text ≡ text) names → fold (λ t name. replaced name (new name) t) text names ≡ text
+fold-same new text [] all = refl
+fold-same new text (n ∷ ns) all = ap (λ t. fold (λ t name. replaced name (new name) t) t ns) all.0 ∙ fold-same new text ns all.1
+
+rewritten-same : (suffixes seen : List (List ℕ)) (text : List ℕ) → AllByRecursion (λ n. replaced n (canonical_name suffixes seen n) text ≡ text) seen → rewritten suffixes seen text ≡ text
+rewritten-same suffixes seen text each =
+    fold-same (canonical_name suffixes seen) text (longest_first seen) (fold-each (λ n. replaced n (canonical_name suffixes seen n) text ≡ text) seen [] each tt)
+
+-- a member is found
+left-true : (a b : Bool) → a ≡ true → (a || b) ≡ true
+left-true a b h = ap (λ t. t || b) h
+
+right-true : (a b : Bool) → b ≡ true → (a || b) ≡ true
+right-true true b h = refl
+right-true false b h = h
+
+pub member-among : (n : List ℕ) (seen : List (List ℕ)) → Contains seen n → list_any (λ m. bytes_eq m n) seen ≡ true
+member-among n [] h = absurd (no-member n h)
+member-among n (m ∷ seen) h =
+    elim (member-cases m seen n h) as (λ _. (bytes_eq m n || list_any (λ m. bytes_eq m n) seen) ≡ true) [
+      | inl is ↦ left-true (bytes_eq m n) (list_any (λ m. bytes_eq m n) seen) (subst (λ z. bytes_eq z n ≡ true) (sym is) (bytes_eq-itself n))
+      | inr more ↦ right-true (bytes_eq m n) (list_any (λ m. bytes_eq m n) seen) (member-among n seen more)
+    ]
+
+-- Below, the names of a run, which get canonical names.
+module _ (suffixes : List (List ℕ)) (lawful : AreSuffixes suffixes) (names : List (List ℕ)) (renaming : IsRenaming suffixes names (canonical_name suffixes names)) (classes : All (HasClass suffixes) names) where
+  abbrev f : List ℕ → List ℕ
+  f = canonical_name suffixes names
+
+  rank-kept : (class n : List ℕ) (seen xs : List (List ℕ)) → names ≡ fold add seen xs → Contains seen n → rank class seen n ≡ rank class names n
+  rank-kept class n seen xs all h =
+      let rest = fold-front seen xs in
+      sym (ap (λ ns. rank class ns n) (all ∙ rest.1) ∙ rank-found class n seen rest.0 (member-among n seen h))
+
+  -- a canonical name, among canonical names, is its own canonical name
+  canonical-again : (seen xs : List (List ℕ)) → names ≡ fold add seen xs → (n : List ℕ) → Contains seen n → canonical_name suffixes (map f seen) (f n) ≡ f n
+  canonical-again seen xs all n h =
+      let hn : Contains names n = within-all suffixes lawful names f renaming seen xs all n h in
+      let class : HasClass suffixes n = All-contains (HasClass suffixes) names n classes hn in
+      let hc : Contains suffixes class.0 = (find-found (ends_with nat_eq n) suffixes class.0 class.1).0 in
+      let kept : class_of_name suffixes (f n) ≡ Some class.0 = renaming.keeps_class n hn ∙ class.1 in
+      canonical-at suffixes (map f seen) (f n) class.0 kept
+      ∙ ap (λ d. joined d (canonical_file (rank class.0 (map f seen) (f n)) class.0)) (renaming.keeps_folder n hn)
+      ∙ ap (λ k. joined (folder_of n) (canonical_file k class.0)) (rank-mapped suffixes lawful names f renaming class.0 n hc hn seen (within-all suffixes lawful names f renaming seen xs all) ∙ rank-kept class.0 n seen xs all h)
+      ∙ sym (canonical-at suffixes names n class.0 class.1)
+
+  -- so no text is changed by them
+  name-itself : (n text : List ℕ) → Contains names n → replaced (f n) (f n) text ≡ text
+  name-itself n text hn =
+      let class : HasClass suffixes n = All-contains (HasClass suffixes) names n classes hn in
+      subst (λ z. replaced z z text ≡ text) (sym (canonical-at suffixes names n class.0 class.1))
+      (replaced-itself (folder_of n ++ separator_after (folder_of n)) 120 (95 ∷ (numeral (rank class.0 names n) ++ class.0)) text)
+
+  each-again : (seen xs : List (List ℕ)) → names ≡ fold add seen xs → (text : List ℕ) (part : List (List ℕ)) → ((n : List ℕ) → Contains part n → Contains seen n) →
+      AllByRecursion (λ m. replaced m (canonical_name suffixes (map f seen) m) text ≡ text) (map f part)
+  each-again seen xs all text [] within = tt
+  each-again seen xs all text (n ∷ part) within =
+      let hn = within n (head-member n part) in (
+        ap (λ z. replaced (f n) z text) (canonical-again seen xs all n hn) ∙ name-itself n text (within-all suffixes lawful names f renaming seen xs all n hn),
+        each-again seen xs all text part (λ m h. within m (tail-member n part m h)),
+      )
+
+  text-again : (seen xs : List (List ℕ)) → names ≡ fold add seen xs → (text : List ℕ) → rewritten suffixes (map f seen) text ≡ text
+  text-again seen xs all text = rewritten-same suffixes (map f seen) text (each-again seen xs all text seen (λ n h. h))
+
+  -- what a renamed word is made of
+  through : (t : List ℕ) (o : Option (List ℕ)) → core_through (λ n. n) t o ≡ t
+  through t None = refl
+  through t (Some c) = refl
+
+  abbrev new_word : List ℕ → Option (List ℕ) → List ℕ
+  new_word word o = head_of word ++ core_by_all names (core_of word) o
+
+  head-again : (word : List ℕ) (o : Option (List ℕ)) → class_of suffixes word ≡ o → head_of (new_word word o) ≡ head_of word
+  head-again word o e = sym (ap (λ (t : ToldWord). t.0) (told-word suffixes lawful names word o e))
+
+  class-again : (word : List ℕ) (o : Option (List ℕ)) → class_of suffixes word ≡ o → class_of suffixes (new_word word o) ≡ o
+  class-again word o e = sym (ap (λ (t : ToldWord). t.1) (told-word suffixes lawful names word o e)) ∙ e
+
+  core-again : (word : List ℕ) (o : Option (List ℕ)) → class_of suffixes word ≡ o → core_of (new_word word o) ≡ core_through f (core_of word) o
+  core-again word o e =
+      sym (through (core_of (new_word word o)) (class_of suffixes (new_word word o)))
+      ∙ sym (ap (λ (t : ToldWord). t.2) (told-word suffixes lawful names word o e))
+      ∙ ap (core_through f (core_of word)) e
+
+  -- the new core of a word stays
+  class-member : (word class : List ℕ) (b : Bool) → cond b None (class_of_name suffixes (core_of word)) ≡ Some class → Contains suffixes class
+  class-member word class true e = cc
+  class-member word class false e = (find-found (ends_with nat_eq (core_of word)) suffixes class e).0
+
+  core-stays : (seen xs : List (List ℕ)) (word : List ℕ) (o : Option (List ℕ)) → class_of suffixes word ≡ o → names ≡ fold add (with_name seen (option_map (λ (_ : List ℕ). core_of word) o)) xs →
+      renamed_core suffixes (map f seen) (core_through f (core_of word) o) o ≡ core_by_all names (core_of word) o
+  core-stays seen xs word None e all = text-again seen xs all (core_of word)
+  core-stays seen xs word (Some class) e all =
+      let core = core_of word in
+      let hn : Contains names core = within-all suffixes lawful names f renaming (add seen core) xs all core (added-member seen core) in
+      let before : (n : List ℕ) → Contains seen n → Contains names n = λ n h. within-all suffixes lawful names f renaming seen (core ∷ xs) all n h in
+      let hc : Contains suffixes class = class-member word class (begins_with_dash core) e in
+      ap (λ d. joined d (canonical_file (rank class (map f seen) (f core)) class)) (renaming.keeps_folder core hn)
+      ∙ ap (λ k. joined (folder_of core) (canonical_file k class))
+      (rank-mapped suffixes lawful names f renaming class core hc hn seen before ∙ sym (rank-stable class core seen xs) ∙ sym (ap (λ ns. rank class ns core) all))
+
+  word-again : (seen xs : List (List ℕ)) (word : List ℕ) (o : Option (List ℕ)) → class_of suffixes word ≡ o → names ≡ fold add (with_name seen (option_map (λ (_ : List ℕ). core_of word) o)) xs →
+      renamed_word suffixes (map f seen) (new_word word o) ≡ new_word word o
+  word-again seen xs word o e all =
+      let new = new_word word o in
+      ap (λ h. h ++ renamed_core suffixes (map f seen) (core_of new) (class_of suffixes new)) (head-again word o e)
+      ∙ ap (λ c. head_of word ++ renamed_core suffixes (map f seen) (core_of new) c) (class-again word o e)
+      ∙ ap (λ t. head_of word ++ renamed_core suffixes (map f seen) t o) (core-again word o e)
+      ∙ ap (λ t. head_of word ++ t) (core-stays seen xs word o e all)
+
+  seen-again : (seen xs : List (List ℕ)) (word : List ℕ) (o : Option (List ℕ)) → class_of suffixes word ≡ o → names ≡ fold add (with_name seen (option_map (λ (_ : List ℕ). core_of word) o)) xs →
+      seen_after_word suffixes (map f seen) (new_word word o) ≡ map f (with_name seen (option_map (λ (_ : List ℕ). core_of word) o))
+  seen-again seen xs word o e all =
+      let new = new_word word o in
+      ap (λ c. with_name (map f seen) (option_map (λ (_ : List ℕ). core_of new) c)) (class-again word o e)
+      ∙ ap (λ t. with_name (map f seen) (option_map (λ (_ : List ℕ). t) o)) (core-again word o e)
+      ∙ by-class o all where
+        by-class : (o : Option (List ℕ)) → names ≡ fold add (with_name seen (option_map (λ (_ : List ℕ). core_of word) o)) xs →
+            with_name (map f seen) (option_map (λ (_ : List ℕ). core_through f (core_of word) o) o) ≡ map f (with_name seen (option_map (λ (_ : List ℕ). core_of word) o))
+        by-class None all = refl
+        by-class (Some class) all =
+            let core = core_of word in
+            add-mapped suffixes lawful names f renaming seen core (within-all suffixes lawful names f renaming (add seen core) xs all core (added-member seen core)) (λ n h. within-all suffixes lawful names f renaming seen (core ∷ xs) all n h)
+
+  words-again : (seen words xs : List (List ℕ)) → names ≡ fold add (seen_after suffixes seen words) xs → renamed_words suffixes (map f seen) (map (word_by_all suffixes names) words) ≡ map (word_by_all suffixes names) words
+  words-again seen [] xs all = refl
+  words-again seen (word ∷ words) xs all =
+      let next = seen_after_word suffixes seen word in
+      let later = filter_map (generated_name suffixes) words ++ xs in
+      let behind : names ≡ fold add next later = all ∙ ap (λ s. fold add s xs) (words-names suffixes next words) ∙ sym (fold-append next (filter_map (generated_name suffixes) words) xs) in
+      let new = word_by_all suffixes names word in
+      let news = map (word_by_all suffixes names) words in
+      ap (λ t. t ∷ renamed_words suffixes (seen_after_word suffixes (map f seen) new) news) (word-again seen later word (class_of suffixes word) refl behind)
+      ∙ ap (λ s. new ∷ renamed_words suffixes s news) (seen-again seen later word (class_of suffixes word) refl behind)
+      ∙ ap (λ t. new ∷ t) (words-again next words xs all)
+
+  seen-words : (seen words xs : List (List ℕ)) → names ≡ fold add (seen_after suffixes seen words) xs → seen_after suffixes (map f seen) (map (word_by_all suffixes names) words) ≡ map f (seen_after suffixes seen words)
+  seen-words seen [] xs all = refl
+  seen-words seen (word ∷ words) xs all =
+      let next = seen_after_word suffixes seen word in
+      let later = filter_map (generated_name suffixes) words ++ xs in
+      let behind : names ≡ fold add next later = all ∙ ap (λ s. fold add s xs) (words-names suffixes next words) ∙ sym (fold-append next (filter_map (generated_name suffixes) words) xs) in
+      ap (λ s. seen_after suffixes s (map (word_by_all suffixes names) words)) (seen-again seen later word (class_of suffixes word) refl behind)
+      ∙ seen-words next words xs all
+
+  run-again : (seen : List (List ℕ)) (commands : List CommandLine) → names ≡ fold (λ seen command. seen_after suffixes seen (words_of_command command)) seen commands →
+      renamed_after suffixes (map f seen) (map (command_by_all suffixes names) commands) ≡ map (command_by_all suffixes names) commands
+  run-again seen [] all = refl
+  run-again seen (command ∷ commands) all =
+      let words = words_of_command command in
+      let next = seen_after suffixes seen words in
+      let behind : names ≡ fold add next (appearances suffixes commands) = all ∙ run-names suffixes next commands in
+      let news = map (command_by_all suffixes names) commands in
+      ap (λ ws. with_words command ws ∷ renamed_after suffixes (seen_after suffixes (map f seen) (map (word_by_all suffixes names) words)) news) (words-again seen words (appearances suffixes commands) behind)
+      ∙ ap (λ s. command_by_all suffixes names command ∷ renamed_after suffixes s news) (seen-words seen words (appearances suffixes commands) behind)
+      ∙ ap (λ t. command_by_all suffixes names command ∷ t) (run-again next commands all)
+
+pub renamed-once : RenamedOnceForAll
+renamed-once suffixes lawful commands clean =
+    let names = names_of_run suffixes commands in
+    let mapped : renamed suffixes commands ≡ map (command_by_all suffixes names) commands = clean-run_is_a_map suffixes commands clean in
+    ap (renamed suffixes) mapped
+    ∙ run-again suffixes lawful names (canonical-renaming suffixes lawful commands) (run-all suffixes [] commands (All-nil (HasClass suffixes))) [] commands refl
+    ∙ sym mapped

@@ -1,0 +1,91 @@
+//! Running the commands that an nvcc call stands for.
+
+ghost use Rattle.std.specs.Prelude.{◌≡◌};
+ghost use Rattle.std.specs.Option.{option_copied};
+ghost use Rattle.texts.specs.Fault.{UnlessMemory};
+ghost use Rattle.cuda_plans.specs.NvccPlan.{planned};
+ghost use Rattle.cuda_plans.specs.Schedule.{Gains, ExecutesAs};
+
+use super::command::NvccCompileCommand;
+use crate::runner::Runner;
+use crate::running::run_plan;
+use canonical_names::Suffixes;
+use command_groups::{Plan, group_nvcc_subcommands_by_compilation_stage};
+use dry_runs::Which;
+use std::alloc::Global;
+use texts::fault::Fault;
+use texts::status::Output;
+use texts::text::Text;
+
+// The path of a folder that may be missing.
+fn path_of(folder: &Option<Text>) -> Option<&str>
+    ensures { option_copied result ≡ folder.now }
+{
+    match folder {
+        None => None,
+        Some(path) => Some(path.as_str()),
+    }
+}
+
+impl NvccCompileCommand {
+    // The plan of the call.
+    fn plan<W: Which>(
+        &self,
+        alloc: Global,
+        dry1: &[u8],
+        dry2: &[u8],
+        which: &W,
+        suffixes: &Suffixes,
+    ) -> Result<Plan, Fault>
+        ensures { UnlessMemory result (planned self.now suffixes.now (W.answer which.now) dry1.now dry2.now) }
+    {
+        group_nvcc_subcommands_by_compilation_stage(
+            alloc,
+            dry1,
+            dry2,
+            self.compilation_flag.as_str(),
+            self.cwd.as_str(),
+            self.temp_dir.as_str(),
+            path_of(&self.keep_dir),
+            self.env_vars.as_slice(),
+            self.host_compiler,
+            which,
+            suffixes,
+        )
+    }
+
+    /// Runs what the call stands for, and answers the joined output.
+    ///
+    /// `dry1` and `dry2` are what the two commands of `dryrun_commands` print on standard error. They are
+    /// planned by `group_nvcc_subcommands_by_compilation_stage`, with `which` and `suffixes`, before anything
+    /// runs. The plan's groups run in chunks: the front group, the device groups by `num_parallel` at a time,
+    /// at least one and at most all of them, and the final group. `runner` is handed each command once, with its
+    /// place, one after the other.
+    ///
+    /// A command fails if its answer's output isn't a success. Its group then stops, and the groups behind its
+    /// chunk don't run, but the other groups of its chunk do. The outputs' texts are joined in the order of the
+    /// places, and the first failure's status is kept.
+    ///
+    /// The runner's account says what ran: what it gains is
+    /// - with an output, every command of the plan, none of which failed;
+    /// - with `Process`, which has the joined output, all that the failures let run;
+    /// - with another refusal of the planning, nothing;
+    /// - with `Memory`, a beginning of what is due. What ran before it stays run.
+    ///
+    /// As in sccache 0.19.0, except that sccache makes the dry runs itself, that it runs the groups of a chunk at
+    /// the same time, and that it moves the intermediate files to the keep directory.
+    pub fn execute<W: Which, R: Runner>(
+        &self,
+        alloc: Global,
+        dry1: &[u8],
+        dry2: &[u8],
+        which: &W,
+        runner: &mut R,
+        suffixes: &Suffixes,
+    ) -> Result<Output, Fault>
+        ensures { Gains (R.log runner.old) (R.log runner.new) (λ account. ExecutesAs (planned self.now suffixes.now (W.answer which.now) dry1.now dry2.now) self.now.num_parallel account result) }
+    {
+        let plan = self.plan(alloc, dry1, dry2, which, suffixes)?;
+        run_plan(alloc, runner, plan.groups, self.num_parallel)
+    }
+}

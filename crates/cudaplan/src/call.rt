@@ -1,0 +1,85 @@
+//! The forms of a call.
+
+ghost use Rattle.std.specs.Prelude.{◌≡◌, map, string_bytes};
+ghost use Rattle.std.specs.Option.{option_map};
+ghost use Rattle.cudaplan.specs.Calls as spec;
+
+use plan_texts::Tool;
+
+/// A call that reads a tool's line at a working directory.
+#[derive(Debug, Drop)]
+pub struct LineCall<'a> {
+    pub tool: Tool,
+    pub cwd: &'a str,
+    pub words: &'a [String],
+}
+
+/// A call that plans the dry runs of two files.
+#[derive(Debug, Drop)]
+pub struct PlanCall<'a> {
+    /// The working directory's path.
+    pub cwd: &'a str,
+    /// The path of the folder of temporary files.
+    pub tmp: &'a str,
+    /// The compilation flag.
+    pub flag: &'a str,
+    /// The path of the first dry run's file.
+    pub dry1: &'a str,
+    /// The path of the second dry run's file.
+    pub dry2: &'a str,
+    /// Further suffixes of generated files.
+    pub suffixes: &'a [String],
+}
+
+/// A call of the program.
+#[derive(Debug, Drop)]
+pub enum Call<'a> {
+    Line(LineCall<'a>),
+    Plan(PlanCall<'a>),
+}
+
+// The call that the words behind `line` are.
+fn line_call<'a>(words: &'a [String]) -> Option<LineCall<'a>>
+    ensures { option_map spec.line_of result ≡ spec.line_call_of (map string_bytes words.now) }
+{
+    let [tool, cwd, line @ ..] = words else {
+        return None;
+    };
+    Some(LineCall {
+        tool: Tool::named(tool.as_str())?,
+        cwd: cwd.as_str(),
+        words: line,
+    })
+}
+
+// The call that the words behind `plan` are.
+fn plan_call<'a>(words: &'a [String]) -> Option<PlanCall<'a>>
+    ensures { option_map spec.plan_of result ≡ spec.plan_call_of (map string_bytes words.now) }
+{
+    let [cwd, tmp, flag, dry1, dry2, suffixes @ ..] = words else {
+        return None;
+    };
+    Some(PlanCall {
+        cwd: cwd.as_str(),
+        tmp: tmp.as_str(),
+        flag: flag.as_str(),
+        dry1: dry1.as_str(),
+        dry2: dry2.as_str(),
+        suffixes,
+    })
+}
+
+/// The call that the words after the program's name are: `line TOOL CWD WORD..` or
+/// `plan CWD TMP FLAG DRY1 DRY2 SUFFIX..`.
+pub fn call_of<'a>(words: &'a [String]) -> Option<Call<'a>>
+    ensures { option_map spec.seen result ≡ spec.call_of (map string_bytes words.now) }
+{
+    let [verb, rest @ ..] = words else {
+        return None;
+    };
+    match verb.as_str() {
+        "line" => Some(Call::Line(line_call(rest)?)),
+        "plan" => Some(Call::Plan(plan_call(rest)?)),
+        _ => None,
+    }
+}

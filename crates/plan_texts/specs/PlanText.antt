@@ -1,0 +1,41 @@
+-- The text that the program shows of two dry runs.
+use Rattle.std.specs.Prelude.{ℕ, List, [], ◌++◌, if◌then◌else◌, None, Result, Ok, Err}
+use Rattle.cuda_below.specs.declared.compiler.NvccHostCompiler.TheVariants.{Gcc}
+use Rattle.texts.specs.declared.fault.Fault.{Fault}
+use Rattle.texts.specs.declared.fault.Fault.TheVariants.{BadSuffixes, Read}
+use Rattle.canonical_names.specs.Generated.{standard_suffixes}
+use Rattle.canonical_names.specs.SuffixRule.{are_suffixes}
+use Rattle.command_groups.specs.declared.plan.Plan.{Plan}
+use Rattle.command_groups.specs.Plan.{PlanSetting}
+use Rattle.command_groups.specs.PlanOfBytes.{planning_of}
+use Rattle.dry_runs.specs.FirstDir.{first_dir}
+use Rattle.plan_texts.specs.declared.stop.Stop.{Stop}
+use Rattle.plan_texts.specs.declared.stop.Stop.TheVariants as stops
+use Rattle.plan_texts.specs.ShownPlan.{show_plan}
+
+-- what the program plans for: host code is gcc's, and the call's environment is empty
+abbrev pub program_setting : List ℕ → List ℕ → List ℕ → PlanSetting
+program_setting cwd tmp flag = record { cwd = cwd; tmp = tmp; flag = flag; host_compiler = Gcc; env_vars = [] }
+
+-- the suffixes of a call: the standard ones, and the further ones behind them, if together they are a list of suffixes
+abbrev pub all_suffixes : List (List ℕ) → Result (List (List ℕ)) Fault
+all_suffixes further = if are_suffixes (standard_suffixes ++ further) then Ok (standard_suffixes ++ further) else Err BadSuffixes
+
+-- the text of a plan, or why there is none
+abbrev pub show_planning : Result Plan Fault → Result (List ℕ) Stop
+show_planning (Ok plan) = Ok (show_plan plan)
+show_planning (Err fault) = Err (stops.Fault fault)
+
+-- the text of what two dry runs are planned as with these suffixes, without a keep directory, every program being looked
+-- up in the first folder of `PATH`
+abbrev pub shown_with : List ℕ → List ℕ → List ℕ → List ℕ → List ℕ → Result (List (List ℕ)) Fault → Result (List ℕ) Stop
+shown_with cwd tmp flag first second (Ok suffixes) = show_planning (planning_of suffixes None (program_setting cwd tmp flag) first_dir first second)
+shown_with cwd tmp flag first second (Err fault) = Err (stops.Fault fault)
+
+-- the same with the standard suffixes and further ones, which are judged before a run is read
+abbrev pub shown_plan : List ℕ → List ℕ → List ℕ → List ℕ → List ℕ → List (List ℕ) → Result (List ℕ) Stop
+shown_plan cwd tmp flag first second further = shown_with cwd tmp flag first second (all_suffixes further)
+
+-- what is shown where the file of a run can't be read
+abbrev pub unread : Result (List ℕ) Stop
+unread = Err (stops.Fault Read)
