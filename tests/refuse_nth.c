@@ -1,11 +1,10 @@
 // Preloaded into a program, refuses one growth: the one whose number the variable REFUSED gives, counted from 1. When the
-// program ends it writes to the file descriptor 9, if that is open, whether it was refused one: `refused` or `whole`.
+// program ends it writes to the file descriptor 9 whether one was refused, `refused` or `whole`, and how many were asked for.
 #define _GNU_SOURCE
 #include <dlfcn.h>
 #include <errno.h>
+#include <stdio.h>
 #include <stdlib.h>
-#include <string.h>
-#include <unistd.h>
 
 static unsigned long number, refused;
 
@@ -39,8 +38,5 @@ void *realloc(void *old, size_t size) {
 }
 
 __attribute__((destructor)) static void tell(void) {
-    const char *text = number >= refused ? "refused\n" : "whole\n";
-    if (write(9, text, strlen(text)) < 0) {
-        return;
-    }
+    dprintf(9, "%s %lu\n", number >= refused ? "refused" : "whole", number);
 }

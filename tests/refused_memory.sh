@@ -3,7 +3,8 @@
 # growth has to end in "out of memory", and never in another answer. (The library's lists may ask again for less room
 # than the first time; a run in which that is granted gives the same as with memory, and is counted apart.)
 #
-# Usage: tests/refused_memory.sh [FILE..], each a file of crates/worked_rows/data; all with short rows, unless named.
+# Usage: tests/refused_memory.sh [FILE..], each a file of crates/worked_rows/data; all that hold right rows, unless named.
+# A row that asks for more than MOST growths (3000, if that isn't set) is left out: it would take minutes.
 # The built programs have to stand in the out/ of crates/worked_rows and crates/cudaplan, as `make refused-memory` builds
 # them. Each run is a process of its own, into which refuse_nth.c is preloaded.
 set -u
@@ -27,7 +28,9 @@ counted=0
 refused=0
 answered=0
 same=0
+left_out=0
 failed=0
+most=${MOST:-3000}
 
 # wrong TEXT..: notes a failure.
 wrong() {
@@ -42,7 +45,7 @@ run_refused() {
     shift
     printed=$(REFUSED=$number LD_PRELOAD=$work/hook.so "$@" 9>told 2>&1)
     status=$?
-    met=$(<told)
+    read -r met growths <told
 }
 
 # judge_row NAME N: judges a run of a row. A refusal in the call is its answer; one around it ends the program with status
@@ -82,13 +85,17 @@ judge_call() {
 count_up() {
     local judge=$1 name=$2 number=1
     shift 2
-    counted=$((counted + 1))
     run_refused 1000000000 "$@"
     expected=$printed
     if [ "$met" != whole ] || [ "$status" -ne 0 ]; then
         wrong "$name, with memory: status $status: $printed"
         return
     fi
+    if [ "$growths" -gt "$most" ]; then
+        left_out=$((left_out + 1))
+        return
+    fi
+    counted=$((counted + 1))
     while run_refused "$number" "$@"; [ "$met" = refused ]; do
         refused=$((refused + 1))
         "$judge" "$name" "$number"
@@ -109,13 +116,13 @@ run_file() {
         cp "$row" row.txt
         count_up judge_row "$file:$((10#${row#parts/}))" "$rows" row.txt
     done
-    echo "$file: refusals $((refused - before))"
+    echo "$file: refusals $((refused - before)), after $SECONDS s"
 }
 
 if [ $# -eq 0 ]; then
     for file in *.txt; do
         case $file in
-            long_rows.txt | wrong_rows.txt) ;;
+            wrong_rows.txt) ;;
             *) set -- "$@" "$file" ;;
         esac
     done
@@ -130,6 +137,9 @@ count_up judge_call 'a cicc line' "$program" line cicc /w --device-c -arch compu
 count_up judge_call 'a ptxas line' "$program" line ptxas /w -arch=sm_80 -m64 kernel.ptx -o kernel.cubin
 count_up judge_call 'a cudafe++ line' "$program" line cudafe++ /t --gen_c_file_name x_0.cudafe1.cpp --stub_file_name \
     x_0.cudafe1.stub.c --gen_module_id_file --module_id_file_name kernel.module_id --simt-only x_0.cpp4.ii
+count_up judge_call 'a plan' "$program" plan /w /t -c dry_runs/one_kernel.dry1 dry_runs/one_kernel.dry2
+count_up judge_call 'a plan with a further suffix' "$program" plan /w /t -c dry_runs/one_kernel.dry1 \
+    dry_runs/one_kernel.dry2 .cudafe1.gpu
 echo "calls of the program: refusals $((refused - before))"
-echo "rows and calls: $counted, refusals: $refused, answered by a call: $answered, asked again: $same, failed: $failed"
+echo "rows and calls: $counted, left out: $left_out, refusals: $refused, answered by a call: $answered, asked again: $same, failed: $failed"
 [ "$failed" -eq 0 ]

@@ -1,8 +1,10 @@
 //! The cases of a run of the program.
 
 use crate::call::Call;
+use crate::engine::check_engine;
 use crate::pair::{Pair, some_pair};
 use crate::planned::check_pair;
+use crate::selection::check_selections;
 use crate::shell_text::check_shell;
 use crate::source::Source;
 use crate::stop::Stop;
@@ -23,6 +25,8 @@ fn run_case(alloc: Global, seed: u64, number: u64, tally: &mut Tally) -> Result<
     let before = tally.failed();
     let pair = some_pair(alloc, seed, number, tally)?;
     check_pair(alloc, &pair, tally)?;
+    check_engine(alloc, &pair, tally)?;
+    check_selections(alloc, &pair, tally)?;
     if tally.failed() > before {
         show(alloc, &pair, tally)?;
     }

@@ -2,7 +2,7 @@
 
 use crate::dry_run::{Kind, dry_run, some_kind};
 use crate::source::Source;
-use crate::suffix_list::suffixes;
+use crate::suffix_list::{further, suffixes};
 use crate::tally::Tally;
 use crate::template::Names;
 use cuda_plans::compiler::NvccHostCompiler;
@@ -29,6 +29,8 @@ pub struct Pair {
     pub first: Vec<u8>,
     pub second: Vec<u8>,
     pub setting: Setting,
+    /// Suffixes of generated files that stand behind the standard ones where the plan is printed.
+    pub further: Vec<String>,
 }
 
 // A host compiler by chance.
@@ -136,5 +138,6 @@ pub fn some_pair(
         first,
         second,
         setting,
+        further: further(alloc, &mut source)?,
     })
 }

@@ -9,16 +9,16 @@ use cuda_plans::plan::{Dropped, NvccGeneratedSubcommand, Plan};
 use std::alloc::{AllocError, Global};
 use texts::fault::Fault;
 
-// The commands of a run that a plan is made of: with canonical names, unless a folder keeps the files.
-fn named(alloc: Global, setting: &Setting, run: DryRun) -> Result<Commands, AllocError> {
+/// The commands of a run that a plan is made of: with canonical names, unless a folder keeps the files.
+pub fn named(alloc: Global, setting: &Setting, run: DryRun) -> Result<Commands, AllocError> {
     match setting.keep_dir {
         None => remap_commands(alloc, run.commands, &setting.suffixes),
         Some(_) => Ok(run.commands),
     }
 }
 
-// Adds the commands of a run that are selected, by their programs' stems.
-fn add_selected(run: usize, commands: &[(usize, String, Vec<String>)], sum: &mut Sum) {
+/// Adds the commands of a run that are selected, by their programs' stems.
+pub fn add_selected(run: usize, commands: &[(usize, String, Vec<String>)], sum: &mut Sum) {
     for (_, program, words) in commands {
         if run_of(program.as_str()) == Some(run) {
             sum.add(run, program.as_str(), words.as_slice());

@@ -72,22 +72,6 @@ pub const BASES: [&str; 20] = [
     "k.cudafe1",
 ];
 
-/// What stands behind the names of generated files.
-pub const SUFFIXES: [&str; 12] = [
-    ".cpp1.ii",
-    ".cpp1.ii",
-    ".cpp4.ii",
-    ".cudafe1.c",
-    ".cudafe1.cpp",
-    ".cudafe1.stub.c",
-    ".cudafe1.gpu",
-    ".ptx",
-    ".cubin",
-    ".fatbin",
-    ".module_id",
-    ".o",
-];
-
 /// Suffixes that are handed in, good ones and bad ones.
 pub const HANDED: [&str; 16] = [
     ".cpp1.ii",
@@ -203,7 +187,7 @@ pub const DEVICE_WORDS: [&str; 40] = [
 ];
 
 /// The words of nvcc's line.
-pub const HOST_WORDS: [&str; 72] = [
+pub const HOST_WORDS: [&str; 74] = [
     "-c",
     "-c",
     "--compile",
@@ -218,6 +202,8 @@ pub const HOST_WORDS: [&str; 72] = [
     "foo.o",
     "-o",
     "-ofoo.o",
+    "-o..",
+    "-oa/",
     "-x",
     "-x=cu",
     "-xcu",

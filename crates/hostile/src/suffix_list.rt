@@ -38,6 +38,15 @@ fn handed(alloc: Global, source: &mut Source, tally: &mut Tally) -> Result<Suffi
     }
 }
 
+/// Mostly no suffix, and else one to stand behind the standard ones.
+pub fn further(alloc: Global, source: &mut Source) -> Result<Vec<String>, AllocError> {
+    let mut list = Vec::new(alloc);
+    if source.one_in(4) {
+        list.push(String::from_str(alloc, source.pick(&HANDED))?)?;
+    }
+    Ok(list)
+}
+
 /// The standard suffixes, or handed-in ones.
 pub fn suffixes(
     alloc: Global,

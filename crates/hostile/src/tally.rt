@@ -6,7 +6,7 @@ use std::alloc::{AllocError, Global};
 use texts::fault::Fault;
 
 // What is counted, in the order in which it is printed.
-const NAMES: [&str; 41] = [
+const NAMES: [&str; 44] = [
     "pairs",
     "plans",
     "plans with device groups",
@@ -24,6 +24,10 @@ const NAMES: [&str; 41] = [
     "pairs written anew",
     "pairs with other names",
     "pairs that can't be written so",
+    "plans printed",
+    "plans not printed",
+    "selections",
+    "selections refused",
     "lists of suffixes taken",
     "refused: bad suffixes",
     "device lines",
@@ -35,7 +39,6 @@ const NAMES: [&str; 41] = [
     "nvcc lines that can't be cached",
     "nvcc lines that are no compilation",
     "nvcc lines preprocessed",
-    "refused: not preprocessed",
     "nvcc lines written",
     "refused: no file name",
     "refused: keep directory without a value",
