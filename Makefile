@@ -1,13 +1,15 @@
 # What a newcomer and the gate call.
 PREFIX ?= /usr/local
 
-.PHONY: help demo build install bench test
+.PHONY: help demo build install bench hostile refused-memory test
 
 help:
 	@echo 'make demo             shows what the program prints, unproved, within a minute of a fresh clone'
 	@echo 'make build            proves and builds the program: crates/cudaplan/out/cudaplan'
 	@echo 'make install PREFIX=  installs it, below /usr/local unless PREFIX is given'
 	@echo 'make bench            times the calls of the library'
+	@echo 'make hostile          calls the library with 10,000 cases that nobody wrote: SEED= COUNT= FIRST='
+	@echo 'make refused-memory   refuses each growth of memory of the worked rows in turn'
 	@echo 'make test             the whole gate; its last line is N passed, M failed'
 
 # The device-code line, read and written back, and the plan of two real dry runs.
@@ -26,6 +28,18 @@ install: build
 
 bench:
 	cd crates/cudabench && rt run -- line 100000 cicc /w --device-c -arch compute_80 --module_id_file_name kernel.module_id kernel.cpp1.ii --simt-only -o kernel.ptx
+
+# Cases by a seeded generator. A failure is printed with its seed and number: FIRST=number COUNT=1 makes it again.
+SEED ?= 1
+COUNT ?= 10000
+FIRST ?= 0
+hostile:
+	cd crates/hostile && rt run -- $(SEED) $(COUNT) $(FIRST)
+
+# The worked rows and calls of the program, with each growth of memory refused in turn.
+refused-memory: build
+	cd crates/worked_rows && rt check && { rt run > /dev/null 2>&1 || true; }
+	tests/refused_memory.sh
 
 # The whole gate: every proof from nothing, the must-fail edits, the tests and the programs, and last the calls of the
 # built program.

@@ -1,0 +1,29 @@
+//! The program's calls.
+
+/// A call: the seed, the number of the first case, and how many cases are run.
+#[derive(Clone, Copy, Debug)]
+pub struct Call {
+    pub seed: u64,
+    pub first: u64,
+    pub count: u64,
+}
+
+// The number that a word is.
+fn number(word: &str) -> Option<u64> {
+    word.parse::<u64>().ok()
+}
+
+/// The call that the words after the program's name are: `SEED COUNT` or `SEED COUNT FIRST`, decimal numbers.
+/// `FIRST` is 0 if it isn't there.
+pub fn call_of(words: &[String]) -> Option<Call> {
+    let (seed, count, first) = match words {
+        [seed, count] => (seed.as_str(), count.as_str(), "0"),
+        [seed, count, first] => (seed.as_str(), count.as_str(), first.as_str()),
+        _ => return None,
+    };
+    Some(Call {
+        seed: number(seed)?,
+        first: number(first)?,
+        count: number(count)?,
+    })
+}

@@ -1,0 +1,187 @@
+//! Lines of nvcc.
+
+use crate::pools::HOST_WORDS;
+use crate::source::Source;
+use crate::tally::Tally;
+use crate::word::odd_word;
+use cuda_plans::arguments::{CompilerArguments, ParsedArguments};
+use cuda_plans::command::CompileCommandImpl;
+use cuda_plans::compiler::{CCompilerImpl, NvccHostCompiler, Places};
+use cuda_plans::nvcc::{Nvcc, NvccCompileCommand, take_keep, take_threads};
+use std::alloc::{AllocError, Global};
+use texts::text::Text;
+use texts::words::Words;
+
+// A word of a line by chance.
+fn word(alloc: Global, source: &mut Source) -> Result<String, AllocError> {
+    if source.one_in(24) {
+        return odd_word(alloc, source);
+    }
+    String::from_str(alloc, source.pick(&HOST_WORDS))
+}
+
+// A line by chance. Most have what makes them a compilation.
+fn line(alloc: Global, source: &mut Source) -> Result<Vec<String>, AllocError> {
+    let mut words = Vec::new(alloc);
+    if !source.one_in(3) {
+        words.push(String::from_str(alloc, "-c")?)?;
+        words.push(String::from_str(alloc, "foo.cu")?)?;
+    }
+    let count = source.below(6);
+    for _ in 0..count {
+        words.push(word(alloc, source)?)?;
+    }
+    Ok(words)
+}
+
+// An environment by chance.
+fn environment(alloc: Global, source: &mut Source) -> Result<Vec<(String, String)>, AllocError> {
+    let mut env_vars = Vec::new(alloc);
+    let names = ["NVCC_PREPEND_FLAGS", "NVCC_APPEND_FLAGS", "A"];
+    let values = [
+        "",
+        "-x cu",
+        "-DX=\"a b\"",
+        "\"a",
+        "-keep-dir k --keep",
+        "--threads",
+    ];
+    let count = source.below(3);
+    for _ in 0..count {
+        let name = String::from_str(alloc, source.pick(&names))?;
+        env_vars.push((name, String::from_str(alloc, source.pick(&values))?))?;
+    }
+    Ok(env_vars)
+}
+
+// Whether a word asks to keep files.
+fn is_keep_word(word: &str) -> bool {
+    matches!(
+        word,
+        "-keep" | "--keep" | "-save-temps" | "--save-temps" | "-keep-dir" | "--keep-dir"
+    )
+}
+
+// Whether a word says how many threads run.
+fn is_thread_word(word: &str) -> bool {
+    word == "--threads" || word.starts_with("-t")
+}
+
+// Whether no word asks to keep files.
+fn are_without_keep_words(words: &[String]) -> bool {
+    for word in words {
+        if is_keep_word(word.as_str()) {
+            return false;
+        }
+    }
+    true
+}
+
+// Whether no word says how many threads run.
+fn are_without_thread_words(words: &[String]) -> bool {
+    for word in words {
+        if is_thread_word(word.as_str()) {
+            return false;
+        }
+    }
+    true
+}
+
+// Checks what is left of a line without the words on kept files.
+fn check_kept(alloc: Global, words: &[String], tally: &mut Tally) -> Result<(), AllocError> {
+    let left = match take_keep(alloc, words, "/w") {
+        Ok((left, _folder)) => left,
+        Err(fault) => return tally.refused(&fault),
+    };
+    tally.count("lines without keep words")?;
+    let none = are_without_keep_words(left.as_slice());
+    tally.expect(none, "no word on kept files is left")
+}
+
+// Checks what is left of a line without the words on threads.
+fn check_threads(alloc: Global, words: &[String], tally: &mut Tally) -> Result<(), AllocError> {
+    let left = match take_threads(alloc, words) {
+        Ok((left, _threads)) => left,
+        Err(fault) => return tally.refused(&fault),
+    };
+    tally.count("lines without thread words")?;
+    let none = are_without_thread_words(left.as_slice());
+    tally.expect(none, "no word on threads is left")
+}
+
+// Checks the two dry runs of a command: they have its words, and ask for a dry run.
+fn check_dry_runs(
+    alloc: Global,
+    command: &NvccCompileCommand,
+    tally: &mut Tally,
+) -> Result<(), AllocError> {
+    let (first, second) = command.dryrun_commands(alloc)?;
+    let mut words = Words::copy_of(alloc, command.get_arguments())?;
+    let mut kept = words.try_clone(alloc)?;
+    words.push_pair(alloc, "--dryrun", "--keep")?;
+    tally.expect(
+        first.arguments == words,
+        "the first dry run has the command's words",
+    )?;
+    kept.push_pair(alloc, "--keep-dir", command.temp_dir.as_str())?;
+    kept.push_pair(alloc, "--dryrun", "--keep")?;
+    tally.expect(
+        second.arguments == kept,
+        "the second dry run has the command's words",
+    )
+}
+
+// Checks arguments that were read.
+fn check_parsed(
+    alloc: Global,
+    nvcc: &Nvcc,
+    parsed: &ParsedArguments,
+    env_vars: &[(String, String)],
+    tally: &mut Tally,
+) -> Result<(), AllocError> {
+    let places = Places {
+        temp_dir: Text::copy_of(alloc, "/t")?,
+        canonical_input: Text::copy_of(alloc, "/w/foo.cu")?,
+    };
+    match nvcc.preprocess(alloc, "nvcc", parsed, "/w", env_vars) {
+        Ok(_) => tally.count("nvcc lines preprocessed")?,
+        Err(fault) => tally.refused(&fault)?,
+    }
+    match nvcc.generate_compile_commands(alloc, "nvcc", parsed, "/w", env_vars, &places) {
+        Ok((command, _)) => {
+            tally.count("nvcc lines written")?;
+            check_dry_runs(alloc, &command, tally)
+        }
+        Err(fault) => tally.refused(&fault),
+    }
+}
+
+// A host compiler by chance.
+fn host_compiler(source: &mut Source) -> NvccHostCompiler {
+    match source.below(3) {
+        0 => NvccHostCompiler::Msvc,
+        1 => NvccHostCompiler::Nvhpc,
+        _ => NvccHostCompiler::Gcc,
+    }
+}
+
+/// Reads a line by chance and writes it, and checks the answers.
+pub fn check_line(alloc: Global, source: &mut Source, tally: &mut Tally) -> Result<(), AllocError> {
+    tally.count("nvcc lines")?;
+    let nvcc = Nvcc {
+        host_compiler: host_compiler(source),
+        host_compiler_version: None,
+        version: None,
+    };
+    let words = line(alloc, source)?;
+    let env_vars = environment(alloc, source)?;
+    check_kept(alloc, words.as_slice(), tally)?;
+    check_threads(alloc, words.as_slice(), tally)?;
+    match nvcc.parse_arguments(alloc, words.as_slice(), "/w", env_vars.as_slice())? {
+        CompilerArguments::Ok(parsed) => {
+            check_parsed(alloc, &nvcc, &parsed, env_vars.as_slice(), tally)
+        }
+        CompilerArguments::CannotCache(_, _) => tally.count("nvcc lines that can't be cached"),
+        CompilerArguments::NotCompilation => tally.count("nvcc lines that are no compilation"),
+    }
+}

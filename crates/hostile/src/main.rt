@@ -1,0 +1,42 @@
+//! Calls the planner with inputs that nobody wrote: dry runs, lines and shell texts by a seeded generator. What every
+//! answer has to keep is checked, and each failure is printed with the seed and the number that make it again.
+#![tactic(auto)]
+
+use call::call_of;
+use cases::run;
+use plan_texts::call_words;
+use report::report;
+use std::io;
+use std::process::ExitCode;
+use stop::Stop;
+
+mod call;
+mod cases;
+mod count;
+mod device;
+mod dry_run;
+mod engine;
+mod host;
+mod pair;
+mod planned;
+mod pools;
+mod renaming;
+mod report;
+mod selection;
+mod shell_text;
+mod source;
+mod stop;
+mod suffix_list;
+mod tally;
+mod template;
+mod word;
+
+fn main(rt: HostRuntime) -> ExitCode {
+    let words = call_words(&rt);
+    let answer = match call_of(words.as_slice()) {
+        Some(call) => run(rt.alloc(), &call),
+        None => Err(Stop::Usage),
+    };
+    let (mut out, mut err) = (rt.stdout(), rt.stderr());
+    ExitCode::from(report(rt.alloc(), answer, &mut out, &mut err))
+}

@@ -1,0 +1,143 @@
+//! Pairs of dry runs by chance, with what else a plan is made of.
+
+use crate::dry_run::{Kind, dry_run, some_kind};
+use crate::source::Source;
+use crate::suffix_list::{further, suffixes};
+use crate::tally::Tally;
+use crate::template::Names;
+use cuda_plans::compiler::NvccHostCompiler;
+use cuda_plans::dry_run::{DryRun, FirstDir, Suffixes, read_dry_run};
+use cuda_plans::plan::{Plan, group_nvcc_subcommands_by_compilation_stage};
+use std::alloc::{AllocError, Global};
+use texts::fault::Fault;
+
+/// What a plan is made of beside its dry runs.
+#[derive(Drop)]
+pub struct Setting {
+    pub cwd: &'static str,
+    pub tmp: &'static str,
+    pub flag: &'static str,
+    pub keep_dir: Option<&'static str>,
+    pub host_compiler: NvccHostCompiler,
+    pub env_vars: Vec<(String, String)>,
+    pub suffixes: Suffixes,
+}
+
+/// Two dry runs, and what else their plan is made of.
+#[derive(Drop)]
+pub struct Pair {
+    pub first: Vec<u8>,
+    pub second: Vec<u8>,
+    pub setting: Setting,
+    /// Suffixes of generated files that stand behind the standard ones where the plan is printed.
+    pub further: Vec<String>,
+}
+
+// A host compiler by chance.
+fn host_compiler(source: &mut Source) -> NvccHostCompiler {
+    match source.below(6) {
+        0 => NvccHostCompiler::Msvc,
+        1 => NvccHostCompiler::Nvhpc,
+        _ => NvccHostCompiler::Gcc,
+    }
+}
+
+// An environment by chance.
+fn env_vars(alloc: Global, source: &mut Source) -> Result<Vec<(String, String)>, AllocError> {
+    let mut env_vars = Vec::new(alloc);
+    let count = source.below(3);
+    for _ in 0..count {
+        let name = String::from_str(alloc, source.pick(&["PATH", "A", "TOP", "Z", ""]))?;
+        let value = String::from_str(alloc, source.pick(&["", "/x", "$A"]))?;
+        env_vars.push((name, value))?;
+    }
+    Ok(env_vars)
+}
+
+impl Setting {
+    /// A setting by chance.
+    pub fn new(
+        alloc: Global,
+        source: &mut Source,
+        tally: &mut Tally,
+    ) -> Result<Setting, AllocError> {
+        Ok(Setting {
+            cwd: source.pick(&["/w", "/w", "/w", "/", "/w/", ".", ""]),
+            tmp: source.pick(&["/t", "/t", "/t", "/", "t", ""]),
+            flag: source.pick(&["-c", "-c", "--device-c", "-dw", "-ptx", "-cubin", ""]),
+            keep_dir: if source.one_in(8) { Some("/w") } else { None },
+            host_compiler: host_compiler(source),
+            env_vars: env_vars(alloc, source)?,
+            suffixes: suffixes(alloc, source, tally)?,
+        })
+    }
+
+    /// Reads a dry run.
+    pub fn read(&self, alloc: Global, bytes: &[u8], run: usize) -> Result<DryRun, Fault> {
+        read_dry_run(alloc, bytes, run, self.cwd, &FirstDir)
+    }
+
+    /// Plans two dry runs.
+    pub fn plan(&self, alloc: Global, first: &[u8], second: &[u8]) -> Result<Plan, Fault> {
+        group_nvcc_subcommands_by_compilation_stage(
+            alloc,
+            first,
+            second,
+            self.flag,
+            self.cwd,
+            self.tmp,
+            self.keep_dir,
+            self.env_vars.as_slice(),
+            self.host_compiler,
+            &FirstDir,
+            &self.suffixes,
+        )
+    }
+}
+
+// What the generated files of the second run are called, where those of the first are called `names`.
+fn second_names(source: &mut Source, names: Names) -> Names {
+    match source.below(4) {
+        0 => Names::new(source),
+        1 => names,
+        _ => Names {
+            names: names.names,
+            before: "/t/",
+        },
+    }
+}
+
+// Counts the kinds of dry runs that are rare.
+fn count_kind(kind: Kind, tally: &mut Tally) -> Result<(), AllocError> {
+    match kind {
+        Kind::LongWord => tally.count("dry runs with a long word"),
+        Kind::ManyLines => tally.count("dry runs of many lines"),
+        _ => Ok(()),
+    }
+}
+
+/// The pair of a seed and a number.
+pub fn some_pair(
+    alloc: Global,
+    seed: u64,
+    number: u64,
+    tally: &mut Tally,
+) -> Result<Pair, AllocError> {
+    let mut source = Source::new(seed, number, 0);
+    let kind = some_kind(&mut source);
+    count_kind(kind, tally)?;
+    let names = Names::new(&mut source);
+    let others = second_names(&mut source, names);
+    let other_part = if source.one_in(5) { 2 } else { 1 };
+    let mut lines = Source::new(seed, number, 1);
+    let first = dry_run(alloc, &mut lines, &names, kind)?;
+    let mut lines = Source::new(seed, number, other_part);
+    let second = dry_run(alloc, &mut lines, &others, kind)?;
+    let setting = Setting::new(alloc, &mut source, tally)?;
+    Ok(Pair {
+        first,
+        second,
+        setting,
+        further: further(alloc, &mut source)?,
+    })
+}

@@ -1,0 +1,129 @@
+//! What is checked of the plan of two dry runs.
+
+use crate::count::{Sum, run_of};
+use crate::pair::{Pair, Setting};
+use crate::renaming::check_renaming;
+use crate::tally::Tally;
+use cuda_plans::dry_run::{Commands, DryRun, remap_commands};
+use cuda_plans::plan::{Dropped, NvccGeneratedSubcommand, Plan};
+use std::alloc::{AllocError, Global};
+use texts::fault::Fault;
+
+/// The commands of a run that a plan is made of: with canonical names, unless a folder keeps the files.
+pub fn named(alloc: Global, setting: &Setting, run: DryRun) -> Result<Commands, AllocError> {
+    match setting.keep_dir {
+        None => remap_commands(alloc, run.commands, &setting.suffixes),
+        Some(_) => Ok(run.commands),
+    }
+}
+
+/// Adds the commands of a run that are selected, by their programs' stems.
+pub fn add_selected(run: usize, commands: &[(usize, String, Vec<String>)], sum: &mut Sum) {
+    for (_, program, words) in commands {
+        if run_of(program.as_str()) == Some(run) {
+            sum.add(run, program.as_str(), words.as_slice());
+        }
+    }
+}
+
+// Adds the commands of a group. Answers whether each stands in the folder that its program runs in.
+fn add_group(setting: &Setting, group: &[NvccGeneratedSubcommand], sum: &mut Sum) -> bool {
+    let mut holds = true;
+    for command in group {
+        let run = run_of(command.exe.as_str()).unwrap_or(0);
+        let folder = if run == 1 { setting.tmp } else { setting.cwd };
+        holds = holds && command.cwd.as_str() == folder;
+        sum.add(run, command.exe.as_str(), command.args.as_slice());
+    }
+    holds
+}
+
+// Adds the commands of all groups. Answers whether each stands in its folder.
+fn add_groups(setting: &Setting, plan: &Plan, sum: &mut Sum) -> bool {
+    let mut holds = plan.groups.as_slice().len() >= 2;
+    for group in plan.groups.as_slice() {
+        let stands = add_group(setting, group.as_slice(), sum);
+        holds = holds && stands;
+    }
+    holds
+}
+
+// Adds the dropped commands. Answers whether each is of the run that its program is taken from, and their lines and
+// runs rise.
+fn add_dropped(dropped: &[Dropped], sum: &mut Sum) -> bool {
+    let mut holds = true;
+    let mut last = (0, 0);
+    for command in dropped {
+        let run = run_of(command.exe.as_str());
+        let place = (command.line, command.run);
+        holds = holds && run == Some(command.run) && last < place;
+        last = place;
+        sum.add(command.run, command.exe.as_str(), command.args.as_slice());
+    }
+    holds
+}
+
+// Checks that the groups and the dropped commands are the selected commands of both runs, each once.
+fn check_commands(
+    alloc: Global,
+    setting: &Setting,
+    first: DryRun,
+    second: DryRun,
+    plan: &Plan,
+    tally: &mut Tally,
+) -> Result<(), AllocError> {
+    let mut selected = Sum::new();
+    add_selected(1, named(alloc, setting, first)?.as_slice(), &mut selected);
+    add_selected(2, named(alloc, setting, second)?.as_slice(), &mut selected);
+    let mut planned = Sum::new();
+    let stand = add_groups(setting, plan, &mut planned);
+    tally.expect(stand, "each planned command runs in the folder of its run")?;
+    let rise = add_dropped(plan.dropped.as_slice(), &mut planned);
+    tally.expect(rise, "dropped commands come by line and run")?;
+    tally.expect(
+        planned == selected,
+        "each selected command is planned or dropped, once",
+    )
+}
+
+// Counts a plan and what it holds.
+fn count_plan(plan: &Plan, tally: &mut Tally) -> Result<(), AllocError> {
+    tally.count("plans")?;
+    if plan.groups.as_slice().len() > 2 {
+        tally.count("plans with device groups")?;
+    }
+    if !plan.dropped.as_slice().is_empty() {
+        tally.count("plans that drop commands")?;
+    }
+    Ok(())
+}
+
+// Checks a refusal: it is that of the run that can't be read.
+fn check_refusal(read: &Fault, planned: &Fault, tally: &mut Tally) -> Result<(), AllocError> {
+    tally.count("pairs refused")?;
+    tally.refused(planned)?;
+    tally.expect(
+        *read == *planned,
+        "a plan is refused as its first bad run is",
+    )
+}
+
+/// Plans a pair, and checks the answer.
+pub fn check_pair(alloc: Global, pair: &Pair, tally: &mut Tally) -> Result<(), AllocError> {
+    tally.count("pairs")?;
+    let setting = &pair.setting;
+    let (first, second) = (pair.first.as_slice(), pair.second.as_slice());
+    let planned = setting.plan(alloc, first, second);
+    let first = setting.read(alloc, first, 1);
+    let second = setting.read(alloc, second, 2);
+    match (first, second, planned) {
+        (Err(fault), _, Err(planned)) => check_refusal(&fault, &planned, tally),
+        (Ok(_), Err(fault), Err(planned)) => check_refusal(&fault, &planned, tally),
+        (Ok(first), Ok(second), Ok(plan)) => {
+            count_plan(&plan, tally)?;
+            check_commands(alloc, setting, first, second, &plan, tally)?;
+            check_renaming(alloc, pair, &plan, tally)
+        }
+        _ => tally.expect(false, "a plan comes exactly if both dry runs can be read"),
+    }
+}

@@ -1,0 +1,103 @@
+//! What is checked of the selection of a run's commands.
+
+use crate::count::Sum;
+use crate::pair::{Pair, Setting};
+use crate::planned::{add_selected, named};
+use crate::tally::Tally;
+use cuda_plans::dry_run::{Commands, FirstDir};
+use cuda_plans::plan::select_nvcc_subcommands;
+use std::alloc::{AllocError, Global};
+use texts::fault::Fault;
+
+// Whether a stem is that of one of nvcc's own tools.
+fn is_own(stem: &str) -> bool {
+    matches!(stem, "cicc" | "ptxas" | "cudafe++" | "nvlink" | "fatbinary")
+}
+
+// Selects the commands of a run that a plan is made of: nvcc's own tools of the first run, the others of the second.
+fn selected(
+    alloc: Global,
+    setting: &Setting,
+    bytes: &[u8],
+    run: usize,
+    env_vars: &mut Vec<(String, String)>,
+) -> Result<Commands, Fault> {
+    let (cwd, remap, suffixes) = (setting.cwd, setting.keep_dir.is_none(), &setting.suffixes);
+    if run == 1 {
+        let select = |stem: &str| is_own(stem);
+        select_nvcc_subcommands(
+            alloc, bytes, run, cwd, env_vars, remap, select, &FirstDir, suffixes,
+        )
+    } else {
+        let select = |stem: &str| !is_own(stem);
+        select_nvcc_subcommands(
+            alloc, bytes, run, cwd, env_vars, remap, select, &FirstDir, suffixes,
+        )
+    }
+}
+
+// A copy of an environment.
+fn copied(
+    alloc: Global,
+    env_vars: &[(String, String)],
+) -> Result<Vec<(String, String)>, AllocError> {
+    let mut copy = Vec::new(alloc);
+    for (name, value) in env_vars {
+        let name = String::from_str(alloc, name.as_str())?;
+        copy.push((name, String::from_str(alloc, value.as_str())?))?;
+    }
+    Ok(copy)
+}
+
+// Checks the selected commands of a run: they are those whose programs' stems are asked for.
+fn check_selected(
+    alloc: Global,
+    setting: &Setting,
+    bytes: &[u8],
+    run: usize,
+    commands: &Commands,
+    tally: &mut Tally,
+) -> Result<(), AllocError> {
+    tally.count("selections")?;
+    let Ok(read) = setting.read(alloc, bytes, run) else {
+        return tally.expect(false, "a selection comes exactly if its run can be read");
+    };
+    let mut expected = Sum::new();
+    let named = named(alloc, setting, read)?;
+    add_selected(run, named.as_slice(), &mut expected);
+    let mut sum = Sum::new();
+    add_selected(run, commands.as_slice(), &mut sum);
+    let all = sum.commands == u64::try_from(commands.as_slice().len()).unwrap_or(0);
+    tally.expect(all, "a selection holds nothing else")?;
+    tally.expect(sum == expected, "a selection is what is asked for")
+}
+
+// Checks the selection of a run.
+fn check_run(
+    alloc: Global,
+    setting: &Setting,
+    bytes: &[u8],
+    run: usize,
+    tally: &mut Tally,
+) -> Result<(), AllocError> {
+    let mut env_vars = copied(alloc, setting.env_vars.as_slice())?;
+    match selected(alloc, setting, bytes, run, &mut env_vars) {
+        Ok(commands) => check_selected(alloc, setting, bytes, run, &commands, tally),
+        Err(_) => {
+            tally.count("selections refused")?;
+            let same = env_vars.as_slice() == setting.env_vars.as_slice();
+            tally.expect(same, "a refused selection leaves the environment as it was")?;
+            let read = setting.read(alloc, bytes, run).is_ok();
+            tally.expect(
+                !read,
+                "a selection is refused exactly if its run can't be read",
+            )
+        }
+    }
+}
+
+/// Selects the commands of both runs of a pair, and checks the answers.
+pub fn check_selections(alloc: Global, pair: &Pair, tally: &mut Tally) -> Result<(), AllocError> {
+    check_run(alloc, &pair.setting, pair.first.as_slice(), 1, tally)?;
+    check_run(alloc, &pair.setting, pair.second.as_slice(), 2, tally)
+}

@@ -1,0 +1,158 @@
+//! What a run of the program has seen.
+
+use crate::call::Call;
+use crate::stop::name_of;
+use std::alloc::{AllocError, Global};
+use texts::fault::Fault;
+
+// What is counted, in the order in which it is printed.
+const NAMES: [&str; 44] = [
+    "pairs",
+    "plans",
+    "plans with device groups",
+    "plans that drop commands",
+    "pairs refused",
+    "refused: not UTF-8",
+    "refused: no shell words",
+    "refused: empty command",
+    "refused: no PATH",
+    "refused: not found",
+    "pairs with an unclean run",
+    "pairs of clean runs",
+    "shadow runs",
+    "clean runs renamed twice",
+    "pairs written anew",
+    "pairs with other names",
+    "pairs that can't be written so",
+    "plans printed",
+    "plans not printed",
+    "selections",
+    "selections refused",
+    "lists of suffixes taken",
+    "refused: bad suffixes",
+    "device lines",
+    "lines written back",
+    "lines reread",
+    "lines that are no compilation",
+    "refused: no output",
+    "nvcc lines",
+    "nvcc lines that can't be cached",
+    "nvcc lines that are no compilation",
+    "nvcc lines preprocessed",
+    "nvcc lines written",
+    "refused: no file name",
+    "refused: keep directory without a value",
+    "refused: threads without a value",
+    "lines without keep words",
+    "lines without thread words",
+    "lists of words quoted",
+    "texts split",
+    "texts without words",
+    "dry runs with a long word",
+    "dry runs of many lines",
+    "refused: other",
+];
+
+// The counts before anything was seen.
+fn nothing_seen(alloc: Global) -> Result<Vec<Count>, AllocError> {
+    let mut counts = Vec::new(alloc);
+    for name in NAMES {
+        counts.push(Count { name, seen: 0 })?;
+    }
+    Ok(counts)
+}
+
+// How often something was seen.
+#[derive(Drop)]
+struct Count {
+    name: &'static str,
+    seen: u64,
+}
+
+/// What was seen so far: how often each thing, and what failed.
+#[derive(Drop)]
+pub struct Tally {
+    alloc: Global,
+    seed: u64,
+    number: u64,
+    counts: Vec<Count>,
+    failures: String,
+    failed: u64,
+}
+
+impl Tally {
+    /// Nothing yet.
+    pub fn new(alloc: Global, call: &Call) -> Result<Tally, AllocError> {
+        Ok(Tally {
+            alloc,
+            seed: call.seed,
+            number: call.first,
+            counts: nothing_seen(alloc)?,
+            failures: String::new(alloc),
+            failed: 0,
+        })
+    }
+
+    /// Turns to the case of this number.
+    pub fn turn_to(&mut self, number: u64) {
+        self.number = number;
+    }
+
+    /// Counts one more of what is seen.
+    pub fn count(&mut self, name: &'static str) -> Result<(), AllocError> {
+        for count in self.counts.iter_mut() {
+            if count.name == name {
+                count.seen = count.seen.saturating_add(1);
+                return Ok(());
+            }
+        }
+        self.counts.push(Count { name, seen: 1 })?;
+        Ok(())
+    }
+
+    /// Counts a refusal. One of these kinds comes of the input; any other is a failure.
+    pub fn refused(&mut self, fault: &Fault) -> Result<(), AllocError> {
+        let name = name_of(fault);
+        self.expect(name != "refused: other", "a refusal that no input asks for")?;
+        self.count(name)
+    }
+
+    /// Notes a failure, unless what was to hold holds.
+    pub fn expect(&mut self, holds: bool, what: &'static str) -> Result<(), AllocError> {
+        if holds {
+            return Ok(());
+        }
+        self.failed = self.failed.saturating_add(1);
+        let (seed, number) = (self.seed, self.number);
+        let line = format!(in self.alloc; "seed {seed} number {number}: {what}\n")?;
+        self.failures.push_str(line.as_str())
+    }
+
+    /// Shows the bytes of an input that failed, under a heading.
+    pub fn show(&mut self, heading: &str, input: &str) -> Result<(), AllocError> {
+        self.failures.push_str(heading)?;
+        self.failures.push_str("\n")?;
+        self.failures.push_str(input)?;
+        self.failures.push_str("\n")
+    }
+
+    /// How many things failed.
+    pub fn failed(&self) -> u64 {
+        self.failed
+    }
+
+    /// What is printed: the counts, and what failed.
+    pub fn text(&self) -> Result<String, AllocError> {
+        let mut text = String::new(self.alloc);
+        for count in self.counts.iter() {
+            let (name, seen) = (count.name, count.seen);
+            let line = format!(in self.alloc; "{name}: {seen}\n")?;
+            text.push_str(line.as_str())?;
+        }
+        text.push_str(self.failures.as_str())?;
+        let failed = self.failed;
+        let line = format!(in self.alloc; "failed: {failed}\n")?;
+        text.push_str(line.as_str())?;
+        Ok(text)
+    }
+}

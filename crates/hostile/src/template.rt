@@ -1,0 +1,49 @@
+//! Texts with places for the names of generated files.
+
+use crate::pools::BASES;
+use crate::source::Source;
+use std::alloc::AllocError;
+
+/// What the generated files of a run are called: three names, and what stands before each.
+#[derive(Clone, Copy, Debug)]
+pub struct Names {
+    pub names: [&'static str; 3],
+    pub before: &'static str,
+}
+
+impl Names {
+    /// Three names by chance, with nothing before them.
+    pub fn new(source: &mut Source) -> Names {
+        Names {
+            names: [
+                source.pick(&BASES),
+                source.pick(&BASES),
+                source.pick(&BASES),
+            ],
+            before: "",
+        }
+    }
+
+    // Adds one of the names to a text.
+    fn push(&self, source: &mut Source, text: &mut String) -> Result<(), AllocError> {
+        text.push_str(self.before)?;
+        text.push_str(source.pick(self.names.as_slice()))
+    }
+}
+
+/// Adds a template to a text, with a name at each `@`.
+pub fn push_filled(
+    source: &mut Source,
+    names: &Names,
+    template: &str,
+    text: &mut String,
+) -> Result<(), AllocError> {
+    for letter in template.chars() {
+        if letter == '@' {
+            names.push(source, text)?;
+        } else {
+            text.push(letter)?;
+        }
+    }
+    Ok(())
+}
