@@ -1,5 +1,6 @@
 pub mod Answers
 pub mod CommandText
+pub mod ExportRows
 pub mod Graph
 pub mod Judging
 pub mod ReadBack

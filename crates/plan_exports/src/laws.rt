@@ -1,5 +1,6 @@
 //! What holds of every plan that is written.
 
+ghost use Rattle.plan_exports.specs.ExportRows.{LineOfCicc, EdgeOfCicc, FrontNeeds, DeviceNeeds, FinalNeeds, DashRefused, NewlineHeld, NewlineRefused};
 ghost use Rattle.plan_exports.specs.ReadBack.{CommandsReadBack, ScriptsReadBack};
 ghost use Rattle.plan_exports.specs.ReadValue.{ValuesReadBack};
 
@@ -13,4 +14,16 @@ pub fn read_back()
 /// Ninja reads each value as the text that it was written of.
 pub fn values_read_back()
     ensures { ValuesReadBack }
+{}
+
+/// What is written of a small plan, by the definitions.
+pub fn worked_exports()
+    ensures line_of_cicc { LineOfCicc }
+    ensures edge_of_cicc { EdgeOfCicc }
+    ensures front_needs { FrontNeeds }
+    ensures device_needs { DeviceNeeds }
+    ensures final_needs { FinalNeeds }
+    ensures dash_refused { DashRefused }
+    ensures newline_held { NewlineHeld }
+    ensures newline_refused { NewlineRefused }
 {}
