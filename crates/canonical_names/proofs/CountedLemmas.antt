@@ -1,15 +1,14 @@
 -- A name that is new is counted, and a name that was seen keeps its canonical name.
-use Rattle.std.proofs.Common.{◌≡◌, ℕ, ◌+◌, ◌<◌, ◌≤◌, ◌&&◌, ◌||◌, Bool, true, false, cond, suc, zero, List, [], ◌∷◌, ◌++◌, Option, Some, None, is_some, map, filter, length, inl, inr, refl, ap, sym, ◌∙◌, subst, nat_eq, codes, arith, fold, string_bytes, String, slice_set, get_or, replicate, decimal, eqb, eqb-true, ◌≢◌, ◌^◌}
+use Rattle.std.proofs.Common.{◌≡◌, ℕ, ◌+◌, ◌<◌, ◌≤◌, ◌&&◌, ◌||◌, Bool, true, false, cond, suc, zero, List, [], ◌∷◌, ◌++◌, Option, Some, None, is_some, map, filter, length, inl, inr, refl, ap, sym, ◌∙◌, subst, nat_eq, codes, arith, string_bytes, String, slice_set, get_or, replicate, decimal, ◌≢◌, ◌^◌}
 use Rattle.std.specs.declared.alloc.Global.{Global}
-use Rattle.std.specs.Int.Digits.{digits_of}
 use Rattle.std.specs.List.{Contains, ends_with, list_all, list_any, slice_get}
 use Rattle.std.specs.Map.{lookup}
 use Rattle.std.specs.Option.{unwrap_or, option_copied}
 use denote.Ref.{Bor}
 use Rattle.indexmap.specs.IndexMap.{insert_entry}
 use Rattle.std.specs.Str.{bytes_eq}
-use Rattle.std.proofs.lemmas.Bool.{false≢true, and_parts, and_from, or_parts, eqb-false}
-use Rattle.std.proofs.lemmas.Fmt.{decimal-digits_of, decimal_digit}
+use Rattle.std.proofs.lemmas.Bool.{false≢true, and_parts, and_from, or_parts}
+use Rattle.texts.proofs.NumeralLemmas.{decimal-numeral}
 use Rattle.std.proofs.lemmas.List.{map-append, length-append, length-map, get_or_default}
 use Rattle.std.proofs.lemmas.List.Elements.{filter-append}
 use Rattle.std.proofs.lemmas.Slice.Eq.{bytes_eq-Decides}
@@ -168,11 +167,7 @@ name-counted suffixes names pairs counts n class i before at is new =
 
 -- numerals of machine numbers
 pub numeral-decimal : (k : ℕ) → k < 2 ^ 64 → numeral k ≡ decimal k
-numeral-decimal k small =
-    elim (eqb k 0) as (λ b. eqb k 0 ≡ b → cond b (codes "0") (map (λ d. 48 + d) (digits_of 10 k)) ≡ decimal k) [
-      | true ↦ λ e. let none : k ≡ 0 = eqb-true k 0 e in sym (ap decimal none ∙ decimal_digit 0 (omega arith))
-      | false ↦ λ e. let some : k ≢ 0 = eqb-false k 0 e in sym (decimal-digits_of k (omega arith) small)
-    ] refl
+numeral-decimal k small = sym (decimal-numeral k small)
 
 pub decimal-file : (k : ℕ) (class : List ℕ) → k < 2 ^ 64 → decimal_file k class ≡ canonical_file k class
 decimal-file k class small = ap (λ n. codes "x_" ++ (n ++ class)) (sym (numeral-decimal k small))

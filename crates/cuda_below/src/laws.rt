@@ -11,29 +11,15 @@ use crate::gcc::ArgData;
 use crate::outputs::{ArtifactDescriptor, Outputs};
 use option_items::items::{ArgParseError, Argument, NormalizedDisposition};
 use option_items::table::ArgDisposition;
-use texts::bytes::Bytes;
-use texts::fault::Fault;
 use texts::language::Language;
-use texts::status::{CompileFinished, ExitStatus, Output};
-use texts::text::Text;
-use texts::variables::Variables;
-use texts::words::Words;
 
 /// `==` compares all fields: it says whether two values are equal.
 pub fn equality()
-    ensures text { TellsEqual ⟦<Text as PartialEq>⟧.eq }
-    ensures words { TellsEqual ⟦<Words as PartialEq>⟧.eq }
-    ensures variables { TellsEqual ⟦<Variables as PartialEq>⟧.eq }
-    ensures bytes { TellsEqual ⟦<Bytes as PartialEq>⟧.eq }
     ensures artifact { TellsEqual ⟦<ArtifactDescriptor as PartialEq>⟧.eq }
     ensures outputs { TellsEqual ⟦<Outputs as PartialEq>⟧.eq }
-    ensures output { TellsEqual ⟦<Output as PartialEq>⟧.eq }
-    ensures status { TellsEqual ⟦<ExitStatus as PartialEq>⟧.eq }
     ensures arguments { TellsEqual ⟦<ParsedArguments as PartialEq>⟧.eq }
     ensures command { TellsEqual ⟦<SingleCompileCommand as PartialEq>⟧.eq }
-    ensures finished { TellsEqual ⟦<CompileFinished as PartialEq>⟧.eq }
     ensures places { TellsEqual ⟦<Places as PartialEq>⟧.eq }
-    ensures fault { TellsEqual ⟦<Fault as PartialEq>⟧.eq }
 {}
 
 /// `==` on the enums of a word or a flag says whether two values are equal.

@@ -19,13 +19,14 @@ pub use device_lines::laws::{
 };
 pub use dry_runs::laws::{equality as dry_run_equality, worked_runs};
 pub use host_lines::laws::equality as host_equality;
+pub use texts::laws::equality as text_equality;
 
 /// `==` on places and on answers compares all that they hold: it says whether two values are equal.
 pub fn equality()
     ensures place { TellsEqual ⟦<Place as PartialEq>⟧.eq }
     ensures answer { TellsEqual ⟦<Answer as PartialEq>⟧.eq }
 {
-    cuda_below::laws::equality();
+    texts::laws::equality();
 }
 
 /// The planning theorem: two dry runs give a plan exactly if both can be read; each selected command

@@ -1,5 +1,4 @@
 pub mod EscapedLemmas
-pub mod Numerals
 pub mod Pushing
 pub mod QuotedLemmas
 pub mod ReadBackLemmas

@@ -1,7 +1,7 @@
 use Rattle.std.proofs.Common.{◌≡◌, string_bytes, subst, rules, arith}
 use Rattle.std.specs.Result.{IfOk}
 use Rattle.std.specs.Fmt.{signed_decimal}
-use Rattle.cuda_plans.proofs.NumeralLemmas.{signed-numeral}
+use Rattle.cuda_plans.proofs.SignedLemmas.{signed-numeral}
 use Rattle.cuda_plans.proofs.outcome.number_text.Goals as goal
 
 pub returns-clause-numeral : goal.returns-clause-numeral

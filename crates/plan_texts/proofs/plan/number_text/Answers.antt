@@ -1,6 +1,6 @@
 use Rattle.std.proofs.Common.{◌≡◌, string_bytes, subst}
 use Rattle.std.specs.Result.{IfOk}
-use Rattle.plan_texts.proofs.Numerals.{decimal-numeral}
+use Rattle.texts.proofs.NumeralLemmas.{decimal-numeral}
 use Rattle.plan_texts.proofs.plan.number_text.Goals as goal
 
 pub returns : goal.returns
