@@ -373,6 +373,14 @@ closed_streams() {
     echo $? > "$scratch/status"
     : > "$scratch/out"
     judge 'a refusal writes nothing to a full disk' 1 '' "$NO_COMPILATION"
+
+    "$program" plan /w /t -c "$data/one_kernel.dry1" "$data/bad_last_line.dry1" > /dev/full 2> "$scratch/err"
+    echo $? > "$scratch/status"
+    judge 'a refused plan writes nothing to a full disk' 1 '' $'cudaplan: run 2 line 8: not UTF-8\n'
+
+    "$program" plan /w /t -c "$data/bad_last_line.dry1" "$data/one_kernel.dry1" >&- 2> "$scratch/err"
+    echo $? > "$scratch/status"
+    judge 'a refused plan needs no standard output' 1 '' $'cudaplan: run 1 line 8: not UTF-8\n'
 }
 
 good_lines
