@@ -62,6 +62,14 @@ good_lines() {
     check 'cudafe++ line' 0 "${out%.}" '' line cudafe++ /t --simt-only --module_id_file_name k.id x_0.cpp4.ii
     out=$(lines '-D a' '' k.cpp1.ii -o /w/k.ptx)
     check 'words with a blank, and an empty one' 0 "${out%.}" '' line cicc /w '-D a' '' k.cpp1.ii -o k.ptx
+    out=$(lines -foo bar k.cpp1.ii -o /w/p)
+    check 'words of no option' 0 "${out%.}" '' line cicc /w -foo k.cpp1.ii bar baz -o p
+    out=$(lines -arch k.ptx -o /w/k.cubin)
+    check 'an empty value that is joined' 0 "${out%.}" '' line ptxas /w -arch= k.ptx -o k.cubin
+    out=$(lines -x b.ptx a.ptx -o /w/c)
+    check 'two words that end as an input does' 0 "${out%.}" '' line ptxas /w -x a.ptx b.ptx -o c
+    out=$(lines $'-a\nb' $'\'"\\' k.cpp1.ii -o $'/w/\t')
+    check 'words with newlines, quotes and backslashes' 0 "${out%.}" '' line cicc /w $'-a\nb' $'\'"\\' k.cpp1.ii -o $'\t'
     out=$(lines -Dé k.cpp1.ii -o /é/k.ptx)
     check 'words of two bytes a character' 0 "${out%.}" '' line cicc /é -Dé k.cpp1.ii -o k.ptx
 }
@@ -162,18 +170,90 @@ refused_plans() {
     done
     check 'two suffixes that overlap' 1 '' $'cudaplan: bad generated suffixes\n' plan /w /t -c "$good" "$good" .gpu .cudafe1.gpu
     lines_of pathless '#$ gcc'
-    lines_of quoted '#$ gcc "a'
-    lines_of comment '#$ # note'
-    lines_of lost '#$ PATH=' '#$ gcc'
-    printf 'x\n\xff\n' > "$scratch/bytes"
-    check 'no PATH in the first run' 1 '' $'cudaplan: run 1 line 0: no PATH\n' plan /w /t -c "$scratch/pathless" "$scratch/pathless"
-    check 'no PATH in the second run' 1 '' $'cudaplan: run 2 line 0: no PATH\n' plan /w /t -c "$scratch/none" "$scratch/pathless"
-    check 'an open quote' 1 '' $'cudaplan: Could not parse shell line\n' plan /w /t -c "$scratch/quoted" "$scratch/pathless"
-    check 'a command without words' 1 '' $'cudaplan: Could not split shell line\n' plan /w /t -c "$scratch/comment" "$scratch/none"
-    check 'a program that is not found' 1 '' $'cudaplan: gcc: not found\n' plan /w /t -c "$scratch/lost" "$scratch/none"
-    check 'a line that is not UTF-8' 1 '' $'cudaplan: run 1 line 1: not UTF-8\n' plan /w /t -c "$scratch/bytes" "$scratch/none"
     check 'a missing file before a bad suffix' 1 '' "$unread" plan /w /t -c "$scratch/pathless" "$scratch/missing" .ii
     check 'a bad suffix before a bad run' 1 '' $'cudaplan: bad generated suffixes\n' plan /w /t -c "$scratch/pathless" "$scratch/none" .ii
+}
+
+# refuses NAME MESSAGE FIRST SECOND: two dry runs that are refused with this message. In them a backslash begins an
+# escape, as \n and \xff.
+refuses() {
+    printf '%b' "$3" > "$scratch/first"
+    printf '%b' "$4" > "$scratch/second"
+    check "$1" 1 '' "cudaplan: $2"$'\n' plan /w /t -c "$scratch/first" "$scratch/second"
+}
+
+# both NAME MESSAGE RUN: the same of one dry run, as both.
+both() {
+    refuses "$1" "$2" "$3" "$3"
+}
+
+# dry runs with a line that can't be read: what is told is the first such line of the first run, or of the second one if
+# the first can be read, and nothing is printed
+unreadable_runs() {
+    local kernel rest
+    kernel=$(cat "$data/one_kernel.dry1")
+    rest=$(tail -n +2 "$data/one_kernel.dry1")
+    both    'no PATH in both runs'                 'run 1 line 0: no PATH'           '#$ gcc'
+    refuses 'no PATH in the second run'            'run 2 line 0: no PATH'           ''               '#$ gcc'
+    refuses 'PATH in the first run alone'          'run 2 line 0: no PATH'           '#$ PATH=/b\n'   '#$ gcc\n'
+    refuses 'no PATH behind a readable run'        'run 2 line 1: no PATH'           "$kernel"        "\n$rest"
+    both    'no PATH before lines that are well'   'run 1 line 0: no PATH'           "#\$ gcc\n$kernel"
+    both    'two blanks before PATH'               'run 1 line 0: no PATH'           '#$  PATH=/b\n'
+    both    'no PATH before a byte'                'run 1 line 0: no PATH'           '#$ gcc\n\xff'
+    both    'a byte before no PATH'                'run 1 line 0: not UTF-8'         '\xff\n#$ gcc'
+    both    'a byte in a line without a mark'      'run 1 line 1: not UTF-8'         "#\$ PATH=/b\n\xff\n$rest"
+    both    'a byte in the last line'              'run 1 line 8: not UTF-8'         "$kernel\n#\$ x\xff"
+    refuses 'a byte in the last line of the second' 'run 2 line 8: not UTF-8'        "$kernel"        "$kernel\n#\$ x\xff"
+    both    'a character that is cut'              'run 1 line 0: not UTF-8'         '#$ PATH=/\xe2\x82\n'
+    both    'half of a pair'                       'run 1 line 0: not UTF-8'         '\xed\xa0\x80'
+    both    'an open quote'                        'Could not parse shell line'      "#\$ gcc \"a\n$rest"
+    both    'an open single quote'                 'Could not parse shell line'      "#\$ gcc 'a\n$rest"
+    both    'a backslash that ends a line'         'Could not parse shell line'      "#\$ PATH=/b\n#\$ gcc \\\\\n$rest"
+    refuses 'an open quote in the second run'      'Could not parse shell line'      "$kernel"        "$kernel\n#\$ gcc \"a"
+    refuses 'an open quote before no PATH'         'Could not parse shell line'      '#$ gcc "a'      '#$ gcc'
+    both    'a comment'                            'Could not split shell line'      "#\$ # note\n$rest"
+    both    'a mark and its blank alone'           'Could not split shell line'      "#\$ \n$rest"
+    both    'a mark and its blank at the end'      'Could not split shell line'      "$kernel\n#\$ "
+    refuses 'a comment in the second run'          'Could not split shell line'      "$kernel"        "$kernel\n#\$ # note"
+    both    'a program that is not found'          'gcc: not found'                  '#$ PATH=\n#$ gcc'
+    both    'a name with a digit'                  'A1=x: not found'                 '#$ PATH=\n#$ A1=x'
+    both    'an empty program'                     ': not found'                     '#$ PATH=\n#$ ""'
+}
+
+# one_lost NAME: the run of one kernel without a first folder in PATH, with all programs but this one named by /b.
+one_lost() {
+    awk -v lost="$1" 'NR == 1 { print "#$ PATH="; next } $2 != lost { $2 = "/b/" $2 } { print }' "$data/one_kernel.dry1"
+}
+
+# a program of many that is not found, in both runs and in the second alone; and none that isn't
+lost_programs() {
+    local kernel run plan name
+    kernel=$(cat "$data/one_kernel.dry1")
+    for name in gcc cudafe++ cicc ptxas fatbinary; do
+        run=$(one_lost "$name")
+        both "$name is not found" "$name: not found" "$run"
+        refuses "$name is not found in the second run" "$name: not found" "$kernel" "$run"
+    done
+    one_lost none > "$scratch/run"
+    plan=$(cat "$data/one_kernel.plan"; printf .)
+    check 'all programs are found' 0 "${plan%.}" '' plan /w /t -c "$scratch/run" "$scratch/run"
+}
+
+# odd dry runs that can be read
+odd_plans() {
+    local empty
+    empty=$(lines 'group 0' 'group 1')
+    plans 'a mark without its blank' "$empty" '#$' $'#$gcc "' $'#$\t\''
+    plans 'a folder as program' "$(lines 'group 0' 'group 1' 'dropped 1 run 2 NotCuda /b/ x')" '#$ "" x'
+    plans 'a step with a folder as output' "$(lines 'group 0' 'no cd /w && /b/gcc -D__NVCC__ -E k.cu -o ..' 'group 1')" \
+        '#$ gcc -D__NVCC__ -E k.cu -o ..'
+    plans 'variables of a line' "$(lines 'group 0' 'group 1' "dropped 2 run 2 NotCuda /b/gcc -L\$TOP" \
+        'dropped 3 run 2 NotCuda /u/gcc -L/uX')" '#$ TOP=/u' "#\$ gcc -L\$TOP" "#\$ \$TOP/gcc -L\$TOPX"
+    lines_of rootless '#$ PATH=/' '#$ "" x'
+    check 'a program that is the root' 0 "${empty%.}" '' plan /w /t -c "$scratch/rootless" "$scratch/rootless"
+    printf 'kernel.cu\r\n#$ PATH=/b\r\n#$ gcc -D__NVCC__ -c x.cpp' > "$scratch/returns"
+    check 'carriage returns, and no last newline' 0 $'group 0\ngroup 1\nyes cd /w && /b/gcc -D__NVCC__ -c x.cpp\n' '' \
+        plan /w /t -c "$scratch/returns" "$scratch/returns"
 }
 
 # words that are no call
@@ -203,6 +283,56 @@ long_lines() {
     many=("$word" "$word" "$word" "$word" "$word" "$word" "$word" "$word" "$word" "$word" "$word")
     out=$(lines "${many[@]}" k.cpp1.ii -o /k.ptx)
     check 'a megabyte of words' 0 "${out%.}" '' line cicc / "${many[@]}" k.cpp1.ii -o k.ptx
+}
+
+# byte_by_byte FILE: writes a file one byte at a time.
+byte_by_byte() {
+    local byte
+    while IFS= read -r -N 1 byte; do
+        printf '%s' "$byte"
+    done < "$1"
+}
+
+# dry runs that come in pieces, and some that don't come at all
+slow_streams() {
+    local run=$data/one_kernel.dry1 plan
+    plan=$(cat "$data/one_kernel.plan"; printf .)
+    check 'dry runs that come a byte at a time' 0 "${plan%.}" '' plan /w /t -c <(byte_by_byte "$run") <(byte_by_byte "$run")
+    check 'pipes that end at once' 0 $'group 0\ngroup 1\n' '' plan /w /t -c <(true) <(true)
+    check 'a second run that is bad, byte by byte' 1 '' $'cudaplan: run 2 line 8: not UTF-8\n' \
+        plan /w /t -c <(byte_by_byte "$run") <(LC_ALL=C byte_by_byte "$data/bad_last_line.dry1")
+}
+
+# limited KIB FILE: plans a run into a file that may grow to so many KiB.
+limited() {
+    (
+        trap '' XFSZ
+        ulimit -f "$1"
+        "$program" plan /w /t -c "$2" "$2" > "$scratch/limited" 2> "$scratch/err"
+        echo $? > "$scratch/status"
+    )
+}
+
+# streams that take a beginning: a file that may not grow further, and a pipe whose reader ends. How much was written by
+# then is open.
+short_streams() {
+    local most run=$data/thousand_sources.dry1 word
+    : > "$scratch/out"
+    for most in 1 2 16 32; do
+        limited "$most" "$run"
+        judge "a file of $most KiB" 1 '' "$CANNOT_WRITE"
+    done
+    limited 1000 "$run"
+    mv "$scratch/limited" "$scratch/out"
+    judge 'a file that may grow' 0 "$(cat "$data/thousand_sources.plan")"$'\n' ''
+
+    word=-$(head -c 100000 /dev/zero | tr '\0' x)
+    {
+        "$program" line cicc /w {"$word","$word","$word"}{1,2,3,4,5} k.cpp1.ii -o k.ptx 2> "$scratch/err"
+        echo $? > "$scratch/status"
+    } | head -c 100 > /dev/null
+    : > "$scratch/out"
+    judge 'a pipe whose reader ends' 1 '' "$CANNOT_WRITE"
 }
 
 # streams that take nothing: a full disk, a pipe that nobody reads, and streams that are closed
@@ -243,6 +373,14 @@ closed_streams() {
     echo $? > "$scratch/status"
     : > "$scratch/out"
     judge 'a refusal writes nothing to a full disk' 1 '' "$NO_COMPILATION"
+
+    "$program" plan /w /t -c "$data/one_kernel.dry1" "$data/bad_last_line.dry1" > /dev/full 2> "$scratch/err"
+    echo $? > "$scratch/status"
+    judge 'a refused plan writes nothing to a full disk' 1 '' $'cudaplan: run 2 line 8: not UTF-8\n'
+
+    "$program" plan /w /t -c "$data/bad_last_line.dry1" "$data/one_kernel.dry1" >&- 2> "$scratch/err"
+    echo $? > "$scratch/status"
+    judge 'a refused plan needs no standard output' 1 '' $'cudaplan: run 1 line 8: not UTF-8\n'
 }
 
 good_lines
@@ -251,8 +389,13 @@ good_plans
 grouped_plans
 long_plan
 refused_plans
+unreadable_runs
+lost_programs
+odd_plans
 other_calls
 long_lines
+slow_streams
+short_streams
 closed_streams
 echo "$passed passed, $failed failed"
 [ "$failed" -eq 0 ]
