@@ -94,7 +94,7 @@ pub fn process(alloc: Global, code: i32) -> Output {
     }
 }
 
-/// The answer that this is left.
+/// The answer that a process ran and left this.
 pub fn left(alloc: Global, code: i32) -> Answer {
     Answer::Ran(process(alloc, code))
 }
@@ -115,7 +115,7 @@ fn call(alloc: Global, num_parallel: usize) -> Result<NvccCompileCommand, AllocE
     })
 }
 
-// How a run ended: the exit code of its output, which a refusal is told by a sign before.
+// How a run ended: the exit code of an output, or a refusal's message.
 fn ending(alloc: Global, ended: Result<Output, Fault>) -> Result<String, AllocError> {
     match ended {
         Ok(output) => format!(in alloc; "ended with {:?}", output.status.code()),
