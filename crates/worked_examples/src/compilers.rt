@@ -1,5 +1,6 @@
-//! Compilers as values: each equals its clone, and no compiler of another version.
+//! Compilers as values: each equals its clone, and no compiler of another version, and says its own.
 
+use cuda_below::compiler::CCompilerImpl;
 use cuda_plans::cicc::Cicc;
 use cuda_plans::cudafe::CudaFE;
 use cuda_plans::nvcc::{Nvcc, NvccHostCompiler};
@@ -10,7 +11,7 @@ use std::test::Fail;
 use texts::text::Text;
 
 fn version(alloc: Global) -> Result<Option<Text>, AllocError> {
-    Ok(Some(Text::copy_of(alloc, "12.4")?))
+    Ok(Some(Text::copy_of(alloc, "1")?))
 }
 
 fn cicc(alloc: Global, one: &Cicc) -> Result<(bool, bool), AllocError> {
@@ -92,5 +93,47 @@ fn nvccs(rt: HostRuntime) -> Result<(), Fail> {
         version: None,
     };
     assert_eq!(rt; nvcc(rt.alloc(), &one)?, (true, false));
+    Ok(())
+}
+
+// The version that a compiler says it is.
+fn said<C: CCompilerImpl + Drop>(alloc: Global, compiler: C) -> Result<String, AllocError> {
+    match compiler.version(alloc)? {
+        Some(version) => Ok(version),
+        None => String::from_str(alloc, "none"),
+    }
+}
+
+#[test]
+fn device_versions(rt: HostRuntime) -> Result<(), Fail> {
+    let alloc = rt.alloc();
+    let cicc = Cicc {
+        version: version(alloc)?,
+    };
+    assert_eq!(rt; said(alloc, cicc)?.as_str(), "1");
+    let cudafe = CudaFE {
+        version: version(alloc)?,
+    };
+    assert_eq!(rt; said(alloc, cudafe)?.as_str(), "1");
+    let ptxas = Ptxas {
+        version: version(alloc)?,
+    };
+    assert_eq!(rt; said(alloc, ptxas)?.as_str(), "1");
+    Ok(())
+}
+
+#[test]
+fn nvhpc_versions(rt: HostRuntime) -> Result<(), Fail> {
+    let alloc = rt.alloc();
+    let nvhpc = Nvhpc {
+        nvcplusplus: true,
+        version: version(alloc)?,
+    };
+    assert_eq!(rt; said(alloc, nvhpc)?.as_str(), "1");
+    let unknown = Nvhpc {
+        nvcplusplus: true,
+        version: None,
+    };
+    assert_eq!(rt; said(alloc, unknown)?.as_str(), "none");
     Ok(())
 }

@@ -34,13 +34,22 @@ impl Read for ByteByByte<'_> {
     }
 }
 
-// A reader that fails.
+// A reader that gives one byte at a read, and fails after a number of reads.
 #[derive(Drop)]
-struct Broken;
+struct Broken {
+    reads: usize,
+}
 
 impl Read for Broken {
-    fn read(&mut self, _buf: &mut [u8]) -> io::Result<usize> {
-        Err(io::Error::from(io::ErrorKind::BrokenPipe))
+    fn read(&mut self, buf: &mut [u8]) -> io::Result<usize> {
+        match (self.reads.checked_sub(1), buf.first_mut()) {
+            (Some(reads), Some(place)) => {
+                *place = b'x';
+                self.reads = reads;
+                Ok(1)
+            }
+            _ => Err(io::Error::from(io::ErrorKind::BrokenPipe)),
+        }
     }
 }
 
@@ -67,6 +76,11 @@ fn all_bytes_are_read(rt: HostRuntime) -> Result<(), Fail> {
 
 #[test]
 fn failed_reads_are_refused(rt: HostRuntime) {
-    let refused = matches!(cicc::read_input(rt.alloc(), Broken), Err(Fault::Read));
-    assert!(rt; refused);
+    for reads in 0..5 {
+        let refused = matches!(
+            cicc::read_input(rt.alloc(), Broken { reads }),
+            Err(Fault::Read)
+        );
+        assert!(rt; refused);
+    }
 }

@@ -142,6 +142,15 @@ fn process(alloc: Global) -> Output {
     }
 }
 
+#[test]
+fn finished_compilers(rt: HostRuntime) -> Result<(), Fail> {
+    let one = finished(rt.alloc(), Some(1));
+    let clone = one.try_clone(rt.alloc())?;
+    let equal = [one == clone, finished(rt.alloc(), None) == clone];
+    assert_eq!(rt; equal, [true, false]);
+    Ok(())
+}
+
 // Whether each answer equals its clone.
 fn equal_their_clones(alloc: Global, answers: &[Answer]) -> Result<bool, AllocError> {
     for answer in answers {

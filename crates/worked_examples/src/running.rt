@@ -1,21 +1,10 @@
 //! Plans that are run: which commands a runner is handed, and what comes of them.
 
-ghost use Rattle.std.specs.Prelude.{◌≡◌, ◌++◌, ◌∷◌, [], map};
-ghost use Rattle.cuda_plans.specs.Schedule.{AccountEntry};
-
-use cuda_plans::compiler::NvccHostCompiler;
-use cuda_plans::dry_run::{FirstDir, Suffixes};
-use cuda_plans::nvcc::NvccCompileCommand;
-use cuda_plans::plan::NvccGeneratedSubcommand;
-use cuda_plans::runner::{Answer, Place, Runner};
+use crate::runners::{Listed, execute, left, process};
+use cuda_plans::runner::{Answer, Place};
 use std::alloc::{AllocError, Global};
 use std::test::Fail;
-use texts::bytes::Bytes;
 use texts::fault::Fault;
-use texts::status::{ExitStatus, Output};
-use texts::text::Text;
-use texts::variables::Variables;
-use texts::words::Words;
 
 // Three kernels, and host code.
 const THREE_KERNELS: &str = "#$ PATH=/b
@@ -28,124 +17,16 @@ const THREE_KERNELS: &str = "#$ PATH=/b
 #$ gcc -D__NVCC__ -c k.cpp
 ";
 
-// What a runner was handed, and its answer.
-#[derive(Drop)]
-struct Entry {
-    place: Place,
-    command: NvccGeneratedSubcommand,
-    answer: Answer,
-}
-
-// A runner with an answer for some places, which elsewhere answers with success, and keeps its account.
-#[derive(Drop)]
-struct Listed {
-    answers: Vec<(Place, Answer)>,
-    account: Vec<Entry>,
-}
-
-impl Listed {
-    fn answer(&self, alloc: Global, place: Place) -> Result<Answer, AllocError> {
-        for (at, answer) in &self.answers {
-            if *at == place {
-                return answer.try_clone(alloc);
-            }
-        }
-        Ok(left(alloc, 0))
-    }
-}
-
-impl Runner for Listed {
-    ghost log = { λ r. map (λ e. record { place = e.place; command = e.command; answer = e.answer }) r.account.items };
-
-    fn run(
-        &mut self,
-        alloc: Global,
-        place: Place,
-        command: NvccGeneratedSubcommand,
-    ) -> Result<Answer, AllocError> {
-        let answer = self.answer(alloc, place)?;
-        let copy = answer.try_clone(alloc)?;
-        self.account.push(Entry {
-            place,
-            command,
-            answer: copy,
-        })?;
-        Ok(answer)
-    }
-}
-
-// What a process leaves that exits with a code and writes nothing.
-fn process(alloc: Global, code: i32) -> Output {
-    Output {
-        status: ExitStatus::from_code(code),
-        stdout: Bytes::new(alloc),
-        stderr: Bytes::new(alloc),
-    }
-}
-
-fn left(alloc: Global, code: i32) -> Answer {
-    Answer::Ran(process(alloc, code))
-}
-
-fn call(alloc: Global, num_parallel: usize) -> Result<NvccCompileCommand, AllocError> {
-    Ok(NvccCompileCommand {
-        temp_dir: Text::copy_of(alloc, "/t")?,
-        keep_dir: None,
-        num_parallel,
-        executable: Text::copy_of(alloc, "/b/nvcc")?,
-        arguments: Words::new(alloc),
-        compilation_flag: Text::copy_of(alloc, "-c")?,
-        env_vars: Variables::new(alloc),
-        cwd: Text::copy_of(alloc, "/w")?,
-        host_compiler: NvccHostCompiler::Gcc,
-        output_file_name: Text::copy_of(alloc, "k.o")?,
-    })
-}
-
-// How a run ended: the exit code of its output, which a refusal is told by a sign before.
-fn ending(alloc: Global, ended: Result<Output, Fault>) -> Result<String, AllocError> {
-    match ended {
-        Ok(output) => format!(in alloc; "ended with {:?}", output.status.code()),
-        Err(Fault::Process(output)) => format!(in alloc; "failed with {:?}", output.status.code()),
-        Err(fault) => fault.message(alloc),
-    }
-}
-
-// What a runner was handed, each by its place, and how the run ended.
-fn told(
-    alloc: Global,
-    account: &[Entry],
-    ended: Result<Output, Fault>,
-) -> Result<String, AllocError> {
-    let mut text = String::new(alloc);
-    for entry in account {
-        let (group, index) = (entry.place.group, entry.place.index);
-        text.push_str(format!(in alloc; "{group}.{index} ")?.as_str())?;
-    }
-    text.push_str(ending(alloc, ended)?.as_str())?;
-    Ok(text)
-}
-
 // Runs the three kernels with some answers, and tells what came of it.
 fn run_with(
     alloc: Global,
     num_parallel: usize,
-    answers: Vec<(Place, Answer)>,
+    answers: Vec<(Place, Option<Answer>)>,
 ) -> Result<String, AllocError> {
-    let mut runner = Listed {
-        answers,
-        account: Vec::new(alloc),
-    };
+    let mut runner = Listed::new(alloc, answers);
     let dry_run = THREE_KERNELS.as_bytes();
-    let ended = call(alloc, num_parallel)?.execute(
-        alloc,
-        dry_run,
-        dry_run,
-        &FirstDir,
-        &mut runner,
-        &Suffixes::standard(),
-    );
-    told(alloc, runner.account.as_slice(), ended)
+    let ended = execute(alloc, dry_run, dry_run, num_parallel, &mut runner);
+    runner.told(alloc, ended)
 }
 
 // The same, where the first commands of some groups exit with codes.
@@ -156,7 +37,7 @@ fn run(alloc: Global, num_parallel: usize, codes: &[(usize, i32)]) -> Result<Str
             group: *group,
             index: 0,
         };
-        answers.push((place, left(alloc, *code)))?;
+        answers.push((place, Some(left(alloc, *code))))?;
     }
     run_with(alloc, num_parallel, answers)
 }
@@ -201,7 +82,7 @@ fn failure_of_a_success_is_none(rt: HostRuntime) -> Result<(), Fail> {
     let mut answers = Vec::new(alloc);
     let place = Place { group: 1, index: 0 };
     let answer = Answer::Failed(Fault::Process(process(alloc, 0)));
-    answers.push((place, answer))?;
+    answers.push((place, Some(answer)))?;
     assert_eq!(rt;
         run_with(alloc, 1, answers)?.as_str(),
         "1.0 1.1 2.0 2.1 3.0 3.1 4.0 ended with Some(0)"
@@ -212,20 +93,10 @@ fn failure_of_a_success_is_none(rt: HostRuntime) -> Result<(), Fail> {
 #[test]
 fn unreadable_dry_run_runs_nothing(rt: HostRuntime) -> Result<(), Fail> {
     let alloc = rt.alloc();
-    let mut runner = Listed {
-        answers: Vec::new(alloc),
-        account: Vec::new(alloc),
-    };
-    let ended = call(alloc, 1)?.execute(
-        alloc,
-        THREE_KERNELS.as_bytes(),
-        b"#$ gcc",
-        &FirstDir,
-        &mut runner,
-        &Suffixes::standard(),
-    );
+    let mut runner = Listed::new(alloc, Vec::new(alloc));
+    let ended = execute(alloc, THREE_KERNELS.as_bytes(), b"#$ gcc", 1, &mut runner);
     assert_eq!(rt;
-        told(alloc, runner.account.as_slice(), ended)?.as_str(),
+        runner.told(alloc, ended)?.as_str(),
         "run 2 line 0: no PATH"
     );
     Ok(())
