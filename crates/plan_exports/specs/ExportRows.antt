@@ -1,9 +1,9 @@
 -- What is written of a small plan, worked out by hand.
 use Rattle.std.specs.Prelude.{◌≡◌, ℕ, List, [], ◌∷◌, codes, Ok, Err, refl}
 use Rattle.std.specs.Str.{chars, is_utf8}
-use Rattle.cuda_below.specs.declared.command.Cacheable.TheVariants.{Yes, No}
+use Rattle.cuda_below.specs.declared.command.Cacheable.TheVariants.{Yes}
 use Rattle.command_groups.specs.declared.plan.NvccGeneratedSubcommand.{NvccGeneratedSubcommand}
-use Rattle.plan_exports.specs.declared.refusal.Refusal.TheVariants.{Unheld, VariableName, Program}
+use Rattle.plan_exports.specs.declared.refusal.Refusal.TheVariants.{Unheld, VariableName}
 use Rattle.plan_exports.specs.declared.refusal.Form.TheVariants.{Shell, Ninja}
 use Rattle.plan_exports.specs.Judging.{judged_command, judged_groups}
 use Rattle.plan_exports.specs.Script.{command_line}
