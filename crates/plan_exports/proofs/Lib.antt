@@ -1,4 +1,5 @@
 pub mod EscapedLemmas
+pub mod JsonLemmas
 pub mod Numerals
 pub mod Pushing
 pub mod QuotedLemmas
