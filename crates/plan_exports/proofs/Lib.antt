@@ -1,5 +1,6 @@
 pub mod EscapedLemmas
 pub mod JsonLemmas
+pub mod JsonRows
 pub mod Numerals
 pub mod Pushing
 pub mod QuotedLemmas
