@@ -1,13 +1,15 @@
 -- What is written of a small plan, worked out by hand.
 use Rattle.std.specs.Prelude.{◌≡◌, ℕ, List, [], ◌∷◌, codes, Ok, Err, refl}
 use Rattle.std.specs.Str.{chars, is_utf8}
-use Rattle.cuda_below.specs.declared.command.Cacheable.TheVariants.{Yes, No}
+use Rattle.cuda_below.specs.declared.command.Cacheable.TheVariants.{Yes}
 use Rattle.command_groups.specs.declared.plan.NvccGeneratedSubcommand.{NvccGeneratedSubcommand}
-use Rattle.plan_exports.specs.declared.refusal.Refusal.TheVariants.{Unheld, VariableName, Program}
+use Rattle.plan_exports.specs.declared.refusal.Refusal.TheVariants.{Unheld, VariableName}
 use Rattle.plan_exports.specs.declared.refusal.Form.TheVariants.{Shell, Ninja}
 use Rattle.plan_exports.specs.Judging.{judged_command, judged_groups}
 use Rattle.plan_exports.specs.Script.{command_line}
 use Rattle.plan_exports.specs.Graph.{group_needs, edge}
+use Rattle.plan_exports.specs.Json.{command_data}
+use Rattle.serde_json.specs.Written.{compact_text}
 
 -- a command that can be cached, with one variable
 abbrev pub cicc_with : List ℕ → List ℕ → NvccGeneratedSubcommand
@@ -73,3 +75,9 @@ NewlineRefused = judged_groups Ninja ((cicc_with (codes "K") (codes "a\nb") ∷ 
 
 pub newline_refused : NewlineRefused
 newline_refused = refl
+
+-- the same command as JSON
+abbrev pub JsonOfCicc : Type 0
+JsonOfCicc =
+    compact_text (command_data cicc)
+    ≡ codes "{\"args\":[\"a$b\"],\"cacheable\":true,\"cwd\":\"/t\",\"env\":[[\"K\",\"v w\"]],\"exe\":\"/b/cicc\"}"

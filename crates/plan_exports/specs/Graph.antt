@@ -1,5 +1,5 @@
 -- A plan as a file for Ninja.
-use Rattle.std.specs.Prelude.{ℕ, Bool, ◌+◌, ◌-◌, List, [], ◌∷◌, ◌++◌, length, nat_lt, ◌==◌, ◌&&◌, if◌then◌else◌, map, codes, encode_utf8_all, Result, Ok, Err}
+use Rattle.std.specs.Prelude.{ℕ, Bool, ◌+◌, ◌-◌, List, [], ◌∷◌, ◌++◌, length, nat_lt, ◌==◌, ◌&&◌, if◌then◌else◌, codes, encode_utf8_all, Result, Ok, Err}
 use Rattle.std.specs.List.{flat_map, list_all}
 use Rattle.std.specs.Str.{chars}
 use Rattle.cuda_below.specs.declared.command.Cacheable.{Cacheable}

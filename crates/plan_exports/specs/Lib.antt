@@ -2,7 +2,9 @@ pub mod Answers
 pub mod CommandText
 pub mod ExportRows
 pub mod Graph
+pub mod Json
 pub mod Judging
+pub mod Message
 pub mod ReadBack
 pub mod ReadValue
 pub mod Script

@@ -1,5 +1,5 @@
 -- A shell reads a command's text as the command's words, and a script as those of all its commands.
-use Rattle.std.specs.Prelude.{◌≡◌, ℕ, List, [], ◌∷◌, ◌++◌, Some, codes}
+use Rattle.std.specs.Prelude.{◌≡◌, [], ◌∷◌, Some, codes}
 use Rattle.std.specs.List.{AllByRecursion, flat_map}
 use Rattle.std.specs.Str.{IsUtf8}
 use Rattle.shell_words.specs.Shell.Splitting.{shell_words}

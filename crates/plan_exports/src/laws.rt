@@ -1,6 +1,6 @@
 //! What holds of every plan that is written.
 
-ghost use Rattle.plan_exports.specs.ExportRows.{LineOfCicc, EdgeOfCicc, FrontNeeds, DeviceNeeds, FinalNeeds, DashRefused, NewlineHeld, NewlineRefused};
+ghost use Rattle.plan_exports.specs.ExportRows.{LineOfCicc, EdgeOfCicc, FrontNeeds, DeviceNeeds, FinalNeeds, DashRefused, NewlineHeld, NewlineRefused, JsonOfCicc};
 ghost use Rattle.plan_exports.specs.ReadBack.{CommandsReadBack, ScriptsReadBack};
 ghost use Rattle.plan_exports.specs.ReadValue.{ValuesReadBack};
 
@@ -26,4 +26,5 @@ pub fn worked_exports()
     ensures dash_refused { DashRefused }
     ensures newline_held { NewlineHeld }
     ensures newline_refused { NewlineRefused }
+    ensures json_of_cicc { JsonOfCicc }
 {}

@@ -1,13 +1,15 @@
-//! Plans for other tools: the text of a plan as a shell script and as a file for Ninja.
+//! Plans for other tools: the text of a plan as a shell script, as a file for Ninja and as JSON.
 #![tactic(auto)]
 
 mod command;
+mod json;
 mod judging;
 pub mod laws;
 mod ninja;
 mod refusal;
 mod shell;
 
+pub use json::json_text;
 pub use ninja::ninja_file;
 pub use refusal::Refusal;
 pub use shell::shell_script;

@@ -278,7 +278,7 @@ fn push_groups(
 }
 
 // The name of a reason.
-fn reason_name(reason: Reason) -> &'static str
+pub fn reason_name(reason: Reason) -> &'static str
     ensures { result.now ≡ spec.reason_name reason }
 {
     match reason {

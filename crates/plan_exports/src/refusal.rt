@@ -1,6 +1,8 @@
 //! Why a plan isn't written.
 
 use std::alloc::AllocError;
+use std::error::Error;
+use std::fmt;
 
 /// Why a plan can't be written in a form.
 #[derive(Clone, Copy, Debug, PartialEq)]
@@ -14,6 +16,28 @@ pub enum Refusal {
     /// Memory was refused.
     Memory,
 }
+
+impl fmt::Display for Refusal {
+    ghost use Rattle.std.specs.Prelude.{Some};
+    ghost use Rattle.plan_exports.specs.Message.{message_of};
+
+    ghost output = { λ r. Some (message_of r) };
+
+    fn fmt<W: fmt::Write>(&self, f: &mut fmt::Formatter<W>) -> fmt::Result {
+        f.write_str(match self {
+            Refusal::Unheld => "a text of the plan holds a byte that the form can't",
+            Refusal::VariableName => {
+                "a variable of the plan has a name that env takes for something else"
+            }
+            Refusal::Program => {
+                "a program of the plan has a path that env takes for something else"
+            }
+            Refusal::Memory => "out of memory",
+        })
+    }
+}
+
+impl Error for Refusal {}
 
 impl From<AllocError> for Refusal {
     ghost use Rattle.std.specs.Prelude.{◌≡◌};

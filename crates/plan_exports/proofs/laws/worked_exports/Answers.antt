@@ -1,4 +1,5 @@
 use Rattle.plan_exports.specs.ExportRows.{line_of_cicc, edge_of_cicc, front_needs, device_needs, final_needs, dash_refused, newline_held, newline_refused}
+use Rattle.plan_exports.proofs.JsonRows.{json_of_cicc}
 use Rattle.plan_exports.proofs.laws.worked_exports.Goals as goal
 
 pub returns : goal.returns
@@ -11,4 +12,5 @@ returns c = record {
   dash_refused = dash_refused;
   newline_held = newline_held;
   newline_refused = newline_refused;
+  json_of_cicc = json_of_cicc;
 }

@@ -1,4 +1,4 @@
-use Rattle.std.proofs.Common.{◌≡◌, ◌++◌, OnOk, string_bytes, subst, ap, ◌∙◌, codes}
+use Rattle.std.proofs.Common.{◌≡◌, ◌++◌, OnOk, string_bytes, subst, ◌∙◌, codes}
 use Rattle.texts.specs.Numeral.{numeral}
 use Rattle.plan_exports.specs.Graph.{comment_words, comment}
 use Rattle.plan_exports.proofs.Pushing.{pushed}

@@ -1,6 +1,5 @@
-use Rattle.std.proofs.Common.{◌≡◌, ◌++◌, ◌∙◌, ap, sym, string_bytes, encode_utf8_all, map-id}
+use Rattle.std.proofs.Common.{◌++◌, ◌∙◌, ap, sym, string_bytes, encode_utf8_all, map-id}
 use Rattle.std.specs.List.{flat_map}
-use Rattle.std.specs.Str.{chars}
 use Rattle.std.proofs.lemmas.Iterator.{YieldsList-from_chars}
 use Rattle.std.proofs.lemmas.Iterator.Consumers.{YieldsList-end}
 use Rattle.plan_exports.specs.Graph.{escaped_char}
