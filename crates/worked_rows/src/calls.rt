@@ -4,8 +4,8 @@ use crate::answer::Answer;
 use crate::row::Row;
 use crate::stop::Stop;
 use crate::{
-    faults, inputs, languages, lines, paths, plans, renaming, runs, selection, shell_texts, tables,
-    taken,
+    faults, inputs, languages, lines, paths, plan_runs, plans, renaming, runs, selection,
+    shell_texts, tables, taken,
 };
 use std::alloc::Global;
 use std::fs::Files;
@@ -19,6 +19,7 @@ fn on_dry_runs<R: Files + AllocGlobal>(rt: &R, alloc: Global, row: &Row) -> Resu
         "rename" | "suffixes" | "standard_suffixes" => renaming::answer(alloc, row),
         "select" => selection::answer(rt, alloc, row),
         "plan" | "plan_whole" | "plan_text" => plans::answer(rt, alloc, row),
+        "run" => plan_runs::answer(rt, alloc, row),
         _ => Err(Stop::Form("an unknown call")),
     }
 }

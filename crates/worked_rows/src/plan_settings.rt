@@ -6,9 +6,13 @@ use crate::stop::Stop;
 use cuda_plans::compiler::NvccHostCompiler;
 use cuda_plans::dry_run::{FirstDir, Suffixes};
 use cuda_plans::fault::Fault;
+use cuda_plans::nvcc::NvccCompileCommand;
 use cuda_plans::plan::{Plan, group_nvcc_subcommands_by_compilation_stage};
 use plan_texts::{Stop as PlanStop, run_plan};
-use std::alloc::Global;
+use std::alloc::{AllocError, Global};
+use texts::text::Text;
+use texts::variables::Variables;
+use texts::words::Words;
 
 /// The working directory, the folder for temporary files and the compilation flag of a row, and its
 /// settings.
@@ -35,12 +39,12 @@ fn host_named(name: &str) -> Result<NvccHostCompiler, Stop> {
 }
 
 impl<'a> PlanSettings<'a> {
-    /// The settings of a row.
-    pub fn of(alloc: Global, row: &'a Row) -> Result<PlanSettings<'a>, Stop> {
+    /// What the first three settings of a row say, and the further ones.
+    pub fn begun(alloc: Global, row: &'a Row) -> Result<(PlanSettings<'a>, &'a [String]), Stop> {
         let [cwd, tmp, flag, more @ ..] = row.settings.as_slice() else {
             return Err(Stop::Form("no two folders and a flag"));
         };
-        let mut settings = PlanSettings {
+        let settings = PlanSettings {
             cwd: cwd.as_str(),
             tmp: tmp.as_str(),
             flag: flag.as_str(),
@@ -49,14 +53,20 @@ impl<'a> PlanSettings<'a> {
             handed: Handed::new(alloc),
             text_file: String::new(alloc),
         };
+        Ok((settings, more))
+    }
+
+    /// The settings of a row.
+    pub fn of(alloc: Global, row: &'a Row) -> Result<PlanSettings<'a>, Stop> {
+        let (mut settings, more) = PlanSettings::begun(alloc, row)?;
         for setting in more {
             settings.take(alloc, setting.as_str())?;
         }
         Ok(settings)
     }
 
-    // Takes a setting.
-    fn take(&mut self, alloc: Global, setting: &str) -> Result<(), Stop> {
+    /// Takes a setting.
+    pub fn take(&mut self, alloc: Global, setting: &str) -> Result<(), Stop> {
         let Some((name, value)) = setting.split_once('=') else {
             return Err(Stop::Form("a setting without a value"));
         };
@@ -90,6 +100,30 @@ impl<'a> PlanSettings<'a> {
             &FirstDir,
             suffixes,
         )
+    }
+
+    /// The call of nvcc, with so many device groups at once.
+    pub fn command(
+        &self,
+        alloc: Global,
+        num_parallel: usize,
+    ) -> Result<NvccCompileCommand, AllocError> {
+        let keep_dir = match &self.keep_dir {
+            None => None,
+            Some(path) => Some(Text::copy_of(alloc, path.as_str())?),
+        };
+        Ok(NvccCompileCommand {
+            temp_dir: Text::copy_of(alloc, self.tmp)?,
+            keep_dir,
+            num_parallel,
+            executable: Text::copy_of(alloc, "/b/nvcc")?,
+            arguments: Words::new(alloc),
+            compilation_flag: Text::copy_of(alloc, self.flag)?,
+            env_vars: Variables::copy_of(alloc, self.handed.env_vars.as_slice())?,
+            cwd: Text::copy_of(alloc, self.cwd)?,
+            host_compiler: self.host_compiler,
+            output_file_name: Text::copy_of(alloc, "k.o")?,
+        })
     }
 
     /// The text of the plan of two dry runs, with the suffixes behind the standard ones.
