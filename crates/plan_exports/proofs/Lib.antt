@@ -4,5 +4,6 @@ pub mod JsonRows
 pub mod Pushing
 pub mod QuotedLemmas
 pub mod ReadBackLemmas
+pub mod ReadGraphLemmas
 pub mod TextLemmas
 pub mod ValueLemmas

@@ -6,5 +6,6 @@ pub mod Json
 pub mod Judging
 pub mod Message
 pub mod ReadBack
+pub mod ReadGraph
 pub mod ReadValue
 pub mod Script

@@ -2,6 +2,7 @@
 
 ghost use Rattle.plan_exports.specs.ExportRows.{LineOfCicc, EdgeOfCicc, FrontNeeds, DeviceNeeds, FinalNeeds, DashRefused, NewlineHeld, NewlineRefused, JsonOfCicc};
 ghost use Rattle.plan_exports.specs.ReadBack.{CommandsReadBack, ScriptsReadBack};
+ghost use Rattle.plan_exports.specs.ReadGraph.{GraphsReadBack};
 ghost use Rattle.plan_exports.specs.ReadValue.{ValuesReadBack};
 
 /// A shell reads what is written as the words that it was written of: each command's text, and the whole
@@ -14,6 +15,12 @@ pub fn read_back()
 /// Ninja reads each value as the text that it was written of.
 pub fn values_read_back()
     ensures { ValuesReadBack }
+{}
+
+/// Ninja reads a written file as an edge for each command of the plan, in order: the stamp that it makes, the stamps that
+/// it needs, and what it runs.
+pub fn graphs_read_back()
+    ensures { GraphsReadBack }
 {}
 
 /// What is written of a small plan, by the definitions.

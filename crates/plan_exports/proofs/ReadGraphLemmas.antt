@@ -1,0 +1,437 @@
+-- What is written for Ninja is read as the edges of the plan.
+use Rattle.std.proofs.Common.{ℕ, ◌<◌, ◌+◌, ◌-◌, List, [], ◌∷◌, ◌++◌, ◌≡◌, refl, sym, ap, ◌∙◌, subst, append_assoc, append-nil, map, length, drop, Bool, true, false, cond, not, ◌&&◌, ◌==◌, eqb, eqb-true, eq-eqb, ne_eqb, ltb, Some, None, Result, Ok, Err, codes, encode_utf8_all, arith}
+use Rattle.std.specs.List.{AllByRecursion, flat_map, list_all}
+use Rattle.std.specs.Option.{option_map}
+use Rattle.std.specs.Str.{IsUtf8, IsAscii, chars}
+use Rattle.std.specs.Int.Digits.{digits_of}
+use Rattle.std.proofs.lemmas.Bool.{false≢true, and_parts, and_from, not-true, cond_both, eqb-false}
+use Rattle.std.proofs.lemmas.Int.Digits.{all_below_base_digits_of}
+use Rattle.std.proofs.lemmas.Str.{encodes-chars, inside_one, encode_ascii, IsUtf8-append, IsUtf8-from_ascii}
+use Rattle.std.proofs.lemmas.Str.Ascii.{IsAscii-nil, IsAscii-cons}
+use lib.Utf8.{encode}
+use Rattle.cuda_below.specs.declared.command.Cacheable.{Cacheable}
+use Rattle.cuda_below.specs.declared.command.Cacheable.TheVariants.{Yes, No}
+use Rattle.texts.specs.Numeral.{numeral}
+use Rattle.texts.specs.Path.{lacks}
+use Rattle.texts.proofs.PathLemmas.{lacks-places, lacks-append}
+use Rattle.shell_words.specs.Shell.{backslash, single_quote}
+use Rattle.shell_words.specs.Shell.Quoting.{is_plain, quoted_char, quoted_word, further, quoted}
+use Rattle.command_groups.specs.declared.plan.NvccGeneratedSubcommand.{NvccGeneratedSubcommand}
+use Rattle.command_groups.specs.declared.plan.Dropped.{Dropped}
+use Rattle.command_groups.specs.declared.plan.Reason.{Reason}
+use Rattle.command_groups.specs.declared.plan.Reason.TheVariants.{NotCuda, NoCiccGroup, NoPtxasGroup, Superseded}
+use Rattle.command_groups.specs.declared.plan.Plan.{Plan}
+use Rattle.plan_exports.specs.declared.refusal.Refusal.{Refusal}
+use Rattle.plan_exports.specs.declared.refusal.Refusal.TheVariants.{Unheld}
+use Rattle.plan_exports.specs.declared.refusal.Form.TheVariants.{Ninja}
+use Rattle.plan_exports.specs.CommandText.{written, assignment, env_words, command_text}
+use Rattle.plan_exports.specs.Judging.{holds, holds_text, holds_variables, holds_command, judged_command, judged_group, judged_groups, and_then}
+use Rattle.plan_exports.specs.Script.{unless_refused}
+use Rattle.plan_exports.specs.Graph.{escaped_char, escaped, stamp, stamp_below, stamp_path, launcher, touch, edge_command, edge_line, edge, needs_at, edges_from as written_edges, last_stamp, last_stamps, waits_for, group_needs, group_edges, reason_name, comment, rule, head, graph, holds_dropped, judged_rest, ninja_answer}
+use Rattle.plan_exports.specs.ReadBack.{IsOfTexts}
+use Rattle.plan_exports.specs.ReadGraph.{parts_at, behind, Edge, path_of, head_parts, head_behind, with_edge, edges_from, edges_in, edges_of_lines, edges_of, last_place, last_places, waits_at, group_waits, edge_of, group_edges_of, plan_edges, IsDroppedText}
+use Rattle.plan_exports.proofs.TextLemmas.{written_utf8}
+use Rattle.plan_exports.proofs.ValueLemmas.{value_reads_back}
+
+-- ---- bytes that texts lack
+
+lacks-parts : (byte : ℕ) (front back : List ℕ) → lacks byte (front ++ back) ≡ true → (lacks byte front ≡ true) × (lacks byte back ≡ true)
+lacks-parts byte [] back h = (refl, h)
+lacks-parts byte (c ∷ front) back h =
+    let parts = and_parts (not (eqb c byte)) (lacks byte (front ++ back)) h in
+    let rest = lacks-parts byte front back parts.1 in
+    (and_from (not (eqb c byte)) (lacks byte front) parts.0 rest.0, rest.1)
+
+-- a byte below 128 stands in no other character's bytes
+lacks-encode : (byte c : ℕ) → byte < 128 → eqb c byte ≡ false → lacks byte (encode c) ≡ true
+lacks-encode byte c ascii other =
+    lacks-places byte (encode c)
+    (λ i within is. eqb-false c byte other (inside_one c [] (encode c) i (sym (append-nil (encode c))) within (subst (λ b. b < 128) (sym is) ascii) ∙ is))
+
+lacks-encodes : (byte : ℕ) (cs : List ℕ) → byte < 128 → lacks byte cs ≡ true → lacks byte (encode_utf8_all cs) ≡ true
+lacks-encodes byte [] ascii h = refl
+lacks-encodes byte (c ∷ cs) ascii h =
+    let parts = and_parts (not (eqb c byte)) (lacks byte cs) h in
+    lacks-append byte (encode c) (encode_utf8_all cs) (lacks-encode byte c ascii (not-true (eqb c byte) parts.0)) (lacks-encodes byte cs ascii parts.1)
+
+-- the character whose bytes lack a byte below 128 is another one
+other-char : (byte c : ℕ) (b : Bool) → eqb c byte ≡ b → byte < 128 → lacks byte (encode c) ≡ true → not b ≡ true
+other-char byte c false is ascii h = refl
+other-char byte c true is ascii h =
+    let same : c ≡ byte = eqb-true c byte is in
+    let bytes : encode c ≡ byte ∷ [] = ap encode same ∙ encode_ascii byte ascii in
+    let bad : not (eqb byte byte) && true ≡ true = subst (λ t. lacks byte t ≡ true) bytes h in
+    absurd (false≢true (ap (λ b. not b && true) (sym (eq-eqb byte byte refl)) ∙ bad))
+
+lacks-encoded : (byte : ℕ) (cs : List ℕ) → byte < 128 → lacks byte (encode_utf8_all cs) ≡ true → lacks byte cs ≡ true
+lacks-encoded byte [] ascii h = refl
+lacks-encoded byte (c ∷ cs) ascii h =
+    let parts = lacks-parts byte (encode c) (encode_utf8_all cs) h in
+    and_from (not (eqb c byte)) (lacks byte cs) (other-char byte c (eqb c byte) refl ascii parts.0) (lacks-encoded byte cs ascii parts.1)
+
+lacks-chars : (text : List ℕ) → IsUtf8 text → lacks 10 text ≡ true → lacks 10 (chars text) ≡ true
+lacks-chars text is h = lacks-encoded 10 (chars text) (omega arith) (subst (λ t. lacks 10 t ≡ true) (sym (encodes-chars text is)) h)
+
+lacks-flat : (f : ℕ → List ℕ) (cs : List ℕ) → ((c : ℕ) → eqb c 10 ≡ false → lacks 10 (f c) ≡ true) → lacks 10 cs ≡ true → lacks 10 (flat_map f cs) ≡ true
+lacks-flat f [] each h = refl
+lacks-flat f (c ∷ cs) each h =
+    let parts = and_parts (not (eqb c 10)) (lacks 10 cs) h in
+    lacks-append 10 (f c) (flat_map f cs) (each c (not-true (eqb c 10) parts.0)) (lacks-flat f cs each parts.1)
+
+lacks-one : (c : ℕ) → eqb c 10 ≡ false → lacks 10 (c ∷ []) ≡ true
+lacks-one c other = and_from (not (eqb c 10)) true (ap not other) refl
+
+-- ---- texts that stand on one line
+
+-- UTF-8 with no end of a line
+abbrev IsLine : List ℕ → Type 0
+IsLine text = IsUtf8 text × (lacks 10 text ≡ true)
+
+line-append : (front back : List ℕ) → IsLine front → IsLine back → IsLine (front ++ back)
+line-append front back h k = (IsUtf8-append front back h.0 k.0, lacks-append 10 front back h.1 k.1)
+
+lacks-word : (word : List ℕ) → lacks 10 word ≡ true → lacks 10 (quoted_word word) ≡ true
+lacks-word word h =
+    cond_both (is_plain word) word (single_quote ∷ (flat_map quoted_char word ++ single_quote ∷ [])) (λ t. lacks 10 t ≡ true) (λ _. h)
+    (λ _. lacks-append 10 (flat_map quoted_char word) (single_quote ∷ [])
+    (lacks-flat quoted_char word
+    (λ c other. cond_both (c == single_quote) (single_quote ∷ backslash ∷ single_quote ∷ single_quote ∷ []) (c ∷ []) (λ t. lacks 10 t ≡ true) (λ _. refl) (λ _. lacks-one c other)) h)
+    refl)
+
+lacks-further : (words : List (List ℕ)) → AllByRecursion IsLine words → lacks 10 (further (map chars words)) ≡ true
+lacks-further [] are = refl
+lacks-further (word ∷ words) are =
+    lacks-append 10 (32 ∷ quoted_word (chars word)) (further (map chars words)) (lacks-word (chars word) (lacks-chars word are.0.0 are.0.1)) (lacks-further words are.1)
+
+lacks-quoted : (words : List (List ℕ)) → AllByRecursion IsLine words → lacks 10 (quoted (map chars words)) ≡ true
+lacks-quoted [] are = refl
+lacks-quoted (word ∷ words) are =
+    lacks-append 10 (quoted_word (chars word)) (further (map chars words)) (lacks-word (chars word) (lacks-chars word are.0.0 are.0.1)) (lacks-further words are.1)
+
+all-utf8 : (words : List (List ℕ)) → AllByRecursion IsLine words → AllByRecursion IsUtf8 words
+all-utf8 [] are = tt
+all-utf8 (word ∷ words) are = (are.0.0, all-utf8 words are.1)
+
+line-written : (words : List (List ℕ)) → AllByRecursion IsLine words → IsLine (written words)
+line-written words are = (written_utf8 words (all-utf8 words are), lacks-encodes 10 (quoted (map chars words)) (omega arith) (lacks-quoted words are))
+
+line-escaped : (text : List ℕ) → IsLine text → lacks 10 (escaped text) ≡ true
+line-escaped text is =
+    lacks-encodes 10 (flat_map escaped_char (chars text)) (omega arith)
+    (lacks-flat escaped_char (chars text)
+    (λ c other. cond_both (c == 36) (36 ∷ 36 ∷ []) (c ∷ []) (λ t. lacks 10 t ≡ true) (λ _. refl) (λ _. lacks-one c other)) (lacks-chars text is.0 is.1))
+
+-- ---- numbers and stamps
+
+lacks-digits : (byte : ℕ) (ds : List ℕ) → ((d : ℕ) → d < 10 → eqb (48 + d) byte ≡ false) → AllByRecursion (λ d. d < 10) ds → lacks byte (map (λ d. 48 + d) ds) ≡ true
+lacks-digits byte [] other small = refl
+lacks-digits byte (d ∷ ds) other small =
+    and_from (not (eqb (48 + d) byte)) (lacks byte (map (λ d. 48 + d) ds)) (ap not (other d small.0)) (lacks-digits byte ds other small.1)
+
+lacks-numeral : (byte n : ℕ) → ((d : ℕ) → d < 10 → eqb (48 + d) byte ≡ false) → lacks byte (codes "0") ≡ true → lacks byte (numeral n) ≡ true
+lacks-numeral byte n other nothing =
+    cond_both (eqb n 0) (codes "0") (map (λ d. 48 + d) (digits_of 10 n)) (λ t. lacks byte t ≡ true) (λ _. nothing)
+    (λ _. lacks-digits byte (digits_of 10 n) other (all_below_base_digits_of 10 n (omega arith)))
+
+ascii-digits : (ds : List ℕ) → AllByRecursion (λ d. d < 10) ds → IsAscii (map (λ d. 48 + d) ds)
+ascii-digits [] small = IsAscii-nil
+ascii-digits (d ∷ ds) small = let low : d < 10 = small.0 in IsAscii-cons (48 + d) (map (λ d. 48 + d) ds) (omega arith) (ascii-digits ds small.1)
+
+utf8-numeral : (n : ℕ) → IsUtf8 (numeral n)
+unfolding lib.Utf8.encode
+utf8-numeral n =
+    cond_both (eqb n 0) (codes "0") (map (λ d. 48 + d) (digits_of 10 n)) (λ t. IsUtf8 t) (λ _. (codes "0", (refl, refl)))
+    (λ _. IsUtf8-from_ascii (map (λ d. 48 + d) (digits_of 10 n)) (ascii-digits (digits_of 10 n) (all_below_base_digits_of 10 n (omega arith))))
+
+line-numeral : (n : ℕ) → IsLine (numeral n)
+line-numeral n = (utf8-numeral n, lacks-numeral 10 n (λ d small. ne_eqb (48 + d) 10 (λ e. omega arith)) refl)
+
+-- the name of a stamp, as it stands behind a blank
+abbrev stamp_text : ℕ → ℕ → List ℕ
+stamp_text group place = codes "${tmp}/" ++ stamp group place
+
+lacks-stamp : (byte group place : ℕ) → ((d : ℕ) → d < 10 → eqb (48 + d) byte ≡ false) → lacks byte (codes "0") ≡ true → lacks byte (codes "${tmp}/zigrunk.") ≡ true → lacks byte (codes ".") ≡ true → lacks byte (stamp_text group place) ≡ true
+lacks-stamp byte group place other nothing front dot =
+    lacks-append byte (codes "${tmp}/zigrunk.") (numeral group ++ (codes "." ++ numeral place)) front
+    (lacks-append byte (numeral group) (codes "." ++ numeral place) (lacks-numeral byte group other nothing)
+    (lacks-append byte (codes ".") (numeral place) dot (lacks-numeral byte place other nothing)))
+
+stamp-no_newline : (group place : ℕ) → lacks 10 (stamp_text group place) ≡ true
+stamp-no_newline group place = lacks-stamp 10 group place (λ d small. ne_eqb (48 + d) 10 (λ e. omega arith)) refl refl refl
+
+stamp-no_blank : (group place : ℕ) → lacks 32 (stamp_text group place) ≡ true
+stamp-no_blank group place = lacks-stamp 32 group place (λ d small. ne_eqb (48 + d) 32 (λ e. omega arith)) refl refl refl
+
+stamp-no_colon : (group place : ℕ) → lacks 58 (stamp_text group place) ≡ true
+stamp-no_colon group place = lacks-stamp 58 group place (λ d small. ne_eqb (48 + d) 58 (λ e. omega arith)) refl refl refl
+
+line-path : (tmp : List ℕ) (group place : ℕ) → IsLine tmp → IsLine (stamp_path tmp group place)
+unfolding lib.Utf8.encode
+line-path tmp group place is =
+    line-append tmp (codes "/" ++ stamp group place) is
+    (line-append (codes "/zigrunk.") (numeral group ++ (codes "." ++ numeral place)) ((codes "/zigrunk.", (refl, refl)), refl)
+    (line-append (numeral group) (codes "." ++ numeral place) (line-numeral group) (line-append (codes ".") (numeral place) ((codes ".", (refl, refl)), refl) (line-numeral place))))
+
+-- ---- commands
+
+held-text : (text : List ℕ) → holds_text Ninja text ≡ true → lacks 10 text ≡ true
+held-text [] h = refl
+held-text (c ∷ cs) h =
+    let parts = and_parts (holds Ninja c) (list_all (holds Ninja) cs) h in
+    let one = and_parts (not (eqb c 0)) (not (eqb c 10) && not (eqb c 13)) parts.0 in
+    let two = and_parts (not (eqb c 10)) (not (eqb c 13)) one.1 in
+    and_from (not (eqb c 10)) (lacks 10 cs) two.0 (held-text cs parts.1)
+
+held-words : (words : List (List ℕ)) → AllByRecursion IsUtf8 words → list_all (holds_text Ninja) words ≡ true → AllByRecursion IsLine words
+held-words [] are h = tt
+held-words (word ∷ words) are h =
+    let parts = and_parts (holds_text Ninja word) (list_all (holds_text Ninja) words) h in
+    ((are.0, held-text word parts.0), held-words words are.1 parts.1)
+
+held-variables : (variables : List (List ℕ × List ℕ)) → AllByRecursion (λ p. IsUtf8 p.0 × IsUtf8 p.1) variables → holds_variables Ninja variables ≡ true → AllByRecursion IsLine (map assignment variables)
+unfolding lib.Utf8.encode
+held-variables [] are h = tt
+held-variables (p ∷ variables) are h =
+    let parts = and_parts (holds_text Ninja p.0 && holds_text Ninja p.1) (holds_variables Ninja variables) h in
+    let pair = and_parts (holds_text Ninja p.0) (holds_text Ninja p.1) parts.0 in (
+      line-append p.0 (61 ∷ p.1) (are.0.0, held-text p.0 pair.0) (line-append (61 ∷ []) p.1 ((61 ∷ [], (refl, refl)), refl) (are.0.1, held-text p.1 pair.1)),
+      held-variables variables are.1 parts.1,
+    )
+
+line-command : (front : List ℕ) (c : NvccGeneratedSubcommand) → IsLine front → IsOfTexts c → holds_command Ninja c ≡ true → IsLine (command_text front c)
+unfolding lib.Utf8.encode
+line-command front c is are h =
+    let first = and_parts (holds_text Ninja c.cwd) (holds_variables Ninja c.env_vars && (holds_text Ninja c.exe && list_all (holds_text Ninja) c.args)) h in
+    let second = and_parts (holds_variables Ninja c.env_vars) (holds_text Ninja c.exe && list_all (holds_text Ninja) c.args) first.1 in
+    let third = and_parts (holds_text Ninja c.exe) (list_all (holds_text Ninja) c.args) second.1 in
+    let run = line-append (written (c.exe ∷ c.args)) (codes " )") (line-written (c.exe ∷ c.args) ((are.exe, held-text c.exe third.0), held-words c.args are.args third.1)) ((codes " )", (refl, refl)), refl) in
+    let launched = line-append (codes " ") (front ++ (written (c.exe ∷ c.args) ++ codes " )")) ((codes " ", (refl, refl)), refl) (line-append front (written (c.exe ∷ c.args) ++ codes " )") is run) in
+    let env = line-append (written (env_words c)) (codes " " ++ (front ++ (written (c.exe ∷ c.args) ++ codes " )"))) (line-written (env_words c) (((codes "env", (refl, refl)), refl), held-variables c.env_vars are.variables second.0)) launched in
+    let behind_cd = line-append (codes " && ") (written (env_words c) ++ (codes " " ++ (front ++ (written (c.exe ∷ c.args) ++ codes " )")))) ((codes " && ", (refl, refl)), refl) env in
+    let cd = line-append (written (c.cwd ∷ [])) (codes " && " ++ (written (env_words c) ++ (codes " " ++ (front ++ (written (c.exe ∷ c.args) ++ codes " )"))))) (line-written (c.cwd ∷ []) ((are.cwd, held-text c.cwd first.0), tt)) behind_cd in
+    line-append (codes "( cd ") (written (c.cwd ∷ []) ++ (codes " && " ++ (written (env_words c) ++ (codes " " ++ (front ++ (written (c.exe ∷ c.args) ++ codes " )")))))) ((codes "( cd ", (refl, refl)), refl) cd
+
+line-launcher : (cacheable : Cacheable) → IsLine (launcher cacheable)
+unfolding lib.Utf8.encode
+line-launcher Yes = ((codes "${ZIGRUNK_LAUNCHER-} ", (refl, refl)), refl)
+line-launcher No = (([], (refl, refl)), refl)
+
+line-edge : (tmp : List ℕ) (group place : ℕ) (c : NvccGeneratedSubcommand) → IsLine tmp → IsOfTexts c → holds_command Ninja c ≡ true → IsLine (edge_command tmp group place c)
+unfolding lib.Utf8.encode
+line-edge tmp group place c is are h =
+    line-append (command_text (launcher c.cacheable) c) (touch tmp group place) (line-command (launcher c.cacheable) c (line-launcher c.cacheable) are h)
+    (line-append (codes " && touch ") (written (stamp_path tmp group place ∷ [])) ((codes " && touch ", (refl, refl)), refl) (line-written (stamp_path tmp group place ∷ []) (line-path tmp group place is, tt)))
+
+-- ---- parts of texts
+
+parts-onto : (byte : ℕ) (front text first : List ℕ) (parts : List (List ℕ)) → lacks byte front ≡ true → parts_at byte text ≡ first ∷ parts → parts_at byte (front ++ text) ≡ (front ++ first) ∷ parts
+parts-onto byte [] text first parts h e = e
+parts-onto byte (c ∷ front) text first parts h e =
+    let both = and_parts (not (eqb c byte)) (lacks byte front) h in
+    rw (not-true (eqb c byte) both.0, parts-onto byte front text first parts both.1 e) refl
+
+parts-past : (byte : ℕ) (part rest : List ℕ) → lacks byte part ≡ true → parts_at byte (part ++ byte ∷ rest) ≡ part ∷ parts_at byte rest
+parts-past byte part rest h =
+    let seam : parts_at byte (byte ∷ rest) ≡ [] ∷ parts_at byte rest = rw (eq-eqb byte byte refl) refl in
+    parts-onto byte part (byte ∷ rest) [] (parts_at byte rest) h seam ∙ ap (λ p. p ∷ parts_at byte rest) (append-nil part)
+
+parts-end : (byte : ℕ) (part : List ℕ) → lacks byte part ≡ true → parts_at byte part ≡ part ∷ []
+parts-end byte part h = ap (parts_at byte) (sym (append-nil part)) ∙ parts-onto byte part [] [] [] h refl ∙ ap (λ p. p ∷ []) (append-nil part)
+
+-- ---- needs
+
+abbrev below_all : List (ℕ × ℕ) → List ℕ
+below_all places = flat_map (λ p. stamp_below p.0 p.1) places
+
+below-append : (xs ys : List (ℕ × ℕ)) → below_all (xs ++ ys) ≡ below_all xs ++ below_all ys
+below-append [] ys = refl
+below-append (p ∷ xs) ys = ap (λ t. stamp_below p.0 p.1 ++ t) (below-append xs ys) ∙ sym (append_assoc (stamp_below p.0 p.1) (below_all xs) (below_all ys))
+
+below-one : (b : Bool) (p : ℕ × ℕ) → cond b [] (stamp_below p.0 p.1) ≡ below_all (cond b [] (p ∷ []))
+below-one true p = refl
+below-one false p = sym (append-nil (stamp_below p.0 p.1))
+
+below-choice : (b : Bool) (xs : List (ℕ × ℕ)) (t : List ℕ) → t ≡ below_all xs → cond b t [] ≡ below_all (cond b xs [])
+below-choice true xs t e = e
+below-choice false xs t e = refl
+
+below-last : (below group : ℕ) (groups : List (List NvccGeneratedSubcommand)) → last_stamps below group groups ≡ below_all (last_places below group groups)
+below-last below group [] = refl
+below-last below group (commands ∷ groups) =
+    let here = below-choice (ltb group below) (last_place group commands) (last_stamp group commands) (below-one (eqb (length commands) 0) (group, length commands - 1)) in
+    ap (λ t. t ++ last_stamps below (group + 1) groups) here
+    ∙ ap (λ t. below_all (cond (ltb group below) (last_place group commands) []) ++ t) (below-last below (group + 1) groups)
+    ∙ sym (below-append (cond (ltb group below) (last_place group commands) []) (last_places below (group + 1) groups))
+
+below-needs : (group place : ℕ) (first : List (ℕ × ℕ)) (b : Bool) → eqb place 0 ≡ b → needs_at group place (below_all first) ≡ below_all (waits_at group place first)
+below-needs group place first true is = rw is refl
+below-needs group place first false is = rw is (sym (append-nil (stamp_below group (place - 1))))
+
+lacks-below : (byte : ℕ) (places : List (ℕ × ℕ)) → ((p : ℕ × ℕ) → lacks byte (stamp_below p.0 p.1) ≡ true) → lacks byte (below_all places) ≡ true
+lacks-below byte [] each = refl
+lacks-below byte (p ∷ places) each = lacks-append byte (stamp_below p.0 p.1) (below_all places) (each p) (lacks-below byte places each)
+
+parts-below : (places : List (ℕ × ℕ)) → parts_at 32 (below_all places) ≡ [] ∷ map (λ p. stamp_text p.0 p.1) places
+parts-below [] = refl
+parts-below (p ∷ places) =
+    ap (λ parts. [] ∷ parts)
+    (parts-onto 32 (stamp_text p.0 p.1) (below_all places) [] (map (λ q. stamp_text q.0 q.1) places) (stamp-no_blank p.0 p.1) (parts-below places)
+    ∙ ap (λ t. t ∷ map (λ q. stamp_text q.0 q.1) places) (append-nil (stamp_text p.0 p.1)))
+
+paths-below : (tmp : List ℕ) (places : List (ℕ × ℕ)) → map (path_of tmp) (map (λ p. stamp_text p.0 p.1) places) ≡ map (λ p. stamp_path tmp p.0 p.1) places
+paths-below tmp [] = refl
+paths-below tmp (p ∷ places) = ap (λ ps. stamp_path tmp p.0 p.1 ∷ ps) (paths-below tmp places)
+
+-- ---- edges
+
+abbrev build_line : ℕ → ℕ → List ℕ → List ℕ
+build_line group place needs = codes "build " ++ (stamp_text group place ++ (codes ": run" ++ needs))
+
+abbrev value_line : List ℕ → List ℕ
+value_line text = codes "  line = " ++ escaped text
+
+edge-lines : (tmp : List ℕ) (group place : ℕ) (needs : List ℕ) (c : NvccGeneratedSubcommand) (rest : List ℕ) →
+    edge tmp group place needs c ++ rest ≡ build_line group place needs ++ 10 ∷ (value_line (edge_command tmp group place c) ++ 10 ∷ rest)
+edge-lines tmp group place needs c rest =
+    let value = escaped (edge_command tmp group place c) in
+    let line = edge_line (edge_command tmp group place c) in
+    ap (λ t. codes "build" ++ t)
+    (append_assoc (stamp_below group place) (codes ": run" ++ (needs ++ line)) rest
+    ∙ ap (λ t. stamp_below group place ++ (codes ": run" ++ t)) (append_assoc needs line rest ∙ ap (λ t. needs ++ (codes "\n  line = " ++ t)) (append_assoc value (10 ∷ []) rest))
+    ∙ sym (append_assoc (stamp_below group place) (codes ": run" ++ needs) (10 ∷ (value_line (edge_command tmp group place c) ++ 10 ∷ rest))))
+
+head-read : (tmp : List ℕ) (group place : ℕ) (places : List (ℕ × ℕ)) →
+    head_behind tmp (behind (codes "build ") (build_line group place (below_all places))) ≡ Some (stamp_path tmp group place, map (λ p. stamp_path tmp p.0 p.1) places)
+head-read tmp group place places =
+    let needs = codes " run" ++ below_all places in
+    let paths = map (λ p. stamp_path tmp p.0 p.1) places in
+    let no_colon : lacks 58 needs ≡ true = lacks-append 58 (codes " run") (below_all places) refl (lacks-below 58 places (λ p. stamp-no_colon p.0 p.1)) in
+    ap (head_parts tmp) (parts-past 58 (stamp_text group place) needs (stamp-no_colon group place) ∙ ap (λ ps. stamp_text group place ∷ ps) (parts-end 58 needs no_colon))
+    ∙ ap (λ ps. option_map (λ n. (stamp_path tmp group place, n)) (Some (map (path_of tmp) (drop 1 ps)))) (parts-below places)
+    ∙ ap (λ n. Some (stamp_path tmp group place, n)) (paths-below tmp places)
+
+-- the edge of a command, before further lines
+edge-read : (tmp : List ℕ) (group place : ℕ) (places : List (ℕ × ℕ)) (c : NvccGeneratedSubcommand) (rest : List ℕ) (es : List Edge) →
+    IsLine tmp → IsOfTexts c → holds_command Ninja c ≡ true → edges_from tmp None (parts_at 10 rest) ≡ Some es →
+    edges_from tmp None (parts_at 10 (edge tmp group place (below_all places) c ++ rest)) ≡ Some (edge_of tmp group place places c ∷ es)
+edge-read tmp group place places c rest es is are h found =
+    let text = edge_command tmp group place c in
+    let line = line-edge tmp group place c is are h in
+    let needs = below_all places in
+    let no_newline : lacks 10 (build_line group place needs) ≡ true =
+    lacks-append 10 (stamp_text group place) (codes ": run" ++ needs) (stamp-no_newline group place) (lacks-append 10 (codes ": run") needs refl (lacks-below 10 places (λ p. stamp-no_newline p.0 p.1))) in
+    let head : List ℕ × List (List ℕ) = (stamp_path tmp group place, map (λ p. stamp_path tmp p.0 p.1) places) in
+    ap (λ t. edges_from tmp None (parts_at 10 t)) (edge-lines tmp group place needs c rest)
+    ∙ ap (edges_from tmp None)
+    (parts-past 10 (build_line group place needs) (value_line text ++ 10 ∷ rest) no_newline
+    ∙ ap (λ ls. build_line group place needs ∷ ls) (parts-past 10 (value_line text) rest (lacks-append 10 (codes "  line = ") (escaped text) refl (line-escaped text line))))
+    ∙ ap (λ o. edges_from tmp o (value_line text ∷ parts_at 10 rest)) (head-read tmp group place places)
+    ∙ ap (λ o. with_edge head o (edges_from tmp None (parts_at 10 rest))) (value_reads_back text line.0)
+    ∙ ap (with_edge head (Some text)) found
+
+held-command : (c : NvccGeneratedSubcommand) (b : Bool) → holds_command Ninja c ≡ b → judged_command Ninja c ≡ Ok tt → holds_command Ninja c ≡ true
+held-command c true e h = e
+held-command c false e h =
+    let bad : judged_command Ninja c ≡ Err Unheld = rw e refl in
+    let both : Err Unheld ≡ Ok tt = sym bad ∙ h in
+    absurd cc
+
+then-both : (one next : Result (Unit {0}) Refusal) → and_then one next ≡ Ok tt → (one ≡ Ok tt) × (next ≡ Ok tt)
+then-both (Ok tt) next h = (refl, h)
+then-both (Err refusal) next h = absurd cc
+
+group-read : (tmp : List ℕ) (group place : ℕ) (first : List (ℕ × ℕ)) (commands : List NvccGeneratedSubcommand) (rest : List ℕ) (es : List Edge) →
+    IsLine tmp → AllByRecursion IsOfTexts commands → judged_group Ninja commands ≡ Ok tt → edges_from tmp None (parts_at 10 rest) ≡ Some es →
+    edges_from tmp None (parts_at 10 (written_edges tmp group place (below_all first) commands ++ rest)) ≡ Some (group_edges_of tmp group place first commands ++ es)
+group-read tmp group place first [] rest es is are h found = found
+group-read tmp group place first (c ∷ commands) rest es is are h found =
+    let judged = then-both (judged_command Ninja c) (judged_group Ninja commands) h in
+    let waits = waits_at group place first in
+    let more = written_edges tmp group (place + 1) (below_all first) commands in
+    ap (λ t. edges_from tmp None (parts_at 10 t))
+    (append_assoc (edge tmp group place (needs_at group place (below_all first)) c) more rest
+    ∙ ap (λ n. edge tmp group place n c ++ (more ++ rest)) (below-needs group place first (eqb place 0) refl))
+    ∙ edge-read tmp group place waits c (more ++ rest) (group_edges_of tmp group (place + 1) first commands ++ es) is are.0 (held-command c (holds_command Ninja c) refl judged.0)
+    (group-read tmp group (place + 1) first commands rest es is are.1 judged.1 found)
+
+groups-read : (tmp : List ℕ) (all : List (List NvccGeneratedSubcommand)) (group : ℕ) (groups : List (List NvccGeneratedSubcommand)) (rest : List ℕ) (es : List Edge) →
+    IsLine tmp → AllByRecursion (AllByRecursion IsOfTexts) groups → judged_groups Ninja groups ≡ Ok tt → edges_from tmp None (parts_at 10 rest) ≡ Some es →
+    edges_from tmp None (parts_at 10 (group_edges tmp all group groups ++ rest)) ≡ Some (plan_edges tmp all group groups ++ es)
+groups-read tmp all group [] rest es is are h found = found
+groups-read tmp all group (commands ∷ groups) rest es is are h found =
+    let judged = then-both (judged_group Ninja commands) (judged_groups Ninja groups) h in
+    let more = group_edges tmp all (group + 1) groups in
+    let edges = plan_edges tmp all (group + 1) groups in
+    ap (λ t. edges_from tmp None (parts_at 10 t))
+    (append_assoc (written_edges tmp group 0 (group_needs all group) commands) more rest
+    ∙ ap (λ n. written_edges tmp group 0 n commands ++ (more ++ rest)) (below-last (waits_for (length all) group) 0 all))
+    ∙ group-read tmp group 0 (group_waits all group) commands (more ++ rest) (edges ++ es) is are.0 judged.0 (groups-read tmp all (group + 1) groups rest es is are.1 judged.1 found)
+    ∙ ap Some (sym (append_assoc (group_edges_of tmp group 0 (group_waits all group) commands) edges es))
+
+-- ---- comments
+
+lacks-reason : (reason : Reason) → lacks 10 (reason_name reason) ≡ true
+lacks-reason NotCuda = refl
+lacks-reason NoCiccGroup = refl
+lacks-reason NoPtxasGroup = refl
+lacks-reason Superseded = refl
+
+-- a comment without its end
+abbrev comment_line : Dropped → List ℕ
+comment_line d = codes "# dropped line " ++ (numeral d.line ++ (codes " run " ++ (numeral d.run ++ (codes " " ++ (reason_name d.reason ++ (codes " " ++ written (d.exe ∷ d.args)))))))
+
+comment-lines : (d : Dropped) (rest : List ℕ) → comment d ++ rest ≡ comment_line d ++ 10 ∷ rest
+comment-lines d rest = simp append_assoc refl
+
+lacks-comment : (d : Dropped) → AllByRecursion IsLine (d.exe ∷ d.args) → lacks 10 (comment_line d) ≡ true
+lacks-comment d are =
+    let words = written (d.exe ∷ d.args) in
+    let reason = codes " " ++ (reason_name d.reason ++ (codes " " ++ words)) in
+    lacks-append 10 (numeral d.line) (codes " run " ++ (numeral d.run ++ reason)) (line-numeral d.line).1
+    (lacks-append 10 (numeral d.run) reason (line-numeral d.run).1
+    (lacks-append 10 (reason_name d.reason) (codes " " ++ words) (lacks-reason d.reason) (line-written (d.exe ∷ d.args) are).1))
+
+comments-read : (tmp : List ℕ) (dropped : List Dropped) → AllByRecursion IsDroppedText dropped → list_all holds_dropped dropped ≡ true → edges_from tmp None (parts_at 10 (flat_map comment dropped)) ≡ Some []
+comments-read tmp [] are h = refl
+comments-read tmp (d ∷ dropped) are h =
+    let parts = and_parts (holds_dropped d) (list_all holds_dropped dropped) h in
+    let one = and_parts (holds_text Ninja d.exe) (list_all (holds_text Ninja) d.args) parts.0 in
+    let words : AllByRecursion IsLine (d.exe ∷ d.args) = ((are.0.exe, held-text d.exe one.0), held-words d.args are.0.args one.1) in
+    ap (λ t. edges_from tmp None (parts_at 10 t)) (comment-lines d (flat_map comment dropped))
+    ∙ ap (edges_from tmp None) (parts-past 10 (comment_line d) (flat_map comment dropped) (lacks-comment d words))
+    ∙ comments-read tmp dropped are.1 parts.1
+
+-- ---- the file
+
+head-lines : (tmp rest : List ℕ) → IsLine tmp → parts_at 10 (head tmp ++ rest) ≡ (codes "tmp = " ++ escaped tmp) ∷ codes "builddir = ${tmp}" ∷ codes "rule run" ∷ codes "  command = ${line}" ∷ parts_at 10 rest
+head-lines tmp rest is =
+    ap (λ t. parts_at 10 (codes "tmp = " ++ t)) (append_assoc (escaped tmp) rule rest)
+    ∙ parts-past 10 (codes "tmp = " ++ escaped tmp) (codes "builddir = ${tmp}\nrule run\n  command = ${line}\n" ++ rest) (lacks-append 10 (codes "tmp = ") (escaped tmp) refl (line-escaped tmp is))
+
+graph-reads : (tmp : List ℕ) (plan : Plan) → IsLine tmp → AllByRecursion (AllByRecursion IsOfTexts) plan.groups → AllByRecursion IsDroppedText plan.dropped →
+    judged_groups Ninja plan.groups ≡ Ok tt → list_all holds_dropped plan.dropped ≡ true → edges_of (graph tmp plan) ≡ Some (plan_edges tmp plan.groups 0 plan.groups)
+graph-reads tmp plan is groups dropped judged held =
+    let rest = group_edges tmp plan.groups 0 plan.groups ++ flat_map comment plan.dropped in
+    ap edges_of_lines (head-lines tmp rest is)
+    ∙ ap (λ o. edges_in o (codes "builddir = ${tmp}" ∷ codes "rule run" ∷ codes "  command = ${line}" ∷ parts_at 10 rest)) (value_reads_back tmp is.0)
+    ∙ groups-read tmp plan.groups 0 plan.groups (flat_map comment plan.dropped) [] is groups judged (comments-read tmp plan.dropped dropped held)
+    ∙ ap Some (append-nil (plan_edges tmp plan.groups 0 plan.groups))
+
+held-rest : (tmp : List ℕ) (dropped : List Dropped) (b : Bool) → (holds_text Ninja tmp && list_all holds_dropped dropped) ≡ b → judged_rest tmp dropped ≡ Ok tt → (holds_text Ninja tmp && list_all holds_dropped dropped) ≡ true
+held-rest tmp dropped true e h = e
+held-rest tmp dropped false e h =
+    let bad : judged_rest tmp dropped ≡ Err Unheld = rw e refl in
+    let both : Err Unheld ≡ Ok tt = sym bad ∙ h in
+    absurd cc
+
+unrefused : (verdict : Result (Unit {0}) Refusal) (made text : List ℕ) → unless_refused verdict made ≡ Ok text → (verdict ≡ Ok tt) × (made ≡ text)
+unrefused (Ok tt) made text h = (refl, cc)
+unrefused (Err refusal) made text h = absurd cc
+
+pub graph_reads_back : (tmp : List ℕ) (plan : Plan) (text : List ℕ) → IsUtf8 tmp → AllByRecursion (AllByRecursion IsOfTexts) plan.groups → AllByRecursion IsDroppedText plan.dropped →
+    ninja_answer tmp plan ≡ Ok text → edges_of text ≡ Some (plan_edges tmp plan.groups 0 plan.groups)
+graph_reads_back tmp plan text is groups dropped h =
+    let answer = unrefused (and_then (judged_rest tmp plan.dropped) (judged_groups Ninja plan.groups)) (graph tmp plan) text h in
+    let judged = then-both (judged_rest tmp plan.dropped) (judged_groups Ninja plan.groups) answer.0 in
+    let held = and_parts (holds_text Ninja tmp) (list_all holds_dropped plan.dropped) (held-rest tmp plan.dropped (holds_text Ninja tmp && list_all holds_dropped plan.dropped) refl judged.0) in
+    ap edges_of (sym answer.1) ∙ graph-reads tmp plan (is, held-text tmp held.0) groups dropped judged.1 held.1
