@@ -5,6 +5,8 @@
 #[cfg(test)]
 mod compilers;
 #[cfg(test)]
+mod exports;
+#[cfg(test)]
 mod holders;
 #[cfg(test)]
 mod inputs;
