@@ -2,4 +2,5 @@ pub mod ShellCompleteLemmas
 pub mod ShellLawLemmas
 pub mod ShellQuotingLemmas
 pub mod ShellSoundLemmas
+pub mod ShellSpanLemmas
 pub mod ShellSplittingLemmas

@@ -1,10 +1,11 @@
 //! Splitting a text into the words of a shell command.
 
-ghost use Rattle.std.specs.Prelude.{◌≡◌, map, IfOk, OnOk, MatchOption, encode_utf8_all, string_bytes};
+ghost use Rattle.std.specs.Prelude.{◌≡◌, [], ◌∷◌, ◌<◌, ◌≤◌, map, length, IfOk, OnOk, MatchOption, encode_utf8_all, string_bytes};
+ghost use Rattle.std.specs.List.{fold, position_or_len};
 ghost use Rattle.std.specs.Option.{option_map};
 ghost use Rattle.std.specs.Str.{chars};
 ghost use Rattle.shell_words.specs.Shell.{HasWords, HasNoWords};
-ghost use Rattle.shell_words.specs.Shell.Splitting.{split_chars};
+ghost use Rattle.shell_words.specs.Shell.Splitting.{split_chars, begins_word, ends_span};
 
 use std::alloc::{AllocError, Global};
 use std::marker::Model;
@@ -26,8 +27,10 @@ pub fn split(alloc: Global, text: &str) -> Result<Option<Vec<String>>, AllocErro
         ≡ option_map (map encode_utf8_all) (split_chars (chars text.now))) }
 {
     let mut splitter = Splitter::new(alloc);
-    for c in text.chars() {
+    let mut rest = splitter.read_span(text)?;
+    while let Some((c, behind)) = next_char(rest) {
         splitter.read(c)?;
+        rest = splitter.read_span(behind)?;
     }
     splitter.finish()
 }
@@ -51,7 +54,56 @@ enum State {
     EscapedInQuotes,
 }
 
-/// The words so far of a text that is read character by character.
+// The first character of a text, and what stands behind it.
+fn next_char(text: &str) -> Option<(char, &str)>
+    ensures { MatchOption result (chars text.now ≡ [])
+        (λ next. (chars text.now ≡ next.0 ∷ chars next.1.now) × (length next.1.now < length text.now)) }
+{
+    let mut chars = text.chars();
+    let first = chars.next()?;
+    Some((first, chars.as_str()))
+}
+
+// Whether a text that is read between words begins with a word.
+fn begins_word(text: &str) -> bool
+    ensures { result ≡ begins_word (chars text.now) }
+{
+    match next_char(text) {
+        None | Some((' ' | '\t' | '\n' | '#', _)) => false,
+        Some(_) => true,
+    }
+}
+
+// Whether a byte ends a span that is read in this state.
+fn ends_span(state: State, byte: u8) -> bool
+    ensures { result ≡ ends_span state byte }
+{
+    match state {
+        State::Word => match byte {
+            b' ' | b'\t' | b'\n' | b'\'' | b'"' | b'\\' => true,
+            _ => false,
+        },
+        State::SingleQuoted => byte == b'\'',
+        State::DoubleQuoted => byte == b'"' || byte == b'\\',
+        _ => true,
+    }
+}
+
+// How many bytes the span has that a text begins with.
+fn span_len(state: State, text: &[u8]) -> usize
+    ensures { result ≡ position_or_len (ends_span state) text.now }
+{
+    let mut len = 0;
+    for byte in text {
+        if ends_span(state, *byte) {
+            return len;
+        }
+        len += 1;
+    }
+    len
+}
+
+/// The words so far of a text that is read from its start.
 #[derive(Drop)]
 struct Splitter {
     alloc: Global,
@@ -81,6 +133,32 @@ impl Splitter {
             words: Vec::new(alloc),
             word: String::new(alloc),
         }
+    }
+
+    // Begins a word, if the text begins with one. The text is then read the same.
+    fn begin_word(&mut self, text: &str)
+        ensures { fold spec.after self.new (chars text.now) ≡ fold spec.after self.old (chars text.now) }
+    {
+        match self.state {
+            State::Between if begins_word(text) => self.state = State::Word,
+            _ => {}
+        }
+    }
+
+    // Copies what a text begins with and stands for itself, all at once. Answers what is left to read.
+    fn read_span<'a>(&mut self, text: &'a str) -> Result<&'a str, AllocError>
+        ensures same { IfOk result (λ rest.
+            fold spec.after self.new (chars rest.now) ≡ fold spec.after self.old (chars text.now)) }
+        ensures less { IfOk result (λ rest. length rest.now ≤ length text.now) }
+    {
+        self.begin_word(text);
+        let len = span_len(self.state, text.as_bytes());
+        if len == 0 {
+            return Ok(text);
+        }
+        let (span, rest) = text.split_at(len);
+        self.word.push_str(span)?;
+        Ok(rest)
     }
 
     fn read(&mut self, c: char) -> Result<(), AllocError>

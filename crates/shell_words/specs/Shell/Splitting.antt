@@ -1,5 +1,5 @@
 -- The words of a text, computed. They are those of the grammar: the law `computed_words` says it.
-use Rattle.std.specs.Prelude.{ℕ, ◌==◌, ◌≡◌, refl, if◌then◌else◌, List, [], ◌∷◌, ◌++◌, map, Option, Some, None, encode_utf8_all, codes}
+use Rattle.std.specs.Prelude.{ℕ, Bool, true, false, not, ◌||◌, ◌==◌, ◌≡◌, refl, if◌then◌else◌, List, [], ◌∷◌, ◌++◌, map, Option, Some, None, encode_utf8_all, codes}
 use Rattle.std.specs.Option.{option_map}
 use Rattle.std.specs.Str.{chars}
 use Rattle.shell_words.specs.declared.splitting.State.{State}
@@ -56,6 +56,22 @@ reads Escaped c = reads_escaped c
 reads SingleQuoted c = reads_single_quoted c
 reads DoubleQuoted c = reads_double_quoted c
 reads EscapedInQuotes c = reads_escaped_in_quotes c
+
+-- whether a text that is read between words begins with a word
+abbrev pub begins_word : List ℕ → Bool
+begins_word [] = false
+begins_word (c ∷ cs) = not (is_blank c || (c == hash))
+
+-- Whether a character ends a span, which is read in this state: the characters of a span are given as they
+-- stand, and keep the state. In the other states there is no span.
+abbrev pub ends_span : State → ℕ → Bool
+ends_span Word c = is_blank c || (c == single_quote) || (c == double_quote) || (c == backslash)
+ends_span SingleQuoted c = c == single_quote
+ends_span DoubleQuoted c = (c == double_quote) || (c == backslash)
+ends_span Between c = true
+ends_span Comment c = true
+ends_span Escaped c = true
+ends_span EscapedInQuotes c = true
 
 -- the words, the first of which has these characters in front
 abbrev pub prepend : List ℕ → List (List ℕ) → List (List ℕ)

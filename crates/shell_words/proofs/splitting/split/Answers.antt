@@ -1,12 +1,10 @@
 -- The splitter has read all of the text.
-use Rattle.std.proofs.Common.{◌≡◌, ◌∙◌, ap, sym, map, map-id, string_bytes, encode_utf8_all}
+use Rattle.std.proofs.Common.{◌≡◌, ◌∙◌, ap, sym, map, string_bytes, encode_utf8_all}
 use Rattle.std.specs.List.{fold}
 use Rattle.std.specs.Option.{option_map}
 use Rattle.std.specs.Str.{chars}
-use Rattle.std.proofs.lemmas.Iterator.{YieldsList-from_chars}
-use Rattle.std.proofs.lemmas.Iterator.Consumers.{YieldsList-end}
 use Rattle.std.proofs.lemmas.Result.{IfOk-weaker}
-use Rattle.shell_words.specs.Shell.Splitting.{split_chars, after, start, finished}
+use Rattle.shell_words.specs.Shell.Splitting.{split_chars, after, finished}
 use Rattle.shell_words.proofs.ShellSplittingLemmas.{finished_is}
 use Rattle.shell_words.proofs.ShellLawLemmas.{words_from_value}
 use Rattle.shell_words.proofs.splitting.split.Goals as goal
@@ -14,9 +12,7 @@ use Rattle.shell_words.proofs.splitting.split.Goals.{After-finish}
 
 finished_words : (c : After-finish) → finished c.loop-c.splitter ≡ option_map (map encode_utf8_all) (split_chars (chars c.args.text.now))
 finished_words c =
-    let done = YieldsList-end (YieldsList-from_chars c.args.text.now c.utf8.text cc) c.loop-c.yielded _ c.loop-c.yielded_by _ _ c.in-None.is c.next.ensures.steps in
-    ap finished c.loop-c.invariant
-    ∙ ap (λ cs. finished (fold after start cs)) (sym (map-id c.loop-c.yielded) ∙ done.0)
+    ap finished (ap (fold after c.loop-c.splitter) (sym c.in_default.ensures) ∙ c.loop-c.invariant.1)
     ∙ finished_is (chars c.args.text.now)
 
 pub returns-clause-words : goal.returns-clause-words

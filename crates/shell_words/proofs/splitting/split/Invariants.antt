@@ -1,7 +1,13 @@
-use Rattle.std.proofs.Common.{◌≡◌}
+use Rattle.std.proofs.Common.{◌≡◌, length}
+use denote.Text.{Utf8}
+use denote.Shadow.{shadow}
 use Rattle.std.specs.List.{fold}
+use Rattle.std.specs.Str.{chars}
 use Rattle.shell_words.specs.Shell.Splitting.{after, start}
 use Rattle.shell_words.proofs.splitting.split.Given as goal
 
 abbrev pub invariant-loop-c : goal.invariant-loop-c
-invariant-loop-c l = l.splitter ≡ fold after start l.yielded
+invariant-loop-c l = shadow (Utf8 l.rest) × (fold after l.splitter (chars l.rest) ≡ fold after start (chars l.text))
+
+abbrev pub decreases-loop-c : goal.decreases-loop-c
+decreases-loop-c l = length l.rest
