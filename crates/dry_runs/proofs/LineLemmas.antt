@@ -1,15 +1,29 @@
 -- The first line of what is left of a dry run, and the rest.
-use Rattle.std.proofs.Common.{◌≡◌, ℕ, ◌+◌, ◌-◌, ◌<◌, Bool, true, false, cond, eqb, not, List, [], ◌∷◌, ◌++◌, Option, Some, None, refl, ap, sym, ◌∙◌, nat_lt, length, take, drop, length-drop, get_or, arith}
+use Rattle.std.proofs.Common.{◌≡◌, ℕ, ◌+◌, ◌-◌, ◌<◌, Bool, true, false, cond, eqb, not, List, [], ◌∷◌, Option, Some, None, refl, ap, sym, ◌∙◌, nat_lt, length, take, drop, length-drop, arith}
 use Rattle.std.proofs.Math.Seq.{take-length}
 use Rattle.std.specs.List.{position, position_or_len, slice_split}
 use Rattle.std.specs.Str.Lines.{lines, lines_of_parts, strip_carriage_return}
-use Rattle.std.proofs.lemmas.Bool.{false≢true, ltb-true}
+use Rattle.std.proofs.lemmas.Bool.{ltb-true, not_from_false, false_from_ne_true}
 use Rattle.std.proofs.lemmas.List.Splits.{slice_split_none, slice_split_first, length-slice_split}
 use Rattle.dry_runs.proofs.ExpansionLemmas.{not-zero}
-use Rattle.std.proofs.lemmas.List.Sums.{fails_before_first, prefix_len-le-length}
+use Rattle.std.proofs.lemmas.List.Sums.{fails_before_first, prefix_len-le-length, prefix_len_is}
+use Rattle.memchr.specs.Find.{IsFirstByte, is_byte}
 
 abbrev is_newline : ℕ → Bool
 is_newline b = eqb b 10
+
+-- the first newline, where a search finds it
+pub newline-found : (bs : List ℕ) (r : Option ℕ) → IsFirstByte (is_byte 10) bs r → r ≡ position is_newline bs
+newline-found bs None h =
+    let all : position_or_len is_newline bs ≡ length bs = prefix_len_is (λ b. not (is_newline b)) bs (length bs) 0 (omega arith) (λ k less. not_from_false _ (false_from_ne_true _ (h k (omega arith) less))) (λ less. absurd (omega (arith, less))) in
+    rw (all, ltb-same (length bs)) refl where
+      ltb-same : (n : ℕ) → nat_lt n n ≡ false
+      ltb-same n = grind arith
+newline-found bs (Some k) h =
+    let at : position_or_len is_newline bs ≡ k = prefix_len_is (λ b. not (is_newline b)) bs k 0 (omega (arith, h.0.high)) (λ j less. not_from_false _ (false_from_ne_true _ (h.0.before j (omega arith) less))) (λ less. ap not h.1) in
+    rw (at, ltb-less k (length bs) h.0.high) refl where
+      ltb-less : (m n : ℕ) → m < n → nat_lt m n ≡ true
+      ltb-less m n = grind arith
 
 -- a part that others follow is a line
 lines_of_parts-more : (x : List ℕ) (parts : List (List ℕ)) → 0 < length parts → lines_of_parts (x ∷ parts) ≡ strip_carriage_return x ∷ lines_of_parts parts

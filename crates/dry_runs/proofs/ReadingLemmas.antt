@@ -1,20 +1,20 @@
 -- What was said so far, with what the lines that are left mean, is what the whole dry run says.
-use Rattle.std.proofs.Common.{◌≡◌, ℕ, ◌+◌, add-one, Bool, true, false, cond, ◌&&◌, List, [], ◌∷◌, ◌++◌, Option, Some, None, Result, Ok, Err, refl, ap, sym, ◌∙◌, subst, append_assoc, append-nil, codes}
+use Rattle.std.proofs.Common.{◌≡◌, ℕ, ◌+◌, true, false, cond, ◌&&◌, List, [], ◌∷◌, ◌++◌, Option, Some, None, Result, Ok, Err, refl, ap, sym, ◌∙◌, subst, append_assoc, append-nil, codes}
 use Rattle.std.specs.List.{filter_map, enumerate_from}
-use Rattle.std.specs.Option.{option_map, is_none}
+use Rattle.std.specs.Option.{is_none}
 use Rattle.std.specs.Result.{IsErrAnd}
 use Rattle.std.specs.Str.{bytes_eq, is_utf8, IsUtf8}
 use Rattle.std.specs.Str.Lines.{lines}
 use Rattle.std.proofs.lemmas.Str.{IsUtf8-from_is_utf8, is_utf8-from_IsUtf8}
 use Rattle.texts.specs.declared.fault.Fault.{Fault}
-use Rattle.texts.specs.declared.fault.Fault.TheVariants.{NotUtf8, BadShell, EmptyCommand, NoPath, NotFound, Memory}
+use Rattle.texts.specs.declared.fault.Fault.TheVariants.{NotUtf8, Memory}
 use Rattle.texts.specs.Fault.{UnlessMemory}
 use Rattle.dry_runs.specs.declared.commands.DryRun.{DryRun}
 use Rattle.dry_runs.specs.declared.reader.Said.{Said}
 use Rattle.dry_runs.specs.CommandLines.{CommandLine}
 use Rattle.texts.specs.Variables.{first_value}
 use Rattle.dry_runs.specs.Environment.{Variable}
-use Rattle.dry_runs.specs.DryRun.{LookUp, Meaning, Ignored, Assigns, Runs, Bad, meaning, meaning_marked, meanings, meaning_found, meaning_by_path, environment_after, assigned_by, command_of, fault_of, run_of_meanings, run_or_fault, dry_run_of}
+use Rattle.dry_runs.specs.DryRun.{LookUp, Meaning, Ignored, Assigns, Runs, Bad, meaning, meaning_marked, meanings, meaning_found, meaning_by_path, environment_after, assigned_by, command_of, fault_of, run_of_meanings, run_or_fault}
 use Rattle.dry_runs.specs.DryRunLines.{marked_text}
 use Rattle.dry_runs.specs.Reading.{dry_run_seen, said_after, nothing_said, with_variable, with_command, said_next, found_or_fault}
 

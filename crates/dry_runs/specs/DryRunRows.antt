@@ -34,7 +34,11 @@ one_kernel_is_read = refl
 -- unmarked lines are passed over, but have their numbers; a carriage return before a newline goes, and the last line needs no newline
 abbrev pub LastLineNeedsNoNewline : Type 0
 LastLineNeedsNoNewline =
-    first_run (codes "kernel.cu\r\n#$ PATH=/b\r\n#$ gcc -D__NVCC__ -c x.cpp") ≡ Ok ((2, codes "/b/gcc", codes "-D__NVCC__" ∷ codes "-c" ∷ codes "x.cpp" ∷ []) ∷ [], (codes "PATH", codes "/b") ∷ [])
+    first_run (codes "kernel.cu\r\n#$ PATH=/b\r\n#$ gcc -D__NVCC__ -c x.cpp")
+    ≡ Ok (
+      (2, codes "/b/gcc", codes "-D__NVCC__" ∷ codes "-c" ∷ codes "x.cpp" ∷ []) ∷ [],
+      (codes "PATH", codes "/b") ∷ [],
+    )
 
 pub last_line_needs_no_newline : LastLineNeedsNoNewline
 unfolding dry_runs_compute
@@ -79,7 +83,9 @@ comment_is_no_command = (refl, refl)
 -- a command before any line that sets `PATH`, in the first run and in the second; two blanks make no environment line
 abbrev pub NoPathIsSet : Type 0
 NoPathIsSet =
-    (first_run (codes "#$ gcc\n") ≡ Err (NoPath 1 0)) × (dry_run_of 2 (codes "#$ gcc\n") (codes "/w") first_dir ≡ Err (NoPath 2 0)) × (first_run (codes "#$  PATH=/b\n") ≡ Err (NoPath 1 0))
+    (first_run (codes "#$ gcc\n") ≡ Err (NoPath 1 0))
+    × (dry_run_of 2 (codes "#$ gcc\n") (codes "/w") first_dir ≡ Err (NoPath 2 0))
+    × (first_run (codes "#$  PATH=/b\n") ≡ Err (NoPath 1 0))
 
 pub no_path_is_set : NoPathIsSet
 unfolding dry_runs_compute
@@ -106,7 +112,9 @@ path_is_empty = refl
 -- the first bad line decides, whatever is wrong with a later one; and it counts that the whole run is bad, not what stood before
 abbrev pub FirstBadLineDecides : Type 0
 FirstBadLineDecides =
-    (first_run (codes "#$ gcc\n" ++ 255 ∷ 10 ∷ []) ≡ Err (NoPath 1 0)) × (first_run (255 ∷ 10 ∷ codes "#$ gcc\n") ≡ Err (NotUtf8 1 0)) × (first_run (one_kernel ++ codes "#$ x" ++ 255 ∷ 10 ∷ []) ≡ Err (NotUtf8 1 8))
+    (first_run (codes "#$ gcc\n" ++ 255 ∷ 10 ∷ []) ≡ Err (NoPath 1 0))
+    × (first_run (255 ∷ 10 ∷ codes "#$ gcc\n") ≡ Err (NotUtf8 1 0))
+    × (first_run (one_kernel ++ codes "#$ x" ++ 255 ∷ 10 ∷ []) ≡ Err (NotUtf8 1 8))
 
 pub first_bad_line_decides : FirstBadLineDecides
 unfolding dry_runs_compute
@@ -115,7 +123,11 @@ first_bad_line_decides = (refl, refl, refl)
 -- the one-kernel dry run with a look-up that lacks one of its programs
 abbrev pub ProgramsAreMissing : Type 0
 ProgramsAreMissing =
-    (dry_run_of 1 one_kernel (codes "/w") (lacking (codes "gcc")) ≡ Err (NotFound (codes "gcc"))) × (dry_run_of 1 one_kernel (codes "/w") (lacking (codes "cudafe++")) ≡ Err (NotFound (codes "cudafe++"))) × (dry_run_of 1 one_kernel (codes "/w") (lacking (codes "cicc")) ≡ Err (NotFound (codes "cicc"))) × (dry_run_of 1 one_kernel (codes "/w") (lacking (codes "ptxas")) ≡ Err (NotFound (codes "ptxas"))) × (dry_run_of 1 one_kernel (codes "/w") (lacking (codes "fatbinary")) ≡ Err (NotFound (codes "fatbinary")))
+    (dry_run_of 1 one_kernel (codes "/w") (lacking (codes "gcc")) ≡ Err (NotFound (codes "gcc")))
+    × (dry_run_of 1 one_kernel (codes "/w") (lacking (codes "cudafe++")) ≡ Err (NotFound (codes "cudafe++")))
+    × (dry_run_of 1 one_kernel (codes "/w") (lacking (codes "cicc")) ≡ Err (NotFound (codes "cicc")))
+    × (dry_run_of 1 one_kernel (codes "/w") (lacking (codes "ptxas")) ≡ Err (NotFound (codes "ptxas")))
+    × (dry_run_of 1 one_kernel (codes "/w") (lacking (codes "fatbinary")) ≡ Err (NotFound (codes "fatbinary")))
 
 pub programs_are_missing : ProgramsAreMissing
 unfolding dry_runs_compute
@@ -124,7 +136,10 @@ programs_are_missing = (refl, refl, refl, refl, refl)
 -- an empty word is a program too
 abbrev pub EmptyProgramIsLookedUp : Type 0
 EmptyProgramIsLookedUp =
-    (first_run (codes "#$ PATH=/b\n#$ \"\" x\n") ≡ Ok ((1, codes "/b/", codes "x" ∷ []) ∷ [], (codes "PATH", codes "/b") ∷ [])) × (first_run (codes "#$ PATH=/\n#$ \"\" x\n") ≡ Ok ((1, codes "/", codes "x" ∷ []) ∷ [], (codes "PATH", codes "/") ∷ []))
+    (first_run (codes "#$ PATH=/b\n#$ \"\" x\n")
+    ≡ Ok ((1, codes "/b/", codes "x" ∷ []) ∷ [], (codes "PATH", codes "/b") ∷ []))
+    × (first_run (codes "#$ PATH=/\n#$ \"\" x\n")
+    ≡ Ok ((1, codes "/", codes "x" ∷ []) ∷ [], (codes "PATH", codes "/") ∷ []))
 
 pub empty_program_is_looked_up : EmptyProgramIsLookedUp
 unfolding dry_runs_compute
@@ -151,7 +166,9 @@ one_reference_expands_all = refl
 -- a letter of any script goes on with the name, and a hyphen ends it
 abbrev pub LetterFollowsAReference : Type 0
 LetterFollowsAReference =
-    (expanded ((codes "TOP", codes "/u") ∷ []) (encode_utf8_all (codes "gcc $TOPé")) ≡ encode_utf8_all (codes "gcc $TOPé")) × (expanded ((codes "TOP", codes "/u") ∷ []) (codes "gcc $TOP-") ≡ codes "gcc /u-")
+    (expanded ((codes "TOP", codes "/u") ∷ []) (encode_utf8_all (codes "gcc $TOPé"))
+    ≡ encode_utf8_all (codes "gcc $TOPé"))
+    × (expanded ((codes "TOP", codes "/u") ∷ []) (codes "gcc $TOP-") ≡ codes "gcc /u-")
 
 pub letter_follows_a_reference : LetterFollowsAReference
 unfolding dry_runs_compute
@@ -160,7 +177,11 @@ letter_follows_a_reference = (refl, refl)
 -- of two values the first is expanded, and the environment keeps both
 abbrev pub FirstValueIsExpanded : Type 0
 FirstValueIsExpanded =
-    first_run (codes "#$ PATH=/b\n#$ TOP=/u\n#$ TOP=/v\n#$ gcc $TOP/x\n") ≡ Ok ((3, codes "/b/gcc", codes "/u/x" ∷ []) ∷ [], (codes "PATH", codes "/b") ∷ (codes "TOP", codes "/u") ∷ (codes "TOP", codes "/v") ∷ [])
+    first_run (codes "#$ PATH=/b\n#$ TOP=/u\n#$ TOP=/v\n#$ gcc $TOP/x\n")
+    ≡ Ok (
+      (3, codes "/b/gcc", codes "/u/x" ∷ []) ∷ [],
+      (codes "PATH", codes "/b") ∷ (codes "TOP", codes "/u") ∷ (codes "TOP", codes "/v") ∷ [],
+    )
 
 pub first_value_is_expanded : FirstValueIsExpanded
 unfolding dry_runs_compute
@@ -169,7 +190,16 @@ first_value_is_expanded = refl
 -- a reference in a value is expanded only where its own line comes later
 abbrev pub ValuesAreExpandedInOrder : Type 0
 ValuesAreExpandedInOrder =
-    (first_run (codes "#$ PATH=/b\n#$ A=$B/x\n#$ B=/u\n#$ gcc $A/y\n") ≡ Ok ((3, codes "/b/gcc", codes "/u/x/y" ∷ []) ∷ [], (codes "PATH", codes "/b") ∷ (codes "A", codes "$B/x") ∷ (codes "B", codes "/u") ∷ [])) × (first_run (codes "#$ PATH=/b\n#$ B=/u\n#$ A=$B/x\n#$ gcc $A/y\n") ≡ Ok ((3, codes "/b/gcc", codes "$B/x/y" ∷ []) ∷ [], (codes "PATH", codes "/b") ∷ (codes "B", codes "/u") ∷ (codes "A", codes "$B/x") ∷ []))
+    (first_run (codes "#$ PATH=/b\n#$ A=$B/x\n#$ B=/u\n#$ gcc $A/y\n")
+    ≡ Ok (
+      (3, codes "/b/gcc", codes "/u/x/y" ∷ []) ∷ [],
+      (codes "PATH", codes "/b") ∷ (codes "A", codes "$B/x") ∷ (codes "B", codes "/u") ∷ [],
+    ))
+    × (first_run (codes "#$ PATH=/b\n#$ B=/u\n#$ A=$B/x\n#$ gcc $A/y\n")
+    ≡ Ok (
+      (3, codes "/b/gcc", codes "$B/x/y" ∷ []) ∷ [],
+      (codes "PATH", codes "/b") ∷ (codes "B", codes "/u") ∷ (codes "A", codes "$B/x") ∷ [],
+    ))
 
 pub values_are_expanded_in_order : ValuesAreExpandedInOrder
 unfolding dry_runs_compute
@@ -178,7 +208,11 @@ values_are_expanded_in_order = (refl, refl)
 -- the first `PATH` counts for every command, and a program with a folder counts from the working directory
 abbrev pub FirstPathCounts : Type 0
 FirstPathCounts =
-    first_run (codes "#$ PATH=/b\n#$ PATH=/c\n#$ gcc\n#$ ./gcc\n") ≡ Ok ((2, codes "/b/gcc", []) ∷ (3, codes "/w/./gcc", []) ∷ [], (codes "PATH", codes "/b") ∷ (codes "PATH", codes "/c") ∷ [])
+    first_run (codes "#$ PATH=/b\n#$ PATH=/c\n#$ gcc\n#$ ./gcc\n")
+    ≡ Ok (
+      (2, codes "/b/gcc", []) ∷ (3, codes "/w/./gcc", []) ∷ [],
+      (codes "PATH", codes "/b") ∷ (codes "PATH", codes "/c") ∷ [],
+    )
 
 pub first_path_counts : FirstPathCounts
 unfolding dry_runs_compute
@@ -187,7 +221,8 @@ first_path_counts = refl
 -- the one-kernel dry run with other names of its generated files, and with these in the folder `/t`
 abbrev pub OtherNamesAreRead : Type 0
 OtherNamesAreRead =
-    (first_run one_kernel_elsewhere ≡ Ok (one_kernel_elsewhere_commands, (codes "PATH", codes "/b") ∷ [])) × (first_run one_kernel_in_temporary ≡ Ok (one_kernel_in_temporary_commands, (codes "PATH", codes "/b") ∷ []))
+    (first_run one_kernel_elsewhere ≡ Ok (one_kernel_elsewhere_commands, (codes "PATH", codes "/b") ∷ []))
+    × (first_run one_kernel_in_temporary ≡ Ok (one_kernel_in_temporary_commands, (codes "PATH", codes "/b") ∷ []))
 
 pub other_names_are_read : OtherNamesAreRead
 unfolding dry_runs_compute
@@ -196,7 +231,8 @@ other_names_are_read = (refl, refl)
 -- one carriage return right before a newline goes, and a last line without a newline keeps its own, which is no blank
 abbrev pub LastLineKeepsItsReturn : Type 0
 LastLineKeepsItsReturn =
-    first_run (codes "#$ PATH=/b\r\n#$ gcc x\r") ≡ Ok ((1, codes "/b/gcc", codes "x\r" ∷ []) ∷ [], (codes "PATH", codes "/b") ∷ [])
+    first_run (codes "#$ PATH=/b\r\n#$ gcc x\r")
+    ≡ Ok ((1, codes "/b/gcc", codes "x\r" ∷ []) ∷ [], (codes "PATH", codes "/b") ∷ [])
 
 pub last_line_keeps_its_return : LastLineKeepsItsReturn
 unfolding dry_runs_compute
@@ -214,7 +250,11 @@ byte_order_mark_unmarks = refl
 -- the value of an environment line isn't expanded, and neither is `PATH` where it is searched
 abbrev pub ValuesAreKeptAsTheyStand : Type 0
 ValuesAreKeptAsTheyStand =
-    first_run (codes "#$ TOP=/u\n#$ PATH=$TOP/bin:/b\n#$ gcc x\n") ≡ Ok ((2, codes "$TOP/bin/gcc", codes "x" ∷ []) ∷ [], (codes "TOP", codes "/u") ∷ (codes "PATH", codes "$TOP/bin:/b") ∷ [])
+    first_run (codes "#$ TOP=/u\n#$ PATH=$TOP/bin:/b\n#$ gcc x\n")
+    ≡ Ok (
+      (2, codes "$TOP/bin/gcc", codes "x" ∷ []) ∷ [],
+      (codes "TOP", codes "/u") ∷ (codes "PATH", codes "$TOP/bin:/b") ∷ [],
+    )
 
 pub values_are_kept_as_they_stand : ValuesAreKeptAsTheyStand
 unfolding dry_runs_compute
@@ -241,7 +281,11 @@ folder_needs_a_path_too = refl
 -- a name that is set twice, as nvcc 13 does, stands twice in the environment, and its first value counts
 abbrev pub NameIsSetTwice : Type 0
 NameIsSetTwice =
-    first_run (codes "#$ _TARGET_DIR_=\n#$ _TARGET_DIR_=targets/x86_64-linux\n#$ PATH=/b\n#$ gcc $_TARGET_DIR_/x\n") ≡ Ok ((3, codes "/b/gcc", codes "/x" ∷ []) ∷ [], (codes "_TARGET_DIR_", []) ∷ (codes "_TARGET_DIR_", codes "targets/x86_64-linux") ∷ (codes "PATH", codes "/b") ∷ [])
+    first_run (codes "#$ _TARGET_DIR_=\n#$ _TARGET_DIR_=targets/x86_64-linux\n#$ PATH=/b\n#$ gcc $_TARGET_DIR_/x\n")
+    ≡ Ok (
+      (3, codes "/b/gcc", codes "/x" ∷ []) ∷ [],
+      (codes "_TARGET_DIR_", []) ∷ (codes "_TARGET_DIR_", codes "targets/x86_64-linux") ∷ (codes "PATH", codes "/b") ∷ [],
+    )
 
 pub name_is_set_twice : NameIsSetTwice
 unfolding dry_runs_compute
@@ -263,7 +307,12 @@ other_characters_end_a_name = (refl, refl)
 -- a name goes on with `ⓐ`, `Ⅷ`, `‿`, a combining accent, an enclosing circle, and the joiner U+200D
 abbrev pub WordCharactersGoOn : Type 0
 WordCharactersGoOn =
-    (before 9424 ≡ codes "$TOP" ++ encode_utf8_all (9424 ∷ [])) × (before 8551 ≡ codes "$TOP" ++ encode_utf8_all (8551 ∷ [])) × (before 8255 ≡ codes "$TOP" ++ encode_utf8_all (8255 ∷ [])) × (before 769 ≡ codes "$TOP" ++ encode_utf8_all (769 ∷ [])) × (before 8413 ≡ codes "$TOP" ++ encode_utf8_all (8413 ∷ [])) × (before 8205 ≡ codes "$TOP" ++ encode_utf8_all (8205 ∷ []))
+    (before 9424 ≡ codes "$TOP" ++ encode_utf8_all (9424 ∷ []))
+    × (before 8551 ≡ codes "$TOP" ++ encode_utf8_all (8551 ∷ []))
+    × (before 8255 ≡ codes "$TOP" ++ encode_utf8_all (8255 ∷ []))
+    × (before 769 ≡ codes "$TOP" ++ encode_utf8_all (769 ∷ []))
+    × (before 8413 ≡ codes "$TOP" ++ encode_utf8_all (8413 ∷ []))
+    × (before 8205 ≡ codes "$TOP" ++ encode_utf8_all (8205 ∷ []))
 
 pub word_characters_go_on : WordCharactersGoOn
 unfolding dry_runs_compute

@@ -1,18 +1,23 @@
 -- What reading a dry run has gathered, and how one more line changes it.
-use Rattle.std.specs.Prelude.{◌≡◌, ℕ, List, [], ◌∷◌, ◌++◌, Bool, true, not, ◌==◌, ◌&&◌, length, if◌then◌else◌, Option, Some, None, Result, Ok, Err, String, string_bytes, codes}
-use Rattle.std.specs.List.{list_all}
+use Rattle.std.specs.Prelude.{◌≡◌, ℕ, List, [], ◌∷◌, ◌++◌, Bool, true, false, not, ◌==◌, ◌&&◌, length, if◌then◌else◌, Option, Some, None, Result, Ok, Err, String, string_bytes, codes}
+use Rattle.std.specs.List.{list_all, list_any}
 use Rattle.std.specs.Option.{is_none}
 use Rattle.std.specs.Str.{bytes_eq}
 use Rattle.std.specs.Borrow.{Bor}
 use Rattle.std.specs.declared.alloc.Global.{Global}
 use Rattle.texts.specs.Path.{lacks}
+use Rattle.texts.specs.Lists.{rest_after}
 use Rattle.texts.specs.declared.fault.Fault.{Fault}
 use Rattle.texts.specs.declared.fault.Fault.TheVariants.{NotFound}
 use Rattle.dry_runs.specs.declared.commands.DryRun.{DryRun}
 use Rattle.dry_runs.specs.declared.reader.Said.{Said}
 use Rattle.dry_runs.specs.CommandLines.{CommandLine}
-use Rattle.dry_runs.specs.Environment.{Variable, is_name_byte}
+use Rattle.dry_runs.specs.Environment.{Variable, is_name_byte, is_followed}
 use Rattle.dry_runs.specs.DryRun.{Meaning, Ignored, Assigns, Runs, Bad}
+
+-- a text that is lent
+abbrev pub text_of : Bor (List ℕ) → List ℕ
+text_of t = t.now
 
 -- the texts of a name and a value that are lent
 abbrev pub texts_of : Bor (List ℕ) × Bor (List ℕ) → Variable
@@ -26,6 +31,20 @@ IsCutAt mark text (Some parts) = (text ≡ parts.0.now ++ mark ∷ parts.1.now) 
 -- whether a text is a name of an environment line
 abbrev pub is_name : List ℕ → Bool
 is_name text = not (length text == 0) && list_all is_name_byte text
+
+-- whether a text begins with a byte of such a name
+abbrev pub begins_name : List ℕ → Bool
+begins_name [] = false
+begins_name (c ∷ _) = is_name_byte c
+
+-- what follows each `$` of a text, in order
+abbrev pub behind_dollars : List ℕ → List (List ℕ)
+behind_dollars [] = []
+behind_dollars (c ∷ cs) = if c == 36 then cs ∷ behind_dollars cs else behind_dollars cs
+
+-- whether a text refers to a variable, by what follows each `$` of the text
+abbrev pub refers : List ℕ → List (List ℕ) → Bool
+refers name behind = list_any (λ after. is_followed (rest_after name after)) behind
 
 -- what a dry run says, as texts
 abbrev pub run_seen : DryRun → List CommandLine × List Variable

@@ -1,6 +1,6 @@
 //! The environment lines of a dry run, and the expansion of references to what they set.
 
-ghost use Rattle.std.specs.Prelude.{◌≡◌, ◌++◌, ◌<◌, ◌≤◌, not, length, map, codes, IfOk, IfSome, string_bytes};
+ghost use Rattle.std.specs.Prelude.{◌≡◌, ◌++◌, ◌<◌, ◌≤◌, not, length, map, codes, IfOk, IfSome, MatchOption, string_bytes};
 ghost use Rattle.std.specs.List.{list_all};
 ghost use Rattle.std.specs.Option.{option_copied, option_map};
 ghost use Rattle.std.specs.Str.{chars};
@@ -11,8 +11,9 @@ ghost use Rattle.shell_words.specs.Shell.Splitting.{shell_words};
 ghost use Rattle.dry_runs.specs.Environment as spec;
 ghost use Rattle.dry_runs.specs.Replacing as replacing;
 ghost use Rattle.dry_runs.specs.Reading as reading;
-ghost use Rattle.dry_runs.specs.Reading.{texts_of, IsCutAt};
+ghost use Rattle.dry_runs.specs.Reading.{text_of, texts_of, IsCutAt};
 
+use memchr::memchr;
 use shell_words::split;
 use std::alloc::{AllocError, Global};
 use unicode::perl::is_word_character;
@@ -47,10 +48,24 @@ fn is_name(text: &str) -> bool
     !text.is_empty() && is_of_name_bytes(text.as_bytes())
 }
 
-// The name and the value that an environment line assigns; `None` where the text is no such line.
+// Whether a text begins with such a byte.
+fn begins_name(text: &str) -> bool
+    ensures { result ≡ reading.begins_name text.now }
+{
+    match text.as_bytes() {
+        [byte, ..] => is_name_byte(*byte),
+        [] => false,
+    }
+}
+
+// The name and the value that an environment line assigns; `None` where the text is no such line. Most commands are
+// told by their first byte.
 pub fn assignment(text: &str) -> Option<(&str, &str)>
     ensures { option_map texts_of result ≡ spec.assignment text.now }
 {
+    if !begins_name(text) {
+        return None;
+    }
     let Some((name, value)) = parted(text, '=') else {
         return None;
     };
@@ -90,19 +105,78 @@ fn is_reference(after: &str, name: &str) -> bool
     }
 }
 
-// Whether a text refers to a variable: somewhere `$` and its name stand right before a character that
-// isn't a word character.
-fn refers(text: &str, name: &str) -> bool
-    ensures { result ≡ spec.refers (codes "$" ++ name.now) text.now }
+// Whether a text holds a `$`.
+fn holds_dollar(text: &str) -> bool
+    ensures { result ≡ not (lacks 36 text.now) }
 {
+    memchr(b'$', text.as_bytes()).is_some()
+}
+
+// What follows each `$` of a text, in order.
+fn behind_dollars<'a>(alloc: Global, text: &'a str) -> Result<Vec<&'a str>, AllocError>
+    ensures { IfOk result (λ found. map text_of found.items ≡ reading.behind_dollars text.now) }
+{
+    let mut found = Vec::new(alloc);
     let mut rest = text;
     while let Some((_, after)) = parted(rest, '$') {
+        found.push(after)?;
+        rest = after;
+    }
+    Ok(found)
+}
+
+// Whether a text refers to a variable, by what follows each `$` of the text: somewhere it is the variable's name right
+// before a character that isn't a word character.
+fn refers(behind_dollars: &[&str], name: &str) -> bool
+    ensures { result ≡ reading.refers name.now (map text_of behind_dollars.now) }
+{
+    for after in behind_dollars {
+        let after: &str = after;
         if is_reference(after, name) {
             return true;
         }
-        rest = after;
     }
     false
+}
+
+// A variable that a text refers to, and the variables behind it in its environment.
+#[derive(Clone, Copy)]
+struct Reference<'a> {
+    name: &'a str,
+    value: &'a str,
+    behind: &'a [(String, String)],
+}
+
+// The first variable of an environment that a text refers to.
+fn first_reference<'a>(
+    alloc: Global,
+    env: &'a [(String, String)],
+    text: &str,
+) -> Result<Option<Reference<'a>>, AllocError>
+    ensures found { IfOk result (λ found. MatchOption found
+        (spec.expanded (map pair_of env.now) text.now ≡ text.now)
+        (λ r. spec.expanded (map pair_of env.now) text.now
+        ≡ spec.expanded (map pair_of r.behind.now) (replacing.replaced (codes "$" ++ r.name.now) r.value.now text.now))) }
+    ensures less { IfOk result (λ found. IfSome found (λ r. length r.behind.now < length env.now)) }
+{
+    if !holds_dollar(text) {
+        return Ok(None);
+    }
+    let behind_dollars = behind_dollars(alloc, text)?;
+    let mut rest = env;
+    while let Some((variable, behind)) = rest.split_first() {
+        let name = variable.0.as_str();
+        if refers(behind_dollars.as_slice(), name) {
+            let value = variable.1.as_str();
+            return Ok(Some(Reference {
+                name,
+                value,
+                behind,
+            }));
+        }
+        rest = behind;
+    }
+    Ok(None)
 }
 
 // Writes the value where the name follows a `$`, and a `$` where it doesn't. Answers what is left.
@@ -133,7 +207,7 @@ fn push_reference<'a>(
 fn replaced(alloc: Global, text: &str, name: &str, value: &str) -> Result<String, AllocError>
     ensures { IfOk result (λ t. string_bytes t ≡ replacing.replaced (codes "$" ++ name.now) value.now text.now) }
 {
-    let mut out = String::new(alloc);
+    let mut out = String::with_capacity(alloc, text.len().saturating_add(value.len()))?;
     let mut rest = text;
     while let Some((front, after)) = parted(rest, '$') {
         out.push_str(front)?;
@@ -143,44 +217,22 @@ fn replaced(alloc: Global, text: &str, name: &str, value: &str) -> Result<String
     Ok(out)
 }
 
-// A text with one variable expanded.
-fn expanded_by(alloc: Global, text: String, name: &str, value: &str) -> Result<String, AllocError>
-    ensures { IfOk result (λ t. string_bytes t ≡ spec.expanded_by (string_bytes text) (name.now, value.now)) }
+// A text with a variable that it refers to expanded, and then those behind it, one after the other.
+fn expanded(alloc: Global, text: &str, first: Reference) -> Result<String, AllocError>
+    ensures { IfOk result (λ t. string_bytes t
+        ≡ spec.expanded (map pair_of first.entry.behind.now) (replacing.replaced (codes "$" ++ first.entry.name.now) first.entry.value.now text.now)) }
 {
-    if refers(text.as_str(), name) {
-        replaced(alloc, text.as_str(), name, value)
-    } else {
-        Ok(text)
-    }
-}
-
-// Whether a text holds a `$`.
-fn holds_dollar(text: &str) -> bool
-    ensures { result ≡ not (lacks 36 text.now) }
-{
-    match parted(text, '$') {
-        None => false,
-        Some(_) => true,
-    }
-}
-
-// A text with the variables of an environment expanded, one after the other. A text without a `$` refers to
-// no variable, so none is looked for in it.
-fn expanded(alloc: Global, env: &[(String, String)], text: &str) -> Result<String, AllocError>
-    ensures { IfOk result (λ t. string_bytes t ≡ spec.expanded (map pair_of env.now) text.now) }
-{
-    let mut expanded = String::from_str(alloc, text)?;
-    for variable in env {
-        if !holds_dollar(expanded.as_str()) {
-            return Ok(expanded);
-        }
-        expanded = expanded_by(alloc, expanded, variable.0.as_str(), variable.1.as_str())?;
+    let mut expanded = replaced(alloc, text, first.name, first.value)?;
+    let mut rest = first.behind;
+    while let Some(next) = first_reference(alloc, rest, expanded.as_str())? {
+        expanded = replaced(alloc, expanded.as_str(), next.name, next.value)?;
+        rest = next.behind;
     }
     Ok(expanded)
 }
 
 // The shell words of a text, once the variables of an environment are expanded; `None` where it has none.
-// A text without a `$` is its own expansion.
+// A text that refers to no variable is its own expansion, and isn't copied.
 pub fn expanded_words(
     alloc: Global,
     env: &[(String, String)],
@@ -189,9 +241,9 @@ pub fn expanded_words(
     ensures { IfOk result (λ found.
         option_map (λ v. map string_bytes v.items) found ≡ shell_words (spec.expanded (map pair_of env.now) text.now)) }
 {
-    if !holds_dollar(text) {
+    let Some(first) = first_reference(alloc, env, text)? else {
         return split(alloc, text);
-    }
-    let expanded = expanded(alloc, env, text)?;
+    };
+    let expanded = expanded(alloc, text, first)?;
     split(alloc, expanded.as_str())
 }

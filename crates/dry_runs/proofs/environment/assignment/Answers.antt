@@ -1,6 +1,9 @@
 use Rattle.std.proofs.Common.{◌∙◌, sym}
-use Rattle.dry_runs.proofs.ExpansionLemmas.{assignment-unmarked, assignment-other, assignment-named}
+use Rattle.dry_runs.proofs.ExpansionLemmas.{assignment-otherwise, assignment-unmarked, assignment-other, assignment-named}
 use Rattle.dry_runs.proofs.environment.assignment.Goals as goal
+
+pub returns-then-not-begins_name : goal.returns-then-not-begins_name
+returns-then-not-begins_name c = sym (assignment-otherwise c.args.text.now (sym c.begins_name.ensures ∙ c.if-not-begins_name.true))
 
 pub returns-in_default : goal.returns-in_default
 returns-in_default c = sym (assignment-unmarked c.args.text.now c.in_default.ensures.cut)

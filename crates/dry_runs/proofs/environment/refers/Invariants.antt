@@ -1,11 +1,6 @@
-use Rattle.std.proofs.Common.{◌≡◌, ◌∷◌, length}
-use denote.Text.{Utf8}
-use denote.Shadow.{shadow}
-use Rattle.dry_runs.specs.Environment as spec
+use Rattle.std.proofs.Common.{◌≡◌, map, drop}
+use Rattle.dry_runs.specs.Reading.{text_of, refers}
 use Rattle.dry_runs.proofs.environment.refers.Given as goal
 
 abbrev pub invariant-loop-after : goal.invariant-loop-after
-invariant-loop-after l = shadow (Utf8 l.rest) × (spec.refers (36 ∷ l.name) l.rest ≡ spec.refers (36 ∷ l.name) l.text)
-
-abbrev pub decreases-loop-after : goal.decreases-loop-after
-decreases-loop-after l = length l.rest
+invariant-loop-after l = refers l.name (map text_of (drop l.after-index l.behind_dollars)) ≡ refers l.name (map text_of l.behind_dollars)
