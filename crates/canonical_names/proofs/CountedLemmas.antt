@@ -1,5 +1,5 @@
 -- A name that is new is counted, and a name that was seen keeps its canonical name.
-use Rattle.std.proofs.Common.{◌≡◌, ℕ, ◌+◌, ◌<◌, ◌≤◌, ◌&&◌, ◌||◌, Bool, true, false, cond, suc, zero, List, [], ◌∷◌, ◌++◌, Option, Some, None, is_some, map, filter, length, inl, inr, refl, ap, sym, ◌∙◌, subst, nat_eq, codes, arith, string_bytes, String, slice_set, get_or, replicate, decimal, ◌≢◌, ◌^◌}
+use Rattle.std.proofs.Common.{◌≡◌, ℕ, ◌+◌, ◌<◌, ◌≤◌, ◌||◌, Bool, true, false, cond, suc, zero, List, [], ◌∷◌, ◌++◌, Option, Some, None, is_some, map, filter, length, inl, inr, refl, ap, sym, ◌∙◌, subst, nat_eq, codes, arith, string_bytes, String, slice_set, get_or, replicate, decimal, ◌^◌}
 use Rattle.std.specs.declared.alloc.Global.{Global}
 use Rattle.std.specs.List.{Contains, ends_with, list_all, list_any, slice_get}
 use Rattle.std.specs.Map.{lookup}

@@ -12,6 +12,8 @@ pub mod ShadowLemmas
 pub mod ShadowRankLemmas
 pub mod SuffixLemmas
 pub mod CountedLemmas
+pub mod DotLemmas
+pub mod KeptLemmas
 pub mod WordLemmas
 pub mod ReplaceLemmas
 pub mod ReferenceLemmas

@@ -73,7 +73,7 @@ references-some suffixes names pairs accepted classes is =
     (pairs-some f (longest_first names) (fold-each (λ n. 0 < length n) names [] (names-some suffixes accepted names classes) tt))
 
 -- A text that holds no suffix holds no name: names end in a suffix.
-name-needs_suffix : (suffixes : List (List ℕ)) (text n : List ℕ) → has_class suffixes n ≡ true → list_any (λ s. holds s text) suffixes ≡ false → holds n text ≡ false
+pub name-needs_suffix : (suffixes : List (List ℕ)) (text n : List ℕ) → has_class suffixes n ≡ true → list_any (λ s. holds s text) suffixes ≡ false → holds n text ≡ false
 name-needs_suffix suffixes text n class none =
     elim (holds n text) as (λ b. holds n text ≡ b → b ≡ false) [
       | true ↦ λ e.

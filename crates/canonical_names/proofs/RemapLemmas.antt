@@ -1,5 +1,5 @@
 -- Words renamed one after the other.
-use Rattle.std.proofs.Common.{◌≡◌, ℕ, ◌+◌, suc, zero, List, [], ◌∷◌, ◌++◌, map, drop, take, length, fold, append_assoc, refl, ap, sym, ◌∙◌, add-one, Result, Ok, Err, OnErr}
+use Rattle.std.proofs.Common.{◌≡◌, ℕ, ◌+◌, suc, zero, List, [], ◌∷◌, ◌++◌, map, drop, take, append_assoc, refl, ap, sym, ◌∙◌, add-one, Result, Ok, Err, OnErr}
 use Rattle.dry_runs.specs.CommandLines.{CommandLine, words_of_command}
 use Rattle.canonical_names.specs.Renaming.{renamed_word, renamed_words, seen_after_word, seen_after, with_words, renamed_after}
 

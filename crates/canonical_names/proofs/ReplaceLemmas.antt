@@ -1,15 +1,15 @@
 -- What std's search and replacement in texts make, by the definitions that compute.
-use Rattle.std.proofs.Common.{◌≡◌, ◌≢◌, ℕ, suc, zero, ◌+◌, ◌-◌, ◌<◌, ◌≤◌, ◌++◌, ◌||◌, Bool, true, false, cond, List, [], ◌∷◌, inl, inr, refl, ap, sym, ◌∙◌, subst, nat_eq, length, take, drop, append_assoc, arith, append-nil}
+use Rattle.std.proofs.Common.{◌≡◌, ℕ, suc, zero, ◌+◌, ◌-◌, ◌<◌, ◌≤◌, ◌++◌, ◌||◌, Bool, true, false, cond, List, [], ◌∷◌, inl, inr, refl, ap, sym, ◌∙◌, subst, nat_eq, length, take, drop, arith}
 use denote.Ref.{Bor}
-use Rattle.std.specs.List.{starts_with, ends_with, list_any, list_all}
+use Rattle.std.specs.List.{starts_with}
 use Rattle.std.specs.Str.{bytes_eq}
 use Rattle.std.specs.Str.Iter.{HasSubslice}
 use Rattle.std.specs.Str.Pattern.{LacksTextAt, FindsText, HasMatch}
 use Rattle.std.specs.Str.Replace.{ReplacesMatches}
 use Rattle.std.specs.Bool.{MatchBool}
 use Rattle.std.specs.Prelude.{None}
-use Rattle.std.proofs.lemmas.Bool.{false≢true, or_parts, cases_lt}
-use Rattle.std.proofs.lemmas.List.{length-append, take-append-drop, length-take}
+use Rattle.std.proofs.lemmas.Bool.{false≢true}
+use Rattle.std.proofs.lemmas.List.{length-append, take-append-drop}
 use Rattle.std.proofs.lemmas.Slice.Eq.{bytes_eq-Decides}
 use Rattle.std.proofs.lemmas.Str.Pattern.{contains_text}
 use Rattle.std.proofs.Math.Seq.{drop-append_seam}

@@ -1,7 +1,6 @@
 -- What is asked of suffixes follows from the rule by which a list is accepted.
-use Rattle.std.proofs.Common.{◌≡◌, ℕ, ◌+◌, ◌&&◌, ◌||◌, Bool, true, false, not, cond, suc, zero, List, [], ◌∷◌, Option, Some, None, ◌-◌, drop, length, inl, inr, refl, ap, sym, ◌∙◌, subst, nat_eq, eqb, codes, arith, ◌++◌, take, ◌<◌, ◌≤◌}
-use Rattle.std.specs.List.{Contains, ends_with, find, list_all, list_any, slice_get}
-use Rattle.std.specs.Cmp.Lexicographic.{pointwise}
+use Rattle.std.proofs.Common.{◌≡◌, ℕ, ◌&&◌, ◌||◌, Bool, true, false, not, suc, zero, List, [], ◌∷◌, Some, None, ◌-◌, drop, length, inl, inr, refl, ap, sym, ◌∙◌, subst, nat_eq, eqb, codes, arith, ◌++◌, take}
+use Rattle.std.specs.List.{Contains, ends_with, list_all, list_any, slice_get}
 use Rattle.std.specs.Str.{bytes_eq}
 use Rattle.std.proofs.lemmas.Bool.{false≢true, and_parts, or_parts, cases_lt}
 use Rattle.std.proofs.lemmas.List.Elements.{All-contains}

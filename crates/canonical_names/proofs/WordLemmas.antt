@@ -1,5 +1,5 @@
 -- Heads and cores of words, by what stands behind a mark.
-use Rattle.std.proofs.Common.{◌≡◌, ℕ, suc, ◌<◌, ◌&&◌, Bool, true, false, cond, List, [], ◌∷◌, Option, Some, None, refl, ap, sym, ◌∙◌, eqb, nat_eq, length, codes, arith}
+use Rattle.std.proofs.Common.{◌≡◌, ℕ, ◌<◌, ◌&&◌, Bool, true, false, cond, List, [], ◌∷◌, Option, Some, None, refl, ap, sym, ◌∙◌, eqb, nat_eq, length, codes, arith}
 use Rattle.std.specs.List.{starts_with}
 use Rattle.texts.specs.Lists.{rest_after}
 use Rattle.canonical_names.specs.Generated.{core_of, is_file_mark, begins_with_dash}

@@ -1,7 +1,6 @@
 -- The canonical names of a dry run's generated files.
-use Rattle.std.specs.Prelude.{◌≡◌, ℕ, ◌+◌, List, [], ◌∷◌, ◌++◌, map, ◌==◌, nat_eq, nat_lt, length, if◌then◌else◌, Option, Some, None, fold, refl, codes}
-use Rattle.std.specs.Int.Digits.{digits_of}
-use Rattle.std.specs.List.{list_any, ends_with}
+use Rattle.std.specs.Prelude.{ℕ, ◌+◌, List, [], ◌∷◌, ◌++◌, nat_eq, nat_lt, length, if◌then◌else◌, Option, Some, None, fold, codes}
+use Rattle.std.specs.List.{ends_with}
 use Rattle.std.specs.Str.{bytes_eq}
 use Rattle.texts.specs.Path.{joined, folder_of}
 use Rattle.dry_runs.specs.CommandLines.{CommandLine, line_of, program_of, words_of_command}

@@ -1,6 +1,7 @@
 //! The words of a command with canonical names in the place of generated ones.
 
 ghost use Rattle.std.specs.Prelude.{◌≡◌, ◌⊎◌, ℕ, map, take, IfOk, OnOk, OnErr, string_bytes};
+ghost use Rattle.std.specs.Option.{option_map, unwrap_or};
 ghost use Rattle.canonical_names.specs.Renaming as spec;
 
 use crate::renames::Renames;
@@ -10,18 +11,36 @@ use dry_runs::Commands;
 use std::alloc::{AllocError, Global};
 use texts::words::Words;
 
-// One word, renamed. After a refusal the names that were seen may have the word's own.
-fn remap_word(alloc: Global, word: &str, renames: &mut Renames) -> Result<String, AllocError>
-    ensures word { IfOk result (λ t. string_bytes t ≡ spec.renamed_word renames.old.0 renames.old.1 word.now) }
+// The new text of a word, unless it stays as it is. After a refusal the names that were seen may have
+// the word's own.
+fn remap_word(
+    alloc: Global,
+    word: &str,
+    renames: &mut Renames,
+) -> Result<Option<String>, AllocError>
+    ensures word { IfOk result (λ new. unwrap_or (option_map string_bytes new) word.now ≡ spec.renamed_word renames.old.0 renames.old.1 word.now) }
     ensures names { OnOk result (renames.new ≡ (renames.old.0, spec.seen_after_word renames.old.0 renames.old.1 word.now)) }
     ensures err { OnErr result ((renames.new ≡ renames.old) ⊎ (renames.new ≡ (renames.old.0, spec.seen_after_word renames.old.0 renames.old.1 word.now))) }
 {
+    if renames.keep(word) {
+        return Ok(None);
+    }
     let text = core(word);
     let new = match renames.class(text) {
         None => renames.rewritten(alloc, text)?,
         Some(class) => renames.canonical(alloc, text, class)?,
     };
-    with_head(alloc, word, new)
+    Ok(Some(with_head(alloc, word, new)?))
+}
+
+// The new text of a word, or a copy of it where there is none.
+fn or_copy(alloc: Global, new: Option<String>, word: &str) -> Result<String, AllocError>
+    ensures { IfOk result (λ t. string_bytes t ≡ unwrap_or (option_map string_bytes new) word.now) }
+{
+    match new {
+        None => String::from_str(alloc, word),
+        Some(new) => Ok(new),
+    }
 }
 
 /// The words of a command with canonical names in the place of generated ones. `renames` has the
@@ -49,9 +68,28 @@ pub fn remap_generated_filenames(
 {
     let mut words = Words::with_capacity(alloc, args.len())?;
     for word in args {
-        words.push(remap_word(alloc, word.as_str(), renames)?)?;
+        let text = word.as_str();
+        let new = remap_word(alloc, text, renames)?;
+        words.push(or_copy(alloc, new, text)?)?;
     }
     Ok(words)
+}
+
+// The same of words that are handed over: those that stay as they are move.
+fn remap_words(
+    alloc: Global,
+    words: Vec<String>,
+    renames: &mut Renames,
+) -> Result<Vec<String>, AllocError>
+    ensures words { IfOk result (λ new. map string_bytes new.items ≡ spec.renamed_words renames.old.0 renames.old.1 (map string_bytes words.items)) }
+    ensures names { OnOk result (renames.new ≡ (renames.old.0, spec.seen_after renames.old.0 renames.old.1 (map string_bytes words.items))) }
+{
+    let mut renamed = Vec::with_capacity(alloc, words.len())?;
+    for word in words {
+        let new = remap_word(alloc, word.as_str(), renames)?;
+        renamed.push(new.unwrap_or(word))?;
+    }
+    Ok(renamed)
 }
 
 /// The commands of a run with canonical names in the place of generated ones: those of all its commands
@@ -66,8 +104,8 @@ pub fn remap_commands(
     let mut renames = Renames::new(alloc, suffixes)?;
     let mut renamed = Vec::new(alloc);
     for (line, program, words) in commands.into_vec() {
-        let words = remap_generated_filenames(alloc, words.as_slice(), &mut renames)?;
-        renamed.push((line, program, words.into_vec()))?;
+        let words = remap_words(alloc, words, &mut renames)?;
+        renamed.push((line, program, words))?;
     }
     Ok(Commands::from_vec(renamed))
 }

@@ -1,6 +1,6 @@
 //! The canonical names of generated files.
 
-ghost use Rattle.std.specs.Prelude.{◌≡◌, ◌⊎◌, ◌<◌, ◌∷◌, [], ◌++◌, ⊤, map, length, codes, IfOk, OnOk, OnErr, MatchOption, Some, None, if◌then◌else◌, false, true, replicate, ◌^◌, string_bytes};
+ghost use Rattle.std.specs.Prelude.{◌≡◌, ◌⊎◌, ◌<◌, ◌∷◌, [], ◌++◌, ⊤, map, length, codes, IfOk, OnOk, OnErr, MatchOption, Some, None, if◌then◌else◌, false, true, replicate, ◌^◌, IsTrue, string_bytes};
 ghost use Rattle.std.specs.List.{list_any, slice_get};
 ghost use Rattle.std.specs.Str.{bytes_eq};
 ghost use Rattle.texts.specs.Lists.{with_name};
@@ -13,7 +13,7 @@ ghost use Rattle.canonical_names.specs.Renaming as spec;
 
 use crate::references::{LongestFirst, Reference};
 use crate::suffixes::Suffixes;
-use crate::words::begins_with_dash;
+use crate::words::{begins_with_dash, is_marked};
 use indexmap::IndexMap;
 use std::alloc::{AllocError, Global};
 use std::marker::Model;
@@ -53,8 +53,13 @@ fn canonical_name(
 ) -> Result<String, AllocError>
     ensures { IfOk result (λ t. string_bytes t ≡ joined (folder_of name.now) (decimal_file number suffix.now)) }
 {
-    let file = format!(in alloc; "x_{number}{suffix}")?;
-    join(alloc, folder(name), file.as_str())
+    let mut file = String::with_capacity(alloc, suffix.len().saturating_add(22))?;
+    write!(file, "x_{number}{suffix}")?;
+    let folder = folder(name);
+    if folder.is_empty() {
+        return Ok(file);
+    }
+    join(alloc, folder, file.as_str())
 }
 
 // As many zeros.
@@ -78,6 +83,21 @@ impl Renames {
             names,
             counts,
         })
+    }
+
+    // Whether a word surely stays as it is: it begins with no `-Fi`, and holds no suffix, so it has no
+    // name to be replaced.
+    pub(crate) fn keep(&self, word: &str) -> bool
+        ensures word { IsTrue result → spec.renamed_word self.now.0 self.now.1 word.now ≡ word.now }
+        ensures names { IsTrue result → spec.seen_after_word self.now.0 self.now.1 word.now ≡ self.now.1 }
+    {
+        if is_marked(word) {
+            return false;
+        }
+        if self.suffixes.stand_in(word) {
+            return false;
+        }
+        true
     }
 
     // The place of the suffix of a word's core, which is a name where it doesn't begin with `-` and

@@ -1,7 +1,7 @@
 //! The suffixes of the files that nvcc generates.
 
-ghost use Rattle.std.specs.Prelude.{◌≡◌, ◌∷◌, [], Ok, Err, map, length, nat_eq, IfOk, MatchOption, OnOk, string_bytes, if◌then◌else◌, None, ◌<◌, ◌==◌, ⊤, true};
-ghost use Rattle.std.specs.List.{slice_get, list_any, list_all, ends_with};
+ghost use Rattle.std.specs.Prelude.{◌≡◌, ◌∷◌, [], Ok, Err, map, length, drop, nat_eq, nat_le, IfOk, MatchOption, OnOk, string_bytes, if◌then◌else◌, None, ◌<◌, ◌==◌, ⊤, true, false};
+ghost use Rattle.std.specs.List.{slice_get, list_any, list_all, starts_with, ends_with};
 ghost use Rattle.std.specs.Option.{option_copied, option_map};
 ghost use Rattle.std.specs.Str.{bytes_eq};
 ghost use Rattle.std.specs.Char.{is_ascii_alphanumeric};
@@ -15,7 +15,6 @@ ghost use Rattle.canonical_names.specs.Generated as generated;
 ghost use Rattle.canonical_names.specs.Generated.{standard_suffixes, class_of_name};
 ghost use Rattle.canonical_names.specs.CanonicalNames.{AreSuffixes};
 
-use crate::references::holds as text_holds;
 use crate::words::{begins_with_dash, core, is_bare};
 use std::alloc::{AllocError, Global};
 use std::marker::Model;
@@ -223,12 +222,55 @@ impl Suffixes {
 }
 
 impl Suffixes {
-    // Whether one of the suffixes stands somewhere in a text.
+    // How many bytes each suffix has at least.
+    fn least_length(&self) -> usize
+        ensures { list_all (λ s. nat_le result (length s)) self.now ≡ true }
+    {
+        match &self.handed {
+            None => 8,
+            Some(_) => 1,
+        }
+    }
+
+    // Whether one of the suffixes stands somewhere in a text. Each begins with `.`, so they are looked
+    // for behind each `.` alone.
     pub(crate) fn stand_in(&self, text: &str) -> bool
         ensures { result ≡ list_any (λ s. text_holds s text.now) self.now }
     {
+        self.keeps_the_rule();
+        if text.len() < self.least_length() {
+            return false;
+        }
+        let mut rest = text;
+        while let Some((_, after)) = rest.split_once('.') {
+            if self.follow_dot(after) {
+                return true;
+            }
+            rest = after;
+        }
+        false
+    }
+
+    // Whether a text may begin with what a suffix has behind its `.`: by its first byte, which nvcc's
+    // suffixes have in common.
+    fn may_follow_dot(&self, text: &str) -> bool
+        ensures { result ≡ false → list_any (λ s. starts_with nat_eq text.now (drop 1 s)) self.now ≡ false }
+    {
+        match &self.handed {
+            None => text.as_bytes().starts_with(b"c"),
+            Some(_) => true,
+        }
+    }
+
+    // Whether a text begins with what one of the suffixes has behind its `.`.
+    fn follow_dot(&self, text: &str) -> bool
+        ensures { result ≡ list_any (λ s. starts_with nat_eq text.now (drop 1 s)) self.now }
+    {
+        if !self.may_follow_dot(text) {
+            return false;
+        }
         for index in 0..self.len() {
-            if stands_in(text, self.get(index)) {
+            if follows_dot(text, self.get(index)) {
                 return true;
             }
         }
@@ -259,13 +301,16 @@ impl Suffixes {
     }
 }
 
-// Whether a suffix stands somewhere in a text, where there is one.
-fn stands_in(text: &str, suffix: Option<&str>) -> bool
-    ensures { result ≡ is_some_and (λ s. text_holds s text.now) (option_copied suffix.entry) }
+// Whether a text begins with what a suffix, where there is one, has behind its first byte.
+fn follows_dot(text: &str, suffix: Option<&str>) -> bool
+    ensures { result ≡ is_some_and (λ s. starts_with nat_eq text.now (drop 1 s)) (option_copied suffix.entry) }
 {
     match suffix {
         None => false,
-        Some(suffix) => text_holds(text, suffix),
+        Some(suffix) => match suffix.as_bytes().split_first() {
+            None => true,
+            Some((_, rest)) => text.as_bytes().starts_with(rest),
+        },
     }
 }
 

@@ -10,7 +10,7 @@ ghost use Rattle.canonical_names.specs.Generated as spec;
 use std::alloc::{AllocError, Global};
 
 // Whether a word begins with `-Fi`.
-fn is_marked(word: &str) -> bool
+pub(crate) fn is_marked(word: &str) -> bool
     ensures { result ≡ starts_with nat_eq word.now (codes "-Fi") }
 {
     word.as_bytes().starts_with(b"-Fi")

@@ -1,4 +1,4 @@
-use Rattle.std.proofs.Common.{◌≡◌, ◌||◌, true, false, not, map, ap, sym, ◌∙◌}
+use Rattle.std.proofs.Common.{◌||◌, not, map, ap, sym, ◌∙◌}
 use Rattle.std.specs.List.{list_any}
 use Rattle.dry_runs.specs.CommandLines.{line_seen}
 use Rattle.canonical_names.specs.Alike.{holds}

@@ -1,4 +1,4 @@
-use Rattle.std.proofs.Common.{◌≡◌, ℕ, List, [], map, length, replicate, ap, ◌∙◌, subst, sym, true}
+use Rattle.std.proofs.Common.{◌≡◌, List, map, length, replicate, ap, ◌∙◌, subst, sym, true}
 use Rattle.std.specs.declared.alloc.Global.{Global}
 use Rattle.std.proofs.Common.{String}
 use Rattle.texts.specs.Variables.{pair_of}

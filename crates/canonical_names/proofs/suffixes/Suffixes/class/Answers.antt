@@ -1,7 +1,6 @@
-use Rattle.std.proofs.Common.{◌≡◌, ℕ, List, true, false, nat_eq, ap, sym, ◌∙◌, drop, length, ◌<◌, subst}
-use Rattle.std.specs.List.{ends_with, slice_get, find}
+use Rattle.std.proofs.Common.{◌≡◌, true, false, nat_eq, ap, sym, ◌∙◌, length, ◌<◌, subst}
+use Rattle.std.specs.List.{ends_with, slice_get}
 use Rattle.texts.specs.Lists.{is_some_and}
-use Rattle.canonical_names.specs.Generated.{class_of_name}
 use Rattle.canonical_names.proofs.PlaceLemmas.{find-later, find-here}
 use Rattle.canonical_names.proofs.suffixes.Suffixes.class.Goals as goal
 

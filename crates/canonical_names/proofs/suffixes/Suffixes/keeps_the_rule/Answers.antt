@@ -1,5 +1,5 @@
 use Rattle.canonical_names.proofs.SuffixLemmas.{accepted-are_suffixes}
-use Rattle.std.proofs.Common.{subst, sym, ◌≡◌, true, rules}
+use Rattle.std.proofs.Common.{◌≡◌, true, rules}
 use Rattle.canonical_names.specs.SuffixRule.{are_suffixes}
 use Rattle.canonical_names.proofs.suffixes.Suffixes.keeps_the_rule.Goals as goal
 

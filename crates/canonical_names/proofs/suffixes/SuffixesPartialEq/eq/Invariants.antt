@@ -1,4 +1,4 @@
-use Rattle.std.proofs.Common.{◌≡◌, drop, nat_eq, length}
+use Rattle.std.proofs.Common.{◌≡◌, drop, nat_eq}
 use Rattle.std.specs.Cmp.Lexicographic.{pointwise}
 use Rattle.canonical_names.proofs.suffixes.SuffixesPartialEq.eq.Given as goal
 

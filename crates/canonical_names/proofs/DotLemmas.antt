@@ -1,0 +1,112 @@
+-- Suffixes begin with a dot, so they are looked for behind dots alone.
+use Rattle.std.proofs.Common.{◌≡◌, ℕ, ◌+◌, ◌<◌, ◌≤◌, ◌&&◌, ◌||◌, Bool, true, false, not, cond, suc, List, [], ◌∷◌, ◌++◌, Option, Some, None, Bor, refl, ap, sym, ◌∙◌, subst, nat_eq, nat_le, eqb, eqb-true, length, take, drop, get_or, arith}
+use Rattle.std.specs.List.{position_or_len, prefix_len, list_any, list_all, before_first, after_first, starts_with}
+use Rattle.std.proofs.lemmas.Bool.{false≢true, and_parts, and_from}
+use Rattle.std.proofs.lemmas.List.{length-append}
+use Rattle.std.proofs.lemmas.List.Sums.{split_at_first, passes_at_first}
+use Rattle.std.proofs.lemmas.Str.Pattern.{IsSplitOnceResult, split_once_first}
+use Rattle.std.proofs.Math.Seq.{take-length}
+use Rattle.texts.specs.Path.{lacks}
+use Rattle.canonical_names.specs.Alike.{holds}
+use Rattle.canonical_names.specs.SuffixRule.{is_suffix}
+use Rattle.canonical_names.proofs.RankLemmas.{eqb-turned}
+use Rattle.canonical_names.proofs.ReplaceLemmas.{holds-split}
+
+-- a suffix is a dot, and something behind it
+pub dot-first : (s : List ℕ) → is_suffix s ≡ true → s ≡ 46 ∷ drop 1 s
+dot-first [] h = absurd (false≢true h)
+dot-first (c ∷ cs) h = ap (λ d. d ∷ cs) (eqb-true c 46 (and_parts (eqb c 46) _ h).0)
+
+-- no text is as short as that of which a longer one is a part
+held-short : (s text : List ℕ) → holds s text ≡ true → length s ≤ length text
+held-short s text h =
+    let split = holds-split s text h in
+    let all : length text ≡ length split.0 + length (s ++ split.1) = ap length split.2 ∙ length-append split.0 (s ++ split.1) in
+    let part : length (s ++ split.1) ≡ length s + length split.1 = length-append s split.1 in
+    omega (arith, all, part)
+
+pub short-none : (text : List ℕ) (n : ℕ) → length text < n → (suffixes : List (List ℕ)) → list_all (λ s. nat_le n (length s)) suffixes ≡ true → list_any (λ s. holds s text) suffixes ≡ false
+short-none text n short [] all = refl
+short-none text n short (s ∷ suffixes) all =
+    let parts = and_parts (nat_le n (length s)) (list_all (λ s. nat_le n (length s)) suffixes) all in
+    let long : n ≤ length s = grind (arith, parts) in
+    elim (holds s text) as (λ b. holds s text ≡ b → (b || list_any (λ s. holds s text) suffixes) ≡ false) [
+      | true ↦ λ e. absurd (let bound : length s ≤ length text = held-short s text e in omega (arith, bound, short, long))
+      | false ↦ λ _. short-none text n short suffixes parts.1
+    ] refl
+
+-- where a text that begins with a dot stands in one that lacks dots, or has one
+lacks-none : (r text : List ℕ) → lacks 46 text ≡ true → holds (46 ∷ r) text ≡ false
+lacks-none r [] h = refl
+lacks-none r (c ∷ cs) h =
+    elim (eqb c 46) as (λ b. eqb c 46 ≡ b → (not b && lacks 46 cs) ≡ true → holds (46 ∷ r) (c ∷ cs) ≡ false) [
+      | true ↦ λ _ k. absurd (false≢true k)
+      | false ↦ λ e k. ap (λ t. (t && starts_with nat_eq cs r) || holds (46 ∷ r) cs) (eqb-turned 46 c ∙ e) ∙ lacks-none r cs k
+    ] refl h
+
+behind-dot : (r front back : List ℕ) → lacks 46 front ≡ true → holds (46 ∷ r) (front ++ 46 ∷ back) ≡ (starts_with nat_eq back r || holds (46 ∷ r) back)
+behind-dot r [] back h = refl
+behind-dot r (c ∷ front) back h =
+    elim (eqb c 46) as (λ b. eqb c 46 ≡ b → (not b && lacks 46 front) ≡ true → holds (46 ∷ r) (c ∷ (front ++ 46 ∷ back)) ≡ (starts_with nat_eq back r || holds (46 ∷ r) back)) [
+      | true ↦ λ _ k. absurd (false≢true k)
+      | false ↦ λ e k. ap (λ t. (t && starts_with nat_eq (front ++ 46 ∷ back) r) || holds (46 ∷ r) (front ++ 46 ∷ back)) (eqb-turned 46 c ∙ e) ∙ behind-dot r front back k
+    ] refl h
+
+-- what std's cut at the first dot leaves
+lacks-before : (bs : List ℕ) → lacks 46 (before_first (λ b. eqb b 46) bs) ≡ true
+lacks-before [] = refl
+lacks-before (b ∷ bs) =
+    elim (eqb b 46)
+    as (λ t. eqb b 46 ≡ t → lacks 46 (take (cond (not t) (1 + prefix_len (λ x. not (eqb x 46)) bs) 0) (b ∷ bs)) ≡ true)
+    [ true ↦ λ _. refl | false ↦ λ e. subst (λ n. lacks 46 (take n (b ∷ bs)) ≡ true) (sym (one-more (prefix_len (λ x. not (eqb x 46)) bs))) (rw e (lacks-before bs)) ] refl where
+      one-more : (n : ℕ) → 1 + n ≡ suc n
+      one-more n = omega arith
+
+pub dot-none : (bs : List ℕ) (r : Option (Bor (List ℕ) × Bor (List ℕ))) → IsSplitOnceResult 46 bs r → r ≡ None → lacks 46 bs ≡ true
+dot-none bs None h is =
+    let all : position_or_len (λ b. eqb b 46) bs ≡ length bs = split_once_first 46 bs None h (omega arith) in
+    subst (λ t. lacks 46 t ≡ true) (ap (λ n. take n bs) all ∙ take-length bs) (lacks-before bs)
+dot-none bs (Some x) h is = cc
+
+pub dot-split : (bs : List ℕ) (x : Bor (List ℕ) × Bor (List ℕ)) → IsSplitOnceResult 46 bs (Some x) → (front : List ℕ) × (bs ≡ front ++ 46 ∷ x.1.now) × (lacks 46 front ≡ true)
+dot-split bs x h =
+    let at = split_once_first 46 bs (Some x) h (omega arith) in
+    let front = before_first (λ b. eqb b 46) bs in
+    let found : get_or bs (position_or_len (λ b. eqb b 46) bs) 0 ≡ 46 = eqb-true _ 46 (passes_at_first (λ b. eqb b 46) bs 0 at.0) in
+    let whole : bs ≡ front ++ (get_or bs (position_or_len (λ b. eqb b 46) bs) 0 ∷ after_first (λ b. eqb b 46) bs) = split_at_first (λ b. eqb b 46) bs 0 at.0 in
+    let back : x.1.now ≡ after_first (λ b. eqb b 46) bs = at.2 in
+    (front, whole ∙ ap (λ m. front ++ (m ∷ after_first (λ b. eqb b 46) bs)) found ∙ ap (λ k. front ++ (46 ∷ k)) (sym back), lacks-before bs)
+
+-- of all suffixes
+each-or : {A : Type 0} (f g h : A → Bool) (xs : List A) (all : A → Bool) → list_all all xs ≡ true → ((x : A) → all x ≡ true → f x ≡ (g x || h x)) → list_any f xs ≡ (list_any g xs || list_any h xs)
+each-or f g h [] all every step = refl
+each-or f g h (x ∷ xs) all every step =
+    let parts = and_parts (all x) (list_all all xs) every in
+    ap (λ b. b || list_any f xs) (step x parts.0) ∙ ap (λ b. (g x || h x) || b) (each-or f g h xs all parts.1 step) ∙ turned (g x) (h x) (list_any g xs) (list_any h xs) where
+      turned : (a b c d : Bool) → ((a || b) || (c || d)) ≡ ((a || c) || (b || d))
+      turned true b c d = refl
+      turned false true true d = refl
+      turned false true false d = refl
+      turned false false c d = refl
+
+pub dots-none : (text : List ℕ) (suffixes : List (List ℕ)) → list_all is_suffix suffixes ≡ true → lacks 46 text ≡ true → list_any (λ s. holds s text) suffixes ≡ false
+dots-none text [] all none = refl
+dots-none text (s ∷ suffixes) all none =
+    let parts = and_parts (is_suffix s) (list_all is_suffix suffixes) all in
+    ap (λ b. b || list_any (λ s. holds s text) suffixes) (ap (λ z. holds z text) (dot-first s parts.0) ∙ lacks-none (drop 1 s) text none) ∙ dots-none text suffixes parts.1 none
+
+pub dots-behind : (text front back : List ℕ) (suffixes : List (List ℕ)) → list_all is_suffix suffixes ≡ true → text ≡ front ++ 46 ∷ back → lacks 46 front ≡ true →
+    list_any (λ s. holds s text) suffixes ≡ (list_any (λ s. starts_with nat_eq back (drop 1 s)) suffixes || list_any (λ s. holds s back) suffixes)
+dots-behind text front back suffixes all is none =
+    each-or (λ s. holds s text) (λ s. starts_with nat_eq back (drop 1 s)) (λ s. holds s back) suffixes is_suffix all
+    (λ s ok. let dot = dot-first s ok in
+    ap (holds s) is ∙ ap (λ z. holds z (front ++ 46 ∷ back)) dot ∙ behind-dot (drop 1 s) front back none ∙ ap (λ z. starts_with nat_eq back (drop 1 s) || holds z back) (sym dot))
+
+-- no suffix is empty
+pub least-one : (suffixes : List (List ℕ)) → list_all is_suffix suffixes ≡ true → list_all (λ s. nat_le 1 (length s)) suffixes ≡ true
+least-one [] all = refl
+least-one (s ∷ suffixes) all =
+    let parts = and_parts (is_suffix s) (list_all is_suffix suffixes) all in
+    let long : length s ≡ length (46 ∷ drop 1 s) = ap length (dot-first s parts.0) in
+    let one : nat_le 1 (length s) ≡ true = grind (arith, long) in
+    and_from (nat_le 1 (length s)) (list_all (λ s. nat_le 1 (length s)) suffixes) one (least-one suffixes parts.1)
