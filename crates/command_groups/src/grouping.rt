@@ -60,15 +60,15 @@ pub struct Grouping {
 }
 
 impl Grouping {
-    /// No commands.
-    pub fn new(alloc: Global) -> Grouping
-        ensures { grouping_seen result ≡ spec.no_commands }
+    /// No commands, with room for `count` of them.
+    pub fn with_capacity(alloc: Global, count: usize) -> Result<Grouping, AllocError>
+        ensures { IfOk result (λ grouping. grouping_seen grouping ≡ spec.no_commands) }
     {
-        Grouping {
+        Ok(Grouping {
             opened: OpenedNames::new(alloc),
             made: MadeFiles::new(alloc),
-            labelled: Vec::new(alloc),
-        }
+            labelled: Vec::with_capacity(alloc, count)?,
+        })
     }
 
     // The label of a cicc command, whose output is noted as made in its group.
