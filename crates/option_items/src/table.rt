@@ -1,6 +1,6 @@
 //! Option tables, and which entry of a table a word chooses.
 
-ghost use Rattle.std.specs.Prelude.{◌≡◌, ◌++◌, ℕ, List, Option, map, Some};
+ghost use Rattle.std.specs.Prelude.{◌≡◌, ◌++◌, ℕ, List, Option, map, Some, None, false};
 ghost use Rattle.std.specs.Option.{option_map, option_copied};
 ghost use Rattle.option_items.specs.Table.{Entry, entry_of};
 ghost use Rattle.option_items.specs.Table as spec;
@@ -82,6 +82,16 @@ fn joined_value<'a>(delimiter: Option<u8>, rest: &'a str) -> Option<&'a str>
     }
 }
 
+// Whether `word` may begin with `text`: it has a byte where `text` ends, and it is the same one. A word
+// that doesn't begin so is told by its length or by one byte, without a comparison of texts.
+fn may_begin(text: &str, word: &str) -> bool
+    ensures { result ≡ false → rest_after text.now word.now ≡ None }
+{
+    let (text, word) = (text.as_bytes(), word.as_bytes());
+    let length = text.len();
+    length == 0 || (length <= word.len() && text[length - 1] == word[length - 1])
+}
+
 impl<T: Copy> ArgInfo<T> {
     /// The option's text, as `-o`.
     pub fn text(&self) -> &'static str
@@ -115,6 +125,17 @@ impl<T: Copy> ArgInfo<T> {
 
     /// What this entry makes of `word`, and `None` if it doesn't match.
     pub fn matches<'a>(&self, word: &'a str) -> Option<Match<'a>>
+        ensures { option_map spec.matched_of result ≡ spec.matched (entry_of self.now) word.now }
+    {
+        if may_begin(self.text(), word) {
+            self.matches_whole(word)
+        } else {
+            None
+        }
+    }
+
+    // The same, of a word that may begin with the option's text.
+    fn matches_whole<'a>(&self, word: &'a str) -> Option<Match<'a>>
         ensures { option_map spec.matched_of result ≡ spec.matched (entry_of self.now) word.now }
     {
         let rest = rest_of(self.text(), word)?;
