@@ -82,14 +82,14 @@ fn joined_value<'a>(delimiter: Option<u8>, rest: &'a str) -> Option<&'a str>
     }
 }
 
-// Whether `word` may begin with `text`: it has a byte where `text` ends, and it is the same one. A word
-// that doesn't begin so is told by its length or by one byte, without a comparison of texts.
+// Whether `word` may begin with `text`: it is as long, and has the same byte where `text` ends. It tells
+// most rows of a table from the one that a word chooses, without a comparison of texts.
 fn may_begin(text: &str, word: &str) -> bool
     ensures { result ≡ false → rest_after text.now word.now ≡ None }
 {
     let (text, word) = (text.as_bytes(), word.as_bytes());
     let length = text.len();
-    length == 0 || (length <= word.len() && text[length - 1] == word[length - 1])
+    length <= word.len() && (length == 0 || text[length - 1] == word[length - 1])
 }
 
 impl<T: Copy> ArgInfo<T> {
@@ -125,17 +125,6 @@ impl<T: Copy> ArgInfo<T> {
 
     /// What this entry makes of `word`, and `None` if it doesn't match.
     pub fn matches<'a>(&self, word: &'a str) -> Option<Match<'a>>
-        ensures { option_map spec.matched_of result ≡ spec.matched (entry_of self.now) word.now }
-    {
-        if may_begin(self.text(), word) {
-            self.matches_whole(word)
-        } else {
-            None
-        }
-    }
-
-    // The same, of a word that may begin with the option's text.
-    fn matches_whole<'a>(&self, word: &'a str) -> Option<Match<'a>>
         ensures { option_map spec.matched_of result ≡ spec.matched (entry_of self.now) word.now }
     {
         let rest = rest_of(self.text(), word)?;
@@ -206,7 +195,7 @@ impl<'a, T: Copy> SearchableArgInfo<T> for Table<'a, T> {
     fn search(&self, word: &str) -> Option<&ArgInfo<T>> {
         let mut best = None;
         for row in self.rows {
-            if row.matches(word).is_some() && is_longer(row, best) {
+            if may_begin(row.text(), word) && row.matches(word).is_some() && is_longer(row, best) {
                 best = Some(row);
             }
         }

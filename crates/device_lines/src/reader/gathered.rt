@@ -1,6 +1,6 @@
 //! What reading a device tool's line gathers, item by item.
 
-ghost use Rattle.std.specs.Prelude.{◌≡◌, true, false, IfOk, OnOk};
+ghost use Rattle.std.specs.Prelude.{◌≡◌, ◌∷◌, [], true, false, IfOk, OnOk, string_bytes};
 ghost use Rattle.std.specs.List.{fold};
 ghost use Rattle.option_items.specs.Items.{items};
 ghost use Rattle.option_items.specs.Views.{item_seen, item_viewed};
@@ -33,6 +33,15 @@ impl<'a> Model for GivenPath<'a> {
     ghost Value = { List ℕ };
 
     ghost view = { λ p. p.text.now };
+}
+
+// A list of one word.
+fn one_word(alloc: Global, word: String) -> Result<Words, AllocError>
+    ensures { IfOk result (λ w. w ≡ string_bytes word ∷ []) }
+{
+    let mut words = Words::with_capacity(alloc, 1)?;
+    words.push(word)?;
+    Ok(words)
 }
 
 /// The words and files of the items so far.
@@ -190,17 +199,18 @@ impl<'a> Gathered<'a> {
         self.outputs.insert("--module_id_file_name", made)
     }
 
-    // The module id file, if the tool reads it.
-    fn module_id_file(&self, alloc: Global, cwd: &str) -> Result<Words, AllocError>
-        ensures { IfOk result (λ w. w ≡ spec.module_id_file cwd.now self.now.makes_module_id self.now.module_id) }
+    // The module id file, if the tool reads it, in two lists.
+    fn module_id_files(&self, alloc: Global, cwd: &str) -> Result<(Words, Words), AllocError>
+        ensures first { IfOk result (λ w. w.0 ≡ spec.module_id_file cwd.now self.now.makes_module_id self.now.module_id) }
+        ensures second { IfOk result (λ w. w.1 ≡ spec.module_id_file cwd.now self.now.makes_module_id self.now.module_id) }
     {
         match &self.module_id {
             Some(path) if !self.makes_module_id => {
-                let mut files = Words::with_capacity(alloc, 1)?;
-                files.push(join(alloc, cwd, path.text)?)?;
-                Ok(files)
+                let path = join(alloc, cwd, path.text)?;
+                let copy = String::from_str(alloc, path.as_str())?;
+                Ok((one_word(alloc, path)?, one_word(alloc, copy)?))
             }
-            _ => Ok(Words::new(alloc)),
+            _ => Ok((Words::new(alloc), Words::new(alloc))),
         }
     }
 
@@ -216,8 +226,7 @@ impl<'a> Gathered<'a> {
     {
         let mut gathered = self;
         gathered.record_module_id(alloc, cwd)?;
-        let extra_dist_files = gathered.module_id_file(alloc, cwd)?;
-        let extra_hash_files = gathered.module_id_file(alloc, cwd)?;
+        let (extra_dist_files, extra_hash_files) = gathered.module_id_files(alloc, cwd)?;
         let input = Text::copy_of(alloc, input)?;
         Ok(CompilerArguments::Ok(ParsedArguments {
             common_args: gathered.common,

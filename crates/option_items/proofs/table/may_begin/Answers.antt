@@ -1,11 +1,11 @@
-use Rattle.std.proofs.Common.{◌≡◌, ◌<◌, ◌-◌, None, length, arith, subst}
+use Rattle.std.proofs.Common.{◌≡◌, ◌<◌, ◌-◌, ℕ, List, None, length, arith, subst}
 use Rattle.std.proofs.lemmas.Bool.Decides.{nat_tests}
 use Rattle.texts.specs.Lists.{rest_after}
 use Rattle.option_items.proofs.TableLemmas.{rest_after-shorter, rest_after-other_byte}
 use Rattle.option_items.proofs.table.may_begin.Goals as goal
 
-pub returns-then-length-word : goal.returns-then-length-word
-returns-then-length-word c = λ other.
+pub returns-else-length-eq0 : goal.returns-else-length-eq0
+returns-else-length-eq0 c = λ other.
     let text = c.as_bytes-text.result.now in
     let word = c.as_bytes-word.result.now in
     let within : length text - 1 < length text = let some = c.if-length-eq0.false in grind (arith, nat_tests) in
