@@ -1,6 +1,6 @@
 -- How a device tool's line is read: cicc, cudafe++ and ptxas share this reading.
 use Rattle.std.specs.Prelude.{ℕ, ◌-◌, List, [], ◌∷◌, ◌++◌, Bool, true, false, ◌&&◌, ◌||◌, if◌then◌else◌, nat_lt, nat_le, Option, Some, None, length, map, position, filter, codes, slice_index_or}
-use Rattle.std.specs.List.{filter_map, flat_map, list_any, remove, fold}
+use Rattle.std.specs.List.{filter_map, flat_map, list_any, remove}
 use Rattle.std.specs.Option.{option_map, option_to_list}
 use Rattle.texts.specs.declared.language.Language.{Language}
 use Rattle.texts.specs.declared.language.Language.TheVariants.{Ptx, Cubin}

@@ -1,9 +1,8 @@
 -- Lines that are written back and read again, worked out by hand: lines that the law is about, and for each tool and each
 -- of its premises a line without it that isn't read as the same.
-use Rattle.std.proofs.Common.{◌≡◌, ℕ, List, [], ◌∷◌, Option, Some, None, Result, Ok, Err, codes, refl}
+use Rattle.std.proofs.Common.{◌≡◌, ℕ, List, Option, Some, Ok, Err, codes, refl}
 use Rattle.std.specs.Option.{option_map}
 use Rattle.texts.specs.declared.language.Language.TheVariants.{Cubin}
-use Rattle.texts.specs.declared.fault.Fault.{Fault}
 use Rattle.texts.specs.declared.fault.Fault.TheVariants.{MissingOutput}
 use Rattle.cuda_below.specs.declared.arguments.ParsedArguments.{ParsedArguments}
 use Rattle.texts.specs.Rows.{spaced}

@@ -1,7 +1,7 @@
 //! The reader of a device tool's line, which cicc, ptxas and cudafe++ share.
 
 ghost use Rattle.std.specs.Prelude.{◌≡◌, ◌<◌, [], map, length, position, IfOk, IfSome, string_bytes, slice_index_or};
-ghost use Rattle.cuda_below.specs.Compiler.{reading_of};
+ghost use Rattle.cuda_below.specs.Compiler.{accepted, reading_of};
 ghost use Rattle.device_lines.specs.Reading as spec;
 
 mod gathered;
@@ -9,12 +9,11 @@ mod gathered;
 use crate::options::ArgData;
 use cuda_below::arguments::{CompilerArguments, ParsedArguments};
 use gathered::Gathered;
-use option_items::items::{ArgsIter, Line};
+use option_items::items::Line;
 use option_items::table::SearchableArgInfo;
 use std::alloc::{AllocError, Global};
 use texts::device_files::{is_cicc_input, is_ptxas_input};
 use texts::language::Language;
-use texts::text::Text;
 
 // Whether a word is by its end the input of the tool that makes `language`.
 fn is_input(language: Language, word: &str) -> bool
@@ -67,21 +66,22 @@ fn word_at(words: &[String], place: usize) -> &str
 }
 
 // Reads the words around the input.
-fn read_around<S: SearchableArgInfo<ArgData> + Drop>(
+fn read_around<S: SearchableArgInfo<ArgData>>(
     alloc: Global,
     arguments: &[String],
     place: usize,
     cwd: &str,
     language: Language,
-    arg_info: S,
-) -> Result<ParsedArguments, AllocError>
+    arg_info: &S,
+) -> Result<CompilerArguments<ParsedArguments>, AllocError>
     requires { place < length arguments.now }
-    ensures { IfOk result (λ p. p ≡ spec.reading_around (S.chosen arg_info) cwd.now language (map string_bytes arguments.now) place) }
+    ensures { IfOk result (λ r. reading_of r
+        ≡ accepted (spec.reading_around (S.chosen arg_info.now) cwd.now language (map string_bytes arguments.now) place)) }
 {
-    let input = Text::copy_of(alloc, word_at(arguments, place))?;
-    let line = ArgsIter::over(alloc, Line::without(arguments, place), arg_info);
-    let gathered = Gathered::from_line(alloc, cwd, arguments.len(), line)?;
-    gathered.into_arguments(alloc, cwd, language, input)
+    let mut gathered = Gathered::with_capacity(alloc, arguments.len())?;
+    let line = Line::without(arguments, place);
+    gathered.take_line(alloc, cwd, line, arg_info)?;
+    gathered.into_answer(alloc, cwd, language, word_at(arguments, place))
 }
 
 /// Reads a device tool's line, as sccache 0.19.0's cicc reader does.
@@ -107,6 +107,5 @@ pub fn parse_arguments<S: SearchableArgInfo<ArgData> + Drop>(
     let Some(place) = input_place(language, input_arg_offset_from_end, arguments) else {
         return Ok(CompilerArguments::NotCompilation);
     };
-    let parsed = read_around(alloc, arguments, place, cwd, language, arg_info)?;
-    Ok(CompilerArguments::Ok(parsed))
+    read_around(alloc, arguments, place, cwd, language, &arg_info)
 }

@@ -8,7 +8,8 @@ ghost use Rattle.option_items.specs.Items.{item_of, item_read};
 ghost use Rattle.option_items.specs.Items as spec;
 ghost use Rattle.option_items.specs.WordsLaw as law;
 
-use crate::table::{ArgDisposition, ArgInfo, Match, SearchableArgInfo};
+use crate::table::{ArgDisposition, ArgInfo, SearchableArgInfo};
+use crate::views::view_item;
 use std::alloc::{AllocError, Global};
 use std::marker::{Model, PhantomData};
 use texts::words::Words;
@@ -149,18 +150,6 @@ impl<T: Copy> Argument<T> {
         }
     }
 
-    // The item of a word that no entry matches.
-    fn unmatched(alloc: Global, word: &str) -> Result<Argument<T>, AllocError>
-        ensures { IfOk result (λ a. item_of a ≡ spec.unmatched_item word.now) }
-    {
-        let text = String::from_str(alloc, word)?;
-        if word.as_bytes().first() == Some(&b'-') {
-            Ok(Argument::UnknownFlag(text))
-        } else {
-            Ok(Argument::Raw(text))
-        }
-    }
-
     /// The words that the item is written as, in memory of their own: those of `write`.
     pub fn words(&self, alloc: Global) -> Result<Words, AllocError>
         ensures { IfOk result (λ words. words ≡ spec.words_of (item_of self.now)) }
@@ -235,7 +224,7 @@ fn write_value(
 }
 
 // An option and its value in one word.
-fn joined_word(
+pub(crate) fn joined_word(
     alloc: Global,
     text: &str,
     delimiter: Option<u8>,
@@ -349,60 +338,9 @@ pub fn read_item<T: Copy>(
     ensures left { line.new
         ≡ spec.words_past (spec.said_of word.now (option_map entry_of (option_copied row.entry))) line.old }
 {
-    let Some(row) = row else {
-        return Ok(Ok(Argument::unmatched(alloc, word)?));
-    };
-    match row.matches(word) {
-        None => Ok(Ok(Argument::unmatched(alloc, word)?)),
-        Some(Match::Lone) => Ok(Ok(Argument::Flag(row.text(), row.kind()))),
-        Some(Match::Joined(value)) => Ok(Ok(row.joined(String::from_str(alloc, value)?))),
-        Some(Match::Awaiting) => match line.next_word() {
-            Some(value) => Ok(Ok(row.separate(String::from_str(alloc, value)?))),
-            None => Ok(row.last(alloc)),
-        },
-    }
-}
-
-impl<T: Copy> ArgInfo<T> {
-    // The option with a value that was joined to it.
-    fn joined(&self, value: String) -> Argument<T>
-        ensures { item_of result
-            ≡ spec.with_value (entry_of self.now).text (entry_of self.now).kind (string_bytes value)
-            (spec.joined_form (entry_of self.now).form) }
-    {
-        let form = match self.disposition() {
-            None => ArgDisposition::Concatenated(None),
-            Some(ArgDisposition::CanBeConcatenated(delimiter)) => {
-                ArgDisposition::CanBeSeparated(delimiter)
-            }
-            Some(disposition) => disposition,
-        };
-        Argument::WithValue(self.text(), self.kind(), value, form)
-    }
-
-    // The option with a value that was the next word.
-    fn separate(&self, value: String) -> Argument<T>
-        ensures { item_of result ≡ spec.separate_item (entry_of self.now) (string_bytes value) }
-    {
-        let form = match self.disposition() {
-            Some(ArgDisposition::CanBeSeparated(delimiter))
-            | Some(ArgDisposition::CanBeConcatenated(delimiter)) => {
-                ArgDisposition::CanBeConcatenated(delimiter)
-            }
-            _ => ArgDisposition::Separated,
-        };
-        Argument::WithValue(self.text(), self.kind(), value, form)
-    }
-
-    // The option as the last word of a line, where its value would be the next one.
-    fn last(&self, alloc: Global) -> Result<Argument<T>, ArgParseError>
-        ensures { item_read result ≡ spec.last_item (entry_of self.now) }
-    {
-        match self.disposition() {
-            Some(ArgDisposition::CanBeSeparated(None))
-            | Some(ArgDisposition::CanBeConcatenated(None)) => Ok(self.joined(String::new(alloc))),
-            _ => Err(ArgParseError::UnexpectedEndOfArgs),
-        }
+    match view_item(row, word, line) {
+        Ok(view) => Ok(Ok(view.to_argument(alloc)?)),
+        Err(error) => Ok(Err(error)),
     }
 }
 

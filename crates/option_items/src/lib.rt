@@ -3,3 +3,4 @@
 
 pub mod items;
 pub mod table;
+pub mod views;

@@ -1,6 +1,6 @@
 //! Option tables, and which entry of a table a word chooses.
 
-ghost use Rattle.std.specs.Prelude.{◌≡◌, ◌++◌, ℕ, List, Option, map, Some};
+ghost use Rattle.std.specs.Prelude.{◌≡◌, ◌++◌, ℕ, List, Option, map, Some, None, false};
 ghost use Rattle.std.specs.Option.{option_map, option_copied};
 ghost use Rattle.option_items.specs.Table.{Entry, entry_of};
 ghost use Rattle.option_items.specs.Table as spec;
@@ -80,6 +80,16 @@ fn joined_value<'a>(delimiter: Option<u8>, rest: &'a str) -> Option<&'a str>
         None => Some(rest),
         Some(byte) => value_past(byte, rest),
     }
+}
+
+// Whether `word` may begin with `text`: it is as long, and has the same byte where `text` ends. It tells
+// most rows of a table from the one that a word chooses, without a comparison of texts.
+fn may_begin(text: &str, word: &str) -> bool
+    ensures { result ≡ false → rest_after text.now word.now ≡ None }
+{
+    let (text, word) = (text.as_bytes(), word.as_bytes());
+    let length = text.len();
+    length <= word.len() && (length == 0 || text[length - 1] == word[length - 1])
 }
 
 impl<T: Copy> ArgInfo<T> {
@@ -185,7 +195,7 @@ impl<'a, T: Copy> SearchableArgInfo<T> for Table<'a, T> {
     fn search(&self, word: &str) -> Option<&ArgInfo<T>> {
         let mut best = None;
         for row in self.rows {
-            if row.matches(word).is_some() && is_longer(row, best) {
+            if may_begin(row.text(), word) && row.matches(word).is_some() && is_longer(row, best) {
                 best = Some(row);
             }
         }

@@ -1,63 +1,68 @@
 //! What reading a device tool's line gathers, item by item.
 
-ghost use Rattle.std.specs.Prelude.{◌≡◌, true, false, IfOk, OnOk};
+ghost use Rattle.std.specs.Prelude.{◌≡◌, ◌∷◌, [], true, false, IfOk, OnOk, string_bytes};
 ghost use Rattle.std.specs.List.{fold};
-ghost use Rattle.option_items.specs.ArgsIter.{words_left, table_of};
-ghost use Rattle.option_items.specs.Items.{items, item_of, item_read};
+ghost use Rattle.option_items.specs.Items.{items};
+ghost use Rattle.option_items.specs.Views.{item_seen, item_viewed};
+ghost use Rattle.cuda_below.specs.Compiler.{accepted, reading_of};
 ghost use Rattle.cuda_below.specs.Outputs.{with_entry};
 ghost use Rattle.texts.specs.Path.{joined};
 ghost use Rattle.device_lines.specs.Reading as spec;
 
 use crate::options::ArgData;
-use cuda_below::arguments::ParsedArguments;
+use cuda_below::arguments::{CompilerArguments, ParsedArguments};
 use cuda_below::outputs::{ArtifactDescriptor, OBJ, Outputs};
-use option_items::items::{ArgParseError, ArgsIter, Argument};
+use option_items::items::{ArgParseError, Line};
 use option_items::table::SearchableArgInfo;
+use option_items::views::{ArgumentView, view_item};
 use std::alloc::{AllocError, Global};
+use std::marker::Model;
 use texts::language::Language;
 use texts::text::{Text, join};
 use texts::words::Words;
 
+/// A path as a line gives it, which stands in one of the line's words.
+#[derive(Debug, Drop)]
+pub struct GivenPath<'a> {
+    text: &'a str,
+}
+
+impl<'a> Model for GivenPath<'a> {
+    ghost use Rattle.std.specs.Prelude.{List, ℕ};
+
+    ghost Value = { List ℕ };
+
+    ghost view = { λ p. p.text.now };
+}
+
+// A list of one word.
+fn one_word(alloc: Global, word: String) -> Result<Words, AllocError>
+    ensures { IfOk result (λ w. w ≡ string_bytes word ∷ []) }
+{
+    let mut words = Words::with_capacity(alloc, 1)?;
+    words.push(word)?;
+    Ok(words)
+}
+
 /// The words and files of the items so far.
 #[derive(Debug, Drop)]
-pub struct Gathered {
+pub struct Gathered<'a> {
     pub common: Words,
     pub unhashed: Words,
     pub outputs: Outputs,
     /// The path of the module id file, as the line gave it last.
-    pub module_id: Option<Text>,
+    pub module_id: Option<GivenPath<'a>>,
     /// Whether the tool makes the module id file.
     pub makes_module_id: bool,
     /// Whether the last item was an unknown flag, whose value a raw word after it may be.
     pub after_unknown: bool,
 }
 
-impl Gathered {
+impl<'a> Gathered<'a> {
     ghost use Rattle.device_lines.specs.Gathered.{nothing_gathered, with_item, is_option, reading_of_gathered};
 
-    /// Takes all items of a line of `count` words.
-    pub fn from_line<S: SearchableArgInfo<ArgData> + Drop>(
-        alloc: Global,
-        cwd: &str,
-        count: usize,
-        line: ArgsIter<'_, S, ArgData>,
-    ) -> Result<Gathered, AllocError>
-        ensures { IfOk result (λ g. g
-            ≡ fold (with_item cwd.now) nothing_gathered (items (S.chosen (table_of line.entry)) (words_left line.entry))) }
-    {
-        let mut line = line;
-        let mut gathered = Gathered::with_capacity(alloc, count)?;
-        while let Some(item) = line.next() {
-            gathered.take(alloc, cwd, item)?;
-        }
-        if line.refused() {
-            return Err(AllocError);
-        }
-        Ok(gathered)
-    }
-
-    // Nothing yet, with room for `count` common words.
-    fn with_capacity(alloc: Global, count: usize) -> Result<Gathered, AllocError>
+    /// Nothing yet, with room for `count` common words.
+    pub fn with_capacity(alloc: Global, count: usize) -> Result<Gathered<'a>, AllocError>
         ensures { IfOk result (λ g. g ≡ nothing_gathered) }
     {
         Ok(Gathered {
@@ -68,6 +73,25 @@ impl Gathered {
             makes_module_id: false,
             after_unknown: false,
         })
+    }
+
+    /// Takes all items of a line. On an error some of them may be there.
+    pub fn take_line<S: SearchableArgInfo<ArgData>>(
+        &mut self,
+        alloc: Global,
+        cwd: &str,
+        line: Line<'a>,
+        table: &S,
+    ) -> Result<(), AllocError>
+        ensures { OnOk result (self.new ≡ fold (with_item cwd.now) self.old (items (S.chosen table.now) line.entry)) }
+    {
+        let mut line = line;
+        while let Some(word) = line.next_word() {
+            let row = table.search(word);
+            let item = view_item(row, word, &mut line);
+            self.take(alloc, cwd, item)?;
+        }
+        Ok(())
     }
 
     // Records the file that an option names, joined to the working directory.
@@ -95,59 +119,61 @@ impl Gathered {
         &mut self,
         alloc: Global,
         cwd: &str,
-        item: Result<Argument<ArgData>, ArgParseError>,
+        item: Result<ArgumentView<'a, ArgData>, ArgParseError>,
     ) -> Result<(), AllocError>
-        ensures { OnOk result (self.new ≡ with_item cwd.now self.old (item_read item)) }
+        ensures { OnOk result (self.new ≡ with_item cwd.now self.old (item_viewed item.entry)) }
     {
         let after_unknown = self.after_unknown;
         self.after_unknown = false;
         match item {
             Err(_) => Ok(()),
-            Ok(Argument::Raw(word)) => {
+            Ok(ArgumentView::Raw(word)) => {
                 if after_unknown {
-                    self.common.push(word)
+                    self.common.push_str(alloc, word)
                 } else {
                     Ok(())
                 }
             }
-            Ok(Argument::UnknownFlag(word)) => {
+            Ok(ArgumentView::UnknownFlag(word)) => {
                 self.after_unknown = true;
-                self.common.push(word)
+                self.common.push_str(alloc, word)
             }
             Ok(option) => self.take_option(alloc, cwd, option),
         }
     }
 
-    // Takes an option of the table, which is no unknown flag.
+    // Takes an option of the table, of this kind, text and value.
     fn take_option(
         &mut self,
         alloc: Global,
         cwd: &str,
-        option: Argument<ArgData>,
+        option: ArgumentView<'a, ArgData>,
     ) -> Result<(), AllocError>
-        requires option { is_option (item_of option) ≡ true }
+        requires option { is_option (item_seen option) ≡ true }
         requires goes_on { self.old.after_unknown ≡ false }
-        ensures { OnOk result (self.new ≡ with_item cwd.now self.old (item_of option)) }
+        ensures { OnOk result (self.new ≡ with_item cwd.now self.old (item_seen option.entry)) }
     {
-        let (Some(kind), Some(text)) = (option.get_data().copied(), option.flag_str()) else {
-            return Ok(());
+        let (kind, text, value) = match option {
+            ArgumentView::Raw(_) | ArgumentView::UnknownFlag(_) => return Ok(()),
+            ArgumentView::Flag(text, kind) => (kind, text, ""),
+            ArgumentView::WithValue(text, kind, value, _) => (kind, text, value),
         };
         match kind {
-            ArgData::Output => self.record(alloc, OBJ, cwd, option.value()),
+            ArgData::Output => self.record(alloc, OBJ, cwd, value),
             ArgData::PassThrough => option.write(alloc, &mut self.common),
             ArgData::GenModuleIdFileFlag => {
                 self.makes_module_id = true;
                 option.write(alloc, &mut self.common)
             }
             ArgData::ModuleIdFileName => {
-                self.module_id = Some(Text::copy_of(alloc, option.value())?);
+                self.module_id = Some(GivenPath { text: value });
                 option.write(alloc, &mut self.common)
             }
             ArgData::UnhashedFlag | ArgData::UnhashedPassThrough => {
                 option.write(alloc, &mut self.unhashed)
             }
             ArgData::UnhashedOutput => {
-                self.record(alloc, text, cwd, option.value())?;
+                self.record(alloc, text, cwd, value)?;
                 option.write(alloc, &mut self.unhashed)
             }
         }
@@ -165,7 +191,7 @@ impl Gathered {
         if !self.makes_module_id {
             return Ok(());
         }
-        let path = Text::new(join(alloc, cwd, path.as_str())?);
+        let path = Text::new(join(alloc, cwd, path.text)?);
         let made = ArtifactDescriptor {
             path,
             optional: true,
@@ -173,39 +199,41 @@ impl Gathered {
         self.outputs.insert("--module_id_file_name", made)
     }
 
-    // The module id file, if the tool reads it.
-    fn module_id_file(&self, alloc: Global, cwd: &str) -> Result<Words, AllocError>
-        ensures { IfOk result (λ w. w ≡ spec.module_id_file cwd.now self.now.makes_module_id self.now.module_id) }
+    // The module id file, if the tool reads it, in two lists.
+    fn module_id_files(&self, alloc: Global, cwd: &str) -> Result<(Words, Words), AllocError>
+        ensures first { IfOk result (λ w. w.0 ≡ spec.module_id_file cwd.now self.now.makes_module_id self.now.module_id) }
+        ensures second { IfOk result (λ w. w.1 ≡ spec.module_id_file cwd.now self.now.makes_module_id self.now.module_id) }
     {
-        let mut files = Words::new(alloc);
-        if let Some(path) = &self.module_id
-            && !self.makes_module_id
-        {
-            files.push(join(alloc, cwd, path.as_str())?)?;
+        match &self.module_id {
+            Some(path) if !self.makes_module_id => {
+                let path = join(alloc, cwd, path.text)?;
+                let copy = String::from_str(alloc, path.as_str())?;
+                Ok((one_word(alloc, path)?, one_word(alloc, copy)?))
+            }
+            _ => Ok((Words::new(alloc), Words::new(alloc))),
         }
-        Ok(files)
     }
 
-    /// The arguments that were read, when all items are taken.
-    pub fn into_arguments(
+    /// The answer of a reader that has taken all items, and whose input is `input`.
+    pub fn into_answer(
         self,
         alloc: Global,
         cwd: &str,
         language: Language,
-        input: Text,
-    ) -> Result<ParsedArguments, AllocError>
-        ensures { IfOk result (λ p. p ≡ reading_of_gathered cwd.now language input self) }
+        input: &str,
+    ) -> Result<CompilerArguments<ParsedArguments>, AllocError>
+        ensures { IfOk result (λ r. reading_of r ≡ accepted (reading_of_gathered cwd.now language input.now self.entry)) }
     {
         let mut gathered = self;
         gathered.record_module_id(alloc, cwd)?;
-        let extra_dist_files = gathered.module_id_file(alloc, cwd)?;
-        let extra_hash_files = extra_dist_files.try_clone(alloc)?;
-        Ok(ParsedArguments {
+        let (extra_dist_files, extra_hash_files) = gathered.module_id_files(alloc, cwd)?;
+        let input = Text::copy_of(alloc, input)?;
+        Ok(CompilerArguments::Ok(ParsedArguments {
             common_args: gathered.common,
             unhashed_args: gathered.unhashed,
             extra_dist_files,
             extra_hash_files,
             ..ParsedArguments::of(alloc, input, language, gathered.outputs)
-        })
+        }))
     }
 }

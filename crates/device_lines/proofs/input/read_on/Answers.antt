@@ -1,4 +1,4 @@
-use Rattle.std.proofs.Common.{◌≡◌, [], false, true, sym, ◌∙◌, append-nil, rules}
+use Rattle.std.proofs.Common.{◌≡◌, [], sym, ◌∙◌, append-nil, rules}
 use Rattle.std.proofs.lemmas.Bool.{false≢true}
 use Rattle.std.specs.declared.io.ErrorKind.TheVariants.{Interrupted}
 use Rattle.std.specs.contracts.io.ErrorKind as kind
