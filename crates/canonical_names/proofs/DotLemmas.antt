@@ -18,7 +18,7 @@ dot-first [] h = absurd (false≢true h)
 dot-first (c ∷ cs) h = ap (λ d. d ∷ cs) (eqb-true c 46 (and_parts (eqb c 46) _ h).0)
 
 -- no text is as short as that of which a longer one is a part
-held-short : (s text : List ℕ) → holds s text ≡ true → length s ≤ length text
+pub held-short : (s text : List ℕ) → holds s text ≡ true → length s ≤ length text
 held-short s text h =
     let split = holds-split s text h in
     let all : length text ≡ length split.0 + length (s ++ split.1) = ap length split.2 ∙ length-append split.0 (s ++ split.1) in

@@ -20,4 +20,4 @@ pub mod ReferenceLemmas
 pub mod AppearanceLemmas
 pub mod PlaceLemmas
 pub mod RemapLemmas
-pub mod LongestLemmas
+pub mod LengthLemmas

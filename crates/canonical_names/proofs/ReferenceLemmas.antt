@@ -65,12 +65,10 @@ pairs-some : (f : List ℕ → List ℕ) (names : List (List ℕ)) → AllByRecu
 pairs-some f [] h = tt
 pairs-some f (n ∷ names) h = (h.0, pairs-some f names h.1)
 
-pub references-some : (suffixes names : List (List ℕ)) (pairs : List (List ℕ × List ℕ)) → are_suffixes suffixes ≡ true → list_all (has_class suffixes) names ≡ true → pairs ≡ map (with_canonical suffixes names) names →
-    AllByRecursion (λ (p : List ℕ × List ℕ). 0 < length p.0) (longest_pairs_first pairs)
-references-some suffixes names pairs accepted classes is =
-    let f = canonical_name suffixes names in
-    subst (AllByRecursion (λ (p : List ℕ × List ℕ). 0 < length p.0)) (sym (ap longest_pairs_first is ∙ fold-mapped f names []))
-    (pairs-some f (longest_first names) (fold-each (λ n. 0 < length n) names [] (names-some suffixes accepted names classes) tt))
+pub pairs-named : (suffixes names : List (List ℕ)) (pairs : List (List ℕ × List ℕ)) → are_suffixes suffixes ≡ true → list_all (has_class suffixes) names ≡ true → pairs ≡ map (with_canonical suffixes names) names →
+    AllByRecursion (λ (p : List ℕ × List ℕ). 0 < length p.0) pairs
+pairs-named suffixes names pairs accepted classes is =
+    subst (AllByRecursion (λ (p : List ℕ × List ℕ). 0 < length p.0)) (sym is) (pairs-some (canonical_name suffixes names) names (names-some suffixes accepted names classes))
 
 -- A text that holds no suffix holds no name: names end in a suffix.
 pub name-needs_suffix : (suffixes : List (List ℕ)) (text n : List ℕ) → has_class suffixes n ≡ true → list_any (λ s. holds s text) suffixes ≡ false → holds n text ≡ false

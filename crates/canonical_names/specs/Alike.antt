@@ -47,4 +47,5 @@ pub record IsRenaming (suffixes names : List (List ℕ)) (f : List ℕ → List 
 -- the names through the renaming, and the cores of all other words
 abbrev pub Alike : List (List ℕ) → List CommandLine → List CommandLine → Type 0
 Alike suffixes first second =
-    (f : List ℕ → List ℕ) × IsRenaming suffixes (names_of_run suffixes first) f × (map (command_through suffixes f) first ≡ map (command_through suffixes (λ n. n)) second)
+    (f : List ℕ → List ℕ) × IsRenaming suffixes (names_of_run suffixes first) f
+    × (map (command_through suffixes f) first ≡ map (command_through suffixes (λ n. n)) second)

@@ -41,12 +41,15 @@ back name = codes "kernel" ++ drop 2 name
 
 -- what is shown name by name
 Kept : List ℕ → Type 0
-Kept n = (back (elsewhere n) ≡ n) × (folder_of (elsewhere n) ≡ folder_of n) × (class_of_name standard_suffixes (elsewhere n) ≡ class_of_name standard_suffixes n)
+Kept n = (back (elsewhere n) ≡ n) × (folder_of (elsewhere n) ≡ folder_of n)
+    × (class_of_name standard_suffixes (elsewhere n) ≡ class_of_name standard_suffixes n)
 
 kept : (n : List ℕ) → Contains (names_of_run standard_suffixes one_kernel_commands) n → Kept n
 unfolding Kept elsewhere back
 kept n among =
-    All-contains Kept (names_of_run standard_suffixes one_kernel_commands) n (All-from_recursion Kept (names_of_run standard_suffixes one_kernel_commands) (((refl, refl, refl), ((refl, refl, refl), ((refl, refl, refl), ((refl, refl, refl), ((refl, refl, refl), tt))))))) among
+    All-contains Kept (names_of_run standard_suffixes one_kernel_commands) n
+    (All-from_recursion Kept (names_of_run standard_suffixes one_kernel_commands)
+    (((refl, refl, refl), ((refl, refl, refl), ((refl, refl, refl), ((refl, refl, refl), ((refl, refl, refl), tt))))))) among
 
 pub one_kernel_is_alike : OneKernelIsAlike
 unfolding elsewhere back Kept
@@ -63,7 +66,8 @@ one_kernel_is_alike = (
 -- two runs of three words are not alike where the last is the first name in one, and the second name in the other
 abbrev pub OtherPatternIsNotAlike : Type 0
 OtherPatternIsNotAlike =
-    ¬ Alike standard_suffixes (run_with (codes "a.cudafe1.c" ∷ codes "b.cudafe1.c" ∷ codes "a.cudafe1.c" ∷ [])) (run_with (codes "a.cudafe1.c" ∷ codes "b.cudafe1.c" ∷ codes "b.cudafe1.c" ∷ []))
+    ¬ Alike standard_suffixes (run_with (codes "a.cudafe1.c" ∷ codes "b.cudafe1.c" ∷ codes "a.cudafe1.c" ∷ []))
+    (run_with (codes "a.cudafe1.c" ∷ codes "b.cudafe1.c" ∷ codes "b.cudafe1.c" ∷ []))
 
 -- the one-kernel dry run and the same run in the folder `/t` are shadows there; a run is no shadow of itself
 abbrev pub OneKernelHasAShadow : Type 0

@@ -52,7 +52,8 @@ before_name name (n ∷ names) = if bytes_eq n name then [] else n ∷ before_na
 abbrev pub RankCountsNames : Type 0
 RankCountsNames =
     (suffixes : List (List ℕ)) (commands : List CommandLine) (name class : List ℕ) →
-    rank class (names_of_run suffixes commands) name ≡ length (filter (λ n. ends_with nat_eq n class) (different_ones (before_name name (appearances suffixes commands))))
+    rank class (names_of_run suffixes commands) name
+    ≡ length (filter (λ n. ends_with nat_eq n class) (different_ones (before_name name (appearances suffixes commands))))
 
 -- a word, and the words of a command, renamed by all names of the run
 abbrev pub core_by_all : List (List ℕ) → List ℕ → Option (List ℕ) → List ℕ

@@ -3,7 +3,6 @@ pub mod AlikeRows
 pub mod CanonicalNames
 pub mod Counted
 pub mod Generated
-pub mod LongestView
 pub mod References
 pub mod Renaming
 pub mod RenamingNeeds

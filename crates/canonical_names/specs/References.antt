@@ -1,11 +1,7 @@
 -- References to generated names within words.
-use Rattle.std.specs.Prelude.{ℕ, List, [], ◌∷◌, nat_lt, fold, length, if◌then◌else◌}
+use Rattle.std.specs.Prelude.{ℕ, List, [], ◌∷◌, ◌==◌, ◌&&◌, nat_lt, nat_le, fold, length, if◌then◌else◌}
 use Rattle.dry_runs.specs.Replacing.{replaced}
-use Rattle.canonical_names.specs.declared.references.Reference.{Reference}
-
--- a name and its canonical name, as a reference holds them
-abbrev pub reference_seen : Reference → List ℕ × List ℕ
-reference_seen r = (r.name.now, r.canonical.now)
+use Rattle.canonical_names.specs.Alike.{holds}
 
 -- a text with the names of some pairs replaced by what they became, one after the other
 abbrev pub replaced_by : List ℕ → List ℕ × List ℕ → List ℕ
@@ -22,3 +18,17 @@ insert_pair (q ∷ qs) p = if nat_lt (length q.0) (length p.0) then p ∷ q ∷ 
 -- pairs, those of the longest names first
 abbrev pub longest_pairs_first : List (List ℕ × List ℕ) → List (List ℕ × List ℕ)
 longest_pairs_first pairs = fold insert_pair [] pairs
+
+-- a text with the names of so many bytes replaced, in their order
+abbrev pub replaced_of : ℕ → List ℕ → List ℕ × List ℕ → List ℕ
+replaced_of k text p = if length p.0 == k then replaced p.0 p.1 text else text
+
+abbrev pub replaced_by_length : ℕ → List (List ℕ × List ℕ) → List ℕ → List ℕ
+replaced_by_length k pairs text = fold (replaced_of k) text pairs
+
+-- how long the longest name is that stands in a text and has at most so many bytes; 0 where none does
+abbrev pub longer : List ℕ → ℕ → ℕ → List ℕ → ℕ
+longer text most best name = if nat_lt best (length name) && (nat_le (length name) most && holds name text) then length name else best
+
+abbrev pub longest_in : List ℕ → ℕ → List (List ℕ) → ℕ
+longest_in text most names = fold (longer text most) 0 names

@@ -79,7 +79,8 @@ with_words command words = (line_of command, program_of command, words)
 abbrev pub renamed_after : List (List ℕ) → List (List ℕ) → List CommandLine → List CommandLine
 renamed_after suffixes seen [] = []
 renamed_after suffixes seen (command ∷ commands) =
-    with_words command (renamed_words suffixes seen (words_of_command command)) ∷ renamed_after suffixes (seen_after suffixes seen (words_of_command command)) commands
+    with_words command (renamed_words suffixes seen (words_of_command command))
+    ∷ renamed_after suffixes (seen_after suffixes seen (words_of_command command)) commands
 
 -- the canonical run: the commands of a run with all of their words renamed
 abbrev pub renamed : List (List ℕ) → List CommandLine → List CommandLine

@@ -40,22 +40,28 @@ abbrev pub AreCleanByAnyMap : List (List ℕ) → List CommandLine → List Comm
 AreCleanByAnyMap suffixes first second = (is_clean suffixes first ≡ true) × (is_clean suffixes second ≡ true) × AlikeByAnyMap suffixes first second
 
 abbrev pub AreCleanInOtherFolders : List (List ℕ) → List CommandLine → List CommandLine → Type 0
-AreCleanInOtherFolders suffixes first second = (is_clean suffixes first ≡ true) × (is_clean suffixes second ≡ true) × AlikeInOtherFolders suffixes first second
+AreCleanInOtherFolders suffixes first second =
+    (is_clean suffixes first ≡ true) × (is_clean suffixes second ≡ true) × AlikeInOtherFolders suffixes first second
 
 -- runs that are alike in some way have one canonical run
 abbrev pub Agree : (List (List ℕ) → List CommandLine → List CommandLine → Type 0) → Type 0
-Agree Relation = (suffixes : List (List ℕ)) → AreSuffixes suffixes → (first second : List CommandLine) → Relation suffixes first second → renamed suffixes first ≡ renamed suffixes second
+Agree Relation =
+    (suffixes : List (List ℕ)) → AreSuffixes suffixes → (first second : List CommandLine) →
+    Relation suffixes first second → renamed suffixes first ≡ renamed suffixes second
 
 -- runs that have one canonical run are alike, where the first, or the second, need not be clean
 abbrev pub OneRunIsAlikeFirstUnclean : Type 0
 OneRunIsAlikeFirstUnclean =
-    (suffixes : List (List ℕ)) → AreSuffixes suffixes → (first second : List CommandLine) → is_clean suffixes second ≡ true → renamed suffixes first ≡ renamed suffixes second → Alike suffixes first second
+    (suffixes : List (List ℕ)) → AreSuffixes suffixes → (first second : List CommandLine) →
+    is_clean suffixes second ≡ true → renamed suffixes first ≡ renamed suffixes second → Alike suffixes first second
 
 abbrev pub OneRunIsAlikeSecondUnclean : Type 0
 OneRunIsAlikeSecondUnclean =
-    (suffixes : List (List ℕ)) → AreSuffixes suffixes → (first second : List CommandLine) → is_clean suffixes first ≡ true → renamed suffixes first ≡ renamed suffixes second → Alike suffixes first second
+    (suffixes : List (List ℕ)) → AreSuffixes suffixes → (first second : List CommandLine) →
+    is_clean suffixes first ≡ true → renamed suffixes first ≡ renamed suffixes second → Alike suffixes first second
 
 -- every run is renamed once for all, clean or not
 abbrev pub EveryRunIsRenamedOnce : Type 0
 EveryRunIsRenamedOnce =
-    (suffixes : List (List ℕ)) → AreSuffixes suffixes → (commands : List CommandLine) → renamed suffixes (renamed suffixes commands) ≡ renamed suffixes commands
+    (suffixes : List (List ℕ)) → AreSuffixes suffixes → (commands : List CommandLine) →
+    renamed suffixes (renamed suffixes commands) ≡ renamed suffixes commands

@@ -101,7 +101,9 @@ beginning_is_taken_for_the_name = refl
 
 -- a suffix of the caller's own names files too: that of the source file renames the source file
 abbrev pub SourceFileIsRenamed : Type 0
-SourceFileIsRenamed = renamed_words (codes ".cu" ∷ standard_suffixes) [] (codes "kernel.cu" ∷ codes "-o" ∷ codes "kernel.cpp1.ii" ∷ []) ≡ codes "x_0.cu" ∷ codes "-o" ∷ codes "x_0.cpp1.ii" ∷ []
+SourceFileIsRenamed =
+    renamed_words (codes ".cu" ∷ standard_suffixes) [] (codes "kernel.cu" ∷ codes "-o" ∷ codes "kernel.cpp1.ii" ∷ [])
+    ≡ codes "x_0.cu" ∷ codes "-o" ∷ codes "x_0.cpp1.ii" ∷ []
 
 pub source_file_is_renamed : SourceFileIsRenamed
 source_file_is_renamed = refl

@@ -35,8 +35,8 @@ ShadowIsStepShadow =
 -- the inputs of cicc in one run, and the same ones in the folder in the other, have one rank, and so one canonical file name
 abbrev pub StepNamesKeepRank : Type 0
 StepNamesKeepRank =
-    (suffixes : List (List ℕ)) → AreSuffixes suffixes → (first second : List CommandLine) (folder : List ℕ) → is_step_shadow suffixes first second folder ≡ true →
-    (name : List ℕ) → is_bare name ≡ true → is_cicc_word name ≡ true →
+    (suffixes : List (List ℕ)) → AreSuffixes suffixes → (first second : List CommandLine) (folder : List ℕ) →
+    is_step_shadow suffixes first second folder ≡ true → (name : List ℕ) → is_bare name ≡ true → is_cicc_word name ≡ true →
     rank (codes ".cpp1.ii") (names_of_run suffixes first) name ≡ rank (codes ".cpp1.ii") (names_of_run suffixes second) (joined folder name)
 
 -- of plain outputs only an input of cicc gets a canonical file name of its class, and that of its own rank
@@ -50,7 +50,11 @@ PlainOutputsStayApart =
 abbrev pub bare_stub_commands : List CommandLine
 bare_stub_commands =
     map
-    (λ c. if c.0 == 2 then (2, codes "/b/cudafe++", spaced "--gen_c_file_name /t/kernel.cudafe1.cpp --stub_file_name kernel.cudafe1.stub.c --module_id_file_name kernel.module_id --simt-only /t/kernel.cpp4.ii") else c)
+    (λ c. if c.0 == 2 then (
+      2,
+      codes "/b/cudafe++",
+      spaced "--gen_c_file_name /t/kernel.cudafe1.cpp --stub_file_name kernel.cudafe1.stub.c --module_id_file_name kernel.module_id --simt-only /t/kernel.cpp4.ii",
+    ) else c)
     one_kernel_in_temporary_commands
 
 -- the one-kernel dry run and the same run in the folder `/t` are shadows as far as the inputs of cicc go, and still are where

@@ -1,22 +1,15 @@
 //! Words that refer to generated files.
 
-ghost use Rattle.std.specs.Prelude.{◌≡◌, ◌<◌, [], length, IfOk, OnOk, string_bytes};
+ghost use Rattle.std.specs.Prelude.{◌≡◌, ◌<◌, map, length, IfOk, string_bytes};
 ghost use Rattle.std.specs.List.{AllByRecursion};
+ghost use Rattle.texts.specs.Variables.{pair_of};
 ghost use Rattle.canonical_names.specs.Alike as alike;
+ghost use Rattle.canonical_names.specs.Counted.{old_names};
 ghost use Rattle.canonical_names.specs.References as spec;
 ghost use Rattle.dry_runs.specs.Replacing.{replaced};
 
+use indexmap::IndexMap;
 use std::alloc::{AllocError, Global};
-use std::cmp::Reverse;
-use std::collections::BTreeMap;
-use std::marker::Model;
-
-/// A name that was seen, and its canonical name.
-#[derive(Clone, Copy, Debug)]
-pub(crate) struct Reference<'a> {
-    pub(crate) name: &'a str,
-    pub(crate) canonical: &'a str,
-}
 
 // Whether `part` stands somewhere in `text`.
 pub(crate) fn holds(text: &str, part: &str) -> bool
@@ -33,69 +26,66 @@ fn replace(alloc: Global, text: &str, old: &str, new: &str) -> Result<String, Al
     text.replace(alloc, old, new)
 }
 
-// `text` with the name of one reference replaced, and no other text where it doesn't hold that.
-fn replace_reference(
-    alloc: Global,
-    text: String,
-    reference: Reference<'_>,
-) -> Result<String, AllocError>
-    requires { 0 < length reference.name.now }
-    ensures { IfOk result (λ t. string_bytes t ≡ replaced reference.entry.name.now reference.entry.canonical.now (string_bytes text)) }
+// `text` with `old`, which isn't empty, replaced, and no other text where it doesn't hold that.
+fn replace_held(alloc: Global, text: String, old: &str, new: &str) -> Result<String, AllocError>
+    requires { 0 < length old.now }
+    ensures { IfOk result (λ t. string_bytes t ≡ replaced old.now new.now (string_bytes text)) }
 {
-    if !holds(text.as_str(), reference.name) {
+    if !holds(text.as_str(), old) {
         return Ok(text);
     }
-    replace(alloc, text.as_str(), reference.name, reference.canonical)
+    replace(alloc, text.as_str(), old, new)
 }
 
-/// References, those of the longest names first, and of equally long ones the one that was put in first.
-/// Contracts see each name with its canonical name.
-#[derive(Drop)]
-pub(crate) struct LongestFirst<'a> {
-    // Each by the length of its name and by how many were there before it.
-    references: BTreeMap<(Reverse<usize>, usize), Reference<'a>>,
-}
-
-impl<'a> Model for LongestFirst<'a> {
-    ghost use Rattle.std.specs.Prelude.{List, ℕ, map, length};
-    ghost use Rattle.canonical_names.specs.References.{reference_seen};
-    ghost use Rattle.canonical_names.specs.LongestView.{entry_seen, IsKeyed};
-
-    ghost Value = { List (List ℕ × List ℕ) };
-
-    ghost view = { λ r. map entry_seen r.references.entries };
-
-    ghost invariant = { λ r. IsKeyed (length r.references.entries) r.references.entries };
-}
-
-impl<'a> LongestFirst<'a> {
-    /// No references.
-    pub(crate) fn new(alloc: Global) -> LongestFirst<'a>
-        ensures { result ≡ [] }
-    {
-        LongestFirst {
-            references: BTreeMap::new(alloc),
+// `text` with each name of `length` bytes replaced by its canonical name, in their order.
+fn replace_of(
+    alloc: Global,
+    names: &IndexMap<String, String>,
+    text: String,
+    length: usize,
+) -> Result<String, AllocError>
+    requires { 0 < length }
+    ensures { IfOk result (λ t. string_bytes t ≡ spec.replaced_by_length length (map pair_of names.now.entries) (string_bytes text)) }
+{
+    let mut new = text;
+    for (name, canonical) in names.iter() {
+        if name.len() == length {
+            new = replace_held(alloc, new, name.as_str(), canonical.as_str())?;
         }
     }
+    Ok(new)
+}
 
-    /// Puts a reference behind all whose names are at least as long.
-    pub(crate) fn insert(&mut self, reference: Reference<'a>) -> Result<(), AllocError>
-        ensures { OnOk result (self.new ≡ spec.insert_pair self.old (spec.reference_seen reference.entry)) }
-    {
-        let key = (Reverse(reference.name.len()), self.references.len());
-        self.references.insert(key, reference)?;
-        Ok(())
-    }
-
-    /// `text` with the names of the references replaced, one after the other.
-    pub(crate) fn rewrite(&self, alloc: Global, text: &str) -> Result<String, AllocError>
-        requires { AllByRecursion (λ p. 0 < length p.0) self.now }
-        ensures { IfOk result (λ t. string_bytes t ≡ spec.replaced_by_all self.now text.now) }
-    {
-        let mut rewritten = String::from_str(alloc, text)?;
-        for (_, reference) in self.references.iter() {
-            rewritten = replace_reference(alloc, rewritten, *reference)?;
+// How long the longest name is that stands in `text` and has at most `most` bytes; 0 where none does.
+fn longest_in(names: &IndexMap<String, String>, text: &str, most: usize) -> usize
+    ensures { result ≡ spec.longest_in text.now most (old_names (map pair_of names.now.entries)) }
+{
+    let mut best = 0;
+    for (name, _) in names.iter() {
+        if best < name.len() && name.len() <= most && holds(text, name.as_str()) {
+            best = name.len();
         }
-        Ok(rewritten)
     }
+    best
+}
+
+/// `text` with each name of a map, none of which is empty, replaced by its canonical name: the longest
+/// name first, and of equally long ones the one that was put in first.
+///
+/// Only the lengths of names that stand in the text are visited, so the names need no order.
+pub(crate) fn rewrite(
+    alloc: Global,
+    names: &IndexMap<String, String>,
+    text: &str,
+) -> Result<String, AllocError>
+    requires { AllByRecursion (λ p. 0 < length p.0) (map pair_of names.now.entries) }
+    ensures { IfOk result (λ t. string_bytes t ≡ spec.replaced_by_all (spec.longest_pairs_first (map pair_of names.now.entries)) text.now) }
+{
+    let mut new = String::from_str(alloc, text)?;
+    let mut longest = longest_in(names, text, text.len());
+    while longest > 0 {
+        new = replace_of(alloc, names, new, longest)?;
+        longest = longest_in(names, new.as_str(), longest - 1);
+    }
+    Ok(new)
 }

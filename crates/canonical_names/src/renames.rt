@@ -1,20 +1,20 @@
 //! The canonical names of generated files.
 
-ghost use Rattle.std.specs.Prelude.{◌≡◌, ◌⊎◌, ◌<◌, ◌∷◌, [], ◌++◌, ⊤, map, length, codes, IfOk, OnOk, OnErr, MatchOption, Some, None, if◌then◌else◌, false, true, replicate, ◌^◌, IsTrue, string_bytes};
+ghost use Rattle.std.specs.Prelude.{◌≡◌, ◌⊎◌, ◌<◌, ◌∷◌, [], ◌++◌, ⊤, map, length, codes, IfOk, OnOk, OnErr, MatchOption, Some, None, if◌then◌else◌, false, true, replicate, ◌^◌, ◌==◌, IsTrue, string_bytes};
 ghost use Rattle.std.specs.List.{list_any, slice_get};
 ghost use Rattle.std.specs.Str.{bytes_eq};
 ghost use Rattle.texts.specs.Lists.{with_name};
 ghost use Rattle.texts.specs.Path.{joined, folder_of};
 ghost use Rattle.texts.specs.Variables.{pair_of};
 ghost use Rattle.canonical_names.specs.Generated as generated;
-ghost use Rattle.canonical_names.specs.Counted.{decimal_file, IsCount};
-ghost use Rattle.canonical_names.specs.References.{longest_pairs_first};
+ghost use Rattle.canonical_names.specs.Counted.{decimal_file, with_canonical, IsCount};
 ghost use Rattle.canonical_names.specs.Renaming as spec;
 
-use crate::references::{LongestFirst, Reference};
+use crate::references::rewrite;
 use crate::suffixes::Suffixes;
 use crate::words::{begins_with_dash, is_marked};
 use indexmap::IndexMap;
+use indexmap::map::Iter;
 use std::alloc::{AllocError, Global};
 use std::marker::Model;
 use texts::text::{folder, join};
@@ -83,6 +83,27 @@ impl Renames {
             names,
             counts,
         })
+    }
+
+    /// How many names were seen.
+    pub fn len(&self) -> usize
+        ensures { result ≡ length self.now.1 }
+    {
+        self.names.len()
+    }
+
+    /// Whether no name was seen.
+    pub fn is_empty(&self) -> bool
+        ensures { result ≡ (length self.now.1 == 0) }
+    {
+        self.len() == 0
+    }
+
+    /// Each name that was seen with its canonical name, in the order of their first appearance.
+    pub fn iter(&self) -> Iter<'_, String, String>
+        ensures { map pair_of result ≡ map (with_canonical self.now.0 self.now.1) self.now.1 }
+    {
+        self.names.iter()
     }
 
     // Whether a word surely stays as it is: it begins with no `-Fi`, and holds no suffix, so it has no
@@ -188,24 +209,6 @@ impl Renames {
         if !self.suffixes.stand_in(text) {
             return String::from_str(alloc, text);
         }
-        let references = longest_first(alloc, &self.names)?;
-        references.rewrite(alloc, text)
+        rewrite(alloc, &self.names, text)
     }
-}
-
-// Each name of a map with its canonical name, those of the longest names first.
-fn longest_first<'a>(
-    alloc: Global,
-    names: &'a IndexMap<String, String>,
-) -> Result<LongestFirst<'a>, AllocError>
-    ensures { IfOk result (λ r. r ≡ longest_pairs_first (map pair_of names.now.entries)) }
-{
-    let mut references = LongestFirst::new(alloc);
-    for (name, canonical) in names.iter() {
-        references.insert(Reference {
-            name: name.as_str(),
-            canonical: canonical.as_str(),
-        })?;
-    }
-    Ok(references)
 }

@@ -1,14 +1,14 @@
-use Rattle.std.proofs.Common.{◌≡◌, ◌<◌, ℕ, List, map, length, ap, ◌∙◌, subst, sym, false, string_bytes, String}
+use Rattle.std.proofs.Common.{◌≡◌, ℕ, List, map, ◌∙◌, subst, sym, false, string_bytes, String}
 use Rattle.std.specs.declared.alloc.Global.{Global}
-use Rattle.std.specs.List.{list_any, AllByRecursion}
+use Rattle.std.specs.List.{list_any}
 use Rattle.std.specs.Result.{IfOk}
 use Rattle.std.proofs.lemmas.Result.{IfOk-weaker}
 use Rattle.texts.specs.Variables.{pair_of}
 use Rattle.canonical_names.specs.Alike.{holds}
 use Rattle.canonical_names.specs.Counted.{old_names}
-use Rattle.canonical_names.specs.References.{replaced_by_all}
+use Rattle.canonical_names.specs.References.{replaced_by_all, longest_pairs_first}
 use Rattle.canonical_names.specs.Renaming as spec
-use Rattle.canonical_names.proofs.ReferenceLemmas.{rewritten-by_pairs, references-some, rewritten-none}
+use Rattle.canonical_names.proofs.ReferenceLemmas.{rewritten-by_pairs, pairs-named, rewritten-none}
 use Rattle.canonical_names.proofs.renames.Renames.rewritten.Goals as goal
 
 pub returns-then-not-stand_in : goal.returns-then-not-stand_in
@@ -24,8 +24,7 @@ returns-then-not-stand_in c =
 pub rewrite-requires : goal.rewrite-requires
 rewrite-requires c =
     let pairs = map pair_of c.self.inside.names.entries in
-    subst (AllByRecursion (λ (p : List ℕ × List ℕ). 0 < length p.0)) (sym c.in_ok-references.ensures)
-    (references-some c.self.inside.suffixes (old_names pairs) pairs c.self.invariant.accepted c.self.invariant.classes c.self.invariant.canonical)
+    pairs-named c.self.inside.suffixes (old_names pairs) pairs c.self.invariant.accepted c.self.invariant.classes c.self.invariant.canonical
 
 pub returns : goal.returns
 returns c =
@@ -33,5 +32,5 @@ returns c =
     let pairs = map pair_of c.self.inside.names.entries in
     let text = c.args.text.now in
     subst (λ (r : List (List ℕ) × List (List ℕ)). IfOk c.rewrite.result (λ t. string_bytes t ≡ spec.rewritten r.0 r.1 text)) c.self.view_is
-    (IfOk-weaker c.rewrite.result (λ (t : String Global). string_bytes t ≡ replaced_by_all c.in_ok-references.references text) (λ (t : String Global). string_bytes t ≡ spec.rewritten suffixes (old_names pairs) text)
-    (λ t h. h ∙ ap (λ ps. replaced_by_all ps text) c.in_ok-references.ensures ∙ rewritten-by_pairs suffixes (old_names pairs) pairs c.self.invariant.canonical text) c.rewrite.ensures)
+    (IfOk-weaker c.rewrite.result (λ (t : String Global). string_bytes t ≡ replaced_by_all (longest_pairs_first pairs) text) (λ (t : String Global). string_bytes t ≡ spec.rewritten suffixes (old_names pairs) text)
+    (λ t h. h ∙ rewritten-by_pairs suffixes (old_names pairs) pairs c.self.invariant.canonical text) c.rewrite.ensures)
