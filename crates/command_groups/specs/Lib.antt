@@ -1,6 +1,7 @@
 pub mod Cutting
 pub mod CuttingView
 pub mod EntryView
+pub mod EnvironmentPlace
 pub mod Fate
 pub mod FateLaws
 pub mod Grouping

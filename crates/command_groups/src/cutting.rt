@@ -7,10 +7,10 @@ ghost use Rattle.command_groups.specs.CuttingView.{setting_seen, cut_seen};
 ghost use Rattle.command_groups.specs.Grouping.{grouped};
 ghost use Rattle.command_groups.specs.GroupingView.{labelled_seen, grouping_seen};
 ghost use Rattle.command_groups.specs.MergedView.{command_seen};
-ghost use Rattle.command_groups.specs.Plan.{environment_of, subcommand_of, plan_of_staged};
+ghost use Rattle.command_groups.specs.Plan.{subcommand_of, plan_of_staged};
 ghost use Rattle.command_groups.specs.Stage.{staged};
-ghost use Rattle.command_groups.specs.StageView.{named_stage};
 
+use crate::environment::Environments;
 use crate::grouping::{Grouping, Label, LabelledCommand};
 use crate::merge::SelectedCommand;
 use crate::openings::OpenedNames;
@@ -20,7 +20,6 @@ use cuda_below::compiler::NvccHostCompiler;
 use std::alloc::{AllocError, Global};
 use std::vec::IntoIter;
 use texts::text::Text;
-use texts::variables::Variables;
 use texts::words::Words;
 
 /// What a plan is made for, besides the commands.
@@ -33,33 +32,8 @@ pub struct Setting<'a> {
     /// The flag that says what nvcc compiles to.
     pub compilation_flag: &'a str,
     pub host_compiler: NvccHostCompiler,
-    /// The environment of all commands.
-    pub env_vars: Variables,
-}
-
-// The environment with one more pair, of a name and an empty value.
-fn marked(alloc: Global, name: &str, env_vars: &Variables) -> Result<Variables, AllocError>
-    ensures { IfOk result (λ environment. environment ≡ env_vars.now ++ (name.now, []) ∷ []) }
-{
-    let mut environment = env_vars.try_clone(alloc)?;
-    let name = String::from_str(alloc, name)?;
-    environment.push(name, String::new(alloc))?;
-    Ok(environment)
-}
-
-// The environment of a stage: host compilers are told, by one more pair, that they compile for CUDA.
-fn environment(alloc: Global, stage: Stage, env_vars: &Variables) -> Result<Variables, AllocError>
-    ensures { IfOk result (λ environment. (words : List (List ℕ)) → environment ≡ environment_of (named_stage stage words) env_vars.now) }
-{
-    match stage {
-        Stage::HostCompiling => marked(alloc, "__SCCACHE_THIS_IS_A_CUDA_COMPILATION__", env_vars),
-        Stage::Linking
-        | Stage::Splitting
-        | Stage::DeviceCompiling
-        | Stage::Assembling
-        | Stage::Preprocessing
-        | Stage::Foreign => env_vars.try_clone(alloc),
-    }
+    /// The environments of the commands.
+    pub env_vars: Environments,
 }
 
 // Where the commands of a run are run.
@@ -80,7 +54,7 @@ fn subcommand(
     let LabelledCommand { command, stage, .. } = labelled;
     Ok(NvccGeneratedSubcommand {
         cwd: Text::copy_of(alloc, folder_of_run(setting, command.run))?,
-        env_vars: environment(alloc, stage, &setting.env_vars)?,
+        env_vars: setting.env_vars.of_stage(alloc, stage)?,
         exe: Text::new(command.program),
         args: Words::from_vec(command.words),
         cacheable: cacheable_mark(stage),
@@ -143,7 +117,7 @@ impl Cut {
         requires { names < 2 ^ 63 }
         ensures { IfOk result (λ cut. cut_seen cut ≡ spec.nothing_cut names) }
     {
-        let mut groups = Vec::new(alloc);
+        let mut groups = Vec::with_capacity(alloc, names + 2)?;
         for _ in 0..names + 2 {
             groups.push(Vec::new(alloc))?;
         }
@@ -205,7 +179,7 @@ pub fn plan_of_commands(
 ) -> Result<Plan, AllocError>
     ensures { IfOk result (λ plan. plan ≡ plan_of_staged (setting_seen setting.now) (map (staged setting.now.host_compiler (setting_seen setting.now).flag) (map command_seen (into_iter_items commands)))) }
 {
-    let mut grouping = Grouping::new(alloc);
+    let mut grouping = Grouping::with_capacity(alloc, commands.len())?;
     for command in commands {
         grouping.take(
             alloc,

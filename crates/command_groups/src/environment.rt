@@ -1,50 +1,118 @@
 //! The environment that the commands of a plan run in.
 
-ghost use Rattle.std.specs.Prelude.{◌≡◌, map, IfOk, string_bytes};
+ghost use Rattle.std.specs.Prelude.{◌≡◌, ◌<◌, [], ◌∷◌, ◌++◌, ℕ, List, map, length, IfOk, IfSome, OnOk, string_bytes};
 ghost use Rattle.texts.specs.Variables.{pair_of};
 ghost use Rattle.dry_runs.specs.Environment as spec;
+ghost use Rattle.command_groups.specs.EnvironmentPlace.{first_place};
+ghost use Rattle.command_groups.specs.Plan.{environment_of};
+ghost use Rattle.command_groups.specs.StageView.{named_stage};
 
+use crate::stage::Stage;
 use std::alloc::{AllocError, Global};
+use std::marker::Model;
 use texts::variables::Variables;
 
-// An environment in which a variable is set: where its name is known, the first pair of that name has the new value; else
-// the pair comes last.
-fn with_variable(
-    alloc: Global,
-    environment: Variables,
-    name: &str,
-    value: &str,
-) -> Result<Variables, AllocError>
-    ensures { IfOk result (λ v. v ≡ spec.with_variable environment (name.now, value.now)) }
+// The place of the first variable of a name.
+fn place_of(environment: &[(String, String)], name: &str) -> Option<usize>
+    ensures place { result ≡ first_place name.now (map pair_of environment.now) }
+    ensures within { IfSome result (λ place. place < length environment.now) }
 {
-    let mut pairs = Vec::new(alloc);
-    let mut known = false;
-    for (other, old) in environment.into_vec() {
-        if !known && other.as_str() == name {
-            known = true;
-            pairs.push((other, String::from_str(alloc, value)?))?;
-        } else {
-            pairs.push((other, old))?;
+    let mut place = 0;
+    for pair in environment {
+        if pair.0.as_str() == name {
+            return Some(place);
         }
+        place += 1;
     }
-    if !known {
-        let name = String::from_str(alloc, name)?;
-        pairs.push((name, String::from_str(alloc, value)?))?;
+    None
+}
+
+// Sets a variable: where its name is known, the first pair of that name has the new value; else the pair comes last.
+fn set(
+    environment: &mut Vec<(String, String)>,
+    name: String,
+    value: String,
+) -> Result<(), AllocError>
+    ensures { OnOk result (map pair_of environment.new.items ≡ spec.with_variable (map pair_of environment.old.items) (string_bytes name, string_bytes value)) }
+{
+    match place_of(environment.as_slice(), name.as_str()) {
+        None => environment.push((name, value))?,
+        Some(place) => environment[place].1 = value,
     }
-    Ok(Variables::from_vec(pairs))
+    Ok(())
 }
 
 /// An environment with the variables that a dry run's environment lines set, one after the other.
 pub fn with_variables(
     alloc: Global,
     env_vars: &[(String, String)],
-    variables: &[(String, String)],
+    variables: Variables,
 ) -> Result<Variables, AllocError>
-    ensures { IfOk result (λ v. v ≡ spec.with_variables (map pair_of env_vars.now) (map pair_of variables.now)) }
+    ensures { IfOk result (λ v. v ≡ spec.with_variables (map pair_of env_vars.now) variables) }
 {
-    let mut environment = Variables::copy_of(alloc, env_vars)?;
-    for variable in variables {
-        environment = with_variable(alloc, environment, variable.0.as_str(), variable.1.as_str())?;
+    let mut environment = Variables::copy_of(alloc, env_vars)?.into_vec()?;
+    environment.reserve(variables.len())?;
+    for (name, value) in variables.into_vec()? {
+        set(&mut environment, name, value)?;
     }
+    Ok(Variables::from_vec(environment))
+}
+
+// The environment with one more pair, of a name and an empty value.
+fn marked(alloc: Global, name: &str, env_vars: &Variables) -> Result<Variables, AllocError>
+    ensures { IfOk result (λ environment. environment ≡ env_vars.now ++ (name.now, []) ∷ []) }
+{
+    let mut environment = env_vars.try_clone(alloc)?;
+    let name = String::from_str(alloc, name)?;
+    environment.push(name, String::new(alloc))?;
     Ok(environment)
+}
+
+/// The environments of a plan's commands, which the commands share. Contracts see the one that most commands have.
+#[derive(Drop)]
+pub struct Environments {
+    // What most commands have.
+    plain: Variables,
+    // What host compilers have: they are told, by one more pair, that they compile for CUDA.
+    marked: Variables,
+}
+
+impl Model for Environments {
+    ghost use Rattle.std.specs.Prelude.{◌≡◌, List, ℕ};
+    ghost use Rattle.command_groups.specs.Plan.{environment_of};
+    ghost use Rattle.command_groups.specs.Stage.{host_compiling};
+
+    ghost Value = { List (List ℕ × List ℕ) };
+
+    ghost view = { λ e. e.plain };
+
+    ghost invariant = { λ e. e.marked ≡ environment_of host_compiling e.plain };
+}
+
+impl Environments {
+    /// The environments of commands that run in `env_vars`.
+    pub fn new(alloc: Global, env_vars: Variables) -> Result<Environments, AllocError>
+        ensures { IfOk result (λ environments. environments ≡ env_vars) }
+    {
+        let marked = marked(alloc, "__SCCACHE_THIS_IS_A_CUDA_COMPILATION__", &env_vars)?;
+        Ok(Environments {
+            plain: env_vars.share(alloc)?,
+            marked: marked.share(alloc)?,
+        })
+    }
+
+    /// The environment of a stage.
+    pub fn of_stage(&self, alloc: Global, stage: Stage) -> Result<Variables, AllocError>
+        ensures { IfOk result (λ environment. (words : List (List ℕ)) → environment ≡ environment_of (named_stage stage words) self.now) }
+    {
+        match stage {
+            Stage::HostCompiling => self.marked.try_clone(alloc),
+            Stage::Linking
+            | Stage::Splitting
+            | Stage::DeviceCompiling
+            | Stage::Assembling
+            | Stage::Preprocessing
+            | Stage::Foreign => self.plain.try_clone(alloc),
+        }
+    }
 }

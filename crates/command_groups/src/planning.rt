@@ -13,7 +13,7 @@ ghost use Rattle.command_groups.specs.Plan.{staged_commands, plan_of_staged};
 ghost use Rattle.command_groups.specs.PlanOfBytes as spec;
 
 use crate::cutting::{Setting, plan_of_commands};
-use crate::environment::with_variables;
+use crate::environment::{Environments, with_variables};
 use crate::merge::merge;
 use crate::plan::Plan;
 use canonical_names::{Suffixes, remap_commands};
@@ -127,12 +127,13 @@ pub fn group_nvcc_subcommands_by_compilation_stage<W: Which>(
 {
     let first = read_run(alloc, dry1, 1, cwd, which)?;
     let second = read_run(alloc, dry2, 2, cwd, which)?;
+    let env_vars = with_variables(alloc, env_vars, first.env)?;
     let setting = Setting {
         cwd,
         tmp,
         compilation_flag,
         host_compiler,
-        env_vars: with_variables(alloc, env_vars, first.env.as_slice())?,
+        env_vars: Environments::new(alloc, env_vars)?,
     };
     let (first, second) = (first.commands, second.commands);
     let plan = plan_of_runs(alloc, suffixes, keep_dir, &setting, first, second)?;

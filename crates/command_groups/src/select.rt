@@ -94,7 +94,7 @@ pub fn select_nvcc_subcommands<F: Fn(&str) -> bool + Drop, W: Which>(
     let said = read_dry_run(alloc, dry_run, run, cwd, which)?;
     let commands = named(alloc, suffixes, remap, said.commands)?;
     let commands = taken(alloc, &select, commands)?;
-    let folded = with_variables(alloc, env_vars.as_slice(), said.env.as_slice())?;
-    *env_vars = folded.into_vec();
+    let folded = with_variables(alloc, env_vars.as_slice(), said.env)?;
+    *env_vars = folded.into_vec()?;
     Ok(commands)
 }

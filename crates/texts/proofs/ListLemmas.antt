@@ -1,5 +1,5 @@
 -- Facts about lists that the records rest on.
-use Rattle.std.proofs.Common.{◌≡◌, ℕ, Bool, ◌&&◌, List, [], ◌∷◌, ◌++◌, map, refl, ap, ◌∙◌, String, string_bytes, Global, nat_eq}
+use Rattle.std.proofs.Common.{subst, Result, Ok, Err, OnErr, ◌⊎◌, ⊎_elim, Vec, vec_len, ◌≡◌, ℕ, Bool, ◌&&◌, List, [], ◌∷◌, ◌++◌, map, refl, ap, ◌∙◌, String, string_bytes, Global, nat_eq}
 use Rattle.std.specs.Cmp.Lexicographic.{pointwise}
 use Rattle.std.specs.List.{AllZip, AppendsClones}
 use Rattle.std.specs.Ordering.{on, eq_of_both, match_ordering}
@@ -47,3 +47,23 @@ clones-texts (x ∷ xs) (y ∷ ys) h = λ i. h.0 i ∷ clones-texts xs ys h.1 i
 
 pub appended-clones : (old new more : List (String Global)) → AppendsClones (λ s t. string_bytes t ≡ string_bytes s) old new more → map string_bytes new ≡ map string_bytes old ++ map string_bytes more
 appended-clones old new more h = ap (map string_bytes) h.1 ∙ map-append string_bytes old h.0 ∙ ap (λ t. map string_bytes old ++ t) (clones-texts more h.0 h.2)
+
+-- copies of pairs of words, as texts
+pub cloned-pairs : (xs ys : List (String Global × String Global)) → AllZip (λ s t. (string_bytes t.0 ≡ string_bytes s.0) × (string_bytes t.1 ≡ string_bytes s.1)) xs ys → map pair_of ys ≡ map pair_of xs
+cloned-pairs [] [] h = refl
+cloned-pairs [] (y ∷ ys) h = absurd h
+cloned-pairs (x ∷ xs) [] h = absurd h
+cloned-pairs (x ∷ xs) (y ∷ ys) h = λ i. (h.0.0 i, h.0.1 i) ∷ cloned-pairs xs ys h.1 i
+
+-- pairs of words that are the same, or copies, as texts
+pub same-or-cloned-pairs : (old new : Vec (String Global × String Global) Global) → (new ≡ old) ⊎ (AllZip (λ s t. (string_bytes t.0 ≡ string_bytes s.0) × (string_bytes t.1 ≡ string_bytes s.1)) old.items new.items × (vec_len new ≡ vec_len old)) → map pair_of new.items ≡ map pair_of old.items
+same-or-cloned-pairs old new h = ⊎_elim (λ e. ap (λ v. map pair_of v.items) e) (λ c. cloned-pairs old.items new.items c.0) h
+
+-- what holds anyway holds on an error
+pub on-error : {T E P : Type 0} (r : Result T E) → P → OnErr r P
+on-error (Ok x) p = tt
+on-error (Err e) p = p
+
+-- what holds on an error holds of one
+pub of-error : {T E P : Type 0} {r : Result T E} {e : E} → r ≡ Err e → OnErr r P → P
+of-error {P = P} is h = subst (λ q. OnErr q P) is h

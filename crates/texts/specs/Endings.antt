@@ -1,5 +1,5 @@
 -- What the number that Unix says of a process tells: an exit code or a signal.
-use Rattle.std.proofs.Common.{◌≡◌, ℕ, ◌-◌, ◌/◌, ◌%◌, ◌==◌, Bool, true, false, ◌||◌, if◌then◌else◌, Option, Some, None, ℤ, pos, negsuc, refl}
+use Rattle.std.proofs.Common.{◌≡◌, ℕ, ◌-◌, ◌/◌, ◌%◌, ◌==◌, Bool, false, ◌||◌, if◌then◌else◌, Option, Some, None, ℤ, pos, negsuc, refl}
 use Rattle.texts.specs.Status.{status_of_code}
 
 -- the number of a process that a signal ended: the signal's own

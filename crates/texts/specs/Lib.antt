@@ -11,3 +11,4 @@ pub mod Path
 pub mod Rows
 pub mod Status
 pub mod Variables
+pub mod VariablesView

@@ -1,29 +1,76 @@
 //! The environment that a command runs in.
 
 ghost use Rattle.std.specs.Prelude.{◌≡◌, ◌∷◌, [], ◌++◌, ◌==◌, map, length, IfOk, OnOk, OnErr, string_bytes};
+ghost use Rattle.std.specs.Arc.{arc_value};
 ghost use Rattle.std.specs.Slice.Iter.{iter_rest};
 ghost use Rattle.texts.specs.Variables.{pair_of};
+ghost use Rattle.texts.specs.VariablesView.{held_pairs};
 
 use std::alloc::{AllocError, Global};
 use std::marker::Model;
-use std::slice;
+use std::sync::Arc;
+use std::{fmt, slice};
+
+// The pairs of a list.
+#[derive(Drop)]
+enum Pairs {
+    // Held by one list.
+    Own(Vec<(String, String)>),
+    // Held by a list and its copies together.
+    Shared(Arc<Vec<(String, String)>>),
+}
+
+impl Pairs {
+    fn as_slice(&self) -> &[(String, String)]
+        ensures { result.now ≡ held_pairs self.now }
+    {
+        match self {
+            Pairs::Own(pairs) => pairs.as_slice(),
+            Pairs::Shared(pairs) => pairs.as_slice(),
+        }
+    }
+}
+
+// Pairs that several lists may share, or a copy of them if another one does.
+fn taken(pairs: Arc<Vec<(String, String)>>) -> Result<Vec<(String, String)>, AllocError>
+    ensures { IfOk result (λ own. map pair_of own.items ≡ map pair_of (arc_value pairs).items) }
+{
+    let own = Arc::unwrap_or_clone(pairs)?;
+    Ok(own)
+}
+
+// Puts a pair last in pairs that several lists may share: the other lists keep theirs.
+fn push_shared(
+    pairs: &mut Arc<Vec<(String, String)>>,
+    name: String,
+    value: String,
+) -> Result<(), AllocError>
+    ensures ok { OnOk result (map pair_of (arc_value pairs.new).items ≡ map pair_of (arc_value pairs.old).items ++ (string_bytes name, string_bytes value) ∷ []) }
+    ensures err { OnErr result (map pair_of (arc_value pairs.new).items ≡ map pair_of (arc_value pairs.old).items) }
+{
+    let own = Arc::make_mut(pairs)?;
+    own.push((name, value))?;
+    Ok(())
+}
 
 /// A list of environment variables that a record holds, each a name and its value, in order. A name
 /// may stand twice. Contracts see the list of pairs of texts.
 ///
-/// It is made of a `Vec<(String, String)>` and gives it back without memory.
-#[derive(Debug, Drop)]
+/// It is made of a `Vec<(String, String)>` without memory. A list can share its pairs with its copies:
+/// `share` says how.
+#[derive(Drop)]
 pub struct Variables {
-    pairs: Vec<(String, String)>,
+    pairs: Pairs,
 }
 
 impl Model for Variables {
     ghost use Rattle.std.specs.Prelude.{List, ℕ, map};
     ghost use Rattle.texts.specs.Variables.{pair_of};
+    ghost use Rattle.texts.specs.VariablesView.{held_pairs};
 
     ghost Value = { List (List ℕ × List ℕ) };
 
-    ghost view = { λ v. map pair_of v.pairs.items };
+    ghost view = { λ v. map pair_of (held_pairs v.pairs) };
 }
 
 impl Variables {
@@ -31,16 +78,16 @@ impl Variables {
     pub fn new(alloc: Global) -> Variables
         ensures { result ≡ [] }
     {
-        Variables {
-            pairs: Vec::new(alloc),
-        }
+        Variables::from_vec(Vec::new(alloc))
     }
 
     /// Holds the pairs of `pairs`.
     pub fn from_vec(pairs: Vec<(String, String)>) -> Variables
         ensures { result ≡ map pair_of pairs.items }
     {
-        Variables { pairs }
+        Variables {
+            pairs: Pairs::Own(pairs),
+        }
     }
 
     /// The pairs of name and value as a slice.
@@ -50,32 +97,50 @@ impl Variables {
         self.pairs.as_slice()
     }
 
-    /// Gives the `Vec` back.
-    pub fn into_vec(self) -> Vec<(String, String)>
-        ensures { map pair_of result.items ≡ self }
+    /// Gives the pairs as a `Vec`. Pairs that another list shares are copied; else it takes no memory.
+    pub fn into_vec(self) -> Result<Vec<(String, String)>, AllocError>
+        ensures { IfOk result (λ pairs. map pair_of pairs.items ≡ self) }
     {
-        self.pairs
+        match self.pairs {
+            Pairs::Own(pairs) => Ok(pairs),
+            Pairs::Shared(pairs) => taken(pairs),
+        }
+    }
+
+    /// An equal list, of which a copy by `try_clone` takes no memory: the list and its copies share the pairs. A
+    /// shared list takes memory to copy its pairs when it is changed or given back as a `Vec`, if another one still
+    /// shares them.
+    pub fn share(self, alloc: Global) -> Result<Variables, AllocError>
+        ensures { IfOk result (λ v. v ≡ self) }
+    {
+        let pairs = match self.pairs {
+            Pairs::Own(pairs) => Arc::new(alloc, pairs)?,
+            Pairs::Shared(pairs) => pairs,
+        };
+        Ok(Variables {
+            pairs: Pairs::Shared(pairs),
+        })
     }
 
     /// How many variables there are.
     pub fn len(&self) -> usize
         ensures { result ≡ length self.now }
     {
-        self.pairs.len()
+        self.as_slice().len()
     }
 
     /// Whether there are no variables.
     pub fn is_empty(&self) -> bool
         ensures { result ≡ (length self.now == 0) }
     {
-        self.pairs.is_empty()
+        self.as_slice().is_empty()
     }
 
     /// Each pair of name and value, in order.
     pub fn iter(&self) -> slice::Iter<'_, (String, String)>
         ensures { map pair_of (iter_rest result) ≡ self.now }
     {
-        self.pairs.iter()
+        self.as_slice().iter()
     }
 
     /// Puts the pair of `name` and `value` last. On an error the pairs stay as they were.
@@ -83,7 +148,10 @@ impl Variables {
         ensures ok { OnOk result (self.new ≡ self.old ++ (string_bytes name, string_bytes value) ∷ []) }
         ensures err { OnErr result (self.new ≡ self.old) }
     {
-        self.pairs.push((name, value))?;
+        match &mut self.pairs {
+            Pairs::Own(pairs) => pairs.push((name, value))?,
+            Pairs::Shared(pairs) => push_shared(pairs, name, value)?,
+        }
         Ok(())
     }
 
@@ -91,20 +159,33 @@ impl Variables {
     pub fn copy_of(alloc: Global, pairs: &[(String, String)]) -> Result<Variables, AllocError>
         ensures { IfOk result (λ v. v ≡ map pair_of pairs.now) }
     {
-        let mut copy = Variables::new(alloc);
+        let mut copy = Vec::with_capacity(alloc, pairs.len())?;
         for pair in pairs {
             let name = String::from_str(alloc, pair.0.as_str())?;
             let value = String::from_str(alloc, pair.1.as_str())?;
-            copy.push(name, value)?;
+            copy.push((name, value))?;
         }
-        Ok(copy)
+        Ok(Variables::from_vec(copy))
     }
 
-    /// An equal list, in memory of its own.
+    /// An equal list, in memory of its own, or of pairs that both share if this one shares its pairs.
     pub fn try_clone(&self, alloc: Global) -> Result<Variables, AllocError>
         ensures { IfOk result (λ v. v ≡ self.now) }
     {
-        Variables::copy_of(alloc, self.as_slice())
+        match &self.pairs {
+            Pairs::Own(pairs) => Variables::copy_of(alloc, pairs.as_slice()),
+            Pairs::Shared(pairs) => Ok(Variables {
+                pairs: Pairs::Shared(Arc::try_clone(pairs)?),
+            }),
+        }
+    }
+}
+
+impl fmt::Debug for Variables {
+    fn fmt<W: fmt::Write>(&self, f: &mut fmt::Formatter<W>) -> fmt::Result {
+        f.debug_struct("Variables")
+            .field("pairs", &self.as_slice())
+            .finish()
     }
 }
 
