@@ -1,5 +1,6 @@
 pub mod CuttingLemmas
 pub mod EntryLemmas
+pub mod EnvironmentLemmas
 pub mod FateLemmas
 pub mod GroupLemmas
 pub mod GroupingLemmas

@@ -1,6 +1,6 @@
 //! The environment that the commands of a plan run in.
 
-ghost use Rattle.std.specs.Prelude.{◌≡◌, ◌<◌, ℕ, List, map, length, IfOk, IfSome, OnOk, string_bytes};
+ghost use Rattle.std.specs.Prelude.{◌≡◌, ◌<◌, [], ◌∷◌, ◌++◌, ℕ, List, map, length, IfOk, IfSome, OnOk, string_bytes};
 ghost use Rattle.texts.specs.Variables.{pair_of};
 ghost use Rattle.dry_runs.specs.Environment as spec;
 ghost use Rattle.command_groups.specs.EnvironmentPlace.{first_place};
@@ -58,6 +58,16 @@ pub fn with_variables(
     Ok(Variables::from_vec(environment))
 }
 
+// The environment with one more pair, of a name and an empty value.
+fn marked(alloc: Global, name: &str, env_vars: &Variables) -> Result<Variables, AllocError>
+    ensures { IfOk result (λ environment. environment ≡ env_vars.now ++ (name.now, []) ∷ []) }
+{
+    let mut environment = env_vars.try_clone(alloc)?;
+    let name = String::from_str(alloc, name)?;
+    environment.push(name, String::new(alloc))?;
+    Ok(environment)
+}
+
 /// The environments of a plan's commands, which the commands share. Contracts see the one that most commands have.
 #[derive(Drop)]
 pub struct Environments {
@@ -68,7 +78,7 @@ pub struct Environments {
 }
 
 impl Model for Environments {
-    ghost use Rattle.std.specs.Prelude.{List, ℕ};
+    ghost use Rattle.std.specs.Prelude.{◌≡◌, List, ℕ};
     ghost use Rattle.command_groups.specs.Plan.{environment_of};
     ghost use Rattle.command_groups.specs.Stage.{host_compiling};
 
@@ -84,9 +94,7 @@ impl Environments {
     pub fn new(alloc: Global, env_vars: Variables) -> Result<Environments, AllocError>
         ensures { IfOk result (λ environments. environments ≡ env_vars) }
     {
-        let mut marked = Variables::copy_of(alloc, env_vars.as_slice())?;
-        let name = String::from_str(alloc, "__SCCACHE_THIS_IS_A_CUDA_COMPILATION__")?;
-        marked.push(name, String::new(alloc))?;
+        let marked = marked(alloc, "__SCCACHE_THIS_IS_A_CUDA_COMPILATION__", &env_vars)?;
         Ok(Environments {
             plain: env_vars.share(alloc)?,
             marked: marked.share(alloc)?,

@@ -12,7 +12,9 @@ ghost use Rattle.command_groups.specs.StageView.{named_stage};
 use crate::merge::SelectedCommand;
 use crate::openings::{MadeFiles, OpenedNames, Opening};
 use crate::plan::Reason;
-use crate::stage::{Stage, cicc_input, edited, last_word, opened_name, ptxas_input, stage_of};
+use crate::stage::{
+    Stage, cicc_input, edited_words, kind_of_program, last_word, opened_name, ptxas_input, stage_of,
+};
 use cuda_below::compiler::NvccHostCompiler;
 use std::alloc::{AllocError, Global};
 
@@ -140,9 +142,22 @@ impl Grouping {
     ) -> Result<(), AllocError>
         ensures { OnOk result (grouping_seen self.new ≡ spec.with_command (grouping_seen self.old) (staged host_compiler flag.now (command_seen command))) }
     {
-        let command = edited(alloc, flag, command)?;
-        let stage = stage_of(host_compiler, &command);
-        let label = self.label(alloc, stage, command.words.as_slice())?;
+        let SelectedCommand {
+            line,
+            run,
+            program,
+            words,
+        } = command;
+        let kind = kind_of_program(program.as_str());
+        let words = edited_words(alloc, kind, flag, words)?;
+        let stage = stage_of(kind, host_compiler, words.as_slice());
+        let label = self.label(alloc, stage, words.as_slice())?;
+        let command = SelectedCommand {
+            line,
+            run,
+            program,
+            words,
+        };
         self.labelled.push(LabelledCommand {
             command,
             stage,

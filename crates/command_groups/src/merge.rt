@@ -52,8 +52,9 @@ fn selected(
 ) -> Result<Vec<SelectedCommand>, AllocError>
     ensures { IfOk result (λ taken. map command_seen taken.items ≡ map (spec.of_run run) (spec.selected (takes_stem own) commands)) }
 {
-    let mut taken = Vec::new(alloc);
-    for (line, program, words) in commands.into_vec() {
+    let commands = commands.into_vec();
+    let mut taken = Vec::with_capacity(alloc, commands.len())?;
+    for (line, program, words) in commands {
         if takes(own, program.as_str()) {
             taken.push(SelectedCommand {
                 line,

@@ -127,12 +127,13 @@ pub fn group_nvcc_subcommands_by_compilation_stage<W: Which>(
 {
     let first = read_run(alloc, dry1, 1, cwd, which)?;
     let second = read_run(alloc, dry2, 2, cwd, which)?;
+    let env_vars = with_variables(alloc, env_vars, first.env)?;
     let setting = Setting {
         cwd,
         tmp,
         compilation_flag,
         host_compiler,
-        env_vars: Environments::new(alloc, with_variables(alloc, env_vars, first.env)?)?,
+        env_vars: Environments::new(alloc, env_vars)?,
     };
     let (first, second) = (first.commands, second.commands);
     let plan = plan_of_runs(alloc, suffixes, keep_dir, &setting, first, second)?;

@@ -4,11 +4,9 @@ ghost use Rattle.std.specs.Prelude.{◌≡◌, ℕ, List, nat_eq, map, IfOk, str
 ghost use Rattle.std.specs.List.{starts_with};
 ghost use Rattle.std.specs.Option.{option_copied};
 ghost use Rattle.texts.specs.Lists.{last_of, word_after as word_right_after};
-ghost use Rattle.command_groups.specs.MergedView.{command_seen};
 ghost use Rattle.command_groups.specs.Stage as spec;
 ghost use Rattle.command_groups.specs.StageView.{kind_seen, named_stage};
 
-use crate::merge::SelectedCommand;
 use cuda_below::command::Cacheable;
 use cuda_below::compiler::NvccHostCompiler;
 use std::alloc::{AllocError, Global};
@@ -41,8 +39,8 @@ fn kind_of_stem(stem: &str) -> ProgramKind
     }
 }
 
-// The kind of a program, by its path.
-fn kind_of_program(program: &str) -> ProgramKind
+/// The kind of a program, by its path.
+pub fn kind_of_program(program: &str) -> ProgramKind
     ensures { kind_seen result ≡ spec.kind_of_program program.now }
 {
     match file_stem(program) {
@@ -72,7 +70,7 @@ fn with_word_before(
 ) -> Result<Vec<String>, AllocError>
     ensures { IfOk result (λ edited. map string_bytes edited.items ≡ spec.with_word_before new.now word.now (map string_bytes words.items)) }
 {
-    let mut edited = Vec::new(alloc);
+    let mut edited = Vec::with_capacity(alloc, words.len() + 1)?;
     let mut stands = false;
     for other in words {
         if !stands && word == other.as_str() {
@@ -92,7 +90,7 @@ fn without_first_word(
 ) -> Result<Vec<String>, AllocError>
     ensures { IfOk result (λ edited. map string_bytes edited.items ≡ spec.without_first_word word.now (map string_bytes words.items)) }
 {
-    let mut edited = Vec::new(alloc);
+    let mut edited = Vec::with_capacity(alloc, words.len())?;
     let mut gone = false;
     for other in words {
         if !gone && word == other.as_str() {
@@ -130,8 +128,11 @@ fn cicc_words(alloc: Global, flag: &str, words: Vec<String>) -> Result<Vec<Strin
     }
 }
 
-// The words of a program of a kind, as they are run under a compilation flag.
-fn edited_words(
+/// The words of a program of a kind, as they are run under a compilation flag.
+///
+/// cudafe++ is told to make the module id file where a word names it. Under a flag that asks for an object, cicc isn't
+/// told so: it reads the file that cudafe++ makes. It is as sccache 0.19.0 changes these words.
+pub fn edited_words(
     alloc: Global,
     kind: ProgramKind,
     flag: &str,
@@ -144,26 +145,6 @@ fn edited_words(
         ProgramKind::Cicc => cicc_words(alloc, flag, words),
         ProgramKind::Linker | ProgramKind::Ptxas | ProgramKind::Other => Ok(words),
     }
-}
-
-/// A command with its words as they are run under a compilation flag.
-///
-/// cudafe++ is told to make the module id file where a word names it. Under a flag that asks for an object, cicc isn't
-/// told so: it reads the file that cudafe++ makes. It is as sccache 0.19.0 changes these words.
-pub fn edited(
-    alloc: Global,
-    flag: &str,
-    command: SelectedCommand,
-) -> Result<SelectedCommand, AllocError>
-    ensures { IfOk result (λ c. command_seen c ≡ spec.edited flag.now (command_seen command)) }
-{
-    let kind = kind_of_program(command.program.as_str());
-    Ok(SelectedCommand {
-        line: command.line,
-        run: command.run,
-        program: command.program,
-        words: edited_words(alloc, kind, flag, command.words)?,
-    })
 }
 
 /// The stages of commands.
@@ -237,16 +218,16 @@ fn host_stage(host_compiler: NvccHostCompiler, words: &[String]) -> Stage
     }
 }
 
-/// The stage of a command with its edited words. Contracts see it with the name that the words give it.
-pub fn stage_of(host_compiler: NvccHostCompiler, command: &SelectedCommand) -> Stage
-    ensures { named_stage result (command_seen command.now).words ≡ spec.stage_by (spec.kind_of_program (command_seen command.now).program) host_compiler (command_seen command.now).words }
+/// The stage of a program of a kind with its edited words. Contracts see it with the name that the words give it.
+pub fn stage_of(kind: ProgramKind, host_compiler: NvccHostCompiler, words: &[String]) -> Stage
+    ensures { named_stage result (map string_bytes words.now) ≡ spec.stage_by (kind_seen kind) host_compiler (map string_bytes words.now) }
 {
-    match kind_of_program(command.program.as_str()) {
+    match kind {
         ProgramKind::Linker => Stage::Linking,
         ProgramKind::Cudafe => Stage::Splitting,
         ProgramKind::Cicc => Stage::DeviceCompiling,
         ProgramKind::Ptxas => Stage::Assembling,
-        ProgramKind::Other => host_stage(host_compiler, command.words.as_slice()),
+        ProgramKind::Other => host_stage(host_compiler, words),
     }
 }
 
