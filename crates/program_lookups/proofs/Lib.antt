@@ -1,4 +1,5 @@
 mod AskedLemmas
+mod FirstLemmas
 mod KnownLemmas
 mod PathLemmas
 mod ReadingLemmas

@@ -1,11 +1,15 @@
 -- What is claimed of asked look-ups and of snapshots, for all texts and look-ups.
-use Rattle.std.specs.Prelude.{◌≡◌, ℕ, List, [], ◌∷◌, false}
+use Rattle.std.specs.Prelude.{◌≡◌, ℕ, List, [], ◌∷◌, ◌||◌, not, true, false}
 use Rattle.std.specs.Bool.{⊤}
 use Rattle.std.specs.List.{AllByRecursion, list_any}
+use Rattle.texts.specs.Lists.{first_word}
+use Rattle.texts.specs.Path.{is_absolute_path, is_bare}
 use Rattle.dry_runs.specs.DryRun.{LookUp, dry_run_of}
+use Rattle.dry_runs.specs.FirstDir.{first_dir, first_folder_of}
 use Rattle.program_lookups.specs.declared.lookup.Lookup.{Lookup}
 use Rattle.program_lookups.specs.Lookup.{same_lookup}
 use Rattle.program_lookups.specs.Asked.{asked_of, asked_of_both}
+use Rattle.program_lookups.specs.Candidates.{candidates_of}
 use Rattle.program_lookups.specs.Snapshot.{answer_in, taken}
 
 -- two functions answer each of some look-ups alike
@@ -29,3 +33,9 @@ AreOnce (l ∷ ls) = (list_any (same_lookup l) ls ≡ false) × AreOnce ls
 
 abbrev pub AskedOnce : Type 0
 AskedOnce = (first second folder : List ℕ) → AreOnce (asked_of_both first second folder)
+
+-- where the first folder of `PATH` is an absolute path, the look-up that looks at no file answers the first candidate; so
+-- it does of a name with a `/`
+abbrev pub FirstFolderIsFirst : Type 0
+FirstFolderIsFirst =
+    (program path folder : List ℕ) → (is_absolute_path (first_folder_of path) || not (is_bare program)) ≡ true → first_dir program path folder ≡ first_word (candidates_of program path folder)

@@ -1,4 +1,5 @@
 pub mod Asked
+pub mod AskedRows
 pub mod Candidates
 pub mod Laws
 pub mod Lookup

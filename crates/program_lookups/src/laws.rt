@@ -1,6 +1,7 @@
 //! Laws of asked look-ups and of snapshots.
 
-ghost use Rattle.program_lookups.specs.Laws.{ReadsAlike, SnapshotReads, AskedOnce};
+ghost use Rattle.program_lookups.specs.AskedRows.{AskedInOrder, AskedExpanded, AskedBeforeABadLine, AskedByBoth, AskedByAnotherPath};
+ghost use Rattle.program_lookups.specs.Laws.{ReadsAlike, SnapshotReads, AskedOnce, FirstFolderIsFirst};
 
 /// What a dry run says depends on a look-up by its answers to what the dry run asks for, and by nothing else.
 ///
@@ -11,4 +12,19 @@ pub fn reading()
     ensures alike { ReadsAlike }
     ensures snapshot { SnapshotReads }
     ensures once { AskedOnce }
+{}
+
+/// Where the first folder of `PATH` is an absolute path, or the name holds a `/`, the path that `FirstDir` answers is the
+/// first candidate.
+pub fn first_candidate()
+    ensures { FirstFolderIsFirst }
+{}
+
+/// What some dry runs ask for, by the definitions.
+pub fn worked_lookups()
+    ensures asked_in_order { AskedInOrder }
+    ensures asked_expanded { AskedExpanded }
+    ensures asked_before_a_bad_line { AskedBeforeABadLine }
+    ensures asked_by_both { AskedByBoth }
+    ensures asked_by_another_path { AskedByAnotherPath }
 {}
