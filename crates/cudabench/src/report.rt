@@ -6,7 +6,7 @@ use std::io::Write;
 use texts::fault::Fault;
 
 /// Why nothing was timed.
-#[derive(Debug, Drop)]
+#[derive(Drop)]
 pub enum Stop {
     /// The call has another form.
     Usage,
