@@ -18,12 +18,14 @@ abbrev pub Writing : Type 0
 Writing = ParsedArguments → List ℕ → List (List ℕ)
 
 -- arguments written back as a command that a cache may serve, of the output that they are for or the refusal without it
-abbrev pub written_with : Writing → List ℕ → ParsedArguments → List ℕ → List (List ℕ × List ℕ) → Result ArtifactDescriptor Fault → Result (SingleCompileCommand × Cacheable) Fault
+abbrev pub written_with : Writing → List ℕ → ParsedArguments → List ℕ → List (List ℕ × List ℕ)
+    → Result ArtifactDescriptor Fault → Result (SingleCompileCommand × Cacheable) Fault
 written_with words executable p cwd env_vars (Err fault) = Err fault
 written_with words executable p cwd env_vars (Ok obj) = Ok (single_command executable (words p obj.path) cwd env_vars, Yes)
 
 -- the same, of what stands under the output's key
-abbrev pub written_to : Writing → List ℕ → ParsedArguments → List ℕ → List (List ℕ × List ℕ) → Option ArtifactDescriptor → Result (SingleCompileCommand × Cacheable) Fault
+abbrev pub written_to : Writing → List ℕ → ParsedArguments → List ℕ → List (List ℕ × List ℕ)
+    → Option ArtifactDescriptor → Result (SingleCompileCommand × Cacheable) Fault
 written_to words executable p cwd env_vars found = written_with words executable p cwd env_vars (obj_or_missing p.language found)
 
 -- arguments written back; without an output `obj` they are refused

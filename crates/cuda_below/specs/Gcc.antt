@@ -1,5 +1,6 @@
 -- What the gcc reader answers: this project's profile of gcc's options.
-use Rattle.std.specs.Prelude.{ℕ, List, [], ◌∷◌, ◌++◌, Bool, true, false, ◌&&◌, ◌||◌, if◌then◌else◌, Option, Some, None, is_some, is_none, unwrap_or, Result, Ok, Err, codes}
+use Rattle.std.specs.Prelude.{ℕ, List, [], ◌∷◌, ◌++◌, Bool, true, false, ◌&&◌, ◌||◌, if◌then◌else◌, Option, Some}
+use Rattle.std.specs.Prelude.{None, is_some, is_none, unwrap_or, Result, Ok, Err, codes}
 use Rattle.std.specs.Option.{option_map, option_or}
 use Rattle.texts.specs.declared.language.Language.{Language}
 use Rattle.texts.specs.declared.language.Language.TheVariants.{C, Cxx, Cuda}
@@ -93,7 +94,9 @@ arguments_with a input language outputs = record {
 -- the arguments of a line whose input, language and object are known
 abbrev pub arguments_of : Asked → List ℕ → Language → List ℕ → ParsedArguments
 arguments_of a input language obj =
-    record (arguments_with a input language (outputs_of obj (dependency_file_of a obj))) { dependency_args = (a.dependency_args ++ target_words a obj) ++ dependency_file_words a obj }
+    record (arguments_with a input language (outputs_of obj (dependency_file_of a obj))) {
+      dependency_args = (a.dependency_args ++ target_words a obj) ++ dependency_file_words a obj;
+    }
 
 -- the input of a line and its language, or the text that the line is refused with
 abbrev pub sole_input : Option Language → List (List ℕ) → Result (List ℕ × Language) (List ℕ)

@@ -1,5 +1,6 @@
 -- What a gcc command line asks for, item by item.
-use Rattle.std.specs.Prelude.{ℕ, List, [], ◌∷◌, Bool, true, false, ◌==◌, if◌then◌else◌, map, filter, fold, length, Option, Some, None, is_some, option_to_list, codes}
+use Rattle.std.specs.Prelude.{ℕ, List, [], ◌∷◌, Bool, true, false, ◌==◌, if◌then◌else◌, map, filter, fold, length}
+use Rattle.std.specs.Prelude.{Option, Some, None, is_some, option_to_list, codes}
 use Rattle.std.specs.List.{flat_map, list_any}
 use Rattle.std.specs.Option.{option_and_then, option_or}
 use Rattle.std.specs.Map.{lookup}
@@ -9,10 +10,17 @@ use Rattle.texts.specs.declared.language.Language.TheVariants.{C, Cxx, Objective
 use Rattle.option_items.specs.declared.items.NormalizedDisposition.{NormalizedDisposition}
 use Rattle.option_items.specs.declared.items.NormalizedDisposition.TheVariants as normal
 use Rattle.cuda_below.specs.declared.gcc.options.ArgData.{ArgData}
-use Rattle.cuda_below.specs.declared.gcc.options.ArgData.TheVariants.{TooHard, TooHardFlag, PassThrough, PassThroughFlag, PreprocessorArgument, PreprocessorArgumentFlag, PreprocessorArgumentPath, DepArgumentPath, DepTarget, NeedDepTarget, DoCompilation, Output, Language as LanguageOption, Arch, Standard, ExtraHashFile, Unhashed, UnhashedFlag}
+use Rattle.cuda_below.specs.declared.gcc.options.ArgData.TheVariants.{TooHard, TooHardFlag, PassThrough}
+use Rattle.cuda_below.specs.declared.gcc.options.ArgData.TheVariants.{PassThroughFlag, PreprocessorArgument}
+use Rattle.cuda_below.specs.declared.gcc.options.ArgData.TheVariants.{PreprocessorArgumentFlag}
+use Rattle.cuda_below.specs.declared.gcc.options.ArgData.TheVariants.{PreprocessorArgumentPath, DepArgumentPath}
+use Rattle.cuda_below.specs.declared.gcc.options.ArgData.TheVariants.{DepTarget, NeedDepTarget, DoCompilation, Output}
+use Rattle.cuda_below.specs.declared.gcc.options.ArgData.TheVariants.{Language as LanguageOption, Arch, Standard}
+use Rattle.cuda_below.specs.declared.gcc.options.ArgData.TheVariants.{ExtraHashFile, Unhashed, UnhashedFlag}
 use Rattle.texts.specs.Path.{joined}
 use Rattle.option_items.specs.Table.{Entry}
-use Rattle.option_items.specs.Items.{Item, raw, unknown_flag, flag, with_value, faulty, item, option, said_of, last_item, separate_item, items, normalized, words_of, text_of}
+use Rattle.option_items.specs.Items.{Item, raw, unknown_flag, flag, with_value, faulty, item, option, said_of}
+use Rattle.option_items.specs.Items.{last_item, separate_item, items, normalized, words_of, text_of}
 
 module _ {T : Type 0} where
   -- whether an item is the unknown flag `--`
@@ -29,7 +37,10 @@ module _ {T : Type 0} (chosen : List ℕ → Option (Entry T)) where
   abbrev pub items_to_dashes : List (List ℕ) → List (Item T)
   items_to_dashes [] = []
   items_to_dashes (w ∷ []) = elim (said_of w (chosen w)) [ item i ↦ if is_double_dash i then [] else i ∷ [] | option e ↦ last_item e ∷ [] ]
-  items_to_dashes (w ∷ x ∷ rest) = elim (said_of w (chosen w)) [ item i ↦ if is_double_dash i then map raw (x ∷ rest) else i ∷ items_to_dashes (x ∷ rest) | option e ↦ separate_item e x ∷ items_to_dashes rest ]
+  items_to_dashes (w ∷ x ∷ rest) = elim (said_of w (chosen w)) [
+    | item i ↦ if is_double_dash i then map raw (x ∷ rest) else i ∷ items_to_dashes (x ∷ rest)
+    | option e ↦ separate_item e x ∷ items_to_dashes rest
+  ]
 
   -- whether an item of a line is the unknown flag `--`
   abbrev pub has_double_dash : List (List ℕ) → Bool

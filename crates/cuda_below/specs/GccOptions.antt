@@ -5,7 +5,11 @@ use Rattle.std.specs.Str.{bytes_eq}
 use Rattle.option_items.specs.declared.table.ArgDisposition.{ArgDisposition}
 use Rattle.option_items.specs.declared.table.ArgDisposition.TheVariants.{Separated, Concatenated, CanBeSeparated}
 use Rattle.cuda_below.specs.declared.gcc.options.ArgData.{ArgData}
-use Rattle.cuda_below.specs.declared.gcc.options.ArgData.TheVariants.{TooHard, TooHardFlag, PassThrough, PreprocessorArgument, PreprocessorArgumentFlag, PreprocessorArgumentPath, DepArgumentPath, DepTarget, NeedDepTarget, DoCompilation, Output, Language, Arch, Standard}
+use Rattle.cuda_below.specs.declared.gcc.options.ArgData.TheVariants.{TooHard, TooHardFlag, PassThrough}
+use Rattle.cuda_below.specs.declared.gcc.options.ArgData.TheVariants.{PreprocessorArgument, PreprocessorArgumentFlag}
+use Rattle.cuda_below.specs.declared.gcc.options.ArgData.TheVariants.{PreprocessorArgumentPath, DepArgumentPath}
+use Rattle.cuda_below.specs.declared.gcc.options.ArgData.TheVariants.{DepTarget, NeedDepTarget, DoCompilation, Output}
+use Rattle.cuda_below.specs.declared.gcc.options.ArgData.TheVariants.{Language, Arch, Standard}
 use Rattle.texts.specs.Rows.{spaced}
 use Rattle.option_items.specs.Table.{Entry}
 
@@ -39,7 +43,8 @@ gcc_entries =
     ++ options Separated DepArgumentPath (spaced "-MF")
     ++ options Separated DepTarget (spaced "-MQ -MT")
     ++ options either_way PreprocessorArgument (spaced "-D -U")
-    ++ options either_way PreprocessorArgumentPath (spaced "-I -idirafter -imacros -include -iprefix -iquote -isysroot -isystem -iwithprefix -iwithprefixbefore")
+    ++ options either_way PreprocessorArgumentPath (spaced "-I -idirafter -imacros -include -iprefix -iquote -isysroot -isystem")
+    ++ options either_way PreprocessorArgumentPath (spaced "-iwithprefix -iwithprefixbefore")
     ++ options Separated PreprocessorArgument (spaced "-Xpreprocessor")
     ++ options joined_by_equals PreprocessorArgument (spaced "-stdlib")
     ++ flags PreprocessorArgumentFlag (spaced "-nostdinc -nostdinc++ -trigraphs -remap")

@@ -63,11 +63,12 @@ pub record LinesRead : Type 0 where
     dependency_args = spaced "-MD -MT foo.o -MF foo.d";
     outputs = (codes "d", record { path = codes "foo.d"; optional = false }) ∷ (codes "obj", record { path = codes "foo.o"; optional = false }) ∷ [];
   })
-  pub keeps_a_target_and_a_dependency_file : read (spaced "-x c++ -c foo.c -fabc -MD -MT foo.o -MF foo.o.d -o foo.o") ≡ accepted (record (compiled (codes "foo.c") Cxx (codes "foo.o")) {
-    common_args = spaced "-fabc";
-    dependency_args = spaced "-MD -MF foo.o.d -MT foo.o";
-    outputs = (codes "d", record { path = codes "foo.o.d"; optional = false }) ∷ (codes "obj", record { path = codes "foo.o"; optional = false }) ∷ [];
-  })
+  pub keeps_a_target_and_a_dependency_file : read (spaced "-x c++ -c foo.c -fabc -MD -MT foo.o -MF foo.o.d -o foo.o")
+      ≡ accepted (record (compiled (codes "foo.c") Cxx (codes "foo.o")) {
+        common_args = spaced "-fabc";
+        dependency_args = spaced "-MD -MF foo.o.d -MT foo.o";
+        outputs = (codes "d", record { path = codes "foo.o.d"; optional = false }) ∷ (codes "obj", record { path = codes "foo.o"; optional = false }) ∷ [];
+      })
   -- words after the first `--` are inputs, also if they begin with `-`
   pub takes_inputs_after_dashes : read (spaced "-c -- -x.c") ≡ accepted (record (compiled (codes "-x.c") C (codes "-x.o")) { double_dash_input = true })
   pub takes_out_only_the_first_dashes : read (spaced "-c -- a.c --") ≡ cannot_cache (codes "multiple input files") None
@@ -99,7 +100,8 @@ pub record LinesRead : Type 0 where
   pub takes_a_c_file_for_cxx : read_by true Nvhpc (spaced "-c a.c") ≡ accepted (compiled (codes "a.c") Cxx (codes "a.o"))
   pub takes_a_named_c_for_c : read_by true Nvhpc (spaced "-x c -c a.cu") ≡ accepted (compiled (codes "a.cu") C (codes "a.o"))
   -- nvcc compiles a single CUDA file without being asked to
-  pub compiles_a_single_cuda_file : read_by false Nvcc (spaced "foo.cu") ≡ accepted (record (compiled (codes "foo.cu") Cuda (codes "foo.o")) { compilation_flag = [] })
+  pub compiles_a_single_cuda_file : read_by false Nvcc (spaced "foo.cu")
+      ≡ accepted (record (compiled (codes "foo.cu") Cuda (codes "foo.o")) { compilation_flag = [] })
   pub compiles_no_two_cuda_files : read_by false Nvcc (spaced "a.cu b.cu") ≡ not_compilation
   pub compiles_no_cuda_file_for_nvhpc : read (spaced "foo.cu") ≡ not_compilation
 
@@ -136,8 +138,15 @@ lines_read = record {
 
 -- what worked arguments are written as
 pub record LinesWritten : Type 0 where
-  pub writes_dashes_before_the_input : gcc_words (record (compiled (codes "-x.c") C (codes "-x.o")) { double_dash_input = true }) (codes "-x.o") ≡ spaced "-x c -c -o -x.o -- -x.c"
-  pub writes_options_by_their_lists : gcc_words (record (compiled (codes "a.cc") Cxx []) { common_args = spaced "-fabc"; preprocessor_args = spaced "-Id"; unhashed_args = spaced "-t1"; arch_args = spaced "-arch x" }) (codes "b.o") ≡ spaced "-x c++ -c -o b.o -Id -t1 -fabc -arch x a.cc"
+  pub writes_dashes_before_the_input : gcc_words (record (compiled (codes "-x.c") C (codes "-x.o")) { double_dash_input = true }) (codes "-x.o")
+      ≡ spaced "-x c -c -o -x.o -- -x.c"
+  pub writes_options_by_their_lists : gcc_words (record (compiled (codes "a.cc") Cxx []) {
+    common_args = spaced "-fabc";
+    preprocessor_args = spaced "-Id";
+    unhashed_args = spaced "-t1";
+    arch_args = spaced "-arch x";
+  }) (codes "b.o")
+      ≡ spaced "-x c++ -c -o b.o -Id -t1 -fabc -arch x a.cc"
   pub writes_no_language_and_no_flag : gcc_words (record (compiled (codes "k.ptx") Ptx []) { compilation_flag = [] }) (codes "k") ≡ spaced "-o k k.ptx"
 
 pub lines_written : LinesWritten
@@ -149,8 +158,10 @@ lines_written = record {
 
 -- the parts of a line: an option whose value is empty has its own word, and the word after it is an item
 pub record LinesParted : Type 0 where
-  pub empty_value_is_a_part : parts chosen_alone (spaced "-std= x") ≡ (with_value (codes "-std") Standard [] joined_by_equals, spaced "-std=") ∷ (raw (codes "x"), spaced "x") ∷ []
-  pub next_word_is_in_the_part : parts chosen_alone (spaced "-MF d x") ≡ (with_value (codes "-MF") DepArgumentPath (codes "d") Separated, spaced "-MF d") ∷ (raw (codes "x"), spaced "x") ∷ []
+  pub empty_value_is_a_part : parts chosen_alone (spaced "-std= x")
+      ≡ (with_value (codes "-std") Standard [] joined_by_equals, spaced "-std=") ∷ (raw (codes "x"), spaced "x") ∷ []
+  pub next_word_is_in_the_part : parts chosen_alone (spaced "-MF d x")
+      ≡ (with_value (codes "-MF") DepArgumentPath (codes "d") Separated, spaced "-MF d") ∷ (raw (codes "x"), spaced "x") ∷ []
 
 pub lines_parted : LinesParted
 lines_parted = record { empty_value_is_a_part = refl; next_word_is_in_the_part = refl }

@@ -6,7 +6,8 @@ use Rattle.cuda_below.specs.declared.gcc.options.ArgData.TheVariants.{DepArgumen
 use Rattle.cuda_below.specs.declared.gcc.gathered.Gathered.{Gathered}
 use Rattle.texts.specs.Path.{joined}
 use Rattle.option_items.specs.Items.{Item, raw, unknown_flag, flag, with_value, faulty, normal_form, value_words}
-use Rattle.cuda_below.specs.GccItems.{Asked, Destination, inputs, common, preprocessor, unhashed, architectures, dependencies, nowhere, destination_of_kind, language_named, written_form}
+use Rattle.cuda_below.specs.GccItems.{Asked, Destination, inputs, common, preprocessor, unhashed, architectures}
+use Rattle.cuda_below.specs.GccItems.{dependencies, nowhere, destination_of_kind, language_named, written_form}
 
 -- what the items ask for, as the code has it
 abbrev pub asked_by : Gathered → Asked

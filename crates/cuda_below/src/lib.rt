@@ -10,7 +10,7 @@ pub mod gcc;
 pub mod laws;
 pub mod outputs;
 
-pub use option_items::{items, table};
+pub use option_items::{items, table, views};
 pub use texts::{
     bytes, compilation_flags, device_files, extension, fault, language, status, text, variables,
     words,

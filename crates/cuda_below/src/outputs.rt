@@ -183,7 +183,8 @@ impl PartialEq for Outputs {
     ghost use Rattle.std.specs.Cmp.Rules.{comparing};
     ghost use Rattle.std.proofs.Common.{rules};
 
-    ghost eq = { pointwise (eq_of_both (on (λ e. e.0) (pointwise nat_eq)) (on (λ e. e.1) (eq_of_both (on (λ d. d.path) (pointwise nat_eq)) (on (λ d. d.optional) beq)))) };
+    ghost eq = { pointwise (eq_of_both (on (λ e. e.0) (pointwise nat_eq))
+        (on (λ e. e.1) (eq_of_both (on (λ d. d.path) (pointwise nat_eq)) (on (λ d. d.optional) beq)))) };
 
     ghost laws = { Prim.search (comparing, rules) depth 9 };
 

@@ -1,5 +1,5 @@
 -- Lines that are read and written back, worked out by hand.
-use Rattle.std.proofs.Common.{◌≡◌, ℕ, List, [], ◌∷◌, false, Option, Some, None, Result, Ok, Err, codes, refl}
+use Rattle.std.proofs.Common.{◌≡◌, ℕ, List, [], ◌∷◌, ◌++◌, false, Option, Some, None, Result, Ok, Err, codes, refl}
 use Rattle.texts.specs.declared.language.Language.TheVariants as languages
 use Rattle.cuda_below.specs.declared.command.SingleCompileCommand.{SingleCompileCommand}
 use Rattle.cuda_below.specs.declared.command.Cacheable.{Cacheable}
@@ -37,7 +37,8 @@ device_code_words =
 -- it is read at `.`: its output and the module id file, which is read, are joined to that
 abbrev pub DeviceCodeLineIsRead : Type 0
 DeviceCodeLineIsRead =
-    cicc_reading (codes ".") device_code_words ≡ Some (record (plain_arguments (codes "kernel.cpp1.ii") languages.Ptx ((codes "obj", made_at false (codes "./kernel.ptx")) ∷ [])) {
+    cicc_reading (codes ".") device_code_words
+    ≡ Some (record (plain_arguments (codes "kernel.cpp1.ii") languages.Ptx ((codes "obj", made_at false (codes "./kernel.ptx")) ∷ [])) {
       common_args = spaced "--device-c -arch compute_80 --module_id_file_name kernel.module_id --simt-only";
       extra_dist_files = spaced "./kernel.module_id";
       extra_hash_files = spaced "./kernel.module_id";
@@ -90,7 +91,8 @@ abbrev pub FaultyItemIsDropped : Type 0
 FaultyItemIsDropped =
     (cicc_written_back (codes "/w") (spaced "k.cpp1.ii -o") ≡ Some (Err (MissingOutput languages.Ptx)))
     × (words_back cicc_words (codes "/w") (ptxas_reading (codes "/w") (spaced "k.ptx -o")) ≡ Some (Err (MissingOutput languages.Cubin)))
-    × (words_back cudafe_words (codes "/w") (cudafe_reading (codes "/w") (spaced "--module_id_file_name x.cpp4.ii")) ≡ Some (Err (MissingOutput languages.CudaFE)))
+    × (words_back cudafe_words (codes "/w") (cudafe_reading (codes "/w") (spaced "--module_id_file_name x.cpp4.ii"))
+    ≡ Some (Err (MissingOutput languages.CudaFE)))
 
 pub faulty_item_is_dropped : FaultyItemIsDropped
 faulty_item_is_dropped = (refl, refl, refl)
@@ -99,8 +101,12 @@ faulty_item_is_dropped = (refl, refl, refl)
 -- option; the stub file isn't
 abbrev pub HostLineIsRead : Type 0
 HostLineIsRead =
-    cudafe_reading (codes "/t") (spaced "--gen_c_file_name x_0.cudafe1.cpp --stub_file_name x_0.cudafe1.stub.c --gen_module_id_file --module_id_file_name kernel.module_id --simt-only x_0.cpp4.ii")
-    ≡ Some (record (plain_arguments (codes "x_0.cpp4.ii") languages.CudaFE ((codes "--gen_c_file_name", made_at false (codes "/t/x_0.cudafe1.cpp")) ∷ (codes "obj", made_at false (codes "/t/kernel.module_id")) ∷ [])) {
+    cudafe_reading (codes "/t")
+    (spaced "--gen_c_file_name x_0.cudafe1.cpp --stub_file_name x_0.cudafe1.stub.c --gen_module_id_file"
+    ++ spaced "--module_id_file_name kernel.module_id --simt-only x_0.cpp4.ii")
+    ≡ Some (record (plain_arguments (codes "x_0.cpp4.ii") languages.CudaFE
+    ((codes "--gen_c_file_name", made_at false (codes "/t/x_0.cudafe1.cpp"))
+    ∷ (codes "obj", made_at false (codes "/t/kernel.module_id")) ∷ [])) {
       common_args = spaced "--gen_module_id_file --simt-only";
       unhashed_args = spaced "--gen_c_file_name x_0.cudafe1.cpp --stub_file_name x_0.cudafe1.stub.c";
     })

@@ -38,9 +38,10 @@ with_item cwd g i = record {
 
 -- what has been gathered of all items, as arguments
 abbrev pub reading_of_gathered : List ℕ → Language → List ℕ → Gathered → ParsedArguments
-reading_of_gathered cwd language input g = record (plain_arguments input language (fold with_entry g.outputs (module_id_output cwd g.makes_module_id g.module_id))) {
-  common_args = g.common;
-  unhashed_args = g.unhashed;
-  extra_dist_files = module_id_file cwd g.makes_module_id g.module_id;
-  extra_hash_files = module_id_file cwd g.makes_module_id g.module_id;
-}
+reading_of_gathered cwd language input g = record (plain_arguments input language
+    (fold with_entry g.outputs (module_id_output cwd g.makes_module_id g.module_id))) {
+      common_args = g.common;
+      unhashed_args = g.unhashed;
+      extra_dist_files = module_id_file cwd g.makes_module_id g.module_id;
+      extra_hash_files = module_id_file cwd g.makes_module_id g.module_id;
+    }

@@ -15,4 +15,6 @@ StepHolds left_after (Fails kind) = kind ≢ Interrupted
 -- one read, of the bytes left and those gathered before and after it: it adds what it takes
 abbrev pub ReadsOn : Option (List ℕ) → Option (List ℕ) → List ℕ → List ℕ → Result Step AllocError → Type 0
 ReadsOn left left_after gathered gathered_after answer =
-    MatchResult answer (λ step. (bytes : List ℕ) × Consumes left left_after bytes × (gathered_after ≡ gathered ++ bytes) × StepHolds left_after step) (λ _. Unit {0})
+    MatchResult answer
+    (λ step. (bytes : List ℕ) × Consumes left left_after bytes × (gathered_after ≡ gathered ++ bytes) × StepHolds left_after step)
+    (λ _. Unit {0})

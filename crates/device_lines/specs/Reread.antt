@@ -43,12 +43,15 @@ module _ (chosen : List ℕ → Option (Entry ArgData)) where
   -- a line's common words and then its unhashed ones are read as the items that they were written for
   abbrev pub KeptWordsReadBack : Type 0
   KeptWordsReadBack =
-      (line : List (List ℕ)) → AllFilled (items chosen line) → items chosen (common_words line ++ unhashed_words line) ≡ common_items (items chosen line) ++ unhashed_items (items chosen line)
+      (line : List (List ℕ)) → AllFilled (items chosen line) → items chosen (common_words line ++ unhashed_words line)
+      ≡ common_items (items chosen line) ++ unhashed_items (items chosen line)
 
   -- and as a line they have the same common words and the same unhashed ones
   abbrev pub KeptWordsStay : Type 0
   KeptWordsStay =
-      (line : List (List ℕ)) → AllFilled (items chosen line) → (common_words (common_words line ++ unhashed_words line) ≡ common_words line) × (unhashed_words (common_words line ++ unhashed_words line) ≡ unhashed_words line)
+      (line : List (List ℕ)) → AllFilled (items chosen line)
+      → (common_words (common_words line ++ unhashed_words line) ≡ common_words line)
+      × (unhashed_words (common_words line ++ unhashed_words line) ≡ unhashed_words line)
 
 -- at most one word of a line is by its end the input of the tool that makes this kind of file
 abbrev pub AtMostOneInputWord : Language → List (List ℕ) → Type 0
@@ -76,7 +79,8 @@ CiccLinesReread =
 -- so do ptxas's, if besides no option has an empty value joined to it
 abbrev pub PtxasLinesReread : Type 0
 PtxasLinesReread =
-    (cwd : List ℕ) (words : List (List ℕ)) → is_absolute_path cwd ≡ true → AtMostOneInputWord Cubin words → NoEmptyValue ptxas_options Cubin 3 words → Rereads ptxas_options Cubin 3 cicc_words cwd words
+    (cwd : List ℕ) (words : List (List ℕ)) → is_absolute_path cwd ≡ true → AtMostOneInputWord Cubin words
+    → NoEmptyValue ptxas_options Cubin 3 words → Rereads ptxas_options Cubin 3 cicc_words cwd words
 
 -- cudafe++'s lines reread at every absolute working directory
 abbrev pub CudaFELinesReread : Type 0
@@ -95,7 +99,8 @@ CiccLinesRereadWithSeveralInputs = (cwd : List ℕ) (words : List (List ℕ)) �
 
 abbrev pub PtxasLinesRereadWithSeveralInputs : Type 0
 PtxasLinesRereadWithSeveralInputs =
-    (cwd : List ℕ) (words : List (List ℕ)) → is_absolute_path cwd ≡ true → NoEmptyValue ptxas_options Cubin 3 words → Rereads ptxas_options Cubin 3 cicc_words cwd words
+    (cwd : List ℕ) (words : List (List ℕ)) → is_absolute_path cwd ≡ true
+    → NoEmptyValue ptxas_options Cubin 3 words → Rereads ptxas_options Cubin 3 cicc_words cwd words
 
 -- each tool's lines, at any working directory
 abbrev pub CiccLinesRereadAnywhere : Type 0
@@ -103,7 +108,8 @@ CiccLinesRereadAnywhere = (cwd : List ℕ) (words : List (List ℕ)) → AtMostO
 
 abbrev pub PtxasLinesRereadAnywhere : Type 0
 PtxasLinesRereadAnywhere =
-    (cwd : List ℕ) (words : List (List ℕ)) → AtMostOneInputWord Cubin words → NoEmptyValue ptxas_options Cubin 3 words → Rereads ptxas_options Cubin 3 cicc_words cwd words
+    (cwd : List ℕ) (words : List (List ℕ)) → AtMostOneInputWord Cubin words
+    → NoEmptyValue ptxas_options Cubin 3 words → Rereads ptxas_options Cubin 3 cicc_words cwd words
 
 abbrev pub CudaFELinesRereadAnywhere : Type 0
 CudaFELinesRereadAnywhere = (cwd : List ℕ) (words : List (List ℕ)) → Rereads cudafe_options CudaFE 1 cudafe_words cwd words

@@ -1,6 +1,6 @@
 -- Lines that are written back and read again, worked out by hand: lines that the law is about, and for each tool and each
 -- of its premises a line without it that isn't read as the same.
-use Rattle.std.proofs.Common.{◌≡◌, ℕ, List, Option, Some, Ok, Err, codes, refl}
+use Rattle.std.proofs.Common.{◌≡◌, ℕ, List, ◌++◌, Option, Some, Ok, Err, codes, refl}
 use Rattle.std.specs.Option.{option_map}
 use Rattle.texts.specs.declared.language.Language.TheVariants.{Cubin}
 use Rattle.texts.specs.declared.fault.Fault.TheVariants.{MissingOutput}
@@ -13,7 +13,8 @@ use Rattle.device_lines.specs.DeviceWords.{cicc_words, cudafe_words}
 use Rattle.device_lines.specs.DeviceRows.{words_back, device_code_words}
 
 -- a line is written back as other words, which are read as the same arguments
-abbrev pub GoesAndComes : (List (List ℕ) → Option ParsedArguments) → (ParsedArguments → List ℕ → List (List ℕ)) → List ℕ → List (List ℕ) → List (List ℕ) → Type 0
+abbrev pub GoesAndComes : (List (List ℕ) → Option ParsedArguments)
+    → (ParsedArguments → List ℕ → List (List ℕ)) → List ℕ → List (List ℕ) → List (List ℕ) → Type 0
 GoesAndComes read words_to_write cwd words back = (words_back words_to_write cwd (read words) ≡ Some (Ok back)) × (read back ≡ read words)
 
 -- cicc's device-code line
@@ -30,8 +31,10 @@ device_code_line_rereads = (refl, refl)
 abbrev pub RenamedHostLineRereads : Type 0
 RenamedHostLineRereads =
     GoesAndComes (cudafe_reading (codes "/t")) cudafe_words (codes "/t")
-    (spaced "--gen_c_file_name x_0.cudafe1.cpp --stub_file_name x_0.cudafe1.stub.c --gen_module_id_file --module_id_file_name kernel.module_id --simt-only x_0.cpp4.ii")
-    (spaced "--gen_module_id_file --simt-only --gen_c_file_name x_0.cudafe1.cpp --stub_file_name x_0.cudafe1.stub.c --module_id_file_name /t/kernel.module_id x_0.cpp4.ii")
+    (spaced "--gen_c_file_name x_0.cudafe1.cpp --stub_file_name x_0.cudafe1.stub.c --gen_module_id_file"
+    ++ spaced "--module_id_file_name kernel.module_id --simt-only x_0.cpp4.ii")
+    (spaced "--gen_module_id_file --simt-only --gen_c_file_name x_0.cudafe1.cpp --stub_file_name x_0.cudafe1.stub.c"
+    ++ spaced "--module_id_file_name /t/kernel.module_id x_0.cpp4.ii")
 
 pub renamed_host_line_rereads : RenamedHostLineRereads
 renamed_host_line_rereads = (refl, refl)
@@ -40,8 +43,14 @@ renamed_host_line_rereads = (refl, refl)
 abbrev pub HostLineRereads : Type 0
 HostLineRereads =
     GoesAndComes (cudafe_reading (codes "/t")) cudafe_words (codes "/t")
-    (spaced "--c++17 --static-host-stub --device-hidden-visibility --gnu_version=120200 --display_error_number --orig_src_file_name kernel.cu --orig_src_path_name /w/kernel.cu --allow_managed --m64 --parse_templates --gen_c_file_name kernel.cudafe1.cpp --stub_file_name kernel.cudafe1.stub.c --gen_module_id_file --module_id_file_name kernel.module_id kernel.cpp4.ii")
-    (spaced "--c++17 --static-host-stub --device-hidden-visibility --gnu_version=120200 --display_error_number --orig_src_file_name kernel.cu --orig_src_path_name /w/kernel.cu --allow_managed --m64 --parse_templates --gen_module_id_file --gen_c_file_name kernel.cudafe1.cpp --stub_file_name kernel.cudafe1.stub.c --module_id_file_name /t/kernel.module_id kernel.cpp4.ii")
+    (spaced "--c++17 --static-host-stub --device-hidden-visibility --gnu_version=120200 --display_error_number"
+    ++ spaced "--orig_src_file_name kernel.cu --orig_src_path_name /w/kernel.cu --allow_managed --m64 --parse_templates"
+    ++ spaced "--gen_c_file_name kernel.cudafe1.cpp --stub_file_name kernel.cudafe1.stub.c --gen_module_id_file"
+    ++ spaced "--module_id_file_name kernel.module_id kernel.cpp4.ii")
+    (spaced "--c++17 --static-host-stub --device-hidden-visibility --gnu_version=120200 --display_error_number"
+    ++ spaced "--orig_src_file_name kernel.cu --orig_src_path_name /w/kernel.cu --allow_managed --m64 --parse_templates"
+    ++ spaced "--gen_module_id_file --gen_c_file_name kernel.cudafe1.cpp --stub_file_name kernel.cudafe1.stub.c"
+    ++ spaced "--module_id_file_name /t/kernel.module_id kernel.cpp4.ii")
 
 pub host_line_rereads : HostLineRereads
 host_line_rereads = (refl, refl)
@@ -91,7 +100,8 @@ pub second_input_comes_first : SecondInputComesFirst
 second_input_comes_first = ((refl, refl, refl), (refl, refl, refl))
 
 -- a line at the working directory `.` is written back as other words, and these as others again
-abbrev pub ChangesTwice : (List (List ℕ) → Option ParsedArguments) → (ParsedArguments → List ℕ → List (List ℕ)) → List (List ℕ) → List (List ℕ) → List (List ℕ) → Type 0
+abbrev pub ChangesTwice : (List (List ℕ) → Option ParsedArguments)
+    → (ParsedArguments → List ℕ → List (List ℕ)) → List (List ℕ) → List (List ℕ) → List (List ℕ) → Type 0
 ChangesTwice read words_to_write words back again =
     (words_back words_to_write (codes ".") (read words) ≡ Some (Ok back)) × (words_back words_to_write (codes ".") (read back) ≡ Some (Ok again))
 

@@ -1,5 +1,6 @@
 -- The items of a command line, and the words that an item is written as.
-use Rattle.std.specs.Prelude.{◌≡◌, ℕ, List, [], ◌∷◌, ◌++◌, Bool, true, false, ◌==◌, if◌then◌else◌, Option, Some, None, Result, Ok, Err, IfSome, IfNone, string_bytes, encode_utf8}
+use Rattle.std.specs.Prelude.{◌≡◌, ℕ, List, [], ◌∷◌, ◌++◌, Bool, true, false, ◌==◌, if◌then◌else◌, Option, Some, None}
+use Rattle.std.specs.Prelude.{Result, Ok, Err, IfSome, IfNone, string_bytes, encode_utf8}
 use Rattle.option_items.specs.declared.table.ArgDisposition.{ArgDisposition}
 use Rattle.option_items.specs.declared.table.ArgDisposition.TheVariants.{Separated, Concatenated, CanBeSeparated, CanBeConcatenated}
 use Rattle.option_items.specs.declared.items.Argument.{Argument}
@@ -180,7 +181,8 @@ words_after chosen (w ∷ before) = words_past (said_of w (chosen w)) before
 -- the first of the items left; if none comes, memory was refused or no word is left; a reader that met refused
 -- memory gives nothing more; without words nothing comes, and no refusal; and the words left are those after the
 -- first item, also when memory was refused for it
-pub record ReadsItem {T : Type 0} (chosen : List ℕ → Option (Entry T)) (before : List (List ℕ)) (was_refused : Bool) (read : Option (Item T)) (after : List (List ℕ)) (refused : Bool) : Type 0 where
+pub record ReadsItem {T : Type 0} (chosen : List ℕ → Option (Entry T)) (before : List (List ℕ)) (was_refused : Bool)
+    (read : Option (Item T)) (after : List (List ℕ)) (refused : Bool) : Type 0 where
   pub next : IfSome read (λ i. items chosen before ≡ i ∷ items chosen after)
   pub goes_on : IfSome read (λ _. refused ≡ false)
   pub at_end : IfNone read (refused ≡ false → before ≡ [])

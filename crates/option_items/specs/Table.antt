@@ -1,5 +1,6 @@
 -- Option tables: what an entry makes of a word, and which entry of a table a word chooses.
-use Rattle.std.specs.Prelude.{◌≡◌, ℕ, ◌≤◌, List, [], ◌∷◌, Bool, true, ◌==◌, ◌&&◌, nat_lt, if◌then◌else◌, Option, Some, None, is_some, length, fold, IsSome, MatchOption, All, Contains}
+use Rattle.std.specs.Prelude.{◌≡◌, ℕ, ◌≤◌, List, [], ◌∷◌, Bool, true, ◌==◌, ◌&&◌, nat_lt, if◌then◌else◌, Option, Some}
+use Rattle.std.specs.Prelude.{None, is_some, length, fold, IsSome, MatchOption, All, Contains}
 use Rattle.std.specs.Option.{option_map, option_and_then}
 use Rattle.texts.specs.Lists.{rest_after}
 use Rattle.option_items.specs.declared.table.ArgDisposition.{ArgDisposition}
@@ -63,7 +64,8 @@ module _ {T : Type 0} where
   -- an entry of greatest text length among those that match the word, and none exactly if none matches
   abbrev pub IsLongestMatch : List (Entry T) → List ℕ → Option (Entry T) → Type 0
   IsLongestMatch entries word choice =
-      MatchOption choice (All (λ e. matched e word ≡ None) entries) (λ e. Contains entries e × IsSome (matched e word) × All (λ f. IsSome (matched f word) → length f.text ≤ length e.text) entries)
+      MatchOption choice (All (λ e. matched e word ≡ None) entries)
+      (λ e. Contains entries e × IsSome (matched e word) × All (λ f. IsSome (matched f word) → length f.text ≤ length e.text) entries)
 
   -- whether an entry's text is longer than that of the choice so far
   abbrev pub is_longer : Entry T → Option (Entry T) → Bool

@@ -41,7 +41,8 @@ module _ {T : Type 0} (chosen : List ℕ → Option (Entry T)) where
   -- are the items of the words after them
   abbrev pub WordsAreThoseRead : Type 0
   WordsAreThoseRead =
-      (line : List (List ℕ)) (i : Item T) (later : List (Item T)) → items chosen line ≡ i ∷ later → is_whole i ≡ true → (after : List (List ℕ)) × (line ≡ words_of i ++ after) × (later ≡ items chosen after)
+      (line : List (List ℕ)) (i : Item T) (later : List (Item T)) → items chosen line ≡ i ∷ later
+      → is_whole i ≡ true → (after : List (List ℕ)) × (line ≡ words_of i ++ after) × (later ≡ items chosen after)
 
   -- the words of a whole item that was read over the table are read as that item, whatever words come after them
   abbrev pub WordsReadBack : Type 0
@@ -50,7 +51,8 @@ module _ {T : Type 0} (chosen : List ℕ → Option (Entry T)) where
   -- the same of the words of a list of such items
   abbrev pub ListsReadBack : Type 0
   ListsReadBack =
-      (is : List (Item T)) → AllByRecursion IsReadOver is → AllWhole is → (after : List (List ℕ)) → items chosen (flat_map words_of is ++ after) ≡ is ++ items chosen after
+      (is : List (Item T)) → AllByRecursion IsReadOver is → AllWhole is → (after : List (List ℕ))
+      → items chosen (flat_map words_of is ++ after) ≡ is ++ items chosen after
 
   -- the items of a line, each with the part of the line that it was read from: its first word, and for an option
   -- that takes the next word that one

@@ -142,7 +142,7 @@ impl<'a> Gathered<'a> {
         }
     }
 
-    // Takes an option of the table, of this kind, text and value.
+    // Takes an option of the table, which is no unknown flag.
     fn take_option(
         &mut self,
         alloc: Global,
