@@ -151,6 +151,9 @@ pub(crate) fn asked_behind(
 /// found ends the list, as it ends the reading. Reading ends at the first program that isn't found, too: then the list
 /// also holds what the lines behind it would have asked for.
 ///
+/// Each command is compared with the look-ups listed before it. A text whose commands all name different programs takes
+/// time in the square of their number; nvcc names some ten.
+///
 /// The only error is want of memory. A text that can't be read is refused by `read_dry_run`.
 pub fn asked_lookups(alloc: Global, dry_run: &[u8], folder: &str) -> Result<Vec<Lookup>, AllocError>
     ensures { IfOk result (λ lookups. lookups.items ≡ asked_of dry_run.now folder.now) }
