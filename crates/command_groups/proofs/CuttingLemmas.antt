@@ -95,7 +95,7 @@ module _ (s : PlanSetting) (opened : Opened) (d : Distinct (names_of opened)) wh
   all_groups ps = groups_of s (names_of opened) ps
 
   abbrev all_dropped : List PlacedCommand → List Dropped
-  all_dropped ps = filter_map (λ p. dropped_by p.place p.staged.command) ps
+  all_dropped ps = filter_map (λ p. dropped_by p.fate p.staged.command) ps
 
   abbrev groups_with : Result ℕ Reason → StagedCommand → List (List NvccGeneratedSubcommand) → List (List NvccGeneratedSubcommand)
   groups_with (Ok place) c gs = cons_at place (subcommand_of s c) gs
@@ -107,7 +107,7 @@ module _ (s : PlanSetting) (opened : Opened) (d : Distinct (names_of opened)) wh
 
   abbrev Fits : StagedCommand → List PlacedCommand → Fate → Result ℕ Reason → Type 0
   Fits c ps place r =
-      (all_groups (record { staged = c; place = place } ∷ ps) ≡ groups_with r c (all_groups ps)) × (all_dropped (record { staged = c; place = place } ∷ ps) ≡ dropped_with r c (all_dropped ps))
+      (all_groups (record { staged = c; fate = place } ∷ ps) ≡ groups_with r c (all_groups ps)) × (all_dropped (record { staged = c; fate = place } ∷ ps) ≡ dropped_with r c (all_dropped ps))
 
   fits_device : (c : StagedCommand) (ps : List PlacedCommand) (o : Opening) (e : Option (List ℕ × ℕ)) → slice_get opened o.number ≡ e → Fits c ps (fate_at e o.step) (if is_some_and (λ q. q.1 == o.step) e then Ok (suc o.number) else Err Superseded)
   fits_device c ps o None h = (refl, refl)
@@ -118,20 +118,20 @@ module _ (s : PlanSetting) (opened : Opened) (d : Distinct (names_of opened)) wh
       ]
     where
       joined_by_name : (e : List ℕ × ℕ) → slice_get opened o.number ≡ Some e →
-          map (λ name. group_of s (is_device name) (record { staged = c; place = device e.0 } ∷ ps)) (names_of opened) ++ group_of s is_final ps ∷ [] ≡
+          map (λ name. group_of s (is_device name) (record { staged = c; fate = device e.0 } ∷ ps)) (names_of opened) ++ group_of s is_final ps ∷ [] ≡
           cons_at o.number (subcommand_of s c) (map (λ name. group_of s (is_device name) ps) (names_of opened) ++ group_of s is_final ps ∷ [])
       joined_by_name e h =
           ap (λ gs. gs ++ group_of s is_final ps ∷ []) (pointwise e (names_of opened))
           ∙ joined_at (subcommand_of s c) (λ name. group_of s (is_device name) ps) opened o.number e (group_of s is_final ps ∷ []) d h
         where
-          one : (e : List ℕ × ℕ) (name : List ℕ) → group_of s (is_device name) (record { staged = c; place = device e.0 } ∷ ps) ≡ joined_by (subcommand_of s c) (λ n. group_of s (is_device n) ps) e.0 name
+          one : (e : List ℕ × ℕ) (name : List ℕ) → group_of s (is_device name) (record { staged = c; fate = device e.0 } ∷ ps) ≡ joined_by (subcommand_of s c) (λ n. group_of s (is_device n) ps) e.0 name
           one e name =
               elim (bytes_eq e.0 name)
-              as (λ b. map (λ p. subcommand_of s p.staged) (cond b (record { staged = c; place = device e.0 } ∷ of_fate (is_device name) ps) (of_fate (is_device name) ps)) ≡ cond b (subcommand_of s c ∷ group_of s (is_device name) ps) (group_of s (is_device name) ps))
+              as (λ b. map (λ p. subcommand_of s p.staged) (cond b (record { staged = c; fate = device e.0 } ∷ of_fate (is_device name) ps) (of_fate (is_device name) ps)) ≡ cond b (subcommand_of s c ∷ group_of s (is_device name) ps) (group_of s (is_device name) ps))
               [ true ↦ refl | false ↦ refl ]
 
           pointwise : (e : List ℕ × ℕ) (names : List (List ℕ)) →
-              map (λ name. group_of s (is_device name) (record { staged = c; place = device e.0 } ∷ ps)) names ≡ map (joined_by (subcommand_of s c) (λ name. group_of s (is_device name) ps) e.0) names
+              map (λ name. group_of s (is_device name) (record { staged = c; fate = device e.0 } ∷ ps)) names ≡ map (joined_by (subcommand_of s c) (λ name. group_of s (is_device name) ps) e.0) names
           pointwise e [] = refl
           pointwise e (n ∷ ns) = λ i. one e n i ∷ pointwise e ns i
 
@@ -145,7 +145,7 @@ module _ (s : PlanSetting) (opened : Opened) (d : Distinct (names_of opened)) wh
   abbrev cut_with : CutState → List PlacedCommand → CutState
   cut_with cut ps = record { groups = zipped cut.groups (all_groups ps); dropped = cut.dropped ++ all_dropped ps }
 
-  by_result : (cut : CutState) (c : StagedCommand) (ps : List PlacedCommand) (place : Fate) (r : Result ℕ Reason) → Fits c ps place r → cut_with (with_grouped s cut c r) ps ≡ cut_with cut (record { staged = c; place = place } ∷ ps)
+  by_result : (cut : CutState) (c : StagedCommand) (ps : List PlacedCommand) (place : Fate) (r : Result ℕ Reason) → Fits c ps place r → cut_with (with_grouped s cut c r) ps ≡ cut_with cut (record { staged = c; fate = place } ∷ ps)
   by_result cut c ps place (Ok k) f = λ i. record {
     groups = (put_before k (subcommand_of s c) cut.groups (all_groups ps) ∙ ap (zipped cut.groups) (sym f.0)) i;
     dropped = cut.dropped ++ sym f.1 i;
@@ -196,4 +196,4 @@ pub cut_is_plan : (s : PlanSetting) (commands : List StagedCommand) → plan_by_
 cut_is_plan s commands =
     let g : GroupingState = grouped commands in
     ap (λ (c : CutState). record { groups = c.groups; dropped = c.dropped }) (cut_is s g.opened (names_are_distinct commands) g.labelled)
-    ∙ (λ i. record { groups = groups_of s (names_are_opened commands i) (labels_are_fates commands i); dropped = filter_map (λ p. dropped_by p.place p.staged.command) (labels_are_fates commands i) })
+    ∙ (λ i. record { groups = groups_of s (names_are_opened commands i) (labels_are_fates commands i); dropped = filter_map (λ p. dropped_by p.fate p.staged.command) (labels_are_fates commands i) })

@@ -107,7 +107,7 @@ Named names (ungrouped reason) = Unit {0}
 
 abbrev AllNamed : List (List ℕ) → List PlacedCommand → Type 0
 AllNamed names [] = Unit {0}
-AllNamed names (p ∷ ps) = Named names p.place × AllNamed names ps
+AllNamed names (p ∷ ps) = Named names p.fate × AllNamed names ps
 
 pub known_with : (names : List (List ℕ)) (name : Option (List ℕ)) (m : List ℕ) → list_any (bytes_eq m) names ≡ true → list_any (bytes_eq m) (with_name names name) ≡ true
 known_with names None m e = e
@@ -123,9 +123,9 @@ named_with names name (ungrouped reason) h = tt
 
 all_named_with : (names : List (List ℕ)) (name : Option (List ℕ)) (ps : List PlacedCommand) → AllNamed names ps → AllNamed (with_name names name) ps
 all_named_with names name [] h = tt
-all_named_with names name (p ∷ ps) h = (named_with names name p.place h.0, all_named_with names name ps h.1)
+all_named_with names name (p ∷ ps) h = (named_with names name p.fate h.0, all_named_with names name ps h.1)
 
-all_named_push : (names : List (List ℕ)) (ps : List PlacedCommand) (p : PlacedCommand) → AllNamed names ps → Named names p.place → AllNamed names (ps ++ p ∷ [])
+all_named_push : (names : List (List ℕ)) (ps : List PlacedCommand) (p : PlacedCommand) → AllNamed names ps → Named names p.fate → AllNamed names (ps ++ p ∷ [])
 all_named_push names [] p h k = (k, tt)
 all_named_push names (q ∷ qs) p h k = (h.0, all_named_push names qs p h.1 k)
 
@@ -165,7 +165,7 @@ place_named names before foreign = tt
 placed_named : (names : List (List ℕ)) (before : List PlacedCommand) (commands : List StagedCommand) → AllNamed names before → AllNamed (names_after names commands) (placed_after names before commands)
 placed_named names before [] h = h
 placed_named names before (c ∷ cs) h =
-    let p : PlacedCommand = record { staged = c; place = place_of names before c.stage } in
+    let p : PlacedCommand = record { staged = c; fate = place_of names before c.stage } in
     placed_named (with_name names (opens c.stage)) (before ++ p ∷ []) cs
     (all_named_push (with_name names (opens c.stage)) before p (all_named_with names (opens c.stage) before h) (place_named names before c.stage))
 
@@ -177,7 +177,7 @@ fate_named names after (ungrouped reason) h = tt
 
 fates_named : (names : List (List ℕ)) (ps : List PlacedCommand) → AllNamed names ps → AllNamed names (with_fates ps)
 fates_named names [] h = tt
-fates_named names (p ∷ ps) h = (fate_named names ps p.place h.0, fates_named names ps h.1)
+fates_named names (p ∷ ps) h = (fate_named names ps p.fate h.0, fates_named names ps h.1)
 
 -- The commands themselves stay as they are.
 
@@ -192,7 +192,7 @@ push_staged (q ∷ qs) p cs = λ i. q.staged ∷ push_staged qs p cs i
 pub placed_staged : (names : List (List ℕ)) (before : List PlacedCommand) (commands : List StagedCommand) → map (λ q. q.staged) (placed_after names before commands) ≡ (map (λ q. q.staged) before ++ commands)
 placed_staged names before [] = nil_right (map (λ q. q.staged) before)
 placed_staged names before (c ∷ cs) =
-    let p : PlacedCommand = record { staged = c; place = place_of names before c.stage } in
+    let p : PlacedCommand = record { staged = c; fate = place_of names before c.stage } in
     placed_staged (with_name names (opens c.stage)) (before ++ p ∷ []) cs ∙ push_staged before p cs
 
 pub fates_staged : (ps : List PlacedCommand) → map (λ q. q.staged) (with_fates ps) ≡ map (λ q. q.staged) ps
@@ -234,10 +234,10 @@ module _ (F : List ℕ → List PlacedCommand) (p : PlacedCommand) (m : List ℕ
 
 module _ (names : List (List ℕ)) (d : Distinct names) where
   -- one more command in front: it joins the list of its fate
-  regroup_one : (s : StagedCommand) (place : Fate) (ps : List PlacedCommand) → Named names place → IsPermutation ps (regrouped names ps) → IsPermutation (record { staged = s; place = place } ∷ ps) (regrouped names (record { staged = s; place = place } ∷ ps))
-  regroup_one s front ps n h = IsPermutation-cons (record { staged = s; place = front }) ps (regrouped names ps) h
+  regroup_one : (s : StagedCommand) (place : Fate) (ps : List PlacedCommand) → Named names place → IsPermutation ps (regrouped names ps) → IsPermutation (record { staged = s; fate = place } ∷ ps) (regrouped names (record { staged = s; fate = place } ∷ ps))
+  regroup_one s front ps n h = IsPermutation-cons (record { staged = s; fate = front }) ps (regrouped names ps) h
   regroup_one s (device m) ps n h =
-      let p : PlacedCommand = record { staged = s; place = device m } in
+      let p : PlacedCommand = record { staged = s; fate = device m } in
       let A : List PlacedCommand = of_fate is_front ps in
       let B : List PlacedCommand = flat_map (λ name. of_fate (is_device name) ps) names in
       let C : List PlacedCommand = of_fate is_final ps ++ of_fate is_ungrouped ps in
@@ -247,7 +247,7 @@ module _ (names : List (List ℕ)) (d : Distinct names) where
       (IsPermutation-append_right A (p ∷ (B ++ C)) (B' ++ C)
       (IsPermutation-append_left C (p ∷ B) B' (joins_one (λ name. of_fate (is_device name) ps) p m names d n))))
   regroup_one s final ps n h =
-      let p : PlacedCommand = record { staged = s; place = final } in
+      let p : PlacedCommand = record { staged = s; fate = final } in
       let A : List PlacedCommand = of_fate is_front ps in
       let B : List PlacedCommand = flat_map (λ name. of_fate (is_device name) ps) names in
       let C : List PlacedCommand = of_fate is_final ps ++ of_fate is_ungrouped ps in
@@ -255,7 +255,7 @@ module _ (names : List (List ℕ)) (d : Distinct names) where
       (IsPermutation-trans (p ∷ (A ++ (B ++ C))) (A ++ p ∷ (B ++ C)) (A ++ (B ++ p ∷ C)) (behind A (B ++ C) p)
       (IsPermutation-append_right A (p ∷ (B ++ C)) (B ++ p ∷ C) (behind B C p)))
   regroup_one s (ungrouped reason) ps n h =
-      let p : PlacedCommand = record { staged = s; place = ungrouped reason } in
+      let p : PlacedCommand = record { staged = s; fate = ungrouped reason } in
       let A : List PlacedCommand = of_fate is_front ps in
       let B : List PlacedCommand = flat_map (λ name. of_fate (is_device name) ps) names in
       let C : List PlacedCommand = of_fate is_final ps in
@@ -268,7 +268,7 @@ module _ (names : List (List ℕ)) (d : Distinct names) where
 
   regroup : (ps : List PlacedCommand) → AllNamed names ps → IsPermutation ps (regrouped names ps)
   regroup [] h = subst (λ (rest : List PlacedCommand). IsPermutation [] (rest ++ [])) (sym (no_groups names)) (IsPermutation-refl [])
-  regroup (p ∷ ps) h = regroup_one p.staged p.place ps h.0 (regroup ps h.1)
+  regroup (p ∷ ps) h = regroup_one p.staged p.fate ps h.0 (regroup ps h.1)
 
 pub each_has_one_fate : EachHasOneFate
 each_has_one_fate commands =
@@ -281,7 +281,7 @@ each_has_one_fate commands =
 
 -- a step that opens a name is placed in the group of that name
 abbrev AtHome : List ℕ → PlacedCommand → Type 0
-AtHome name p = opens_name name p ≡ true → is_device name p.place ≡ true
+AtHome name p = opens_name name p ≡ true → is_device name p.fate ≡ true
 
 abbrev AllAtHome : List ℕ → List PlacedCommand → Type 0
 AllAtHome name [] = Unit {0}
@@ -304,7 +304,7 @@ home_push name (q ∷ qs) p h k = (h.0, home_push name qs p h.1 k)
 all_home : (name : List ℕ) (names : List (List ℕ)) (before : List PlacedCommand) (commands : List StagedCommand) → AllAtHome name before → AllAtHome name (placed_after names before commands)
 all_home name names before [] h = h
 all_home name names before (c ∷ cs) h =
-    let p : PlacedCommand = record { staged = c; place = place_of names before c.stage } in
+    let p : PlacedCommand = record { staged = c; fate = place_of names before c.stage } in
     all_home name (with_name names (opens c.stage)) (before ++ p ∷ []) cs (home_push name before p h (home name names before c.stage))
 
 -- a name that is known after a step was known before it, or the step opens it
@@ -323,7 +323,7 @@ known_or_opened names (Some x) name b f e =
 names_are_opened : (name : List ℕ) (names : List (List ℕ)) (before : List PlacedCommand) (commands : List StagedCommand) → (list_any (bytes_eq name) names ≡ true → list_any (opens_name name) before ≡ true) → list_any (bytes_eq name) (names_after names commands) ≡ true → list_any (opens_name name) (placed_after names before commands) ≡ true
 names_are_opened name names before [] f e = f e
 names_are_opened name names before (c ∷ cs) f e =
-    let p : PlacedCommand = record { staged = c; place = place_of names before c.stage } in
+    let p : PlacedCommand = record { staged = c; fate = place_of names before c.stage } in
     names_are_opened name (with_name names (opens c.stage)) (before ++ p ∷ []) cs
     (λ k. any_append (opens_name name) before (p ∷ []) ∙ known_or_opened names (opens c.stage) name (list_any (opens_name name) before) f k) e
 
@@ -357,16 +357,16 @@ stays name after (ungrouped reason) e f = absurd (false≢true e)
 begins : (name : List ℕ) (ps : List PlacedCommand) → AllAtHome name ps → list_any (opens_name name) ps ≡ true → BeginsWithLastStep name (with_fates ps)
 begins name [] h e = absurd (false≢true e)
 begins name (p ∷ ps) h e =
-    let fp : PlacedCommand = record { staged = p.staged; place = fate_of ps p.place } in
+    let fp : PlacedCommand = record { staged = p.staged; fate = fate_of ps p.fate } in
     let rest : List PlacedCommand = of_fate (is_device name) (with_fates ps) in
     let ih : (list_any (opens_name name) ps ≡ true → BeginsWithLastStep name (with_fates ps)) = begins name ps h.1 in
     (elim (list_any (opens_name name) ps) as (λ b. list_any (opens_name name) ps ≡ b → BeginsWithLastStep name (fp ∷ with_fates ps)) [
       | true ↦ λ f.
           let t : BeginsWithLastStep name (with_fates ps) = ih f in
-          (fp ∷ t.0, t.1, t.2, ap (λ xs. fp ∷ xs) t.3, t.4, t.5, ap (λ b. cond b (fp ∷ rest) rest) (lost name ps p.place f) ∙ t.6)
+          (fp ∷ t.0, t.1, t.2, ap (λ xs. fp ∷ xs) t.3, t.4, t.5, ap (λ b. cond b (fp ∷ rest) rest) (lost name ps p.fate f) ∙ t.6)
       | false ↦ λ f.
           let opening : opens_name name p ≡ true = true_before_false (opens_name name p) (list_any (opens_name name) ps) e f in
-          ([], fp, with_fates ps, refl, opening, opened_by_fates name ps ∙ f, ap (λ b. cond b (fp ∷ rest) rest) (stays name ps p.place (h.0 opening) f))
+          ([], fp, with_fates ps, refl, opening, opened_by_fates name ps ∙ f, ap (λ b. cond b (fp ∷ rest) rest) (stays name ps p.fate (h.0 opening) f))
     ]) refl
 
 pub device_groups_begin_with_their_step : DeviceGroupsBeginWithTheirStep

@@ -26,7 +26,7 @@ relabelled_by None place = place
 relabelled_by (Some name) place = relabelled name place
 
 abbrev with_place : Fate → PlacedCommand → PlacedCommand
-with_place place p = record { staged = p.staged; place = place }
+with_place place p = record { staged = p.staged; fate = place }
 
 last_fate : (place : Fate) → fate_of [] place ≡ place
 last_fate front = refl
@@ -54,9 +54,9 @@ fate_pushed after p (Some name) e (device m) =
     ])
 
 fates_pushed : (before : List PlacedCommand) (p : PlacedCommand) (opened : Option (List ℕ)) → opens p.staged.stage ≡ opened →
-    with_fates (before ++ p ∷ []) ≡ map (λ q. with_place (relabelled_by opened q.place) q) (with_fates before) ++ p ∷ []
-fates_pushed [] p opened e = λ i. record { staged = p.staged; place = last_fate p.place i } ∷ []
-fates_pushed (q ∷ qs) p opened e = λ i. record { staged = q.staged; place = fate_pushed qs p opened e q.place i } ∷ fates_pushed qs p opened e i
+    with_fates (before ++ p ∷ []) ≡ map (λ q. with_place (relabelled_by opened q.fate) q) (with_fates before) ++ p ∷ []
+fates_pushed [] p opened e = λ i. record { staged = p.staged; fate = last_fate p.fate i } ∷ []
+fates_pushed (q ∷ qs) p opened e = λ i. record { staged = q.staged; fate = fate_pushed qs p opened e q.fate i } ∷ fates_pushed qs p opened e i
 
 -- What is made, with one more command.
 
@@ -83,7 +83,7 @@ kept false = refl
 quiet_made : (path : List ℕ) (before : List PlacedCommand) (p : PlacedCommand) (name : List ℕ) → opens p.staged.stage ≡ None → is_device_compiling p.staged.stage ≡ false → is_made path (before ++ p ∷ []) name ≡ is_made path before name
 quiet_made path before p name e f =
     made_pushed path before p name
-    ∙ (λ i. (is_made path before name && not (is_some_and (λ (n : List ℕ). bytes_eq n name) (e i))) || (f i && (is_device name p.place && is_some_and (bytes_eq path) (last_of p.staged.command.words))))
+    ∙ (λ i. (is_made path before name && not (is_some_and (λ (n : List ℕ). bytes_eq n name) (e i))) || (f i && (is_device name p.fate && is_some_and (bytes_eq path) (last_of p.staged.command.words))))
     ∙ kept (is_made path before name)
 
 -- Entries.
@@ -191,7 +191,7 @@ mapped_with : {X Y : Type 0} (f : X → Y) (xs : List X) (x : X) → map f (xs +
 mapped_with f [] x = refl
 mapped_with f (y ∷ ys) x = ap (λ zs. f y ∷ zs) (mapped_with f ys x)
 
-unchanged : (ps : List PlacedCommand) → map (λ q. with_place (relabelled_by None q.place) q) ps ≡ ps
+unchanged : (ps : List PlacedCommand) → map (λ q. with_place (relabelled_by None q.fate) q) ps ≡ ps
 unchanged [] = refl
 unchanged (p ∷ ps) = ap (λ qs. p ∷ qs) (unchanged ps)
 
@@ -199,7 +199,7 @@ unchanged (p ∷ ps) = ap (λ qs. p ∷ qs) (unchanged ps)
 module _ (names : List (List ℕ)) (before : List PlacedCommand) (g : GroupingState) (h : Holds names before g) (c : StagedCommand) (label : Label) (place : Fate)
     (quiet : opens c.stage ≡ None) (settles : fate_by g.opened label ≡ place) (bounded : Bounded g.opened (length g.labelled) label) where
   abbrev new_place : PlacedCommand
-  new_place = record { staged = c; place = place }
+  new_place = record { staged = c; fate = place }
 
   abbrev new_label : Labelled
   new_label = record { staged = c; label = label }
@@ -209,7 +209,7 @@ module _ (names : List (List ℕ)) (before : List PlacedCommand) (g : GroupingSt
 
   fates_follow : map (settled g.opened) (g.labelled ++ new_label ∷ []) ≡ with_fates (before ++ new_place ∷ [])
   fates_follow =
-      mapped_with (settled g.opened) g.labelled new_label ∙ (λ i. h.fates_are i ++ record { staged = c; place = settles i } ∷ [])
+      mapped_with (settled g.opened) g.labelled new_label ∙ (λ i. h.fates_are i ++ record { staged = c; fate = settles i } ∷ [])
       ∙ ap (λ ps. ps ++ new_place ∷ []) (sym (unchanged (with_fates before))) ∙ sym (fates_pushed before new_place None quiet)
 
   labels_follow : AllByRecursion (λ l. Bounded g.opened (length (g.labelled ++ new_label ∷ [])) l.label) (g.labelled ++ new_label ∷ [])
@@ -294,20 +294,20 @@ module _ (names : List (List ℕ)) (before : List PlacedCommand) (g : GroupingSt
 
   abbrev After : Stage → Type 0
   After stage =
-      Holds (with_name names (opens stage)) (before ++ record { staged = staged_as stage; place = place_of names before stage } ∷ []) (with_command g (staged_as stage))
+      Holds (with_name names (opens stage)) (before ++ record { staged = staged_as stage; fate = place_of names before stage } ∷ []) (with_command g (staged_as stage))
 
   after_cicc : (name : List ℕ) (r : Option Opening) → StandsAs g.opened (length g.labelled) r → fate_by g.opened (device_label r NoCiccGroup) ≡ device_or NoCiccGroup (find (bytes_eq name) names) →
-      Holds names (before ++ record { staged = staged_as (device_compiling (Some name)); place = device_or NoCiccGroup (find (bytes_eq name) names) } ∷ [])
+      Holds names (before ++ record { staged = staged_as (device_compiling (Some name)); fate = device_or NoCiccGroup (find (bytes_eq name) names) } ∷ [])
       (record { opened = g.opened; made = with_output g.made r command.words; labelled = g.labelled ++ record { staged = staged_as (device_compiling (Some name)); label = device_label r NoCiccGroup } ∷ [] })
   after_cicc name None s e =
-      subst (λ place. Holds names (before ++ record { staged = staged_as (device_compiling (Some name)); place = place } ∷ []) (record { opened = g.opened; made = g.made; labelled = g.labelled ++ record { staged = staged_as (device_compiling (Some name)); label = Ungrouped NoCiccGroup } ∷ [] })) e
+      subst (λ place. Holds names (before ++ record { staged = staged_as (device_compiling (Some name)); fate = place } ∷ []) (record { opened = g.opened; made = g.made; labelled = g.labelled ++ record { staged = staged_as (device_compiling (Some name)); label = Ungrouped NoCiccGroup } ∷ [] })) e
       (follows names before g h (staged_as (device_compiling (Some name))) (Ungrouped NoCiccGroup) (ungrouped NoCiccGroup) refl refl tt g.made
-      (λ path k d q. made_pushed path before (record { staged = staged_as (device_compiling (Some name)); place = ungrouped NoCiccGroup }) d.0 ∙ kept (is_made path before d.0) ∙ h.told path k d q) h.made_within)
+      (λ path k d q. made_pushed path before (record { staged = staged_as (device_compiling (Some name)); fate = ungrouped NoCiccGroup }) d.0 ∙ kept (is_made path before d.0) ∙ h.told path k d q) h.made_within)
   after_cicc name (Some o) s e =
       let found : fate_by g.opened (Device o) ≡ device s.0.0 = ap (λ q. fate_at q o.step) s.1 ∙ ap (λ b. cond b (device s.0.0) (ungrouped Superseded)) s.2 in
-      subst (λ place. Holds names (before ++ record { staged = staged_as (device_compiling (Some name)); place = place } ∷ []) (record { opened = g.opened; made = with_output g.made (Some o) command.words; labelled = g.labelled ++ record { staged = staged_as (device_compiling (Some name)); label = Device o } ∷ [] })) (sym found ∙ e)
+      subst (λ place. Holds names (before ++ record { staged = staged_as (device_compiling (Some name)); fate = place } ∷ []) (record { opened = g.opened; made = with_output g.made (Some o) command.words; labelled = g.labelled ++ record { staged = staged_as (device_compiling (Some name)); label = Device o } ∷ [] })) (sym found ∙ e)
       (follows names before g h (staged_as (device_compiling (Some name))) (Device o) (device s.0.0) refl found s.3 (with_output g.made (Some o) command.words)
-      (λ path k d q. made_pushed path before (record { staged = staged_as (device_compiling (Some name)); place = device s.0.0 }) d.0 ∙ told_with g.opened g.made o s.0 h.distinct s.1 s.2 path (last_of command.words) (is_made path before) (h.told path) k d q)
+      (λ path k d q. made_pushed path before (record { staged = staged_as (device_compiling (Some name)); fate = device s.0.0 }) d.0 ∙ told_with g.opened g.made o s.0 h.distinct s.1 s.2 path (last_of command.words) (is_made path before) (h.told path) k d q)
       (λ path. within_with g.opened g.made o s.0 h.distinct s.1 s.2 (length g.labelled) s.3 path (last_of command.words) (h.made_within path)))
 
   -- ptxas
@@ -337,12 +337,12 @@ module _ (names : List (List ℕ)) (before : List PlacedCommand) (g : GroupingSt
   entries_after name = insert_entry bytes_eq g.opened name (length g.labelled)
 
   relabels : (name : List ℕ) (ls : List Labelled) → AllByRecursion (λ l. Bounded g.opened (length g.labelled) l.label) ls →
-      map (settled (entries_after name)) ls ≡ map (λ q. with_place (relabelled name q.place) q) (map (settled g.opened) ls)
+      map (settled (entries_after name)) ls ≡ map (λ q. with_place (relabelled name q.fate) q) (map (settled g.opened) ls)
   relabels name [] b = refl
-  relabels name (l ∷ ls) b = λ i. record { staged = l.staged; place = reopened g.opened name (length g.labelled) l.label h.distinct b.0 i } ∷ relabels name ls b.1 i
+  relabels name (l ∷ ls) b = λ i. record { staged = l.staged; fate = reopened g.opened name (length g.labelled) l.label h.distinct b.0 i } ∷ relabels name ls b.1 i
 
-  told_after : (name path : List ℕ) → Tells (entries_after name) (g.made path) (is_made path (before ++ record { staged = staged_as (preprocessing (Some name)); place = device name } ∷ []))
-  told_after name path k e s = made_pushed path before (record { staged = staged_as (preprocessing (Some name)); place = device name }) e.0 ∙ by_entry (entry_opened g.opened name (length g.labelled) h.distinct k e s)
+  told_after : (name path : List ℕ) → Tells (entries_after name) (g.made path) (is_made path (before ++ record { staged = staged_as (preprocessing (Some name)); fate = device name } ∷ []))
+  told_after name path k e s = made_pushed path before (record { staged = staged_as (preprocessing (Some name)); fate = device name }) e.0 ∙ by_entry (entry_opened g.opened name (length g.labelled) h.distinct k e s)
     where
       past : (os : List Opening) → e.1 ≡ length g.labelled → AllByRecursion (Within g.opened (length g.labelled)) os → list_any (is_at k e) os ≡ false
       past [] q w = refl
@@ -380,7 +380,7 @@ module _ (names : List (List ℕ)) (before : List PlacedCommand) (g : GroupingSt
   after_step : (name : List ℕ) → After (preprocessing (Some name))
   after_step name =
       let l : Labelled = record { staged = staged_as (preprocessing (Some name)); label = Device (opening_at (number_of g.opened name) (length g.labelled)) } in
-      let p : PlacedCommand = record { staged = staged_as (preprocessing (Some name)); place = device name } in
+      let p : PlacedCommand = record { staged = staged_as (preprocessing (Some name)); fate = device name } in
       let more = one_longer g.labelled l in
       let long = longer name (length g.labelled) g.opened in
       record {
@@ -389,8 +389,8 @@ module _ (names : List (List ℕ)) (before : List PlacedCommand) (g : GroupingSt
         steps = steps_after name (length g.labelled) (length (g.labelled ++ l ∷ [])) g.opened (omega (arith, more)) h.steps;
         fates_are =
             mapped_with (settled (entries_after name)) g.labelled l
-            ∙ (λ i. relabels name g.labelled h.labels i ++ record { staged = l.staged; place = opened_here g.opened name (length g.labelled) i } ∷ [])
-            ∙ ap (λ ps. map (λ q. with_place (relabelled name q.place) q) ps ++ p ∷ []) h.fates_are
+            ∙ (λ i. relabels name g.labelled h.labels i ++ record { staged = l.staged; fate = opened_here g.opened name (length g.labelled) i } ∷ [])
+            ∙ ap (λ ps. map (λ q. with_place (relabelled name q.fate) q) ps ++ p ∷ []) h.fates_are
             ∙ sym (fates_pushed before p (Some name) refl);
         labels =
             weaker_with (λ q. Bounded g.opened (length g.labelled) q.label) (λ q. Bounded (entries_after name) (length (g.labelled ++ l ∷ [])) q.label) (λ q b. bounded_later g.opened (entries_after name) (length g.labelled) (length (g.labelled ++ l ∷ [])) long.0 (omega (arith, more)) q.label b) g.labelled l h.labels (long.1, omega (arith, more));
@@ -403,7 +403,7 @@ module _ (names : List (List ℕ)) (before : List PlacedCommand) (g : GroupingSt
   after splitting = follows_quietly names before g h (staged_as splitting) Front front refl refl tt refl
   after (device_compiling None) =
       follows names before g h (staged_as (device_compiling None)) (Ungrouped NoCiccGroup) (ungrouped NoCiccGroup) refl refl tt g.made
-      (λ path k d q. made_pushed path before (record { staged = staged_as (device_compiling None); place = ungrouped NoCiccGroup }) d.0 ∙ kept (is_made path before d.0) ∙ h.told path k d q) h.made_within
+      (λ path k d q. made_pushed path before (record { staged = staged_as (device_compiling None); fate = ungrouped NoCiccGroup }) d.0 ∙ kept (is_made path before d.0) ∙ h.told path k d q) h.made_within
   after (device_compiling (Some name)) =
       after_cicc name (opening_of g.opened name) (opening_stands g.opened (length g.labelled) name h.steps)
       (opening_found g.opened name NoCiccGroup ∙ ap (λ ns. device_or NoCiccGroup (find (bytes_eq name) ns)) (sym h.names_are))
@@ -417,7 +417,7 @@ module _ (names : List (List ℕ)) (before : List PlacedCommand) (g : GroupingSt
 holds_all : (names : List (List ℕ)) (before : List PlacedCommand) (g : GroupingState) (cs : List StagedCommand) → Holds names before g → Holds (names_after names cs) (placed_after names before cs) (fold with_command g cs)
 holds_all names before g [] h = h
 holds_all names before g (c ∷ cs) h =
-    holds_all (with_name names (opens c.stage)) (before ++ record { staged = c; place = place_of names before c.stage } ∷ []) (with_command g c) cs (after names before g h c.command c.stage)
+    holds_all (with_name names (opens c.stage)) (before ++ record { staged = c; fate = place_of names before c.stage } ∷ []) (with_command g c) cs (after names before g h c.command c.stage)
 
 all_held : (commands : List StagedCommand) → Holds (opened_names commands) (places commands) (grouped commands)
 all_held commands =

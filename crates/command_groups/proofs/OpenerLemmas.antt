@@ -63,10 +63,10 @@ module _ (n : List ℕ) (step target : StagedCommand)
     (placed : (names : List (List ℕ)) (before : List PlacedCommand) → list_any (bytes_eq n) names ≡ true → place_of names before target.stage ≡ device n)
     (behind : (c : StagedCommand) → opener n c ≡ false → is_in_order c.command step.command ≡ true → c ≡ target → ⊥) where
   abbrev Good : PlacedCommand → Type 0
-  Good p = p.staged ≡ target → p.place ≡ device n
+  Good p = p.staged ≡ target → p.fate ≡ device n
 
   abbrev at : List (List ℕ) → List PlacedCommand → StagedCommand → PlacedCommand
-  at names before c = record { staged = c; place = place_of names before c.stage }
+  at names before c = record { staged = c; fate = place_of names before c.stage }
 
   step_behind : (c : StagedCommand) (cs : List StagedCommand) → list_all (is_in_order c.command) (map (λ t. t.command) cs) ≡ true → filter (opener n) cs ≡ step ∷ [] → is_in_order c.command step.command ≡ true
   step_behind c [] h f = cc
@@ -110,21 +110,21 @@ module _ (n : List ℕ) (step target : StagedCommand)
   late [] h k = tt
   late (p ∷ ps) h k =
       let rest = second_false (opener n p.staged) (list_any (opener n) (map (λ p. p.staged) ps)) k in
-      (λ e. stays ps p.place (h.0 e) rest, late ps h.1 rest)
+      (λ e. stays ps p.fate (h.0 e) rest, late ps h.1 rest)
 
   early : (ps : List PlacedCommand) → AllByRecursion Good ps → InOrder (map (λ t. t.command) (map (λ p. p.staged) ps)) → filter (opener n) (map (λ p. p.staged) ps) ≡ step ∷ [] → AllByRecursion Good (with_fates ps)
   early [] h o f = tt
   early (p ∷ ps) h o f =
       let later = map (λ (p : PlacedCommand). p.staged) ps in
-      elim (opener n p.staged) as (λ b. opener n p.staged ≡ b → cond b (p.staged ∷ filter (opener n) later) (filter (opener n) later) ≡ step ∷ [] → AllByRecursion Good (record { staged = p.staged; place = fate_of ps p.place } ∷ with_fates ps)) [
+      elim (opener n p.staged) as (λ b. opener n p.staged ≡ b → cond b (p.staged ∷ filter (opener n) later) (filter (opener n) later) ≡ step ∷ [] → AllByRecursion Good (record { staged = p.staged; fate = fate_of ps p.fate } ∷ with_fates ps)) [
         | true ↦ λ e k.
             let none : filter (opener n) later ≡ [] = cc in
             let rest = filter_none (opener n) later none in
-            (λ is. stays ps p.place (h.0 is) rest, late ps h.1 rest)
+            (λ is. stays ps p.fate (h.0 is) rest, late ps h.1 rest)
         | false ↦ λ e k. (λ is. absurd (behind p.staged e (step_behind p.staged later o.0 k) is), early ps h.1 o.1 k)
       ] refl f
 
-  pub fate_settled : (cs : List StagedCommand) → InOrder (map (λ t. t.command) cs) → filter (opener n) cs ≡ step ∷ [] → (p : PlacedCommand) → Contains (fates cs) p → p.staged ≡ target → p.place ≡ device n
+  pub fate_settled : (cs : List StagedCommand) → InOrder (map (λ t. t.command) cs) → filter (opener n) cs ≡ step ∷ [] → (p : PlacedCommand) → Contains (fates cs) p → p.staged ≡ target → p.fate ≡ device n
   fate_settled cs o f p among =
       let same : map (λ (p : PlacedCommand). p.staged) (places cs) ≡ cs = placed_staged [] [] cs in
       let all : AllByRecursion Good (fates cs) =

@@ -100,7 +100,7 @@ filtered_after : (test : Fate → Bool) (c : MergedCommand) (ps : List PlacedCom
 filtered_after test c [] h = refl
 filtered_after test c (p ∷ ps) h =
     let parts = and_parts (is_in_order c p.staged.command) (list_all (is_in_order c) (map (λ p. p.staged.command) ps)) h in
-    elim (test p.place) as (λ b. list_all (is_in_order c) (map (λ p. p.staged.command) (cond b (p ∷ of_fate test ps) (of_fate test ps))) ≡ true) [
+    elim (test p.fate) as (λ b. list_all (is_in_order c) (map (λ p. p.staged.command) (cond b (p ∷ of_fate test ps) (of_fate test ps))) ≡ true) [
       | true ↦ and_from (is_in_order c p.staged.command) (list_all (is_in_order c) (map (λ p. p.staged.command) (of_fate test ps))) parts.0 (filtered_after test c ps parts.1)
       | false ↦ filtered_after test c ps parts.1
     ]
@@ -108,7 +108,7 @@ filtered_after test c (p ∷ ps) h =
 filtered_in_order : (test : Fate → Bool) (ps : List PlacedCommand) → InOrder (map (λ p. p.staged.command) ps) → InOrder (map (λ p. p.staged.command) (of_fate test ps))
 filtered_in_order test [] h = tt
 filtered_in_order test (p ∷ ps) h =
-    elim (test p.place) as (λ b. InOrder (map (λ p. p.staged.command) (cond b (p ∷ of_fate test ps) (of_fate test ps))))
+    elim (test p.fate) as (λ b. InOrder (map (λ p. p.staged.command) (cond b (p ∷ of_fate test ps) (of_fate test ps))))
     [ true ↦ (filtered_after test p.staged.command ps h.0, filtered_in_order test ps h.1) | false ↦ filtered_in_order test ps h.1 ]
 
 commands_of_placed : (ps : List PlacedCommand) → map (λ p. p.staged.command) ps ≡ map (λ t. t.command) (map (λ p. p.staged) ps)

@@ -27,7 +27,7 @@ fate_by opened (Ungrouped reason) = ungrouped reason
 
 -- a labelled command with its fate
 abbrev pub settled : Opened → Labelled → PlacedCommand
-settled opened l = record { staged = l.staged; place = fate_by opened l.label }
+settled opened l = record { staged = l.staged; fate = fate_by opened l.label }
 
 -- Cutting, step by step.
 

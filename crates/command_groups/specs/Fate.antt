@@ -16,10 +16,10 @@ pub data Fate : Type 0 where
   final : Fate
   ungrouped : Reason → Fate
 
--- a command with its place, and later with its fate
+-- a command and where it goes: by the commands before it, and later by those after it too
 pub record PlacedCommand : Type 0 where
   pub staged : StagedCommand
-  pub place : Fate
+  pub fate : Fate
 
 -- the different names that groups were opened by, in order of first appearance
 abbrev pub opened_names : List StagedCommand → List (List ℕ)
@@ -56,7 +56,7 @@ is_device_compiling foreign = false
 
 -- whether a placed command is a cicc of a name's group with a path as its last word
 abbrev pub makes : List ℕ → List ℕ → PlacedCommand → Bool
-makes path name p = is_device_compiling p.staged.stage && (is_device name p.place && is_some_and (bytes_eq path) (last_of p.staged.command.words))
+makes path name p = is_device_compiling p.staged.stage && (is_device name p.fate && is_some_and (bytes_eq path) (last_of p.staged.command.words))
 
 -- whether, of the placed commands, a cicc of a name's group makes a path, and no step after it opens that group again
 abbrev pub is_made : List ℕ → List PlacedCommand → List ℕ → Bool
@@ -92,7 +92,7 @@ place_of names before foreign = ungrouped NotCuda
 abbrev pub placed_after : List (List ℕ) → List PlacedCommand → List StagedCommand → List PlacedCommand
 placed_after names before [] = before
 placed_after names before (c ∷ cs) =
-    placed_after (with_name names (opens c.stage)) (before ++ record { staged = c; place = place_of names before c.stage } ∷ []) cs
+    placed_after (with_name names (opens c.stage)) (before ++ record { staged = c; fate = place_of names before c.stage } ∷ []) cs
 
 abbrev pub places : List StagedCommand → List PlacedCommand
 places commands = placed_after [] [] commands
@@ -107,7 +107,7 @@ fate_of after (ungrouped reason) = ungrouped reason
 -- placed commands with their fates in their places' stead
 abbrev pub with_fates : List PlacedCommand → List PlacedCommand
 with_fates [] = []
-with_fates (p ∷ ps) = record { staged = p.staged; place = fate_of ps p.place } ∷ with_fates ps
+with_fates (p ∷ ps) = record { staged = p.staged; fate = fate_of ps p.fate } ∷ with_fates ps
 
 -- the commands with their fates
 abbrev pub fates : List StagedCommand → List PlacedCommand

@@ -15,7 +15,9 @@ MergedIsInOrder = (first second : List CommandLine) → InOrder (merged first se
 
 abbrev pub MergedAreTheSelected : Type 0
 MergedAreTheSelected =
-    (first second : List CommandLine) → IsPermutation (map (of_run 1) (selected is_nvcc_stem first) ++ map (of_run 2) (selected is_host_stem second)) (merged first second)
+    (first second : List CommandLine) → IsPermutation
+    (map (of_run 1) (selected is_nvcc_stem first) ++ map (of_run 2) (selected is_host_stem second))
+    (merged first second)
 
 -- numbers rise strictly: each is below all that follow it
 abbrev pub Rises : List ℕ → Type 0

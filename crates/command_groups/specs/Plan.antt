@@ -45,7 +45,7 @@ subcommand_of s c = record {
 
 -- the commands whose fate passes a test, in order, and the group of them
 abbrev pub of_fate : (Fate → Bool) → List PlacedCommand → List PlacedCommand
-of_fate test commands = filter (λ p. test p.place) commands
+of_fate test commands = filter (λ p. test p.fate) commands
 
 abbrev pub group_of : PlanSetting → (Fate → Bool) → List PlacedCommand → List NvccGeneratedSubcommand
 group_of s test commands = map (λ p. subcommand_of s p.staged) (of_fate test commands)
@@ -79,7 +79,7 @@ groups_of s names commands =
 abbrev pub plan_of_staged : PlanSetting → List StagedCommand → Plan
 plan_of_staged s commands = record {
   groups = groups_of s (opened_names commands) (fates commands);
-  dropped = filter_map (λ p. dropped_by p.place p.staged.command) (fates commands);
+  dropped = filter_map (λ p. dropped_by p.fate p.staged.command) (fates commands);
 }
 
 -- the staged commands of two runs
@@ -88,7 +88,13 @@ staged_commands s first second = map (staged s.host_compiler s.flag) (merged fir
 
 -- the setting of which the environment has a run's environment lines folded in
 abbrev pub with_environment : PlanSetting → List (List ℕ × List ℕ) → PlanSetting
-with_environment s variables = record { cwd = s.cwd; tmp = s.tmp; flag = s.flag; host_compiler = s.host_compiler; env_vars = with_variables s.env_vars variables }
+with_environment s variables = record {
+  cwd = s.cwd;
+  tmp = s.tmp;
+  flag = s.flag;
+  host_compiler = s.host_compiler;
+  env_vars = with_variables s.env_vars variables;
+}
 
 -- the plan of the commands of two runs, their words renamed where they are to be, and of the environment lines of the first
 abbrev pub plan_of : PlanSetting → List (List ℕ × List ℕ) → List CommandLine → List CommandLine → Plan

@@ -26,9 +26,11 @@ pub record AreCleanAndAlike (suffixes : List (List ℕ)) (one other : List Comma
 -- with one list of variables of the first runs; words are renamed
 abbrev pub AlikePairsHaveOnePlan : Type 0
 AlikePairsHaveOnePlan =
-    (suffixes : List (List ℕ)) → AreSuffixes suffixes → (s : PlanSetting) (variables : List Variable) (first second other_first other_second : List CommandLine) →
+    (suffixes : List (List ℕ)) → AreSuffixes suffixes →
+    (s : PlanSetting) (variables : List Variable) (first second other_first other_second : List CommandLine) →
     AreCleanAndAlike suffixes first other_first → AreCleanAndAlike suffixes second other_second →
-    plan_of s variables (named suffixes None first) (named suffixes None second) ≡ plan_of s variables (named suffixes None other_first) (named suffixes None other_second)
+    plan_of s variables (named suffixes None first) (named suffixes None second) ≡
+    plan_of s variables (named suffixes None other_first) (named suffixes None other_second)
 
 -- two texts that are dry runs of a number, both readable, whose commands are clean and alike
 pub record AreAlikeTexts (suffixes : List (List ℕ)) (which : LookUp) (cwd : List ℕ) (run : ℕ) (one other : List ℕ) : Type 0 where
@@ -89,9 +91,11 @@ GroupIsInOrder test commands = InOrder (map (λ p. p.staged.command) (of_fate te
 pub record HasOneFateEach (s : PlanSetting) (variables : List Variable) (first second : List CommandLine) (plan : Plan) : Type 0 where
   pub selected_are_merged : IsPermutation (map (of_run 1) (selected is_nvcc_stem first) ++ map (of_run 2) (selected is_host_stem second)) (merged first second)
   pub merged_in_order : InOrder (merged first second)
-  pub one_fate : IsPermutation (staged_commands s first second) (map (λ p. p.staged) (regrouped (opened_names (staged_commands s first second)) (fates (staged_commands s first second))))
+  pub one_fate : IsPermutation (staged_commands s first second)
+      (map (λ p. p.staged)
+      (regrouped (opened_names (staged_commands s first second)) (fates (staged_commands s first second))))
   pub groups : plan.groups ≡ groups_of (with_environment s variables) (opened_names (staged_commands s first second)) (fates (staged_commands s first second))
-  pub dropped : plan.dropped ≡ filter_map (λ p. dropped_by p.place p.staged.command) (fates (staged_commands s first second))
+  pub dropped : plan.dropped ≡ filter_map (λ p. dropped_by p.fate p.staged.command) (fates (staged_commands s first second))
   pub in_order : (test : Fate → Bool) → GroupIsInOrder test (staged_commands s first second)
 
 -- what two dry runs say

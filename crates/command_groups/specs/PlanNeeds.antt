@@ -11,9 +11,11 @@ use Rattle.command_groups.specs.PlanOfBytes.{named}
 -- pairs of runs that are alike in some way have equal plans, with a keep directory or none
 abbrev pub PlansAgree : (List (List ℕ) → List CommandLine → List CommandLine → Type 0) → Option (List ℕ) → Type 0
 PlansAgree Relation keep_dir =
-    (suffixes : List (List ℕ)) → AreSuffixes suffixes → (s : PlanSetting) (variables : List Variable) (first second other_first other_second : List CommandLine) →
+    (suffixes : List (List ℕ)) → AreSuffixes suffixes →
+    (s : PlanSetting) (variables : List Variable) (first second other_first other_second : List CommandLine) →
     Relation suffixes first other_first → Relation suffixes second other_second →
-    plan_of s variables (named suffixes keep_dir first) (named suffixes keep_dir second) ≡ plan_of s variables (named suffixes keep_dir other_first) (named suffixes keep_dir other_second)
+    plan_of s variables (named suffixes keep_dir first) (named suffixes keep_dir second) ≡
+    plan_of s variables (named suffixes keep_dir other_first) (named suffixes keep_dir other_second)
 
 -- they have so if one run need not be clean, if the map need not be one-to-one, or need not keep folders
 abbrev pub PlansAgreeFirstUnclean : Type 0
@@ -35,6 +37,9 @@ PlansAgreeWithKeepDirectory = (keep_dir : List ℕ) → PlansAgree AreCleanAndAl
 -- they have so whatever the first runs' variables are
 abbrev pub PlansAgreeWithAnyVariables : Type 0
 PlansAgreeWithAnyVariables =
-    (suffixes : List (List ℕ)) → AreSuffixes suffixes → (s : PlanSetting) (variables others : List Variable) (first second other_first other_second : List CommandLine) →
+    (suffixes : List (List ℕ)) → AreSuffixes suffixes →
+    (s : PlanSetting) (variables others : List Variable)
+    (first second other_first other_second : List CommandLine) →
     AreCleanAndAlike suffixes first other_first → AreCleanAndAlike suffixes second other_second →
-    plan_of s variables (named suffixes None first) (named suffixes None second) ≡ plan_of s others (named suffixes None other_first) (named suffixes None other_second)
+    plan_of s variables (named suffixes None first) (named suffixes None second) ≡
+    plan_of s others (named suffixes None other_first) (named suffixes None other_second)

@@ -14,7 +14,9 @@ named suffixes None commands = renamed suffixes commands
 named suffixes (Some keep_dir) commands = commands
 
 -- the plan of two runs that can be read; else the fault of the first, or of the second where the first can be read
-abbrev pub plan_or_fault : List (List ℕ) → Option (List ℕ) → PlanSetting → Result (List CommandLine × List Variable) Fault → Result (List CommandLine × List Variable) Fault → Result Plan Fault
+abbrev pub plan_or_fault : List (List ℕ) → Option (List ℕ) → PlanSetting →
+    Result (List CommandLine × List Variable) Fault → Result (List CommandLine × List Variable) Fault →
+    Result Plan Fault
 plan_or_fault suffixes keep_dir s (Err fault) second = Err fault
 plan_or_fault suffixes keep_dir s (Ok first) (Err fault) = Err fault
 plan_or_fault suffixes keep_dir s (Ok first) (Ok second) = Ok (plan_of s first.1 (named suffixes keep_dir first.0) (named suffixes keep_dir second.0))

@@ -54,13 +54,22 @@ abbrev pub one_kernel_plan : List ℕ → List ℕ → Plan
 one_kernel_plan name second =
     plan_with
     ((runs No (codes "/w") (codes "/b/gcc") (codes "-D__CUDACC__ -E -x c++ kernel.cu -o " ++ (second ++ codes ".cpp4.ii")) ∷
-    runs Yes (codes "/t") (codes "/b/cudafe++") (codes "--gen_c_file_name " ++ (name ++ (codes ".cudafe1.cpp --stub_file_name " ++ (name ++ (codes ".cudafe1.stub.c --gen_module_id_file --module_id_file_name kernel.module_id --simt-only " ++ (name ++ codes ".cpp4.ii")))))) ∷
+    runs Yes (codes "/t") (codes "/b/cudafe++")
+    (codes "--gen_c_file_name " ++
+    (name ++ (codes ".cudafe1.cpp --stub_file_name " ++
+    (name ++ (codes ".cudafe1.stub.c --gen_module_id_file --module_id_file_name kernel.module_id --simt-only " ++
+    (name ++ codes ".cpp4.ii")))))) ∷
     []) ∷
     (runs No (codes "/w") (codes "/b/gcc") (codes "-D__CUDA_ARCH__=800 -D__CUDACC__ -E -x c++ kernel.cu -o " ++ (second ++ codes ".cpp1.ii")) ∷
-    runs Yes (codes "/t") (codes "/b/cicc") (codes "--device-c -arch compute_80 --module_id_file_name kernel.module_id --gen_c_file_name " ++ (name ++ (codes ".cudafe1.c --stub_file_name " ++ (name ++ (codes ".cudafe1.stub.c --gen_device_file_name kernel.cudafe1.gpu " ++ (name ++ codes ".cpp1.ii --simt-only -o kernel.ptx")))))) ∷
+    runs Yes (codes "/t") (codes "/b/cicc")
+    (codes "--device-c -arch compute_80 --module_id_file_name kernel.module_id --gen_c_file_name " ++
+    (name ++ (codes ".cudafe1.c --stub_file_name " ++
+    (name ++ (codes ".cudafe1.stub.c --gen_device_file_name kernel.cudafe1.gpu " ++
+    (name ++ codes ".cpp1.ii --simt-only -o kernel.ptx")))))) ∷
     runs Yes (codes "/t") (codes "/b/ptxas") (codes "-arch=sm_80 --compile-only kernel.ptx -o kernel.cubin") ∷
     []) ∷
-    (runs No (codes "/t") (codes "/b/fatbinary") (codes "--create=kernel.fatbin --image3=kind=elf,sm=80,file=kernel.cubin --embedded-fatbin=kernel.fatbin.c --device-c") ∷
+    (runs No (codes "/t") (codes "/b/fatbinary")
+    (codes "--create=kernel.fatbin --image3=kind=elf,sm=80,file=kernel.cubin --embedded-fatbin=kernel.fatbin.c --device-c") ∷
     compiles (codes "/b/gcc") (codes "-D__CUDA_ARCH__=800 -D__CUDACC__ -c -x c++ " ++ (second ++ codes ".cudafe1.cpp -o kernel.o")) ∷
     []) ∷
     [])
@@ -101,7 +110,8 @@ empty_runs = refl
 -- host code alone is in the final group, and its environment says that it is compiled for CUDA
 abbrev pub HostCodeAlone : Type 0
 HostCodeAlone =
-    plan_of_both (at 2 (codes "/b/gcc") (codes "-D__NVCC__ -c x.cpp") ∷ []) ≡ plan_with ([] ∷ (compiles (codes "/b/gcc") (codes "-D__NVCC__ -c x.cpp") ∷ []) ∷ []) []
+    plan_of_both (at 2 (codes "/b/gcc") (codes "-D__NVCC__ -c x.cpp") ∷ []) ≡
+    plan_with ([] ∷ (compiles (codes "/b/gcc") (codes "-D__NVCC__ -c x.cpp") ∷ []) ∷ []) []
 
 pub host_code_alone : HostCodeAlone
 host_code_alone = refl
@@ -210,7 +220,9 @@ cl_step = at 1 (codes "/b/cl") (codes "-D__NVCC__ -P k.cu -o x_0.cpp1.ii") ∷ [
 -- under Msvc the step opens a group
 abbrev pub PreprocessesForMsvc : Type 0
 PreprocessesForMsvc =
-    plan_of (setting Msvc (codes "-c")) path_set cl_step cl_step ≡ plan_with ([] ∷ (runs No (codes "/w") (codes "/b/cl") (codes "-D__NVCC__ -P k.cu -o x_0.cpp1.ii") ∷ []) ∷ [] ∷ []) []
+    plan_of (setting Msvc (codes "-c")) path_set cl_step cl_step ≡
+    plan_with
+    ([] ∷ (runs No (codes "/w") (codes "/b/cl") (codes "-D__NVCC__ -P k.cu -o x_0.cpp1.ii") ∷ []) ∷ [] ∷ []) []
 
 pub preprocesses_for_msvc : PreprocessesForMsvc
 preprocesses_for_msvc = refl
@@ -231,7 +243,8 @@ step_and_generating_cicc =
     []
 
 abbrev pub step_and_cicc_with : List ℕ → List NvccGeneratedSubcommand
-step_and_cicc_with words = runs No (codes "/w") (codes "/b/gcc") (codes "-D__NVCC__ -E k.cu -o x_0.cpp1.ii") ∷ runs Yes (codes "/t") (codes "/b/cicc") words ∷ []
+step_and_cicc_with words = runs No (codes "/w") (codes "/b/gcc") (codes "-D__NVCC__ -E k.cu -o x_0.cpp1.ii") ∷
+    runs Yes (codes "/t") (codes "/b/cicc") words ∷ []
 
 -- where objects are made, cicc loses the first of the two words
 abbrev pub CiccLosesOneWord : Type 0
@@ -261,7 +274,9 @@ not_for_cuda = refl
 -- a program without a stem is of neither run
 abbrev pub ProgramWithoutAStem : Type 0
 ProgramWithoutAStem =
-    plan_of (setting Gcc (codes "-c")) ((codes "PATH", codes "/") ∷ []) (at 1 (codes "/") (codes "x") ∷ []) (at 1 (codes "/") (codes "x") ∷ []) ≡ plan_with ([] ∷ [] ∷ []) []
+    plan_of (setting Gcc (codes "-c")) ((codes "PATH", codes "/") ∷ [])
+    (at 1 (codes "/") (codes "x") ∷ []) (at 1 (codes "/") (codes "x") ∷ []) ≡
+    plan_with ([] ∷ [] ∷ []) []
 
 pub program_without_a_stem : ProgramWithoutAStem
 program_without_a_stem = refl
@@ -269,7 +284,8 @@ program_without_a_stem = refl
 -- a step without a word after its `-o` opens no group
 abbrev pub StepWithoutAnOutput : Type 0
 StepWithoutAnOutput =
-    plan_of_both (at 1 (codes "/b/gcc") (codes "-D__NVCC__ -E k.cu -o") ∷ []) ≡ plan_with ((runs No (codes "/w") (codes "/b/gcc") (codes "-D__NVCC__ -E k.cu -o") ∷ []) ∷ [] ∷ []) []
+    plan_of_both (at 1 (codes "/b/gcc") (codes "-D__NVCC__ -E k.cu -o") ∷ []) ≡
+    plan_with ((runs No (codes "/w") (codes "/b/gcc") (codes "-D__NVCC__ -E k.cu -o") ∷ []) ∷ [] ∷ []) []
 
 pub step_without_an_output : StepWithoutAnOutput
 step_without_an_output = refl
@@ -277,7 +293,8 @@ step_without_an_output = refl
 -- nor does one whose output has no file name
 abbrev pub StepWithoutAFileName : Type 0
 StepWithoutAFileName =
-    plan_of_both (at 1 (codes "/b/gcc") (codes "-D__NVCC__ -E k.cu -o ..") ∷ []) ≡ plan_with ((runs No (codes "/w") (codes "/b/gcc") (codes "-D__NVCC__ -E k.cu -o ..") ∷ []) ∷ [] ∷ []) []
+    plan_of_both (at 1 (codes "/b/gcc") (codes "-D__NVCC__ -E k.cu -o ..") ∷ []) ≡
+    plan_with ((runs No (codes "/w") (codes "/b/gcc") (codes "-D__NVCC__ -E k.cu -o ..") ∷ []) ∷ [] ∷ []) []
 
 pub step_without_a_file_name : StepWithoutAFileName
 step_without_a_file_name = refl
@@ -325,7 +342,8 @@ planned line run program = record { line = line; run = run; program = program; w
 -- commands are merged by line, and on one line the first run comes first; each run has its own programs
 abbrev pub MergedByLineAndRun : Type 0
 MergedByLineAndRun =
-    merged (at 0 (codes "/b/gcc") [] ∷ at 2 (codes "/b/nvlink") [] ∷ at 4 (codes "/b/cicc") [] ∷ []) (at 0 (codes "/b/ptxas") [] ∷ at 2 (codes "/b/gcc") [] ∷ at 3 (codes "/b/cicc.sh.exe") [] ∷ []) ≡
+    merged (at 0 (codes "/b/gcc") [] ∷ at 2 (codes "/b/nvlink") [] ∷ at 4 (codes "/b/cicc") [] ∷ [])
+    (at 0 (codes "/b/ptxas") [] ∷ at 2 (codes "/b/gcc") [] ∷ at 3 (codes "/b/cicc.sh.exe") [] ∷ []) ≡
     (planned 2 1 (codes "/b/nvlink") ∷ planned 2 2 (codes "/b/gcc") ∷ planned 3 2 (codes "/b/cicc.sh.exe") ∷ planned 4 1 (codes "/b/cicc") ∷ [])
 
 pub merged_by_line_and_run : MergedByLineAndRun
@@ -334,7 +352,8 @@ merged_by_line_and_run = refl
 -- a known variable gets its value where it stands first, a new one comes last
 abbrev pub FoldedEnvironment : Type 0
 FoldedEnvironment =
-    with_variables ((codes "PATH", codes "/x") ∷ (codes "Q", codes "1") ∷ (codes "PATH", codes "/y") ∷ []) ((codes "PATH", codes "/b") ∷ (codes "R", codes "2") ∷ []) ≡
+    with_variables ((codes "PATH", codes "/x") ∷ (codes "Q", codes "1") ∷ (codes "PATH", codes "/y") ∷ [])
+    ((codes "PATH", codes "/b") ∷ (codes "R", codes "2") ∷ []) ≡
     ((codes "PATH", codes "/b") ∷ (codes "Q", codes "1") ∷ (codes "PATH", codes "/y") ∷ (codes "R", codes "2") ∷ [])
 
 pub folded_environment : FoldedEnvironment
@@ -351,7 +370,8 @@ MarkedTwice =
     plan_with
     ([] ∷
     (record (compiles (codes "/b/gcc") (codes "-D__NVCC__ -c x.cpp")) {
-      env_vars = (codes "__SCCACHE_THIS_IS_A_CUDA_COMPILATION__", codes "1") ∷ (codes "PATH", codes "/b") ∷ (codes "__SCCACHE_THIS_IS_A_CUDA_COMPILATION__", []) ∷ [];
+      env_vars = (codes "__SCCACHE_THIS_IS_A_CUDA_COMPILATION__", codes "1") ∷ (codes "PATH", codes "/b") ∷
+          (codes "__SCCACHE_THIS_IS_A_CUDA_COMPILATION__", []) ∷ [];
     } ∷ []) ∷
     [])
     []

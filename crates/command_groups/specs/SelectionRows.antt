@@ -1,5 +1,5 @@
 -- Selections of dry runs worked out by hand.
-use Rattle.std.specs.Prelude.{◌≡◌, ℕ, List, [], ◌∷◌, Bool, true, false, Result, Ok, Err, refl, codes}
+use Rattle.std.specs.Prelude.{◌≡◌, ℕ, List, [], ◌∷◌, ◌++◌, Bool, true, false, Result, Ok, Err, refl, codes}
 use Rattle.std.specs.Str.{bytes_eq}
 use Rattle.texts.specs.Rows.{spaced}
 use Rattle.texts.specs.declared.fault.Fault.{Fault}
@@ -28,7 +28,14 @@ behind bytes = environment_behind ((codes "PATH", codes "/x") ∷ (codes "Q", co
 -- the cicc of the one-kernel dry run
 abbrev pub OneOfOneKernel : Type 0
 OneOfOneKernel =
-    ciccs true one_kernel ≡ Ok ((4, codes "/b/cicc", spaced "--device-c -arch compute_80 --module_id_file_name kernel.module_id --gen_c_file_name x_0.cudafe1.c --stub_file_name x_0.cudafe1.stub.c --gen_device_file_name kernel.cudafe1.gpu x_0.cpp1.ii --simt-only -o kernel.ptx") ∷ [])
+    ciccs true one_kernel ≡
+    Ok ((
+      4,
+      codes "/b/cicc",
+      spaced "--device-c -arch compute_80 --module_id_file_name kernel.module_id --gen_c_file_name x_0.cudafe1.c" ++
+          spaced "--stub_file_name x_0.cudafe1.stub.c --gen_device_file_name kernel.cudafe1.gpu x_0.cpp1.ii --simt-only" ++
+          spaced "-o kernel.ptx",
+    ) ∷ [])
 
 pub one_of_one_kernel : OneOfOneKernel
 unfolding dry_runs_compute

@@ -52,13 +52,16 @@ pub record IsFedBy (suffixes : List (List ℕ)) (s : PlanSetting) (first second 
 -- a command stands among those that are planned, and wherever it does, this is its fate
 pub record HasFate (commands : List StagedCommand) (c : StagedCommand) (fate : Fate) : Type 0 where
   pub stands : Contains (map (λ p. p.staged) (fates commands)) c
-  pub goes : (p : PlacedCommand) → Contains (fates commands) p → p.staged ≡ c → p.place ≡ fate
+  pub goes : (p : PlacedCommand) → Contains (fates commands) p → p.staged ≡ c → p.fate ≡ fate
 
 -- in the plan of two runs, their words renamed, both commands go to the device group of the input's canonical name
 abbrev pub StandTogether : List (List ℕ) → PlanSetting → List CommandLine → List CommandLine → CommandLine → CommandLine → List ℕ → Type 0
 StandTogether suffixes s first second cicc step name =
-    HasFate (staged_commands s (named suffixes None first) (named suffixes None second)) (planned_command suffixes s 1 first cicc) (device (canonical_name suffixes (names_of_run suffixes first) name)) ×
-    HasFate (staged_commands s (named suffixes None first) (named suffixes None second)) (planned_command suffixes s 2 second step) (device (canonical_name suffixes (names_of_run suffixes first) name))
+    HasFate (staged_commands s (named suffixes None first) (named suffixes None second))
+    (planned_command suffixes s 1 first cicc)
+    (device (canonical_name suffixes (names_of_run suffixes first) name)) ×
+    HasFate (staged_commands s (named suffixes None first) (named suffixes None second))
+    (planned_command suffixes s 2 second step) (device (canonical_name suffixes (names_of_run suffixes first) name))
 
 -- they do where the second run shadows the first as far as the inputs of cicc go
 abbrev pub StepShadowsStandTogether : Type 0

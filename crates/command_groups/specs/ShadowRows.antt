@@ -22,7 +22,7 @@ shadow_setting = setting Gcc (codes "-c")
 
 -- the fates of all merged commands, in their order
 abbrev pub all_fates : List CommandLine → List CommandLine → List Fate
-all_fates first second = map (λ p. p.place) (fates (staged_commands shadow_setting (named standard_suffixes None first) (named standard_suffixes None second)))
+all_fates first second = map (λ p. p.fate) (fates (staged_commands shadow_setting (named standard_suffixes None first) (named standard_suffixes None second)))
 
 -- the steps that make an input of cicc
 abbrev pub steps_to : List ℕ → List CommandLine → List CommandLine
@@ -40,7 +40,8 @@ earlier_step = at 1 (codes "/b/gcc") (codes "-D__CUDACC__ -E a.cu -o /t/a.cpp1.i
 
 abbrev pub EarlierStepStandsTogether : Type 0
 EarlierStepStandsTogether =
-    AreBothClean one_cicc earlier_step × (is_shadow standard_suffixes one_cicc earlier_step (codes "/t") ≡ true) × (steps_to (codes "a.cpp1.ii") earlier_step ≡ earlier_step) ×
+    AreBothClean one_cicc earlier_step × (is_shadow standard_suffixes one_cicc earlier_step (codes "/t") ≡ true) ×
+    (steps_to (codes "a.cpp1.ii") earlier_step ≡ earlier_step) ×
     (all_fates one_cicc earlier_step ≡ device (codes "x_0.cpp1.ii") ∷ device (codes "x_0.cpp1.ii") ∷ [])
 
 pub earlier_step_stands_together : EarlierStepStandsTogether
@@ -52,7 +53,8 @@ later_step = at 3 (codes "/b/gcc") (codes "-D__CUDACC__ -E a.cu -o /t/a.cpp1.ii"
 
 abbrev pub LaterStepStandsApart : Type 0
 LaterStepStandsApart =
-    AreBothClean one_cicc later_step × (is_shadow standard_suffixes one_cicc later_step (codes "/t") ≡ true) × (steps_to (codes "a.cpp1.ii") later_step ≡ later_step) ×
+    AreBothClean one_cicc later_step × (is_shadow standard_suffixes one_cicc later_step (codes "/t") ≡ true) ×
+    (steps_to (codes "a.cpp1.ii") later_step ≡ later_step) ×
     (all_fates one_cicc later_step ≡ ungrouped NoCiccGroup ∷ device (codes "x_0.cpp1.ii") ∷ [])
 
 pub later_step_stands_apart : LaterStepStandsApart
@@ -67,7 +69,8 @@ two_steps = at 1 (codes "/b/gcc") (codes "-D__CUDACC__ -E a.cu -o /t/a.cpp1.ii")
 
 abbrev pub TwoStepsStandApart : Type 0
 TwoStepsStandApart =
-    AreBothClean cicc_and_step two_steps × (is_shadow standard_suffixes cicc_and_step two_steps (codes "/t") ≡ true) × (steps_to (codes "a.cpp1.ii") two_steps ≡ two_steps) ×
+    AreBothClean cicc_and_step two_steps × (is_shadow standard_suffixes cicc_and_step two_steps (codes "/t") ≡ true) ×
+    (steps_to (codes "a.cpp1.ii") two_steps ≡ two_steps) ×
     (all_fates cicc_and_step two_steps ≡ ungrouped Superseded ∷ ungrouped Superseded ∷ device (codes "x_0.cpp1.ii") ∷ [])
 
 pub two_steps_stand_apart : TwoStepsStandApart
@@ -83,7 +86,9 @@ step_in_folder = at 1 (codes "/b/gcc") (codes "-D__CUDACC__ -E a.cu -o /t/d/a.cp
 abbrev pub FolderStandsApart : Type 0
 FolderStandsApart =
     AreBothClean cicc_in_folder step_in_folder × (list_all is_bare (appearances standard_suffixes cicc_in_folder) ≡ false) ×
-    (appearances standard_suffixes step_in_folder ≡ map (joined (codes "/t")) (appearances standard_suffixes cicc_in_folder)) × (steps_to (codes "d/a.cpp1.ii") step_in_folder ≡ step_in_folder) ×
+    (appearances standard_suffixes step_in_folder ≡
+    map (joined (codes "/t")) (appearances standard_suffixes cicc_in_folder)) ×
+    (steps_to (codes "d/a.cpp1.ii") step_in_folder ≡ step_in_folder) ×
     (all_fates cicc_in_folder step_in_folder ≡ device (codes "x_0.cpp1.ii") ∷ ungrouped NoCiccGroup ∷ [])
 
 pub folder_stands_apart : FolderStandsApart
@@ -95,7 +100,8 @@ abbrev pub OneKernelStandsTogether : Type 0
 OneKernelStandsTogether =
     AreBothClean one_kernel_commands bare_stub_commands × (is_shadow standard_suffixes one_kernel_commands bare_stub_commands (codes "/t") ≡ false) ×
     (is_step_shadow standard_suffixes one_kernel_commands bare_stub_commands (codes "/t") ≡ true) ×
-    (all_fates one_kernel_commands bare_stub_commands ≡ front ∷ front ∷ device (codes "x_0.cpp1.ii") ∷ device (codes "x_0.cpp1.ii") ∷ device (codes "x_0.cpp1.ii") ∷ final ∷ final ∷ [])
+    (all_fates one_kernel_commands bare_stub_commands ≡ front ∷ front ∷ device (codes "x_0.cpp1.ii") ∷
+    device (codes "x_0.cpp1.ii") ∷ device (codes "x_0.cpp1.ii") ∷ final ∷ final ∷ [])
 
 pub one_kernel_stands_together : OneKernelStandsTogether
 one_kernel_stands_together = ((refl, refl), refl, refl, refl)

@@ -66,7 +66,8 @@ output_of p =
     Ok (obj.path, name)))
 
 -- the command, of what is taken out of the unhashed words, and the output's path and file name
-abbrev pub nvcc_command : List ℕ → ParsedArguments → List ℕ → List (List ℕ × List ℕ) → NvccHostCompiler → Places → List (List ℕ) × Option (List ℕ) × ℕ → List ℕ × List ℕ → NvccCompileCommand
+abbrev pub nvcc_command : List ℕ → ParsedArguments → List ℕ → List (List ℕ × List ℕ) → NvccHostCompiler → Places →
+    List (List ℕ) × Option (List ℕ) × ℕ → List ℕ × List ℕ → NvccCompileCommand
 nvcc_command executable p cwd env_vars host_compiler places taken output = record {
   temp_dir = places.temp_dir;
   keep_dir = taken.1;

@@ -66,14 +66,17 @@ output_of_answer exe (Finished f) = output_of_finished exe f
 output_of_answer exe (Failed fault) = output_of_fault fault
 
 -- examples: the first failure counts, and all texts
-pub first_failure_counts : aggregated (output_with (status_of_code (pos 3)) (codes "a") []) (output_with (status_of_code (pos 5)) (codes "b") []) ≡ output_with (pos 768) (codes "ab") []
+pub first_failure_counts : aggregated (output_with (status_of_code (pos 3)) (codes "a") [])
+    (output_with (status_of_code (pos 5)) (codes "b") []) ≡ output_with (pos 768) (codes "ab") []
 first_failure_counts = refl
 
-pub failure_after_success : aggregated (output_with (pos 0) (codes "a") []) (output_with (status_of_code (pos 2)) (codes "b") []) ≡ output_with (pos 512) (codes "ab") []
+pub failure_after_success : aggregated (output_with (pos 0) (codes "a") [])
+    (output_with (status_of_code (pos 2)) (codes "b") []) ≡ output_with (pos 512) (codes "ab") []
 failure_after_success = refl
 
 -- a signal after a success: that signal, and no code
-pub signal_after_success : aggregated (output_with (pos 0) (codes "a") []) (output_with (status_of_signal (pos 9)) (codes "b") []) ≡ output_with (pos 9) (codes "ab") []
+pub signal_after_success : aggregated (output_with (pos 0) (codes "a") [])
+    (output_with (status_of_signal (pos 9)) (codes "b") []) ≡ output_with (pos 9) (codes "ab") []
 signal_after_success = refl
 
 pub signal_is_told : signal_of_status (pos 9) ≡ Some (pos 9)
@@ -93,14 +96,21 @@ failed_process_is_kept = refl
 pub finished_well : output_of_finished (codes "ptxas") (record { retcode = Some (pos 0); signal = None; stdout = []; stderr = [] }) ≡ output_with (pos 0) [] []
 finished_well = refl
 
-pub finished_badly : output_of_finished (codes "ptxas") (record { retcode = Some (pos 1); signal = None; stdout = codes "out"; stderr = codes "err" }) ≡ output_with (pos 256) (codes "out") (codes "err")
+pub finished_badly : output_of_finished (codes "ptxas")
+    (record { retcode = Some (pos 1); signal = None; stdout = codes "out"; stderr = codes "err" }) ≡
+    output_with (pos 256) (codes "out") (codes "err")
 finished_badly = refl
 
-pub finished_without_a_code : output_of_finished (codes "ptxas") (record { retcode = None; signal = None; stdout = []; stderr = [] }) ≡ output_with (pos 0) [] []
+pub finished_without_a_code : output_of_finished (codes "ptxas")
+    (record { retcode = None; signal = None; stdout = []; stderr = [] }) ≡ output_with (pos 0) [] []
 finished_without_a_code = refl
 
-pub ended_by_a_signal : output_of_finished (codes "/usr/bin/ptxas") (record { retcode = None; signal = Some (pos 9); stdout = []; stderr = codes "!" }) ≡ output_with (pos 9) [] (codes "ptxas terminated (signal: 9)!")
+pub ended_by_a_signal : output_of_finished (codes "/usr/bin/ptxas")
+    (record { retcode = None; signal = Some (pos 9); stdout = []; stderr = codes "!" }) ≡
+    output_with (pos 9) [] (codes "ptxas terminated (signal: 9)!")
 ended_by_a_signal = refl
 
-pub ended_without_a_stem : output_of_finished (codes "/") (record { retcode = None; signal = Some (pos 11); stdout = []; stderr = [] }) ≡ output_with (pos 11) [] (codes "/ terminated (signal: 11)")
+pub ended_without_a_stem : output_of_finished (codes "/")
+    (record { retcode = None; signal = Some (pos 11); stdout = []; stderr = [] }) ≡
+    output_with (pos 11) [] (codes "/ terminated (signal: 11)")
 ended_without_a_stem = refl

@@ -136,7 +136,8 @@ first_failure_is_kept = (refl, refl)
 -- all commands in the order of their places, with one answer for each
 abbrev pub all_ran : Answer → List AccountEntry
 all_ran answer =
-    ran 1 0 step_a answer ∷ ran 1 1 cicc_a answer ∷ ran 2 0 step_b answer ∷ ran 2 1 cicc_b answer ∷ ran 3 0 step_c answer ∷ ran 3 1 cicc_c answer ∷ ran 4 0 host_code answer ∷ []
+    ran 1 0 step_a answer ∷ ran 1 1 cicc_a answer ∷ ran 2 0 step_b answer ∷ ran 2 1 cicc_b answer ∷
+    ran 3 0 step_c answer ∷ ran 3 1 cicc_c answer ∷ ran 4 0 host_code answer ∷ []
 
 -- no command fails: all run
 abbrev pub AllSucceed : Type 0

@@ -1,3 +1,4 @@
 pub mod FirstLemmas
 pub mod NumberLemmas
+pub mod PreprocessLemmas
 pub mod TakingLemmas
