@@ -1,4 +1,5 @@
 pub mod DryRunLemmas
 pub mod ExpansionLemmas
 pub mod LineLemmas
+pub mod PlainWordLemmas
 pub mod ReadingLemmas

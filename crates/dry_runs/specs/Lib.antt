@@ -6,5 +6,6 @@ pub mod DryRunRows
 pub mod Environment
 pub mod FirstDir
 pub mod OneKernel
+pub mod PlainWords
 pub mod Reading
 pub mod Replacing

@@ -13,13 +13,13 @@ ghost use Rattle.dry_runs.specs.Replacing as replacing;
 ghost use Rattle.dry_runs.specs.Reading as reading;
 ghost use Rattle.dry_runs.specs.Reading.{text_of, texts_of, IsCutAt};
 
+use crate::plain_words::words_of;
 use memchr::memchr;
-use shell_words::split;
 use std::alloc::{AllocError, Global};
 use unicode::perl::is_word_character;
 
 // What stands before and behind the first `mark` in a text.
-fn parted(text: &str, mark: char) -> Option<(&str, &str)>
+pub fn parted(text: &str, mark: char) -> Option<(&str, &str)>
     requires { mark < 128 }
     ensures cut { IsCutAt mark text.now result }
     ensures less { IfSome result (λ parts. length parts.1.now < length text.now) }
@@ -242,8 +242,8 @@ pub fn expanded_words(
         option_map (λ v. map string_bytes v.items) found ≡ shell_words (spec.expanded (map pair_of env.now) text.now)) }
 {
     let Some(first) = first_reference(alloc, env, text)? else {
-        return split(alloc, text);
+        return words_of(alloc, text);
     };
     let expanded = expanded(alloc, text, first)?;
-    split(alloc, expanded.as_str())
+    words_of(alloc, expanded.as_str())
 }

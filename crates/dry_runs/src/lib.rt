@@ -5,6 +5,7 @@ mod commands;
 mod environment;
 pub mod laws;
 mod lines;
+mod plain_words;
 mod reader;
 mod which;
 
