@@ -14,8 +14,8 @@ for tool in nvcc "${ZIGRUNK_NINJA:-ninja}" objcopy nm; do
     fi
 done
 wrapper=$PWD/bin/zigrunk-nvcc
-program=$(realpath "${1:-crates/zigrunk/out/zigrunk}")
-[ -x "$program" ] || make build > /dev/null || exit 1
+program=$(realpath -m "${1:-crates/zigrunk/out/zigrunk}")
+[ -x "$program" ] || make build >&2 || exit 1
 scratch=$(mktemp -d)
 trap 'rm -rf "$scratch"' EXIT
 unset NVCC_PREPEND_FLAGS NVCC_APPEND_FLAGS

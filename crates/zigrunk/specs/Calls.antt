@@ -58,6 +58,9 @@ export_call_of format [] = None
 export_call_of format (word ∷ words) =
     if bytes_eq word (codes "--keep") then export_with format true words else export_with format false (word ∷ words)
 
+abbrev pub export_named : List ℕ → List (List ℕ) → Option ExportOf
+export_named name words = option_and_then (λ format. export_call_of format words) (format_of_name name)
+
 abbrev pub nvcc_call_of : List (List ℕ) → Option NvccOf
 nvcc_call_of (cwd ∷ tmp ∷ nvcc ∷ words) = Some (record { cwd = cwd; tmp = tmp; nvcc = nvcc; words = words })
 nvcc_call_of _ = None
@@ -67,11 +70,17 @@ abbrev pub alone : CallOf → List (List ℕ) → Option CallOf
 alone call [] = Some call
 alone call (word ∷ words) = None
 
+-- the call that a word other than `calls` and the words behind it are
+abbrev pub other_call : List ℕ → List (List ℕ) → Option CallOf
+other_call name words =
+    if bytes_eq name (codes "--help") then alone helps words else
+    if bytes_eq name (codes "--version") then alone tells_version words else option_map exports (export_named name words)
+
+-- the call that a word and the words behind it are
+abbrev pub named_call : List ℕ → List (List ℕ) → Option CallOf
+named_call name words = if bytes_eq name (codes "calls") then option_map reads (nvcc_call_of words) else other_call name words
+
 -- the call that the words after the program's name are
 abbrev pub call_of : List (List ℕ) → Option CallOf
 call_of [] = None
-call_of (verb ∷ words) =
-    if bytes_eq verb (codes "calls") then option_map reads (nvcc_call_of words) else
-    if bytes_eq verb (codes "--help") then alone helps words else
-    if bytes_eq verb (codes "--version") then alone tells_version words else
-    option_and_then (λ format. option_map exports (export_call_of format words)) (format_of_name verb)
+call_of (verb ∷ words) = named_call verb words

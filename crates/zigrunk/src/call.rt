@@ -83,6 +83,13 @@ fn export_call<'a>(format: Format, words: &'a [String]) -> Option<ExportCall<'a>
     }
 }
 
+// The call that a word and the words behind it are, if the word is a format's name.
+fn export_named<'a>(name: &str, words: &'a [String]) -> Option<ExportCall<'a>>
+    ensures { option_map spec.export_of result ≡ spec.export_named name.now (map string_bytes words.now) }
+{
+    export_call(format_named(name)?, words)
+}
+
 // The call that the words behind `calls` are.
 fn nvcc_call<'a>(words: &'a [String]) -> Option<NvccCall<'a>>
     ensures { option_map spec.nvcc_of result ≡ spec.nvcc_call_of (map string_bytes words.now) }
@@ -108,6 +115,34 @@ fn alone<'a>(call: Call<'a>, words: &'a [String]) -> Option<Call<'a>>
     }
 }
 
+// The call that writes a plan, of these words.
+fn exporting<'a>(name: &str, words: &'a [String]) -> Option<Call<'a>>
+    ensures { option_map spec.seen result ≡ option_map spec.exports (spec.export_named name.now (map string_bytes words.now)) }
+{
+    Some(Call::Export(export_named(name, words)?))
+}
+
+// The call that a word other than `calls` and the words behind it are.
+fn other_call<'a>(name: &str, words: &'a [String]) -> Option<Call<'a>>
+    ensures { option_map spec.seen result ≡ spec.other_call name.now (map string_bytes words.now) }
+{
+    match name {
+        "--help" => alone(Call::Help, words),
+        "--version" => alone(Call::Version, words),
+        _ => exporting(name, words),
+    }
+}
+
+// The call that a word and the words behind it are.
+fn named_call<'a>(name: &str, words: &'a [String]) -> Option<Call<'a>>
+    ensures { option_map spec.seen result ≡ spec.named_call name.now (map string_bytes words.now) }
+{
+    match name {
+        "calls" => Some(Call::Nvcc(nvcc_call(words)?)),
+        _ => other_call(name, words),
+    }
+}
+
 /// The call that the words after the program's name are:
 ///
 /// - `shell|ninja|json CWD TMP FLAG DRY1 DRY2 SUFFIX..`, with `--keep` behind the first word if generated files
@@ -120,10 +155,5 @@ pub fn call_of<'a>(words: &'a [String]) -> Option<Call<'a>>
     let [verb, rest @ ..] = words else {
         return None;
     };
-    match verb.as_str() {
-        "calls" => Some(Call::Nvcc(nvcc_call(rest)?)),
-        "--help" => alone(Call::Help, rest),
-        "--version" => alone(Call::Version, rest),
-        name => Some(Call::Export(export_call(format_named(name)?, rest)?)),
-    }
+    named_call(verb.as_str(), rest)
 }
