@@ -47,7 +47,7 @@ fn is_name(text: &str) -> bool
     !text.is_empty() && is_of_name_bytes(text.as_bytes())
 }
 
-// The name and the value that an environment line assigns; `None` where the text is no such line.
+/// The name and the value that an environment line assigns; `None` where the text is no such line.
 pub fn assignment(text: &str) -> Option<(&str, &str)>
     ensures { option_map texts_of result ≡ spec.assignment text.now }
 {
@@ -179,8 +179,8 @@ fn expanded(alloc: Global, env: &[(String, String)], text: &str) -> Result<Strin
     Ok(expanded)
 }
 
-// The shell words of a text, once the variables of an environment are expanded; `None` where it has none.
-// A text without a `$` is its own expansion.
+/// The shell words of a text, once the variables of an environment are expanded; `None` where it has none.
+/// A text without a `$` is its own expansion.
 pub fn expanded_words(
     alloc: Global,
     env: &[(String, String)],

@@ -9,5 +9,7 @@ mod reader;
 mod which;
 
 pub use commands::{Commands, DryRun};
+pub use environment::{assignment, expanded_words};
+pub use lines::{first_line, marked};
 pub use reader::read_dry_run;
-pub use which::{FirstDir, Which};
+pub use which::{FirstDir, Which, is_bare};

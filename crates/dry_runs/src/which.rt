@@ -30,8 +30,8 @@ pub trait Which {
 #[derive(Clone, Copy, Debug)]
 pub struct FirstDir;
 
-// Whether `name` holds no `/`.
-fn is_bare(name: &str) -> bool
+/// Whether `name` holds no `/`.
+pub fn is_bare(name: &str) -> bool
     ensures { result ≡ is_bare_name name.now }
 {
     match name.rsplit_once('/') {

@@ -1,0 +1,89 @@
+-- Lists of look-ups, each once.
+use Rattle.std.proofs.Common.{◌≡◌, List, [], ◌∷◌, ◌++◌, ◌||◌, ◌&&◌, Bool, true, false, cond, refl, ap, sym, ◌∙◌, subst}
+use Rattle.std.specs.Bool.{Decides}
+use Rattle.std.specs.List.{list_any, AllByRecursion}
+use Rattle.std.specs.Str.{bytes_eq}
+use Rattle.std.proofs.lemmas.Bool.{false≢true}
+use Rattle.std.proofs.lemmas.Bool.Decides.{Decides-and, Decides-like}
+use Rattle.std.proofs.lemmas.Slice.Eq.{bytes_eq-Decides}
+use Rattle.program_lookups.specs.declared.lookup.Lookup.{Lookup}
+use Rattle.program_lookups.specs.Lookup.{same_lookup, with_lookup, with_lookups}
+use Rattle.program_lookups.specs.Laws.{AreOnce}
+
+pub same-decides : (a b : Lookup) → Decides (same_lookup a b) (a ≡ b)
+same-decides a b =
+    Decides-like (same_lookup a b) (λ e. λ i. record { program = e.0.0 i; path = e.0.1 i; folder = e.1 i }) (λ e. ((ap (λ x. x.program) e, ap (λ x. x.path) e), ap (λ x. x.folder) e))
+    (Decides-and (bytes_eq a.program b.program && bytes_eq a.path b.path) (bytes_eq a.folder b.folder)
+    (Decides-and (bytes_eq a.program b.program) (bytes_eq a.path b.path) (bytes_eq-Decides a.program b.program) (bytes_eq-Decides a.path b.path)) (bytes_eq-Decides a.folder b.folder))
+
+or-true : (b : Bool) → (b || true) ≡ true
+or-true true = refl
+or-true false = refl
+
+or-false : (a b : Bool) → (a || b) ≡ false → (a ≡ false) × (b ≡ false)
+or-false true b h = absurd (false≢true (sym h))
+or-false false b h = (refl, h)
+
+-- whether a list has a look-up
+abbrev pub has : List Lookup → Lookup → Bool
+has known l = list_any (λ other. same_lookup other l) known
+
+-- a fact of all look-ups of a list
+module _ (P : Lookup → Type 0) where
+  all-has : (l : Lookup) (known : List Lookup) → has known l ≡ true → AllByRecursion P known → P l
+  all-has l [] h all = absurd (false≢true h)
+  all-has l (k ∷ known) h all =
+      elim (same_lookup k l) as (λ b. same_lookup k l ≡ b → (b || has known l) ≡ true → P l) [
+        | true ↦ λ e more. subst P ((same-decides k l).0 e) all.0
+        | false ↦ λ e more. all-has l known more all.1
+      ] refl h
+
+  all-front : (known : List Lookup) (l : Lookup) → AllByRecursion P (known ++ l ∷ []) → AllByRecursion P known × P l
+  all-front [] l all = (tt, all.0)
+  all-front (k ∷ known) l all = let rest = all-front known l all.1 in ((all.0, rest.0), rest.1)
+
+  all-one : (known : List Lookup) (l : Lookup) → AllByRecursion P (with_lookup known l) → AllByRecursion P known × P l
+  all-one known l all =
+      elim (has known l) as (λ b. has known l ≡ b → AllByRecursion P (cond b known (known ++ l ∷ [])) → AllByRecursion P known × P l) [
+        | true ↦ λ e more. (more, all-has l known e more)
+        | false ↦ λ e more. all-front known l more
+      ] refl all
+
+  -- what holds of each of the look-ups that are listed once holds of all that were put there
+  pub all-listed : (known lookups : List Lookup) → AllByRecursion P (with_lookups known lookups) → AllByRecursion P known × AllByRecursion P lookups
+  all-listed known [] all = (all, tt)
+  all-listed known (l ∷ lookups) all =
+      let rest = all-listed (with_lookup known l) lookups all in
+      let one = all-one known l rest.0 in
+      (one.0, (one.1, rest.1))
+
+-- a list has each of its look-ups
+module _ {P Q : Lookup → Type 0} (f : (l : Lookup) → P l → Q l) where
+  pub all-map : (lookups : List Lookup) → AllByRecursion P lookups → AllByRecursion Q lookups
+  all-map [] all = tt
+  all-map (l ∷ lookups) all = (f l all.0, all-map lookups all.1)
+
+pub has-each : (lookups : List Lookup) → AllByRecursion (λ l. has lookups l ≡ true) lookups
+has-each [] = tt
+has-each (l ∷ lookups) = (
+  ap (λ b. b || has lookups l) ((same-decides l l).1 refl),
+  all-map (λ other h. ap (λ b. same_lookup l other || b) h ∙ or-true (same_lookup l other)) lookups (has-each lookups),
+)
+
+-- a list that has no look-up twice has none twice with one more that it lacks
+none-more : (l : Lookup) (known : List Lookup) (x : Lookup) → list_any (same_lookup l) known ≡ false → same_lookup l x ≡ false → list_any (same_lookup l) (known ++ x ∷ []) ≡ false
+none-more l [] x h e = ap (λ b. b || false) e
+none-more l (k ∷ known) x h e = let parts = or-false (same_lookup l k) (list_any (same_lookup l) known) h in ap (λ b. b || list_any (same_lookup l) (known ++ x ∷ [])) parts.0 ∙ none-more l known x parts.1 e
+
+once-more : (known : List Lookup) (x : Lookup) → AreOnce known → has known x ≡ false → AreOnce (known ++ x ∷ [])
+once-more [] x once h = (refl, tt)
+once-more (k ∷ known) x once h = let parts = or-false (same_lookup k x) (has known x) h in (none-more k known x once.0 parts.0, once-more known x once.1 parts.1)
+
+once-one : (known : List Lookup) (x : Lookup) → AreOnce known → AreOnce (with_lookup known x)
+once-one known x once =
+    elim (has known x) as (λ b. has known x ≡ b → AreOnce (cond b known (known ++ x ∷ [])))
+    [ true ↦ λ e. once | false ↦ λ e. once-more known x once e ] refl
+
+pub once-listed : (known lookups : List Lookup) → AreOnce known → AreOnce (with_lookups known lookups)
+once-listed known [] once = once
+once-listed known (l ∷ lookups) once = once-listed (with_lookup known l) lookups (once-one known l once)

@@ -1,0 +1,5 @@
+mod AskedLemmas
+mod KnownLemmas
+mod PathLemmas
+mod ReadingLemmas
+mod SnapshotLemmas

@@ -1,0 +1,5 @@
+pub mod Asked
+pub mod Candidates
+pub mod Laws
+pub mod Lookup
+pub mod Snapshot

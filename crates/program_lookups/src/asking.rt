@@ -1,0 +1,159 @@
+//! The look-ups that reading a dry run makes.
+
+ghost use Rattle.std.specs.Prelude.{◌≡◌, [], map, codes, IfOk, string_bytes};
+ghost use Rattle.std.specs.Option.{option_copied};
+ghost use Rattle.shell_words.specs.Shell.Splitting.{shell_words};
+ghost use Rattle.texts.specs.Variables.{pair_of, first_value};
+ghost use Rattle.dry_runs.specs.DryRunLines.{marked_text};
+ghost use Rattle.dry_runs.specs.Environment.{expanded};
+ghost use Rattle.program_lookups.specs.Asked as spec;
+ghost use Rattle.program_lookups.specs.Asked.{asked_of, asked_behind as asked_behind_list};
+
+use crate::lookup::{Lookup, add};
+use dry_runs::{assignment, expanded_words, first_line, marked};
+use std::alloc::{AllocError, Global};
+use texts::text::Text;
+use texts::variables::Variables;
+
+// What reading does at a line, whatever a look-up answers.
+#[derive(Drop)]
+enum Asking {
+    // It reads on.
+    Nothing,
+    // It sets a variable, and reads on.
+    Sets(Text, Text),
+    // It looks a program up.
+    Asks(Lookup),
+    // It refuses the run.
+    Ends,
+}
+
+// The value of the first variable of a name.
+fn value_of<'a>(env: &'a [(String, String)], name: &str) -> Option<&'a str>
+    ensures { option_copied result ≡ first_value name.now (map pair_of env.now) }
+{
+    for pair in env {
+        if name == pair.0.as_str() {
+            return Some(pair.1.as_str());
+        }
+    }
+    None
+}
+
+// What a command asks for, by its words.
+fn asking_of_words(
+    alloc: Global,
+    env: &Variables,
+    folder: &str,
+    words: &[String],
+) -> Result<Asking, AllocError>
+    ensures { IfOk result (λ asking. asking ≡ spec.asking_of_words folder.now env.now (Some (map string_bytes words.now))) }
+{
+    let Some(program) = words.first() else {
+        return Ok(Asking::Ends);
+    };
+    let Some(path) = value_of(env.as_slice(), "PATH") else {
+        return Ok(Asking::Ends);
+    };
+    Ok(Asking::Asks(Lookup::copy_of(alloc, program.as_str(), path, folder)?))
+}
+
+// What a command asks for, by the text behind its mark.
+fn asking_of_command(
+    alloc: Global,
+    env: &Variables,
+    folder: &str,
+    text: &str,
+) -> Result<Asking, AllocError>
+    ensures { IfOk result (λ asking. asking ≡ spec.asking_of_words folder.now env.now (shell_words (expanded env.now text.now))) }
+{
+    match expanded_words(alloc, env.as_slice(), text)? {
+        None => Ok(Asking::Ends),
+        Some(words) => asking_of_words(alloc, env, folder, words.as_slice()),
+    }
+}
+
+// What a line asks for, by the text behind its mark.
+fn asking_of_marked(
+    alloc: Global,
+    env: &Variables,
+    folder: &str,
+    text: &str,
+) -> Result<Asking, AllocError>
+    ensures { IfOk result (λ asking. asking ≡ spec.asking_marked folder.now env.now (Some text.now)) }
+{
+    match assignment(text) {
+        Some((name, value)) => Ok(Asking::Sets(
+            Text::copy_of(alloc, name)?,
+            Text::copy_of(alloc, value)?,
+        )),
+        None => asking_of_command(alloc, env, folder, text),
+    }
+}
+
+// What a line asks for that is text.
+fn asking_of_text(
+    alloc: Global,
+    env: &Variables,
+    folder: &str,
+    line: &str,
+) -> Result<Asking, AllocError>
+    ensures { IfOk result (λ asking. asking ≡ spec.asking_marked folder.now env.now (marked_text line.now)) }
+{
+    match marked(line) {
+        None => Ok(Asking::Nothing),
+        Some(text) => asking_of_marked(alloc, env, folder, text),
+    }
+}
+
+// What a line asks for behind the environment lines `env`.
+fn asking_of(
+    alloc: Global,
+    env: &Variables,
+    folder: &str,
+    line: &[u8],
+) -> Result<Asking, AllocError>
+    ensures { IfOk result (λ asking. asking ≡ spec.asking folder.now env.now line.now) }
+{
+    match str::from_utf8(line) {
+        Err(_) => Ok(Asking::Ends),
+        Ok(text) => asking_of_text(alloc, env, folder, text),
+    }
+}
+
+// The look-ups of a list, and behind them those of a dry run that the list lacks.
+pub(crate) fn asked_behind(
+    alloc: Global,
+    known: Vec<Lookup>,
+    dry_run: &[u8],
+    folder: &str,
+) -> Result<Vec<Lookup>, AllocError>
+    ensures { IfOk result (λ lookups. lookups.items ≡ asked_behind_list known.items dry_run.now folder.now) }
+{
+    let mut lookups = known;
+    let mut env = Variables::new(alloc);
+    let mut rest = dry_run;
+    while let Some((line, behind)) = first_line(rest) {
+        match asking_of(alloc, &env, folder, line)? {
+            Asking::Nothing => {}
+            Asking::Sets(name, value) => env.push(name.into_string(), value.into_string())?,
+            Asking::Asks(lookup) => add(&mut lookups, lookup)?,
+            Asking::Ends => return Ok(lookups),
+        }
+        rest = behind;
+    }
+    Ok(lookups)
+}
+
+/// The look-ups that reading a dry run makes from the working directory `folder`, in order of first ask, none twice.
+///
+/// They depend on the text and the folder alone, and on nothing that a look-up answers. A line that is bad whatever is
+/// found ends the list, as it ends the reading. Reading ends at the first program that isn't found, too: then the list
+/// also holds what the lines behind it would have asked for.
+///
+/// The only error is want of memory. A text that can't be read is refused by `read_dry_run`.
+pub fn asked_lookups(alloc: Global, dry_run: &[u8], folder: &str) -> Result<Vec<Lookup>, AllocError>
+    ensures { IfOk result (λ lookups. lookups.items ≡ asked_of dry_run.now folder.now) }
+{
+    asked_behind(alloc, Vec::new(alloc), dry_run, folder)
+}

@@ -1,0 +1,19 @@
+//! The look-ups of programs that reading a dry run makes, and their answers from a disk.
+//!
+//! Reading takes a look-up that is a function of its arguments, and a disk is none: it may change from one question
+//! to the next. So the look-ups that two texts ask for are listed, each is made once, and a `Snapshot` answers them
+//! from then on.
+#![tactic(auto)]
+
+mod asking;
+mod disk;
+pub mod laws;
+mod lookup;
+mod search_path;
+mod snapshot;
+
+pub use asking::asked_lookups;
+pub use disk::{snapshot_by, snapshot_of};
+pub use lookup::Lookup;
+pub use search_path::candidates;
+pub use snapshot::{Entry, Snapshot};

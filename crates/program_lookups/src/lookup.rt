@@ -1,0 +1,73 @@
+//! Look-ups of programs.
+
+ghost use Rattle.std.specs.Prelude.{◌≡◌, IfOk, OnOk};
+ghost use Rattle.std.specs.List.{list_any};
+ghost use Rattle.program_lookups.specs.Lookup.{lookup_of, same_lookup, with_lookup};
+
+use std::alloc::{AllocError, Global};
+use texts::text::Text;
+
+/// A look-up of a program.
+#[derive(Debug, Drop)]
+pub struct Lookup {
+    /// The program's name, as the command has it.
+    pub program: Text,
+    /// The value of `PATH`.
+    pub path: Text,
+    /// The working directory.
+    pub folder: Text,
+}
+
+impl Lookup {
+    /// The look-up of a program by the value of `PATH` and the working directory, in memory of its own.
+    pub fn copy_of(
+        alloc: Global,
+        program: &str,
+        path: &str,
+        folder: &str,
+    ) -> Result<Lookup, AllocError>
+        ensures { IfOk result (λ lookup. lookup ≡ lookup_of program.now path.now folder.now) }
+    {
+        Ok(Lookup {
+            program: Text::copy_of(alloc, program)?,
+            path: Text::copy_of(alloc, path)?,
+            folder: Text::copy_of(alloc, folder)?,
+        })
+    }
+
+    /// Whether this is the look-up of that program by that value of `PATH` and that working directory.
+    pub fn is(&self, program: &str, path: &str, folder: &str) -> bool
+        ensures { result ≡ same_lookup self.now (lookup_of program.now path.now folder.now) }
+    {
+        self.program.as_str() == program
+            && self.path.as_str() == path
+            && self.folder.as_str() == folder
+    }
+}
+
+// Whether a look-up is in a list.
+fn holds(lookups: &[Lookup], lookup: &Lookup) -> bool
+    ensures { result ≡ list_any (λ known. same_lookup known lookup.now) lookups.now }
+{
+    for known in lookups {
+        if known.is(
+            lookup.program.as_str(),
+            lookup.path.as_str(),
+            lookup.folder.as_str(),
+        ) {
+            return true;
+        }
+    }
+    false
+}
+
+// Puts a look-up last, unless the list has it.
+pub(crate) fn add(lookups: &mut Vec<Lookup>, lookup: Lookup) -> Result<(), AllocError>
+    ensures { OnOk result (lookups.new.items ≡ with_lookup lookups.old.items lookup) }
+{
+    if holds(lookups.as_slice(), &lookup) {
+        return Ok(());
+    }
+    lookups.push(lookup)?;
+    Ok(())
+}
