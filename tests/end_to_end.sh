@@ -126,7 +126,8 @@ call 'a dependency file' "$one" -MD -MF kernel.d -c kernel.cu -o kernel.o
 call 'dependencies beside the object' "$one" -MMD -c kernel.cu -o kernel.o
 call 'two threads' "$two" --threads 2 "${targets[@]}" -c kernel.cu -o kernel.o
 call 'odd words' "$one" "-DNAME=\"it's 5\$, é\"" -c 'an odd näme.cu' -o 'an odd näme.o'
-call 'debug information' "$one" -g -lineinfo -O1 -std=c++20 -c kernel.cu -o kernel.o
+call 'debug information' "$one" -g -O1 -std=c++20 -c kernel.cu -o kernel.o
+call 'lines of the source in device code' 'cicc:1 ptxas:1' -lineinfo -cubin kernel.cu -o kernel.cubin
 call 'kept files' "$one" --keep -c kernel.cu -o kernel.o
 call 'files kept in a folder' "$two" --keep --keep-dir . "${targets[@]}" -c kernel.cu -o kernel.o
 call 'a warning' "$one" -c warning.cu -o warning.o
@@ -134,10 +135,9 @@ call 'an error in host code' 'cudafe++:1' -c wrong_host.cu -o wrong.o
 call 'an error in device code' 'cudafe++:1' -c wrong_device.cu -o wrong.o
 call 'an error in assembly' 'cicc:1 cudafe++:1 ptxas:1' -c wrong_assembly.cu -o wrong.o
 call 'two sources' '' -c kernel.cu other.cu
-call 'an archive' '' -lib kernel.cu other.cu -o both.a
 call 'a program of two sources' '' -rdc=true -arch=sm_80 kernel.cu other.cu -o program
 call 'a program' '' other.cu kernel.cu -o program
-call 'a C++ source' '' -c plain.cpp -o plain.o
+call 'a C++ source' 'gcc:1' -c plain.cpp -o plain.o
 call 'no source' '' -c missing.cu -o missing.o
 call 'an unknown word' '' --no-such-word -c kernel.cu -o kernel.o
 call 'the version' '' --version

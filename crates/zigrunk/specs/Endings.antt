@@ -1,7 +1,9 @@
 -- How calls of the program end.
 use Rattle.std.specs.Prelude.{◌≡◌, ℕ, List, ◌⊎◌, Option, Result, Ok, Err, MatchOption}
 use Rattle.std.specs.Io.KnownBytes.{Keeps}
-use Rattle.dry_runs.specs.DryRun.{LookUp}
+use Rattle.program_lookups.specs.declared.snapshot.Entry.{Entry}
+use Rattle.program_lookups.specs.Asked.{asked_of_both}
+use Rattle.program_lookups.specs.Snapshot.{answer_in, IsSnapshotOf}
 use Rattle.plan_texts.specs.declared.stop.Stop.{Stop}
 use Rattle.plan_texts.specs.declared.stop.Stop.TheVariants.{Fault, NotCompilation, CannotCache, Unwritable, Write}
 use Rattle.plan_texts.specs.Delivery.{Delivers}
@@ -20,11 +22,11 @@ status_of (Err (Fault fault)) = 1
 status_of (Err (Unwritable why)) = 1
 status_of (Err Write) = 1
 
--- what is written for a call that writes a plan, by the engine's answer: what stands in the two files and what the disk
--- has is open, and a file that can't be read is refused
+-- what is written for a call that writes a plan, by the engine's answer: what stands in the two files is open, and so is
+-- what the disk says of the programs that they ask for; a file that can't be read is refused
 abbrev pub ExportsFiles : ExportOf → Result (Unit {0}) Stop → Option (List ℕ) → Option (List ℕ) → Type 0
 ExportsFiles c answer before after =
-    Delivers answer unread before after ⊎ ((first : List ℕ) × (second : List ℕ) × (which : LookUp) × Delivers answer (exported c which first second) before after)
+    Delivers answer unread before after ⊎ ((first : List ℕ) × (second : List ℕ) × (programs : List Entry) × IsSnapshotOf (asked_of_both first second c.plan.cwd) programs × Delivers answer (exported c (answer_in programs) first second) before after)
 
 -- what is written for a call, by the engine's answer and the variables that nvcc takes words from
 abbrev pub Serves : CallOf → List (List ℕ × List ℕ) → Result (Unit {0}) Stop → Option (List ℕ) → Option (List ℕ) → Type 0

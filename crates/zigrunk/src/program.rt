@@ -10,8 +10,8 @@ use crate::call::{Call, ExportCall, call_of};
 use crate::export::run_export;
 use crate::nvcc_line::run_nvcc_line;
 use crate::page::{USAGE, help, version};
-use dry_runs::FirstDir;
 use plan_texts::{Stop, complain, deliver, read_file};
+use program_lookups::snapshot_of;
 use std::alloc::Global;
 use std::fs::Files;
 use std::io::Write;
@@ -27,14 +27,9 @@ fn export_files<R: Files + AllocGlobal, W: Write>(
     let alloc = rt.alloc();
     let dry1 = read_file(rt, alloc, call.plan.dry1)?;
     let dry2 = read_file(rt, alloc, call.plan.dry2)?;
-    run_export(
-        alloc,
-        call,
-        dry1.stdout.as_slice(),
-        dry2.stdout.as_slice(),
-        &FirstDir,
-        out,
-    )
+    let (first, second) = (dry1.stdout.as_slice(), dry2.stdout.as_slice());
+    let programs = snapshot_of(rt, first, second, call.plan.cwd)?;
+    run_export(alloc, call, first, second, &programs, out)
 }
 
 // Writes a page.
