@@ -4,12 +4,15 @@ use Rattle.std.specs.List.{list_any}
 use Rattle.std.specs.Str.{bytes_eq, chars}
 use Rattle.texts.specs.declared.fault.Fault.{Fault}
 use Rattle.texts.specs.Numeral.{numeral}
+use Rattle.texts.specs.declared.language.Language.TheVariants.{Cuda}
 use Rattle.texts.specs.Path.{joined}
+use Rattle.texts.specs.Rows.{spaced}
 use Rattle.shell_words.specs.Shell.Quoting.{quoted}
 use Rattle.cuda_below.specs.declared.arguments.ParsedArguments.{ParsedArguments}
 use Rattle.cuda_below.specs.declared.command.SingleCompileCommand.{SingleCompileCommand}
 use Rattle.cuda_below.specs.declared.compiler.NvccHostCompiler.TheVariants.{Gcc}
 use Rattle.cuda_below.specs.declared.compiler.Places.{Places}
+use Rattle.cuda_below.specs.Arguments.{plain_arguments}
 use Rattle.cuda_below.specs.Compiler.{Reading, accepted, cannot_cache, not_compilation}
 use Rattle.cuda_plans.specs.declared.nvcc.command.NvccCompileCommand.{NvccCompileCommand}
 use Rattle.cuda_plans.specs.Nvcc.{nvcc_reading}
@@ -127,3 +130,27 @@ reading_text call variables not_compilation = Err stops.NotCompilation
 -- the text of an nvcc line, or why there is none
 abbrev pub nvcc_text : NvccOf → List (List ℕ × List ℕ) → Result (List ℕ) Stop
 nvcc_text call variables = reading_text call variables (nvcc_reading call.words call.cwd variables)
+
+-- Worked examples, at the working directory `/w` with the folder `/t`.
+abbrev pub line_at : List (List ℕ) → NvccOf
+line_at words = record { cwd = codes "/w"; tmp = codes "/t"; nvcc = codes "nvcc"; words = words }
+
+pub line_with_dependencies : nvcc_text (line_at (spaced "-MD -MF k.d --threads 2 -c k.cu -o k.o")) [] ≡ Ok (
+    codes "dependencies='( unset NVCC_PREPEND_FLAGS NVCC_APPEND_FLAGS; cd /w && nvcc -c -x cu k.cu -M -MF k.d -MT k.o )'\n" ++
+    (codes "first_dry_run='( unset NVCC_PREPEND_FLAGS NVCC_APPEND_FLAGS; cd /w && nvcc -x cu -o k.o -c k.cu --dryrun --keep )'\n" ++
+    (codes "second_dry_run='( unset NVCC_PREPEND_FLAGS NVCC_APPEND_FLAGS; cd /w && nvcc -x cu -o k.o -c k.cu --keep-dir /t --dryrun --keep )'\n" ++
+    codes "flag=-c\nthreads=2\nkeep_dir=''\n")))
+unfolding chars lib.Utf8.encode
+line_with_dependencies = refl
+
+pub input_of_lines : input_of (codes "/w") (record (plain_arguments (codes "k.cu") Cuda []) { common_args = spaced "-lineinfo -c" }) ≡ codes "/w/k.cu"
+input_of_lines = refl
+
+pub preprocessor_call : nvcc_text (line_at (spaced "-E k.cu")) [] ≡ Err (stops.CannotCache (codes "-E"))
+preprocessor_call = refl
+
+pub two_sources : nvcc_text (line_at (spaced "-c a.cu b.cu")) [] ≡ Err (stops.CannotCache (codes "multiple input files"))
+two_sources = refl
+
+pub no_line : nvcc_text (line_at []) [] ≡ Err stops.NotCompilation
+no_line = refl
