@@ -59,7 +59,7 @@ echo '__global__ void device(int* p) { int unused; p[0] = 1; }' > "$scratch/sour
 by() {
     local tool=$1 folder=$2 name=$3
     shift 3
-    cp -r "$scratch/sources" "$folder/work"
+    cp -a "$scratch/sources" "$folder/work"
     (cd "$folder/work" && ZIGRUNK_LOG=$folder/$name.log "$tool" "$@" > "$folder/$name.out" 2> "$folder/$name.err")
     echo $? > "$folder/$name.status"
     mv "$folder/work" "$folder/$name"
