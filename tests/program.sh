@@ -1,11 +1,12 @@
 #!/usr/bin/env bash
-# Runs the built program for each form of its calls, and checks the exit status and both streams.
+# Runs the built programs for each form of their calls, and checks the exit status and both streams.
 # Prints a line for each case that fails, and last 'N passed, M failed'; the status is 1 if one failed.
 #
-#   tests/program.sh [PROGRAM]     PROGRAM is the one that `make build` and the gate leave, unless given
+#   tests/program.sh [CUDAPLAN [ZIGRUNK]]     the programs are those that `make build` and the gate leave, unless given
 set -u
-cd "$(dirname "$0")/.."
+cd "$(dirname "$0")/.." || exit 1
 program=$(realpath "${1:-crates/cudaplan/out/cudaplan}")
+zigrunk=$(realpath "${2:-crates/zigrunk/out/zigrunk}")
 data=crates/worked_rows/data/dry_runs
 scratch=$(mktemp -d)
 trap 'rm -rf "$scratch"' EXIT
@@ -383,6 +384,195 @@ closed_streams() {
     judge 'a refused plan needs no standard output' 1 '' $'cudaplan: run 1 line 8: not UTF-8\n'
 }
 
+# ---- zigrunk
+
+# calls_text DEPENDENCIES WORDS FLAG THREADS KEEP: what an nvcc line at /w gives, of these words before those of the dry
+# runs. No word of it needs quotes.
+calls_text() {
+    local begin="'( unset NVCC_PREPEND_FLAGS NVCC_APPEND_FLAGS; cd /w && nvcc" dependencies="''"
+    [ -z "$1" ] || dependencies="$begin $1 )'"
+    lines "dependencies=$dependencies" "first_dry_run=$begin $2 --dryrun --keep )'" \
+        "second_dry_run=$begin $2 --keep-dir /t --dryrun --keep )'" "flag=$3" "threads=$4" "keep_dir=$5"
+}
+
+# reads NAME DEPENDENCIES WORDS FLAG THREADS KEEP WORD..: a line that is read so.
+reads() {
+    local name=$1 text
+    text=$(calls_text "$2" "$3" "$4" "$5" "$6")
+    shift 6
+    check "$name" 0 "${text%.}" '' calls /w /t nvcc "$@"
+}
+
+# nvcc lines that are read
+nvcc_lines() {
+    reads 'a compilation' '' '-x cu -o k.o -c k.cu' -c "''" "''" -c k.cu -o k.o
+    reads 'a compilation and its dependency file' '-c -x cu k.cu -M -MF k.d -MT k.o' '-x cu -o k.o -c k.cu' -c "''" "''" \
+        -MD -MF k.d -c k.cu -o k.o
+    reads 'a number of threads' '' '-x cu -o k.o -c k.cu' -c 4 "''" --threads=4 -c k.cu -o k.o
+    reads 'no threads' '' '-x cu -o k.o -c k.cu' -c 0 "''" -t0 -c k.cu -o k.o
+    reads 'one thread' '' '-x cu -o k.o -c k.cu' -c 1 "''" --threads 1 -c k.cu -o k.o
+    reads 'kept files' '' '-x cu -o k.o -c k.cu' -c "''" /w --keep -c k.cu -o k.o
+    reads 'files kept in a folder' '' '-x cu -o k.o -c k.cu' -c "''" /w/out --keep --keep-dir out -c k.cu -o k.o
+    reads 'PTX' '' '-x cu -o /w/k.ptx -ptx k.cu' -ptx "''" "''" -ptx k.cu -o k.ptx
+    reads 'lines of the source' '' '-x cu -o k.o -lineinfo -c /w/k.cu' -c "''" "''" -lineinfo -c k.cu -o k.o
+    reads 'a call that links' '' '-x cu -o /w/k k.cu' "''" "''" "''" k.cu -o k
+    reads 'a source by its whole path' '' '-x cu -o k.o -c /s/k.cu' -c "''" "''" -c /s/k.cu -o k.o
+    NVCC_PREPEND_FLAGS='-O1 -g' NVCC_APPEND_FLAGS=-O2 reads 'words of the environment' '' '-x cu -o k.o -O1 -g -O2 -c k.cu' -c "''" "''" \
+        -c k.cu -o k.o
+}
+
+# odd words of an nvcc line, which a shell reads back
+odd_nvcc_words() {
+    "$program" calls '/a b' "/t'" 'n v' "-DA=\"x'y\"" -c k.cu -o "é \$.o" > "$scratch/calls" 2> "$scratch/err"
+    echo $? > "$scratch/status"
+    sh -c '. "$1"; eval "set -- $second_dry_run"; printf "%s\n" "$@"' sh <(sed 's/=.( unset .* && /=\x27/; s/ ).$/\x27/' "$scratch/calls") > "$scratch/out"
+    judge 'odd words' 0 "n v
+-x
+cu
+-o
+é \$.o
+-DA=\"x'y\"
+-c
+k.cu
+--keep-dir
+/t'
+--dryrun
+--keep
+" ''
+}
+
+# nvcc lines that no plan is made of
+refused_nvcc_lines() {
+    check 'no words of nvcc' 3 '' $'zigrunk: not a compilation\n' calls /w /t nvcc
+    check 'a version is no compilation' 3 '' $'zigrunk: not a compilation\n' calls /w /t nvcc --version
+    check 'two sources' 3 '' $'zigrunk: cannot cache: multiple input files\n' calls /w /t nvcc -c a.cu b.cu
+    check 'a preprocessor call' 3 '' $'zigrunk: cannot cache: -E\n' calls /w /t nvcc -E k.cu
+    check 'words in a file' 3 '' $'zigrunk: cannot cache: @\n' calls /w /t nvcc -c k.cu @words
+    check 'an option without its value' 3 '' $'zigrunk: cannot cache: argument parse\n' calls /w /t nvcc -c k.cu --threads
+    check 'an output without a name' 1 '' $'zigrunk: output has no file name\n' calls /w /t nvcc -c k.cu -o ..
+}
+
+# run_of FILE LINE..: a dry run with these lines behind one that sets PATH, where the programs of a kernel's run are.
+run_of() {
+    local file=$1
+    shift
+    lines_of "$file" "#\$ PATH=$scratch/none:$scratch/bin" "$@"
+}
+
+readonly KERNEL=('#$ gcc -D__CUDACC__ -E k.cu -o k.cpp4.ii' '#$ cudafe++ --module_id_file_name k.id k.cpp4.ii'
+    '#$ gcc -D__NVCC__ -E k.cu -o k.cpp1.ii' '#$ cicc k.cpp1.ii -o k.ptx' "#\$ ptxas k.ptx -o \"k \\\$x.cubin\"" '#$ fatbinary k.cubin'
+    "#\$ gcc -D__NVCC__ \"-DA=it's\" k.cudafe1.cpp -o k.o" '#$ g++ k.o')
+
+# the programs of a kernel's run, on disk
+kernel_programs() {
+    local name
+    mkdir -p "$scratch/bin"
+    for name in gcc g++ cudafe++ cicc ptxas fatbinary; do
+        : > "$scratch/bin/$name"
+        chmod +x "$scratch/bin/$name"
+    done
+    run_of kernel "${KERNEL[@]}"
+}
+
+# plans as scripts
+plan_scripts() {
+    local bin=$scratch/bin text env last
+    env="env 'PATH=$scratch/none:$bin'"
+    last="$env '__SCCACHE_THIS_IS_A_CUDA_COMPILATION__='"
+    text=$(lines 'set -e' "( cd /w && $env $bin/gcc -D__CUDACC__ -E k.cu -o x_0.cpp4.ii )" \
+        "( cd /t && $env $bin/cudafe++ --gen_module_id_file --module_id_file_name k.id x_0.cpp4.ii )" \
+        "( cd /w && $env $bin/gcc -D__NVCC__ -E k.cu -o x_0.cpp1.ii )" "( cd /t && $env $bin/cicc x_0.cpp1.ii -o k.ptx )" \
+        "( cd /t && $env $bin/ptxas k.ptx -o 'k \$x.cubin' )" "( cd /t && $env $bin/fatbinary k.cubin )" \
+        "( cd /w && $last $bin/gcc -D__NVCC__ '-DA=it'\\''s' x_0.cudafe1.cpp -o k.o )")
+    check 'a plan as a script' 0 "${text%.}" '' shell /w /t -c "$scratch/kernel" "$scratch/kernel"
+    text=${text//x_0/k}
+    check 'a plan as a script, with names kept' 0 "${text%.}" '' shell --keep /w /t -c "$scratch/kernel" "$scratch/kernel"
+    run_of suffixed '#$ gcc -D__NVCC__ -E k.cu -o k.odd'
+    text=$(lines 'set -e' "( cd /w && $env $bin/gcc -D__NVCC__ -E k.cu -o x_0.odd )")
+    check 'a further suffix' 0 "${text%.}" '' shell /w /t -c "$scratch/suffixed" "$scratch/suffixed" .odd
+}
+
+# edge GROUP.PLACE NEEDS COMMAND: an edge of a file for Ninja.
+edge() {
+    echo "build \${tmp}/zigrunk.$1: run$2"
+    echo "  line = ( cd $3 ) && touch /t/zigrunk.$1"
+}
+
+# plans for Ninja and as JSON
+plan_files() {
+    local bin=$scratch/bin text env cached
+    env="env 'PATH=$scratch/none:$bin'"
+    cached="$env \$\${ZIGRUNK_LAUNCHER-} $bin"
+    text=$(lines 'tmp = /t' "builddir = \${tmp}" 'rule run' "  command = \${line}")
+    text=${text%.}$(
+        edge 0.0 '' "/w && $env $bin/gcc -D__CUDACC__ -E k.cu -o x_0.cpp4.ii"
+        edge 0.1 " \${tmp}/zigrunk.0.0" "/t && $cached/cudafe++ --gen_module_id_file --module_id_file_name k.id x_0.cpp4.ii"
+        edge 1.0 " \${tmp}/zigrunk.0.1" "/w && $env $bin/gcc -D__NVCC__ -E k.cu -o x_0.cpp1.ii"
+        edge 1.1 " \${tmp}/zigrunk.1.0" "/t && $cached/cicc x_0.cpp1.ii -o k.ptx"
+        edge 1.2 " \${tmp}/zigrunk.1.1" "/t && $cached/ptxas k.ptx -o 'k \$\$x.cubin'"
+        edge 2.0 " \${tmp}/zigrunk.0.1 \${tmp}/zigrunk.1.2" "/t && $env $bin/fatbinary k.cubin"
+        edge 2.1 " \${tmp}/zigrunk.2.0" "/w && ${cached/ \$/ \'__SCCACHE_THIS_IS_A_CUDA_COMPILATION__=\' \$}/gcc -D__NVCC__ '-DA=it'\\''s' x_0.cudafe1.cpp -o k.o"
+    )$'\n'"# dropped line 8 run 2 NotCuda $bin/g++ k.o"$'\n'
+    check 'a plan for Ninja' 0 "$text" '' ninja /w /t -c "$scratch/kernel" "$scratch/kernel"
+    run_of short '#$ g++ "a b"'
+    check 'a plan as JSON' 0 "{\"dropped\":[{\"args\":[\"a b\"],\"exe\":\"$bin/g++\",\"line\":1,\"reason\":\"NotCuda\",\"run\":2}],\"groups\":[[],[]]}"$'\n' '' \
+        json /w /t -c "$scratch/short" "$scratch/short"
+}
+
+# plans that aren't written
+refused_exports() {
+    local unread=$'zigrunk: cannot read input\n' unheld=$'zigrunk: a text of the plan holds a byte that the form can\'t\n' format
+    for format in shell ninja json; do
+        check "no first file for $format" 1 '' "$unread" "$format" /w /t -c "$scratch/missing" "$scratch/kernel"
+        check "no second file for $format" 1 '' "$unread" "$format" /w /t -c "$scratch/kernel" "$scratch/missing"
+    done
+    check 'a bad suffix' 1 '' $'zigrunk: bad generated suffixes\n' json /w /t -c "$scratch/kernel" "$scratch/kernel" .ii
+    lines_of pathless '#$ gcc'
+    check 'no PATH' 1 '' $'zigrunk: run 1 line 0: no PATH\n' json /w /t -c "$scratch/pathless" "$scratch/kernel"
+    check 'no PATH in the second run' 1 '' $'zigrunk: run 2 line 0: no PATH\n' json /w /t -c "$scratch/kernel" "$scratch/pathless"
+    run_of lost '#$ nowhere'
+    check 'a program that is not on disk' 1 '' $'zigrunk: nowhere: not found\n' json /w /t -c "$scratch/lost" "$scratch/kernel"
+    check 'a folder with a newline for Ninja' 1 '' "$unheld" ninja /w $'/t\n' -c "$scratch/kernel" "$scratch/kernel"
+    mkdir -p "$scratch/h=re"
+    : > "$scratch/h=re/gcc"
+    chmod +x "$scratch/h=re/gcc"
+    run_of equals '#$ ./gcc -D__NVCC__ x.cpp'
+    check 'a program whose path has an equals sign' 1 '' $'zigrunk: a program of the plan has a path that env takes for something else\n' \
+        shell "$scratch/h=re" /t -c "$scratch/equals" "$scratch/equals"
+    : > "$scratch/out"
+    "$program" --version > /dev/full 2> "$scratch/err"
+    echo $? > "$scratch/status"
+    judge 'a version to a full disk' 1 '' $'zigrunk: cannot write\n'
+    "$program" json /w /t -c "$scratch/kernel" "$scratch/kernel" > /dev/full 2> "$scratch/err"
+    echo $? > "$scratch/status"
+    judge 'a plan as JSON to a full disk' 1 '' $'zigrunk: cannot write\n'
+}
+
+# the pages, and words that are no call
+zigrunk_pages() {
+    check 'the version' 0 $'zigrunk 0.1.0\n' '' --version
+    "$program" --help > "$scratch/help" 2> "$scratch/err"
+    echo $? > "$scratch/status"
+    head -n 3 "$scratch/help" > "$scratch/out"
+    judge 'the help' 0 "usage: zigrunk shell|ninja|json [--keep] CWD TMP FLAG DRY1 DRY2 SUFFIX..
+       zigrunk calls CWD TMP NVCC WORD..
+       zigrunk --help | --version
+" ''
+    local usage=$'usage: zigrunk shell|ninja|json [--keep] CWD TMP FLAG DRY1 DRY2 SUFFIX.. | calls CWD TMP NVCC WORD.. | --help | --version\n' format
+    check 'no words for zigrunk' 2 '' "$usage"
+    check 'a verb of cudaplan' 2 '' "$usage" plan /w /t -c "$scratch/kernel" "$scratch/kernel"
+    check 'help and a word' 2 '' "$usage" --help me
+    check 'version and a word' 2 '' "$usage" --version 1
+    check 'calls without nvcc' 2 '' "$usage" calls /w /t
+    for format in shell ninja json; do
+        check "$format alone" 2 '' "$usage" "$format"
+        check "$format with one file" 2 '' "$usage" "$format" /w /t -c "$scratch/kernel"
+        check "$format with names kept and one file" 2 '' "$usage" "$format" --keep /w /t -c "$scratch/kernel"
+    done
+    check 'a word of nvcc that is not UTF-8' 2 '' "$usage" calls /w /t nvcc -c k.cu -o $'\xff'
+    NVCC_APPEND_FLAGS=$'\xff' check 'a variable that is not UTF-8' 2 '' "$usage" calls /w /t nvcc -c k.cu -o k.o
+}
+
 good_lines
 refused_lines
 good_plans
@@ -397,5 +587,15 @@ long_lines
 slow_streams
 short_streams
 closed_streams
+program=$zigrunk
+unset NVCC_PREPEND_FLAGS NVCC_APPEND_FLAGS
+nvcc_lines
+odd_nvcc_words
+refused_nvcc_lines
+kernel_programs
+plan_scripts
+plan_files
+refused_exports
+zigrunk_pages
 echo "$passed passed, $failed failed"
 [ "$failed" -eq 0 ]

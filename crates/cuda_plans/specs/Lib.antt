@@ -65,6 +65,7 @@ pub use Rattle.option_items.specs.ArgsIter
 pub use Rattle.option_items.specs.Items
 pub use Rattle.option_items.specs.LongestMatch
 pub use Rattle.option_items.specs.Table
+pub use Rattle.option_items.specs.Views
 pub use Rattle.option_items.specs.WordsLaw
 pub use Rattle.shell_words.specs.Shell
 pub use Rattle.texts.specs.DeviceFiles

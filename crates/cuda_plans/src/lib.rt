@@ -14,6 +14,6 @@ pub use command_groups as plan;
 pub use cuda_below::{arguments, command, compiler, gcc, outputs};
 pub use device_lines::{cicc, cudafe, ptxas};
 pub use host_lines::nvhpc;
-pub use option_items::{items, table};
+pub use option_items::{items, table, views};
 pub use shell_words as shell;
 pub use texts::{bytes, extension, fault, language, status, text, variables, words};

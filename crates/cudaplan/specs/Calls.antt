@@ -6,29 +6,19 @@ use Rattle.std.specs.Io.KnownBytes.{Keeps}
 use Rattle.plan_texts.specs.declared.stop.Stop.{Stop}
 use Rattle.plan_texts.specs.declared.tool.Tool.{Tool}
 use Rattle.plan_texts.specs.Delivery.{Delivers}
+use Rattle.plan_texts.specs.PlanCalls.{PlanOf, plan_of, plan_call_of}
 use Rattle.plan_texts.specs.PlanText.{shown_plan, unread}
 use Rattle.plan_texts.specs.Shown.{shown_line}
 use Rattle.plan_texts.specs.Tools.{tool_of_name}
 use Rattle.cudaplan.specs.declared.call.Call.{Call}
 use Rattle.cudaplan.specs.declared.call.Call.TheVariants as calls
 use Rattle.cudaplan.specs.declared.call.LineCall.{LineCall}
-use Rattle.cudaplan.specs.declared.call.PlanCall.{PlanCall}
 
 -- a call that reads a line: the tool, the working directory and the line's words
 pub record LineOf : Type 0 where
   pub tool : Tool
   pub cwd : List ℕ
   pub words : List (List ℕ)
-
--- a call that plans: the working directory, the folder of temporary files, the compilation flag, the files of the two dry
--- runs and the further suffixes
-pub record PlanOf : Type 0 where
-  pub cwd : List ℕ
-  pub tmp : List ℕ
-  pub flag : List ℕ
-  pub dry1 : List ℕ
-  pub dry2 : List ℕ
-  pub suffixes : List (List ℕ)
 
 pub data CallOf : Type 0 where
   reads : LineOf → CallOf
@@ -38,21 +28,14 @@ pub data CallOf : Type 0 where
 abbrev pub line_of : LineCall → LineOf
 line_of call = record { tool = call.tool; cwd = call.cwd.now; words = map string_bytes call.words.now }
 
-abbrev pub plan_of : PlanCall → PlanOf
-plan_of call = record { cwd = call.cwd.now; tmp = call.tmp.now; flag = call.flag.now; dry1 = call.dry1.now; dry2 = call.dry2.now; suffixes = map string_bytes call.suffixes.now }
-
 abbrev pub seen : Call → CallOf
 seen (calls.Line call) = reads (line_of call)
 seen (calls.Plan call) = plans (plan_of call)
 
--- the call that the words behind `line` are, and the one that those behind `plan` are
+-- the call that the words behind `line` are
 abbrev pub line_call_of : List (List ℕ) → Option LineOf
 line_call_of (tool ∷ cwd ∷ words) = option_map (λ t. record { tool = t; cwd = cwd; words = words }) (tool_of_name tool)
 line_call_of _ = None
-
-abbrev pub plan_call_of : List (List ℕ) → Option PlanOf
-plan_call_of (cwd ∷ tmp ∷ flag ∷ dry1 ∷ dry2 ∷ suffixes) = Some (record { cwd = cwd; tmp = tmp; flag = flag; dry1 = dry1; dry2 = dry2; suffixes = suffixes })
-plan_call_of _ = None
 
 -- the call that the words after the program's name are
 abbrev pub call_of : List (List ℕ) → Option CallOf

@@ -4,7 +4,7 @@ ghost use Rattle.std.specs.Prelude.{◌≡◌, map, string_bytes};
 ghost use Rattle.std.specs.Option.{option_map};
 ghost use Rattle.cudaplan.specs.Calls as spec;
 
-use plan_texts::Tool;
+use plan_texts::{PlanCall, Tool, plan_call};
 
 /// A call that reads a tool's line at a working directory.
 #[derive(Debug, Drop)]
@@ -12,23 +12,6 @@ pub struct LineCall<'a> {
     pub tool: Tool,
     pub cwd: &'a str,
     pub words: &'a [String],
-}
-
-/// A call that plans the dry runs of two files.
-#[derive(Debug, Drop)]
-pub struct PlanCall<'a> {
-    /// The working directory's path.
-    pub cwd: &'a str,
-    /// The path of the folder of temporary files.
-    pub tmp: &'a str,
-    /// The compilation flag.
-    pub flag: &'a str,
-    /// The path of the first dry run's file.
-    pub dry1: &'a str,
-    /// The path of the second dry run's file.
-    pub dry2: &'a str,
-    /// Further suffixes of generated files.
-    pub suffixes: &'a [String],
 }
 
 /// A call of the program.
@@ -49,23 +32,6 @@ fn line_call<'a>(words: &'a [String]) -> Option<LineCall<'a>>
         tool: Tool::named(tool.as_str())?,
         cwd: cwd.as_str(),
         words: line,
-    })
-}
-
-// The call that the words behind `plan` are.
-fn plan_call<'a>(words: &'a [String]) -> Option<PlanCall<'a>>
-    ensures { option_map spec.plan_of result ≡ spec.plan_call_of (map string_bytes words.now) }
-{
-    let [cwd, tmp, flag, dry1, dry2, suffixes @ ..] = words else {
-        return None;
-    };
-    Some(PlanCall {
-        cwd: cwd.as_str(),
-        tmp: tmp.as_str(),
-        flag: flag.as_str(),
-        dry1: dry1.as_str(),
-        dry2: dry2.as_str(),
-        suffixes,
     })
 }
 

@@ -1,10 +1,11 @@
 //! The program's calls.
 
 ghost use Rattle.std.specs.Prelude.{◌≡◌, map, string_bytes};
+ghost use Rattle.plan_texts.specs.PlanCalls.{plan_of};
 ghost use Rattle.cudaplan.specs.Calls as spec;
 
-use crate::call::{Call, PlanCall, call_of};
-use plan_texts::{Stop, read_file, run_line, run_plan};
+use crate::call::{Call, call_of};
+use plan_texts::{PlanCall, Stop, complain, read_file, run_line, run_plan};
 use std::alloc::Global;
 use std::fs::Files;
 use std::io::Write;
@@ -17,7 +18,7 @@ fn plan_files<R: Files + AllocGlobal, W: Write>(
     call: &PlanCall<'_>,
     out: &mut W,
 ) -> Result<(), Stop>
-    ensures { spec.PlansFiles (spec.plan_of call.now) result (W.contents out.old) (W.contents out.new) }
+    ensures { spec.PlansFiles (plan_of call.now) result (W.contents out.old) (W.contents out.new) }
 {
     let alloc = rt.alloc();
     let dry1 = read_file(rt, alloc, call.dry1)?;
@@ -44,13 +45,6 @@ fn serve<R: Files + AllocGlobal, W: Write>(rt: &R, call: &Call<'_>, out: &mut W)
     }
 }
 
-// Writes why the program stops to standard error; a failed write there is ignored.
-fn complain<E: Write>(alloc: Global, stop: &Stop, err: &mut E) {
-    if let Ok(text) = format!(in alloc; "cudaplan: {stop}\n") {
-        let _ = err.write_all(text.as_bytes());
-    }
-}
-
 // The exit status of what an engine answers, once it is told why the engine stopped.
 fn ended<E: Write>(alloc: Global, answer: Result<(), Stop>, err: &mut E) -> u8
     ensures { result ≡ spec.status_of answer }
@@ -58,7 +52,7 @@ fn ended<E: Write>(alloc: Global, answer: Result<(), Stop>, err: &mut E) -> u8
     match answer {
         Ok(()) => 0,
         Err(stop) => {
-            complain(alloc, &stop, err);
+            complain(alloc, "cudaplan", &stop, err);
             1
         }
     }

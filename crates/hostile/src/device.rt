@@ -201,6 +201,9 @@ fn check_refusal(stop: &Stop, out: &[u8], tally: &mut Tally) -> Result<(), Alloc
     match stop {
         Stop::Fault(fault) => tally.refused(fault),
         Stop::NotCompilation => tally.count("lines that are no compilation"),
+        Stop::CannotCache(_) | Stop::Unwritable(_) => {
+            tally.expect(false, "a device line stops for no reason of another call")
+        }
         Stop::Write => tally.expect(false, "a writer that takes all fails nowhere"),
     }
 }

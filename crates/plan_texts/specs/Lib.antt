@@ -1,4 +1,5 @@
 pub mod Delivery
+pub mod PlanCalls
 pub mod PlanText
 pub mod Shown
 pub mod ShownPlan

@@ -1,10 +1,8 @@
 //! The engine that plans two dry runs and writes the plan.
 
-ghost use Rattle.std.specs.Prelude.{◌≡◌, ◌++◌, IfOk, OnOk, None, map, string_bytes};
+ghost use Rattle.std.specs.Prelude.{◌≡◌, ◌++◌, IfOk, OnOk, map, string_bytes};
 ghost use Rattle.std.specs.Option.{option_copied, option_to_list};
 ghost use Rattle.texts.specs.Fault.{UnlessMemory};
-ghost use Rattle.command_groups.specs.PlanOfBytes.{planning_of};
-ghost use Rattle.dry_runs.specs.FirstDir.{first_dir};
 ghost use Rattle.plan_texts.specs.Delivery.{Answers, Delivers, text_of};
 ghost use Rattle.plan_texts.specs.PlanText as spec;
 
@@ -12,9 +10,9 @@ use crate::delivery::deliver;
 use crate::plan::show_plan;
 use crate::stop::Stop;
 use canonical_names::Suffixes;
-use command_groups::group_nvcc_subcommands_by_compilation_stage;
+use command_groups::{Plan, group_nvcc_subcommands_by_compilation_stage};
 use cuda_below::compiler::NvccHostCompiler;
-use dry_runs::FirstDir;
+use dry_runs::{FirstDir, Which};
 use std::alloc::{AllocError, Global};
 use std::io::Write;
 use texts::fault::Fault;
@@ -50,35 +48,44 @@ fn all_suffixes(alloc: Global, further: &[String]) -> Result<Suffixes, Fault>
     Suffixes::new(alloc, words.as_slice())
 }
 
-// The text of what two dry runs are planned as, with these suffixes.
-fn planned_text(
+/// Plans the dry runs of one `nvcc` call, `dry1` of `--dryrun --keep` and `dry2` of `--keep-dir TMP
+/// --dryrun --keep`. `cwd` is the working directory, `tmp` the folder of temporary files, `flag` the
+/// compilation flag, as `-c`. Generated files keep nvcc's names if `keep_dir` is one, and get canonical
+/// ones else. Every program is looked up by `which`, host code is gcc's, and the call's environment is
+/// empty. The further `suffixes` of generated files stand behind the standard ones.
+///
+/// Refuses, in this order: suffixes that don't keep the rule (`Fault::BadSuffixes`), the first bad line of
+/// the first run, and that of the second.
+pub fn plan_runs<L: Which>(
     alloc: Global,
     cwd: &str,
     tmp: &str,
     flag: &str,
+    keep_dir: Option<&str>,
     dry1: &[u8],
     dry2: &[u8],
-    suffixes: &Suffixes,
-) -> Result<String, Stop>
-    ensures { Answers (text_of result) (spec.show_planning (planning_of suffixes.now None (spec.program_setting cwd.now tmp.now flag.now) first_dir dry1.now dry2.now)) }
+    suffixes: &[String],
+    which: &L,
+) -> Result<Plan, Fault>
+    ensures { UnlessMemory result (spec.planned cwd.now tmp.now flag.now (option_copied keep_dir.entry) (L.answer which.now) dry1.now dry2.now (map string_bytes suffixes.now)) }
 {
-    let plan = group_nvcc_subcommands_by_compilation_stage(
+    let suffixes = all_suffixes(alloc, suffixes)?;
+    group_nvcc_subcommands_by_compilation_stage(
         alloc,
         dry1,
         dry2,
         flag,
         cwd,
         tmp,
-        None,
+        keep_dir,
         &[],
         NvccHostCompiler::Gcc,
-        &FirstDir,
-        suffixes,
-    )?;
-    Ok(show_plan(alloc, &plan)?)
+        which,
+        &suffixes,
+    )
 }
 
-// The same, with the standard suffixes and further ones.
+// The text of what two dry runs are planned as.
 fn plan_text(
     alloc: Global,
     cwd: &str,
@@ -90,8 +97,8 @@ fn plan_text(
 ) -> Result<String, Stop>
     ensures { Answers (text_of result) (spec.shown_plan cwd.now tmp.now flag.now dry1.now dry2.now (map string_bytes further.now)) }
 {
-    let suffixes = all_suffixes(alloc, further)?;
-    planned_text(alloc, cwd, tmp, flag, dry1, dry2, &suffixes)
+    let plan = plan_runs(alloc, cwd, tmp, flag, None, dry1, dry2, further, &FirstDir)?;
+    Ok(show_plan(alloc, &plan)?)
 }
 
 /// Plans the dry runs of one `nvcc` call, `dry1` of `--dryrun --keep` and `dry2` of `--keep-dir TMP

@@ -2,9 +2,10 @@
 
 use std::alloc::AllocError;
 use texts::fault::Fault;
+use texts::text::Text;
 use thiserror::Error;
 
-/// Why nothing more is printed. Its text is what follows `cudaplan: `.
+/// Why nothing more is printed. Its text is what follows the program's name.
 #[derive(Debug, Drop, Error)]
 pub enum Stop {
     /// A refusal.
@@ -13,6 +14,12 @@ pub enum Stop {
     /// The line compiles nothing.
     #[error("not a compilation")]
     NotCompilation,
+    /// No cache can serve the line: what stands against it.
+    #[error("cannot cache: {}", .0.as_str())]
+    CannotCache(Text),
+    /// What is planned can't be written in the form that is asked for: why.
+    #[error("{}", .0.as_str())]
+    Unwritable(Text),
     /// The output takes no more.
     #[error("cannot write")]
     Write,
