@@ -117,7 +117,7 @@ module _ (text : List ℕ) (m : ℕ) where
         front true b h = refl
         front false b h = h
 
-  longer-least : (best : ℕ) (n : List ℕ) → nat_le (length n) m ≡ true → holds n text ≡ true → length n ≤ longer text m best n
+  pub longer-least : (best : ℕ) (n : List ℕ) → nat_le (length n) m ≡ true → holds n text ≡ true → length n ≤ longer text m best n
   longer-least best n le held =
       subst (λ (b : Bool). length n ≤ cond (nat_lt best (length n) && b) (length n) best) (sym (ap (λ b. b && holds n text) le ∙ held))
       (elim (nat_lt best (length n)) as (λ b. nat_lt best (length n) ≡ b → length n ≤ cond (b && true) (length n) best) [
@@ -135,7 +135,7 @@ module _ (text : List ℕ) (m : ℕ) where
         | false ↦ le
       ]
 
-  fold-more : (names : List (List ℕ)) (best : ℕ) → best ≤ fold (longer text m) best names
+  pub fold-more : (names : List (List ℕ)) (best : ℕ) → best ≤ fold (longer text m) best names
   fold-more [] best = omega arith
   fold-more (n ∷ names) best =
       let one = longer-more best n in

@@ -21,3 +21,4 @@ pub mod AppearanceLemmas
 pub mod PlaceLemmas
 pub mod RemapLemmas
 pub mod LengthLemmas
+pub mod WindowLemmas

@@ -1,5 +1,7 @@
 -- References to generated names within words.
-use Rattle.std.specs.Prelude.{ℕ, List, [], ◌∷◌, ◌==◌, ◌&&◌, nat_lt, nat_le, fold, length, if◌then◌else◌}
+use Rattle.std.specs.Prelude.{ℕ, List, [], ◌∷◌, Bool, false, ◌==◌, ◌&&◌, ◌||◌, nat_lt, nat_le, fold, length, take, if◌then◌else◌}
+use Rattle.std.specs.List.{list_any}
+use Rattle.std.specs.Str.{bytes_eq}
 use Rattle.dry_runs.specs.Replacing.{replaced}
 use Rattle.canonical_names.specs.Alike.{holds}
 
@@ -32,3 +34,15 @@ longer text most best name = if nat_lt best (length name) && (nat_le (length nam
 
 abbrev pub longest_in : List ℕ → ℕ → List (List ℕ) → ℕ
 longest_in text most names = fold (longer text most) 0 names
+
+-- whether one of some names has so many bytes and stands in a text
+abbrev pub stand_of : ℕ → List (List ℕ) → List ℕ → Bool
+stand_of k names text = list_any (λ n. (length n == k) && holds n text) names
+
+-- whether so many bytes at the beginning of a text are one of some names, and at any place of it
+abbrev pub window_is : ℕ → List (List ℕ) → List ℕ → Bool
+window_is k names text = list_any (bytes_eq (take k text)) names
+
+abbrev pub windows_are : ℕ → List (List ℕ) → List ℕ → Bool
+windows_are k names [] = false
+windows_are k names (c ∷ cs) = (nat_le k (length (c ∷ cs)) && window_is k names (c ∷ cs)) || windows_are k names cs

@@ -1,6 +1,6 @@
 //! Words that refer to generated files.
 
-ghost use Rattle.std.specs.Prelude.{◌≡◌, ◌<◌, map, length, IfOk, string_bytes};
+ghost use Rattle.std.specs.Prelude.{◌≡◌, ◌<◌, ◌≤◌, ◌+◌, map, drop, length, length as length_of, IfOk, string_bytes};
 ghost use Rattle.std.specs.List.{AllByRecursion};
 ghost use Rattle.texts.specs.Variables.{pair_of};
 ghost use Rattle.canonical_names.specs.Alike as alike;
@@ -56,8 +56,52 @@ fn replace_of(
     Ok(new)
 }
 
-// How long the longest name is that stands in `text` and has at most `most` bytes; 0 where none does.
-fn longest_in(names: &IndexMap<String, String>, text: &str, most: usize) -> usize
+// Whether the `length` bytes of `text` from `start` are a name.
+fn is_name_at(names: &IndexMap<String, String>, text: &str, start: usize, length: usize) -> bool
+    requires some { 0 < length }
+    requires within { start + length ≤ length_of text.now }
+    ensures { result ≡ spec.window_is length (old_names (map pair_of names.now.entries)) (drop start text.now) }
+{
+    match text.get(start..start + length) {
+        None => false,
+        Some(part) => names.contains_key(part),
+    }
+}
+
+// Whether a name of `length` bytes stands in `text`, by the parts of `text` that have that length.
+fn stand_of(names: &IndexMap<String, String>, text: &str, length: usize) -> bool
+    requires { 0 < length }
+    ensures { result ≡ spec.stand_of length (old_names (map pair_of names.now.entries)) text.now }
+{
+    if text.len() < length {
+        return false;
+    }
+    for start in 0..text.len() - length + 1 {
+        if is_name_at(names, text, start, length) {
+            return true;
+        }
+    }
+    false
+}
+
+// How long the longest name is that stands in `text` and has at most `most` bytes, by the parts of
+// `text`; 0 where none does.
+fn longest_part(names: &IndexMap<String, String>, text: &str, most: usize) -> usize
+    ensures { result ≡ spec.longest_in text.now most (old_names (map pair_of names.now.entries)) }
+{
+    let mut length = most;
+    while length > 0 {
+        if stand_of(names, text, length) {
+            return length;
+        }
+        length -= 1;
+    }
+    0
+}
+
+// How long the longest name is that stands in `text` and has at most `most` bytes, name by name; 0
+// where none does.
+fn longest_name(names: &IndexMap<String, String>, text: &str, most: usize) -> usize
     ensures { result ≡ spec.longest_in text.now most (old_names (map pair_of names.now.entries)) }
 {
     let mut best = 0;
@@ -67,6 +111,17 @@ fn longest_in(names: &IndexMap<String, String>, text: &str, most: usize) -> usiz
         }
     }
     best
+}
+
+// The same, by what is fewer: the parts of `text`, or the names.
+fn longest_in(names: &IndexMap<String, String>, text: &str, most: usize) -> usize
+    ensures { result ≡ spec.longest_in text.now most (old_names (map pair_of names.now.entries)) }
+{
+    if text.len().saturating_mul(text.len()) / 2 < names.len() {
+        longest_part(names, text, most)
+    } else {
+        longest_name(names, text, most)
+    }
 }
 
 /// `text` with each name of a map, none of which is empty, replaced by its canonical name: the longest

@@ -1,0 +1,230 @@
+-- Which names of a length stand in a text, by the parts of it that have that length.
+use Rattle.std.proofs.Common.{◌≡◌, ℕ, ◌+◌, ◌-◌, ◌<◌, ◌≤◌, ◌&&◌, ◌||◌, Bool, true, false, cond, suc, zero, List, [], ◌∷◌, Some, is_some, map, refl, ap, sym, ◌∙◌, subst, eqb, eqb-true, nat_eq, nat_lt, nat_le, length, fold, take, drop, arith, string_bytes, String, get_or, add-one}
+use Rattle.std.specs.declared.alloc.Global.{Global}
+use Rattle.std.specs.List.{list_any, starts_with}
+use Rattle.std.specs.Map.{lookup}
+use Rattle.std.specs.Str.{bytes_eq, IsUtf8, IsCharBoundary}
+use Rattle.std.proofs.lemmas.Bool.{false≢true, or_parts, and_parts}
+use Rattle.std.proofs.lemmas.List.{length-take-le, length-append, take-append-drop}
+use Rattle.std.proofs.lemmas.Slice.Eq.{bytes_eq-Decides}
+use Rattle.std.proofs.lemmas.Str.{IsUtf8-string_bytes, IsUtf8-drop, IsCharBoundary-from_take, IsCharBoundary-from_rest, IsCharBoundary-start}
+use Rattle.texts.specs.Variables.{pair_of}
+use Rattle.canonical_names.specs.Alike.{holds}
+use Rattle.canonical_names.specs.Counted.{old_names}
+use Rattle.canonical_names.specs.References.{longer, longest_in, stand_of, window_is, windows_are}
+use Rattle.canonical_names.proofs.LengthLemmas.{longest-bound, longer-least, fold-more}
+
+-- tests of all names
+any-same : {A : Type 0} (f g : A → Bool) → ((x : A) → f x ≡ g x) → (xs : List A) → list_any f xs ≡ list_any g xs
+any-same f g h [] = refl
+any-same f g h (x ∷ xs) = ap (λ b. b || list_any f xs) (h x) ∙ ap (λ b. g x || b) (any-same f g h xs)
+
+any-none : {A : Type 0} (f : A → Bool) → ((x : A) → f x ≡ false) → (xs : List A) → list_any f xs ≡ false
+any-none f h [] = refl
+any-none f h (x ∷ xs) = ap (λ b. b || list_any f xs) (h x) ∙ any-none f h xs
+
+any-or : {A : Type 0} (f g : A → Bool) (xs : List A) → (list_any f xs || list_any g xs) ≡ list_any (λ x. f x || g x) xs
+any-or f g [] = refl
+any-or f g (x ∷ xs) = turned (f x) (g x) (list_any f xs) (list_any g xs) ∙ ap (λ b. (f x || g x) || b) (any-or f g xs) where
+  turned : (a b c d : Bool) → ((a || c) || (b || d)) ≡ ((a || b) || (c || d))
+  turned true b c d = refl
+  turned false true true d = refl
+  turned false true false d = refl
+  turned false false c d = refl
+
+any-and : {A : Type 0} (a : Bool) (f : A → Bool) (xs : List A) → (a && list_any f xs) ≡ list_any (λ x. a && f x) xs
+any-and true f xs = refl
+any-and false f xs = sym (any-none (λ _. false) (λ _. refl) xs)
+
+bytes-turned : (a b : List ℕ) → bytes_eq a b ≡ bytes_eq b a
+bytes-turned a b =
+    elim (bytes_eq a b) as (λ t. bytes_eq a b ≡ t → t ≡ bytes_eq b a) [
+      | true ↦ λ e. sym ((bytes_eq-Decides b a).1 (sym ((bytes_eq-Decides a b).0 e)))
+      | false ↦ λ e. elim (bytes_eq b a) as (λ t. bytes_eq b a ≡ t → false ≡ t) [
+        | true ↦ λ f. absurd (false≢true (sym e ∙ (bytes_eq-Decides a b).1 (sym ((bytes_eq-Decides b a).0 f))))
+        | false ↦ λ _. refl
+      ] refl
+    ] refl
+
+module _ (k : ℕ) (names : List (List ℕ)) where
+  -- a text that is shorter has no such part
+  pub windows-none : (text : List ℕ) → length text < k → windows_are k names text ≡ false
+  windows-none [] short = refl
+  windows-none (c ∷ cs) short =
+      let less : nat_le k (length (c ∷ cs)) ≡ false = grind (arith, short) in
+      let rest : windows_are k names cs ≡ false = windows-none cs (omega (arith, short)) in
+      ap (λ b. (b && window_is k names (c ∷ cs)) || windows_are k names cs) less ∙ rest
+
+  pub windows-from : 0 < k → (text : List ℕ) (i : ℕ) → i + k ≤ length text → windows_are k names (drop i text) ≡ (window_is k names (drop i text) || windows_are k names (drop (i + 1) text))
+  windows-from some text i within = rw add-one (from text i within) where
+    from : (text : List ℕ) (i : ℕ) → i + k ≤ length text → windows_are k names (drop i text) ≡ (window_is k names (drop i text) || windows_are k names (drop (suc i) text))
+    from [] i within = absurd (omega (arith, within, some))
+    from (c ∷ cs) zero within =
+        let more : nat_le k (length (c ∷ cs)) ≡ true = grind (arith, within) in
+        ap (λ b. (b && window_is k names (c ∷ cs)) || windows_are k names cs) more
+    from (c ∷ cs) (suc i) within = from cs i (omega (arith, within))
+
+  pub windows-end : 0 < k → (text : List ℕ) (i : ℕ) → length text < i + k → windows_are k names (drop i text) ≡ false
+  windows-end some text i past = windows-none (drop i text) (short text i past) where
+    short : (text : List ℕ) (i : ℕ) → length text < i + k → length (drop i text) < k
+    short text zero past = omega (arith, past)
+    short [] (suc i) past = some
+    short (c ∷ cs) (suc i) past = short cs i (omega (arith, past))
+
+  -- a part is a name of that length at the beginning
+  part-is : (text n : List ℕ) → (nat_le k (length text) && bytes_eq (take k text) n) ≡ (eqb (length n) k && starts_with nat_eq text n)
+  part-is text n =
+      elim (eqb (length n) k) as (λ b. eqb (length n) k ≡ b → (nat_le k (length text) && bytes_eq (take k text) n) ≡ (b && starts_with nat_eq text n)) [
+        | true ↦ λ e.
+            let same : length n ≡ k = eqb-true (length n) k e in
+            subst (λ m. (nat_le k (length text) && bytes_eq (take k text) n) ≡ bytes_eq n (take m text)) (sym same) (whole same)
+        | false ↦ λ e. elim (nat_le k (length text)) as (λ a. nat_le k (length text) ≡ a → (a && bytes_eq (take k text) n) ≡ false) [
+          | true ↦ λ a. elim (bytes_eq (take k text) n) as (λ t. bytes_eq (take k text) n ≡ t → t ≡ false) [
+            | true ↦ λ t.
+                let is : take k text ≡ n = (bytes_eq-Decides (take k text) n).0 t in
+                let enough : k ≤ length text = grind (arith, a) in
+                let long : length n ≡ k = ap length (sym is) ∙ length-take-le k text enough in
+                absurd (let yes : eqb (length n) k ≡ true = grind (arith, long) in false≢true (sym e ∙ yes))
+            | false ↦ λ _. refl
+          ] refl
+          | false ↦ λ _. refl
+        ] refl
+      ] refl where
+        whole : length n ≡ k → (nat_le k (length text) && bytes_eq (take k text) n) ≡ bytes_eq n (take k text)
+        whole same =
+            elim (nat_le k (length text)) as (λ a. nat_le k (length text) ≡ a → (a && bytes_eq (take k text) n) ≡ bytes_eq n (take k text)) [
+              | true ↦ λ _. bytes-turned (take k text) n
+              | false ↦ λ a. elim (bytes_eq n (take k text)) as (λ t. bytes_eq n (take k text) ≡ t → false ≡ t) [
+                | true ↦ λ t.
+                    let is : n ≡ take k text = (bytes_eq-Decides n (take k text)).0 t in
+                    let all : length text ≡ length (take k text) + length (drop k text) = ap length (sym (take-append-drop k text)) ∙ length-append (take k text) (drop k text) in
+                    let long : length n ≡ length (take k text) = ap length is in
+                    absurd (let less : length text < k = grind (arith, a) in omega (arith, less, all, long, same))
+                | false ↦ λ _. refl
+              ] refl
+            ] refl
+
+  -- the parts that are names are the names that stand in the text
+  pub windows-stand : 0 < k → (text : List ℕ) → windows_are k names text ≡ stand_of k names text
+  windows-stand some [] = sym (any-none (λ n. eqb (length n) k && holds n []) none names) where
+    none : (n : List ℕ) → (eqb (length n) k && bytes_eq n []) ≡ false
+    none [] = let other : eqb (length {A = ℕ} []) k ≡ false = grind (arith, some) in ap (λ b. b && bytes_eq [] []) other
+    none (c ∷ n) = both (eqb (length (c ∷ n)) k) where
+      both : (b : Bool) → (b && false) ≡ false
+      both true = refl
+      both false = refl
+  windows-stand some (c ∷ cs) =
+      let text = c ∷ cs in
+      let e = λ (n : List ℕ). eqb (length n) k in
+      ap (λ b. b || windows_are k names cs) (any-and (nat_le k (length text)) (bytes_eq (take k text)) names ∙ any-same _ (λ n. e n && starts_with nat_eq text n) (part-is text) names)
+      ∙ ap (λ b. list_any (λ n. e n && starts_with nat_eq text n) names || b) (windows-stand some cs)
+      ∙ any-or (λ n. e n && starts_with nat_eq text n) (λ n. e n && holds n cs) names
+      ∙ any-same _ (λ n. e n && holds n text) (λ n. spread (e n) (starts_with nat_eq text n) (holds n cs)) names where
+        spread : (a b c : Bool) → ((a && b) || (a && c)) ≡ (a && (b || c))
+        spread true b c = refl
+        spread false b c = refl
+
+-- the longest name, length by length
+module _ (text : List ℕ) (k : ℕ) where
+  less-each : 0 < k → (n : List ℕ) → (eqb (length n) k && holds n text) ≡ false → (nat_le (length n) k && holds n text) ≡ (nat_le (length n) (k - 1) && holds n text)
+  less-each some n none =
+      elim (holds n text) as (λ h. (eqb (length n) k && h) ≡ false → (nat_le (length n) k && h) ≡ (nat_le (length n) (k - 1) && h)) [
+        | true ↦ λ e.
+            let other : eqb (length n) k ≡ false = sym (alone (eqb (length n) k)) ∙ e in
+            let same : nat_le (length n) k ≡ nat_le (length n) (k - 1) = elim (nat_le (length n) k) as (λ b. nat_le (length n) k ≡ b → b ≡ nat_le (length n) (k - 1)) [
+              | true ↦ λ a. grind (arith, a, other, some)
+              | false ↦ λ a. grind (arith, a, some)
+            ] refl in
+            ap (λ b. b && true) same
+        | false ↦ λ _. never (nat_le (length n) k) ∙ sym (never (nat_le (length n) (k - 1)))
+      ] none where
+        alone : (b : Bool) → (b && true) ≡ b
+        alone true = refl
+        alone false = refl
+
+        never : (b : Bool) → (b && false) ≡ false
+        never true = refl
+        never false = refl
+
+  less-fold : 0 < k → (names : List (List ℕ)) (best : ℕ) → stand_of k names text ≡ false → fold (longer text k) best names ≡ fold (longer text (k - 1)) best names
+  less-fold some [] best none = refl
+  less-fold some (n ∷ names) best none =
+      let parts = or_parts (eqb (length n) k && holds n text) (stand_of k names text) none in
+      ap (λ b. fold (longer text k) (cond (nat_lt best (length n) && b) (length n) best) names) (less-each some n parts.0) ∙ less-fold some names (longer text (k - 1) best n) parts.1
+
+  pub longest-less : 0 < k → (names : List (List ℕ)) → stand_of k names text ≡ false → longest_in text k names ≡ longest_in text (k - 1) names
+  longest-less some names none = less-fold some names 0 none
+
+  stands-least : (names : List (List ℕ)) (best : ℕ) → stand_of k names text ≡ true → k ≤ fold (longer text k) best names
+  stands-least [] best h = absurd (false≢true h)
+  stands-least (n ∷ names) best h =
+      elim (eqb (length n) k && holds n text) as (λ b. (eqb (length n) k && holds n text) ≡ b → (b || stand_of k names text) ≡ true → k ≤ fold (longer text k) best (n ∷ names)) [
+        | true ↦ λ e _.
+            let parts = and_parts (eqb (length n) k) (holds n text) e in
+            let same : length n ≡ k = eqb-true (length n) k parts.0 in
+            let le : nat_le (length n) k ≡ true = grind (arith, same) in
+            let least : length n ≤ longer text k best n = longer-least text k best n le parts.1 in
+            let more : longer text k best n ≤ fold (longer text k) (longer text k best n) names = fold-more text k names (longer text k best n) in
+            omega (arith, same, least, more)
+        | false ↦ λ _ rest. stands-least names (longer text k best n) rest
+      ] refl h
+
+  pub longest-stands : (names : List (List ℕ)) → stand_of k names text ≡ true → longest_in text k names ≡ k
+  longest-stands names h =
+      let least : k ≤ longest_in text k names = stands-least names 0 h in
+      let bound : longest_in text k names ≤ k = longest-bound text k names in
+      omega (arith, least, bound)
+
+pub longest-nothing : (text : List ℕ) (names : List (List ℕ)) → longest_in text 0 names ≡ 0
+longest-nothing text names = let bound : longest_in text 0 names ≤ 0 = longest-bound text 0 names in omega (arith, bound)
+
+-- what is found in the map
+pub found-named : (es : List (String Global × String Global)) (part : List ℕ) → is_some (lookup (λ k. bytes_eq part (string_bytes k)) es) ≡ list_any (bytes_eq part) (old_names (map pair_of es))
+found-named [] part = refl
+found-named (e ∷ es) part =
+    elim (bytes_eq part (string_bytes e.0)) as (λ t. is_some (cond t (Some e.1) (lookup (λ k. bytes_eq part (string_bytes k)) es)) ≡ (t || list_any (bytes_eq part) (old_names (map pair_of es)))) [
+      | true ↦ refl
+      | false ↦ found-named es part
+    ]
+
+-- a part that no characters make up is no name
+module _ (text : List ℕ) (utf8 : IsUtf8 text) (i k : ℕ) (some : 0 < k) (within : i + k ≤ length text) where
+  enough : (text : List ℕ) (i : ℕ) → i + k ≤ length text → k ≤ length (drop i text)
+  enough text zero le = omega (arith, le)
+  enough [] (suc i) le = absurd (omega (arith, le))
+  enough (c ∷ cs) (suc i) le = enough cs i (omega (arith, le))
+
+  front : (k : ℕ) (t : List ℕ) → 0 < k → get_or (take k t) 0 0 ≡ get_or t 0 0
+  front zero t lt = absurd (omega (arith, lt))
+  front (suc k) [] lt = refl
+  front (suc k) (c ∷ cs) lt = refl
+
+  dropped : (t : List ℕ) (i : ℕ) → get_or (drop i t) 0 0 ≡ get_or t i 0
+  dropped t zero = refl
+  dropped [] (suc i) = refl
+  dropped (c ∷ cs) (suc i) = dropped cs i
+
+  begins : (n : List ℕ) → IsUtf8 n → take k (drop i text) ≡ n → IsCharBoundary text i
+  begins n ok is =
+      let head : get_or n 0 0 ≡ get_or text i 0 = ap (λ z. get_or z 0 0) (sym is) ∙ front k (drop i text) some ∙ dropped text i in
+      let long : length n ≡ k = ap length (sym is) ∙ length-take-le k (drop i text) (enough text i within) in (
+        omega (arith, within),
+        λ lt high.
+            let lead : 192 ≤ get_or n 0 0 = (IsCharBoundary-start n ok).1 (omega (arith, long, some)) (omega (arith, high, head)) in
+            omega (arith, lead, head),
+      )
+
+  part-cut : (n : List ℕ) → IsUtf8 n → take k (drop i text) ≡ n → IsCharBoundary text i × IsCharBoundary text (i + k)
+  part-cut n ok is =
+      let first = begins n ok is in (
+        first,
+        IsCharBoundary-from_rest text i k (omega (arith, within)) (IsCharBoundary-from_take (drop i text) k (IsUtf8-drop text i utf8 first) (enough text i within) (subst IsUtf8 (sym is) ok)),
+      )
+
+  pub no-part : ((IsCharBoundary text i) → (IsCharBoundary text (i + k)) → ⊥) → (es : List (String Global × String Global)) → list_any (bytes_eq (take k (drop i text))) (old_names (map pair_of es)) ≡ false
+  no-part never [] = refl
+  no-part never (e ∷ es) =
+      elim (bytes_eq (take k (drop i text)) (string_bytes e.0)) as (λ t. bytes_eq (take k (drop i text)) (string_bytes e.0) ≡ t → (t || list_any (bytes_eq (take k (drop i text))) (old_names (map pair_of es))) ≡ false) [
+        | true ↦ λ t. let cut = part-cut (string_bytes e.0) (IsUtf8-string_bytes e.0) ((bytes_eq-Decides (take k (drop i text)) (string_bytes e.0)).0 t) in absurd (never cut.0 cut.1)
+        | false ↦ λ _. no-part never es
+      ] refl
