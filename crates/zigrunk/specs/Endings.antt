@@ -22,11 +22,18 @@ status_of (Err (Fault fault)) = 1
 status_of (Err (Unwritable why)) = 1
 status_of (Err Write) = 1
 
--- what is written for a call that writes a plan, by the engine's answer: what stands in the two files is open, and so is
--- what the disk says of the programs that they ask for; a file that can't be read is refused
+-- what is written for a call that writes a plan, by the bytes of its two files and the engine's answer: what the disk says
+-- of the programs that they ask for is open
+abbrev pub ExportsBytes : ExportOf → List ℕ → List ℕ → Result (Unit {0}) Stop → Option (List ℕ) → Option (List ℕ) → Type 0
+ExportsBytes c first second answer before after =
+    (programs : List Entry)
+    × IsSnapshotOf (asked_of_both first second c.plan.cwd) programs
+    × Delivers answer (exported c (answer_in programs) first second) before after
+
+-- the same by the engine's answer alone: what stands in the files is open too, and a file that can't be read is refused
 abbrev pub ExportsFiles : ExportOf → Result (Unit {0}) Stop → Option (List ℕ) → Option (List ℕ) → Type 0
 ExportsFiles c answer before after =
-    Delivers answer unread before after ⊎ ((first : List ℕ) × (second : List ℕ) × (programs : List Entry) × IsSnapshotOf (asked_of_both first second c.plan.cwd) programs × Delivers answer (exported c (answer_in programs) first second) before after)
+    Delivers answer unread before after ⊎ ((first : List ℕ) × (second : List ℕ) × ExportsBytes c first second answer before after)
 
 -- what is written for a call, by the engine's answer and the variables that nvcc takes words from
 abbrev pub Serves : CallOf → List (List ℕ × List ℕ) → Result (Unit {0}) Stop → Option (List ℕ) → Option (List ℕ) → Type 0
