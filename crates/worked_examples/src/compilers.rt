@@ -7,6 +7,7 @@ use cuda_plans::nvcc::{Nvcc, NvccHostCompiler};
 use cuda_plans::nvhpc::Nvhpc;
 use cuda_plans::ptxas::Ptxas;
 use std::alloc::{AllocError, Global};
+use std::process::Abort;
 use std::test::Fail;
 use texts::text::Text;
 
@@ -104,21 +105,33 @@ fn said<C: CCompilerImpl + Drop>(alloc: Global, compiler: C) -> Result<String, A
     }
 }
 
+// Checks the version that a compiler says it is.
+fn check_said<C: CCompilerImpl + Drop>(
+    rt: &impl Abort,
+    alloc: Global,
+    compiler: C,
+    want: &str,
+) -> Result<(), AllocError> {
+    let said = said(alloc, compiler)?;
+    assert_eq!(rt; said.as_str(), want);
+    Ok(())
+}
+
 #[test]
 fn device_versions(rt: HostRuntime) -> Result<(), Fail> {
     let alloc = rt.alloc();
     let cicc = Cicc {
         version: version(alloc)?,
     };
-    assert_eq!(rt; said(alloc, cicc)?.as_str(), "1");
+    check_said(&rt, alloc, cicc, "1")?;
     let cudafe = CudaFE {
         version: version(alloc)?,
     };
-    assert_eq!(rt; said(alloc, cudafe)?.as_str(), "1");
+    check_said(&rt, alloc, cudafe, "1")?;
     let ptxas = Ptxas {
         version: version(alloc)?,
     };
-    assert_eq!(rt; said(alloc, ptxas)?.as_str(), "1");
+    check_said(&rt, alloc, ptxas, "1")?;
     Ok(())
 }
 
@@ -129,11 +142,11 @@ fn nvhpc_versions(rt: HostRuntime) -> Result<(), Fail> {
         nvcplusplus: true,
         version: version(alloc)?,
     };
-    assert_eq!(rt; said(alloc, nvhpc)?.as_str(), "1");
+    check_said(&rt, alloc, nvhpc, "1")?;
     let unknown = Nvhpc {
         nvcplusplus: true,
         version: None,
     };
-    assert_eq!(rt; said(alloc, unknown)?.as_str(), "none");
+    check_said(&rt, alloc, unknown, "none")?;
     Ok(())
 }

@@ -85,22 +85,35 @@ fn plan(alloc: Global, word: &str) -> Result<Plan, AllocError> {
     })
 }
 
+// The plan of a word as a script.
+fn script_of(alloc: Global, word: &str) -> Result<String, Refusal> {
+    shell_script(alloc, &plan(alloc, word)?)
+}
+
+// The plan of a word as a file for Ninja.
+fn graph_of(alloc: Global, word: &str) -> Result<String, Refusal> {
+    ninja_file(alloc, "/t", &plan(alloc, word)?)
+}
+
+// The plan of a word as JSON.
+fn value_of(alloc: Global, word: &str) -> Result<String, AllocError> {
+    json_text(alloc, &plan(alloc, word)?)
+}
+
 #[test]
 fn plans_are_written_for_other_tools(rt: HostRuntime) -> Result<(), Fail> {
     let alloc = rt.alloc();
-    let plan = plan(alloc, "a b$")?;
-    assert_eq!(rt; shell_script(alloc, &plan)?.as_str(), SCRIPT);
-    assert_eq!(rt; ninja_file(alloc, "/t", &plan)?.as_str(), NINJA);
-    assert_eq!(rt; json_text(alloc, &plan)?.as_str(), JSON);
+    assert_eq!(rt; script_of(alloc, "a b$")?.as_str(), SCRIPT);
+    assert_eq!(rt; graph_of(alloc, "a b$")?.as_str(), NINJA);
+    assert_eq!(rt; value_of(alloc, "a b$")?.as_str(), JSON);
     Ok(())
 }
 
 #[test]
 fn newline_is_held_by_a_script_alone(rt: HostRuntime) -> Result<(), Fail> {
     let alloc = rt.alloc();
-    let plan = plan(alloc, "a\nb")?;
-    assert_eq!(rt; shell_script(alloc, &plan)?.as_str(), SCRIPT_OF_TWO_LINES);
-    let refused = matches!(ninja_file(alloc, "/t", &plan), Err(Refusal::Unheld));
+    assert_eq!(rt; script_of(alloc, "a\nb")?.as_str(), SCRIPT_OF_TWO_LINES);
+    let refused = matches!(graph_of(alloc, "a\nb"), Err(Refusal::Unheld));
     assert!(rt; refused);
     Ok(())
 }

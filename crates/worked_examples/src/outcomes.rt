@@ -66,15 +66,24 @@ fn first_failure_is_kept(rt: HostRuntime) -> Result<(), Fail> {
     Ok(())
 }
 
+// Whether what a runner says is told with code 1.
+fn is_told(alloc: Global, says: &str) -> Result<bool, AllocError> {
+    let fault = Fault::Runner(Text::copy_of(alloc, says)?);
+    let told = error_to_output(alloc, fault)?;
+    Ok(told == output(alloc, ExitStatus::from_code(1), "", says)?)
+}
+
+// Whether what a failed process left is kept.
+fn is_kept(alloc: Global, status: ExitStatus) -> Result<bool, AllocError> {
+    let fault = Fault::Process(output(alloc, status, "a", "b")?);
+    let kept = error_to_output(alloc, fault)?;
+    Ok(kept == output(alloc, status, "a", "b")?)
+}
+
 #[test]
 fn faults_are_outputs(rt: HostRuntime) -> Result<(), Fail> {
-    let alloc = rt.alloc();
-    let says = Fault::Runner(Text::copy_of(alloc, "no such compiler")?);
-    let told = output(alloc, ExitStatus::from_code(1), "", "no such compiler")?;
-    assert!(rt; error_to_output(alloc, says)? == told);
-    let killed = Fault::Process(output(alloc, ExitStatus::from_signal(9), "a", "b")?);
-    let kept = output(alloc, ExitStatus::from_signal(9), "a", "b")?;
-    assert!(rt; error_to_output(alloc, killed)? == kept);
+    assert!(rt; is_told(rt.alloc(), "no such compiler")?);
+    assert!(rt; is_kept(rt.alloc(), ExitStatus::from_signal(9))?);
     Ok(())
 }
 

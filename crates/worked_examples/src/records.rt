@@ -65,15 +65,19 @@ fn outputs_of_processes(rt: HostRuntime) -> Result<(), Fail> {
     Ok(())
 }
 
+// Whether the fault of a process with a code equals that of one with another.
+fn are_equal(alloc: Global, code: i32, other: i32) -> Result<bool, AllocError> {
+    let one = Fault::Process(output(alloc, code)?);
+    let other = Fault::Process(output(alloc, other)?);
+    Ok(one == other)
+}
+
 #[test]
 fn faults_of_processes(rt: HostRuntime) -> Result<(), Fail> {
-    let one = Fault::Process(output(rt.alloc(), 3)?);
-    let other = Fault::Process(output(rt.alloc(), 4)?);
-    let equal = [
-        one == other,
-        one == Fault::Memory,
-        Fault::Read == Fault::Memory,
-    ];
-    assert_eq!(rt; equal, [false, false, false]);
+    assert!(rt; are_equal(rt.alloc(), 3, 3)?);
+    assert!(rt; !are_equal(rt.alloc(), 3, 4)?);
+    let of_process = Fault::Process(output(rt.alloc(), 3)?) == Fault::Memory;
+    assert!(rt; !of_process);
+    assert!(rt; Fault::Read != Fault::Memory);
     Ok(())
 }

@@ -3,6 +3,7 @@
 use crate::runners::{Listed, execute, left, process};
 use cuda_plans::runner::{Answer, Place};
 use std::alloc::{AllocError, Global};
+use std::process::Abort;
 use std::test::Fail;
 use texts::fault::Fault;
 
@@ -42,37 +43,32 @@ fn run(alloc: Global, num_parallel: usize, codes: &[(usize, i32)]) -> Result<Str
     run_with(alloc, num_parallel, answers)
 }
 
+// Checks what is told of a run.
+fn check_run(
+    rt: &impl Abort,
+    alloc: Global,
+    num_parallel: usize,
+    codes: &[(usize, i32)],
+    want: &str,
+) -> Result<(), AllocError> {
+    let told = run(alloc, num_parallel, codes)?;
+    assert_eq!(rt; told.as_str(), want);
+    Ok(())
+}
+
 #[test]
 fn failures_stop_what_depends_on_them(rt: HostRuntime) -> Result<(), Fail> {
     let alloc = rt.alloc();
-    assert_eq!(rt;
-        run(alloc, 2, &[(2, 3)])?.as_str(),
-        "1.0 1.1 2.0 failed with Some(3)"
-    );
-    assert_eq!(rt;
-        run(alloc, 2, &[(1, 3)])?.as_str(),
-        "1.0 2.0 2.1 failed with Some(3)"
-    );
-    assert_eq!(rt;
-        run(alloc, 0, &[(1, 3)])?.as_str(),
-        "1.0 failed with Some(3)"
-    );
-    assert_eq!(rt;
-        run(alloc, 1, &[(1, 3)])?.as_str(),
-        "1.0 failed with Some(3)"
-    );
-    assert_eq!(rt;
-        run(alloc, 9, &[(1, 3)])?.as_str(),
-        "1.0 2.0 2.1 3.0 3.1 failed with Some(3)"
-    );
-    assert_eq!(rt;
-        run(alloc, 2, &[(1, 3), (2, 5)])?.as_str(),
-        "1.0 2.0 failed with Some(3)"
-    );
-    assert_eq!(rt;
-        run(alloc, 2, &[])?.as_str(),
-        "1.0 1.1 2.0 2.1 3.0 3.1 4.0 ended with Some(0)"
-    );
+    check_run(&rt, alloc, 2, &[(2, 3)], "1.0 1.1 2.0 failed with Some(3)")?;
+    check_run(&rt, alloc, 2, &[(1, 3)], "1.0 2.0 2.1 failed with Some(3)")?;
+    check_run(&rt, alloc, 0, &[(1, 3)], "1.0 failed with Some(3)")?;
+    check_run(&rt, alloc, 1, &[(1, 3)], "1.0 failed with Some(3)")?;
+    let told = "1.0 2.0 2.1 3.0 3.1 failed with Some(3)";
+    check_run(&rt, alloc, 9, &[(1, 3)], told)?;
+    let told = "1.0 2.0 failed with Some(3)";
+    check_run(&rt, alloc, 2, &[(1, 3), (2, 5)], told)?;
+    let told = "1.0 1.1 2.0 2.1 3.0 3.1 4.0 ended with Some(0)";
+    check_run(&rt, alloc, 2, &[], told)?;
     Ok(())
 }
 
