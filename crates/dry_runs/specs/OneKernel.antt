@@ -33,10 +33,10 @@ commands_of name =
     (name ++ codes ".cpp4.ii")))))) ∷
     at 3 (codes "/b/gcc") (codes "-D__CUDA_ARCH__=800 -D__CUDACC__ -E -x c++ kernel.cu -o " ++
     (name ++ codes ".cpp1.ii")) ∷
-    at 4 (codes "/b/cicc") (codes "--device-c -arch compute_80 --module_id_file_name kernel.module_id " ++
-    (codes "--gen_c_file_name " ++ (name ++ (codes ".cudafe1.c --stub_file_name " ++
+    at 4 (codes "/b/cicc") (codes "--device-c -arch compute_80 --module_id_file_name kernel.module_id --gen_c_file_name " ++
+    (name ++ (codes ".cudafe1.c --stub_file_name " ++
     (name ++ (codes ".cudafe1.stub.c --gen_device_file_name kernel.cudafe1.gpu " ++
-    (name ++ codes ".cpp1.ii --simt-only -o kernel.ptx"))))))) ∷
+    (name ++ codes ".cpp1.ii --simt-only -o kernel.ptx")))))) ∷
     at 5 (codes "/b/ptxas") (codes "-arch=sm_80 --compile-only kernel.ptx -o kernel.cubin") ∷
     at 6 (codes "/b/fatbinary") (codes "--create=kernel.fatbin --image3=kind=elf,sm=80,file=kernel.cubin --embedded-fatbin=kernel.fatbin.c --device-c") ∷
     at 7 (codes "/b/gcc") (codes "-D__CUDA_ARCH__=800 -D__CUDACC__ -c -x c++ " ++

@@ -79,7 +79,8 @@ impl<'a, W: Which> Setting<'a, W> {
 
     // The path of a program, by the value of `PATH`.
     fn found(&self, path: &str, program: String) -> Result<String, Fault>
-        ensures { UnlessMemory (found_seen result) (found_or_fault (string_bytes program) (W.answer self.now.which.now (string_bytes program) path.now self.now.cwd.now)) }
+        ensures { UnlessMemory (found_seen result) (found_or_fault (string_bytes program)
+            (W.answer self.now.which.now (string_bytes program) path.now self.now.cwd.now)) }
     {
         let found = self
             .which
@@ -129,7 +130,9 @@ impl Said {
         line: &[u8],
     ) -> Result<(), Fault>
         requires { self.old.path ≡ first_value (codes "PATH") self.old.env }
-        ensures { UnlessMemory (said_after result self.new) (said_next self.old (meaning (W.answer setting.now.which.now) setting.now.run setting.now.cwd.now self.old.env (number, line.now))) }
+        ensures { UnlessMemory (said_after result self.new) (said_next self.old
+            (meaning (W.answer setting.now.which.now) setting.now.run setting.now.cwd.now
+            self.old.env (number, line.now))) }
     {
         match str::from_utf8(line) {
             Err(_) => Err(Fault::NotUtf8 {
@@ -148,7 +151,9 @@ impl Said {
         line: &str,
     ) -> Result<(), Fault>
         requires { self.old.path ≡ first_value (codes "PATH") self.old.env }
-        ensures { UnlessMemory (said_after result self.new) (said_next self.old (meaning_marked (W.answer setting.now.which.now) setting.now.run setting.now.cwd.now number self.old.env (marked_text line.now))) }
+        ensures { UnlessMemory (said_after result self.new) (said_next self.old
+            (meaning_marked (W.answer setting.now.which.now) setting.now.run setting.now.cwd.now number
+            self.old.env (marked_text line.now))) }
     {
         match marked(line) {
             None => Ok(()),
@@ -164,7 +169,9 @@ impl Said {
         text: &str,
     ) -> Result<(), Fault>
         requires { self.old.path ≡ first_value (codes "PATH") self.old.env }
-        ensures { UnlessMemory (said_after result self.new) (said_next self.old (meaning_marked (W.answer setting.now.which.now) setting.now.run setting.now.cwd.now number self.old.env (Some text.now))) }
+        ensures { UnlessMemory (said_after result self.new) (said_next self.old
+            (meaning_marked (W.answer setting.now.which.now) setting.now.run setting.now.cwd.now number
+            self.old.env (Some text.now))) }
     {
         match assignment(text) {
             Some((name, value)) => Ok(self.assign(setting.alloc, name, value)?),
@@ -192,7 +199,9 @@ impl Said {
         text: &str,
     ) -> Result<(), Fault>
         requires { self.old.path ≡ first_value (codes "PATH") self.old.env }
-        ensures { UnlessMemory (said_after result self.new) (said_next self.old (meaning_of_words (W.answer setting.now.which.now) setting.now.run setting.now.cwd.now number self.old.env (shell_words (expanded self.old.env text.now)))) }
+        ensures { UnlessMemory (said_after result self.new) (said_next self.old
+            (meaning_of_words (W.answer setting.now.which.now) setting.now.run setting.now.cwd.now number
+            self.old.env (shell_words (expanded self.old.env text.now)))) }
     {
         let run = setting.run;
         let words = expanded_words(setting.alloc, self.env.as_slice(), text)?;
@@ -210,7 +219,9 @@ impl Said {
         mut words: Vec<String>,
     ) -> Result<(), Fault>
         requires { self.old.path ≡ first_value (codes "PATH") self.old.env }
-        ensures { UnlessMemory (said_after result self.new) (said_next self.old (meaning_of_words (W.answer setting.now.which.now) setting.now.run setting.now.cwd.now number self.old.env (Some (map string_bytes words.items)))) }
+        ensures { UnlessMemory (said_after result self.new) (said_next self.old
+            (meaning_of_words (W.answer setting.now.which.now) setting.now.run setting.now.cwd.now number
+            self.old.env (Some (map string_bytes words.items)))) }
     {
         if words.is_empty() {
             return Err(Fault::EmptyCommand {
@@ -231,7 +242,9 @@ impl Said {
         words: Vec<String>,
     ) -> Result<(), Fault>
         requires { self.old.path ≡ first_value (codes "PATH") self.old.env }
-        ensures { UnlessMemory (said_after result self.new) (said_next self.old (meaning_by_path (W.answer setting.now.which.now) setting.now.run setting.now.cwd.now number (string_bytes program) (map string_bytes words.items) (first_value (codes "PATH") self.old.env))) }
+        ensures { UnlessMemory (said_after result self.new) (said_next self.old
+            (meaning_by_path (W.answer setting.now.which.now) setting.now.run setting.now.cwd.now
+            number (string_bytes program) (map string_bytes words.items) (first_value (codes "PATH") self.old.env))) }
     {
         let Some(path) = &self.path else {
             return Err(Fault::NoPath {
