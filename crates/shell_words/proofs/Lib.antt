@@ -4,3 +4,4 @@ pub mod ShellQuotingLemmas
 pub mod ShellSoundLemmas
 pub mod ShellSpanLemmas
 pub mod ShellSplittingLemmas
+pub mod SpanRunLemmas

@@ -90,6 +90,7 @@ plain_word_reads (c ∷ cs) rest words plain found =
 
 -- ---- words
 
+-- a word as it is written, before a text that ends it
 word_reads : (word rest : List ℕ) (words : List (List ℕ)) → words_from Word rest ≡ Some ([] ∷ words) → words_from Between (quoted_word word ++ rest) ≡ Some (word ∷ words)
 word_reads word rest words found =
     cond_both (is_plain word) word (single_quote ∷ (flat_map quoted_char word ++ single_quote ∷ []))
@@ -98,14 +99,26 @@ word_reads word rest words found =
     (λ not_plain. reading Between single_quote ((flat_map quoted_char word ++ single_quote ∷ []) ++ rest) SingleQuoted (Gives []) (word ∷ words) refl
     (ap (words_from SingleQuoted) (append_assoc (flat_map quoted_char word) (single_quote ∷ []) rest) ∙ quoted_chars_read word rest words found))
 
-further_read : (words : List (List ℕ)) → words_from Word (further words) ≡ Some ([] ∷ words)
-further_read [] = refl
-further_read (word ∷ words) =
-    reading Word 32 (quoted_word word ++ further words) Between EndsWord (word ∷ words) refl (word_reads word (further words) words (further_read words))
+-- further words, before a text that ends the last one
+further_read : (words : List (List ℕ)) (rest : List ℕ) (more : List (List ℕ)) → words_from Word rest ≡ Some ([] ∷ more) → words_from Word (further words ++ rest) ≡ Some ([] ∷ (words ++ more))
+further_read [] rest more found = found
+further_read (word ∷ words) rest more found =
+    reading Word 32 ((quoted_word word ++ further words) ++ rest) Between EndsWord (word ∷ (words ++ more)) refl
+    (ap (words_from Between) (append_assoc (quoted_word word) (further words) rest)
+    ∙ word_reads word (further words ++ rest) (words ++ more) (further_read words rest more found))
+
+-- quoted words, before a text that ends the last one
+pub quoted_then : (word : List ℕ) (words : List (List ℕ)) (rest : List ℕ) (more : List (List ℕ)) → words_from Word rest ≡ Some ([] ∷ more) → words_from Between (quoted (word ∷ words) ++ rest) ≡ Some (word ∷ (words ++ more))
+quoted_then word words rest more found =
+    ap (words_from Between) (append_assoc (quoted_word word) (further words) rest)
+    ∙ word_reads word (further words ++ rest) (words ++ more) (further_read words rest more found)
 
 pub quoted_reads : (words : List (List ℕ)) → split_chars (quoted words) ≡ Some words
 quoted_reads [] = refl
-quoted_reads (word ∷ words) = word_reads word (further words) words (further_read words)
+quoted_reads (word ∷ words) =
+    ap (words_from Between) (sym (append-nil (quoted (word ∷ words))))
+    ∙ quoted_then word words [] [] refl
+    ∙ ap (λ ws. Some (word ∷ ws)) (append-nil words)
 
 pub quoted_text : (words : List (List ℕ)) → IsText (quoted words) words
 quoted_text words = text_of_words (quoted words) words (quoted_reads words)

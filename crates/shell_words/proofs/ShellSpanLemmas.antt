@@ -1,16 +1,16 @@
 -- A span, whose characters are given as they stand, is read at once.
-use Rattle.std.proofs.Common.{ℕ, List, [], ◌∷◌, ◌++◌, ◌≡◌, ◌≢◌, refl, sym, ap, ◌∙◌, subst, Bool, true, false, not, ◌||◌, ◌==◌, ◌<◌, ◌+◌, arith, length, take, drop, cond, nat_lt, suc, length-append, append-nil, append_assoc, encode_utf8, encode_utf8_all}
+use Rattle.std.proofs.Common.{ℕ, List, [], ◌∷◌, ◌++◌, ◌≡◌, refl, sym, ap, ◌∙◌, subst, Bool, true, false, not, ◌||◌, ◌==◌, ◌<◌, ◌+◌, arith, length, take, drop, get_or, cond, nat_lt, suc, length-append, append-nil, append_assoc, encode_utf8, encode_utf8_all, inl, inr}
 use Rattle.std.specs.List.{fold, position_or_len, AllByRecursion}
 use Rattle.std.specs.Str.{chars, IsUtf8, IsCharBoundary}
-use Rattle.std.proofs.lemmas.Bool.{cond-false, or_parts, not-true, ltb-true, ltb-false}
+use Rattle.std.proofs.lemmas.Bool.{cond-false, or_parts, ltb-true, ltb-false, eqb-true, cases_eq, false≢true}
 use Rattle.std.proofs.lemmas.List.{take-append-drop}
 use Rattle.std.proofs.lemmas.Bool.Decides.{nat_tests}
 use Rattle.std.proofs.lemmas.List.Sums.{fold-append, prefix_len-le-length, passes_at_first}
-use Rattle.std.proofs.lemmas.Str.{encode_ascii, length-encode, len_utf8_bounds, chars_past_char, encodes-append, encodes-chars, chars-append, IsUtf8-take, IsCharBoundary-end, IsCharBoundary-before_ascii}
+use Rattle.std.proofs.lemmas.Str.{encode_ascii, length-encode, len_utf8_bounds, chars_past_char, chars-nil, encodes-append, encodes-chars, chars-append, IsUtf8-take, IsCharBoundary-end, IsCharBoundary-before_ascii, char_from_byte}
 use Rattle.shell_words.specs.declared.splitting.State.{State}
 use Rattle.shell_words.specs.declared.splitting.State.TheVariants.{Between, Comment, Word, Escaped, SingleQuoted, DoubleQuoted, EscapedInQuotes}
-use Rattle.shell_words.specs.Shell.{hash, backslash, single_quote, double_quote, is_blank}
-use Rattle.shell_words.specs.Shell.Splitting.{Effect, Skips, Gives, EndsWord, begins_piece, reads_word, reads, Splitting, applied, after, begins_word, ends_span}
+use Rattle.shell_words.specs.Shell.{backslash, single_quote, double_quote, is_blank}
+use Rattle.shell_words.specs.Shell.Splitting.{Effect, Gives, reads, Splitting, applied, after, with_bytes, ends_span}
 
 -- ---- characters
 
@@ -31,10 +31,6 @@ span_reads Between c goes = absurd cc
 span_reads Comment c goes = absurd cc
 span_reads Escaped c goes = absurd cc
 span_reads EscapedInQuotes c goes = absurd cc
-
--- what a splitter holds with more bytes of its word
-abbrev with_bytes : Splitting → List ℕ → Splitting
-with_bytes s bytes = record s { word = s.word ++ bytes }
 
 span_given : (s : Splitting) (cs : List ℕ) → AllByRecursion (λ c. ends_span s.state c ≡ false) cs → fold after s cs ≡ with_bytes s (encode_utf8_all cs)
 span_given s [] go = ap (λ w. record s { word = w }) (sym (append-nil s.word))
@@ -81,62 +77,68 @@ boundary test ascii bs =
     ] refl
 
 -- only in these states is there a span
-ascii_test : (state : State) (bs : List ℕ) → position_or_len (ends_span state) bs ≢ 0 → IsAsciiTest (ends_span state)
-ascii_test Word bs some = λ b is. grind (arith, nat_tests)
-ascii_test SingleQuoted bs some = λ b is. grind (arith, nat_tests)
-ascii_test DoubleQuoted bs some = λ b is. grind (arith, nat_tests)
-ascii_test Between [] some = absurd (some refl)
-ascii_test Between (b ∷ bs) some = absurd (some refl)
-ascii_test Comment [] some = absurd (some refl)
-ascii_test Comment (b ∷ bs) some = absurd (some refl)
-ascii_test Escaped [] some = absurd (some refl)
-ascii_test Escaped (b ∷ bs) some = absurd (some refl)
-ascii_test EscapedInQuotes [] some = absurd (some refl)
-ascii_test EscapedInQuotes (b ∷ bs) some = absurd (some refl)
+ascii_test : (state : State) (c : ℕ) → ends_span state c ≡ false → IsAsciiTest (ends_span state)
+ascii_test Word c goes = λ b is. grind (arith, nat_tests)
+ascii_test SingleQuoted c goes = λ b is. grind (arith, nat_tests)
+ascii_test DoubleQuoted c goes = λ b is. grind (arith, nat_tests)
+ascii_test Between c goes = absurd cc
+ascii_test Comment c goes = absurd cc
+ascii_test Escaped c goes = absurd cc
+ascii_test EscapedInQuotes c goes = absurd cc
 
-pub span_boundary : (state : State) (bs : List ℕ) (n : ℕ) → n ≡ position_or_len (ends_span state) bs → n ≢ 0 → IsCharBoundary bs n
-span_boundary state bs n is some =
-    subst (IsCharBoundary bs) (sym is) (boundary (ends_span state) (ascii_test state bs (λ none. some (is ∙ none))) bs)
+pub span_boundary : (state : State) (c : ℕ) → ends_span state c ≡ false → (bs : List ℕ) (n : ℕ) → n ≡ position_or_len (ends_span state) bs → IsCharBoundary bs n
+span_boundary state c goes bs n is = subst (IsCharBoundary bs) (sym is) (boundary (ends_span state) (ascii_test state c goes) bs)
 
 -- a span is read at once
-span_read : (s : Splitting) (text : List ℕ) (n : ℕ) → IsUtf8 text → n ≡ position_or_len (ends_span s.state) text → n ≢ 0 → fold after (with_bytes s (take n text)) (chars (drop n text)) ≡ fold after s (chars text)
-span_read s text n utf8 is some =
+pub span_read : (s : Splitting) (c : ℕ) → ends_span s.state c ≡ false → (text front rest : List ℕ) (n : ℕ) → IsUtf8 text → n ≡ position_or_len (ends_span s.state) text → front ≡ take n text → rest ≡ drop n text → fold after (with_bytes s front) (chars rest) ≡ fold after s (chars text)
+span_read s c goes text front rest n utf8 is is_front is_rest =
     let test : ℕ → Bool = ends_span s.state in
-    let ascii = ascii_test s.state text (λ none. some (is ∙ none)) in
-    let front = IsUtf8-take text n utf8 (span_boundary s.state text n is some) in
+    let is_text : IsUtf8 (take n text) = IsUtf8-take text n utf8 (span_boundary s.state c goes text n is) in
     let bytes : AllByRecursion (λ b. test b ≡ false) (take n text) = subst (λ k. AllByRecursion (λ b. test b ≡ false) (take k text)) (sym is) (none_before test text) in
-    let go = chars_go test ascii (chars (take n text)) (subst (AllByRecursion (λ b. test b ≡ false)) (sym (encodes-chars (take n text) front)) bytes) in
+    let go = chars_go test (ascii_test s.state c goes) (chars (take n text)) (subst (AllByRecursion (λ b. test b ≡ false)) (sym (encodes-chars (take n text) is_text)) bytes) in
     sym (
     ap (λ bs. fold after s (chars bs)) (sym (take-append-drop n text))
-    ∙ ap (fold after s) (chars-append (take n text) (drop n text) front)
+    ∙ ap (fold after s) (chars-append (take n text) (drop n text) is_text)
     ∙ fold-append after s (chars (take n text)) (chars (drop n text))
-    ∙ ap (λ t. fold after t (chars (drop n text))) (span_given s (chars (take n text)) go ∙ ap (with_bytes s) (encodes-chars (take n text) front))
+    ∙ ap (λ t. fold after t (chars (drop n text))) (span_given s (chars (take n text)) go ∙ ap (with_bytes s) (encodes-chars (take n text) is_text))
+    ∙ ap (λ bs. fold after (with_bytes s bs) (chars (drop n text))) (sym is_front)
+    ∙ ap (λ bs. fold after (with_bytes s front) (chars bs)) (sym is_rest)
     )
 
-pub span_pushed : (s : Splitting) (text front rest word : List ℕ) (n : ℕ) → IsUtf8 text → n ≡ position_or_len (ends_span s.state) text → n ≢ 0 → front ≡ take n text → rest ≡ drop n text → word ≡ s.word ++ front → fold after (record s { word = word }) (chars rest) ≡ fold after s (chars text)
-span_pushed s text front rest word n utf8 is some is_front is_rest is_word =
-    ap (λ w. fold after (record s { word = w }) (chars rest)) (is_word ∙ ap (λ bs. s.word ++ bs) is_front)
-    ∙ ap (λ bs. fold after (with_bytes s (take n text)) (chars bs)) is_rest
-    ∙ span_read s text n utf8 is some
+-- a span has the first character, if that ends none
+pub span_some : (state : State) (c : ℕ) → ends_span state c ≡ false → (text cs : List ℕ) (n : ℕ) → IsUtf8 text → chars text ≡ c ∷ cs → n ≡ position_or_len (ends_span state) text → 0 < n
+span_some state c goes text cs n utf8 begins is =
+    let test : ℕ → Bool = ends_span state in
+    let whole : text ≡ encode_utf8 c ++ encode_utf8_all cs = sym (encodes-chars text utf8) ∙ ap encode_utf8_all begins in
+    let some : 0 < length text = subst (λ t. 0 < length t) (sym whole) (omega (arith, length-append (encode_utf8 c) (encode_utf8_all cs), len_utf8_bounds c, length-encode c)) in
+    elim (cases_eq n 0) [
+      | inr more ↦ omega arith
+      | inl none ↦
+          let at : position_or_len test text ≡ 0 = sym is ∙ none in
+          let ends : test (get_or text 0 0) ≡ true = subst (λ k. test (get_or text k 0) ≡ true) at (passes_at_first test text 0 (omega arith)) in
+          let first : c ≡ get_or text 0 0 = char_from_byte text (encode_utf8_all cs) c whole (ascii_test state c goes (get_or text 0 0) ends) some in
+          absurd (false≢true (sym goes ∙ ap test first ∙ ends))
+    ]
 
--- ---- the first character of a word
-
-applied_in : (read : State × Effect) (s : Splitting) (state : State) → applied read (record s { state = state }) ≡ applied read s
-applied_in (next, Skips) s state = refl
-applied_in (next, Gives bytes) s state = refl
-applied_in (next, EndsWord) s state = refl
-
-pub word_begun : (s : Splitting) (cs : List ℕ) → s.state ≡ Between → begins_word cs ≡ true → fold after (record s { state = Word }) cs ≡ fold after s cs
-word_begun s [] between begins = absurd cc
-word_begun s (c ∷ cs) between begins =
-    let neither = or_parts (is_blank c) (c == hash) (not-true (is_blank c || (c == hash)) begins) in
-    let in_word : reads_word c ≡ begins_piece c = cond-false _ _ _ neither.0 in
-    let outside : reads s.state c ≡ begins_piece c = ap (λ state. reads state c) between ∙ cond-false _ _ _ neither.0 ∙ cond-false _ _ _ neither.1 in
-    ap (λ t. fold after t cs)
-    (ap (λ (r : State × Effect). applied r (record s { state = Word })) in_word ∙ applied_in (begins_piece c) s Word ∙ ap (λ (r : State × Effect). applied r s) (sym outside))
+-- the first character may begin the word of the span, and a span is read at once
+pub some_read : (began old : Splitting) (c : ℕ) (text behind front rest : List ℕ) (n : ℕ) → after began c ≡ after old c → ends_span began.state c ≡ false →
+    IsUtf8 text → chars text ≡ c ∷ chars behind → n ≡ position_or_len (ends_span began.state) text → front ≡ take n text → rest ≡ drop n text →
+    fold after (with_bytes began front) (chars rest) ≡ fold after old (chars text)
+some_read began old c text behind front rest n same goes utf8 begins len is_front is_rest =
+    span_read began c goes text front rest n utf8 len is_front is_rest
+    ∙ ap (fold after began) begins
+    ∙ ap (λ (s : Splitting). fold after s (chars behind)) same
+    ∙ ap (fold after old) (sym begins)
 
 -- ---- one character and the rest
 
 pub past_char : (text rest : List ℕ) (c : ℕ) → IsUtf8 text → text ≡ encode_utf8 c ++ rest → (chars text ≡ c ∷ chars rest) × (length rest < length text)
 past_char text rest c utf8 is =
     (chars_past_char text rest c utf8 is, subst (λ t. length rest < length t) (sym is) (omega (arith, length-append (encode_utf8 c) rest, len_utf8_bounds c, length-encode c)))
+
+pub no_char : (text : List ℕ) → IsUtf8 text → chars text ≡ [] → length text ≡ 0
+no_char text utf8 none = ap length (sym (encodes-chars text utf8) ∙ ap encode_utf8_all none)
+
+pub empty_chars : (text : List ℕ) → (length text == 0) ≡ true → chars text ≡ []
+empty_chars [] empty = chars-nil
+empty_chars (b ∷ bs) empty = absurd (omega (arith, eqb-true (length (b ∷ bs)) 0 empty))

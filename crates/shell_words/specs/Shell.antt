@@ -49,7 +49,8 @@ pub data IsInnerPiece : List ℕ → List ℕ → Type 0 where
 -- what stands in double quotes: any number of inner pieces
 pub data IsInside : List ℕ → List ℕ → Type 0 where
   inside_end : IsInside [] []
-  inside_more : (piece rest given more : List ℕ) → IsInnerPiece piece given → IsInside rest more → IsInside (piece ++ rest) (given ++ more)
+  inside_more : (piece rest given more : List ℕ) → IsInnerPiece piece given → IsInside rest more →
+      IsInside (piece ++ rest) (given ++ more)
 
 -- A piece, and what it gives: a character other than a blank, a quote or a backslash; a backslash with
 -- a character, which gives that character, or nothing for a newline; `'` and all up to the next `'`;
@@ -64,11 +65,13 @@ pub data IsPiece : List ℕ → List ℕ → Type 0 where
 -- any number of pieces
 pub data IsPieces : List ℕ → List ℕ → Type 0 where
   pieces_end : IsPieces [] []
-  pieces_more : (piece rest given more : List ℕ) → IsPiece piece given → IsPieces rest more → IsPieces (piece ++ rest) (given ++ more)
+  pieces_more : (piece rest given more : List ℕ) → IsPiece piece given → IsPieces rest more →
+      IsPieces (piece ++ rest) (given ++ more)
 
 -- A word, as it is written and what it gives: one or more pieces, the first not a bare `#`.
 pub data IsWord : List ℕ → List ℕ → Type 0 where
-  word : (piece rest given more : List ℕ) → IsPiece piece given → piece ≢ hash ∷ [] → IsPieces rest more → IsWord (piece ++ rest) (given ++ more)
+  word : (piece rest given more : List ℕ) → IsPiece piece given → piece ≢ hash ∷ [] → IsPieces rest more →
+      IsWord (piece ++ rest) (given ++ more)
 
 -- A text and its words: nothing; a gap, and a text; `#` and all through the end; a word, and the end; or
 -- a word, a blank, and a text. A text has at most one list of words.
@@ -77,7 +80,8 @@ pub data IsText : List ℕ → List (List ℕ) → Type 0 where
   text_gap : (gap rest : List ℕ) (words : List (List ℕ)) → IsGap gap → IsText rest words → IsText (gap ++ rest) words
   text_comment : (cs : List ℕ) → HasNone newline cs → IsText (hash ∷ cs) []
   text_word : (cs given : List ℕ) → IsWord cs given → IsText cs (given ∷ [])
-  text_words : (cs given : List ℕ) (c : ℕ) (rest : List ℕ) (words : List (List ℕ)) → IsWord cs given → is_blank c ≡ true → IsText rest words → IsText (cs ++ c ∷ rest) (given ∷ words)
+  text_words : (cs given : List ℕ) (c : ℕ) (rest : List ℕ) (words : List (List ℕ)) →
+      IsWord cs given → is_blank c ≡ true → IsText rest words → IsText (cs ++ c ∷ rest) (given ∷ words)
 
 -- the text and its words, all as bytes
 abbrev pub HasWords : List ℕ → List (List ℕ) → Type 0

@@ -3,6 +3,7 @@
 
 pub mod laws;
 mod quoting;
+mod span;
 mod splitting;
 
 pub use quoting::quote;

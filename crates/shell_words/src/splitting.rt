@@ -1,12 +1,14 @@
 //! Splitting a text into the words of a shell command.
 
-ghost use Rattle.std.specs.Prelude.{◌≡◌, [], ◌∷◌, ◌<◌, ◌≤◌, map, length, IfOk, OnOk, MatchOption, encode_utf8_all, string_bytes};
-ghost use Rattle.std.specs.List.{fold, position_or_len};
+ghost use Rattle.std.specs.Prelude.{◌≡◌, [], ◌∷◌, ◌<◌, ◌≤◌, false, map, length, IfOk, OnOk, MatchOption, encode_utf8_all, string_bytes};
+ghost use Rattle.std.specs.Bool.{MatchBool};
+ghost use Rattle.std.specs.List.{fold};
 ghost use Rattle.std.specs.Option.{option_map};
 ghost use Rattle.std.specs.Str.{chars};
 ghost use Rattle.shell_words.specs.Shell.{HasWords, HasNoWords};
-ghost use Rattle.shell_words.specs.Shell.Splitting.{split_chars, begins_word, ends_span};
+ghost use Rattle.shell_words.specs.Shell.Splitting.{split_chars};
 
+use crate::span::{ends_span, span_len};
 use std::alloc::{AllocError, Global};
 use std::marker::Model;
 use std::mem;
@@ -27,17 +29,16 @@ pub fn split(alloc: Global, text: &str) -> Result<Option<Vec<String>>, AllocErro
         ≡ option_map (map encode_utf8_all) (split_chars (chars text.now))) }
 {
     let mut splitter = Splitter::new(alloc);
-    let mut rest = splitter.read_span(text)?;
-    while let Some((c, behind)) = next_char(rest) {
-        splitter.read(c)?;
-        rest = splitter.read_span(behind)?;
+    let mut rest = text;
+    while !rest.is_empty() {
+        rest = splitter.read_some(rest)?;
     }
     splitter.finish()
 }
 
 /// Where a splitter is in a text.
 #[derive(Clone, Copy)]
-enum State {
+pub(crate) enum State {
     /// Between words.
     Between,
     /// After a `#` that begins a comment.
@@ -62,45 +63,6 @@ fn next_char(text: &str) -> Option<(char, &str)>
     let mut chars = text.chars();
     let first = chars.next()?;
     Some((first, chars.as_str()))
-}
-
-// Whether a text that is read between words begins with a word.
-fn begins_word(text: &str) -> bool
-    ensures { result ≡ begins_word (chars text.now) }
-{
-    match next_char(text) {
-        None | Some((' ' | '\t' | '\n' | '#', _)) => false,
-        Some(_) => true,
-    }
-}
-
-// Whether a byte ends a span that is read in this state.
-fn ends_span(state: State, byte: u8) -> bool
-    ensures { result ≡ ends_span state byte }
-{
-    match state {
-        State::Word => match byte {
-            b' ' | b'\t' | b'\n' | b'\'' | b'"' | b'\\' => true,
-            _ => false,
-        },
-        State::SingleQuoted => byte == b'\'',
-        State::DoubleQuoted => byte == b'"' || byte == b'\\',
-        _ => true,
-    }
-}
-
-// How many bytes the span has that a text begins with.
-fn span_len(state: State, text: &[u8]) -> usize
-    ensures { result ≡ position_or_len (ends_span state) text.now }
-{
-    let mut len = 0;
-    for byte in text {
-        if ends_span(state, *byte) {
-            return len;
-        }
-        len += 1;
-    }
-    len
 }
 
 /// The words so far of a text that is read from its start.
@@ -135,30 +97,66 @@ impl Splitter {
         }
     }
 
-    // Begins a word, if the text begins with one. The text is then read the same.
-    fn begin_word(&mut self, text: &str)
-        ensures { fold spec.after self.new (chars text.now) ≡ fold spec.after self.old (chars text.now) }
+    // Reads a span and what ends it, or a character that is no part of one. Answers what is left to read.
+    #[inline(always)]
+    fn read_some<'a>(&mut self, text: &'a str) -> Result<&'a str, AllocError>
+        ensures same { IfOk result (λ rest.
+            fold spec.after self.new (chars rest.now) ≡ fold spec.after self.old (chars text.now)) }
+        ensures less { IfOk result (λ rest. 0 < length text.now → length rest.now < length text.now) }
+    {
+        let Some((c, behind)) = next_char(text) else {
+            return Ok(text);
+        };
+        if !self.begin_span(c) {
+            self.read(c)?;
+            return Ok(behind);
+        }
+        let (span, rest) = text.split_at(span_len(self.state, text.as_bytes()));
+        self.take_span(span, rest)
+    }
+
+    // Whether a character is the first of a span. A span between words begins a word.
+    #[inline(always)]
+    fn begin_span(&mut self, c: char) -> bool
+        ensures { MatchBool result
+            ((spec.after self.new c ≡ spec.after self.old c) × (spec.ends_span self.new.state c ≡ false))
+            (self.new ≡ self.old) }
     {
         match self.state {
-            State::Between if begins_word(text) => self.state = State::Word,
-            _ => {}
+            State::Between => {
+                if c == '#' || ends_span(State::Word, c) {
+                    return false;
+                }
+                self.state = State::Word;
+                true
+            }
+            state => !ends_span(state, c),
         }
     }
 
-    // Copies what a text begins with and stands for itself, all at once. Answers what is left to read.
-    fn read_span<'a>(&mut self, text: &'a str) -> Result<&'a str, AllocError>
-        ensures same { IfOk result (λ rest.
-            fold spec.after self.new (chars rest.now) ≡ fold spec.after self.old (chars text.now)) }
-        ensures less { IfOk result (λ rest. length rest.now ≤ length text.now) }
+    // Gives a span to the word. If a blank ends a word that has nothing else, that is read too.
+    #[inline(always)]
+    fn take_span<'a>(&mut self, span: &str, rest: &'a str) -> Result<&'a str, AllocError>
+        ensures same { IfOk result (λ left.
+            fold spec.after self.new (chars left.now) ≡ fold spec.after (spec.with_bytes self.old span.now) (chars rest.now)) }
+        ensures less { IfOk result (λ left. length left.now ≤ length rest.now) }
     {
-        self.begin_word(text);
-        let len = span_len(self.state, text.as_bytes());
-        if len == 0 {
-            return Ok(text);
+        if !self.word.is_empty() {
+            self.word.push_str(span)?;
+            return Ok(rest);
         }
-        let (span, rest) = text.split_at(len);
-        self.word.push_str(span)?;
-        Ok(rest)
+        let word = String::from_str(self.alloc, span)?;
+        match (self.state, next_char(rest)) {
+            (State::Word, Some((' ' | '\t' | '\n', behind))) => {
+                self.words.push(word)?;
+                self.state = State::Between;
+                Ok(behind)
+            }
+            _ => {
+                self.word = word;
+                Ok(rest)
+            }
+        }
     }
 
     fn read(&mut self, c: char) -> Result<(), AllocError>

@@ -1,5 +1,5 @@
 -- The words of a text, computed. They are those of the grammar: the law `computed_words` says it.
-use Rattle.std.specs.Prelude.{ℕ, Bool, true, false, not, ◌||◌, ◌==◌, ◌≡◌, refl, if◌then◌else◌, List, [], ◌∷◌, ◌++◌, map, Option, Some, None, encode_utf8_all, codes}
+use Rattle.std.specs.Prelude.{ℕ, Bool, true, ◌||◌, ◌==◌, ◌≡◌, refl, if◌then◌else◌, List, [], ◌∷◌, ◌++◌, map, Option, Some, None, encode_utf8_all, codes}
 use Rattle.std.specs.Option.{option_map}
 use Rattle.std.specs.Str.{chars}
 use Rattle.shell_words.specs.declared.splitting.State.{State}
@@ -57,11 +57,6 @@ reads SingleQuoted c = reads_single_quoted c
 reads DoubleQuoted c = reads_double_quoted c
 reads EscapedInQuotes c = reads_escaped_in_quotes c
 
--- whether a text that is read between words begins with a word
-abbrev pub begins_word : List ℕ → Bool
-begins_word [] = false
-begins_word (c ∷ cs) = not (is_blank c || (c == hash))
-
 -- Whether a character ends a span, which is read in this state: the characters of a span are given as they
 -- stand, and keep the state. In the other states there is no span.
 abbrev pub ends_span : State → ℕ → Bool
@@ -110,6 +105,10 @@ pub record Splitting : Type 0 where
   pub state : State
   pub words : List (List ℕ)
   pub word : List ℕ
+
+-- what a splitter holds with more bytes of its word
+abbrev pub with_bytes : Splitting → List ℕ → Splitting
+with_bytes s bytes = record s { word = s.word ++ bytes }
 
 abbrev pub start : Splitting
 start = record { state = Between; words = []; word = [] }

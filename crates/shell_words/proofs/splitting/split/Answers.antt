@@ -6,13 +6,15 @@ use Rattle.std.specs.Str.{chars}
 use Rattle.std.proofs.lemmas.Result.{IfOk-weaker}
 use Rattle.shell_words.specs.Shell.Splitting.{split_chars, after, finished}
 use Rattle.shell_words.proofs.ShellSplittingLemmas.{finished_is}
+use Rattle.shell_words.proofs.ShellSpanLemmas.{empty_chars}
 use Rattle.shell_words.proofs.ShellLawLemmas.{words_from_value}
 use Rattle.shell_words.proofs.splitting.split.Goals as goal
 use Rattle.shell_words.proofs.splitting.split.Goals.{After-finish}
 
-finished_words : (c : After-finish) → finished c.loop-c.splitter ≡ option_map (map encode_utf8_all) (split_chars (chars c.args.text.now))
+finished_words : (c : After-finish) → finished c.loop-rest.splitter ≡ option_map (map encode_utf8_all) (split_chars (chars c.args.text.now))
 finished_words c =
-    ap finished (ap (fold after c.loop-c.splitter) (sym c.in_default.ensures) ∙ c.loop-c.invariant.1)
+    let nothing = empty_chars c.loop-rest.rest.now (sym c.is_empty.ensures ∙ c.loop-rest-test.false) in
+    ap finished (ap (fold after c.loop-rest.splitter) (sym nothing) ∙ c.loop-rest.invariant.1)
     ∙ finished_is (chars c.args.text.now)
 
 pub returns-clause-words : goal.returns-clause-words

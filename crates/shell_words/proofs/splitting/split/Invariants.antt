@@ -6,8 +6,8 @@ use Rattle.std.specs.Str.{chars}
 use Rattle.shell_words.specs.Shell.Splitting.{after, start}
 use Rattle.shell_words.proofs.splitting.split.Given as goal
 
-abbrev pub invariant-loop-c : goal.invariant-loop-c
-invariant-loop-c l = shadow (Utf8 l.rest) × (fold after l.splitter (chars l.rest) ≡ fold after start (chars l.text))
+abbrev pub invariant-loop-rest : goal.invariant-loop-rest
+invariant-loop-rest l = shadow (Utf8 l.rest) × (fold after l.splitter (chars l.rest) ≡ fold after start (chars l.text))
 
-abbrev pub decreases-loop-c : goal.decreases-loop-c
-decreases-loop-c l = length l.rest
+abbrev pub decreases-loop-rest : goal.decreases-loop-rest
+decreases-loop-rest l = length l.rest

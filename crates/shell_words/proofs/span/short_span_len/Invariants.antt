@@ -1,7 +1,7 @@
 use Rattle.std.proofs.Common.{◌≡◌, ◌+◌, drop}
 use Rattle.std.specs.List.{position_or_len}
 use Rattle.shell_words.specs.Shell.Splitting.{ends_span}
-use Rattle.shell_words.proofs.splitting.span_len.Given as goal
+use Rattle.shell_words.proofs.span.short_span_len.Given as goal
 
 abbrev pub invariant-loop-byte : goal.invariant-loop-byte
 invariant-loop-byte l =
