@@ -113,7 +113,8 @@ fn longest_name(names: &IndexMap<String, String>, text: &str, most: usize) -> us
     best
 }
 
-// The same, by what is fewer: the parts of `text`, or the names.
+// How long the longest name is that stands in `text` and has at most `most` bytes, by what is fewer:
+// the parts of `text`, or the names; 0 where none does.
 fn longest_in(names: &IndexMap<String, String>, text: &str, most: usize) -> usize
     ensures { result ≡ spec.longest_in text.now most (old_names (map pair_of names.now.entries)) }
 {

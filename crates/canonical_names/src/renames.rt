@@ -53,6 +53,7 @@ fn canonical_name(
 ) -> Result<String, AllocError>
     ensures { IfOk result (λ t. string_bytes t ≡ joined (folder_of name.now) (decimal_file number suffix.now)) }
 {
+    // `x_`, at most twenty digits and the suffix.
     let mut file = String::with_capacity(alloc, suffix.len().saturating_add(22))?;
     write!(file, "x_{number}{suffix}")?;
     let folder = folder(name);
@@ -99,7 +100,7 @@ impl Renames {
         self.len() == 0
     }
 
-    /// Each name that was seen with its canonical name, in the order of their first appearance.
+    /// Each name that was seen, with its canonical name, in the order of their first appearance.
     pub fn iter(&self) -> Iter<'_, String, String>
         ensures { map pair_of result ≡ map (with_canonical self.now.0 self.now.1) self.now.1 }
     {
