@@ -1,6 +1,6 @@
 -- Keep words and thread words of an nvcc line: which folder intermediate files are kept in, how many commands run at
 -- once, and the words without these. Each answer is a filter of the words.
-use Rattle.std.specs.Prelude.{◌≡◌, ℕ, ◌+◌, ◌*◌, ◌-◌, ◌^◌, List, [], ◌∷◌, Bool, true, false, not, ◌&&◌, ◌||◌, ◌==◌, nat_eq, nat_lt, if◌then◌else◌, Option, Some, None, unwrap_or, Result, Ok, Err, Vec, String, string_bytes, map, filter, drop, codes, refl}
+use Rattle.std.specs.Prelude.{ℕ, ◌+◌, ◌*◌, ◌-◌, ◌^◌, List, [], ◌∷◌, Bool, true, false, not, ◌&&◌, ◌||◌, ◌==◌, nat_eq, nat_lt, if◌then◌else◌, Option, Some, None, unwrap_or, Result, Ok, Err, Vec, String, string_bytes, map, filter, drop, codes}
 use Rattle.std.specs.List.{filter_map, list_any, starts_with}
 use Rattle.std.specs.Option.{option_and_then, option_map}
 use Rattle.std.specs.declared.alloc.Global.{Global}
@@ -9,7 +9,6 @@ use Rattle.texts.specs.declared.fault.Fault.{Fault}
 use Rattle.texts.specs.declared.fault.Fault.TheVariants.{KeepDirValue, ThreadsValue}
 use Rattle.texts.specs.Path.{joined}
 use Rattle.texts.specs.Lists.{last_of}
-use Rattle.texts.specs.Rows.{spaced}
 
 -- whether a word takes the next one as its value: an option of that kind does, if it isn't itself a value; the word
 -- stands beside whether it is one
@@ -43,7 +42,9 @@ is_keep_dir word = bytes_eq word (codes "-keep-dir") || bytes_eq word (codes "--
 
 -- an option that sets keep
 abbrev pub is_keep : List ℕ → Bool
-is_keep word = bytes_eq word (codes "-keep") || bytes_eq word (codes "--keep") || bytes_eq word (codes "-save-temps") || bytes_eq word (codes "--save-temps")
+is_keep word =
+    bytes_eq word (codes "-keep") || bytes_eq word (codes "--keep")
+    || bytes_eq word (codes "-save-temps") || bytes_eq word (codes "--save-temps")
 
 -- the words of a line, each beside whether it is a keep directory
 abbrev pub beside_keep_dirs : List (List ℕ) → List (Bool × List ℕ)
@@ -78,7 +79,8 @@ keep_answer cwd is_missing stay is_kept directory =
 -- what a line's keep words say, at a working directory
 abbrev pub keep_of : List ℕ → List (List ℕ) → Result (List (List ℕ) × Option (List ℕ)) Fault
 keep_of cwd words =
-    keep_answer cwd (lacks_value is_keep_dir (beside_keep_dirs words)) (words_without_keep words) (list_any sets_keep (beside_keep_dirs words)) (last_of (keep_directories words))
+    keep_answer cwd (lacks_value is_keep_dir (beside_keep_dirs words)) (words_without_keep words)
+      (list_any sets_keep (beside_keep_dirs words)) (last_of (keep_directories words))
 
 -- Numbers.
 
@@ -150,7 +152,9 @@ threads_answer is_missing stay number = if is_missing then Err ThreadsValue else
 
 -- what a line's thread words say
 abbrev pub threads_of : List (List ℕ) → Result (List (List ℕ) × ℕ) Fault
-threads_of words = threads_answer (lacks_value is_threads (beside_threads words)) (words_without_threads words) (last_of (thread_numbers words))
+threads_of words =
+    threads_answer (lacks_value is_threads (beside_threads words)) (words_without_threads words)
+      (last_of (thread_numbers words))
 
 -- what the two calls answer, seen as texts
 abbrev pub keep_seen : Result (Vec (String Global) Global × Option (String Global)) Fault → Result (List (List ℕ) × Option (List ℕ)) Fault
@@ -160,65 +164,3 @@ keep_seen (Err fault) = Err fault
 abbrev pub threads_seen : Result (Vec (String Global) Global × ℕ) Fault → Result (List (List ℕ) × ℕ) Fault
 threads_seen (Ok p) = Ok (map string_bytes p.0.items, p.1)
 threads_seen (Err fault) = Err fault
-
--- Worked examples. The working directory is `/w`.
-pub directory_is_joined : keep_of (codes "/w") (spaced "-keep -keep-dir out") ≡ Ok ([], Some (codes "/w/out"))
-directory_is_joined = refl
-
-pub directory_alone_keeps_nothing : keep_of (codes "/w") (spaced "-keep-dir out") ≡ Ok ([], None)
-directory_alone_keeps_nothing = refl
-
-pub keep_option_as_a_value : keep_of (codes "/w") (spaced "-keep-dir -keep") ≡ Ok ([], None)
-keep_option_as_a_value = refl
-
-pub keep_without_a_directory : keep_of (codes "/w") (spaced "-keep") ≡ Ok ([], Some (codes "/w"))
-keep_without_a_directory = refl
-
-pub directory_is_missing : keep_of (codes "/w") (spaced "-keep-dir") ≡ Err KeepDirValue
-directory_is_missing = refl
-
-pub directory_is_empty : keep_of (codes "/w") (codes "-keep" ∷ codes "-keep-dir" ∷ [] ∷ []) ≡ Ok ([], Some (codes "/w/"))
-directory_is_empty = refl
-
-pub directory_option_as_a_value : keep_of (codes "/w") (spaced "-keep -keep-dir -keep-dir") ≡ Ok ([], Some (codes "/w/-keep-dir"))
-directory_option_as_a_value = refl
-
-pub last_directory_counts : keep_of (codes "/w") (spaced "--keep-dir a -g --save-temps -keep-dir /b -c") ≡ Ok (spaced "-g -c", Some (codes "/b"))
-last_directory_counts = refl
-
-pub threads_option_stays : keep_of (codes "/w") (spaced "--threads -keep") ≡ Ok (spaced "--threads", Some (codes "/w"))
-threads_option_stays = refl
-
-pub threads_option_that_stayed : threads_of (spaced "--threads") ≡ Err ThreadsValue
-threads_option_that_stayed = refl
-
-pub last_number_counts : threads_of (spaced "-t1 -t=2 -t3 --threads 1 --threads 2") ≡ Ok ([], 2)
-last_number_counts = refl
-
-pub joined_number_after_a_separate_one : threads_of (spaced "--threads 4 -t2") ≡ Ok ([], 2)
-joined_number_after_a_separate_one = refl
-
--- the word `-té=1`: the bytes 195 and 169 are `é`
-pub cut_inside_a_character : threads_of ((45 ∷ 116 ∷ 195 ∷ 169 ∷ 61 ∷ 49 ∷ []) ∷ []) ≡ Ok ([], 1)
-cut_inside_a_character = refl
-
-pub threads_option_as_a_value : threads_of (spaced "--threads --threads") ≡ Ok ([], 1)
-threads_option_as_a_value = refl
-
-pub number_with_a_plus : threads_of (spaced "-t+7") ≡ Ok ([], 7)
-number_with_a_plus = refl
-
-pub number_with_two_pluses : threads_of (spaced "-t++7") ≡ Ok ([], 1)
-number_with_two_pluses = refl
-
-pub number_with_leading_zeros : threads_of (spaced "-t=007 -g") ≡ Ok (spaced "-g", 7)
-number_with_leading_zeros = refl
-
-pub greatest_number : threads_of (spaced "-t18446744073709551615") ≡ Ok ([], 18446744073709551615)
-greatest_number = refl
-
-pub number_past_the_greatest : threads_of (spaced "-t18446744073709551616") ≡ Ok ([], 1)
-number_past_the_greatest = refl
-
-pub equals_anywhere : threads_of (spaced "-t12= -t123 -t4=5") ≡ Ok ([], 123)
-equals_anywhere = refl

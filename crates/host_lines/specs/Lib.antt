@@ -1,3 +1,4 @@
+pub mod HostRows
 pub mod KeepThreads
 pub mod NvccEnvironment
 pub mod NvccOptions

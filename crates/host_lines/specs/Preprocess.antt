@@ -1,19 +1,17 @@
 -- The commands that preprocess the input of an nvcc or nvhpc line.
-use Rattle.std.specs.Prelude.{◌≡◌, ℕ, List, [], ◌∷◌, ◌++◌, not, ◌||◌, if◌then◌else◌, Option, Some, None, Result, Ok, Err, Vec, map, filter, codes, refl}
+use Rattle.std.specs.Prelude.{ℕ, List, [], ◌∷◌, ◌++◌, not, ◌||◌, if◌then◌else◌, Option, Some, None, Result, Ok, Err, Vec, map, filter, codes}
 use Rattle.std.specs.Str.{bytes_eq}
 use Rattle.std.specs.declared.alloc.Global.{Global}
 use Rattle.texts.specs.declared.language.Language.{Language}
-use Rattle.texts.specs.declared.language.Language.TheVariants.{Cxx, Cuda, Ptx}
+use Rattle.texts.specs.declared.language.Language.TheVariants.{Cuda}
 use Rattle.cuda_below.specs.declared.arguments.ParsedArguments.{ParsedArguments}
 use Rattle.cuda_below.specs.declared.command.SingleCompileCommand.{SingleCompileCommand}
 use Rattle.texts.specs.declared.fault.Fault.{Fault}
 use Rattle.texts.specs.declared.fault.Fault.TheVariants.{NoPreprocess}
 use Rattle.cuda_below.specs.Command.{single_command}
 use Rattle.cuda_below.specs.GccItems.{name_of_language}
-use Rattle.cuda_below.specs.GccRows.{compiled}
 use Rattle.cuda_below.specs.declared.compiler.NvccHostCompiler.{NvccHostCompiler}
 use Rattle.cuda_below.specs.declared.compiler.NvccHostCompiler.TheVariants as host
-use Rattle.texts.specs.Rows.{spaced}
 use Rattle.host_lines.specs.NvccEnvironment.{without_flags}
 
 -- what both commands have: their first words are the preprocessor's, the common ones, the language's name and the input
@@ -45,7 +43,8 @@ first_appearances (word ∷ words) = word ∷ filter (λ later. not (bytes_eq wo
 abbrev pub nvcc_dependency_word : List ℕ → List ℕ
 nvcc_dependency_word word =
     if bytes_eq word (codes "-MD") || bytes_eq word (codes "--generate-dependencies-with-compile") then codes "-M"
-    else if bytes_eq word (codes "-MMD") || bytes_eq word (codes "--generate-nonsystem-dependencies-with-compile") then codes "-MM"
+    else if bytes_eq word (codes "-MMD") || bytes_eq word (codes "--generate-nonsystem-dependencies-with-compile")
+    then codes "-MM"
     else word
 
 -- the words for nvcc's dependencies: no word stands twice, be it an option's value or not
@@ -62,12 +61,14 @@ nvcc_preprocessor_words host.Nvhpc = codes "-E" ∷ [] ∷ []
 abbrev pub nvcc_preprocess : NvccHostCompiler → List ℕ → ParsedArguments → List ℕ → List (List ℕ × List ℕ) → Result (List SingleCompileCommand) Fault
 nvcc_preprocess host_compiler executable p cwd env_vars =
     unless_unnamed (codes "PCH not supported by nvcc")
-    (λ name. preprocess_commands (common_command executable p name cwd (without_flags env_vars)) (nvcc_dependency_words p.dependency_args) (nvcc_preprocessor_words host_compiler))
+    (λ name. preprocess_commands (common_command executable p name cwd (without_flags env_vars))
+      (nvcc_dependency_words p.dependency_args) (nvcc_preprocessor_words host_compiler))
     (name_of_language p.language)
 
 -- nvhpc's word for the dependencies alone, in place of one that asks for them beside a compilation
 abbrev pub nvhpc_dependency_word : List ℕ → List ℕ
-nvhpc_dependency_word word = if bytes_eq word (codes "-MD") then codes "-M" else if bytes_eq word (codes "-MMD") then codes "-MM" else word
+nvhpc_dependency_word word =
+    if bytes_eq word (codes "-MD") then codes "-M" else if bytes_eq word (codes "-MMD") then codes "-MM" else word
 
 -- the name that nvhpc has for a language: gcc's, and none for CUDA
 abbrev pub name_for_nvhpc : Language → Option (List ℕ)
@@ -83,49 +84,11 @@ nvhpc_refusal language = codes "PCH not supported by nvhpc"
 abbrev pub nvhpc_preprocess : List ℕ → ParsedArguments → List ℕ → List (List ℕ × List ℕ) → Result (List SingleCompileCommand) Fault
 nvhpc_preprocess executable p cwd env_vars =
     unless_unnamed (nvhpc_refusal p.language)
-    (λ name. preprocess_commands (common_command executable p name cwd env_vars) (map nvhpc_dependency_word p.dependency_args) (codes "-E" ∷ []))
+    (λ name. preprocess_commands (common_command executable p name cwd env_vars)
+      (map nvhpc_dependency_word p.dependency_args) (codes "-E" ∷ []))
     (name_for_nvhpc p.language)
 
 -- what a call answers, as the list of its commands
 abbrev pub commands_seen : Result (Vec SingleCompileCommand Global) Fault → Result (List SingleCompileCommand) Fault
 commands_seen (Ok commands) = Ok commands.items
 commands_seen (Err fault) = Err fault
-
--- Worked examples: the words of the commands.
-abbrev pub words_of_commands : Result (List SingleCompileCommand) Fault → Result (List (List (List ℕ))) Fault
-words_of_commands (Ok commands) = Ok (map (λ c. c.arguments) commands)
-words_of_commands (Err fault) = Err fault
-
--- the arguments of a line that asks for a dependency file beside the compilation
-abbrev pub with_dependencies : Language → List (List ℕ) → ParsedArguments
-with_dependencies language common = record (compiled (codes "foo.c") language (codes "foo.o")) {
-  common_args = common;
-  dependency_args = spaced "-MD -MF foo.o.d -MT foo.o";
-}
-
-pub nvcc_makes_two_commands : words_of_commands (nvcc_preprocess host.Gcc (codes "nvcc") (with_dependencies Cuda (spaced "-fabc -c")) (codes "/w") []) ≡ Ok (
-    (spaced "-fabc -c -x cu foo.c -M -MF foo.o.d -MT foo.o")
-    ∷ (spaced "-fabc -c -x cu foo.c -E -Xcompiler=-P") ∷ [])
-nvcc_makes_two_commands = refl
-
-pub nvhpc_makes_two_commands : words_of_commands (nvhpc_preprocess (codes "nvc++") (with_dependencies Cxx (spaced "-fabc")) (codes "/w") []) ≡ Ok (
-    (spaced "-fabc -x c++ foo.c -M -MF foo.o.d -MT foo.o")
-    ∷ (spaced "-fabc -x c++ foo.c -E") ∷ [])
-nvhpc_makes_two_commands = refl
-
--- a repeated value goes too
-pub a_repeated_value_goes : nvcc_dependency_words (spaced "-MF a -MT a") ≡ spaced "-MF a -MT"
-a_repeated_value_goes = refl
-
--- words are compared once they are replaced
-pub replaced_words_are_alike : nvcc_dependency_words (spaced "--generate-nonsystem-dependencies-with-compile -MP -MMD -MM --generate-dependencies-with-compile") ≡ spaced "-MM -MP -M"
-replaced_words_are_alike = refl
-
-pub one_command_without_dependencies : words_of_commands (nvcc_preprocess host.Nvhpc (codes "nvcc") (compiled (codes "a.c") Cuda (codes "a.o")) (codes "/w") []) ≡ Ok ((codes "-x" ∷ codes "cu" ∷ codes "a.c" ∷ codes "-E" ∷ [] ∷ []) ∷ [])
-one_command_without_dependencies = refl
-
-pub nvhpc_preprocesses_no_cuda : nvhpc_preprocess (codes "nvc++") (compiled (codes "a.cu") Cuda (codes "a.o")) (codes "/w") [] ≡ Err (NoPreprocess (codes "CUDA compilation not supported by nvhpc"))
-nvhpc_preprocesses_no_cuda = refl
-
-pub nvcc_preprocesses_no_ptx : nvcc_preprocess host.Msvc (codes "nvcc") (compiled (codes "a.ptx") Ptx (codes "a.o")) (codes "/w") [] ≡ Err (NoPreprocess (codes "PCH not supported by nvcc"))
-nvcc_preprocesses_no_ptx = refl

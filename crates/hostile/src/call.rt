@@ -1,7 +1,7 @@
 //! The program's calls.
 
 /// A call: the seed, the number of the first case, and how many cases are run.
-#[derive(Clone, Copy, Debug)]
+#[derive(Clone, Copy)]
 pub struct Call {
     pub seed: u64,
     pub first: u64,

@@ -20,29 +20,45 @@ fn show(alloc: Global, pair: &Pair, tally: &mut Tally) -> Result<(), AllocError>
     tally.show("second dry run:", second.as_str())
 }
 
-// Runs the case of a number.
-fn run_case(alloc: Global, seed: u64, number: u64, tally: &mut Tally) -> Result<(), AllocError> {
+// Checks what is answered for a pair, and shows the pair if something failed.
+fn check_dry_runs(alloc: Global, pair: &Pair, tally: &mut Tally) -> Result<(), AllocError> {
     let before = tally.failed();
-    let pair = some_pair(alloc, seed, number, tally)?;
-    check_pair(alloc, &pair, tally)?;
-    check_engine(alloc, &pair, tally)?;
-    check_selections(alloc, &pair, tally)?;
+    check_pair(alloc, pair, tally)?;
+    check_engine(alloc, pair, tally)?;
+    check_selections(alloc, pair, tally)?;
     if tally.failed() > before {
-        show(alloc, &pair, tally)?;
+        show(alloc, pair, tally)?;
     }
-    let mut source = Source::new(seed, number, 3);
-    device::check_line(alloc, &mut source, tally)?;
-    host::check_line(alloc, &mut source, tally)?;
-    check_shell(alloc, &mut source, tally)
+    Ok(())
+}
+
+// Checks the dry runs of a case.
+fn run_pair(alloc: Global, seed: u64, number: u64, tally: &mut Tally) -> Result<(), AllocError> {
+    let pair = some_pair(alloc, seed, number, tally)?;
+    check_dry_runs(alloc, &pair, tally)
+}
+
+// Checks the lines and texts of a case.
+fn run_lines(alloc: Global, source: &mut Source, tally: &mut Tally) -> Result<(), AllocError> {
+    device::check_line(alloc, source, tally)?;
+    host::check_line(alloc, source, tally)?;
+    check_shell(alloc, source, tally)
+}
+
+// Runs the cases of a call.
+fn run_all(alloc: Global, call: &Call, tally: &mut Tally) -> Result<(), AllocError> {
+    for step in 0..call.count {
+        let number = call.first.wrapping_add(step);
+        tally.turn_to(number);
+        run_pair(alloc, call.seed, number, tally)?;
+        run_lines(alloc, &mut Source::new(call.seed, number, 3), tally)?;
+    }
+    Ok(())
 }
 
 /// Runs the cases of a call, and answers what was seen.
 pub fn run(alloc: Global, call: &Call) -> Result<Tally, Stop> {
     let mut tally = Tally::new(alloc, call)?;
-    for step in 0..call.count {
-        let number = call.first.wrapping_add(step);
-        tally.turn_to(number);
-        run_case(alloc, call.seed, number, &mut tally)?;
-    }
+    run_all(alloc, call, &mut tally)?;
     Ok(tally)
 }

@@ -4,7 +4,7 @@ use std::alloc::{AllocError, Global};
 use texts::text::file_stem;
 
 /// How many commands there are, and a sum of a number for each of them, which its program and words give.
-#[derive(Clone, Copy, Debug, PartialEq)]
+#[derive(Clone, Copy, PartialEq)]
 pub struct Sum {
     pub commands: u64,
     pub marks: u64,

@@ -125,9 +125,17 @@ where
 {
     let places = no_places(alloc);
     match compiler.generate_compile_commands(alloc, "", parsed, cwd, &[], &places) {
-        Ok((command, _)) => Ok(Some(copies(alloc, command.get_arguments())?)),
+        Ok((command, _)) => words_of(alloc, &command),
         Err(_) => Ok(None),
     }
+}
+
+// The words of a command.
+fn words_of<C: CompileCommandImpl>(
+    alloc: Global,
+    command: &C,
+) -> Result<Option<Vec<String>>, AllocError> {
+    Ok(Some(copies(alloc, command.get_arguments())?))
 }
 
 // Copies of words.
@@ -137,6 +145,27 @@ fn copies(alloc: Global, words: &[String]) -> Result<Vec<String>, AllocError> {
         copies.push(String::from_str(alloc, word.as_str())?)?;
     }
     Ok(copies)
+}
+
+// Whether arguments that words are read as are those that they were written of, and written as the same words.
+fn are_written_so<C: CCompilerImpl>(
+    alloc: Global,
+    compiler: &C,
+    cwd: &str,
+    words: &[String],
+    again: &ParsedArguments,
+    parsed: &ParsedArguments,
+) -> Result<bool, AllocError>
+where
+    C::Command: Drop,
+{
+    if *again != *parsed {
+        return Ok(false);
+    }
+    match rewritten(alloc, compiler, cwd, again)? {
+        Some(more) => Ok(more.as_slice() == words),
+        None => Ok(false),
+    }
 }
 
 // Whether words are read as these arguments, and written as the same words.
@@ -150,14 +179,26 @@ fn are_words_of<C: CCompilerImpl>(
 where
     C::Command: Drop,
 {
-    let CompilerArguments::Ok(again) = compiler.parse_arguments(alloc, words, cwd, &[])? else {
-        return Ok(false);
-    };
-    if again != *parsed {
-        return Ok(false);
+    match compiler.parse_arguments(alloc, words, cwd, &[])? {
+        CompilerArguments::Ok(again) => {
+            are_written_so(alloc, compiler, cwd, words, &again, parsed)
+        }
+        _ => Ok(false),
     }
-    match rewritten(alloc, compiler, cwd, &again)? {
-        Some(more) => Ok(more.as_slice() == words),
+}
+
+// Whether arguments are written as words that are read and written as the same.
+fn are_kept<C: CCompilerImpl>(
+    alloc: Global,
+    compiler: &C,
+    cwd: &str,
+    parsed: &ParsedArguments,
+) -> Result<bool, AllocError>
+where
+    C::Command: Drop,
+{
+    match rewritten(alloc, compiler, cwd, parsed)? {
+        Some(words) => are_words_of(alloc, compiler, cwd, words.as_slice(), parsed),
         None => Ok(false),
     }
 }
@@ -172,12 +213,9 @@ fn is_same_again<C: CCompilerImpl>(
 where
     C::Command: Drop,
 {
-    let CompilerArguments::Ok(parsed) = compiler.parse_arguments(alloc, words, cwd, &[])? else {
-        return Ok(false);
-    };
-    match rewritten(alloc, compiler, cwd, &parsed)? {
-        Some(words) => are_words_of(alloc, compiler, cwd, words.as_slice(), &parsed),
-        None => Ok(false),
+    match compiler.parse_arguments(alloc, words, cwd, &[])? {
+        CompilerArguments::Ok(parsed) => are_kept(alloc, compiler, cwd, &parsed),
+        _ => Ok(false),
     }
 }
 

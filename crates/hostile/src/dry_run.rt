@@ -7,7 +7,7 @@ use crate::word::{long_word, push_odd};
 use std::alloc::{AllocError, Global};
 
 /// What a dry run is made of.
-#[derive(Clone, Copy, Debug, PartialEq)]
+#[derive(Clone, Copy)]
 pub enum Kind {
     /// Commands as nvcc prints them, and others, with generated names.
     Commands,
@@ -77,7 +77,7 @@ fn push_line(
     text.push_str("#$ ")?;
     let command = source.pick(&COMMANDS);
     push_filled(source, names, command, text)?;
-    if kind == Kind::OddCommands && source.one_in(3) {
+    if matches!(kind, Kind::OddCommands) && source.one_in(3) {
         text.push_str(" ")?;
         push_odd(source, text, 2)?;
     }
@@ -237,7 +237,7 @@ pub fn dry_run(
     names: &Names,
     kind: Kind,
 ) -> Result<Vec<u8>, AllocError> {
-    if kind == Kind::Bytes {
+    if matches!(kind, Kind::Bytes) {
         return any_bytes(alloc, source);
     }
     let mut text = String::new(alloc);

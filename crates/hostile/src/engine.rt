@@ -53,11 +53,10 @@ fn check_refused(
     tally.expect(out.is_empty(), "a refused plan leaves nothing written")
 }
 
-/// Prints the plan of a pair, and checks what is printed.
-pub fn check_engine(alloc: Global, pair: &Pair, tally: &mut Tally) -> Result<(), AllocError> {
-    let mut out = Vec::new(alloc);
+// Prints the plan of a pair.
+fn print(alloc: Global, pair: &Pair, out: &mut Vec<u8>) -> Result<(), Stop> {
     let setting = &pair.setting;
-    let answer = run_plan(
+    run_plan(
         alloc,
         setting.cwd,
         setting.tmp,
@@ -65,13 +64,28 @@ pub fn check_engine(alloc: Global, pair: &Pair, tally: &mut Tally) -> Result<(),
         pair.first.as_slice(),
         pair.second.as_slice(),
         pair.further.as_slice(),
-        &mut out,
-    );
-    match (answer, expected_text(alloc, pair)) {
-        (Ok(()), Ok(text)) => check_written(text.as_str(), out.as_slice(), tally),
-        (Err(Stop::Fault(fault)), Err(expected)) => {
-            check_refused(&expected, &fault, out.as_slice(), tally)
-        }
+        out,
+    )
+}
+
+// Checks what the engine answered and wrote.
+fn check_answer(
+    answer: &Result<(), Stop>,
+    expected: &Result<String, Fault>,
+    out: &[u8],
+    tally: &mut Tally,
+) -> Result<(), AllocError> {
+    match (answer, expected) {
+        (Ok(()), Ok(text)) => check_written(text.as_str(), out, tally),
+        (Err(Stop::Fault(fault)), Err(expected)) => check_refused(expected, fault, out, tally),
         _ => tally.expect(false, "the engine prints exactly if planning gives a plan"),
     }
+}
+
+/// Prints the plan of a pair, and checks what is printed.
+pub fn check_engine(alloc: Global, pair: &Pair, tally: &mut Tally) -> Result<(), AllocError> {
+    let mut out = Vec::new(alloc);
+    let answer = print(alloc, pair, &mut out);
+    let expected = expected_text(alloc, pair);
+    check_answer(&answer, &expected, out.as_slice(), tally)
 }

@@ -109,6 +109,44 @@ fn check_threads(alloc: Global, words: &[String], tally: &mut Tally) -> Result<(
     tally.expect(none, "no word on threads is left")
 }
 
+// Whether words are those of a command, and ask for a dry run.
+fn are_first_words(
+    alloc: Global,
+    command: &NvccCompileCommand,
+    words: &Words,
+) -> Result<bool, AllocError> {
+    let mut expected = Words::copy_of(alloc, command.get_arguments())?;
+    expected.push_pair(alloc, "--dryrun", "--keep")?;
+    Ok(*words == expected)
+}
+
+// Whether words are those of a command, and ask for a dry run that keeps its files.
+fn are_second_words(
+    alloc: Global,
+    command: &NvccCompileCommand,
+    words: &Words,
+) -> Result<bool, AllocError> {
+    let mut expected = Words::copy_of(alloc, command.get_arguments())?;
+    expected.push_pair(alloc, "--keep-dir", command.temp_dir.as_str())?;
+    expected.push_pair(alloc, "--dryrun", "--keep")?;
+    Ok(*words == expected)
+}
+
+// Checks the words of the two dry runs of a command.
+fn check_words(
+    alloc: Global,
+    command: &NvccCompileCommand,
+    first: &Words,
+    second: &Words,
+    tally: &mut Tally,
+) -> Result<(), AllocError> {
+    tally.count("nvcc lines written")?;
+    let same = are_first_words(alloc, command, first)?;
+    tally.expect(same, "the first dry run has the command's words")?;
+    let same = are_second_words(alloc, command, second)?;
+    tally.expect(same, "the second dry run has the command's words")
+}
+
 // Checks the two dry runs of a command: they have its words, and ask for a dry run.
 fn check_dry_runs(
     alloc: Global,
@@ -116,19 +154,44 @@ fn check_dry_runs(
     tally: &mut Tally,
 ) -> Result<(), AllocError> {
     let (first, second) = command.dryrun_commands(alloc)?;
-    let mut words = Words::copy_of(alloc, command.get_arguments())?;
-    let mut kept = words.try_clone(alloc)?;
-    words.push_pair(alloc, "--dryrun", "--keep")?;
-    tally.expect(
-        first.arguments == words,
-        "the first dry run has the command's words",
-    )?;
-    kept.push_pair(alloc, "--keep-dir", command.temp_dir.as_str())?;
-    kept.push_pair(alloc, "--dryrun", "--keep")?;
-    tally.expect(
-        second.arguments == kept,
-        "the second dry run has the command's words",
-    )
+    check_words(alloc, command, &first.arguments, &second.arguments, tally)
+}
+
+// Checks the preprocessing of arguments that were read.
+fn check_preprocessed(
+    alloc: Global,
+    nvcc: &Nvcc,
+    parsed: &ParsedArguments,
+    env_vars: &[(String, String)],
+    tally: &mut Tally,
+) -> Result<(), AllocError> {
+    match nvcc.preprocess(alloc, "nvcc", parsed, "/w", env_vars) {
+        Ok(_) => tally.count("nvcc lines preprocessed"),
+        Err(fault) => tally.refused(&fault),
+    }
+}
+
+// Checks the command of arguments that were read.
+fn check_written(
+    alloc: Global,
+    nvcc: &Nvcc,
+    parsed: &ParsedArguments,
+    env_vars: &[(String, String)],
+    places: &Places,
+    tally: &mut Tally,
+) -> Result<(), AllocError> {
+    match nvcc.generate_compile_commands(alloc, "nvcc", parsed, "/w", env_vars, places) {
+        Ok((command, _)) => check_dry_runs(alloc, &command, tally),
+        Err(fault) => tally.refused(&fault),
+    }
+}
+
+// The places of a command.
+fn places(alloc: Global) -> Result<Places, AllocError> {
+    Ok(Places {
+        temp_dir: Text::copy_of(alloc, "/t")?,
+        canonical_input: Text::copy_of(alloc, "/w/foo.cu")?,
+    })
 }
 
 // Checks arguments that were read.
@@ -139,21 +202,9 @@ fn check_parsed(
     env_vars: &[(String, String)],
     tally: &mut Tally,
 ) -> Result<(), AllocError> {
-    let places = Places {
-        temp_dir: Text::copy_of(alloc, "/t")?,
-        canonical_input: Text::copy_of(alloc, "/w/foo.cu")?,
-    };
-    match nvcc.preprocess(alloc, "nvcc", parsed, "/w", env_vars) {
-        Ok(_) => tally.count("nvcc lines preprocessed")?,
-        Err(fault) => tally.refused(&fault)?,
-    }
-    match nvcc.generate_compile_commands(alloc, "nvcc", parsed, "/w", env_vars, &places) {
-        Ok((command, _)) => {
-            tally.count("nvcc lines written")?;
-            check_dry_runs(alloc, &command, tally)
-        }
-        Err(fault) => tally.refused(&fault),
-    }
+    check_preprocessed(alloc, nvcc, parsed, env_vars, tally)?;
+    let places = places(alloc)?;
+    check_written(alloc, nvcc, parsed, env_vars, &places, tally)
 }
 
 // A host compiler by chance.
@@ -163,6 +214,34 @@ fn host_compiler(source: &mut Source) -> NvccHostCompiler {
         1 => NvccHostCompiler::Nvhpc,
         _ => NvccHostCompiler::Gcc,
     }
+}
+
+// Checks what a line is read as.
+fn check_read(
+    alloc: Global,
+    nvcc: &Nvcc,
+    words: &[String],
+    env_vars: &[(String, String)],
+    tally: &mut Tally,
+) -> Result<(), AllocError> {
+    match nvcc.parse_arguments(alloc, words, "/w", env_vars)? {
+        CompilerArguments::Ok(parsed) => check_parsed(alloc, nvcc, &parsed, env_vars, tally),
+        CompilerArguments::CannotCache(_, _) => tally.count("nvcc lines that can't be cached"),
+        CompilerArguments::NotCompilation => tally.count("nvcc lines that are no compilation"),
+    }
+}
+
+// Checks what is left of a line, and what it is read as.
+fn check_words_of(
+    alloc: Global,
+    nvcc: &Nvcc,
+    words: &[String],
+    env_vars: &[(String, String)],
+    tally: &mut Tally,
+) -> Result<(), AllocError> {
+    check_kept(alloc, words, tally)?;
+    check_threads(alloc, words, tally)?;
+    check_read(alloc, nvcc, words, env_vars, tally)
 }
 
 /// Reads a line by chance and writes it, and checks the answers.
@@ -175,13 +254,5 @@ pub fn check_line(alloc: Global, source: &mut Source, tally: &mut Tally) -> Resu
     };
     let words = line(alloc, source)?;
     let env_vars = environment(alloc, source)?;
-    check_kept(alloc, words.as_slice(), tally)?;
-    check_threads(alloc, words.as_slice(), tally)?;
-    match nvcc.parse_arguments(alloc, words.as_slice(), "/w", env_vars.as_slice())? {
-        CompilerArguments::Ok(parsed) => {
-            check_parsed(alloc, &nvcc, &parsed, env_vars.as_slice(), tally)
-        }
-        CompilerArguments::CannotCache(_, _) => tally.count("nvcc lines that can't be cached"),
-        CompilerArguments::NotCompilation => tally.count("nvcc lines that are no compilation"),
-    }
+    check_words_of(alloc, &nvcc, words.as_slice(), env_vars.as_slice(), tally)
 }

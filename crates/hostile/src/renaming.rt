@@ -8,6 +8,8 @@ use cuda_plans::plan::Plan;
 use cuda_plans::shell;
 use plan_texts::show_plan;
 use std::alloc::{AllocError, Global};
+use texts::variables::Variables;
+use texts::words::Words;
 
 // A generated name's part before its suffix, and its suffix.
 fn parted<'a>(suffixes: &'a Suffixes, name: &'a str) -> Option<(&'a str, &'a str)> {
@@ -45,6 +47,18 @@ fn other_word(alloc: Global, suffixes: &Suffixes, word: &str) -> Result<String, 
     }
 }
 
+// A word, with another generated name or as it is.
+fn other_or_same(
+    alloc: Global,
+    suffixes: Option<&Suffixes>,
+    word: &str,
+) -> Result<String, AllocError> {
+    match suffixes {
+        Some(suffixes) => other_word(alloc, suffixes, word),
+        None => String::from_str(alloc, word),
+    }
+}
+
 // Words, with other generated names or as they are.
 fn other_words(
     alloc: Global,
@@ -53,12 +67,20 @@ fn other_words(
 ) -> Result<Vec<String>, AllocError> {
     let mut others = Vec::new(alloc);
     for word in words {
-        others.push(match suffixes {
-            Some(suffixes) => other_word(alloc, suffixes, word.as_str())?,
-            None => String::from_str(alloc, word.as_str())?,
-        })?;
+        others.push(other_or_same(alloc, suffixes, word.as_str())?)?;
     }
     Ok(others)
+}
+
+// A command, with other generated names or as it is.
+fn other_command(
+    alloc: Global,
+    suffixes: Option<&Suffixes>,
+    command: &(usize, String, Vec<String>),
+) -> Result<(usize, String, Vec<String>), AllocError> {
+    let program = String::from_str(alloc, command.1.as_str())?;
+    let words = other_words(alloc, suffixes, command.2.as_slice())?;
+    Ok((command.0, program, words))
 }
 
 // The commands, with other generated names or as they are.
@@ -68,16 +90,17 @@ fn other_commands(
     commands: &Commands,
 ) -> Result<Commands, AllocError> {
     let mut others = Vec::new(alloc);
-    for (line, program, words) in commands.as_slice() {
-        let words = other_words(alloc, suffixes, words.as_slice())?;
-        others.push((*line, String::from_str(alloc, program.as_str())?, words))?;
+    for command in commands.as_slice() {
+        others.push(other_command(alloc, suffixes, command)?)?;
     }
     Ok(Commands::from_vec(others))
 }
 
 // The marked line of a command, its words quoted.
 fn quoted(alloc: Global, program: &str, words: &[String]) -> Result<String, AllocError> {
-    let program = shell::quote(alloc, &[String::from_str(alloc, program)?])?;
+    let mut first = Words::new(alloc);
+    first.push_str(alloc, program)?;
+    let program = shell::quote(alloc, first.as_slice())?;
     let words = shell::quote(alloc, words)?;
     format!(in alloc; "#$ {program} {words}")
 }
@@ -115,6 +138,22 @@ fn written(alloc: Global, bytes: &[u8], commands: &Commands) -> Result<Vec<u8>, 
     Ok(text)
 }
 
+// Whether a dry run is read as these commands and variables, and is clean.
+fn is_read_as(
+    alloc: Global,
+    setting: &Setting,
+    bytes: &[u8],
+    commands: &Commands,
+    env: &Variables,
+) -> bool {
+    match setting.read(alloc, bytes, 1) {
+        Ok(read) => {
+            read.commands == *commands && read.env == *env && is_clean(&read, &setting.suffixes)
+        }
+        Err(_) => false,
+    }
+}
+
 // A dry run, read, and written with the same commands or with other names; `None` if what is written isn't read as
 // what it was made of, or isn't clean. So it goes with words that hold newlines, or what a variable is referred by.
 fn rewritten(
@@ -126,29 +165,50 @@ fn rewritten(
 ) -> Result<Option<Vec<u8>>, AllocError> {
     let commands = other_commands(alloc, suffixes, &run.commands)?;
     let text = written(alloc, bytes, &commands)?;
-    let Ok(read) = setting.read(alloc, text.as_slice(), 1) else {
-        return Ok(None);
-    };
-    if read.commands != commands || read.env != run.env || !is_clean(&read, &setting.suffixes) {
-        return Ok(None);
+    let holds = is_read_as(alloc, setting, text.as_slice(), &commands, &run.env);
+    Ok(if holds { Some(text) } else { None })
+}
+
+// Checks that two plans are the same, and are printed so.
+fn check_equal(
+    alloc: Global,
+    other: &Plan,
+    plan: &Plan,
+    tally: &mut Tally,
+) -> Result<(), AllocError> {
+    tally.expect(*other == *plan, "other generated names give the same plan")?;
+    let same = show_plan(alloc, other)?.as_str() == show_plan(alloc, plan)?.as_str();
+    tally.expect(same, "other generated names give the same printed plan")
+}
+
+// Checks that dry runs that are written anew have a plan.
+fn check_anew(
+    alloc: Global,
+    setting: &Setting,
+    first: &[u8],
+    second: &[u8],
+    plan: &Plan,
+    tally: &mut Tally,
+) -> Result<(), AllocError> {
+    match setting.plan(alloc, first, second) {
+        Ok(other) => check_equal(alloc, &other, plan, tally),
+        Err(_) => tally.expect(false, "runs that are written anew have a plan"),
     }
-    Ok(Some(text))
 }
 
 // Checks that two dry runs, written in another way, give the same plan.
 fn check_same(
     alloc: Global,
     pair: &Pair,
-    runs: &[DryRun; 2],
+    runs: (&DryRun, &DryRun),
     plan: &Plan,
     suffixes: Option<&Suffixes>,
     tally: &mut Tally,
 ) -> Result<(), AllocError> {
     let setting = &pair.setting;
-    let [first, second] = runs;
-    let first = rewritten(alloc, setting, pair.first.as_slice(), first, suffixes)?;
-    let second = rewritten(alloc, setting, pair.second.as_slice(), second, suffixes)?;
-    let (Some(first), Some(second)) = (first, second) else {
+    let first = rewritten(alloc, setting, pair.first.as_slice(), runs.0, suffixes)?;
+    let second = rewritten(alloc, setting, pair.second.as_slice(), runs.1, suffixes)?;
+    let (Some(first), Some(second)) = (&first, &second) else {
         return tally.count("pairs that can't be written so");
     };
     tally.count(if suffixes.is_some() {
@@ -156,12 +216,32 @@ fn check_same(
     } else {
         "pairs written anew"
     })?;
-    let Ok(other) = setting.plan(alloc, first.as_slice(), second.as_slice()) else {
-        return tally.expect(false, "runs that are written anew have a plan");
-    };
-    tally.expect(other == *plan, "other generated names give the same plan")?;
-    let same = show_plan(alloc, &other)?.as_str() == show_plan(alloc, plan)?.as_str();
-    tally.expect(same, "other generated names give the same printed plan")
+    check_anew(
+        alloc,
+        setting,
+        first.as_slice(),
+        second.as_slice(),
+        plan,
+        tally,
+    )
+}
+
+// The commands of a run, with canonical names.
+fn renamed(alloc: Global, suffixes: &Suffixes, run: &DryRun) -> Result<Commands, AllocError> {
+    let commands = other_commands(alloc, None, &run.commands)?;
+    remap_commands(alloc, commands, suffixes)
+}
+
+// Checks that a run with canonical names stays as it is.
+fn check_twice(
+    alloc: Global,
+    suffixes: &Suffixes,
+    once: &DryRun,
+    tally: &mut Tally,
+) -> Result<(), AllocError> {
+    tally.count("clean runs renamed twice")?;
+    let same = renamed(alloc, suffixes, once)? == once.commands;
+    tally.expect(same, "canonical names of canonical names are the same")
 }
 
 // Checks that canonical names are canonical, where no other word holds one.
@@ -171,32 +251,26 @@ fn check_canonical(
     run: &DryRun,
     tally: &mut Tally,
 ) -> Result<(), AllocError> {
-    let commands = other_commands(alloc, None, &run.commands)?;
     let once = DryRun {
-        commands: remap_commands(alloc, commands, suffixes)?,
+        commands: renamed(alloc, suffixes, run)?,
         env: run.env.try_clone(alloc)?,
     };
-    if !is_clean(&once, suffixes) {
-        return Ok(());
+    if is_clean(&once, suffixes) {
+        check_twice(alloc, suffixes, &once, tally)
+    } else {
+        Ok(())
     }
-    tally.count("clean runs renamed twice")?;
-    let commands = other_commands(alloc, None, &once.commands)?;
-    let twice = remap_commands(alloc, commands, suffixes)?;
-    tally.expect(
-        twice == once.commands,
-        "canonical names of canonical names are the same",
-    )
 }
 
 // Checks clean runs.
 fn check_clean(
     alloc: Global,
     pair: &Pair,
-    runs: &[DryRun; 2],
+    runs: (&DryRun, &DryRun),
     plan: &Plan,
     tally: &mut Tally,
 ) -> Result<(), AllocError> {
-    let [first, second] = runs;
+    let (first, second) = runs;
     let suffixes = &pair.setting.suffixes;
     tally.count("pairs of clean runs")?;
     if is_shadow(alloc, first, second, pair.setting.tmp, suffixes)? {
@@ -211,6 +285,22 @@ fn check_clean(
     check_same(alloc, pair, runs, plan, Some(suffixes), tally)
 }
 
+// Checks runs, where both are clean.
+fn check_runs(
+    alloc: Global,
+    pair: &Pair,
+    runs: (&DryRun, &DryRun),
+    plan: &Plan,
+    tally: &mut Tally,
+) -> Result<(), AllocError> {
+    let suffixes = &pair.setting.suffixes;
+    if is_clean(runs.0, suffixes) && is_clean(runs.1, suffixes) {
+        check_clean(alloc, pair, runs, plan, tally)
+    } else {
+        tally.count("pairs with an unclean run")
+    }
+}
+
 /// Checks the plan of a pair against those of the same runs, written anew and with other generated names, where both
 /// are clean.
 pub fn check_renaming(
@@ -222,13 +312,8 @@ pub fn check_renaming(
     let setting = &pair.setting;
     let first = setting.read(alloc, pair.first.as_slice(), 1);
     let second = setting.read(alloc, pair.second.as_slice(), 2);
-    let (Ok(first), Ok(second)) = (first, second) else {
-        return tally.expect(false, "a run that was read is read again");
-    };
-    let clean = is_clean(&first, &setting.suffixes) && is_clean(&second, &setting.suffixes);
-    if clean {
-        check_clean(alloc, pair, &[first, second], plan, tally)
-    } else {
-        tally.count("pairs with an unclean run")
+    match (&first, &second) {
+        (Ok(first), Ok(second)) => check_runs(alloc, pair, (first, second), plan, tally),
+        _ => tally.expect(false, "a run that was read is read again"),
     }
 }

@@ -49,6 +49,26 @@ fn copied(
     Ok(copy)
 }
 
+// The sum over the commands of a run whose programs' stems are asked for.
+fn selected_sum(run: usize, commands: &Commands) -> Sum {
+    let mut sum = Sum::new();
+    add_selected(run, commands.as_slice(), &mut sum);
+    sum
+}
+
+// Checks selected commands by the sum over those that are asked for.
+fn check_sum(
+    run: usize,
+    commands: &Commands,
+    expected: &Sum,
+    tally: &mut Tally,
+) -> Result<(), AllocError> {
+    let sum = selected_sum(run, commands);
+    let all = sum.commands == u64::try_from(commands.as_slice().len()).unwrap_or(0);
+    tally.expect(all, "a selection holds nothing else")?;
+    tally.expect(sum == *expected, "a selection is what is asked for")
+}
+
 // Checks the selected commands of a run: they are those whose programs' stems are asked for.
 fn check_selected(
     alloc: Global,
@@ -59,17 +79,32 @@ fn check_selected(
     tally: &mut Tally,
 ) -> Result<(), AllocError> {
     tally.count("selections")?;
-    let Ok(read) = setting.read(alloc, bytes, run) else {
-        return tally.expect(false, "a selection comes exactly if its run can be read");
-    };
-    let mut expected = Sum::new();
-    let named = named(alloc, setting, read)?;
-    add_selected(run, named.as_slice(), &mut expected);
-    let mut sum = Sum::new();
-    add_selected(run, commands.as_slice(), &mut sum);
-    let all = sum.commands == u64::try_from(commands.as_slice().len()).unwrap_or(0);
-    tally.expect(all, "a selection holds nothing else")?;
-    tally.expect(sum == expected, "a selection is what is asked for")
+    match setting.read(alloc, bytes, run) {
+        Ok(read) => {
+            let expected = selected_sum(run, &named(alloc, setting, read)?);
+            check_sum(run, commands, &expected, tally)
+        }
+        Err(_) => tally.expect(false, "a selection comes exactly if its run can be read"),
+    }
+}
+
+// Checks a refused selection: its run can't be read, and the environment stays as it was.
+fn check_refused(
+    alloc: Global,
+    setting: &Setting,
+    bytes: &[u8],
+    run: usize,
+    env_vars: &[(String, String)],
+    tally: &mut Tally,
+) -> Result<(), AllocError> {
+    tally.count("selections refused")?;
+    let same = env_vars == setting.env_vars.as_slice();
+    tally.expect(same, "a refused selection leaves the environment as it was")?;
+    let read = setting.read(alloc, bytes, run).is_ok();
+    tally.expect(
+        !read,
+        "a selection is refused exactly if its run can't be read",
+    )
 }
 
 // Checks the selection of a run.
@@ -83,16 +118,7 @@ fn check_run(
     let mut env_vars = copied(alloc, setting.env_vars.as_slice())?;
     match selected(alloc, setting, bytes, run, &mut env_vars) {
         Ok(commands) => check_selected(alloc, setting, bytes, run, &commands, tally),
-        Err(_) => {
-            tally.count("selections refused")?;
-            let same = env_vars.as_slice() == setting.env_vars.as_slice();
-            tally.expect(same, "a refused selection leaves the environment as it was")?;
-            let read = setting.read(alloc, bytes, run).is_ok();
-            tally.expect(
-                !read,
-                "a selection is refused exactly if its run can't be read",
-            )
-        }
+        Err(_) => check_refused(alloc, setting, bytes, run, env_vars.as_slice(), tally),
     }
 }
 

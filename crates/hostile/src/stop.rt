@@ -5,7 +5,7 @@ use std::fmt;
 use texts::fault::Fault;
 
 /// Why nothing was run to its end.
-#[derive(Debug, Drop)]
+#[derive(Drop)]
 pub enum Stop {
     /// The call has another form.
     Usage,

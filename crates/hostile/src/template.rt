@@ -5,7 +5,7 @@ use crate::source::Source;
 use std::alloc::AllocError;
 
 /// What the generated files of a run are called: three names, and what stands before each.
-#[derive(Clone, Copy, Debug)]
+#[derive(Clone, Copy)]
 pub struct Names {
     pub names: [&'static str; 3],
     pub before: &'static str,

@@ -21,7 +21,8 @@ env_words c = codes "env" ∷ map assignment c.env_vars
 -- quoted word is never an assignment for the shell, and names that no shell variable can have are variables too.
 abbrev pub command_text : List ℕ → NvccGeneratedSubcommand → List ℕ
 command_text launcher c =
-    codes "( cd " ++ (written (c.cwd ∷ []) ++ (codes " && " ++ (written (env_words c) ++ (codes " " ++ (launcher ++ (written (c.exe ∷ c.args) ++ codes " )"))))))
+    codes "( cd " ++ (written (c.cwd ∷ []) ++ (codes " && " ++ (written (env_words c)
+      ++ (codes " " ++ (launcher ++ (written (c.exe ∷ c.args) ++ codes " )"))))))
 
 -- a command's words, as a shell reads them: those of its text without a launcher
 abbrev pub command_words : NvccGeneratedSubcommand → List (List ℕ)

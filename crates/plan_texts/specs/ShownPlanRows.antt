@@ -18,10 +18,13 @@ OneKernelShown =
     lines_of
     (codes "group 0" ∷
     codes "no cd /w && /b/gcc -D__CUDACC__ -E -x c++ kernel.cu -o x_0.cpp4.ii" ∷
-    codes "yes cd /t && /b/cudafe++ --gen_c_file_name x_0.cudafe1.cpp --stub_file_name x_0.cudafe1.stub.c --gen_module_id_file --module_id_file_name kernel.module_id --simt-only x_0.cpp4.ii" ∷
+    (codes "yes cd /t && /b/cudafe++ --gen_c_file_name x_0.cudafe1.cpp --stub_file_name x_0.cudafe1.stub.c "
+    ++ codes "--gen_module_id_file --module_id_file_name kernel.module_id --simt-only x_0.cpp4.ii") ∷
     codes "group 1" ∷
     codes "no cd /w && /b/gcc -D__CUDA_ARCH__=800 -D__CUDACC__ -E -x c++ kernel.cu -o x_0.cpp1.ii" ∷
-    codes "yes cd /t && /b/cicc --device-c -arch compute_80 --module_id_file_name kernel.module_id --gen_c_file_name x_0.cudafe1.c --stub_file_name x_0.cudafe1.stub.c --gen_device_file_name kernel.cudafe1.gpu x_0.cpp1.ii --simt-only -o kernel.ptx" ∷
+    (codes "yes cd /t && /b/cicc --device-c -arch compute_80 --module_id_file_name kernel.module_id "
+    ++ (codes "--gen_c_file_name x_0.cudafe1.c --stub_file_name x_0.cudafe1.stub.c "
+    ++ codes "--gen_device_file_name kernel.cudafe1.gpu x_0.cpp1.ii --simt-only -o kernel.ptx")) ∷
     codes "yes cd /t && /b/ptxas -arch=sm_80 --compile-only kernel.ptx -o kernel.cubin" ∷
     codes "group 2" ∷
     codes "no cd /t && /b/fatbinary --create=kernel.fatbin --image3=kind=elf,sm=80,file=kernel.cubin --embedded-fatbin=kernel.fatbin.c --device-c" ∷
@@ -41,7 +44,9 @@ empty_runs_shown = refl
 -- a superseded pair, and one PTX file that feeds two ptxas steps
 abbrev pub DroppedShown : Type 0
 DroppedShown =
-    show_plan (plan_of_both (step_and_cicc_twice ++ (at 5 (codes "/b/ptxas") (codes "k.ptx -o a.cubin") ∷ at 6 (codes "/b/ptxas") (codes "k.ptx -o b.cubin") ∷ []))) ≡
+    show_plan (plan_of_both
+      (step_and_cicc_twice
+      ++ (at 5 (codes "/b/ptxas") (codes "k.ptx -o a.cubin") ∷ at 6 (codes "/b/ptxas") (codes "k.ptx -o b.cubin") ∷ []))) ≡
     lines_of
     (codes "group 0" ∷
     codes "group 1" ∷
@@ -60,7 +65,9 @@ dropped_shown = refl
 -- a ptxas whose file no cicc makes
 abbrev pub PtxasWithoutAGroupShown : Type 0
 PtxasWithoutAGroupShown =
-    show_plan (plan_of_both (at 1 (codes "/b/gcc") (codes "-D__NVCC__ -E k.cu -o x_0.cpp1.ii k.ptx") ∷ at 2 (codes "/b/ptxas") (codes "k.ptx -o a.cubin") ∷ [])) ≡
+    show_plan (plan_of_both
+      (at 1 (codes "/b/gcc") (codes "-D__NVCC__ -E k.cu -o x_0.cpp1.ii k.ptx")
+      ∷ at 2 (codes "/b/ptxas") (codes "k.ptx -o a.cubin") ∷ [])) ≡
     lines_of
     (codes "group 0" ∷
     codes "group 1" ∷
@@ -89,7 +96,9 @@ output_with_a_slash_shown = refl
 
 -- a program whose name is empty
 abbrev pub NotForCudaShown : Type 0
-NotForCudaShown = show_plan (plan_of_both (at 1 (codes "/b/") (codes "x") ∷ [])) ≡ lines_of (codes "group 0" ∷ codes "group 1" ∷ codes "dropped 1 run 2 NotCuda /b/ x" ∷ [])
+NotForCudaShown =
+    show_plan (plan_of_both (at 1 (codes "/b/") (codes "x") ∷ [])) ≡
+    lines_of (codes "group 0" ∷ codes "group 1" ∷ codes "dropped 1 run 2 NotCuda /b/ x" ∷ [])
 
 pub not_for_cuda_shown : NotForCudaShown
 not_for_cuda_shown = refl

@@ -15,7 +15,8 @@ runs_of (Ok command) = Ok (Some (dry_runs command.0))
 runs_of (Err fault) = Err fault
 
 -- the dry runs of what a line was read as
-abbrev pub commands_of : NvccHostCompiler → List ℕ → List ℕ → List (List ℕ × List ℕ) → Places → Reading → Result (Option (SingleCompileCommand × SingleCompileCommand)) Fault
+abbrev pub commands_of : NvccHostCompiler → List ℕ → List ℕ → List (List ℕ × List ℕ) → Places → Reading
+    → Result (Option (SingleCompileCommand × SingleCompileCommand)) Fault
 commands_of host executable cwd env places (accepted p) = runs_of (nvcc_written executable p cwd env host places)
 commands_of host executable cwd env places (cannot_cache text word) = Ok None
 commands_of host executable cwd env places not_compilation = Ok None

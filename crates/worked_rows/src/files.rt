@@ -1,5 +1,6 @@
 //! Files of rows, and whether their rows answer as they are meant to.
 
+use crate::answer::Answer;
 use crate::calls::answer_of;
 use crate::report::Report;
 use crate::row::{Row, Rows};
@@ -9,6 +10,28 @@ use std::fs::{self, Files};
 
 // The file whose rows are wrong on purpose.
 const WRONG_ROWS: &str = "wrong_rows.txt";
+
+// Reports on a row that got an answer.
+fn judge(
+    alloc: Global,
+    file: &str,
+    row: &Row,
+    got: &Answer,
+    report: &mut Report,
+) -> Result<(), AllocError> {
+    report.count(alloc, row.call.as_str())?;
+    let (is_right, is_meant_wrong) = (*got == row.answer, file == WRONG_ROWS);
+    if !is_right {
+        report.wrong(alloc, file, row, got)?;
+    }
+    if is_right && is_meant_wrong {
+        report.note(alloc, file, row.number, "right, but meant to be wrong")?;
+    }
+    if is_right == is_meant_wrong {
+        report.status = report.status.max(1);
+    }
+    Ok(())
+}
 
 // Runs a row.
 fn run_row<R: Files + AllocGlobal>(
@@ -22,17 +45,7 @@ fn run_row<R: Files + AllocGlobal>(
         return Err(Stop::Form("no answer"));
     }
     let got = answer_of(rt, alloc, row)?;
-    report.count(alloc, row.call.as_str())?;
-    let (is_right, is_meant_wrong) = (got == row.answer, file == WRONG_ROWS);
-    if !is_right {
-        report.wrong(alloc, file, row, &got)?;
-    }
-    if is_right && is_meant_wrong {
-        report.note(alloc, file, row.number, "right, but meant to be wrong")?;
-    }
-    if is_right == is_meant_wrong {
-        report.status = report.status.max(1);
-    }
+    judge(alloc, file, row, &got, report)?;
     Ok(())
 }
 

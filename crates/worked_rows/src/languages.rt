@@ -46,35 +46,43 @@ fn value_of(alloc: Global, settings: &[String], name: &str) -> Result<Option<Tex
     Ok(None)
 }
 
-// What the compiler of a name says of itself.
-fn compiler(alloc: Global, name: &str, settings: &[String]) -> Result<Answer, Stop> {
-    let version = value_of(alloc, settings, "version=")?;
+// What a device tool's compiler of this version says of itself.
+fn about_device(alloc: Global, name: &str, version: Option<Text>) -> Result<Answer, Stop> {
     match name {
         "cicc" => about(alloc, &Cicc { version }),
         "cudafe++" => about(alloc, &CudaFE { version }),
-        "ptxas" => about(alloc, &Ptxas { version }),
-        "nvc" => about(
-            alloc,
-            &Nvhpc {
-                nvcplusplus: false,
-                version,
-            },
-        ),
-        "nvc++" => about(
-            alloc,
-            &Nvhpc {
-                nvcplusplus: true,
-                version,
-            },
-        ),
-        "nvcc" => about(
-            alloc,
-            &Nvcc {
-                host_compiler: NvccHostCompiler::Gcc,
-                host_compiler_version: value_of(alloc, settings, "host=")?,
-                version,
-            },
-        ),
+        _ => about(alloc, &Ptxas { version }),
+    }
+}
+
+// What nvhpc's compiler of this version says of itself.
+fn about_nvhpc(alloc: Global, nvcplusplus: bool, version: Option<Text>) -> Result<Answer, Stop> {
+    let nvhpc = Nvhpc {
+        nvcplusplus,
+        version,
+    };
+    about(alloc, &nvhpc)
+}
+
+// What nvcc says of itself.
+fn about_nvcc(alloc: Global, settings: &[String]) -> Result<Answer, Stop> {
+    let nvcc = Nvcc {
+        host_compiler: NvccHostCompiler::Gcc,
+        host_compiler_version: value_of(alloc, settings, "host=")?,
+        version: value_of(alloc, settings, "version=")?,
+    };
+    about(alloc, &nvcc)
+}
+
+// What the compiler of a name says of itself.
+fn compiler(alloc: Global, name: &str, settings: &[String]) -> Result<Answer, Stop> {
+    match name {
+        "cicc" | "cudafe++" | "ptxas" => {
+            about_device(alloc, name, value_of(alloc, settings, "version=")?)
+        }
+        "nvc" => about_nvhpc(alloc, false, value_of(alloc, settings, "version=")?),
+        "nvc++" => about_nvhpc(alloc, true, value_of(alloc, settings, "version=")?),
+        "nvcc" => about_nvcc(alloc, settings),
         _ => Err(Stop::Form("an unknown tool")),
     }
 }

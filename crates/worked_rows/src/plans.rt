@@ -175,10 +175,11 @@ fn planned<R: Files>(
 ) -> Result<Answer, Stop> {
     if call == "plan_text" {
         let text = settings.plan_text(alloc, first, second);
-        return of_text(rt, alloc, &text, settings.text_file.as_str());
+        of_text(rt, alloc, &text, settings.text_file.as_str())
+    } else {
+        let suffixes = settings.handed.suffixes(alloc)?;
+        of_plan(alloc, call, &settings.plan(alloc, first, second, &suffixes))
     }
-    let suffixes = settings.handed.suffixes(alloc)?;
-    of_plan(alloc, call, &settings.plan(alloc, first, second, &suffixes))
 }
 
 /// What a call that plans two dry runs answers. One dry run is both.

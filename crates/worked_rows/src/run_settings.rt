@@ -86,10 +86,16 @@ impl<'a> RunSettings<'a> {
             num_parallel: 1,
             runner: ToldRunner::new(alloc),
         };
-        for setting in more {
-            settings.take(alloc, setting.as_str())?;
-        }
+        settings.take_all(alloc, more)?;
         Ok(settings)
+    }
+
+    // Takes settings.
+    fn take_all(&mut self, alloc: Global, settings: &[String]) -> Result<(), Stop> {
+        for setting in settings {
+            self.take(alloc, setting.as_str())?;
+        }
+        Ok(())
     }
 
     // Tells the runner the answer at a place, as `1,0:3`.

@@ -12,7 +12,7 @@ use std::alloc::Global;
 use texts::words::Words;
 
 // What is done over a table.
-#[derive(Drop)]
+#[derive(Clone, Copy)]
 enum Work<'a> {
     Search(&'a str),
     Items(&'a [String]),
@@ -180,12 +180,12 @@ fn normalize<T: Copy, S: SearchableArgInfo<T> + Drop>(
 fn over<T: Copy + Named, S: SearchableArgInfo<T> + Drop>(
     alloc: Global,
     table: S,
-    work: &Work<'_>,
+    work: Work<'_>,
 ) -> Result<Answer, Stop> {
     match work {
         Work::Search(word) => chosen(alloc, table.search(word)),
         Work::Items(line) => items(alloc, table, line),
-        Work::Normalize(form, line) => normalize(alloc, table, *form, line),
+        Work::Normalize(form, line) => normalize(alloc, table, form, line),
     }
 }
 
@@ -198,7 +198,7 @@ fn with_gcc(second: Table<'static, gcc::ArgData>) -> Pair<'static, gcc::ArgData>
 }
 
 // Does work over the table of a name.
-fn over_named(alloc: Global, name: &str, work: &Work<'_>) -> Result<Answer, Stop> {
+fn over_named(alloc: Global, name: &str, work: Work<'_>) -> Result<Answer, Stop> {
     match name {
         "cicc" => over(alloc, cicc::table(), work),
         "cudafe++" => over(alloc, cudafe::table(), work),
@@ -232,27 +232,30 @@ fn length(name: &str) -> Result<usize, Stop> {
     }
 }
 
+// The number of entries of the table of a name, as an answer.
+fn entries(alloc: Global, name: &str) -> Result<Answer, Stop> {
+    let count = format!(in alloc; "{}", length(name)?)?;
+    Answer::of(alloc, &[count.as_str()])
+}
+
 /// What a call on a table answers.
 pub fn answer(alloc: Global, row: &Row) -> Result<Answer, Stop> {
     let words = row.words.as_slice();
     match (row.call.as_str(), row.settings.as_slice()) {
         ("search", [name, word]) => match name.as_str() {
             "cicc,cudafe++" => search_both(alloc, word.as_str()),
-            name => over_named(alloc, name, &Work::Search(word.as_str())),
+            name => over_named(alloc, name, Work::Search(word.as_str())),
         },
-        ("items", [name]) => over_named(alloc, name.as_str(), &Work::Items(words)),
+        ("items", [name]) => over_named(alloc, name.as_str(), Work::Items(words)),
         ("normalize_separated", [name]) => {
             let form = NormalizedDisposition::Separated;
-            over_named(alloc, name.as_str(), &Work::Normalize(form, words))
+            over_named(alloc, name.as_str(), Work::Normalize(form, words))
         }
         ("normalize_concatenated", [name]) => {
             let form = NormalizedDisposition::Concatenated;
-            over_named(alloc, name.as_str(), &Work::Normalize(form, words))
+            over_named(alloc, name.as_str(), Work::Normalize(form, words))
         }
-        ("entries", [name]) => {
-            let count = format!(in alloc; "{}", length(name.as_str())?)?;
-            Answer::of(alloc, &[count.as_str()])
-        }
+        ("entries", [name]) => entries(alloc, name.as_str()),
         _ => Err(Stop::Form("another call on a table")),
     }
 }

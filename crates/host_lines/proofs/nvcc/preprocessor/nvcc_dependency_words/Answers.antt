@@ -1,4 +1,4 @@
-use Rattle.std.proofs.Common.{◌≡◌, suc, ◌+◌, ◌++◌, ◌∷◌, [], List, ℕ, Bor, Bool, true, false, not, cond, ◌∙◌, ap, sym, subst, drop, drop-cons, add-one, map, string_bytes}
+use Rattle.std.proofs.Common.{◌≡◌, suc, ◌+◌, ◌++◌, ◌∷◌, [], List, ℕ, Bor, Bool, true, false, cond, ◌∙◌, ap, sym, subst, drop, drop-cons, add-one, map, string_bytes}
 use Rattle.std.specs.List.{list_any}
 use Rattle.std.specs.Str.{bytes_eq}
 use Rattle.std.proofs.lemmas.List.{map-append}

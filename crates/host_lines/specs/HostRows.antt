@@ -1,0 +1,163 @@
+-- Worked lines of nvcc and nvhpc, each computed.
+use Rattle.std.specs.Prelude.{◌≡◌, ℕ, List, [], ◌∷◌, ◌++◌, false, Some, None, Result, Ok, Err, map, codes, refl}
+use Rattle.texts.specs.declared.fault.Fault.{Fault}
+use Rattle.texts.specs.declared.fault.Fault.TheVariants.{KeepDirValue, ThreadsValue, NoPreprocess}
+use Rattle.texts.specs.declared.language.Language.{Language}
+use Rattle.texts.specs.declared.language.Language.TheVariants.{C, Cxx, Cuda, Ptx}
+use Rattle.texts.specs.Rows.{spaced}
+use Rattle.cuda_below.specs.declared.arguments.ParsedArguments.{ParsedArguments}
+use Rattle.cuda_below.specs.declared.command.SingleCompileCommand.{SingleCompileCommand}
+use Rattle.cuda_below.specs.declared.compiler.NvccHostCompiler.TheVariants as host
+use Rattle.cuda_below.specs.Compiler.{Reading, accepted, not_compilation}
+use Rattle.cuda_below.specs.GccRows.{compiled}
+use Rattle.host_lines.specs.KeepThreads.{keep_of, threads_of}
+use Rattle.host_lines.specs.Nvhpc.{nvhpc_reading}
+use Rattle.host_lines.specs.Preprocess.{nvcc_dependency_words, nvcc_preprocess, nvhpc_preprocess}
+
+-- what the keep words of lines say, at the working directory `/w`
+pub record KeepWordsTaken : Type 0 where
+  pub directory_is_joined : keep_of (codes "/w") (spaced "-keep -keep-dir out") ≡ Ok ([], Some (codes "/w/out"))
+  pub directory_alone_keeps_nothing : keep_of (codes "/w") (spaced "-keep-dir out") ≡ Ok ([], None)
+  pub keep_option_as_a_value : keep_of (codes "/w") (spaced "-keep-dir -keep") ≡ Ok ([], None)
+  pub keep_without_a_directory : keep_of (codes "/w") (spaced "-keep") ≡ Ok ([], Some (codes "/w"))
+  pub directory_is_missing : keep_of (codes "/w") (spaced "-keep-dir") ≡ Err KeepDirValue
+  pub directory_is_empty :
+    keep_of (codes "/w") (codes "-keep" ∷ codes "-keep-dir" ∷ [] ∷ []) ≡ Ok ([], Some (codes "/w/"))
+  pub directory_option_as_a_value :
+    keep_of (codes "/w") (spaced "-keep -keep-dir -keep-dir") ≡ Ok ([], Some (codes "/w/-keep-dir"))
+  pub last_directory_counts :
+    keep_of (codes "/w") (spaced "--keep-dir a -g --save-temps -keep-dir /b -c") ≡
+    Ok (spaced "-g -c", Some (codes "/b"))
+  pub threads_option_stays :
+    keep_of (codes "/w") (spaced "--threads -keep") ≡ Ok (spaced "--threads", Some (codes "/w"))
+
+pub keep_words_taken : KeepWordsTaken
+keep_words_taken = record {
+  directory_is_joined = refl;
+  directory_alone_keeps_nothing = refl;
+  keep_option_as_a_value = refl;
+  keep_without_a_directory = refl;
+  directory_is_missing = refl;
+  directory_is_empty = refl;
+  directory_option_as_a_value = refl;
+  last_directory_counts = refl;
+  threads_option_stays = refl;
+}
+
+-- what the thread words of lines say
+pub record ThreadWordsTaken : Type 0 where
+  pub threads_option_that_stayed : threads_of (spaced "--threads") ≡ Err ThreadsValue
+  pub last_number_counts : threads_of (spaced "-t1 -t=2 -t3 --threads 1 --threads 2") ≡ Ok ([], 2)
+  pub joined_number_after_a_separate_one : threads_of (spaced "--threads 4 -t2") ≡ Ok ([], 2)
+  -- the word `-té=1`: the bytes 195 and 169 are `é`
+  pub cut_inside_a_character : threads_of ((45 ∷ 116 ∷ 195 ∷ 169 ∷ 61 ∷ 49 ∷ []) ∷ []) ≡ Ok ([], 1)
+  pub threads_option_as_a_value : threads_of (spaced "--threads --threads") ≡ Ok ([], 1)
+  pub number_with_a_plus : threads_of (spaced "-t+7") ≡ Ok ([], 7)
+  pub number_with_two_pluses : threads_of (spaced "-t++7") ≡ Ok ([], 1)
+  pub number_with_leading_zeros : threads_of (spaced "-t=007 -g") ≡ Ok (spaced "-g", 7)
+  pub greatest_number : threads_of (spaced "-t18446744073709551615") ≡ Ok ([], 18446744073709551615)
+  pub number_past_the_greatest : threads_of (spaced "-t18446744073709551616") ≡ Ok ([], 1)
+  pub equals_anywhere : threads_of (spaced "-t12= -t123 -t4=5") ≡ Ok ([], 123)
+
+pub thread_words_taken : ThreadWordsTaken
+thread_words_taken = record {
+  threads_option_that_stayed = refl;
+  last_number_counts = refl;
+  joined_number_after_a_separate_one = refl;
+  cut_inside_a_character = refl;
+  threads_option_as_a_value = refl;
+  number_with_a_plus = refl;
+  number_with_two_pluses = refl;
+  number_with_leading_zeros = refl;
+  greatest_number = refl;
+  number_past_the_greatest = refl;
+  equals_anywhere = refl;
+}
+
+-- the words of the commands that a line is preprocessed by
+abbrev pub words_of_commands : Result (List SingleCompileCommand) Fault → Result (List (List (List ℕ))) Fault
+words_of_commands (Ok commands) = Ok (map (λ c. c.arguments) commands)
+words_of_commands (Err fault) = Err fault
+
+-- the arguments of a line that asks for a dependency file beside the compilation
+abbrev pub with_dependencies : Language → List (List ℕ) → ParsedArguments
+with_dependencies language common = record (compiled (codes "foo.c") language (codes "foo.o")) {
+  common_args = common;
+  dependency_args = spaced "-MD -MF foo.o.d -MT foo.o";
+}
+
+-- the commands that preprocess inputs, and the words for their dependencies
+pub record LinesPreprocessed : Type 0 where
+  pub nvcc_makes_two_commands :
+    words_of_commands (nvcc_preprocess host.Gcc (codes "nvcc") (with_dependencies Cuda (spaced "-fabc -c")) (codes "/w") []) ≡
+    Ok (spaced "-fabc -c -x cu foo.c -M -MF foo.o.d -MT foo.o" ∷ spaced "-fabc -c -x cu foo.c -E -Xcompiler=-P" ∷ [])
+  pub nvhpc_makes_two_commands :
+    words_of_commands (nvhpc_preprocess (codes "nvc++") (with_dependencies Cxx (spaced "-fabc")) (codes "/w") []) ≡
+    Ok (spaced "-fabc -x c++ foo.c -M -MF foo.o.d -MT foo.o" ∷ spaced "-fabc -x c++ foo.c -E" ∷ [])
+  -- a repeated value goes too
+  pub a_repeated_value_goes : nvcc_dependency_words (spaced "-MF a -MT a") ≡ spaced "-MF a -MT"
+  -- words are compared once they are replaced
+  pub replaced_words_are_alike :
+    nvcc_dependency_words
+      (spaced "--generate-nonsystem-dependencies-with-compile -MP -MMD -MM --generate-dependencies-with-compile") ≡
+    spaced "-MM -MP -M"
+  pub one_command_without_dependencies :
+    words_of_commands (nvcc_preprocess host.Nvhpc (codes "nvcc") (compiled (codes "a.c") Cuda (codes "a.o")) (codes "/w") []) ≡
+    Ok ((codes "-x" ∷ codes "cu" ∷ codes "a.c" ∷ codes "-E" ∷ [] ∷ []) ∷ [])
+  pub nvhpc_preprocesses_no_cuda :
+    nvhpc_preprocess (codes "nvc++") (compiled (codes "a.cu") Cuda (codes "a.o")) (codes "/w") [] ≡
+    Err (NoPreprocess (codes "CUDA compilation not supported by nvhpc"))
+  pub nvcc_preprocesses_no_ptx :
+    nvcc_preprocess host.Msvc (codes "nvcc") (compiled (codes "a.ptx") Ptx (codes "a.o")) (codes "/w") [] ≡
+    Err (NoPreprocess (codes "PCH not supported by nvcc"))
+
+pub lines_preprocessed : LinesPreprocessed
+lines_preprocessed = record {
+  nvcc_makes_two_commands = refl;
+  nvhpc_makes_two_commands = refl;
+  a_repeated_value_goes = refl;
+  replaced_words_are_alike = refl;
+  one_command_without_dependencies = refl;
+  nvhpc_preprocesses_no_cuda = refl;
+  nvcc_preprocesses_no_ptx = refl;
+}
+
+-- what a line is read as by nvhpc, at the working directory `.`
+abbrev pub read_by_nvhpc : List (List ℕ) → Reading
+read_by_nvhpc words = nvhpc_reading false (codes ".") words
+
+-- what lines of nvhpc are read as
+pub record NvhpcLinesRead : Type 0 where
+  -- options of gcc's table and of nvhpc's: a value that stood in its option's word becomes a word of its own if the
+  -- option's text is long
+  pub reads_by_both_tables :
+    read_by_nvhpc
+      (spaced "-c foo.cpp -fabc -I include-file -o foo.o --include-path include-file"
+      ++ spaced "-isystem /system/include/file -gpu=ccnative -Werror an_error") ≡
+    accepted (record (compiled (codes "foo.cpp") Cxx (codes "foo.o")) {
+      preprocessor_args = spaced "-Iinclude-file --include-path include-file -isystem /system/include/file -Werror an_error";
+      common_args = spaced "-fabc -gpu ccnative";
+    })
+  -- `=` is a part of a value whose option takes none
+  pub takes_an_equals_sign_as_value :
+    read_by_nvhpc (spaced "-c foo.c --include-path=inc") ≡
+    accepted (record (compiled (codes "foo.c") C (codes "foo.o")) { preprocessor_args = spaced "--include-path =inc" })
+  -- `-acc` takes the flag that asks for the compilation
+  pub takes_the_next_word : read_by_nvhpc (spaced "-acc -c foo.c") ≡ not_compilation
+  -- a flag takes no value, so that with one it is an unknown flag
+  pub knows_no_flag_with_a_value :
+    read_by_nvhpc (spaced "-c foo.c -save-temps=obj") ≡
+    accepted (record (compiled (codes "foo.c") C (codes "foo.o")) { common_args = spaced "-save-temps=obj" })
+  -- of two entries with one text nvhpc's counts, which may be joined
+  pub joins_by_the_second_table :
+    read_by_nvhpc (spaced "-x=c++ -c foo.c -Xlinker=-s") ≡
+    accepted (record (compiled (codes "foo.c") Cxx (codes "foo.o")) { common_args = spaced "-Xlinker -s" })
+
+pub nvhpc_lines_read : NvhpcLinesRead
+nvhpc_lines_read = record {
+  reads_by_both_tables = refl;
+  takes_an_equals_sign_as_value = refl;
+  takes_the_next_word = refl;
+  knows_no_flag_with_a_value = refl;
+  joins_by_the_second_table = refl;
+}
