@@ -81,8 +81,26 @@ fn environments(rt: HostRuntime) -> Result<(), Fail> {
     let clone = list.try_clone(rt.alloc())?;
     let other = environment(rt.alloc(), "")?;
     assert_eq!(rt; [list == clone, list == other], [true, false]);
-    let again = Variables::from_vec(list.into_vec());
+    let again = Variables::from_vec(list.into_vec()?);
     let copy = Variables::copy_of(rt.alloc(), again.as_slice())?;
     assert_eq!(rt; [again == clone, copy == clone], [true, true]);
+    Ok(())
+}
+
+#[test]
+fn shared_environments(rt: HostRuntime) -> Result<(), Fail> {
+    let shared = environment(rt.alloc(), "/b")?.share(rt.alloc())?;
+    let mut other = shared.try_clone(rt.alloc())?;
+    other.push(
+        String::from_str(rt.alloc(), "X")?,
+        String::from_str(rt.alloc(), "1")?,
+    )?;
+    let plain = environment(rt.alloc(), "/b")?;
+    assert_eq!(rt; [shared == plain, other == plain], [true, false]);
+    assert_eq!(rt; [shared.len(), other.len()], [1, 2]);
+    let kept = shared.try_clone(rt.alloc())?;
+    let given = Variables::from_vec(shared.into_vec()?);
+    let last = Variables::from_vec(kept.into_vec()?);
+    assert_eq!(rt; [given == plain, last == plain], [true, true]);
     Ok(())
 }
