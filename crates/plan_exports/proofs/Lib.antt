@@ -2,7 +2,6 @@ pub mod EscapedLemmas
 pub mod JsonLemmas
 pub mod JsonRows
 pub mod Pushing
-pub mod QuotedLemmas
 pub mod ReadBackLemmas
 pub mod ReadGraphLemmas
 pub mod TextLemmas

@@ -13,7 +13,7 @@ use Rattle.command_groups.specs.declared.plan.Plan.{Plan}
 use Rattle.plan_exports.specs.CommandText.{written, assignment, env_words, command_text, command_words}
 use Rattle.plan_exports.specs.Script.{command_line, group_lines, groups_lines, script}
 use Rattle.plan_exports.specs.ReadBack.{IsOfTexts}
-use Rattle.plan_exports.proofs.QuotedLemmas.{quoted_then}
+use Rattle.shell_words.proofs.ShellQuotingLemmas.{quoted_then}
 use Rattle.plan_exports.proofs.TextLemmas.{written_chars, plain_text, plain_chars, spelled_words, assignments_utf8}
 
 -- The states of the splitter have no names here: between words it is `(reads_between 32).0`, in a word `(begins_piece 97).0`.
