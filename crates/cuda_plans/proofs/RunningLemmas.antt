@@ -1,5 +1,5 @@
 -- A group's account, command by command.
-use Rattle.std.proofs.Common.{◌≡◌, ℕ, ◌+◌, List, [], ◌∷◌, ◌++◌, Bool, true, false, refl, ap, sym, ◌∙◌, map, subst, append_assoc, MatchBool, Result, Ok, Err, ℤ, pos, negsuc, zero, suc, ◌↔◌, length, arith}
+use Rattle.std.proofs.Common.{◌≡◌, ℕ, ◌+◌, List, [], ◌∷◌, ◌++◌, Bool, true, false, not, ◌&&◌, ltb, refl, ap, sym, ◌∙◌, map, subst, append_assoc, MatchBool, Result, Ok, Err, ℤ, pos, negsuc, zero, suc, ◌↔◌, length, arith}
 use Rattle.std.proofs.lemmas.List.{append-nil, map-append}
 use Rattle.std.proofs.lemmas.List.Sums.{fold-append}
 use Rattle.std.specs.List.{fold}
@@ -138,6 +138,10 @@ success-is false (pos zero) h = absurd (no-truth (h.1 refl))
     no-truth e = cc
 success-is false (pos (suc n)) h = sym (ne_eqb (suc n) 0 (λ e. absurd (omega (arith, e))))
 success-is false (negsuc n) h = refl
+
+-- what the code tests of a group's chunk and of the last one is what is said of them
+pub held-test : (last next : ℕ) (success held : Bool) (status : ℤ) → (IsTrue success ↔ (status ≡ pos 0)) → held ≡ (ltb last next && not success) → (ltb last next && not (is_success status)) ≡ held
+held-test last next success held status h test = ap (λ b. ltb last next && not b) (sym (success-is success status h)) ∙ sym test
 
 -- a refusal that was passed on
 pub refused : {T E : Type 0} (r : Result T E) (P : T → Type 0) (Q : Type 0) → IsErr r → Q → MatchResult r P (λ _. Q)

@@ -221,6 +221,11 @@ pub record PlanSoFar (chunk : ℕ → ℕ) (before after : List AccountEntry) (a
   pub failed_last : Each (λ e. fails e ≡ true → last ≤ chunk e.place.group) account
   pub outputs : joined ≡ output_of_account account
 
+-- the groups that are left, said otherwise
+pub plan-left : {chunk : ℕ → ℕ} {before after : List AccountEntry} {all : List Step} {group : ℕ} {groups others : List (List NvccGeneratedSubcommand)} {last : ℕ} {joined : Output}
+    → groups ≡ others → PlanSoFar chunk before after all group groups last joined → PlanSoFar chunk before after all group others last joined
+plan-left {chunk} {before} {after} {all} {group} {groups} {others} {last} {joined} same far = subst (λ l. PlanSoFar chunk before after all group l last joined) same far
+
 pub plan-begins : (chunk : ℕ → ℕ) (before : List AccountEntry) (groups : List (List NvccGeneratedSubcommand)) → PlanSoFar chunk before before (steps groups) 0 groups 0 empty_success
 plan-begins chunk before groups = record {
   account = [];

@@ -22,14 +22,14 @@ pub record KeepWordsTaken : Type 0 where
   pub keep_without_a_directory : keep_of (codes "/w") (spaced "-keep") ≡ Ok ([], Some (codes "/w"))
   pub directory_is_missing : keep_of (codes "/w") (spaced "-keep-dir") ≡ Err KeepDirValue
   pub directory_is_empty :
-    keep_of (codes "/w") (codes "-keep" ∷ codes "-keep-dir" ∷ [] ∷ []) ≡ Ok ([], Some (codes "/w/"))
+      keep_of (codes "/w") (codes "-keep" ∷ codes "-keep-dir" ∷ [] ∷ []) ≡ Ok ([], Some (codes "/w/"))
   pub directory_option_as_a_value :
-    keep_of (codes "/w") (spaced "-keep -keep-dir -keep-dir") ≡ Ok ([], Some (codes "/w/-keep-dir"))
+      keep_of (codes "/w") (spaced "-keep -keep-dir -keep-dir") ≡ Ok ([], Some (codes "/w/-keep-dir"))
   pub last_directory_counts :
-    keep_of (codes "/w") (spaced "--keep-dir a -g --save-temps -keep-dir /b -c") ≡
-    Ok (spaced "-g -c", Some (codes "/b"))
+      keep_of (codes "/w") (spaced "--keep-dir a -g --save-temps -keep-dir /b -c") ≡
+      Ok (spaced "-g -c", Some (codes "/b"))
   pub threads_option_stays :
-    keep_of (codes "/w") (spaced "--threads -keep") ≡ Ok (spaced "--threads", Some (codes "/w"))
+      keep_of (codes "/w") (spaced "--threads -keep") ≡ Ok (spaced "--threads", Some (codes "/w"))
 
 pub keep_words_taken : KeepWordsTaken
 keep_words_taken = record {
@@ -89,27 +89,27 @@ with_dependencies language common = record (compiled (codes "foo.c") language (c
 -- the commands that preprocess inputs, and the words for their dependencies
 pub record LinesPreprocessed : Type 0 where
   pub nvcc_makes_two_commands :
-    words_of_commands (nvcc_preprocess host.Gcc (codes "nvcc") (with_dependencies Cuda (spaced "-fabc -c")) (codes "/w") []) ≡
-    Ok (spaced "-fabc -c -x cu foo.c -M -MF foo.o.d -MT foo.o" ∷ spaced "-fabc -c -x cu foo.c -E -Xcompiler=-P" ∷ [])
+      words_of_commands (nvcc_preprocess host.Gcc (codes "nvcc") (with_dependencies Cuda (spaced "-fabc -c")) (codes "/w") []) ≡
+      Ok (spaced "-fabc -c -x cu foo.c -M -MF foo.o.d -MT foo.o" ∷ spaced "-fabc -c -x cu foo.c -E -Xcompiler=-P" ∷ [])
   pub nvhpc_makes_two_commands :
-    words_of_commands (nvhpc_preprocess (codes "nvc++") (with_dependencies Cxx (spaced "-fabc")) (codes "/w") []) ≡
-    Ok (spaced "-fabc -x c++ foo.c -M -MF foo.o.d -MT foo.o" ∷ spaced "-fabc -x c++ foo.c -E" ∷ [])
+      words_of_commands (nvhpc_preprocess (codes "nvc++") (with_dependencies Cxx (spaced "-fabc")) (codes "/w") []) ≡
+      Ok (spaced "-fabc -x c++ foo.c -M -MF foo.o.d -MT foo.o" ∷ spaced "-fabc -x c++ foo.c -E" ∷ [])
   -- a repeated value goes too
   pub a_repeated_value_goes : nvcc_dependency_words (spaced "-MF a -MT a") ≡ spaced "-MF a -MT"
   -- words are compared once they are replaced
   pub replaced_words_are_alike :
-    nvcc_dependency_words
+      nvcc_dependency_words
       (spaced "--generate-nonsystem-dependencies-with-compile -MP -MMD -MM --generate-dependencies-with-compile") ≡
-    spaced "-MM -MP -M"
+      spaced "-MM -MP -M"
   pub one_command_without_dependencies :
-    words_of_commands (nvcc_preprocess host.Nvhpc (codes "nvcc") (compiled (codes "a.c") Cuda (codes "a.o")) (codes "/w") []) ≡
-    Ok ((codes "-x" ∷ codes "cu" ∷ codes "a.c" ∷ codes "-E" ∷ [] ∷ []) ∷ [])
+      words_of_commands (nvcc_preprocess host.Nvhpc (codes "nvcc") (compiled (codes "a.c") Cuda (codes "a.o")) (codes "/w") []) ≡
+      Ok ((codes "-x" ∷ codes "cu" ∷ codes "a.c" ∷ codes "-E" ∷ [] ∷ []) ∷ [])
   pub nvhpc_preprocesses_no_cuda :
-    nvhpc_preprocess (codes "nvc++") (compiled (codes "a.cu") Cuda (codes "a.o")) (codes "/w") [] ≡
-    Err (NoPreprocess (codes "CUDA compilation not supported by nvhpc"))
+      nvhpc_preprocess (codes "nvc++") (compiled (codes "a.cu") Cuda (codes "a.o")) (codes "/w") [] ≡
+      Err (NoPreprocess (codes "CUDA compilation not supported by nvhpc"))
   pub nvcc_preprocesses_no_ptx :
-    nvcc_preprocess host.Msvc (codes "nvcc") (compiled (codes "a.ptx") Ptx (codes "a.o")) (codes "/w") [] ≡
-    Err (NoPreprocess (codes "PCH not supported by nvcc"))
+      nvcc_preprocess host.Msvc (codes "nvcc") (compiled (codes "a.ptx") Ptx (codes "a.o")) (codes "/w") [] ≡
+      Err (NoPreprocess (codes "PCH not supported by nvcc"))
 
 pub lines_preprocessed : LinesPreprocessed
 lines_preprocessed = record {
@@ -131,27 +131,27 @@ pub record NvhpcLinesRead : Type 0 where
   -- options of gcc's table and of nvhpc's: a value that stood in its option's word becomes a word of its own if the
   -- option's text is long
   pub reads_by_both_tables :
-    read_by_nvhpc
+      read_by_nvhpc
       (spaced "-c foo.cpp -fabc -I include-file -o foo.o --include-path include-file"
       ++ spaced "-isystem /system/include/file -gpu=ccnative -Werror an_error") ≡
-    accepted (record (compiled (codes "foo.cpp") Cxx (codes "foo.o")) {
-      preprocessor_args = spaced "-Iinclude-file --include-path include-file -isystem /system/include/file -Werror an_error";
-      common_args = spaced "-fabc -gpu ccnative";
-    })
+      accepted (record (compiled (codes "foo.cpp") Cxx (codes "foo.o")) {
+        preprocessor_args = spaced "-Iinclude-file --include-path include-file -isystem /system/include/file -Werror an_error";
+        common_args = spaced "-fabc -gpu ccnative";
+      })
   -- `=` is a part of a value whose option takes none
   pub takes_an_equals_sign_as_value :
-    read_by_nvhpc (spaced "-c foo.c --include-path=inc") ≡
-    accepted (record (compiled (codes "foo.c") C (codes "foo.o")) { preprocessor_args = spaced "--include-path =inc" })
+      read_by_nvhpc (spaced "-c foo.c --include-path=inc") ≡
+      accepted (record (compiled (codes "foo.c") C (codes "foo.o")) { preprocessor_args = spaced "--include-path =inc" })
   -- `-acc` takes the flag that asks for the compilation
   pub takes_the_next_word : read_by_nvhpc (spaced "-acc -c foo.c") ≡ not_compilation
   -- a flag takes no value, so that with one it is an unknown flag
   pub knows_no_flag_with_a_value :
-    read_by_nvhpc (spaced "-c foo.c -save-temps=obj") ≡
-    accepted (record (compiled (codes "foo.c") C (codes "foo.o")) { common_args = spaced "-save-temps=obj" })
+      read_by_nvhpc (spaced "-c foo.c -save-temps=obj") ≡
+      accepted (record (compiled (codes "foo.c") C (codes "foo.o")) { common_args = spaced "-save-temps=obj" })
   -- of two entries with one text nvhpc's counts, which may be joined
   pub joins_by_the_second_table :
-    read_by_nvhpc (spaced "-x=c++ -c foo.c -Xlinker=-s") ≡
-    accepted (record (compiled (codes "foo.c") Cxx (codes "foo.o")) { common_args = spaced "-Xlinker -s" })
+      read_by_nvhpc (spaced "-x=c++ -c foo.c -Xlinker=-s") ≡
+      accepted (record (compiled (codes "foo.c") Cxx (codes "foo.o")) { common_args = spaced "-Xlinker -s" })
 
 pub nvhpc_lines_read : NvhpcLinesRead
 nvhpc_lines_read = record {

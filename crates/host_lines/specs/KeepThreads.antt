@@ -80,7 +80,7 @@ keep_answer cwd is_missing stay is_kept directory =
 abbrev pub keep_of : List ℕ → List (List ℕ) → Result (List (List ℕ) × Option (List ℕ)) Fault
 keep_of cwd words =
     keep_answer cwd (lacks_value is_keep_dir (beside_keep_dirs words)) (words_without_keep words)
-      (list_any sets_keep (beside_keep_dirs words)) (last_of (keep_directories words))
+    (list_any sets_keep (beside_keep_dirs words)) (last_of (keep_directories words))
 
 -- Numbers.
 
@@ -154,7 +154,7 @@ threads_answer is_missing stay number = if is_missing then Err ThreadsValue else
 abbrev pub threads_of : List (List ℕ) → Result (List (List ℕ) × ℕ) Fault
 threads_of words =
     threads_answer (lacks_value is_threads (beside_threads words)) (words_without_threads words)
-      (last_of (thread_numbers words))
+    (last_of (thread_numbers words))
 
 -- what the two calls answer, seen as texts
 abbrev pub keep_seen : Result (Vec (String Global) Global × Option (String Global)) Fault → Result (List (List ℕ) × Option (List ℕ)) Fault

@@ -11,18 +11,18 @@ use Rattle.option_items.specs.Table.{Entry}
 abbrev pub nvcc_options : List (Entry ArgData)
 nvcc_options =
     flags DoCompilation (spaced "--compile --cubin --device-c --device-w --fatbin --optix-ir --ptx -cubin -dc -dw -fatbin -optix-ir -ptx")
-    ++ flags PreprocessorArgumentFlag 
-      (spaced "--expt-extended-lambda --expt-relaxed-constexpr --extended-lambda --no-host-device-initializer-list"
-      ++ spaced "-expt-extended-lambda -expt-relaxed-constexpr -extended-lambda -nohdinitlist")
+    ++ flags PreprocessorArgumentFlag
+    (spaced "--expt-extended-lambda --expt-relaxed-constexpr --extended-lambda --no-host-device-initializer-list"
+    ++ spaced "-expt-extended-lambda -expt-relaxed-constexpr -extended-lambda -nohdinitlist")
     ++ flags UnhashedFlag (spaced "--keep --save-temps -keep -save-temps")
     ++ flags NeedDepTarget (spaced "--generate-dependencies-with-compile --generate-nonsystem-dependencies-with-compile")
     ++ options Separated DepArgumentPath (spaced "--dependency-output")
     ++ options either_way_or_equals PassThrough
-      (codes "--archive-options options"
-      ∷ spaced "--compiler-bindir --default-stream --diag-error --diag-suppress --diag-warn --generate-code"
-      ++ spaced "--gpu-architecture --gpu-code --linker-options --maxrregcount --nvlink-options --ptxas-options"
-      ++ spaced "-Xarchive -Xlinker -Xnvlink -Xptxas -arch -ccbin -code -default-stream -diag-error -diag-suppress"
-      ++ spaced "-diag-warn -gencode -maxrregcount")
+    (codes "--archive-options options"
+    ∷ spaced "--compiler-bindir --default-stream --diag-error --diag-suppress --diag-warn --generate-code"
+    ++ spaced "--gpu-architecture --gpu-code --linker-options --maxrregcount --nvlink-options --ptxas-options"
+    ++ spaced "-Xarchive -Xlinker -Xnvlink -Xptxas -arch -ccbin -code -default-stream -diag-error -diag-suppress"
+    ++ spaced "-diag-warn -gencode -maxrregcount")
     ++ options either_way_or_equals PreprocessorArgument (spaced "--Werror --compiler-options --relocatable-device-code -Werror -Xcompiler -rdc")
     ++ options either_way_or_equals PreprocessorArgumentPath (spaced "--include-path --system-include -isystem")
     ++ options either_way_or_equals ExtraHashFile (spaced "--options-file")

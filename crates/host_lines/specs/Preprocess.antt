@@ -62,7 +62,7 @@ abbrev pub nvcc_preprocess : NvccHostCompiler → List ℕ → ParsedArguments �
 nvcc_preprocess host_compiler executable p cwd env_vars =
     unless_unnamed (codes "PCH not supported by nvcc")
     (λ name. preprocess_commands (common_command executable p name cwd (without_flags env_vars))
-      (nvcc_dependency_words p.dependency_args) (nvcc_preprocessor_words host_compiler))
+    (nvcc_dependency_words p.dependency_args) (nvcc_preprocessor_words host_compiler))
     (name_of_language p.language)
 
 -- nvhpc's word for the dependencies alone, in place of one that asks for them beside a compilation
@@ -85,7 +85,7 @@ abbrev pub nvhpc_preprocess : List ℕ → ParsedArguments → List ℕ → List
 nvhpc_preprocess executable p cwd env_vars =
     unless_unnamed (nvhpc_refusal p.language)
     (λ name. preprocess_commands (common_command executable p name cwd env_vars)
-      (map nvhpc_dependency_word p.dependency_args) (codes "-E" ∷ []))
+    (map nvhpc_dependency_word p.dependency_args) (codes "-E" ∷ []))
     (name_for_nvhpc p.language)
 
 -- what a call answers, as the list of its commands

@@ -22,7 +22,7 @@ env_words c = codes "env" ∷ map assignment c.env_vars
 abbrev pub command_text : List ℕ → NvccGeneratedSubcommand → List ℕ
 command_text launcher c =
     codes "( cd " ++ (written (c.cwd ∷ []) ++ (codes " && " ++ (written (env_words c)
-      ++ (codes " " ++ (launcher ++ (written (c.exe ∷ c.args) ++ codes " )"))))))
+    ++ (codes " " ++ (launcher ++ (written (c.exe ∷ c.args) ++ codes " )"))))))
 
 -- a command's words, as a shell reads them: those of its text without a launcher
 abbrev pub command_words : NvccGeneratedSubcommand → List (List ℕ)

@@ -45,8 +45,8 @@ empty_runs_shown = refl
 abbrev pub DroppedShown : Type 0
 DroppedShown =
     show_plan (plan_of_both
-      (step_and_cicc_twice
-      ++ (at 5 (codes "/b/ptxas") (codes "k.ptx -o a.cubin") ∷ at 6 (codes "/b/ptxas") (codes "k.ptx -o b.cubin") ∷ []))) ≡
+    (step_and_cicc_twice
+    ++ (at 5 (codes "/b/ptxas") (codes "k.ptx -o a.cubin") ∷ at 6 (codes "/b/ptxas") (codes "k.ptx -o b.cubin") ∷ []))) ≡
     lines_of
     (codes "group 0" ∷
     codes "group 1" ∷
@@ -66,8 +66,8 @@ dropped_shown = refl
 abbrev pub PtxasWithoutAGroupShown : Type 0
 PtxasWithoutAGroupShown =
     show_plan (plan_of_both
-      (at 1 (codes "/b/gcc") (codes "-D__NVCC__ -E k.cu -o x_0.cpp1.ii k.ptx")
-      ∷ at 2 (codes "/b/ptxas") (codes "k.ptx -o a.cubin") ∷ [])) ≡
+    (at 1 (codes "/b/gcc") (codes "-D__NVCC__ -E k.cu -o x_0.cpp1.ii k.ptx")
+    ∷ at 2 (codes "/b/ptxas") (codes "k.ptx -o a.cubin") ∷ [])) ≡
     lines_of
     (codes "group 0" ∷
     codes "group 1" ∷

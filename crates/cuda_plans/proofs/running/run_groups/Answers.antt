@@ -1,9 +1,9 @@
-use Rattle.std.proofs.Common.{◌≡◌, ◌+◌, ◌≤◌, length, map, vec_items, subst, arith, not, ◌&&◌, ltb, ap, ◌∙◌, sym}
+use Rattle.std.proofs.Common.{◌≡◌, ◌+◌, ◌≤◌, length, map, vec_items, subst, arith, ap, ◌∙◌, sym}
 use Rattle.std.proofs.lemmas.List.{length-map}
 use Rattle.texts.specs.Endings.{is_success}
-use Rattle.cuda_plans.specs.Schedule.{Gains, chunk_of, device_groups, steps}
-use Rattle.cuda_plans.proofs.RunningLemmas.{success-is, refused, nothing-left}
-use Rattle.cuda_plans.proofs.ScheduleLemmas.{PlanSoFar, PlanEnds, plan-begins, plan-goes_on, plan-ends, plan-cut, plan-stops, chunks-rise, held-true}
+use Rattle.cuda_plans.specs.Schedule.{chunk_of, device_groups, steps}
+use Rattle.cuda_plans.proofs.RunningLemmas.{held-test, refused, nothing-left}
+use Rattle.cuda_plans.proofs.ScheduleLemmas.{PlanSoFar, plan-left, plan-begins, plan-goes_on, plan-ends, plan-cut, plan-stops, chunks-rise, held-true}
 use Rattle.cuda_plans.proofs.running.run_groups.Goals as goal
 
 pub loop-commands-init : goal.loop-commands-init
@@ -23,73 +23,34 @@ loop-commands-init g c =
 
 pub loop-commands-preserved : goal.loop-commands-preserved
 loop-commands-preserved g c =
-    let log = g.R.Runner.log in
-    let before = log c.args.runner.now in
-    let middle = log c.loop-commands.runner in
-    let parallel = c.args.num_parallel in
-    let devices = device_groups c.args.groups in
-    let chunk = chunk_of devices parallel in
-    let all = steps c.args.groups in
-    let group = c.loop-commands.group in
-    let last = c.loop-commands.chunk in
-    let next = c.chunk_of-next.result in
-    let joined = c.loop-commands.joined in
-    let number : next ≡ chunk group = c.chunk_of-next.ensures ∙ ap (λ d. chunk_of d parallel group) c.loop-commands.invariant.devices in
-    let left = map vec_items c.next.new.self.rest.items in
-    let far = subst (λ l. PlanSoFar chunk before middle all group l last joined) (ap (map vec_items) c.in-Some.ensures.steps.0) c.loop-commands.invariant.far in
-    let success : c.success-success.result ≡ is_success joined.status = success-is c.success-success.result joined.status c.success-success.ensures in
-    let test : (ltb last next && not (is_success joined.status)) ≡ c.is_held_back.result = ap (λ b. ltb last next && not b) (sym success) ∙ sym c.is_held_back.ensures in
-    let after = log c.run_group.new.runner in
-    let ordered : last ≤ next = omega (arith, c.loop-commands.invariant.ordered, number) in
+    let rises = chunks-rise (device_groups c.args.groups) c.args.num_parallel in
+    let number = c.chunk_of-next.ensures ∙ ap (λ d. chunk_of d c.args.num_parallel c.loop-commands.group) c.loop-commands.invariant.devices in
+    let test = held-test c.loop-commands.chunk c.chunk_of-next.result c.success-success.result c.is_held_back.result c.loop-commands.joined.status c.success-success.ensures c.is_held_back.ensures in
+    let far = plan-left (ap (map vec_items) c.in-Some.ensures.steps.0) c.loop-commands.invariant.far in
+    let ordered : c.loop-commands.chunk ≤ c.chunk_of-next.result = omega (arith, c.loop-commands.invariant.ordered, number) in
     record {
-      far = plan-goes_on chunk (chunks-rise devices parallel) before middle after all group c.in-Some.commands.items left last next joined c.in_ok-joined.joined far number ordered (test ∙ c.if-is_held_back.false) c.in_ok-joined.ensures;
+      far = plan-goes_on _ rises _ _ _ _ _ _ _ _ _ _ _ far number ordered (test ∙ c.if-is_held_back.false) c.in_ok-joined.ensures;
       room = omega (arith, ap length c.in-Some.ensures.steps.0, c.loop-commands.invariant.room);
       devices = c.loop-commands.invariant.devices;
-      ordered = omega (arith, number, chunks-rise devices parallel group (group + 1) (omega arith));
+      ordered = omega (arith, number, rises c.loop-commands.group (c.loop-commands.group + 1) (omega arith));
     }
 
 pub returns-in_err-joined : goal.returns-in_err-joined
 returns-in_err-joined g c =
-    let log = g.R.Runner.log in
-    let before = log c.args.runner.now in
-    let middle = log c.loop-commands.runner in
-    let parallel = c.args.num_parallel in
-    let devices = device_groups c.args.groups in
-    let chunk = chunk_of devices parallel in
-    let all = steps c.args.groups in
-    let group = c.loop-commands.group in
-    let last = c.loop-commands.chunk in
-    let next = c.chunk_of-next.result in
-    let joined = c.loop-commands.joined in
-    let number : next ≡ chunk group = c.chunk_of-next.ensures ∙ ap (λ d. chunk_of d parallel group) c.loop-commands.invariant.devices in
-    let left = map vec_items c.next.new.self.rest.items in
-    let far = subst (λ l. PlanSoFar chunk before middle all group l last joined) (ap (map vec_items) c.in-Some.ensures.steps.0) c.loop-commands.invariant.far in
-    let success : c.success-success.result ≡ is_success joined.status = success-is c.success-success.result joined.status c.success-success.ensures in
-    let test : (ltb last next && not (is_success joined.status)) ≡ c.is_held_back.result = ap (λ b. ltb last next && not b) (sym success) ∙ sym c.is_held_back.ensures in
-    let after = log c.run_group.new.runner in
-    refused c.from_residual.result (λ o. Gains before after (PlanEnds chunk all o)) _ c.from_residual.ensures.0
-    (plan-cut chunk (chunks-rise devices parallel) before middle after all group c.in-Some.commands.items left last next joined far number (test ∙ c.if-is_held_back.false) c.in_err-joined.ensures)
+    let rises = chunks-rise (device_groups c.args.groups) c.args.num_parallel in
+    let number = c.chunk_of-next.ensures ∙ ap (λ d. chunk_of d c.args.num_parallel c.loop-commands.group) c.loop-commands.invariant.devices in
+    let test = held-test c.loop-commands.chunk c.chunk_of-next.result c.success-success.result c.is_held_back.result c.loop-commands.joined.status c.success-success.ensures c.is_held_back.ensures in
+    let far = plan-left (ap (map vec_items) c.in-Some.ensures.steps.0) c.loop-commands.invariant.far in
+    refused c.from_residual.result _ _ c.from_residual.ensures.0
+    (plan-cut _ rises _ _ _ _ _ _ _ _ _ _ far number (test ∙ c.if-is_held_back.false) c.in_err-joined.ensures)
 
 pub returns-then-is_held_back : goal.returns-then-is_held_back
 returns-then-is_held_back g c =
-    let log = g.R.Runner.log in
-    let before = log c.args.runner.now in
-    let middle = log c.loop-commands.runner in
-    let parallel = c.args.num_parallel in
-    let devices = device_groups c.args.groups in
-    let chunk = chunk_of devices parallel in
-    let all = steps c.args.groups in
-    let group = c.loop-commands.group in
-    let last = c.loop-commands.chunk in
-    let next = c.chunk_of-next.result in
-    let joined = c.loop-commands.joined in
-    let number : next ≡ chunk group = c.chunk_of-next.ensures ∙ ap (λ d. chunk_of d parallel group) c.loop-commands.invariant.devices in
-    let left = map vec_items c.next.new.self.rest.items in
-    let far = subst (λ l. PlanSoFar chunk before middle all group l last joined) (ap (map vec_items) c.in-Some.ensures.steps.0) c.loop-commands.invariant.far in
-    let success : c.success-success.result ≡ is_success joined.status = success-is c.success-success.result joined.status c.success-success.ensures in
-    let test : (ltb last next && not (is_success joined.status)) ≡ c.is_held_back.result = ap (λ b. ltb last next && not b) (sym success) ∙ sym c.is_held_back.ensures in
-    let held = held-true last next (is_success joined.status) (test ∙ c.if-is_held_back.true) in
-    plan-stops chunk (chunks-rise devices parallel) before middle all group (map vec_items c.loop-commands.commands-iterator.rest.items) last next joined c.loop-commands.invariant.far number held.0 held.1
+    let rises = chunks-rise (device_groups c.args.groups) c.args.num_parallel in
+    let number = c.chunk_of-next.ensures ∙ ap (λ d. chunk_of d c.args.num_parallel c.loop-commands.group) c.loop-commands.invariant.devices in
+    let test = held-test c.loop-commands.chunk c.chunk_of-next.result c.success-success.result c.is_held_back.result c.loop-commands.joined.status c.success-success.ensures c.is_held_back.ensures in
+    let held = held-true c.loop-commands.chunk c.chunk_of-next.result (is_success c.loop-commands.joined.status) (test ∙ c.if-is_held_back.true) in
+    plan-stops _ rises _ _ _ _ _ _ _ _ c.loop-commands.invariant.far number held.0 held.1
 
 pub returns : goal.returns
 returns g c =
