@@ -13,11 +13,10 @@ help:
 	@echo 'make end-to-end       compares calls of nvcc with those of zigrunk-nvcc, where nvcc and ninja are on the path'
 	@echo 'make test             the whole gate; its last line is N passed, M failed'
 
-# The device-code line, read and written back, and the plan of two real dry runs.
+# The device-code line, read and written back, and the plan of two real dry runs: the two calls whose words demo/ has.
 demo:
-	@echo 'This runs the program unproved, within a minute; make build proves and builds it.'
-	@cd crates/cudaplan && rt try -- line cicc /w --device-c -arch compute_80 --module_id_file_name kernel.module_id kernel.cpp1.ii --simt-only -o kernel.ptx
-	@cd crates/cudaplan && rt try --data one_target.dry1=../worked_rows/data/dry_runs/one_target.dry1 --data one_target.dry2=../worked_rows/data/dry_runs/one_target.dry2 -- plan /w /t -c one_target.dry1 one_target.dry2
+	@echo 'This builds the program unproved and runs it twice, within a minute; make build proves and builds it.'
+	@cd crates/cudaplan && rt try --data one_target.dry1=../worked_rows/data/dry_runs/one_target.dry1 --data one_target.dry2=../worked_rows/data/dry_runs/one_target.dry2 --cases ../../demo
 
 # Proves the programs and builds them. rt builds a program only when it runs it, and leaves it in out/: so a short call is
 # run, and what it prints is thrown away.
