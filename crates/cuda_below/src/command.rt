@@ -100,9 +100,9 @@ impl SingleCompileCommand {
     {
         Ok(SingleCompileCommand {
             executable: Text::copy_of(alloc, executable)?,
+            cwd: Text::copy_of(alloc, cwd)?,
             arguments,
             env_vars: Variables::copy_of(alloc, env_vars)?,
-            cwd: Text::copy_of(alloc, cwd)?,
             share_jobserver: false,
         })
     }
@@ -113,9 +113,9 @@ impl SingleCompileCommand {
     {
         Ok(SingleCompileCommand {
             executable: self.executable.try_clone(alloc)?,
+            cwd: self.cwd.try_clone(alloc)?,
             arguments: self.arguments.try_clone(alloc)?,
             env_vars: self.env_vars.try_clone(alloc)?,
-            cwd: self.cwd.try_clone(alloc)?,
             share_jobserver: self.share_jobserver,
         })
     }

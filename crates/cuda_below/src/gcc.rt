@@ -1,11 +1,11 @@
 //! The reader of gcc command lines, over this project's profile of gcc's options. It isn't gcc's own
 //! reader: options that the profile doesn't name pass as unknown flags.
 
-ghost use Rattle.std.specs.Prelude.{◌≡◌, map, IfOk, MatchResult, string_bytes};
+ghost use Rattle.std.specs.Prelude.{◌≡◌, [], false, map, IfOk, MatchResult, Ok, Err, string_bytes};
 ghost use Rattle.std.specs.Option.{option_copied};
 ghost use Rattle.option_items.specs.Items.{item_of};
 ghost use Rattle.cuda_below.specs.Compiler.{reading_of};
-ghost use Rattle.cuda_below.specs.GccItems.{refusal_of_option, refusal_of, is_double_dash};
+ghost use Rattle.cuda_below.specs.GccItems.{refusal_of_option, refusal_of, is_double_dash, asked_of};
 ghost use Rattle.cuda_below.specs.GccSteps.{asked_by};
 ghost use Rattle.cuda_below.specs.Gcc.{gathering, profile_reading};
 
@@ -59,19 +59,20 @@ fn is_dashes(item: &Argument<ArgData>) -> bool
     }
 }
 
-// What the items of a line ask for, or the text of the first that refuses. It reads word by word, and
-// not by `ArgsIter`, since after `--` it needs the words that are left.
-fn gather<S: SearchableArgInfo<ArgData> + Drop>(
+// Gathers what the items of a line ask for, or answers the text of the first that refuses. It reads
+// word by word, and not by `ArgsIter`, since after `--` it needs the words that are left.
+fn gather<S: SearchableArgInfo<ArgData>>(
+    gathered: &mut Gathered,
     alloc: Global,
     arguments: &[String],
     cwd: &str,
-    arg_info: S,
-) -> Result<Result<Gathered, &'static str>, AllocError>
-    ensures { IfOk result (λ gathered. MatchResult gathered
-        (λ g. gathering (S.chosen arg_info) cwd.now (map string_bytes arguments.now) ≡ Ok (asked_by g))
-        (λ text. gathering (S.chosen arg_info) cwd.now (map string_bytes arguments.now) ≡ Err text.now)) }
+    arg_info: &S,
+) -> Result<Result<(), &'static str>, AllocError>
+    requires { asked_by gathered.old ≡ asked_of [] false [] }
+    ensures { IfOk result (λ r. MatchResult r
+        (λ _. gathering (S.chosen arg_info.now) cwd.now (map string_bytes arguments.now) ≡ Ok (asked_by gathered.new))
+        (λ text. gathering (S.chosen arg_info.now) cwd.now (map string_bytes arguments.now) ≡ Err text.now)) }
 {
-    let mut gathered = Gathered::new(alloc);
     let mut line = Line::new(arguments);
     while let Some(word) = line.next_word() {
         let row = arg_info.search(word);
@@ -80,14 +81,14 @@ fn gather<S: SearchableArgInfo<ArgData> + Drop>(
         };
         if is_dashes(&item) {
             gathered.take_inputs(alloc, line)?;
-            return Ok(Ok(gathered));
+            return Ok(Ok(()));
         }
         if let Some(text) = refusal(&item) {
             return Ok(Err(text));
         }
         gathered.take(alloc, cwd, item)?;
     }
-    Ok(Ok(gathered))
+    Ok(Ok(()))
 }
 
 /// Reads a command line of gcc or of a compiler that takes gcc's options, by this project's profile
@@ -110,8 +111,16 @@ pub fn parse_arguments<S: SearchableArgInfo<ArgData> + Drop>(
     ensures { IfOk result (λ r. reading_of r
         ≡ profile_reading (S.chosen arg_info) cwd.now plusplus kind (map string_bytes arguments.now)) }
 {
-    match gather(alloc, arguments, cwd, arg_info)? {
-        Ok(gathered) => gathered.finish(alloc, plusplus, kind),
-        Err(text) => Ok(CompilerArguments::CannotCache(text, None)),
+    let mut gathered = Gathered::new(alloc);
+    match gather(&mut gathered, alloc, arguments, cwd, &arg_info) {
+        Ok(Ok(_)) => gathered.finish(alloc, plusplus, kind),
+        Ok(Err(text)) => {
+            drop(gathered);
+            Ok(CompilerArguments::CannotCache(text, None))
+        }
+        Err(refused) => {
+            drop(gathered);
+            Err(refused)
+        }
     }
 }

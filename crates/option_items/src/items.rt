@@ -5,11 +5,12 @@ ghost use Rattle.std.specs.Option.{option_map, option_copied};
 ghost use Rattle.std.specs.List.{remove};
 ghost use Rattle.option_items.specs.Table.{entry_of};
 ghost use Rattle.option_items.specs.Items.{item_of, item_read};
+ghost use Rattle.option_items.specs.Views.{item_seen};
 ghost use Rattle.option_items.specs.Items as spec;
 ghost use Rattle.option_items.specs.WordsLaw as law;
 
 use crate::table::{ArgDisposition, ArgInfo, SearchableArgInfo};
-use crate::views::view_item;
+use crate::views::{ArgumentView, view_item};
 use std::alloc::{AllocError, Global};
 use std::marker::{Model, PhantomData};
 use texts::words::Words;
@@ -155,17 +156,22 @@ impl<T: Copy> Argument<T> {
         ensures { IfOk result (λ words. words ≡ spec.words_of (item_of self.now)) }
     {
         let mut words = Words::new(alloc);
+        self.view().write(alloc, &mut words)?;
+        Ok(words)
+    }
+
+    // The same item, with texts that stand in this one.
+    fn view(&self) -> ArgumentView<'_, T>
+        ensures { item_seen result ≡ item_of self.now }
+    {
         match self {
-            Argument::Raw(word) | Argument::UnknownFlag(word) => {
-                words.push(String::from_str(alloc, word.as_str())?)?;
-            }
-            Argument::Flag(text, _) => words.push(String::from_str(alloc, text)?)?,
-            Argument::WithValue(text, _, value, form) => {
-                let value = String::from_str(alloc, value.as_str())?;
-                write_value(alloc, text, value, *form, &mut words)?;
+            Argument::Raw(word) => ArgumentView::Raw(word.as_str()),
+            Argument::UnknownFlag(word) => ArgumentView::UnknownFlag(word.as_str()),
+            Argument::Flag(text, kind) => ArgumentView::Flag(text, *kind),
+            Argument::WithValue(text, kind, value, form) => {
+                ArgumentView::WithValue(text, *kind, value.as_str(), *form)
             }
         }
-        Ok(words)
     }
 
     /// Puts the words that the item is written as last among `words`, and takes the item's texts for

@@ -42,14 +42,13 @@ fn taken(pairs: Arc<Vec<(String, String)>>) -> Result<Vec<(String, String)>, All
 // Puts a pair last in pairs that several lists may share: the other lists keep theirs.
 fn push_shared(
     pairs: &mut Arc<Vec<(String, String)>>,
-    name: String,
-    value: String,
+    pair: (String, String),
 ) -> Result<(), AllocError>
-    ensures ok { OnOk result (map pair_of (arc_value pairs.new).items ≡ map pair_of (arc_value pairs.old).items ++ (string_bytes name, string_bytes value) ∷ []) }
+    ensures ok { OnOk result (map pair_of (arc_value pairs.new).items ≡ map pair_of (arc_value pairs.old).items ++ pair_of pair ∷ []) }
     ensures err { OnErr result (map pair_of (arc_value pairs.new).items ≡ map pair_of (arc_value pairs.old).items) }
 {
     let own = Arc::make_mut(pairs)?;
-    own.push((name, value))?;
+    own.push(pair)?;
     Ok(())
 }
 
@@ -148,9 +147,10 @@ impl Variables {
         ensures ok { OnOk result (self.new ≡ self.old ++ (string_bytes name, string_bytes value) ∷ []) }
         ensures err { OnErr result (self.new ≡ self.old) }
     {
+        let pair = (name, value);
         match &mut self.pairs {
-            Pairs::Own(pairs) => pairs.push((name, value))?,
-            Pairs::Shared(pairs) => push_shared(pairs, name, value)?,
+            Pairs::Own(pairs) => pairs.push(pair)?,
+            Pairs::Shared(pairs) => push_shared(pairs, pair)?,
         }
         Ok(())
     }

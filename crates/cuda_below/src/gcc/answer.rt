@@ -1,10 +1,10 @@
 //! What is answered to a gcc line, of what its items ask for.
 
 ghost use Rattle.std.specs.Prelude.{◌≡◌, ◌++◌, map, IfOk, OnOk, MatchResult, string_bytes};
-ghost use Rattle.cuda_below.specs.Compiler.{reading_of};
+ghost use Rattle.cuda_below.specs.Compiler.{reading_of, accepted};
 ghost use Rattle.cuda_below.specs.Gcc as spec;
 
-use super::gathered::{Gathered, push_two};
+use super::gathered::Gathered;
 use crate::arguments::{ColorMode, CompilerArguments, ParsedArguments};
 use crate::compiler::CCompilerKind;
 use crate::outputs::{ArtifactDescriptor, Outputs};
@@ -24,11 +24,7 @@ impl Gathered {
         if self.language.is_some() {
             return self.language;
         }
-        let input = self.inputs.as_slice().first()?;
-        match Language::from_file_name(input.as_str())? {
-            Language::C if plusplus => Some(Language::Cxx),
-            language => Some(language),
-        }
+        language_of_first(plusplus, self.inputs.as_slice())
     }
 
     // Whether the line asks for a compilation. A single CUDA file is one for nvcc.
@@ -75,29 +71,50 @@ impl Gathered {
         }
         match &self.target {
             Some(words) => self.dependency_args.extend(alloc, words.as_slice())?,
-            None => push_two(alloc, &mut self.dependency_args, "-MT", obj)?,
+            None => self.dependency_args.push_pair(alloc, "-MT", obj)?,
         }
-        if self.dependency_file.is_none() {
-            let path = with_extension(alloc, obj, "d")?;
-            push_two(alloc, &mut self.dependency_args, "-MF", path.as_str())?;
+        if self.dependency_file.is_some() {
+            return Ok(());
         }
-        Ok(())
+        let path = with_extension(alloc, obj, "d")?;
+        self.dependency_args.push_pair(alloc, "-MF", path.as_str())
     }
 
-    // The arguments of a line whose input and language are known.
+    // The files that the command makes of `input`. Adds the words that name the target.
+    fn make_outputs(&mut self, alloc: Global, input: &str) -> Result<Outputs, AllocError>
+        ensures outputs { IfOk result (λ o. o ≡ spec.outputs_of (spec.obj_of (asked_by self.old) input.now)
+            (spec.dependency_file_of (asked_by self.old) (spec.obj_of (asked_by self.old) input.now))) }
+        ensures words { OnOk result (asked_by self.new ≡ record (asked_by self.old) {
+          dependency_args = (self.old.dependency_args ++ spec.target_words (asked_by self.old) (spec.obj_of (asked_by self.old) input.now))
+              ++ spec.dependency_file_words (asked_by self.old) (spec.obj_of (asked_by self.old) input.now);
+        }) }
+    {
+        let obj = self.obj_path(alloc, input)?;
+        self.add_target(alloc, obj.as_str())?;
+        let dependency_file = self.dependency_path(alloc, obj.as_str())?;
+        outputs(alloc, obj, dependency_file)
+    }
+
+    // What is answered to a line whose input and language are known.
     fn accept(
         mut self,
         alloc: Global,
         input: Text,
         language: Language,
-    ) -> Result<ParsedArguments, AllocError>
-        ensures { IfOk result (λ p. p ≡ spec.arguments_of (asked_by self) input language (spec.obj_of (asked_by self) input)) }
+    ) -> Result<CompilerArguments<ParsedArguments>, AllocError>
+        ensures { IfOk result (λ r. reading_of r
+            ≡ accepted (spec.arguments_of (asked_by self) input language (spec.obj_of (asked_by self) input))) }
     {
-        let obj = self.obj_path(alloc, input.as_str())?;
-        self.add_target(alloc, obj.as_str())?;
-        let dependency_file = self.dependency_path(alloc, obj.as_str())?;
-        let outputs = outputs(alloc, obj, dependency_file)?;
-        Ok(self.into_arguments(alloc, input, language, outputs))
+        match self.make_outputs(alloc, input.as_str()) {
+            Ok(outputs) => {
+                let arguments = self.into_arguments(alloc, input, language, outputs);
+                Ok(CompilerArguments::Ok(arguments))
+            }
+            Err(refused) => {
+                drop(self);
+                Err(refused)
+            }
+        }
     }
 
     // The arguments of a line, of what it asks for.
@@ -137,6 +154,7 @@ impl Gathered {
     }
 
     /// What is answered to a line that asks for this.
+    // It is dropped by calls: so many fields that are dropped in place make a long proof.
     pub fn finish(
         self,
         alloc: Global,
@@ -147,16 +165,42 @@ impl Gathered {
     {
         let language = self.language_read(plusplus);
         if !self.is_compilation(kind, language) {
+            drop(self);
             return Ok(CompilerArguments::NotCompilation);
         }
         match sole_input(self.inputs.as_slice(), language) {
-            Ok((input, language)) => {
-                let input = Text::copy_of(alloc, input)?;
-                Ok(CompilerArguments::Ok(self.accept(alloc, input, language)?))
+            Ok((input, language)) => match Text::copy_of(alloc, input) {
+                Ok(input) => self.accept(alloc, input, language),
+                Err(refused) => {
+                    drop(self);
+                    Err(refused)
+                }
+            },
+            Err(text) => {
+                drop(self);
+                Ok(CompilerArguments::CannotCache(text, None))
             }
-            Err(text) => Ok(CompilerArguments::CannotCache(text, None)),
         }
     }
+}
+
+// A file's language for a compiler that takes C for C++ if `plusplus`.
+fn as_plusplus(plusplus: bool, language: Language) -> Language
+    ensures { result ≡ spec.as_plusplus plusplus language }
+{
+    match language {
+        Language::C if plusplus => Language::Cxx,
+        language => language,
+    }
+}
+
+// The language of the first input, by its file name.
+fn language_of_first(plusplus: bool, inputs: &[String]) -> Option<Language>
+    ensures { result ≡ spec.language_of_first plusplus (map string_bytes inputs.now) }
+{
+    let input = inputs.first()?;
+    let language = Language::from_file_name(input.as_str())?;
+    Some(as_plusplus(plusplus, language))
 }
 
 // The input of a line and its language, or the text that the line is refused with.

@@ -1,6 +1,6 @@
 //! What the items of a gcc line ask for.
 
-ghost use Rattle.std.specs.Prelude.{◌≡◌, [], ◌∷◌, ◌++◌, true, false, OnOk};
+ghost use Rattle.std.specs.Prelude.{◌≡◌, [], ◌∷◌, ◌++◌, true, false, IfOk, OnOk};
 ghost use Rattle.option_items.specs.Items.{item_of, words_of, text_of};
 ghost use Rattle.cuda_below.specs.GccItems as spec;
 
@@ -49,19 +49,13 @@ fn written(item: &Argument<ArgData>) -> NormalizedDisposition
     }
 }
 
-/// Puts two words last.
-pub fn push_two(
-    alloc: Global,
-    words: &mut Words,
-    first: &str,
-    second: &str,
-) -> Result<(), AllocError>
-    ensures { OnOk result (words.new ≡ words.old ++ first.now ∷ second.now ∷ []) }
+// Two words.
+fn two_words(alloc: Global, first: &str, second: &str) -> Result<Words, AllocError>
+    ensures { IfOk result (λ w. w ≡ first.now ∷ second.now ∷ []) }
 {
-    words.push_two(
-        String::from_str(alloc, first)?,
-        String::from_str(alloc, second)?,
-    )
+    let mut words = Words::new(alloc);
+    words.push_pair(alloc, first, second)?;
+    Ok(words)
 }
 
 impl Gathered {
@@ -137,11 +131,7 @@ impl Gathered {
             ArgData::ExtraHashFile => self.extra_hash_files.push(join(alloc, cwd, value)?)?,
             ArgData::NeedDepTarget => self.target_needed = true,
             ArgData::DepArgumentPath => self.dependency_file = Some(Text::copy_of(alloc, value)?),
-            ArgData::DepTarget => {
-                let mut target = Words::new(alloc);
-                push_two(alloc, &mut target, text, value)?;
-                self.target = Some(target);
-            }
+            ArgData::DepTarget => self.target = Some(two_words(alloc, text, value)?),
             ArgData::DoCompilation => self.compilation_flag = Some(Text::copy_of(alloc, text)?),
             ArgData::Output => self.obj = Some(Text::copy_of(alloc, value)?),
             ArgData::Language => self.language = language_from_gcc_arg(value).or(self.language),

@@ -46,8 +46,5 @@ pub fn push_language(alloc: Global, words: &mut Words, language: Language) -> Re
     let Some(name) = language_to_gcc_arg(language) else {
         return Ok(());
     };
-    words.push_two(
-        String::from_str(alloc, "-x")?,
-        String::from_str(alloc, name)?,
-    )
+    words.push_pair(alloc, "-x", name)
 }

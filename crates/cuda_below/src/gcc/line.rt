@@ -8,14 +8,12 @@ ghost use Rattle.cuda_below.specs.Outputs.{entry_at};
 ghost use Rattle.cuda_below.specs.Command.{written};
 ghost use Rattle.cuda_below.specs.GccLine.{flag_words, input_words, option_words, gcc_words};
 
-use super::gathered::push_two;
 use super::languages::push_language;
 use crate::arguments::ParsedArguments;
 use crate::command::{Cacheable, SingleCompileCommand};
 use std::alloc::{AllocError, Global};
 use texts::fault::Fault;
 use texts::text::Text;
-use texts::variables::Variables;
 use texts::words::Words;
 
 // Puts the flag that asks for a compilation last, if there is one.
@@ -25,7 +23,7 @@ fn push_flag(alloc: Global, words: &mut Words, flag: &str) -> Result<(), AllocEr
     if flag.is_empty() {
         return Ok(());
     }
-    words.push(String::from_str(alloc, flag)?)
+    words.push_str(alloc, flag)
 }
 
 // Puts the options last.
@@ -52,9 +50,26 @@ fn push_input(
     ensures { OnOk result (words.new ≡ words.old ++ input_words is_after_dashes input.now) }
 {
     if is_after_dashes {
-        return push_two(alloc, words, "--", input);
+        return words.push_pair(alloc, "--", input);
     }
-    words.push(String::from_str(alloc, input)?)
+    words.push_str(alloc, input)
+}
+
+// Puts the words of a gcc line last.
+fn push_line(
+    alloc: Global,
+    words: &mut Words,
+    parsed_args: &ParsedArguments,
+    obj: &Text,
+) -> Result<(), AllocError>
+    ensures { OnOk result (words.new ≡ words.old ++ gcc_words parsed_args.now obj.now) }
+{
+    push_language(alloc, words, parsed_args.language)?;
+    push_flag(alloc, words, parsed_args.compilation_flag.as_str())?;
+    words.push_pair(alloc, "-o", obj.as_str())?;
+    push_options(alloc, words, parsed_args)?;
+    let input = parsed_args.input.as_str();
+    push_input(alloc, words, parsed_args.double_dash_input, input)
 }
 
 // The words of a gcc line.
@@ -62,12 +77,7 @@ fn line_words(alloc: Global, parsed_args: &ParsedArguments, obj: &Text) -> Resul
     ensures { IfOk result (λ w. w ≡ gcc_words parsed_args.now obj.now) }
 {
     let mut words = Words::new(alloc);
-    push_language(alloc, &mut words, parsed_args.language)?;
-    push_flag(alloc, &mut words, parsed_args.compilation_flag.as_str())?;
-    push_two(alloc, &mut words, "-o", obj.as_str())?;
-    push_options(alloc, &mut words, parsed_args)?;
-    let input = parsed_args.input.as_str();
-    push_input(alloc, &mut words, parsed_args.double_dash_input, input)?;
+    push_line(alloc, &mut words, parsed_args, obj)?;
     Ok(words)
 }
 
@@ -97,12 +107,7 @@ pub fn generate_compile_commands(
             language: parsed_args.language,
         });
     };
-    let command = SingleCompileCommand {
-        arguments: line_words(alloc, parsed_args, &obj.path)?,
-        executable: Text::copy_of(alloc, executable)?,
-        env_vars: Variables::copy_of(alloc, env_vars)?,
-        cwd: Text::copy_of(alloc, cwd)?,
-        share_jobserver: false,
-    };
+    let words = line_words(alloc, parsed_args, &obj.path)?;
+    let command = SingleCompileCommand::copy_of(alloc, executable, words, cwd, env_vars)?;
     Ok((command, Cacheable::Yes))
 }

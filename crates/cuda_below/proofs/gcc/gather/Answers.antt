@@ -11,7 +11,7 @@ use Rattle.cuda_below.proofs.gcc.gather.Goals as goal
 
 pub returns-then-is_dashes : goal.returns-then-is_dashes
 returns-then-is_dashes g c =
-    let chosen = g.S.SearchableArgInfo.chosen c.args.arg_info in
+    let chosen = g.S.SearchableArgInfo.chosen c.args.arg_info.now in
     let asked = subst (λ (r : Result (Argument ArgData) ArgParseError). Completes (said_of c.in-Some.word.now (option_map entry_of (option_copied c.search-row.result))) c.next_word.new.self (item_read r) c.read_item.new.line) c.in-Ok.is c.in_ok-item.ensures.item in
     let read = subst (λ (e : Option (Entry ArgData)). Completes (said_of c.in-Some.word.now e) c.next_word.new.self (item_of c.in-Ok.item) c.read_item.new.line) c.search-row.ensures asked in
     rw c.in_ok-take_inputs.ensures (c.loop-word.invariant
@@ -20,7 +20,7 @@ returns-then-is_dashes g c =
 
 pub returns-in-Some-refusal : goal.returns-in-Some-refusal
 returns-in-Some-refusal g c =
-    let chosen = g.S.SearchableArgInfo.chosen c.args.arg_info in
+    let chosen = g.S.SearchableArgInfo.chosen c.args.arg_info.now in
     let asked = subst (λ (r : Result (Argument ArgData) ArgParseError). Completes (said_of c.in-Some.word.now (option_map entry_of (option_copied c.search-row.result))) c.next_word.new.self (item_read r) c.read_item.new.line) c.in-Ok.is c.in_ok-item.ensures.item in
     let read = subst (λ (e : Option (Entry ArgData)). Completes (said_of c.in-Some.word.now e) c.next_word.new.self (item_of c.in-Ok.item) c.read_item.new.line) c.search-row.ensures asked in
     c.loop-word.invariant
@@ -33,7 +33,7 @@ loop-word-smaller g c =
 
 pub loop-word-preserved : goal.loop-word-preserved
 loop-word-preserved g c =
-    let chosen = g.S.SearchableArgInfo.chosen c.args.arg_info in
+    let chosen = g.S.SearchableArgInfo.chosen c.args.arg_info.now in
     let asked = subst (λ (r : Result (Argument ArgData) ArgParseError). Completes (said_of c.in-Some.word.now (option_map entry_of (option_copied c.search-row.result))) c.next_word.new.self (item_read r) c.read_item.new.line) c.in-Ok.is c.in_ok-item.ensures.item in
     let read = subst (λ (e : Option (Entry ArgData)). Completes (said_of c.in-Some.word.now e) c.next_word.new.self (item_of c.in-Ok.item) c.read_item.new.line) c.search-row.ensures asked in
     c.loop-word.invariant

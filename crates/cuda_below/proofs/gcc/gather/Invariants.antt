@@ -6,7 +6,7 @@ use Rattle.cuda_below.proofs.gcc.gather.Given as goal
 
 -- what the whole line asks for is what the items so far and the words that are left ask for
 abbrev pub invariant-loop-word : goal.invariant-loop-word
-invariant-loop-word g l = gathering (g.S.SearchableArgInfo.chosen l.arg_info) l.fn.cwd (map string_bytes l.fn.arguments) ≡ gathering_after (g.S.SearchableArgInfo.chosen l.arg_info) l.fn.cwd (asked_by l.gathered) l.line
+invariant-loop-word g l = gathering (g.S.SearchableArgInfo.chosen l.fn.arg_info) l.fn.cwd (map string_bytes l.fn.arguments) ≡ gathering_after (g.S.SearchableArgInfo.chosen l.fn.arg_info) l.fn.cwd (asked_by l.gathered) l.line
 
 abbrev pub decreases-loop-word : goal.decreases-loop-word
 decreases-loop-word g l = length l.line

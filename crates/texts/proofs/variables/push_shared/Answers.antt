@@ -1,4 +1,4 @@
-use Rattle.std.proofs.Common.{◌∷◌, [], ◌++◌, ◌∙◌, ap, map, string_bytes}
+use Rattle.std.proofs.Common.{◌∷◌, [], ◌++◌, ◌∙◌, ap, map}
 use Rattle.std.specs.Arc.{arc_value}
 use Rattle.std.specs.Result.{is_ok}
 use Rattle.std.proofs.lemmas.List.{map-append}
@@ -18,5 +18,5 @@ pub returns-clause-ok : goal.returns-clause-ok
 returns-clause-ok c =
     ap (λ v. map pair_of v.items) (c.make_mut.follows.holds c.push.new.self (ap is_ok c.in_ok-own.was))
     ∙ ap (map pair_of) c.in_ok-push.ensures.items
-    ∙ map-append pair_of c.in_ok-own.own.now.items ((c.args.name, c.args.value) ∷ [])
-    ∙ ap (λ t. t ++ (string_bytes c.args.name, string_bytes c.args.value) ∷ []) (same-or-cloned-pairs (arc_value c.args.pairs.now) c.in_ok-own.own.now c.in_ok-own.ensures.value)
+    ∙ map-append pair_of c.in_ok-own.own.now.items (c.args.pair ∷ [])
+    ∙ ap (λ t. t ++ pair_of c.args.pair ∷ []) (same-or-cloned-pairs (arc_value c.args.pairs.now) c.in_ok-own.own.now c.in_ok-own.ensures.value)
