@@ -1,4 +1,5 @@
-use Rattle.std.proofs.Common.{◌≡◌, ℕ, List, [], ◌∷◌, ◌++◌, ◌∙◌, ap, subst, map}
+use Rattle.std.proofs.Common.{◌≡◌, ℕ, List, [], ◌∷◌, ◌++◌, ◌∙◌, ap, sym, subst, map, append-nil}
+use Rattle.std.proofs.lemmas.List.{nil_from_length}
 use Rattle.dry_runs.specs.CommandLines.{line_seen, words_of_command}
 use Rattle.canonical_names.specs.Renaming.{seen_after, renamed, renamed_after, renamed_words, with_words}
 use Rattle.canonical_names.proofs.RemapLemmas.{commands-step}
@@ -25,3 +26,12 @@ loop-command-preserved c =
           ∙ ap (λ names. (done ++ with_words command (renamed_words suffixes before.1 (words_of_command command)) ∷ []) ++ renamed_after suffixes names rest) seen
           ∙ commands-step suffixes before.1 done target rest command (subst (λ cs. done ++ renamed_after suffixes before.1 cs ≡ target) left c.loop-command.invariant.commands);
     }
+
+pub returns : goal.returns
+returns c =
+    let suffixes = c.args.suffixes.now in
+    let names = c.loop-command.renames.1 in
+    let done = map line_seen c.loop-command.renamed.items in
+    let rest = c.loop-command.command-iterator.rest in
+    let none_left : rest.items ≡ [] = nil_from_length _ (sym rest.ok.0 ∙ c.in-None.ensures.steps.0) in
+    c.from_vec.ensures ∙ sym (append-nil done) ∙ ap (λ cs. done ++ renamed_after suffixes names (map line_seen cs)) (sym none_left) ∙ c.loop-command.invariant.commands
