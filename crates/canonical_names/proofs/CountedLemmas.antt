@@ -206,7 +206,7 @@ entry-last (e ∷ es) n c h =
 pub names-put : (es more : List (String Global × String Global)) (n c : String Global) → more ≡ es ++ (n, c) ∷ [] → old_names (map pair_of more) ≡ old_names (map pair_of es) ++ string_bytes n ∷ []
 names-put es more n c is = ap (λ l. old_names (map pair_of l)) is ∙ ap old_names (pairs-push es n c) ∙ old_names-push (map pair_of es) (string_bytes n) (string_bytes c)
 
-class-at : (suffixes : List (List ℕ)) (i : ℕ) → i < length suffixes → (class : List ℕ) × (slice_get suffixes i ≡ Some class)
+pub class-at : (suffixes : List (List ℕ)) (i : ℕ) → i < length suffixes → (class : List ℕ) × (slice_get suffixes i ≡ Some class)
 class-at [] i lt = absurd (omega (arith, lt))
 class-at (s ∷ suffixes) zero lt = (s, refl)
 class-at (s ∷ suffixes) (suc i) lt = class-at suffixes i (omega (arith, lt))

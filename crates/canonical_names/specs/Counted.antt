@@ -1,14 +1,18 @@
 -- What a map of canonical names and its counters hold.
-use Rattle.std.specs.Prelude.{◌≡◌, ℕ, List, ◌++◌, Bool, true, nat_eq, length, map, filter, is_some, Some, codes}
+use Rattle.std.specs.Prelude.{◌≡◌, ℕ, List, ◌++◌, Bool, true, nat_eq, length, map, filter, is_some, Option, Some, None, if◌then◌else◌, codes}
 use Rattle.std.specs.Fmt.{decimal}
 use Rattle.std.specs.List.{ends_with, list_all, slice_get}
-use Rattle.canonical_names.specs.Generated.{class_of_name}
+use Rattle.canonical_names.specs.Generated.{begins_with_dash, class_of_name}
 use Rattle.canonical_names.specs.Renaming.{canonical_name}
 use Rattle.canonical_names.specs.SuffixRule.{are_suffixes}
 
 -- the names of a list of names and what they became
 abbrev pub old_names : List (List ℕ × List ℕ) → List (List ℕ)
 old_names pairs = map (λ p. p.0) pairs
+
+-- the class of a core, which doesn't begin with `-`
+abbrev pub class_of_core : List (List ℕ) → List ℕ → Option (List ℕ)
+class_of_core suffixes core = if begins_with_dash core then None else class_of_name suffixes core
 
 -- how many names are of a class
 abbrev pub count_of : List (List ℕ) → List ℕ → ℕ

@@ -1,7 +1,10 @@
 //! The words of a command with canonical names in the place of generated ones.
 
-ghost use Rattle.std.specs.Prelude.{◌≡◌, ◌⊎◌, ℕ, map, take, IfOk, OnOk, OnErr, string_bytes};
+ghost use Rattle.std.specs.Prelude.{◌≡◌, ◌⊎◌, ◌++◌, ◌∷◌, [], ℕ, map, take, IfOk, OnOk, OnErr, string_bytes};
 ghost use Rattle.std.specs.Option.{option_map, unwrap_or};
+ghost use Rattle.dry_runs.specs.CommandLines.{line_seen, words_of_command};
+ghost use Rattle.texts.specs.Lists.{with_name};
+ghost use Rattle.canonical_names.specs.Counted.{class_of_core};
 ghost use Rattle.canonical_names.specs.Renaming as spec;
 
 use crate::renames::Renames;
@@ -10,6 +13,18 @@ use crate::words::{core, with_head};
 use dry_runs::Commands;
 use std::alloc::{AllocError, Global};
 use texts::words::Words;
+
+// The new core of a word, by its core.
+fn remap_core(alloc: Global, text: &str, renames: &mut Renames) -> Result<String, AllocError>
+    ensures text { IfOk result (λ new. string_bytes new ≡ spec.renamed_core renames.old.0 renames.old.1 text.now (class_of_core renames.old.0 text.now)) }
+    ensures names { OnOk result (renames.new ≡ (renames.old.0, with_name renames.old.1 (option_map (λ _. text.now) (class_of_core renames.old.0 text.now)))) }
+    ensures err { OnErr result (renames.new ≡ renames.old) }
+{
+    match renames.class(text) {
+        None => renames.rewritten(alloc, text),
+        Some(class) => renames.canonical(alloc, text, class),
+    }
+}
 
 // The new text of a word, unless it stays as it is. After a refusal the names that were seen may have
 // the word's own.
@@ -25,11 +40,7 @@ fn remap_word(
     if renames.keep(word) {
         return Ok(None);
     }
-    let text = core(word);
-    let new = match renames.class(text) {
-        None => renames.rewritten(alloc, text)?,
-        Some(class) => renames.canonical(alloc, text, class)?,
-    };
+    let new = remap_core(alloc, core(word), renames)?;
     Ok(Some(with_head(alloc, word, new)?))
 }
 
@@ -92,6 +103,23 @@ fn remap_words(
     Ok(renamed)
 }
 
+// Puts a command last, its words renamed.
+fn push_remapped(
+    alloc: Global,
+    command: (usize, String, Vec<String>),
+    renames: &mut Renames,
+    renamed: &mut Vec<(usize, String, Vec<String>)>,
+) -> Result<(), AllocError>
+    ensures names { OnOk result (renames.new ≡ (renames.old.0, spec.seen_after renames.old.0 renames.old.1 (words_of_command (line_seen command)))) }
+    ensures commands { OnOk result (map line_seen renamed.new.items ≡ map line_seen renamed.old.items
+        ++ spec.with_words (line_seen command) (spec.renamed_words renames.old.0 renames.old.1 (words_of_command (line_seen command))) ∷ []) }
+{
+    let (line, program, words) = command;
+    let words = remap_words(alloc, words, renames)?;
+    renamed.push((line, program, words))?;
+    Ok(())
+}
+
 /// The commands of a run with canonical names in the place of generated ones: those of all its commands
 /// count, in order.
 pub fn remap_commands(
@@ -103,9 +131,8 @@ pub fn remap_commands(
 {
     let mut renames = Renames::new(alloc, suffixes)?;
     let mut renamed = Vec::new(alloc);
-    for (line, program, words) in commands.into_vec() {
-        let words = remap_words(alloc, words, &mut renames)?;
-        renamed.push((line, program, words))?;
+    for command in commands.into_vec() {
+        push_remapped(alloc, command, &mut renames, &mut renamed)?;
     }
     Ok(Commands::from_vec(renamed))
 }

@@ -66,6 +66,18 @@ fn of_steps<'a>(alloc: Global, names: &[&'a str]) -> Result<Vec<&'a str>, AllocE
     Ok(kept)
 }
 
+// The names in `appearances` that end in `.cpp1.ii`.
+fn step_names<'a>(
+    alloc: Global,
+    commands: &'a [(usize, String, Vec<String>)],
+    suffixes: &Suffixes,
+) -> Result<Vec<&'a str>, AllocError>
+    ensures { IfOk result (λ names. map name_shown names.items ≡ step.step_names suffixes.now (map line_seen commands.now)) }
+{
+    let names = appearances(alloc, commands, suffixes)?;
+    of_steps(alloc, names.as_slice())
+}
+
 fn are_bare(names: &[&str]) -> bool
     ensures { result ≡ list_all is_bare_name (map name_shown names.now) }
 {
@@ -205,10 +217,8 @@ pub fn is_step_shadow(
 ) -> Result<bool, AllocError>
     ensures { IfOk result (λ b. b ≡ step.is_step_shadow suffixes.now run1.now.commands run2.now.commands tmp.now) }
 {
-    let first = appearances(alloc, run1.commands.as_slice(), suffixes)?;
-    let second = appearances(alloc, run2.commands.as_slice(), suffixes)?;
-    let first = of_steps(alloc, first.as_slice())?;
-    let second = of_steps(alloc, second.as_slice())?;
+    let first = step_names(alloc, run1.commands.as_slice(), suffixes)?;
+    let second = step_names(alloc, run2.commands.as_slice(), suffixes)?;
     let commands = run2.commands.as_slice();
     are_shadows(alloc, first.as_slice(), second.as_slice(), tmp, commands)
 }

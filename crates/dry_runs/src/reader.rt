@@ -65,7 +65,7 @@ pub fn read_dry_run<W: Which>(
 }
 
 // What the lines of a dry run are read with.
-#[derive(Clone, Copy)]
+#[derive(Drop)]
 struct Setting<'a, W> {
     alloc: Global,
     run: usize,

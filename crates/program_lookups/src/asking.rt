@@ -1,11 +1,13 @@
 //! The look-ups that reading a dry run makes.
 
-ghost use Rattle.std.specs.Prelude.{◌≡◌, [], map, codes, IfOk, string_bytes};
+ghost use Rattle.std.specs.Prelude.{◌≡◌, [], map, codes, IfOk, OnOk, string_bytes};
 ghost use Rattle.std.specs.Option.{option_copied};
+ghost use Rattle.std.specs.Str.Lines.{lines};
 ghost use Rattle.shell_words.specs.Shell.Splitting.{shell_words};
 ghost use Rattle.texts.specs.Variables.{pair_of, first_value};
 ghost use Rattle.dry_runs.specs.DryRunLines.{marked_text};
 ghost use Rattle.dry_runs.specs.Environment.{expanded};
+ghost use Rattle.program_lookups.specs.Lookup.{with_lookups};
 ghost use Rattle.program_lookups.specs.Asked as spec;
 ghost use Rattle.program_lookups.specs.Asked.{asked_of, asked_behind as asked_behind_list};
 
@@ -121,6 +123,29 @@ fn asking_of(
     }
 }
 
+// Puts the look-ups that lines ask for behind the environment lines `env` last, where the list lacks them.
+fn add_asked(
+    alloc: Global,
+    lookups: &mut Vec<Lookup>,
+    env: &mut Variables,
+    dry_run: &[u8],
+    folder: &str,
+) -> Result<(), AllocError>
+    ensures { OnOk result (lookups.new.items ≡ with_lookups lookups.old.items (spec.asked_of_lines folder.now env.old (lines dry_run.now))) }
+{
+    let mut rest = dry_run;
+    while let Some((line, behind)) = first_line(rest) {
+        match asking_of(alloc, env, folder, line)? {
+            Asking::Nothing => {}
+            Asking::Sets(name, value) => env.push(name.into_string(), value.into_string())?,
+            Asking::Asks(lookup) => add(lookups, lookup)?,
+            Asking::Ends => return Ok(()),
+        }
+        rest = behind;
+    }
+    Ok(())
+}
+
 // The look-ups of a list, and behind them those of a dry run that the list lacks.
 pub(crate) fn asked_behind(
     alloc: Global,
@@ -132,16 +157,7 @@ pub(crate) fn asked_behind(
 {
     let mut lookups = known;
     let mut env = Variables::new(alloc);
-    let mut rest = dry_run;
-    while let Some((line, behind)) = first_line(rest) {
-        match asking_of(alloc, &env, folder, line)? {
-            Asking::Nothing => {}
-            Asking::Sets(name, value) => env.push(name.into_string(), value.into_string())?,
-            Asking::Asks(lookup) => add(&mut lookups, lookup)?,
-            Asking::Ends => return Ok(lookups),
-        }
-        rest = behind;
-    }
+    add_asked(alloc, &mut lookups, &mut env, dry_run, folder)?;
     Ok(lookups)
 }
 
