@@ -13,3 +13,4 @@ pub mod PutLemmas
 pub mod RisingLemmas
 pub mod SameLemmas
 pub mod ShadowLawLemmas
+pub mod WordLemmas

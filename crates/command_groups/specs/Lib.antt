@@ -1,3 +1,4 @@
+pub mod CallView
 pub mod Cutting
 pub mod CuttingView
 pub mod EntryView
@@ -23,3 +24,4 @@ pub mod ShadowLaws
 pub mod ShadowRows
 pub mod Stage
 pub mod StageView
+pub mod WordPlace

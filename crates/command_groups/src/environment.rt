@@ -58,14 +58,14 @@ pub fn with_variables(
     Ok(Variables::from_vec(environment))
 }
 
-// The environment with one more pair, of a name and an empty value.
+// The environment with one more pair, of a name and an empty value, which its copies share.
 fn marked(alloc: Global, name: &str, env_vars: &Variables) -> Result<Variables, AllocError>
     ensures { IfOk result (λ environment. environment ≡ env_vars.now ++ (name.now, []) ∷ []) }
 {
     let mut environment = env_vars.try_clone(alloc)?;
     let name = String::from_str(alloc, name)?;
     environment.push(name, String::new(alloc))?;
-    Ok(environment)
+    environment.share(alloc)
 }
 
 /// The environments of a plan's commands, which the commands share. Contracts see the one that most commands have.
@@ -97,8 +97,20 @@ impl Environments {
         let marked = marked(alloc, "__SCCACHE_THIS_IS_A_CUDA_COMPILATION__", &env_vars)?;
         Ok(Environments {
             plain: env_vars.share(alloc)?,
-            marked: marked.share(alloc)?,
+            marked,
         })
+    }
+
+    /// The environments of commands that run in `env_vars`, with what a dry run's environment lines set.
+    pub fn folded(
+        alloc: Global,
+        env_vars: &[(String, String)],
+        variables: Variables,
+    ) -> Result<Environments, AllocError>
+        ensures { IfOk result (λ environments. environments ≡ spec.with_variables (map pair_of env_vars.now) variables) }
+    {
+        let env_vars = with_variables(alloc, env_vars, variables)?;
+        Environments::new(alloc, env_vars)
     }
 
     /// The environment of a stage.

@@ -19,7 +19,7 @@ use cuda_below::compiler::NvccHostCompiler;
 use std::alloc::{AllocError, Global};
 
 /// Where a command goes.
-#[derive(Clone, Copy, Debug, PartialEq)]
+#[derive(Clone, Copy)]
 pub enum Label {
     /// The front group.
     Front,
@@ -42,7 +42,7 @@ fn device_label(opening: Option<Opening>, reason: Reason) -> Label
 }
 
 /// A command with its edited words, its stage and its label.
-#[derive(Debug, Drop)]
+#[derive(Drop)]
 pub struct LabelledCommand {
     pub command: SelectedCommand,
     pub stage: Stage,

@@ -14,7 +14,7 @@ use std::vec::IntoIter;
 use texts::text::file_stem;
 
 /// A command of a dry run that is planned. Commands are compared by line and run first.
-#[derive(Debug, PartialEq, Eq, PartialOrd, Ord, Drop)]
+#[derive(PartialEq, Eq, PartialOrd, Ord, Drop)]
 pub struct SelectedCommand {
     /// The number of its line in the dry run, from 0.
     pub line: usize,

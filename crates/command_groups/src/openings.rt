@@ -12,7 +12,7 @@ use std::collections::HashMap;
 use std::marker::Model;
 
 /// An opening of a device group. A group that is opened again has a new opening, and its number stays.
-#[derive(Clone, Copy, Debug, PartialEq)]
+#[derive(Clone, Copy)]
 pub struct Opening {
     /// The group's number, from 0 by first appearance of the names.
     pub number: usize,

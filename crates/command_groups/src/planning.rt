@@ -7,13 +7,14 @@ ghost use Rattle.texts.specs.Variables.{pair_of};
 ghost use Rattle.dry_runs.specs.CommandLines.{line_of};
 ghost use Rattle.dry_runs.specs.DryRun.{dry_run_of};
 ghost use Rattle.dry_runs.specs.Reading.{dry_run_seen};
+ghost use Rattle.command_groups.specs.CallView.{call_seen};
 ghost use Rattle.command_groups.specs.CuttingView.{setting_seen};
 ghost use Rattle.command_groups.specs.MergeLaws.{Rises};
-ghost use Rattle.command_groups.specs.Plan.{staged_commands, plan_of_staged};
+ghost use Rattle.command_groups.specs.Plan.{staged_commands, plan_of, plan_of_staged};
 ghost use Rattle.command_groups.specs.PlanOfBytes as spec;
 
 use crate::cutting::{Setting, plan_of_commands};
-use crate::environment::{Environments, with_variables};
+use crate::environment::Environments;
 use crate::merge::merge;
 use crate::plan::Plan;
 use canonical_names::{Suffixes, remap_commands};
@@ -51,7 +52,7 @@ fn named(
     }
 }
 
-// The plan of the commands of two runs that were read.
+// The plan of the commands of two runs.
 fn plan_of_runs(
     alloc: Global,
     suffixes: &Suffixes,
@@ -67,6 +68,40 @@ fn plan_of_runs(
     let first = named(alloc, suffixes, keep_dir, first)?;
     let second = named(alloc, suffixes, keep_dir, second)?;
     plan_of_commands(alloc, setting, merge(alloc, first, second)?)
+}
+
+// What a plan is made for, besides the dry runs.
+#[derive(Drop)]
+struct Call<'a> {
+    cwd: &'a str,
+    tmp: &'a str,
+    compilation_flag: &'a str,
+    host_compiler: NvccHostCompiler,
+    env_vars: &'a [(String, String)],
+}
+
+// The plan of two runs that were read.
+fn plan_of_dry_runs(
+    alloc: Global,
+    suffixes: &Suffixes,
+    keep_dir: Option<&str>,
+    call: &Call<'_>,
+    first: DryRun,
+    second: DryRun,
+) -> Result<Plan, AllocError>
+    requires first_rises { Rises (map line_of first.commands) }
+    requires second_rises { Rises (map line_of second.commands) }
+    ensures { IfOk result (λ plan. plan ≡ plan_of (call_seen call.now) first.env (spec.named suffixes.now (option_copied keep_dir.entry) first.commands) (spec.named suffixes.now (option_copied keep_dir.entry) second.commands)) }
+{
+    let setting = Setting {
+        cwd: call.cwd,
+        tmp: call.tmp,
+        compilation_flag: call.compilation_flag,
+        host_compiler: call.host_compiler,
+        env_vars: Environments::folded(alloc, call.env_vars, first.env)?,
+    };
+    let (first, second) = (first.commands, second.commands);
+    plan_of_runs(alloc, suffixes, keep_dir, &setting, first, second)
 }
 
 /// What one nvcc call runs, by two dry runs of it: its commands in groups, and those that stand in none, each with its
@@ -127,15 +162,13 @@ pub fn group_nvcc_subcommands_by_compilation_stage<W: Which>(
 {
     let first = read_run(alloc, dry1, 1, cwd, which)?;
     let second = read_run(alloc, dry2, 2, cwd, which)?;
-    let env_vars = with_variables(alloc, env_vars, first.env)?;
-    let setting = Setting {
+    let call = Call {
         cwd,
         tmp,
         compilation_flag,
         host_compiler,
-        env_vars: Environments::new(alloc, env_vars)?,
+        env_vars,
     };
-    let (first, second) = (first.commands, second.commands);
-    let plan = plan_of_runs(alloc, suffixes, keep_dir, &setting, first, second)?;
+    let plan = plan_of_dry_runs(alloc, suffixes, keep_dir, &call, first, second)?;
     Ok(plan)
 }

@@ -1,9 +1,10 @@
 //! The commands of one dry run that a caller selects.
 
-ghost use Rattle.std.specs.Prelude.{◌≡◌, List, ℕ, Bool, map, IfOk, OnErr};
+ghost use Rattle.std.specs.Prelude.{◌≡◌, List, ℕ, Bool, map, IfOk, OnOk, OnErr};
 ghost use Rattle.texts.specs.Fault.{UnlessMemory};
 ghost use Rattle.texts.specs.Variables.{pair_of};
 ghost use Rattle.dry_runs.specs.DryRun.{dry_run_of};
+ghost use Rattle.dry_runs.specs.Environment.{with_variables as folded_with};
 ghost use Rattle.command_groups.specs.Merge.{is_taken, selected};
 ghost use Rattle.command_groups.specs.Selection as spec;
 
@@ -13,6 +14,7 @@ use dry_runs::{Commands, Which, read_dry_run};
 use std::alloc::{AllocError, Global};
 use texts::fault::Fault;
 use texts::text::file_stem;
+use texts::variables::Variables;
 
 // Whether a program has a stem that is selected.
 fn takes<F: Fn(&str) -> bool>(select: &F, program: &str) -> bool
@@ -59,6 +61,35 @@ fn named(
     }
 }
 
+// The commands of a run whose program has a stem that is selected, in order, with canonical names where asked.
+fn chosen<F: Fn(&str) -> bool>(
+    alloc: Global,
+    suffixes: &Suffixes,
+    remap: bool,
+    select: &F,
+    commands: Commands,
+) -> Result<Commands, AllocError>
+    requires { F.IsAlwaysCallable select.now }
+    ensures { (test : List ℕ → Bool) → spec.AnswersAs (F.post select.now) test → IfOk result (λ c. c ≡ selected test (spec.named_if suffixes.now remap commands)) }
+{
+    let commands = named(alloc, suffixes, remap, commands)?;
+    taken(alloc, select, commands)
+}
+
+// Folds variables into an environment. After an error it is as it was.
+fn fold_into(
+    alloc: Global,
+    env_vars: &mut Vec<(String, String)>,
+    variables: Variables,
+) -> Result<(), AllocError>
+    ensures folded { OnOk result (map pair_of env_vars.new.items ≡ folded_with (map pair_of env_vars.old.items) variables) }
+    ensures unchanged { OnErr result (env_vars.new ≡ env_vars.old) }
+{
+    let folded = with_variables(alloc, env_vars.as_slice(), variables)?;
+    *env_vars = folded.into_vec()?;
+    Ok(())
+}
+
 /// The commands of one dry run whose program has a stem that `select` takes, in order: of each the number of its line,
 /// its program's path and its words.
 ///
@@ -92,9 +123,7 @@ pub fn select_nvcc_subcommands<F: Fn(&str) -> bool + Drop, W: Which>(
     ensures unchanged { OnErr result (env_vars.new ≡ env_vars.old) }
 {
     let said = read_dry_run(alloc, dry_run, run, cwd, which)?;
-    let commands = named(alloc, suffixes, remap, said.commands)?;
-    let commands = taken(alloc, &select, commands)?;
-    let folded = with_variables(alloc, env_vars.as_slice(), said.env)?;
-    *env_vars = folded.into_vec()?;
+    let commands = chosen(alloc, suffixes, remap, &select, said.commands)?;
+    fold_into(alloc, env_vars, said.env)?;
     Ok(commands)
 }

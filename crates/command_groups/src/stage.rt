@@ -1,11 +1,12 @@
 //! What a merged command does in a compilation: its words as they are run, and its stage.
 
-ghost use Rattle.std.specs.Prelude.{◌≡◌, ℕ, List, nat_eq, map, IfOk, string_bytes};
+ghost use Rattle.std.specs.Prelude.{◌≡◌, ◌<◌, ℕ, List, nat_eq, map, length, IfOk, IfSome, string_bytes};
 ghost use Rattle.std.specs.List.{starts_with};
 ghost use Rattle.std.specs.Option.{option_copied};
 ghost use Rattle.texts.specs.Lists.{last_of, word_after as word_right_after};
 ghost use Rattle.command_groups.specs.Stage as spec;
 ghost use Rattle.command_groups.specs.StageView.{kind_seen, named_stage};
+ghost use Rattle.command_groups.specs.WordPlace.{word_place};
 
 use cuda_below::command::Cacheable;
 use cuda_below::compiler::NvccHostCompiler;
@@ -15,7 +16,7 @@ use texts::device_files::{is_cicc_input, is_ptxas_input};
 use texts::text::{file_name, file_stem};
 
 /// The kinds of programs.
-#[derive(Clone, Copy, Debug, PartialEq)]
+#[derive(Clone, Copy)]
 pub enum ProgramKind {
     /// One of nvcc's linkers: `fatbinary` or `nvlink`.
     Linker,
@@ -61,6 +62,21 @@ fn has_word(words: &[String], word: &str) -> bool
     false
 }
 
+// The place of the first word that is `word`.
+fn place_of_word(words: &[String], word: &str) -> Option<usize>
+    ensures place { result ≡ word_place word.now (map string_bytes words.now) }
+    ensures within { IfSome result (λ place. place < length words.now) }
+{
+    let mut place = 0;
+    for other in words {
+        if word == other.as_str() {
+            return Some(place);
+        }
+        place += 1;
+    }
+    None
+}
+
 // The words with `new` right before the first that is `word`.
 fn with_word_before(
     alloc: Global,
@@ -70,36 +86,29 @@ fn with_word_before(
 ) -> Result<Vec<String>, AllocError>
     ensures { IfOk result (λ edited. map string_bytes edited.items ≡ spec.with_word_before new.now word.now (map string_bytes words.items)) }
 {
-    let mut edited = Vec::with_capacity(alloc, words.len() + 1)?;
-    let mut stands = false;
-    for other in words {
-        if !stands && word == other.as_str() {
-            stands = true;
-            edited.push(String::from_str(alloc, new)?)?;
+    let mut edited = words;
+    match place_of_word(edited.as_slice(), word) {
+        None => {}
+        Some(place) => {
+            let copy = String::from_str(alloc, new)?;
+            edited.insert(place, copy)?;
         }
-        edited.push(other)?;
     }
     Ok(edited)
 }
 
 // The words without the first that is `word`.
-fn without_first_word(
-    alloc: Global,
-    word: &str,
-    words: Vec<String>,
-) -> Result<Vec<String>, AllocError>
-    ensures { IfOk result (λ edited. map string_bytes edited.items ≡ spec.without_first_word word.now (map string_bytes words.items)) }
+fn without_first_word(word: &str, words: Vec<String>) -> Vec<String>
+    ensures { map string_bytes result.items ≡ spec.without_first_word word.now (map string_bytes words.items) }
 {
-    let mut edited = Vec::with_capacity(alloc, words.len())?;
-    let mut gone = false;
-    for other in words {
-        if !gone && word == other.as_str() {
-            gone = true;
-        } else {
-            edited.push(other)?;
+    let mut edited = words;
+    match place_of_word(edited.as_slice(), word) {
+        None => {}
+        Some(place) => {
+            edited.remove(place);
         }
     }
-    Ok(edited)
+    edited
 }
 
 // cudafe++'s words as they are run.
@@ -118,13 +127,13 @@ fn cudafe_words(alloc: Global, words: Vec<String>) -> Result<Vec<String>, AllocE
 }
 
 // cicc's words as they are run under a compilation flag.
-fn cicc_words(alloc: Global, flag: &str, words: Vec<String>) -> Result<Vec<String>, AllocError>
-    ensures { IfOk result (λ edited. map string_bytes edited.items ≡ spec.cicc_edit flag.now (map string_bytes words.items)) }
+fn cicc_words(flag: &str, words: Vec<String>) -> Vec<String>
+    ensures { map string_bytes result.items ≡ spec.cicc_edit flag.now (map string_bytes words.items) }
 {
     if asks_object(flag) {
-        without_first_word(alloc, "--gen_module_id_file", words)
+        without_first_word("--gen_module_id_file", words)
     } else {
-        Ok(words)
+        words
     }
 }
 
@@ -142,13 +151,13 @@ pub fn edited_words(
 {
     match kind {
         ProgramKind::Cudafe => cudafe_words(alloc, words),
-        ProgramKind::Cicc => cicc_words(alloc, flag, words),
+        ProgramKind::Cicc => Ok(cicc_words(flag, words)),
         ProgramKind::Linker | ProgramKind::Ptxas | ProgramKind::Other => Ok(words),
     }
 }
 
 /// The stages of commands.
-#[derive(Clone, Copy, Debug, PartialEq)]
+#[derive(Clone, Copy)]
 pub enum Stage {
     /// Linking device code.
     Linking,

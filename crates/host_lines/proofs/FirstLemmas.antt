@@ -1,10 +1,13 @@
 -- The words that stand first, gathered one by one.
-use Rattle.std.proofs.Common.{◌≡◌, ◌∙◌, ℕ, List, [], ◌∷◌, ◌++◌, Bool, true, false, ◌||◌, not, cond, map, filter, refl, sym, ap, subst, append_assoc}
+use Rattle.std.proofs.Common.{◌≡◌, ◌∙◌, ℕ, List, [], ◌∷◌, ◌++◌, Bool, true, false, ◌||◌, not, cond, Some, Bor, map, filter, refl, sym, ap, subst, append_assoc}
 use Rattle.std.specs.List.{list_any}
+use Rattle.std.specs.Prelude.{if◌then◌else◌}
 use Rattle.std.specs.Str.{bytes_eq}
 use Rattle.std.proofs.lemmas.List.Folds.{list_any-append}
 use Rattle.std.proofs.lemmas.Slice.Eq.{bytes_eq-Decides}
 use Rattle.std.proofs.lemmas.Bool.{false≢true}
+use Rattle.std.proofs.lemmas.List.{map-append}
+use Rattle.texts.specs.Lists.{with_name}
 use Rattle.host_lines.specs.Preprocess.{first_appearances}
 
 -- whether a word stands among others
@@ -86,3 +89,31 @@ not_true false e = refl
 pub not_false : (b : Bool) → not b ≡ false → b ≡ true
 not_false true e = refl
 not_false false e = elim (false≢true (sym e)) [ ]
+
+-- one more word, seen before or not
+pub next_word : (seen : List (List ℕ)) (word : List ℕ) (words : List (List ℕ)) → with_name seen (Some word) ++ unseen (with_name seen (Some word)) (first_appearances words) ≡ seen ++ unseen seen (first_appearances (word ∷ words))
+next_word seen word words =
+    elim (stands seen word) as (λ b. stands seen word ≡ b → (if b then seen else seen ++ word ∷ []) ++ unseen (if b then seen else seen ++ word ∷ []) (first_appearances words) ≡ seen ++ unseen seen (first_appearances (word ∷ words))) [
+      | true ↦ λ e. seen_word seen word words e
+      | false ↦ λ e. new_word seen word words e
+    ] refl
+
+-- Keys seen, which are the words so far. One more word is a new key (`added`), or not.
+module _ (keys after : List (Bor (List ℕ))) (key : Bor (List ℕ)) (first : List (List ℕ)) (added : Bool) where
+  abbrev found : Bool
+  found = list_any (λ (k : Bor (List ℕ)). bytes_eq key.now k.now) keys
+
+  alike : map (λ (k : Bor (List ℕ)). k.now) keys ≡ first → found ≡ stands first key.now
+  alike h = stands-map (λ (k : Bor (List ℕ)). k.now) key.now keys ∙ ap (λ t. stands t key.now) h
+
+  pub known_key : map (λ (k : Bor (List ℕ)). k.now) keys ≡ first → after ≡ cond found keys (keys ++ key ∷ []) → added ≡ not found → added ≡ false →
+      (map (λ (k : Bor (List ℕ)). k.now) after ≡ first) × (first ≡ with_name first (Some key.now))
+  known_key h a e f =
+      let present : found ≡ true = not_false found (sym e ∙ f) in
+      (ap (map (λ (k : Bor (List ℕ)). k.now)) (a ∙ ap (λ b. cond b keys (keys ++ key ∷ [])) present) ∙ h, sym (ap (λ (b : Bool). if b then first else first ++ key.now ∷ []) (sym (alike h) ∙ present)))
+
+  pub new_key : map (λ (k : Bor (List ℕ)). k.now) keys ≡ first → after ≡ cond found keys (keys ++ key ∷ []) → added ≡ not found → added ≡ true →
+      (map (λ (k : Bor (List ℕ)). k.now) after ≡ first ++ key.now ∷ []) × (first ++ key.now ∷ [] ≡ with_name first (Some key.now))
+  new_key h a e t =
+      let absent : found ≡ false = not_true found (sym e ∙ t) in
+      (ap (map (λ (k : Bor (List ℕ)). k.now)) (a ∙ ap (λ b. cond b keys (keys ++ key ∷ [])) absent) ∙ (map-append (λ (k : Bor (List ℕ)). k.now) keys (key ∷ []) ∙ ap (λ t. t ++ key.now ∷ []) h), sym (ap (λ (b : Bool). if b then first else first ++ key.now ∷ []) (sym (alike h) ∙ absent)))

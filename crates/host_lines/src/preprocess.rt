@@ -1,14 +1,40 @@
 //! The one or two commands that preprocess an input: what nvcc's and nvhpc's have in common.
 
-ghost use Rattle.std.specs.Prelude.{◌≡◌, IfOk};
+ghost use Rattle.std.specs.Prelude.{◌≡◌, ◌∷◌, [], ◌++◌, Err, IfOk, OnOk, codes};
+ghost use Rattle.texts.specs.Fault.{UnlessMemory};
+ghost use Rattle.texts.specs.declared.fault.Fault.TheVariants.{NoPreprocess};
 ghost use Rattle.host_lines.specs.Preprocess as spec;
 
 use cuda_below::arguments::ParsedArguments;
 use cuda_below::command::SingleCompileCommand;
 use std::alloc::{AllocError, Global};
+use texts::fault::Fault;
 use texts::text::Text;
 use texts::variables::Variables;
 use texts::words::Words;
+
+/// The refusal to preprocess, with a text.
+pub fn refused(alloc: Global, text: &str) -> Result<Vec<SingleCompileCommand>, Fault>
+    ensures { UnlessMemory (spec.commands_seen result) (Err (NoPreprocess text.now)) }
+{
+    let text = Text::copy_of(alloc, text)?;
+    Err(Fault::NoPreprocess(text))
+}
+
+// Puts the words last that both commands begin with.
+fn push_common(
+    alloc: Global,
+    words: &mut Words,
+    parsed_args: &ParsedArguments,
+    name: &str,
+) -> Result<(), AllocError>
+    ensures { OnOk result (words.new ≡ words.old ++ (parsed_args.now.preprocessor_args ++ (parsed_args.now.common_args ++ (codes "-x" ∷ name.now ∷ parsed_args.now.input ∷ [])))) }
+{
+    words.push_copies(alloc, parsed_args.preprocessor_args.as_slice())?;
+    words.push_copies(alloc, parsed_args.common_args.as_slice())?;
+    words.push_pair(alloc, "-x", name)?;
+    words.push_str(alloc, parsed_args.input.as_str())
+}
 
 /// What both commands have.
 pub fn common_command(
@@ -21,17 +47,17 @@ pub fn common_command(
 ) -> Result<SingleCompileCommand, AllocError>
     ensures { IfOk result (λ c. c ≡ spec.common_command executable.now parsed_args.now name.now cwd.now env_vars) }
 {
-    let mut arguments = parsed_args.preprocessor_args.try_clone(alloc)?;
-    arguments.extend(alloc, parsed_args.common_args.as_slice())?;
-    arguments.push_pair(alloc, "-x", name)?;
-    arguments.push_str(alloc, parsed_args.input.as_str())?;
-    Ok(SingleCompileCommand {
-        executable: Text::copy_of(alloc, executable)?,
-        arguments,
+    let executable = Text::copy_of(alloc, executable)?;
+    let cwd = Text::copy_of(alloc, cwd)?;
+    let mut command = SingleCompileCommand {
+        executable,
+        arguments: Words::new(alloc),
         env_vars,
-        cwd: Text::copy_of(alloc, cwd)?,
+        cwd,
         share_jobserver: false,
-    })
+    };
+    push_common(alloc, &mut command.arguments, parsed_args, name)?;
+    Ok(command)
 }
 
 // A command with more words last.

@@ -4,6 +4,7 @@ ghost use Rattle.std.specs.Prelude.{◌≡◌, ◌∷◌, [], true, false, IfOk,
 ghost use Rattle.std.specs.List.{fold};
 ghost use Rattle.option_items.specs.Items.{items};
 ghost use Rattle.option_items.specs.Views.{item_seen, item_viewed};
+ghost use Rattle.cuda_below.specs.Arguments.{plain_arguments};
 ghost use Rattle.cuda_below.specs.Compiler.{accepted, reading_of};
 ghost use Rattle.cuda_below.specs.Outputs.{with_entry};
 ghost use Rattle.texts.specs.Path.{joined};
@@ -22,7 +23,7 @@ use texts::text::{Text, join};
 use texts::words::Words;
 
 /// A path as a line gives it, which stands in one of the line's words.
-#[derive(Debug, Drop)]
+#[derive(Drop)]
 pub struct GivenPath<'a> {
     text: &'a str,
 }
@@ -45,7 +46,7 @@ fn one_word(alloc: Global, word: String) -> Result<Words, AllocError>
 }
 
 /// The words and files of the items so far.
-#[derive(Debug, Drop)]
+#[derive(Drop)]
 pub struct Gathered<'a> {
     pub common: Words,
     pub unhashed: Words,
@@ -94,23 +95,21 @@ impl<'a> Gathered<'a> {
         Ok(())
     }
 
-    // Records the file that an option names, joined to the working directory.
+    // Records the file that an option names, joined to the working directory, and whether it may be left out.
     fn record(
         &mut self,
         alloc: Global,
         key: &'static str,
         cwd: &str,
         path: &str,
+        optional: bool,
     ) -> Result<(), AllocError>
         ensures { OnOk result (self.new ≡ record self.old {
-          outputs = with_entry self.old.outputs (key.now, spec.made_at false (joined cwd.now path.now));
+          outputs = with_entry self.old.outputs (key.now, spec.made_at optional (joined cwd.now path.now));
         }) }
     {
         let path = Text::new(join(alloc, cwd, path)?);
-        let made = ArtifactDescriptor {
-            path,
-            optional: false,
-        };
+        let made = ArtifactDescriptor { path, optional };
         self.outputs.insert(key, made)
     }
 
@@ -159,7 +158,7 @@ impl<'a> Gathered<'a> {
             ArgumentView::WithValue(text, kind, value, _) => (kind, text, value),
         };
         match kind {
-            ArgData::Output => self.record(alloc, OBJ, cwd, value),
+            ArgData::Output => self.record(alloc, OBJ, cwd, value, false),
             ArgData::PassThrough => option.write(alloc, &mut self.common),
             ArgData::GenModuleIdFileFlag => {
                 self.makes_module_id = true;
@@ -173,7 +172,7 @@ impl<'a> Gathered<'a> {
                 option.write(alloc, &mut self.unhashed)
             }
             ArgData::UnhashedOutput => {
-                self.record(alloc, text, cwd, value)?;
+                self.record(alloc, text, cwd, value, false)?;
                 option.write(alloc, &mut self.unhashed)
             }
         }
@@ -191,27 +190,54 @@ impl<'a> Gathered<'a> {
         if !self.makes_module_id {
             return Ok(());
         }
-        let path = Text::new(join(alloc, cwd, path.text)?);
-        let made = ArtifactDescriptor {
-            path,
-            optional: true,
-        };
-        self.outputs.insert("--module_id_file_name", made)
+        let path = path.text;
+        self.record(alloc, "--module_id_file_name", cwd, path, true)
     }
 
-    // The module id file, if the tool reads it, in two lists.
-    fn module_id_files(&self, alloc: Global, cwd: &str) -> Result<(Words, Words), AllocError>
-        ensures first { IfOk result (λ w. w.0 ≡ spec.module_id_file cwd.now self.now.makes_module_id self.now.module_id) }
-        ensures second { IfOk result (λ w. w.1 ≡ spec.module_id_file cwd.now self.now.makes_module_id self.now.module_id) }
+    // The module id file, if the tool reads it.
+    fn module_id_file(&self, alloc: Global, cwd: &str) -> Result<Words, AllocError>
+        ensures { IfOk result (λ w. w ≡ spec.module_id_file cwd.now self.now.makes_module_id self.now.module_id) }
     {
         match &self.module_id {
             Some(path) if !self.makes_module_id => {
                 let path = join(alloc, cwd, path.text)?;
-                let copy = String::from_str(alloc, path.as_str())?;
-                Ok((one_word(alloc, path)?, one_word(alloc, copy)?))
+                one_word(alloc, path)
             }
-            _ => Ok((Words::new(alloc), Words::new(alloc))),
+            _ => Ok(Words::new(alloc)),
         }
+    }
+
+    // The same in two lists.
+    fn module_id_files(&self, alloc: Global, cwd: &str) -> Result<(Words, Words), AllocError>
+        ensures first { IfOk result (λ w. w.0 ≡ spec.module_id_file cwd.now self.now.makes_module_id self.now.module_id) }
+        ensures second { IfOk result (λ w. w.1 ≡ spec.module_id_file cwd.now self.now.makes_module_id self.now.module_id) }
+    {
+        let first = self.module_id_file(alloc, cwd)?;
+        let second = first.try_clone(alloc)?;
+        Ok((first, second))
+    }
+
+    // The arguments of what was gathered, with the module id file in two lists.
+    fn into_arguments(
+        self,
+        alloc: Global,
+        language: Language,
+        input: Text,
+        files: (Words, Words),
+    ) -> ParsedArguments
+        ensures { result ≡ record (plain_arguments input language self.entry.outputs) {
+          common_args = self.entry.common;
+          unhashed_args = self.entry.unhashed;
+          extra_dist_files = files.0;
+          extra_hash_files = files.1;
+        } }
+    {
+        let mut arguments = ParsedArguments::of(alloc, input, language, self.outputs);
+        arguments.common_args = self.common;
+        arguments.unhashed_args = self.unhashed;
+        arguments.extra_dist_files = files.0;
+        arguments.extra_hash_files = files.1;
+        arguments
     }
 
     /// The answer of a reader that has taken all items, and whose input is `input`.
@@ -226,14 +252,9 @@ impl<'a> Gathered<'a> {
     {
         let mut gathered = self;
         gathered.record_module_id(alloc, cwd)?;
-        let (extra_dist_files, extra_hash_files) = gathered.module_id_files(alloc, cwd)?;
+        let files = gathered.module_id_files(alloc, cwd)?;
         let input = Text::copy_of(alloc, input)?;
-        Ok(CompilerArguments::Ok(ParsedArguments {
-            common_args: gathered.common,
-            unhashed_args: gathered.unhashed,
-            extra_dist_files,
-            extra_hash_files,
-            ..ParsedArguments::of(alloc, input, language, gathered.outputs)
-        }))
+        let arguments = gathered.into_arguments(alloc, language, input, files);
+        Ok(CompilerArguments::Ok(arguments))
     }
 }

@@ -1,12 +1,13 @@
 //! The commands that preprocess the input of an nvcc line.
 
-ghost use Rattle.std.specs.Prelude.{◌≡◌, map, IfOk, string_bytes};
-ghost use Rattle.texts.specs.Variables.{pair_of};
+ghost use Rattle.std.specs.Prelude.{◌≡◌, Some, map, IfOk, OnOk, string_bytes};
 ghost use Rattle.texts.specs.Fault.{UnlessMemory};
+ghost use Rattle.texts.specs.Lists.{with_name};
+ghost use Rattle.texts.specs.Variables.{pair_of};
 ghost use Rattle.host_lines.specs.Preprocess as spec;
 
 use super::environment::without_flags;
-use crate::preprocess::{commands, common_command};
+use crate::preprocess::{commands, common_command, refused};
 use cuda_below::arguments::ParsedArguments;
 use cuda_below::command::SingleCompileCommand;
 use cuda_below::compiler::NvccHostCompiler;
@@ -14,7 +15,6 @@ use cuda_below::gcc::language_to_gcc_arg;
 use indexmap::IndexSet;
 use std::alloc::{AllocError, Global};
 use texts::fault::Fault;
-use texts::text::Text;
 use texts::words::Words;
 
 /// The one or two commands that preprocess the input of an nvcc line, as in sccache 0.19.0. The last
@@ -46,14 +46,27 @@ pub fn preprocess(
         (spec.nvcc_preprocess host_compiler executable.now parsed_args.now cwd.now (map pair_of env_vars.now)) }
 {
     let Some(name) = language_to_gcc_arg(parsed_args.language) else {
-        let text = Text::copy_of(alloc, "PCH not supported by nvcc")?;
-        return Err(Fault::NoPreprocess(text));
+        return refused(alloc, "PCH not supported by nvcc");
     };
     let env_vars = without_flags(alloc, env_vars)?;
     let common = common_command(alloc, executable, parsed_args, name, cwd, env_vars)?;
-    let dependency = nvcc_dependency_words(alloc, parsed_args.dependency_args.as_slice())?;
+    let dependency = parsed_args.dependency_args.as_slice();
+    let commands = nvcc_commands(alloc, host_compiler, &common, dependency)?;
+    Ok(commands)
+}
+
+// The commands, of what both have and the line's dependency words.
+fn nvcc_commands(
+    alloc: Global,
+    host_compiler: NvccHostCompiler,
+    common: &SingleCompileCommand,
+    dependency: &[String],
+) -> Result<Vec<SingleCompileCommand>, AllocError>
+    ensures { IfOk result (λ c. c.items ≡ spec.preprocess_commands common.now (spec.nvcc_dependency_words (map string_bytes dependency.now)) (spec.nvcc_preprocessor_words host_compiler)) }
+{
+    let dependency = nvcc_dependency_words(alloc, dependency)?;
     let code = nvcc_code_words(alloc, host_compiler)?;
-    Ok(commands(alloc, &common, &dependency, &code)?)
+    commands(alloc, common, &dependency, &code)
 }
 
 // nvcc's word for the dependency file alone.
@@ -67,6 +80,23 @@ fn nvcc_dependency_word<'a>(word: &'a str) -> &'a str
     }
 }
 
+// Puts a word last, unless it was seen.
+fn push_unseen<'a>(
+    alloc: Global,
+    seen: &mut IndexSet<&'a str>,
+    first: &mut Words,
+    word: &'a str,
+) -> Result<(), AllocError>
+    requires { map (λ k. k.now) seen.old.keys ≡ first.old }
+    ensures seen { OnOk result (map (λ k. k.now) seen.new.keys ≡ first.new) }
+    ensures first { OnOk result (first.new ≡ with_name first.old (Some word.now)) }
+{
+    if !seen.insert(word)? {
+        return Ok(());
+    }
+    first.push_str(alloc, word)
+}
+
 // The words for nvcc's dependency file, each where it appears first.
 fn nvcc_dependency_words(alloc: Global, words: &[String]) -> Result<Words, AllocError>
     ensures { IfOk result (λ w. w ≡ spec.nvcc_dependency_words (map string_bytes words.now)) }
@@ -75,9 +105,7 @@ fn nvcc_dependency_words(alloc: Global, words: &[String]) -> Result<Words, Alloc
     let mut first = Words::new(alloc);
     for word in words {
         let word = nvcc_dependency_word(word.as_str());
-        if seen.insert(word)? {
-            first.push_str(alloc, word)?;
-        }
+        push_unseen(alloc, &mut seen, &mut first, word)?;
     }
     Ok(first)
 }

@@ -1,20 +1,19 @@
 //! The commands that preprocess the input of an nvhpc line.
 
-ghost use Rattle.std.specs.Prelude.{◌≡◌, map, IfOk, string_bytes};
+ghost use Rattle.std.specs.Prelude.{◌≡◌, ◌∷◌, [], map, codes, IfOk, string_bytes};
 ghost use Rattle.std.specs.Option.{option_copied};
 ghost use Rattle.texts.specs.Variables.{pair_of};
 ghost use Rattle.texts.specs.Fault.{UnlessMemory};
 ghost use Rattle.host_lines.specs.Preprocess as spec;
 
 use super::Nvhpc;
-use crate::preprocess::{commands, common_command};
+use crate::preprocess::{commands, common_command, refused};
 use cuda_below::arguments::ParsedArguments;
 use cuda_below::command::SingleCompileCommand;
 use cuda_below::gcc::language_to_gcc_arg;
 use std::alloc::{AllocError, Global};
 use texts::fault::Fault;
 use texts::language::Language;
-use texts::text::Text;
 use texts::variables::Variables;
 use texts::words::Words;
 
@@ -41,16 +40,27 @@ impl Nvhpc {
             (spec.nvhpc_preprocess executable.now parsed_args.now cwd.now (map pair_of env_vars.now)) }
     {
         let Some(name) = nvhpc_language_name(parsed_args.language) else {
-            let text = Text::copy_of(alloc, nvhpc_refusal(parsed_args.language))?;
-            return Err(Fault::NoPreprocess(text));
+            return refused(alloc, nvhpc_refusal(parsed_args.language));
         };
         let env_vars = Variables::copy_of(alloc, env_vars)?;
         let common = common_command(alloc, executable, parsed_args, name, cwd, env_vars)?;
-        let dependency = nvhpc_dependency_words(alloc, parsed_args.dependency_args.as_slice())?;
-        let mut code = Words::new(alloc);
-        code.push_str(alloc, "-E")?;
-        Ok(commands(alloc, &common, &dependency, &code)?)
+        let commands = nvhpc_commands(alloc, &common, parsed_args.dependency_args.as_slice())?;
+        Ok(commands)
     }
+}
+
+// The commands, of what both have and the line's dependency words.
+fn nvhpc_commands(
+    alloc: Global,
+    common: &SingleCompileCommand,
+    dependency: &[String],
+) -> Result<Vec<SingleCompileCommand>, AllocError>
+    ensures { IfOk result (λ c. c.items ≡ spec.preprocess_commands common.now (map spec.nvhpc_dependency_word (map string_bytes dependency.now)) (codes "-E" ∷ [])) }
+{
+    let dependency = nvhpc_dependency_words(alloc, dependency)?;
+    let mut code = Words::new(alloc);
+    code.push_str(alloc, "-E")?;
+    commands(alloc, common, &dependency, &code)
 }
 
 // nvhpc's word for the dependency file alone.

@@ -1,0 +1,54 @@
+-- Words that are edited at the place of the first that is a given word.
+use Rattle.std.proofs.Common.{◌≡◌, ℕ, suc, zero, Bool, true, false, List, [], ◌∷◌, map, refl, ap, sym, arith, String, string_bytes, Global}
+use Rattle.std.proofs.lemmas.Option.{none-some, same_Some}
+use Rattle.std.specs.Prelude.{Option, Some, None, option_map, if◌then◌else◌}
+use Rattle.std.specs.List.{insert, remove}
+use Rattle.std.specs.Str.{bytes_eq}
+use Rattle.command_groups.specs.Stage.{with_word_before, without_first_word}
+use Rattle.command_groups.specs.WordPlace.{word_place}
+
+abbrev Words : Type 0
+Words = List (String Global)
+
+unknown-step : (b : Bool) (w : List ℕ) (ws edited rest : List (List ℕ)) (p : Option ℕ) → (p ≡ None → rest ≡ ws) → (if b then Some 0 else option_map suc p) ≡ None → (if b then edited else w ∷ rest) ≡ w ∷ ws
+unknown-step true w ws edited rest p same h = absurd (none-some 0 (sym h))
+unknown-step false w ws edited rest None same h = ap (λ t. w ∷ t) (same refl)
+unknown-step false w ws edited rest (Some n) same h = absurd (none-some (suc n) (sym h))
+
+-- words without such a word stay as they are
+pub before-unknown : (new word : List ℕ) (ws : List (List ℕ)) → word_place word ws ≡ None → with_word_before new word ws ≡ ws
+before-unknown new word [] h = refl
+before-unknown new word (w ∷ ws) h = unknown-step (bytes_eq word w) w ws (new ∷ w ∷ ws) (with_word_before new word ws) (word_place word ws) (before-unknown new word ws) h
+
+pub without-unknown : (word : List ℕ) (ws : List (List ℕ)) → word_place word ws ≡ None → without_first_word word ws ≡ ws
+without-unknown word [] h = refl
+without-unknown word (w ∷ ws) h = unknown-step (bytes_eq word w) w ws ws (without_first_word word ws) (word_place word ws) (without-unknown word ws) h
+
+before-step : (b : Bool) (w new : String Global) (ws : Words) (place : ℕ) (rest : List (List ℕ)) (p : Option ℕ) → ((n : ℕ) → p ≡ Some n → map string_bytes (insert ws n new) ≡ rest) →
+    (if b then Some 0 else option_map suc p) ≡ Some place → map string_bytes (insert (w ∷ ws) place new) ≡ (if b then string_bytes new ∷ string_bytes w ∷ map string_bytes ws else string_bytes w ∷ rest)
+before-step true w new ws zero rest p known h = refl
+before-step true w new ws (suc place) rest p known h = absurd (omega (arith, same_Some 0 (suc place) h))
+before-step false w new ws place rest None known h = absurd (none-some place h)
+before-step false w new ws zero rest (Some n) known h = absurd (omega (arith, same_Some (suc n) 0 h))
+before-step false w new ws (suc place) rest (Some n) known h = ap (λ t. string_bytes w ∷ t) (known place (ap Some (omega (arith, same_Some (suc n) (suc place) h))))
+
+-- a word that is inserted at the place stands right before
+pub before-known : (new : String Global) (word : List ℕ) (ws : Words) (place : ℕ) → word_place word (map string_bytes ws) ≡ Some place →
+    map string_bytes (insert ws place new) ≡ with_word_before (string_bytes new) word (map string_bytes ws)
+before-known new word [] place h = absurd (none-some place h)
+before-known new word (w ∷ ws) place h =
+    before-step (bytes_eq word (string_bytes w)) w new ws place (with_word_before (string_bytes new) word (map string_bytes ws)) (word_place word (map string_bytes ws)) (before-known new word ws) h
+
+without-step : (b : Bool) (w : String Global) (ws : Words) (place : ℕ) (rest : List (List ℕ)) (p : Option ℕ) → ((n : ℕ) → p ≡ Some n → map string_bytes (remove ws n) ≡ rest) →
+    (if b then Some 0 else option_map suc p) ≡ Some place → map string_bytes (remove (w ∷ ws) place) ≡ (if b then map string_bytes ws else string_bytes w ∷ rest)
+without-step true w ws zero rest p known h = refl
+without-step true w ws (suc place) rest p known h = absurd (omega (arith, same_Some 0 (suc place) h))
+without-step false w ws place rest None known h = absurd (none-some place h)
+without-step false w ws zero rest (Some n) known h = absurd (omega (arith, same_Some (suc n) 0 h))
+without-step false w ws (suc place) rest (Some n) known h = ap (λ t. string_bytes w ∷ t) (known place (ap Some (omega (arith, same_Some (suc n) (suc place) h))))
+
+-- words of which the one at the place is removed are without it
+pub without-known : (word : List ℕ) (ws : Words) (place : ℕ) → word_place word (map string_bytes ws) ≡ Some place → map string_bytes (remove ws place) ≡ without_first_word word (map string_bytes ws)
+without-known word [] place h = absurd (none-some place h)
+without-known word (w ∷ ws) place h =
+    without-step (bytes_eq word (string_bytes w)) w ws place (without_first_word word (map string_bytes ws)) (word_place word (map string_bytes ws)) (without-known word ws) h
