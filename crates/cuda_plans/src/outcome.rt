@@ -86,6 +86,19 @@ fn terminated_text(alloc: Global, exe: &str, signal: i32) -> Result<String, Allo
     format!(in alloc; "{name} terminated (signal: {number})")
 }
 
+// What is said of a program that a signal ended, with its standard error behind it.
+fn terminated_stderr(
+    alloc: Global,
+    exe: &str,
+    signal: i32,
+    stderr: Bytes,
+) -> Result<Bytes, AllocError>
+    ensures { IfOk result (λ bytes. bytes ≡ spec.terminated_text exe.now signal ++ stderr) }
+{
+    let text = terminated_text(alloc, exe, signal)?;
+    joined(Bytes::from_vec(text.into_bytes()), stderr)
+}
+
 /// The output of the program `exe` that was compiled to its end. If a signal ended it, the status is that
 /// signal, and standard error begins `STEM terminated (signal: N)`, with no newline before what was there;
 /// a path without a stem stands whole. Else the status is the code's, and without a code success.
@@ -108,13 +121,10 @@ pub fn compile_result_to_output(
             stdout,
             stderr,
         }),
-        Some(signal) => {
-            let text = terminated_text(alloc, exe, signal)?;
-            Ok(Output {
-                status: ExitStatus::from_signal(signal),
-                stdout,
-                stderr: joined(Bytes::from_vec(text.into_bytes()), stderr)?,
-            })
-        }
+        Some(signal) => Ok(Output {
+            status: ExitStatus::from_signal(signal),
+            stderr: terminated_stderr(alloc, exe, signal, stderr)?,
+            stdout,
+        }),
     }
 }

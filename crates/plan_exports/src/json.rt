@@ -1,10 +1,12 @@
 //! A plan as JSON.
 
-ghost use Rattle.std.specs.Prelude.{◌≡◌, IfOk, Some, map, string_bytes, vec_items};
+ghost use Rattle.std.specs.Prelude.{◌≡◌, ◌++◌, ◌∷◌, [], IfOk, OnOk, Some, codes, map, string_bytes, vec_items};
+ghost use Rattle.serde_json.specs.Data.{boolean, number, unsigned, string, put as with_member};
 ghost use Rattle.serde_json.specs.Read.{read};
-ghost use Rattle.serde_json.specs.View.{view};
+ghost use Rattle.serde_json.specs.View.{view, members_view};
 ghost use Rattle.serde_json.specs.Written.{compact_text};
 ghost use Rattle.texts.specs.Variables.{pair_of};
+ghost use Rattle.plan_exports.specs.Graph as graph;
 ghost use Rattle.plan_exports.specs.Json as spec;
 
 use crate::ninja::reason_name;
@@ -13,13 +15,20 @@ use cuda_below::command::Cacheable;
 use serde_json::{Map, Value, push, put};
 use std::alloc::{AllocError, Global};
 
+// Puts a text last in a list.
+fn push_text(alloc: Global, list: &mut Vec<Value>, text: &str) -> Result<(), AllocError>
+    ensures { OnOk result (map view list.new.items ≡ map view list.old.items ++ string text.now ∷ []) }
+{
+    push(list, Value::try_from_str(alloc, text)?)
+}
+
 // Texts, as a list.
 fn texts_value(alloc: Global, texts: &[String]) -> Result<Value, AllocError>
     ensures { IfOk result (λ v. view v ≡ spec.texts_data (map string_bytes texts.now)) }
 {
     let mut list = Vec::new(alloc);
     for text in texts {
-        push(&mut list, Value::try_from_str(alloc, text.as_str())?)?;
+        push_text(alloc, &mut list, text.as_str())?;
     }
     Ok(Value::Array(list))
 }
@@ -29,9 +38,20 @@ fn variable_value(alloc: Global, pair: &(String, String)) -> Result<Value, Alloc
     ensures { IfOk result (λ v. view v ≡ spec.variable_data (pair_of pair.now)) }
 {
     let mut list = Vec::new(alloc);
-    push(&mut list, Value::try_from_str(alloc, pair.0.as_str())?)?;
-    push(&mut list, Value::try_from_str(alloc, pair.1.as_str())?)?;
+    push_text(alloc, &mut list, pair.0.as_str())?;
+    push_text(alloc, &mut list, pair.1.as_str())?;
     Ok(Value::Array(list))
+}
+
+// Puts a variable last in a list.
+fn push_variable(
+    alloc: Global,
+    list: &mut Vec<Value>,
+    pair: &(String, String),
+) -> Result<(), AllocError>
+    ensures { OnOk result (map view list.new.items ≡ map view list.old.items ++ spec.variable_data (pair_of pair.now) ∷ []) }
+{
+    push(list, variable_value(alloc, pair)?)
 }
 
 // Variables, as a list.
@@ -40,7 +60,7 @@ fn variables_value(alloc: Global, variables: &[(String, String)]) -> Result<Valu
 {
     let mut list = Vec::new(alloc);
     for pair in variables {
-        push(&mut list, variable_value(alloc, pair)?)?;
+        push_variable(alloc, &mut list, pair)?;
     }
     Ok(Value::Array(list))
 }
@@ -55,22 +75,75 @@ fn is_cacheable(cacheable: Cacheable) -> bool
     }
 }
 
+// Puts a text into an object.
+fn put_text(
+    alloc: Global,
+    members: &mut Map<String, Value>,
+    key: &str,
+    text: &str,
+) -> Result<(), AllocError>
+    ensures { OnOk result (members_view members.new.entries ≡ with_member key.now (string text.now) (members_view members.old.entries)) }
+{
+    put(members, alloc, key, Value::try_from_str(alloc, text)?)
+}
+
+// Puts a program and its words into an object.
+fn put_run(
+    alloc: Global,
+    members: &mut Map<String, Value>,
+    exe: &str,
+    args: &[String],
+) -> Result<(), AllocError>
+    ensures { OnOk result (members_view members.new.entries
+        ≡ with_member (codes "args") (spec.texts_data (map string_bytes args.now))
+        (with_member (codes "exe") (string exe.now) (members_view members.old.entries))) }
+{
+    put_text(alloc, members, "exe", exe)?;
+    put(members, alloc, "args", texts_value(alloc, args)?)
+}
+
+// Puts where a command runs into an object, and whether its outputs may come from a cache.
+fn put_place(
+    alloc: Global,
+    members: &mut Map<String, Value>,
+    command: &NvccGeneratedSubcommand,
+) -> Result<(), AllocError>
+    ensures { OnOk result (members_view members.new.entries
+        ≡ with_member (codes "cacheable") (boolean (spec.is_cacheable command.now.cacheable))
+        (with_member (codes "env") (spec.variables_data command.now.env_vars)
+        (with_member (codes "cwd") (string command.now.cwd) (members_view members.old.entries)))) }
+{
+    put_text(alloc, members, "cwd", command.cwd.as_str())?;
+    let env = variables_value(alloc, command.env_vars.as_slice())?;
+    put(members, alloc, "env", env)?;
+    let cacheable = Value::Bool(is_cacheable(command.cacheable));
+    put(members, alloc, "cacheable", cacheable)
+}
+
 // A command, as an object.
 fn command_value(alloc: Global, command: &NvccGeneratedSubcommand) -> Result<Value, AllocError>
     ensures { IfOk result (λ v. view v ≡ spec.command_data command.now) }
 {
-    let exe = Value::try_from_str(alloc, command.exe.as_str())?;
-    let args = texts_value(alloc, command.args.as_slice())?;
-    let cwd = Value::try_from_str(alloc, command.cwd.as_str())?;
-    let env = variables_value(alloc, command.env_vars.as_slice())?;
-    let cacheable = Value::Bool(is_cacheable(command.cacheable));
     let mut map = Map::new(alloc);
-    put(&mut map, alloc, "exe", exe)?;
-    put(&mut map, alloc, "args", args)?;
-    put(&mut map, alloc, "cwd", cwd)?;
-    put(&mut map, alloc, "env", env)?;
-    put(&mut map, alloc, "cacheable", cacheable)?;
+    put_run(
+        alloc,
+        &mut map,
+        command.exe.as_str(),
+        command.args.as_slice(),
+    )?;
+    put_place(alloc, &mut map, command)?;
     Ok(Value::Object(map))
+}
+
+// Puts a command last in a list.
+fn push_command(
+    alloc: Global,
+    list: &mut Vec<Value>,
+    command: &NvccGeneratedSubcommand,
+) -> Result<(), AllocError>
+    ensures { OnOk result (map view list.new.items ≡ map view list.old.items ++ spec.command_data command.now ∷ []) }
+{
+    push(list, command_value(alloc, command)?)
 }
 
 // The commands of a group, as a list.
@@ -79,9 +152,20 @@ fn group_value(alloc: Global, group: &[NvccGeneratedSubcommand]) -> Result<Value
 {
     let mut list = Vec::new(alloc);
     for command in group {
-        push(&mut list, command_value(alloc, command)?)?;
+        push_command(alloc, &mut list, command)?;
     }
     Ok(Value::Array(list))
+}
+
+// Puts the commands of a group last in a list.
+fn push_group(
+    alloc: Global,
+    list: &mut Vec<Value>,
+    group: &[NvccGeneratedSubcommand],
+) -> Result<(), AllocError>
+    ensures { OnOk result (map view list.new.items ≡ map view list.old.items ++ spec.group_data group.now ∷ []) }
+{
+    push(list, group_value(alloc, group)?)
 }
 
 // Groups, as a list.
@@ -90,25 +174,47 @@ fn groups_value(alloc: Global, groups: &[Vec<NvccGeneratedSubcommand>]) -> Resul
 {
     let mut list = Vec::new(alloc);
     for group in groups {
-        push(&mut list, group_value(alloc, group.as_slice())?)?;
+        push_group(alloc, &mut list, group.as_slice())?;
     }
     Ok(Value::Array(list))
+}
+
+// Puts where a dropped command stood into an object, and why it was dropped.
+fn put_line(
+    alloc: Global,
+    members: &mut Map<String, Value>,
+    dropped: &Dropped,
+) -> Result<(), AllocError>
+    ensures { OnOk result (members_view members.new.entries
+        ≡ with_member (codes "reason") (string (graph.reason_name dropped.now.reason))
+        (with_member (codes "run") (number (unsigned dropped.now.run))
+        (with_member (codes "line") (number (unsigned dropped.now.line)) (members_view members.old.entries)))) }
+{
+    put(members, alloc, "line", Value::from(dropped.line))?;
+    put(members, alloc, "run", Value::from(dropped.run))?;
+    put_text(alloc, members, "reason", reason_name(dropped.reason))
 }
 
 // A dropped command, as an object.
 fn dropped_value(alloc: Global, dropped: &Dropped) -> Result<Value, AllocError>
     ensures { IfOk result (λ v. view v ≡ spec.dropped_data dropped.now) }
 {
-    let exe = Value::try_from_str(alloc, dropped.exe.as_str())?;
-    let args = texts_value(alloc, dropped.args.as_slice())?;
-    let reason = Value::try_from_str(alloc, reason_name(dropped.reason))?;
     let mut map = Map::new(alloc);
-    put(&mut map, alloc, "line", Value::from(dropped.line))?;
-    put(&mut map, alloc, "run", Value::from(dropped.run))?;
-    put(&mut map, alloc, "exe", exe)?;
-    put(&mut map, alloc, "args", args)?;
-    put(&mut map, alloc, "reason", reason)?;
+    put_run(
+        alloc,
+        &mut map,
+        dropped.exe.as_str(),
+        dropped.args.as_slice(),
+    )?;
+    put_line(alloc, &mut map, dropped)?;
     Ok(Value::Object(map))
+}
+
+// Puts a dropped command last in a list.
+fn push_dropped(alloc: Global, list: &mut Vec<Value>, dropped: &Dropped) -> Result<(), AllocError>
+    ensures { OnOk result (map view list.new.items ≡ map view list.old.items ++ spec.dropped_data dropped.now ∷ []) }
+{
+    push(list, dropped_value(alloc, dropped)?)
 }
 
 // Dropped commands, as a list.
@@ -117,20 +223,45 @@ fn all_dropped_value(alloc: Global, dropped: &[Dropped]) -> Result<Value, AllocE
 {
     let mut list = Vec::new(alloc);
     for command in dropped {
-        push(&mut list, dropped_value(alloc, command)?)?;
+        push_dropped(alloc, &mut list, command)?;
     }
     Ok(Value::Array(list))
+}
+
+// Puts groups into an object.
+fn put_groups(
+    alloc: Global,
+    members: &mut Map<String, Value>,
+    groups: &[Vec<NvccGeneratedSubcommand>],
+) -> Result<(), AllocError>
+    ensures { OnOk result (members_view members.new.entries ≡ with_member (codes "groups") (spec.groups_data (map vec_items groups.now)) (members_view members.old.entries)) }
+{
+    put(members, alloc, "groups", groups_value(alloc, groups)?)
+}
+
+// Puts dropped commands into an object.
+fn put_dropped(
+    alloc: Global,
+    members: &mut Map<String, Value>,
+    dropped: &[Dropped],
+) -> Result<(), AllocError>
+    ensures { OnOk result (members_view members.new.entries ≡ with_member (codes "dropped") (spec.all_dropped_data dropped.now) (members_view members.old.entries)) }
+{
+    put(
+        members,
+        alloc,
+        "dropped",
+        all_dropped_value(alloc, dropped)?,
+    )
 }
 
 // A plan, as an object.
 fn plan_value(alloc: Global, plan: &Plan) -> Result<Value, AllocError>
     ensures { IfOk result (λ v. view v ≡ spec.data_of plan.now) }
 {
-    let groups = groups_value(alloc, plan.groups.as_slice())?;
-    let dropped = all_dropped_value(alloc, plan.dropped.as_slice())?;
     let mut map = Map::new(alloc);
-    put(&mut map, alloc, "groups", groups)?;
-    put(&mut map, alloc, "dropped", dropped)?;
+    put_groups(alloc, &mut map, plan.groups.as_slice())?;
+    put_dropped(alloc, &mut map, plan.dropped.as_slice())?;
     Ok(Value::Object(map))
 }
 

@@ -1,6 +1,6 @@
 //! A plan as a file for Ninja.
 
-ghost use Rattle.std.specs.Prelude.{◌≡◌, ◌++◌, IfOk, OnOk, map, encode_utf8_all, string_bytes, vec_items};
+ghost use Rattle.std.specs.Prelude.{◌≡◌, ◌++◌, IfOk, OnOk, codes, map, encode_utf8_all, string_bytes, vec_items};
 ghost use Rattle.std.specs.List.{flat_map, list_all};
 ghost use Rattle.texts.specs.Numeral.{numeral};
 ghost use Rattle.plan_exports.specs.Answers.{Answers};
@@ -153,6 +153,25 @@ fn push_needs(
     }
 }
 
+// Adds an edge that runs a text.
+fn push_edge_text(
+    alloc: Global,
+    text: &mut String,
+    group: usize,
+    place: usize,
+    first: &str,
+    line: &str,
+) -> Result<(), AllocError>
+    ensures { OnOk result (string_bytes text.new ≡ string_bytes text.old
+        ++ (codes "build" ++ (spec.stamp_below group place ++ (codes ": run" ++ (spec.needs_at group place first.now ++ spec.edge_line line.now))))) }
+{
+    text.push_str("build")?;
+    push_stamp_below(alloc, text, group, place)?;
+    text.push_str(": run")?;
+    push_needs(alloc, text, group, place, first)?;
+    push_edge_line(text, line)
+}
+
 // Adds the edge of a command.
 fn push_edge(
     alloc: Global,
@@ -166,11 +185,7 @@ fn push_edge(
     ensures { OnOk result (string_bytes text.new ≡ string_bytes text.old ++ spec.edge tmp.now group place (spec.needs_at group place first.now) command.now) }
 {
     let line = edge_command(alloc, tmp, group, place, command)?;
-    text.push_str("build")?;
-    push_stamp_below(alloc, text, group, place)?;
-    text.push_str(": run")?;
-    push_needs(alloc, text, group, place, first)?;
-    push_edge_line(text, line.as_str())
+    push_edge_text(alloc, text, group, place, first, line.as_str())
 }
 
 // Adds the edges of a group's commands.
