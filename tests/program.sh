@@ -2,6 +2,9 @@
 # Runs the built programs for each form of their calls, and checks the exit status and both streams.
 # Prints a line for each case that fails, and last 'N passed, M failed'; the status is 1 if one failed.
 #
+# These calls stand for must-fail edits of the programs. Three mistakes are shown by one call alone: a program that takes every
+# verb for a plan ('unknown verb'), that writes JSON as a script ('a plan as JSON'), or that drops --keep (the one 'with names kept').
+#
 #   tests/program.sh [CUDAPLAN [ZIGRUNK]]     the programs are those that `make build` and the gate leave, unless given
 set -u
 cd "$(dirname "$0")/.." || exit 1

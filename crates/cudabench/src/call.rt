@@ -1,7 +1,8 @@
 //! The program's calls.
 
-ghost use Rattle.std.specs.Prelude.{◌≡◌, map, string_bytes};
+ghost use Rattle.std.specs.Prelude.{◌≡◌, None, codes, if◌then◌else◌, map, string_bytes};
 ghost use Rattle.std.specs.Option.{option_map};
+ghost use Rattle.std.specs.Str.{bytes_eq};
 ghost use Rattle.host_lines.specs.KeepThreads.{number_of};
 ghost use Rattle.cudabench.specs.Calls as spec;
 
@@ -85,13 +86,13 @@ fn file_of<'a>(words: &'a [String]) -> Option<&'a str>
     }
 }
 
-// The work that a verb and the words behind the count are.
-fn work_of<'a>(verb: &str, words: &'a [String]) -> Option<Work<'a>>
-    ensures { option_map spec.work_seen result ≡ spec.work_of verb.now (map string_bytes words.now) }
+// The work on a file that a verb and the words behind the count are.
+fn file_work<'a>(verb: &str, words: &'a [String]) -> Option<Work<'a>>
+    ensures { option_map spec.work_seen result ≡ (if bytes_eq verb.now (codes "split") then option_map spec.split (spec.file_of (map string_bytes words.now)) else
+        if bytes_eq verb.now (codes "read") then option_map spec.read (spec.file_of (map string_bytes words.now)) else
+        if bytes_eq verb.now (codes "rename") then option_map spec.rename (spec.file_of (map string_bytes words.now)) else None) }
 {
     match verb {
-        "line" => line_of(words),
-        "plan" => plan_of(words),
         "split" => Some(Work::Split {
             file: file_of(words)?,
         }),
@@ -102,6 +103,17 @@ fn work_of<'a>(verb: &str, words: &'a [String]) -> Option<Work<'a>>
             file: file_of(words)?,
         }),
         _ => None,
+    }
+}
+
+// The work that a verb and the words behind the count are.
+fn work_of<'a>(verb: &str, words: &'a [String]) -> Option<Work<'a>>
+    ensures { option_map spec.work_seen result ≡ spec.work_of verb.now (map string_bytes words.now) }
+{
+    match verb {
+        "line" => line_of(words),
+        "plan" => plan_of(words),
+        _ => file_work(verb, words),
     }
 }
 

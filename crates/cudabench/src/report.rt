@@ -46,6 +46,21 @@ impl fmt::Display for Stop {
     }
 }
 
+// Prints the mean nanoseconds, and answers the exit status.
+fn tell_mean<W: Write>(alloc: Global, mean: u128, out: &mut W) -> u8 {
+    match format!(in alloc; "{mean} ns\n") {
+        Ok(text) => u8::from(out.write_all(text.as_bytes()).is_err()),
+        Err(_) => 1,
+    }
+}
+
+// Prints why nothing was timed.
+fn tell_stop<E: Write>(alloc: Global, stop: &Stop, err: &mut E) {
+    if let Ok(text) = format!(in alloc; "{stop}\n") {
+        let _ = err.write_all(text.as_bytes());
+    }
+}
+
 /// Prints the mean nanoseconds to `out`, or why there are none to `err`, and answers the exit status:
 /// 0, 1 where something was refused or `out` fails, 2 for a call of another form.
 pub fn report<W: Write, E: Write>(
@@ -54,15 +69,10 @@ pub fn report<W: Write, E: Write>(
     out: &mut W,
     err: &mut E,
 ) -> u8 {
-    match answer {
-        Ok(mean) => match format!(in alloc; "{mean} ns\n") {
-            Ok(text) => u8::from(out.write_all(text.as_bytes()).is_err()),
-            Err(_) => 1,
-        },
+    match &answer {
+        Ok(mean) => tell_mean(alloc, *mean, out),
         Err(stop) => {
-            if let Ok(text) = format!(in alloc; "{stop}\n") {
-                let _ = err.write_all(text.as_bytes());
-            }
+            tell_stop(alloc, stop, err);
             if matches!(stop, Stop::Usage) { 2 } else { 1 }
         }
     }

@@ -2,7 +2,7 @@
 
 use crate::call::{Call, Work};
 use crate::report::Stop;
-use cuda_below::arguments::CompilerArguments;
+use cuda_below::arguments::{CompilerArguments, ParsedArguments};
 use cuda_below::compiler::{CCompilerImpl, NvccHostCompiler, Places};
 use cuda_plans::cicc::Cicc;
 use cuda_plans::cudafe::CudaFE;
@@ -11,11 +11,29 @@ use cuda_plans::plan::group_nvcc_subcommands_by_compilation_stage;
 use cuda_plans::ptxas::Ptxas;
 use cuda_plans::shell;
 use plan_texts::{Tool, read_file};
-use std::alloc::Global;
+use std::alloc::{AllocError, Global};
 use std::fs::Files;
 use std::time::{Clock, Instant};
 use texts::bytes::Bytes;
 use texts::text::Text;
+
+// Writes back what a line was read as.
+fn write_reading<C: CCompilerImpl>(
+    alloc: Global,
+    tool: &C,
+    cwd: &str,
+    reading: &CompilerArguments<ParsedArguments>,
+    places: &Places,
+) -> Result<(), Stop>
+where
+    C::Command: Drop,
+{
+    let CompilerArguments::Ok(parsed) = reading else {
+        return Err(Stop::NotCompilation);
+    };
+    tool.generate_compile_commands(alloc, "", parsed, cwd, &[], places)?;
+    Ok(())
+}
 
 // Reads a line and writes it back once.
 fn write_back<C: CCompilerImpl>(
@@ -28,11 +46,8 @@ fn write_back<C: CCompilerImpl>(
 where
     C::Command: Drop,
 {
-    let CompilerArguments::Ok(parsed) = tool.parse_arguments(alloc, words, cwd, &[])? else {
-        return Err(Stop::NotCompilation);
-    };
-    tool.generate_compile_commands(alloc, "", &parsed, cwd, &[], places)?;
-    Ok(())
+    let reading = tool.parse_arguments(alloc, words, cwd, &[])?;
+    write_reading(alloc, tool, cwd, &reading, places)
 }
 
 // The mean time of one of `count` runs that began at `start`, in nanoseconds.
@@ -43,8 +58,38 @@ fn mean_since<R: Clock>(rt: &R, start: Instant, count: u64) -> Result<u128, Stop
     }
 }
 
-// The mean time of reading a line and writing it back.
-fn mean_of_line<R: Clock, C: CCompilerImpl>(
+// The places of a line.
+fn places_of_line(alloc: Global) -> Result<Places, AllocError> {
+    Ok(Places {
+        temp_dir: Text::copy_of(alloc, "/t")?,
+        canonical_input: Text::new(String::new(alloc)),
+    })
+}
+
+// The mean time of reading a line and writing it back, at some places.
+fn mean_at<R: Clock, C: CCompilerImpl>(
+    rt: &R,
+    alloc: Global,
+    count: u64,
+    tool: &C,
+    cwd: &str,
+    words: &[String],
+    places: &Places,
+) -> Result<u128, Stop>
+where
+    C::Command: Drop,
+{
+    let Ok(start) = Instant::now(rt) else {
+        return Err(Stop::Clock);
+    };
+    for _ in 0..count {
+        write_back(alloc, tool, cwd, words, places)?;
+    }
+    mean_since(rt, start, count)
+}
+
+// The mean time of reading a compiler's line and writing it back.
+fn mean_of_compiler<R: Clock, C: CCompilerImpl>(
     rt: &R,
     alloc: Global,
     count: u64,
@@ -55,50 +100,85 @@ fn mean_of_line<R: Clock, C: CCompilerImpl>(
 where
     C::Command: Drop,
 {
-    let places = Places {
-        temp_dir: Text::copy_of(alloc, "/t")?,
-        canonical_input: Text::copy_of(alloc, "")?,
-    };
+    let places = places_of_line(alloc)?;
+    mean_at(rt, alloc, count, tool, cwd, words, &places)
+}
+
+// The mean time of reading a tool's line and writing it back.
+fn mean_of_line<R: Clock>(
+    rt: &R,
+    alloc: Global,
+    count: u64,
+    tool: Tool,
+    cwd: &str,
+    words: &[String],
+) -> Result<u128, Stop> {
+    match tool {
+        Tool::Cicc => mean_of_compiler(rt, alloc, count, &Cicc { version: None }, cwd, words),
+        Tool::Ptxas => mean_of_compiler(rt, alloc, count, &Ptxas { version: None }, cwd, words),
+        Tool::CudaFe => mean_of_compiler(rt, alloc, count, &CudaFE { version: None }, cwd, words),
+    }
+}
+
+// Plans two dry runs once.
+fn plan(
+    alloc: Global,
+    setting: (&str, &str, &str),
+    runs: (&[u8], &[u8]),
+    suffixes: &Suffixes,
+) -> Result<(), Stop> {
+    let (cwd, tmp, flag) = setting;
+    group_nvcc_subcommands_by_compilation_stage(
+        alloc,
+        runs.0,
+        runs.1,
+        flag,
+        cwd,
+        tmp,
+        None,
+        &[],
+        NvccHostCompiler::Gcc,
+        &FirstDir,
+        suffixes,
+    )?;
+    Ok(())
+}
+
+// The mean time of planning two dry runs.
+fn mean_of_plan<R: Clock>(
+    rt: &R,
+    alloc: Global,
+    count: u64,
+    setting: (&str, &str, &str),
+    runs: (&[u8], &[u8]),
+) -> Result<u128, Stop> {
+    let suffixes = Suffixes::standard();
     let Ok(start) = Instant::now(rt) else {
         return Err(Stop::Clock);
     };
     for _ in 0..count {
-        write_back(alloc, tool, cwd, words, &places)?;
+        plan(alloc, setting, runs, &suffixes)?;
     }
     mean_since(rt, start, count)
 }
 
-// The mean time of planning the dry runs of two files, which are read before.
-fn mean_of_plan<R: Clock + Files>(
+// The same, of the dry runs of two files, which are read before.
+fn mean_of_planned_files<R: Clock + Files>(
     rt: &R,
     alloc: Global,
     count: u64,
     setting: (&str, &str, &str),
     files: (&str, &str),
 ) -> Result<u128, Stop> {
-    let (cwd, tmp, flag) = setting;
     let dry1 = bytes_of(rt, alloc, files.0)?;
     let dry2 = bytes_of(rt, alloc, files.1)?;
-    let suffixes = Suffixes::standard();
-    let Ok(start) = Instant::now(rt) else {
-        return Err(Stop::Clock);
-    };
-    for _ in 0..count {
-        group_nvcc_subcommands_by_compilation_stage(
-            alloc,
-            dry1.as_slice(),
-            dry2.as_slice(),
-            flag,
-            cwd,
-            tmp,
-            None,
-            &[],
-            NvccHostCompiler::Gcc,
-            &FirstDir,
-            &suffixes,
-        )?;
-    }
-    mean_since(rt, start, count)
+    mean_of_plan(
+        rt,
+        alloc,
+        count,
+        setting,
+        (dry1.as_slice(), dry2.as_slice()),
+    )
 }
 
 // The mean time of splitting a text into shell words.
@@ -114,6 +194,20 @@ fn mean_of_split<R: Clock>(rt: &R, alloc: Global, count: u64, text: &str) -> Res
     mean_since(rt, start, count)
 }
 
+// The same, of the text of a file.
+fn mean_of_split_file<R: Clock + Files>(
+    rt: &R,
+    alloc: Global,
+    count: u64,
+    file: &str,
+) -> Result<u128, Stop> {
+    let bytes = bytes_of(rt, alloc, file)?;
+    match str::from_utf8(bytes.as_slice()) {
+        Ok(text) => mean_of_split(rt, alloc, count, text),
+        Err(_) => Err(Stop::NoWords),
+    }
+}
+
 // The mean time of reading a dry run.
 fn mean_of_read<R: Clock>(rt: &R, alloc: Global, count: u64, dry_run: &[u8]) -> Result<u128, Stop> {
     let Ok(start) = Instant::now(rt) else {
@@ -125,6 +219,23 @@ fn mean_of_read<R: Clock>(rt: &R, alloc: Global, count: u64, dry_run: &[u8]) -> 
     mean_since(rt, start, count)
 }
 
+// The same, of the dry run of a file.
+fn mean_of_read_file<R: Clock + Files>(
+    rt: &R,
+    alloc: Global,
+    count: u64,
+    file: &str,
+) -> Result<u128, Stop> {
+    let bytes = bytes_of(rt, alloc, file)?;
+    mean_of_read(rt, alloc, count, bytes.as_slice())
+}
+
+// Renames the words of a command.
+fn rename_words(alloc: Global, words: &[String], renames: &mut Renames) -> Result<(), Stop> {
+    remap_generated_filenames(alloc, words, renames)?;
+    Ok(())
+}
+
 // Renames the words of commands once.
 fn rename(
     alloc: Global,
@@ -133,27 +244,48 @@ fn rename(
 ) -> Result<(), Stop> {
     let mut renames = Renames::new(alloc, suffixes)?;
     for command in commands {
-        remap_generated_filenames(alloc, command.2.as_slice(), &mut renames)?;
+        rename_words(alloc, command.2.as_slice(), &mut renames)?;
     }
     Ok(())
 }
 
-// The mean time of renaming the commands of a dry run, which is read before.
+// The mean time of renaming commands.
 fn mean_of_rename<R: Clock>(
+    rt: &R,
+    alloc: Global,
+    count: u64,
+    commands: &[(usize, String, Vec<String>)],
+) -> Result<u128, Stop> {
+    let suffixes = Suffixes::standard();
+    let Ok(start) = Instant::now(rt) else {
+        return Err(Stop::Clock);
+    };
+    for _ in 0..count {
+        rename(alloc, commands, &suffixes)?;
+    }
+    mean_since(rt, start, count)
+}
+
+// The same, of the commands of a dry run, which is read before.
+fn mean_of_renamed_run<R: Clock>(
     rt: &R,
     alloc: Global,
     count: u64,
     dry_run: &[u8],
 ) -> Result<u128, Stop> {
     let run = read_dry_run(alloc, dry_run, 1, "/w", &FirstDir)?;
-    let suffixes = Suffixes::standard();
-    let Ok(start) = Instant::now(rt) else {
-        return Err(Stop::Clock);
-    };
-    for _ in 0..count {
-        rename(alloc, run.commands.as_slice(), &suffixes)?;
-    }
-    mean_since(rt, start, count)
+    mean_of_rename(rt, alloc, count, run.commands.as_slice())
+}
+
+// The same, of the dry run of a file.
+fn mean_of_renamed_file<R: Clock + Files>(
+    rt: &R,
+    alloc: Global,
+    count: u64,
+    file: &str,
+) -> Result<u128, Stop> {
+    let bytes = bytes_of(rt, alloc, file)?;
+    mean_of_renamed_run(rt, alloc, count, bytes.as_slice())
 }
 
 // The bytes of a file.
@@ -165,27 +297,16 @@ fn bytes_of<R: Files>(rt: &R, alloc: Global, file: &str) -> Result<Bytes, Stop> 
 pub fn mean_of<R: Clock + Files + AllocGlobal>(rt: &R, call: &Call<'_>) -> Result<u128, Stop> {
     let (alloc, count) = (rt.alloc(), call.count);
     match &call.work {
-        Work::Line { tool, cwd, words } => match tool {
-            Tool::Cicc => mean_of_line(rt, alloc, count, &Cicc { version: None }, cwd, words),
-            Tool::Ptxas => mean_of_line(rt, alloc, count, &Ptxas { version: None }, cwd, words),
-            Tool::CudaFe => mean_of_line(rt, alloc, count, &CudaFE { version: None }, cwd, words),
-        },
+        Work::Line { tool, cwd, words } => mean_of_line(rt, alloc, count, *tool, cwd, words),
         Work::Plan {
             cwd,
             tmp,
             flag,
             dry1,
             dry2,
-        } => mean_of_plan(rt, alloc, count, (cwd, tmp, flag), (dry1, dry2)),
-        Work::Split { file } => match str::from_utf8(bytes_of(rt, alloc, file)?.as_slice()) {
-            Ok(text) => mean_of_split(rt, alloc, count, text),
-            Err(_) => Err(Stop::NoWords),
-        },
-        Work::Read { file } => {
-            mean_of_read(rt, alloc, count, bytes_of(rt, alloc, file)?.as_slice())
-        }
-        Work::Rename { file } => {
-            mean_of_rename(rt, alloc, count, bytes_of(rt, alloc, file)?.as_slice())
-        }
+        } => mean_of_planned_files(rt, alloc, count, (cwd, tmp, flag), (dry1, dry2)),
+        Work::Split { file } => mean_of_split_file(rt, alloc, count, file),
+        Work::Read { file } => mean_of_read_file(rt, alloc, count, file),
+        Work::Rename { file } => mean_of_renamed_file(rt, alloc, count, file),
     }
 }

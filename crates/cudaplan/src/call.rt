@@ -7,7 +7,7 @@ ghost use Rattle.cudaplan.specs.Calls as spec;
 use plan_texts::{PlanCall, Tool, plan_call};
 
 /// A call that reads a tool's line at a working directory.
-#[derive(Debug, Drop)]
+#[derive(Drop)]
 pub struct LineCall<'a> {
     pub tool: Tool,
     pub cwd: &'a str,
@@ -15,7 +15,7 @@ pub struct LineCall<'a> {
 }
 
 /// A call of the program.
-#[derive(Debug, Drop)]
+#[derive(Drop)]
 pub enum Call<'a> {
     Line(LineCall<'a>),
     Plan(PlanCall<'a>),

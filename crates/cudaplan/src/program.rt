@@ -1,7 +1,9 @@
 //! The program's calls.
 
-ghost use Rattle.std.specs.Prelude.{◌≡◌, map, string_bytes};
+ghost use Rattle.std.specs.Prelude.{◌≡◌, ◌⊎◌, List, ℕ, map, string_bytes};
+ghost use Rattle.plan_texts.specs.Delivery.{Delivers};
 ghost use Rattle.plan_texts.specs.PlanCalls.{plan_of};
+ghost use Rattle.plan_texts.specs.PlanText.{shown_plan, unread};
 ghost use Rattle.cudaplan.specs.Calls as spec;
 
 use crate::call::{Call, call_of};
@@ -12,6 +14,29 @@ use std::io::Write;
 
 const USAGE: &str = "usage: cudaplan line TOOL CWD WORD.. | plan CWD TMP FLAG DRY1 DRY2 SUFFIX..\n";
 
+// Reads the file of the second dry run, plans both, and writes the plan.
+fn plan_second<R: Files + AllocGlobal, W: Write>(
+    rt: &R,
+    call: &PlanCall<'_>,
+    dry1: &[u8],
+    out: &mut W,
+) -> Result<(), Stop>
+    ensures { Delivers result unread (W.contents out.old) (W.contents out.new)
+        ⊎ ((second : List ℕ) × Delivers result (shown_plan call.now.cwd.now call.now.tmp.now call.now.flag.now dry1.now second (map string_bytes call.now.suffixes.now)) (W.contents out.old) (W.contents out.new)) }
+{
+    let dry2 = read_file(rt, rt.alloc(), call.dry2)?;
+    run_plan(
+        rt.alloc(),
+        call.cwd,
+        call.tmp,
+        call.flag,
+        dry1,
+        dry2.stdout.as_slice(),
+        call.suffixes,
+        out,
+    )
+}
+
 // Reads the files of two dry runs, plans them, and writes the plan.
 fn plan_files<R: Files + AllocGlobal, W: Write>(
     rt: &R,
@@ -20,19 +45,8 @@ fn plan_files<R: Files + AllocGlobal, W: Write>(
 ) -> Result<(), Stop>
     ensures { spec.PlansFiles (plan_of call.now) result (W.contents out.old) (W.contents out.new) }
 {
-    let alloc = rt.alloc();
-    let dry1 = read_file(rt, alloc, call.dry1)?;
-    let dry2 = read_file(rt, alloc, call.dry2)?;
-    run_plan(
-        alloc,
-        call.cwd,
-        call.tmp,
-        call.flag,
-        dry1.stdout.as_slice(),
-        dry2.stdout.as_slice(),
-        call.suffixes,
-        out,
-    )
+    let dry1 = read_file(rt, rt.alloc(), call.dry1)?;
+    plan_second(rt, call, dry1.stdout.as_slice(), out)
 }
 
 // Runs the engine that a call asks for.
@@ -46,13 +60,13 @@ fn serve<R: Files + AllocGlobal, W: Write>(rt: &R, call: &Call<'_>, out: &mut W)
 }
 
 // The exit status of what an engine answers, once it is told why the engine stopped.
-fn ended<E: Write>(alloc: Global, answer: Result<(), Stop>, err: &mut E) -> u8
-    ensures { result ≡ spec.status_of answer }
+fn ended<E: Write>(alloc: Global, answer: &Result<(), Stop>, err: &mut E) -> u8
+    ensures { result ≡ spec.status_of answer.now }
 {
     match answer {
         Ok(()) => 0,
         Err(stop) => {
-            complain(alloc, "cudaplan", &stop, err);
+            complain(alloc, "cudaplan", stop, err);
             1
         }
     }
@@ -74,5 +88,5 @@ pub fn run_program<R: Files + AllocGlobal, W: Write, E: Write>(
         return 2;
     };
     let answer = serve(rt, &call, out);
-    ended(rt.alloc(), answer, err)
+    ended(rt.alloc(), &answer, err)
 }

@@ -7,7 +7,7 @@ ghost use Rattle.zigrunk.specs.Calls as spec;
 use plan_texts::{PlanCall, plan_call};
 
 /// What a plan is written as.
-#[derive(Clone, Copy, Debug, PartialEq)]
+#[derive(Clone, Copy)]
 pub enum Format {
     /// A script for a POSIX shell.
     Shell,
@@ -17,7 +17,7 @@ pub enum Format {
 }
 
 /// A call that writes the plan of two dry runs.
-#[derive(Debug, Drop)]
+#[derive(Drop)]
 pub struct ExportCall<'a> {
     pub format: Format,
     /// Whether generated files keep the names that nvcc gives them.
@@ -26,7 +26,7 @@ pub struct ExportCall<'a> {
 }
 
 /// A call that reads an nvcc line.
-#[derive(Debug, Drop)]
+#[derive(Drop)]
 pub struct NvccCall<'a> {
     /// The working directory's path.
     pub cwd: &'a str,
@@ -39,7 +39,7 @@ pub struct NvccCall<'a> {
 }
 
 /// A call of the program.
-#[derive(Debug, Drop)]
+#[derive(Drop)]
 pub enum Call<'a> {
     Export(ExportCall<'a>),
     Nvcc(NvccCall<'a>),

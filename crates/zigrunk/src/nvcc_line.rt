@@ -1,10 +1,12 @@
 //! The engine that reads an nvcc line and writes the commands that a plan of it begins with.
 
-ghost use Rattle.std.specs.Prelude.{◌≡◌, ◌++◌, ◌∷◌, [], IfOk, OnOk, map, string_bytes, unwrap_or};
+ghost use Rattle.std.specs.Prelude.{◌≡◌, ◌++◌, ◌∷◌, [], IfOk, OnOk, Ok, codes, map, string_bytes, unwrap_or};
 ghost use Rattle.texts.specs.Fault.{UnlessMemory};
 ghost use Rattle.texts.specs.Numeral.{numeral};
 ghost use Rattle.texts.specs.Variables.{pair_of};
 ghost use Rattle.cuda_below.specs.declared.compiler.NvccHostCompiler.TheVariants.{Gcc};
+ghost use Rattle.cuda_below.specs.Compiler.{Reading, reading_of};
+ghost use Rattle.cuda_plans.specs.NvccCommand.{and_then, dry_runs};
 ghost use Rattle.plan_texts.specs.Delivery.{Answers, Delivers, text_of};
 ghost use Rattle.zigrunk.specs.Calls.{nvcc_of};
 ghost use Rattle.zigrunk.specs.NvccLine as spec;
@@ -24,7 +26,7 @@ use texts::words::Words;
 
 /// What an nvcc line says: texts of commands, ready for a shell, and values. A text that says nothing is
 /// empty.
-#[derive(Debug, Drop)]
+#[derive(Drop)]
 pub struct Outline {
     /// The command that writes the dependency file; empty for a line without dependency words.
     pub dependencies: Text,
@@ -62,16 +64,28 @@ fn push_words(
     text.push_str(quote(alloc, words.as_slice())?.as_str())
 }
 
+// Adds a command's folder and words, and the end of its text.
+fn push_command(
+    alloc: Global,
+    text: &mut String,
+    command: &SingleCompileCommand,
+) -> Result<(), AllocError>
+    ensures { OnOk result (string_bytes text.new ≡ string_bytes text.old ++ (spec.as_words (command.now.cwd ∷ []) ++
+        (codes " && " ++ (spec.as_words (command.now.executable ∷ command.now.arguments) ++ codes " )")))) }
+{
+    push_words(alloc, text, command.cwd.as_str(), &[])?;
+    text.push_str(" && ")?;
+    let executable = command.executable.as_str();
+    push_words(alloc, text, executable, command.arguments.as_slice())?;
+    text.push_str(" )")
+}
+
 // A command's text.
 fn command_text(alloc: Global, command: &SingleCompileCommand) -> Result<Text, AllocError>
     ensures { IfOk result (λ text. text ≡ spec.command_text command.now) }
 {
     let mut text = String::from_str(alloc, unsetting())?;
-    push_words(alloc, &mut text, command.cwd.as_str(), &[])?;
-    text.push_str(" && ")?;
-    let executable = command.executable.as_str();
-    push_words(alloc, &mut text, executable, command.arguments.as_slice())?;
-    text.push_str(" )")?;
+    push_command(alloc, &mut text, command)?;
     Ok(Text::new(text))
 }
 
@@ -183,6 +197,20 @@ fn input(alloc: Global, cwd: &str, parsed: &ParsedArguments) -> Result<Text, All
     }
 }
 
+// The places of a line.
+fn places(
+    alloc: Global,
+    call: &NvccCall<'_>,
+    parsed: &ParsedArguments,
+) -> Result<Places, AllocError>
+    ensures { IfOk result (λ places. places ≡ spec.places_of (nvcc_of call.now) parsed.now) }
+{
+    Ok(Places {
+        temp_dir: Text::copy_of(alloc, call.tmp)?,
+        canonical_input: input(alloc, call.cwd, parsed)?,
+    })
+}
+
 // The command that a line's arguments are written back as.
 fn command(
     alloc: Global,
@@ -192,10 +220,7 @@ fn command(
 ) -> Result<NvccCompileCommand, Fault>
     ensures { UnlessMemory result (spec.command_of (nvcc_of call.now) parsed.now (map pair_of variables.now)) }
 {
-    let places = Places {
-        temp_dir: Text::copy_of(alloc, call.tmp)?,
-        canonical_input: input(alloc, call.cwd, parsed)?,
-    };
+    let places = places(alloc, call, parsed)?;
     let (command, _) = compiler().generate_compile_commands(
         alloc, call.nvcc, parsed, call.cwd, variables, &places,
     )?;
@@ -212,6 +237,33 @@ fn folder_text(alloc: Global, folder: &Option<Text>) -> Result<Text, AllocError>
     }
 }
 
+// The texts of two commands.
+fn two_texts(
+    alloc: Global,
+    commands: &(SingleCompileCommand, SingleCompileCommand),
+) -> Result<(Text, Text), AllocError>
+    ensures { IfOk result (λ texts. texts ≡ (spec.command_text commands.now.0, spec.command_text commands.now.1)) }
+{
+    let first = command_text(alloc, &commands.0)?;
+    Ok((first, command_text(alloc, &commands.1)?))
+}
+
+// The texts of both dry runs.
+fn dry_run_texts(alloc: Global, command: &NvccCompileCommand) -> Result<(Text, Text), AllocError>
+    ensures { IfOk result (λ texts. texts ≡ (spec.command_text (dry_runs command.now).0, spec.command_text (dry_runs command.now).1)) }
+{
+    let commands = command.dryrun_commands(alloc)?;
+    two_texts(alloc, &commands)
+}
+
+// A command's compilation flag, and the folder that generated files are kept in.
+fn flag_and_folder(alloc: Global, command: &NvccCompileCommand) -> Result<(Text, Text), AllocError>
+    ensures { IfOk result (λ texts. texts ≡ (command.now.compilation_flag, unwrap_or command.now.keep_dir [])) }
+{
+    let flag = command.compilation_flag.try_clone(alloc)?;
+    Ok((flag, folder_text(alloc, &command.keep_dir)?))
+}
+
 // What a line says, of its command and what else it says.
 fn outline_with(
     alloc: Global,
@@ -221,15 +273,32 @@ fn outline_with(
 ) -> Result<Outline, AllocError>
     ensures { IfOk result (λ outline. outline ≡ spec.outline_with command.now dependencies threads) }
 {
-    let (first, second) = command.dryrun_commands(alloc)?;
+    let (first, second) = dry_run_texts(alloc, command)?;
+    let (flag, keep_dir) = flag_and_folder(alloc, command)?;
     Ok(Outline {
         dependencies,
-        first: command_text(alloc, &first)?,
-        second: command_text(alloc, &second)?,
-        flag: command.compilation_flag.try_clone(alloc)?,
+        first,
+        second,
+        flag,
         threads,
-        keep_dir: folder_text(alloc, &command.keep_dir)?,
+        keep_dir,
     })
+}
+
+// What a line says by its command.
+fn outline_by(
+    alloc: Global,
+    call: &NvccCall<'_>,
+    parsed: &ParsedArguments,
+    variables: &[(String, String)],
+    command: &NvccCompileCommand,
+) -> Result<Outline, Fault>
+    ensures { UnlessMemory result (and_then (spec.dependencies_of (nvcc_of call.now) parsed.now (map pair_of variables.now)) (λ dependencies.
+        and_then (spec.threads_text (nvcc_of call.now).cwd parsed.now) (λ threads. Ok (spec.outline_with command.now dependencies threads)))) }
+{
+    let dependencies = dependencies(alloc, call, parsed, variables)?;
+    let threads = threads(alloc, call.cwd, parsed)?;
+    Ok(outline_with(alloc, command, dependencies, threads)?)
 }
 
 // What a line's arguments say.
@@ -242,9 +311,7 @@ fn outline_of(
     ensures { UnlessMemory result (spec.outline_of (nvcc_of call.now) parsed.now (map pair_of variables.now)) }
 {
     let command = command(alloc, call, parsed, variables)?;
-    let dependencies = dependencies(alloc, call, parsed, variables)?;
-    let threads = threads(alloc, call.cwd, parsed)?;
-    Ok(outline_with(alloc, &command, dependencies, threads)?)
+    outline_by(alloc, call, parsed, variables, &command)
 }
 
 // Adds the line that gives a variable a value.
@@ -276,16 +343,56 @@ fn outline_text(alloc: Global, outline: &Outline) -> Result<String, AllocError>
     Ok(text)
 }
 
+// Adds the word that no cache can serve, if there is one.
+fn push_word(text: &mut String, word: &Option<Text>) -> Result<(), AllocError>
+    ensures { OnOk result (string_bytes text.new ≡ spec.hindrance (string_bytes text.old) word.now) }
+{
+    if let Some(word) = word {
+        text.push_str(": ")?;
+        text.push_str(word.as_str())?;
+    }
+    Ok(())
+}
+
 // What no cache can serve.
 fn hindrance(alloc: Global, what: &str, word: &Option<Text>) -> Result<Text, AllocError>
     ensures { IfOk result (λ text. text ≡ spec.hindrance what.now word.now) }
 {
     let mut text = String::from_str(alloc, what)?;
-    if let Some(word) = word {
-        text.push_str(": ")?;
-        text.push_str(word.as_str())?;
-    }
+    push_word(&mut text, word)?;
     Ok(Text::new(text))
+}
+
+// The text of a line's arguments.
+fn arguments_text(
+    alloc: Global,
+    call: &NvccCall<'_>,
+    parsed: &ParsedArguments,
+    variables: &[(String, String)],
+) -> Result<String, Stop>
+    ensures { Answers (text_of result) (spec.outlined (spec.outline_of (nvcc_of call.now) parsed.now (map pair_of variables.now))) }
+{
+    let outline = outline_of(alloc, call, parsed, variables)?;
+    Ok(outline_text(alloc, &outline)?)
+}
+
+// The text of what a line was read as.
+fn reading_text(
+    alloc: Global,
+    call: &NvccCall<'_>,
+    reading: &Result<CompilerArguments<ParsedArguments>, AllocError>,
+    variables: &[(String, String)],
+) -> Result<String, Stop>
+    ensures { (expected : Reading) → IfOk reading.now (λ r. reading_of r ≡ expected) → Answers (text_of result) (spec.reading_text (nvcc_of call.now) (map pair_of variables.now) expected) }
+{
+    match reading {
+        Ok(CompilerArguments::Ok(parsed)) => arguments_text(alloc, call, parsed, variables),
+        Ok(CompilerArguments::CannotCache(what, word)) => {
+            Err(Stop::CannotCache(hindrance(alloc, what, word)?))
+        }
+        Ok(CompilerArguments::NotCompilation) => Err(Stop::NotCompilation),
+        Err(_) => Err(Stop::Fault(Fault::Memory)),
+    }
 }
 
 // The text of a line.
@@ -296,15 +403,8 @@ fn nvcc_text(
 ) -> Result<String, Stop>
     ensures { Answers (text_of result) (spec.nvcc_text (nvcc_of call.now) (map pair_of variables.now)) }
 {
-    match compiler().parse_arguments(alloc, call.words, call.cwd, variables)? {
-        CompilerArguments::Ok(parsed) => {
-            Ok(outline_text(alloc, &outline_of(alloc, call, &parsed, variables)?)?)
-        }
-        CompilerArguments::CannotCache(what, word) => {
-            Err(Stop::CannotCache(hindrance(alloc, what, &word)?))
-        }
-        CompilerArguments::NotCompilation => Err(Stop::NotCompilation),
-    }
+    let reading = compiler().parse_arguments(alloc, call.words, call.cwd, variables);
+    reading_text(alloc, call, &reading, variables)
 }
 
 /// Reads an nvcc line, with the words of `variables`, and writes to `w`, for a shell's `eval`, the command

@@ -1,8 +1,9 @@
 //! The program's calls.
 
-ghost use Rattle.std.specs.Prelude.{◌≡◌, map, Ok, Err, string_bytes};
+ghost use Rattle.std.specs.Prelude.{◌≡◌, ◌⊎◌, List, ℕ, map, Ok, Err, string_bytes};
 ghost use Rattle.texts.specs.Variables.{pair_of};
 ghost use Rattle.plan_texts.specs.Delivery.{Delivers};
+ghost use Rattle.plan_texts.specs.PlanText.{unread};
 ghost use Rattle.zigrunk.specs.Calls as forms;
 ghost use Rattle.zigrunk.specs.Endings as spec;
 
@@ -16,6 +17,35 @@ use std::alloc::Global;
 use std::fs::Files;
 use std::io::Write;
 
+// Plans two dry runs, by what the disk says of their programs, and writes the plan.
+fn export_bytes<R: Files + AllocGlobal, W: Write>(
+    rt: &R,
+    call: &ExportCall<'_>,
+    dry1: &[u8],
+    dry2: &[u8],
+    out: &mut W,
+) -> Result<(), Stop>
+    ensures { Delivers result unread (W.contents out.old) (W.contents out.new)
+        ⊎ spec.ExportsBytes (forms.export_of call.now) dry1.now dry2.now result (W.contents out.old) (W.contents out.new) }
+{
+    let programs = snapshot_of(rt, dry1, dry2, call.plan.cwd)?;
+    run_export(rt.alloc(), call, dry1, dry2, &programs, out)
+}
+
+// Reads the file of the second dry run, plans both, and writes the plan.
+fn export_second<R: Files + AllocGlobal, W: Write>(
+    rt: &R,
+    call: &ExportCall<'_>,
+    dry1: &[u8],
+    out: &mut W,
+) -> Result<(), Stop>
+    ensures { Delivers result unread (W.contents out.old) (W.contents out.new)
+        ⊎ ((second : List ℕ) × spec.ExportsBytes (forms.export_of call.now) dry1.now second result (W.contents out.old) (W.contents out.new)) }
+{
+    let dry2 = read_file(rt, rt.alloc(), call.plan.dry2)?;
+    export_bytes(rt, call, dry1, dry2.stdout.as_slice(), out)
+}
+
 // Reads the files of two dry runs, plans them, and writes the plan.
 fn export_files<R: Files + AllocGlobal, W: Write>(
     rt: &R,
@@ -24,12 +54,8 @@ fn export_files<R: Files + AllocGlobal, W: Write>(
 ) -> Result<(), Stop>
     ensures { spec.ExportsFiles (forms.export_of call.now) result (W.contents out.old) (W.contents out.new) }
 {
-    let alloc = rt.alloc();
-    let dry1 = read_file(rt, alloc, call.plan.dry1)?;
-    let dry2 = read_file(rt, alloc, call.plan.dry2)?;
-    let (first, second) = (dry1.stdout.as_slice(), dry2.stdout.as_slice());
-    let programs = snapshot_of(rt, first, second, call.plan.cwd)?;
-    run_export(alloc, call, first, second, &programs, out)
+    let dry1 = read_file(rt, rt.alloc(), call.plan.dry1)?;
+    export_second(rt, call, dry1.stdout.as_slice(), out)
 }
 
 // Writes a page.
@@ -68,14 +94,14 @@ fn status_of(stop: &Stop) -> u8
 }
 
 // The exit status of what an engine answers, once it is told why the engine stopped.
-fn ended<E: Write>(alloc: Global, answer: Result<(), Stop>, err: &mut E) -> u8
-    ensures { result ≡ spec.status_of answer }
+fn ended<E: Write>(alloc: Global, answer: &Result<(), Stop>, err: &mut E) -> u8
+    ensures { result ≡ spec.status_of answer.now }
 {
     match answer {
         Ok(()) => 0,
         Err(stop) => {
-            complain(alloc, "zigrunk", &stop, err);
-            status_of(&stop)
+            complain(alloc, "zigrunk", stop, err);
+            status_of(stop)
         }
     }
 }
@@ -98,5 +124,5 @@ pub fn run_program<R: Files + AllocGlobal, W: Write, E: Write>(
         return 2;
     };
     let answer = serve(rt, &call, variables, out);
-    ended(rt.alloc(), answer, err)
+    ended(rt.alloc(), &answer, err)
 }
