@@ -1,21 +1,28 @@
 //! Plans as other tools read them: a shell, Ninja, and readers of JSON.
 
-use cuda_below::command::Cacheable;
-use cuda_plans::plan::{Dropped, DroppedCommands, Groups, NvccGeneratedSubcommand, Plan, Reason};
+use cuda_plans::dry_run::FirstDir;
+use cuda_plans::plan::Plan;
 use plan_exports::{Refusal, json_text, ninja_file, shell_script};
-use std::alloc::{AllocError, Global};
-use std::test::Fail;
-use texts::text::Text;
-use texts::variables::Variables;
-use texts::words::Words;
+use plan_texts::plan_runs;
+use std::alloc::Global;
+use texts::fault::Fault;
 
-const SCRIPT: &str = "set -e
-( cd /w && env 'A=1' /b/cicc 'a b$' )
+// A device group of two commands, between a front group and a final group without commands, and one that is dropped.
+const DRY_RUN: &[u8] = b"#$ PATH=/b
+#$ gcc -D__NVCC__ -E k.cu -o k.cpp1.ii
+#$ cicc 'a b$' k.cpp1.ii -o k.ptx
+#$ ar x
 ";
 
-const SCRIPT_OF_TWO_LINES: &str = "set -e
-( cd /w && env 'A=1' /b/cicc 'a
-b' )
+const SCRIPT: &str = "set -e
+( cd /w && env 'PATH=/b' /b/gcc -D__NVCC__ -E k.cu -o x_0.cpp1.ii )
+( cd /t && env 'PATH=/b' /b/cicc 'a b$' x_0.cpp1.ii -o k.ptx )
+";
+
+const SCRIPT_OF_FOUR_LINES: &str = "set -e
+( cd '/a
+b' && env 'PATH=/b' /b/gcc -D__NVCC__ -E k.cu -o x_0.cpp1.ii )
+( cd /t && env 'PATH=/b' /b/cicc 'a b$' x_0.cpp1.ii -o k.ptx )
 ";
 
 const NINJA: &str = "tmp = /t
@@ -23,97 +30,55 @@ builddir = ${tmp}
 rule run
   command = ${line}
 build ${tmp}/zigrunk.1.0: run
-  line = ( cd /w && env 'A=1' $${ZIGRUNK_LAUNCHER-} /b/cicc 'a b$$' ) && touch /t/zigrunk.1.0
-# dropped line 6 run 1 NotCuda /b/ar x
+  line = ( cd /w && env 'PATH=/b' /b/gcc -D__NVCC__ -E k.cu -o x_0.cpp1.ii ) && touch /t/zigrunk.1.0
+build ${tmp}/zigrunk.1.1: run ${tmp}/zigrunk.1.0
+  line = ( cd /t && env 'PATH=/b' $${ZIGRUNK_LAUNCHER-} /b/cicc 'a b$$' x_0.cpp1.ii -o k.ptx ) && touch /t/zigrunk.1.1
+# dropped line 3 run 2 NotCuda /b/ar x
 ";
 
 const JSON: &str =
-    r#"{"dropped":[{"args":["x"],"exe":"/b/ar","line":6,"reason":"NotCuda","run":1}],"groups":[[],[{"args":["a b$"],"cacheable":true,"cwd":"/w","env":[["A","1"]],"exe":"/b/cicc"}],[]]}"#;
+    r#"{"dropped":[{"args":["x"],"exe":"/b/ar","line":3,"reason":"NotCuda","run":2}],"groups":[[],[{"args":["-D__NVCC__","-E","k.cu","-o","x_0.cpp1.ii"],"cacheable":false,"cwd":"/w","env":[["PATH","/b"]],"exe":"/b/gcc"},{"args":["a b$","x_0.cpp1.ii","-o","k.ptx"],"cacheable":true,"cwd":"/t","env":[["PATH","/b"]],"exe":"/b/cicc"}],[]]}"#;
 
-fn one_word(alloc: Global, word: &str) -> Result<Words, AllocError> {
-    let mut words = Words::new(alloc);
-    words.push(String::from_str(alloc, word)?)?;
-    Ok(words)
+// The plan of the dry run in a working directory.
+fn plan(alloc: Global, cwd: &str) -> Result<Plan, Fault> {
+    plan_runs(
+        alloc,
+        cwd,
+        "/t",
+        "-c",
+        None,
+        DRY_RUN,
+        DRY_RUN,
+        &[],
+        &FirstDir,
+    )
 }
 
-fn variable(alloc: Global, name: &str, value: &str) -> Result<Variables, AllocError> {
-    let mut variables = Variables::new(alloc);
-    variables.push(
-        String::from_str(alloc, name)?,
-        String::from_str(alloc, value)?,
-    )?;
-    Ok(variables)
-}
-
-fn command(alloc: Global, word: &str) -> Result<NvccGeneratedSubcommand, AllocError> {
-    Ok(NvccGeneratedSubcommand {
-        exe: Text::copy_of(alloc, "/b/cicc")?,
-        args: one_word(alloc, word)?,
-        cwd: Text::copy_of(alloc, "/w")?,
-        env_vars: variable(alloc, "A", "1")?,
-        cacheable: Cacheable::Yes,
-    })
-}
-
-// A front group and a final group without commands, and a device group of one command with this word.
-fn groups(alloc: Global, word: &str) -> Result<Groups, AllocError> {
-    let mut device = Vec::new(alloc);
-    device.push(command(alloc, word)?)?;
-    let mut groups = Vec::new(alloc);
-    groups.push(Vec::new(alloc))?;
-    groups.push(device)?;
-    groups.push(Vec::new(alloc))?;
-    Ok(Groups::from_vec(groups))
-}
-
-fn dropped(alloc: Global) -> Result<DroppedCommands, AllocError> {
-    let mut commands = Vec::new(alloc);
-    commands.push(Dropped {
-        line: 6,
-        run: 1,
-        exe: Text::copy_of(alloc, "/b/ar")?,
-        args: one_word(alloc, "x")?,
-        reason: Reason::NotCuda,
-    })?;
-    Ok(DroppedCommands::from_vec(commands))
-}
-
-fn plan(alloc: Global, word: &str) -> Result<Plan, AllocError> {
-    Ok(Plan {
-        groups: groups(alloc, word)?,
-        dropped: dropped(alloc)?,
-    })
-}
-
-// The plan of a word as a script.
-fn script_of(alloc: Global, word: &str) -> Result<String, Refusal> {
-    shell_script(alloc, &plan(alloc, word)?)
-}
-
-// The plan of a word as a file for Ninja.
-fn graph_of(alloc: Global, word: &str) -> Result<String, Refusal> {
-    ninja_file(alloc, "/t", &plan(alloc, word)?)
-}
-
-// The plan of a word as JSON.
-fn value_of(alloc: Global, word: &str) -> Result<String, AllocError> {
-    json_text(alloc, &plan(alloc, word)?)
+// Whether a plan is written as these texts.
+fn is_written(alloc: Global, plan: &Plan) -> bool {
+    let script = shell_script(alloc, plan);
+    let is_script = matches!(&script, Ok(text) if text.as_str() == SCRIPT);
+    let graph = ninja_file(alloc, "/t", plan);
+    let is_graph = matches!(&graph, Ok(text) if text.as_str() == NINJA);
+    let value = json_text(alloc, plan);
+    is_script && is_graph && matches!(&value, Ok(text) if text.as_str() == JSON)
 }
 
 #[test]
-fn plans_are_written_for_other_tools(rt: HostRuntime) -> Result<(), Fail> {
-    let alloc = rt.alloc();
-    assert_eq!(rt; script_of(alloc, "a b$")?.as_str(), SCRIPT);
-    assert_eq!(rt; graph_of(alloc, "a b$")?.as_str(), NINJA);
-    assert_eq!(rt; value_of(alloc, "a b$")?.as_str(), JSON);
-    Ok(())
+fn plans_are_written_for_other_tools(rt: HostRuntime) {
+    let planned = plan(rt.alloc(), "/w");
+    assert!(rt; matches!(&planned, Ok(plan) if is_written(rt.alloc(), plan)));
+}
+
+// Whether a plan with a newline is written as a script and refused as a file for Ninja.
+fn is_script_alone(alloc: Global, plan: &Plan) -> bool {
+    let script = shell_script(alloc, plan);
+    let is_script = matches!(&script, Ok(text) if text.as_str() == SCRIPT_OF_FOUR_LINES);
+    is_script && matches!(ninja_file(alloc, "/t", plan), Err(Refusal::Unheld))
 }
 
 #[test]
-fn newline_is_held_by_a_script_alone(rt: HostRuntime) -> Result<(), Fail> {
-    let alloc = rt.alloc();
-    assert_eq!(rt; script_of(alloc, "a\nb")?.as_str(), SCRIPT_OF_TWO_LINES);
-    let refused = matches!(graph_of(alloc, "a\nb"), Err(Refusal::Unheld));
-    assert!(rt; refused);
-    Ok(())
+fn newline_is_held_by_a_script_alone(rt: HostRuntime) {
+    let planned = plan(rt.alloc(), "/a\nb");
+    assert!(rt; matches!(&planned, Ok(plan) if is_script_alone(rt.alloc(), plan)));
 }

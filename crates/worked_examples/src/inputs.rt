@@ -1,26 +1,28 @@
-//! Inputs that are preprocessed already, read to their ends.
+//! Inputs that are preprocessed already, read by a reader that is interrupted, or fails.
 
 use cuda_plans::cicc;
 use std::io::{self, Read};
-use std::process::Abort;
-use std::test::Fail;
 use texts::fault::Fault;
 use texts::status::Output;
 
 // Any bytes, of which the second is no UTF-8.
-const BYTES: [u8; 3] = [0, 0xff, 0x0a];
+const BYTES: &[u8] = b"\x00\xff\n";
 
-// A reader that gives one byte at a time, and is interrupted before the second.
+// What is read before a read fails.
+const BEGINNINGS: [&[u8]; 5] = [b"", b"x", b"xx", b"xxx", b"xxxx"];
+
+// A reader that gives one byte at a time, is interrupted before each, and fails at the end if so.
 #[derive(Drop)]
-struct ByteByByte<'a> {
+struct Slow<'a> {
     left: &'a [u8],
     interrupted: bool,
+    fails: bool,
 }
 
-impl Read for ByteByByte<'_> {
+impl Read for Slow<'_> {
     fn read(&mut self, buf: &mut [u8]) -> io::Result<usize> {
-        if self.left.len() == 2 && !self.interrupted {
-            self.interrupted = true;
+        self.interrupted = !self.interrupted;
+        if self.interrupted {
             return Err(io::Error::from(io::ErrorKind::Interrupted));
         }
         match (self.left.split_first(), buf.first_mut()) {
@@ -29,58 +31,37 @@ impl Read for ByteByByte<'_> {
                 self.left = rest;
                 Ok(1)
             }
+            _ if self.fails => Err(io::Error::from(io::ErrorKind::BrokenPipe)),
             _ => Ok(0),
         }
     }
 }
 
-// A reader that gives one byte at a read, and fails after a number of reads.
-#[derive(Drop)]
-struct Broken {
-    reads: usize,
-}
-
-impl Read for Broken {
-    fn read(&mut self, buf: &mut [u8]) -> io::Result<usize> {
-        match (self.reads.checked_sub(1), buf.first_mut()) {
-            (Some(reads), Some(place)) => {
-                *place = b'x';
-                self.reads = reads;
-                Ok(1)
-            }
-            _ => Err(io::Error::from(io::ErrorKind::BrokenPipe)),
-        }
+// A reader of these bytes.
+fn reader_of(left: &[u8], fails: bool) -> Slow<'_> {
+    Slow {
+        left,
+        interrupted: false,
+        fails,
     }
 }
 
-fn check_output(rt: &impl Abort, output: &Output, want: &[u8]) {
-    assert!(rt; output.status.success());
-    assert_eq!(rt; output.stdout.as_slice(), want);
-    assert_eq!(rt; output.stderr.as_slice().len(), 0);
+// Whether an output is a success that holds the bytes.
+fn is_whole(output: &Output) -> bool {
+    let is_alone = output.status.success() && output.stderr.is_empty();
+    is_alone && output.stdout.as_slice() == BYTES
 }
 
 #[test]
-fn all_bytes_are_read(rt: HostRuntime) -> Result<(), Fail> {
-    let output = cicc::read_input(rt.alloc(), BYTES.as_slice())?;
-    check_output(&rt, &output, BYTES.as_slice());
-    let slow = ByteByByte {
-        left: BYTES.as_slice(),
-        interrupted: false,
-    };
-    let output = cicc::read_input(rt.alloc(), slow)?;
-    check_output(&rt, &output, BYTES.as_slice());
-    let output = cicc::read_input(rt.alloc(), b"".as_slice())?;
-    check_output(&rt, &output, b"".as_slice());
-    Ok(())
+fn interrupted_reads_are_tried_again(rt: HostRuntime) {
+    let answer = cicc::read_input(rt.alloc(), reader_of(BYTES, false));
+    assert!(rt; matches!(&answer, Ok(output) if is_whole(output)));
 }
 
 #[test]
 fn failed_reads_are_refused(rt: HostRuntime) {
-    for reads in 0..5 {
-        let refused = matches!(
-            cicc::read_input(rt.alloc(), Broken { reads }),
-            Err(Fault::Read)
-        );
-        assert!(rt; refused);
+    for left in BEGINNINGS.iter() {
+        let answer = cicc::read_input(rt.alloc(), reader_of(left, true));
+        assert!(rt; matches!(&answer, Err(Fault::Read)));
     }
 }

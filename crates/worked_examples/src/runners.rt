@@ -1,8 +1,12 @@
-//! A runner that is told its answers, and runs by it.
+//! A runner that is refused memory, at any of its calls.
 
 ghost use Rattle.std.specs.Prelude.{◌≡◌, ◌++◌, ◌∷◌, [], map};
+ghost use Rattle.cuda_plans.specs.Outcome.{empty_success};
 ghost use Rattle.cuda_plans.specs.Schedule.{AccountEntry};
+ghost use Rattle.cuda_plans.specs.declared.runner.Answer.TheVariants.{Failed};
+ghost use Rattle.texts.specs.declared.fault.Fault.TheVariants.{Process};
 
+use crate::one_kernel::ONE_KERNEL;
 use cuda_plans::compiler::NvccHostCompiler;
 use cuda_plans::dry_run::{FirstDir, Suffixes};
 use cuda_plans::nvcc::NvccCompileCommand;
@@ -16,57 +20,33 @@ use texts::text::Text;
 use texts::variables::Variables;
 use texts::words::Words;
 
-/// What a runner was handed, and its answer.
+// A command that a runner was handed.
 #[derive(Drop)]
-pub struct Entry {
+struct Entry {
     place: Place,
     command: NvccGeneratedSubcommand,
-    answer: Answer,
 }
 
-/// A runner that is told its answers at some places, where none is a want of memory. Elsewhere it answers with
-/// success. It keeps its account.
+// A runner that answers a number of calls, and then is refused memory. It keeps its account.
 #[derive(Drop)]
-pub struct Listed {
-    answers: Vec<(Place, Option<Answer>)>,
+struct Refused {
+    calls: usize,
     account: Vec<Entry>,
 }
 
-impl Listed {
-    /// A runner that was handed nothing yet.
-    pub fn new(alloc: Global, answers: Vec<(Place, Option<Answer>)>) -> Listed {
-        Listed {
-            answers,
-            account: Vec::new(alloc),
-        }
-    }
-
-    /// What it was handed, each by its place, and how the run ended.
-    pub fn told(&self, alloc: Global, ended: Result<Output, Fault>) -> Result<String, AllocError> {
-        let mut text = String::new(alloc);
-        for entry in &self.account {
-            let (group, index) = (entry.place.group, entry.place.index);
-            text.push_str(format!(in alloc; "{group}.{index} ")?.as_str())?;
-        }
-        text.push_str(ending(alloc, ended)?.as_str())?;
-        Ok(text)
-    }
-
-    fn answer(&self, alloc: Global, place: Place) -> Result<Answer, AllocError> {
-        for (at, answer) in &self.answers {
-            if *at == place {
-                return match answer {
-                    Some(answer) => answer.try_clone(alloc),
-                    None => Err(AllocError),
-                };
-            }
-        }
-        Ok(left(alloc, 0))
-    }
+// The answer that a command failed, and left a success: so it didn't fail.
+fn no_failure(alloc: Global) -> Answer
+    ensures { result ≡ Failed (Process empty_success) }
+{
+    Answer::Failed(Fault::Process(Output {
+        status: ExitStatus::from_code(0),
+        stdout: Bytes::new(alloc),
+        stderr: Bytes::new(alloc),
+    }))
 }
 
-impl Runner for Listed {
-    ghost log = { λ r. map (λ e. record { place = e.place; command = e.command; answer = e.answer }) r.account.items };
+impl Runner for Refused {
+    ghost log = { λ r. map (λ e. record { place = e.place; command = e.command; answer = Failed (Process empty_success) }) r.account.items };
 
     fn run(
         &mut self,
@@ -74,63 +54,55 @@ impl Runner for Listed {
         place: Place,
         command: NvccGeneratedSubcommand,
     ) -> Result<Answer, AllocError> {
-        let answer = self.answer(alloc, place)?;
-        let copy = answer.try_clone(alloc)?;
-        self.account.push(Entry {
-            place,
-            command,
-            answer: copy,
-        })?;
-        Ok(answer)
+        if self.account.len() == self.calls {
+            return Err(AllocError);
+        }
+        self.account.push(Entry { place, command })?;
+        Ok(no_failure(alloc))
     }
 }
 
-/// What a process leaves that exits with a code and writes nothing.
-pub fn process(alloc: Global, code: i32) -> Output {
-    Output {
-        status: ExitStatus::from_code(code),
-        stdout: Bytes::new(alloc),
-        stderr: Bytes::new(alloc),
-    }
+fn no_text(alloc: Global) -> Text {
+    Text::new(String::new(alloc))
 }
 
-/// The answer that a process ran and left this.
-pub fn left(alloc: Global, code: i32) -> Answer {
-    Answer::Ran(process(alloc, code))
-}
-
-// A call of nvcc.
-fn call(alloc: Global, num_parallel: usize) -> Result<NvccCompileCommand, AllocError> {
-    Ok(NvccCompileCommand {
-        temp_dir: Text::copy_of(alloc, "/t")?,
+// A call of nvcc. All of its texts are empty.
+fn call(alloc: Global) -> NvccCompileCommand {
+    NvccCompileCommand {
+        temp_dir: no_text(alloc),
         keep_dir: None,
-        num_parallel,
-        executable: Text::copy_of(alloc, "/b/nvcc")?,
+        num_parallel: 1,
+        executable: no_text(alloc),
         arguments: Words::new(alloc),
-        compilation_flag: Text::copy_of(alloc, "-c")?,
+        compilation_flag: no_text(alloc),
         env_vars: Variables::new(alloc),
-        cwd: Text::copy_of(alloc, "/w")?,
+        cwd: no_text(alloc),
         host_compiler: NvccHostCompiler::Gcc,
-        output_file_name: Text::copy_of(alloc, "k.o")?,
-    })
-}
-
-// How a run ended: the exit code of an output, or a refusal's message.
-fn ending(alloc: Global, ended: Result<Output, Fault>) -> Result<String, AllocError> {
-    match ended {
-        Ok(output) => format!(in alloc; "ended with {:?}", output.status.code()),
-        Err(Fault::Process(output)) => format!(in alloc; "failed with {:?}", output.status.code()),
-        Err(fault) => fault.message(alloc),
+        output_file_name: no_text(alloc),
     }
 }
 
-/// Runs what two dry runs are planned as.
-pub fn execute(
-    alloc: Global,
-    dry1: &[u8],
-    dry2: &[u8],
-    num_parallel: usize,
-    runner: &mut Listed,
-) -> Result<Output, Fault> {
-    call(alloc, num_parallel)?.execute(alloc, dry1, dry2, &FirstDir, runner, &Suffixes::standard())
+// Runs the commands of one kernel, one after the other.
+fn run(alloc: Global, runner: &mut Refused) -> Result<Output, Fault> {
+    let suffixes = Suffixes::standard();
+    call(alloc).execute(alloc, ONE_KERNEL, ONE_KERNEL, &FirstDir, runner, &suffixes)
+}
+
+#[test]
+fn runs_end_at_each_call_that_is_refused_memory(rt: HostRuntime) {
+    for calls in 0..7 {
+        let account = Vec::new(rt.alloc());
+        let mut runner = Refused { calls, account };
+        assert!(rt; matches!(&run(rt.alloc(), &mut runner), Err(Fault::Memory)));
+        assert!(rt; runner.account.len() == calls);
+    }
+}
+
+#[test]
+fn failures_of_successes_end_no_run(rt: HostRuntime) {
+    let account = Vec::new(rt.alloc());
+    let mut runner = Refused { calls: 9, account };
+    let answer = run(rt.alloc(), &mut runner);
+    assert!(rt; matches!(&answer, Ok(output) if output.status.success()));
+    assert!(rt; runner.account.len() == 7);
 }

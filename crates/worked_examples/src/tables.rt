@@ -1,48 +1,41 @@
 //! A table's row alone, and the words of a line that are left.
 
-use crate::words::{joined, words};
 use option_items::items::Line;
 use option_items::table::{ArgDisposition, ArgInfo, Match};
 use std::alloc::{AllocError, Global};
-use std::test::Fail;
 use texts::words::Words;
-
-// What an option of this form makes of a word.
-fn matched(form: ArgDisposition, word: &str) -> &str {
-    match ArgInfo::TakeArg("-o", 1, form).matches(word) {
-        None => "no match",
-        Some(Match::Lone) => "alone",
-        Some(Match::Joined(value)) => value,
-        Some(Match::Awaiting) => "the next word",
-    }
-}
 
 #[test]
 fn matches(rt: HostRuntime) {
-    let either = ArgDisposition::CanBeSeparated(Some(b'='));
-    assert_eq!(rt; matched(either, "-o=é"), "é");
-    assert_eq!(rt; matched(either, "-o"), "the next word");
-    assert_eq!(rt; matched(ArgDisposition::Separated, "-ox"), "no match");
-    let alone = matches!(ArgInfo::Flag("-o", 1).matches("-o"), Some(Match::Lone));
-    assert!(rt; alone);
+    let either = ArgInfo::TakeArg("-o", 1, ArgDisposition::CanBeSeparated(Some(b'=')));
+    assert!(rt; matches!(either.matches("-o=é"), Some(Match::Joined("é"))));
+    assert!(rt; matches!(either.matches("-o"), Some(Match::Awaiting)));
+    let next = ArgInfo::TakeArg("-o", 1, ArgDisposition::Separated);
+    assert!(rt; next.matches("-ox").is_none());
+    let alone = ArgInfo::Flag("-o", 1);
+    assert!(rt; matches!(alone.matches("-o"), Some(Match::Lone)));
 }
 
-// What is left of a line without its second word, once its first word is taken.
-fn left(alloc: Global, list: &[String]) -> Result<String, AllocError> {
-    if list.len() < 2 {
-        return String::from_str(alloc, "no second word");
+// How many words are left of four without the second, once the first is taken.
+fn left(alloc: Global) -> Result<usize, AllocError> {
+    let mut words = Words::new(alloc);
+    words.push_pair(alloc, "a", "b")?;
+    words.push_pair(alloc, "c", "d")?;
+    left_of(alloc, words.as_slice())
+}
+
+fn left_of(alloc: Global, words: &[String]) -> Result<usize, AllocError> {
+    if words.len() < 2 {
+        return Ok(0);
     }
-    let mut line = Line::without(list, 1);
+    let mut line = Line::without(words, 1);
     let _first = line.next_word();
     let mut left = Words::new(alloc);
     line.write(alloc, &mut left)?;
-    joined(alloc, left.as_slice())
+    Ok(left.len())
 }
 
 #[test]
-fn words_that_are_left(rt: HostRuntime) -> Result<(), Fail> {
-    let list = words(rt.alloc(), "a b c d")?;
-    let left = left(rt.alloc(), list.as_slice())?;
-    assert_eq!(rt; left.as_str(), "c d");
-    Ok(())
+fn words_that_are_left(rt: HostRuntime) {
+    assert!(rt; matches!(left(rt.alloc()), Ok(2)));
 }
