@@ -30,7 +30,7 @@ pub trait Digests {
 
 /// What a cache needs of a line. Its key is made of `words` and `digests`, beside the tool, its version
 /// and the contents of the input. `files` are what it stores, and `command` makes them.
-#[derive(Debug, Drop)]
+#[derive(Drop)]
 pub struct Entry {
     pub words: Words,
     pub digests: Words,

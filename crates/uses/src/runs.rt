@@ -17,14 +17,14 @@ use cuda_plans::status::{ExitStatus, Output};
 use std::alloc::{AllocError, Global};
 
 /// A command that would be started, and its place.
-#[derive(Debug, Drop)]
+#[derive(Drop)]
 pub struct Started {
     pub place: Place,
     pub command: NvccGeneratedSubcommand,
 }
 
 /// A runner that starts nothing. It records each command, and answers that it succeeded.
-#[derive(Debug, Drop)]
+#[derive(Drop)]
 pub struct Recorder {
     pub started: Vec<Started>,
 }

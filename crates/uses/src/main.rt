@@ -1,0 +1,35 @@
+//! Callers of the library, each with its contract: a cicc line for a cache, the dry runs of an nvcc line and
+//! what it would start, shell words. The program calls each once, and prints what it answers.
+#![tactic(auto)]
+
+use cuda_plans::fault::Fault;
+use std::alloc::Global;
+use std::io::Write;
+use std::process::ExitCode;
+
+mod cache;
+mod calls;
+mod nvcc_line;
+mod runs;
+mod words;
+
+// Puts what each caller answers last.
+fn call_each(alloc: Global, text: &mut String) -> Result<(), Fault> {
+    calls::call_cicc_entry(alloc, text)?;
+    calls::call_dry_run_commands(alloc, text)?;
+    calls::call_commands_to_start(alloc, text)?;
+    calls::call_requoted(alloc, text)?;
+    words::known_line();
+    Ok(())
+}
+
+fn main(rt: HostRuntime) -> ExitCode {
+    let mut text = String::new(rt.alloc());
+    let called = call_each(rt.alloc(), &mut text);
+    let written = rt.stdout().write_all(text.as_bytes());
+    if called.is_ok() && written.is_ok() {
+        ExitCode::SUCCESS
+    } else {
+        ExitCode::FAILURE
+    }
+}
