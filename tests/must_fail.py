@@ -1,0 +1,203 @@
+#!/usr/bin/env python3
+"""Tries the wrong bodies, crates/NAME/must-fail/*.edit: the prover has to refuse each.
+
+Usage: tests/must_fail.py [CRATE..]                   all crates, or those named; builds the libraries below them first
+       tests/must_fail.py --gate FOLDER LOG           beside an `rt ci` that runs in FOLDER and writes to LOG
+
+`rt must-fail` tries the same files one after the other, each in a check of the whole crate. Here all of a crate are tried
+in one check, which takes half of the time. That is exact, since a function is proved against the contracts of what it calls and never
+against their bodies: a wrong body can't make the proof of another function fail. Of a function that only calls a wrong one the
+check says so, and that isn't counted as a refusal. What is no body, a table or a definition, is tried alone.
+
+Beside the lines 'file:', 'old:' and 'new:' an edit has a line 'refused:', the function whose goals have to stay open, by its
+path below the crate. A body that another function refuses, that can't be read, or that is refused only since a proof names
+what it took away, has failed.
+
+RT_JOBS is how many crates are tried at a time: one on each processor, if it isn't set. The last line is 'N passed, M failed'.
+"""
+
+import os
+import re
+import shutil
+import subprocess
+import sys
+import tempfile
+import threading
+import time
+from concurrent.futures import ThreadPoolExecutor
+
+sys.path.insert(0, os.path.dirname(os.path.realpath(shutil.which("rt") or "rt")))
+import rtlib  # the kit's own: what it passes to its prover for a crate
+
+TOP = os.path.realpath(f"{os.path.dirname(os.path.realpath(__file__))}/..")
+PARTS = ("src", "specs", "proofs")
+# What the check says of a proof that names what an edit took away.
+NAMES_WHAT_WENT = re.compile(r"has no field|is not in scope|has no `|was not admitted|is not admitted")
+
+
+class WrongBody:
+    """An edit: the function that has to be refused, and the texts to replace, each with its file."""
+
+    def __init__(self, crate, file):
+        self.name, self.function, self.pairs = f"{crate}/{os.path.basename(file)}", "", []
+        path = old = ""
+        with open(file, encoding="utf-8") as lines:
+            for line in lines.read().split("\n"):
+                if line.startswith("refused: "):
+                    self.function = line.removeprefix("refused: ")
+                elif line.startswith("file: "):
+                    path = line.removeprefix("file: ")
+                elif line.startswith("old: "):
+                    old = line.removeprefix("old: ")
+                elif line.startswith("new:"):
+                    self.pairs.append((path, old, line.removeprefix("new:").removeprefix(" ")))
+
+    def edited(self, texts):
+        """Returns the files' texts with this edit, or None where one of its places doesn't stand in them exactly once."""
+        texts = dict(texts)
+        for path, old, new in self.pairs:
+            if not old or texts.get(path, "").count(old) != 1:
+                return None
+            texts[path] = texts[path].replace(old, new)
+        return texts
+
+    def is_in_its_function(self, texts):
+        """Returns whether every place that the edit changes stands in a function of the refused one's name."""
+        for path, old, _ in self.pairs:
+            at, spans = texts.get(path, "").find(old), []
+            for start in re.finditer(rf"^( *)(?:pub(?:\(\w+\))? )?fn {re.escape(self.function.split('::')[-1])}\b", texts.get(path, ""), re.M):
+                spans.append((start.start(), texts[path].find(f"\n{start[1]}}}\n", start.start())))
+            if not any(first <= at <= last for first, last in spans):
+                return False
+        return bool(self.pairs)
+
+
+def texts_of(folder):
+    """Returns the texts of a crate's sources, definitions and proofs, by their paths below the crate."""
+    texts = {}
+    for part in PARTS:
+        for at, _, names in os.walk(f"{folder}/{part}"):
+            for name in names:
+                with open(f"{at}/{name}", encoding="utf-8") as it:
+                    texts[os.path.relpath(f"{at}/{name}", folder)] = it.read()
+    return texts
+
+
+def wrong_bodies(crate):
+    folder = f"{TOP}/crates/{crate}/must-fail"
+    return [WrongBody(crate, f"{folder}/{it}") for it in sorted(os.listdir(folder)) if it.endswith(".edit")]
+
+
+def tried_together(left, texts):
+    """Returns those of these wrong bodies that one check can try, and the crate's texts with them."""
+    together = []
+    for it in left:
+        with_it = it.edited(texts)
+        if with_it is None or it.function in [other.function for other in together]:
+            continue
+        if it.is_in_its_function(texts):
+            together, texts = [*together, it], with_it
+        elif not together:
+            return [it], with_it
+    return together, texts
+
+
+def said_of(crate, texts, functions):
+    """Checks these functions of the crate with these texts. Returns what the check wrote before it offers proofs for what stayed open."""
+    with tempfile.TemporaryDirectory(prefix="must-fail-") as room:
+        for path, text in texts.items():
+            os.makedirs(os.path.dirname(f"{room}/{path}"), exist_ok=True)
+            with open(f"{room}/{path}", "w", encoding="utf-8") as it:
+                it.write(text)
+        words = [rtlib.RATTLE, "check", *crate.words(["--jobs", "1"], keeps=False)]
+        for it in functions:
+            words += ["--only", it]
+        lines, waited = [], {f"fn {crate.name}::{it}" for it in functions}
+        with subprocess.Popen(words, cwd=room, stdin=subprocess.DEVNULL, stdout=subprocess.PIPE, stderr=subprocess.STDOUT, text=True, errors="replace") as check:
+            for line in check.stdout:
+                lines.append(line.rstrip("\n"))
+                waited.discard(line.partition(": ")[0])
+                if not waited:
+                    check.kill()
+                    break
+        return lines
+
+
+def judged(crate, body, lines):
+    """Returns whether a wrong body is refused by a goal of its own function, and what to say of it."""
+    named = f"fn {crate}::{body.function}: "
+    status = next((it.removeprefix(named) for it in lines if it.startswith(named)), "")
+    if re.search(r"`search` did not prove `", status):
+        return True, f"refused by {body.function}: {status.partition('`search` did not prove ')[2].partition(';')[0]}"
+    # a proof that is written down, and doesn't prove what the goal has become; of a definition, a row that it doesn't meet
+    places = [f"proofs/{body.function.replace('::', '/')}/"] + ["specs/"] * any(path.startswith("specs/") for path, _, _ in body.pairs)
+    errors = [it for it in lines if re.match(rf"(\./)?({'|'.join(map(re.escape, places))})\S+: error", it)]
+    if status.startswith("not proved") and any(not NAMES_WHAT_WENT.search(it) for it in errors):
+        return True, f"refused by {body.function}: {errors[0][:160]}"
+    if not status:
+        return False, f"BAD EDIT: no proof of {body.function} was tried: {' / '.join(lines[:3])[:400]}"
+    return False, f"NOT REFUSED by {body.function}: {status[:200]} {' '.join(errors)[:200]}"
+
+
+def try_crate(crate, say):
+    """Tries a crate's wrong bodies. Returns how many are refused and how many are not."""
+    texts, left, refused, failed = texts_of(crate.folder), wrong_bodies(crate.name), 0, 0
+    while left:
+        together, edited = tried_together(left, texts)
+        lines = said_of(crate, edited, [it.function for it in together]) if together else []
+        for it in together or left:
+            is_refused, why = judged(crate.name, it, lines) if together else (False, "BAD EDIT: an 'old:' text doesn't stand in its file exactly once")
+            say(f"must-fail {it.name}: {why}")
+            refused, failed = refused + is_refused, failed + (not is_refused)
+        left = [it for it in left if it not in together] if together else []
+    return refused, failed
+
+
+def is_proved(crate, log):
+    """Waits until `rt ci` has said of the crate that it is proved, or has ended without."""
+    while True:
+        with open(log, encoding="utf-8", errors="replace") as it:
+            text = it.read()
+        if f"rt: {crate} proved\n" in text:
+            return True
+        if f"rt: {crate} NOT PROVED" in text or re.search(r"^\d+ passed, \d+ failed$", text, re.M):
+            return False
+        time.sleep(1)
+
+
+def main(words):
+    folder, log = (words[1], words[2]) if words[:1] == ["--gate"] and len(words) == 3 else (TOP, "")
+    named = [] if log else words
+    with_edits = [it for it in os.listdir(f"{TOP}/crates") if os.path.isdir(f"{TOP}/crates/{it}/must-fail")]
+    crates = [it for it in rtlib.crates_below(os.path.realpath(folder)) if it.name in (named or with_edits)]
+    if not crates or set(named) - set(with_edits):
+        print(__doc__, file=sys.stderr)
+        return 2
+    crates.sort(key=lambda it: len(it.below()))
+    printing = threading.Lock()
+
+    def say(text):
+        with printing:
+            print(text, flush=True)
+
+    def work(crate):
+        if log and not is_proved(crate.name, log):
+            say(f"must-fail {crate.name}: not tried, the crate isn't proved")
+            return 0, len(wrong_bodies(crate.name))
+        return try_crate(crate, say)
+
+    if not log:
+        for it in crates:
+            if subprocess.run(["rt", "check", "--only", ""], cwd=it.folder, stdout=subprocess.DEVNULL).returncode:
+                print(f"the libraries below {it.name} can't be built: run rt check there", file=sys.stderr)
+                return 2
+    jobs = os.environ.get("RT_JOBS", "")
+    with ThreadPoolExecutor(int(jobs) if jobs.isdigit() else len(os.sched_getaffinity(0))) as lanes:
+        counts = list(lanes.map(work, crates))
+    refused, failed = sum(it[0] for it in counts), sum(it[1] for it in counts)
+    print(f"{refused} passed, {failed} failed")
+    return 1 if failed else 0
+
+
+if __name__ == "__main__":
+    sys.exit(main(sys.argv[1:]))
