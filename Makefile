@@ -1,7 +1,7 @@
 # What a newcomer and the gate call.
 PREFIX ?= /usr/local
 
-.PHONY: help demo build install bench hostile refused-memory end-to-end test
+.PHONY: help demo build install bench hostile must-fail refused-memory end-to-end test
 
 help:
 	@echo 'make demo             shows what the program prints, unproved, within a minute of a fresh clone'
@@ -9,6 +9,7 @@ help:
 	@echo 'make install PREFIX=  installs them, zigrunk-nvcc and the man page, below /usr/local unless PREFIX is given'
 	@echo 'make bench            times the calls of the library'
 	@echo 'make hostile          calls the library with 10,000 cases that nobody wrote: SEED= COUNT= FIRST='
+	@echo 'make must-fail        tries the wrong bodies of all crates, or those of CRATES="texts dry_runs"'
 	@echo 'make refused-memory   refuses each growth of memory of the worked rows in turn'
 	@echo 'make end-to-end       compares calls of nvcc with those of zigrunk-nvcc, where nvcc and ninja are on the path'
 	@echo 'make test             the whole gate; its last line is N passed, M failed'
@@ -40,6 +41,10 @@ COUNT ?= 10000
 FIRST ?= 0
 hostile:
 	cd crates/hostile && rt run -- $(SEED) $(COUNT) $(FIRST)
+
+# The prover has to refuse each wrong body of crates/NAME/must-fail.
+must-fail:
+	tests/must_fail.py $(CRATES)
 
 # The worked rows and calls of the program, with each growth of memory refused in turn.
 refused-memory: build

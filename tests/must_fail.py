@@ -109,7 +109,7 @@ def said_of(crate, texts, functions):
             os.makedirs(os.path.dirname(f"{room}/{path}"), exist_ok=True)
             with open(f"{room}/{path}", "w", encoding="utf-8") as it:
                 it.write(text)
-        words = [rtlib.RATTLE, "check", *crate.words(["--jobs", "1"], keeps=False)]
+        words = [*rtlib.guarded(), rtlib.RATTLE, "check", *crate.words(["--jobs", "1"], keeps=False)]
         for it in functions:
             words += ["--only", it]
         lines, waited = [], {f"fn {crate.name}::{it}" for it in functions}
@@ -174,6 +174,8 @@ def main(words):
         print(__doc__, file=sys.stderr)
         return 2
     crates.sort(key=lambda it: len(it.below()))
+    # (it ends what it started when this program ends; its first call sets a signal's handler, which only the main thread may)
+    rtlib.guarded()
     printing = threading.Lock()
 
     def say(text):
