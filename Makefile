@@ -17,7 +17,7 @@ help:
 # The device-code line, read and written back, and the plan of two real dry runs: the two calls whose words demo/ has.
 demo:
 	@echo 'This builds the program unproved and runs it twice, within a minute; make build proves and builds it.'
-	@cd crates/cudaplan && rt try --data one_target.dry1=../worked_rows/data/dry_runs/one_target.dry1 --data one_target.dry2=../worked_rows/data/dry_runs/one_target.dry2 --cases ../../demo
+	@cd crates/cudaplan && rt try --data one_target.dry1=../plan_rows/data/dry_runs/one_target.dry1 --data one_target.dry2=../plan_rows/data/dry_runs/one_target.dry2 --cases ../../demo
 
 # Proves the programs and builds them. rt builds a program only when it runs it, and leaves it in out/: so a short call is
 # run, and what it prints is thrown away.
@@ -48,7 +48,8 @@ must-fail:
 
 # The worked rows and calls of the program, with each growth of memory refused in turn.
 refused-memory: build
-	cd crates/worked_rows && rt check && { rt run > /dev/null 2>&1 || true; }
+	cd crates/line_rows && rt check && { rt run > /dev/null 2>&1 || true; }
+	cd crates/plan_rows && rt check && { rt run > /dev/null 2>&1 || true; }
 	tests/refused_memory.sh
 
 # Calls of nvcc and of zigrunk-nvcc in two folders: their statuses, the files made, and what is in them.

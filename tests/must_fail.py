@@ -61,15 +61,19 @@ class WrongBody:
             texts[path] = texts[path].replace(old, new)
         return texts
 
-    def is_in_its_function(self, texts):
-        """Returns whether every place that the edit changes stands in a function of the refused one's name."""
+    def bodies(self, texts):
+        """Returns where the functions stand that it edits, each as a file, a first and a last line, or None where it edits
+        anything but a function of the refused one's name. (An edit keeps the lines' numbers: both of its texts are one line.)"""
+        head, found = rf"^( *)(?:pub(?:\(\w+\))? )?fn {re.escape(self.function.split('::')[-1])}\b", []
         for path, old, _ in self.pairs:
-            at, spans = texts.get(path, "").find(old), []
-            for start in re.finditer(rf"^( *)(?:pub(?:\(\w+\))? )?fn {re.escape(self.function.split('::')[-1])}\b", texts.get(path, ""), re.M):
-                spans.append((start.start(), texts[path].find(f"\n{start[1]}}}\n", start.start())))
-            if not any(first <= at <= last for first, last in spans):
-                return False
-        return bool(self.pairs)
+            text = texts.get(path, "")
+            at = text.find(old)
+            ends = [(it.start(), text.find(f"\n{it[1]}}}\n", it.start()) + 1) for it in re.finditer(head, text, re.M)]
+            around = [it for it in ends if it[0] <= at < it[1]]
+            if not around:
+                return None
+            found.append((path, text.count("\n", 0, around[0][0]) + 1, text.count("\n", 0, around[0][1]) + 1))
+        return found
 
 
 def texts_of(folder):
@@ -95,7 +99,7 @@ def tried_together(left, texts):
         with_it = it.edited(texts)
         if with_it is None or it.function in [other.function for other in together]:
             continue
-        if it.is_in_its_function(texts):
+        if it.bodies(texts):
             together, texts = [*together, it], with_it
         elif not together:
             return [it], with_it
@@ -123,12 +127,18 @@ def said_of(crate, texts, functions):
         return lines
 
 
-def judged(crate, body, lines):
+def judged(crate, body, texts, lines):
     """Returns whether a wrong body is refused by a goal of its own function, and what to say of it."""
     named = f"fn {crate}::{body.function}: "
     status = next((it.removeprefix(named) for it in lines if it.startswith(named)), "")
     if re.search(r"`search` did not prove `", status):
         return True, f"refused by {body.function}: {status.partition('`search` did not prove ')[2].partition(';')[0]}"
+    # a goal that the edit brought, in a function whose proof is written down
+    for path, first, last in body.bodies(texts) or []:
+        for it in lines:
+            open_goal = re.match(rf"note: {re.escape(path)}:(\d+):\d+: it is not proved that .*\((`[^`]*`)\)", it)
+            if status.startswith("not proved") and open_goal and first <= int(open_goal[1]) <= last:
+                return True, f"refused by {body.function}: {open_goal[2]}"
     # a proof that is written down, and doesn't prove what the goal has become; of a definition, a row that it doesn't meet
     places = [f"proofs/{body.function.replace('::', '/')}/"] + ["specs/"] * any(path.startswith("specs/") for path, _, _ in body.pairs)
     errors = [it for it in lines if re.match(rf"(\./)?({'|'.join(map(re.escape, places))})\S+: error", it)]
@@ -146,7 +156,7 @@ def try_crate(crate, say):
         together, edited = tried_together(left, texts)
         lines = said_of(crate, edited, [it.function for it in together]) if together else []
         for it in together or left:
-            is_refused, why = judged(crate.name, it, lines) if together else (False, "BAD EDIT: an 'old:' text doesn't stand in its file exactly once")
+            is_refused, why = judged(crate.name, it, texts, lines) if together else (False, "BAD EDIT: an 'old:' text doesn't stand in its file exactly once")
             say(f"must-fail {it.name}: {why}")
             refused, failed = refused + is_refused, failed + (not is_refused)
         left = [it for it in left if it not in together] if together else []

@@ -3,16 +3,18 @@
 # growth has to end in "out of memory", and never in another answer. (The library's lists may ask again for less room
 # than the first time; a run in which that is granted gives the same as with memory, and is counted apart.)
 #
-# Usage: tests/refused_memory.sh [FILE..], each a file of crates/worked_rows/data; all that hold right rows, unless named.
+# Usage: tests/refused_memory.sh [FILE..], each a file of crates/line_rows/data or crates/plan_rows/data; all that hold right
+# rows, unless named.
 # A row that asks for more than MOST growths (3000, if that isn't set) is left out: it would take minutes.
-# The built programs have to stand in the out/ of crates/worked_rows and crates/cudaplan, as `make refused-memory` builds
-# them. Each run is a process of its own, into which refuse_nth.c is preloaded.
+# The built programs have to stand in the out/ of crates/line_rows, crates/plan_rows and crates/cudaplan, as `make
+# refused-memory` builds them. Each run is a process of its own, into which refuse_nth.c is preloaded.
 set -u
 cd "$(dirname "$0")/.."
 root=$PWD
-rows=$root/crates/worked_rows/out/worked_rows
+line_rows=$root/crates/line_rows/out/line_rows
+plan_rows=$root/crates/plan_rows/out/plan_rows
 program=$root/crates/cudaplan/out/cudaplan
-for built in "$rows" "$program"; do
+for built in "$line_rows" "$plan_rows" "$program"; do
     if [ ! -x "$built" ]; then
         echo "not built: $built"
         exit 2
@@ -20,7 +22,7 @@ for built in "$rows" "$program"; do
 done
 work=$(mktemp -d)
 trap 'rm -rf "$work"' EXIT
-cp -r crates/worked_rows/data/. "$work"
+cp -r crates/line_rows/data/. crates/plan_rows/data/. "$work"
 cd "$work" || exit 2
 cc -shared -fPIC -O2 -o hook.so "$root/tests/refuse_nth.c" -ldl || exit 2
 
@@ -106,9 +108,12 @@ count_up() {
     fi
 }
 
-# run_file FILE: takes the rows of a file, each alone.
+# run_file FILE: takes the rows of a file, each alone, by the program whose file it is.
 run_file() {
-    local before=$refused file=$1 row
+    local before=$refused file=$1 row rows=$line_rows
+    if [ -e "$root/crates/plan_rows/data/$file" ]; then
+        rows=$plan_rows
+    fi
     rm -rf parts
     mkdir parts
     awk '/^[^ #]/ { n = sprintf("parts/%05d", NR) } /^[^#]/ && n { print > n }' "$file"

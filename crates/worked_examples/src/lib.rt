@@ -1,5 +1,6 @@
 //! Tests of what a row of text can't say: that each call which takes memory answers where there is enough, and what
-//! readers, writers and runners that fail give. Worked lines and texts are rows of the program `worked_rows`.
+//! readers, writers and runners that fail give. Worked lines and texts are rows of the programs `line_rows`
+//! and `plan_rows`.
 #![tactic(auto)]
 
 #[cfg(test)]
