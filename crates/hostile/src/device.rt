@@ -124,10 +124,13 @@ where
     C::Command: Drop,
 {
     let places = no_places(alloc);
-    match compiler.generate_compile_commands(alloc, "", parsed, cwd, &[], &places) {
-        Ok((command, _)) => words_of(alloc, &command),
+    let written = compiler.generate_compile_commands(alloc, "", parsed, cwd, &[], &places);
+    let words = match &written {
+        Ok((command, _)) => words_of(alloc, command),
         Err(_) => Ok(None),
-    }
+    };
+    drop(written);
+    words
 }
 
 // The words of a command.
@@ -179,12 +182,13 @@ fn are_words_of<C: CCompilerImpl>(
 where
     C::Command: Drop,
 {
-    match compiler.parse_arguments(alloc, words, cwd, &[])? {
-        CompilerArguments::Ok(again) => {
-            are_written_so(alloc, compiler, cwd, words, &again, parsed)
-        }
+    let reading = compiler.parse_arguments(alloc, words, cwd, &[])?;
+    let same = match &reading {
+        CompilerArguments::Ok(again) => are_written_so(alloc, compiler, cwd, words, again, parsed),
         _ => Ok(false),
-    }
+    };
+    drop(reading);
+    same
 }
 
 // Whether arguments are written as words that are read and written as the same.
@@ -213,10 +217,13 @@ fn is_same_again<C: CCompilerImpl>(
 where
     C::Command: Drop,
 {
-    match compiler.parse_arguments(alloc, words, cwd, &[])? {
-        CompilerArguments::Ok(parsed) => are_kept(alloc, compiler, cwd, &parsed),
+    let reading = compiler.parse_arguments(alloc, words, cwd, &[])?;
+    let kept = match &reading {
+        CompilerArguments::Ok(parsed) => are_kept(alloc, compiler, cwd, parsed),
         _ => Ok(false),
-    }
+    };
+    drop(reading);
+    kept
 }
 
 // Whether a tool's line that was written back is read and written as the same.

@@ -30,8 +30,12 @@ fn expected_text(alloc: Global, pair: &Pair) -> Result<String, Fault> {
         env_vars: Vec::new(alloc),
         suffixes: all_suffixes(alloc, pair.further.as_slice())?,
     };
-    let plan = setting.plan(alloc, pair.first.as_slice(), pair.second.as_slice())?;
-    Ok(show_plan(alloc, &plan)?)
+    let plan = setting.plan(alloc, pair.first.as_slice(), pair.second.as_slice());
+    drop(setting);
+    let plan = plan?;
+    let text = show_plan(alloc, &plan);
+    drop(plan);
+    Ok(text?)
 }
 
 // Checks what the engine wrote.
@@ -87,5 +91,8 @@ pub fn check_engine(alloc: Global, pair: &Pair, tally: &mut Tally) -> Result<(),
     let mut out = Vec::new(alloc);
     let answer = print(alloc, pair, &mut out);
     let expected = expected_text(alloc, pair);
-    check_answer(&answer, &expected, out.as_slice(), tally)
+    let checked = check_answer(&answer, &expected, out.as_slice(), tally);
+    drop(answer);
+    drop(expected);
+    checked
 }

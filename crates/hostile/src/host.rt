@@ -153,8 +153,10 @@ fn check_dry_runs(
     command: &NvccCompileCommand,
     tally: &mut Tally,
 ) -> Result<(), AllocError> {
-    let (first, second) = command.dryrun_commands(alloc)?;
-    check_words(alloc, command, &first.arguments, &second.arguments, tally)
+    let runs = command.dryrun_commands(alloc)?;
+    let checked = check_words(alloc, command, &runs.0.arguments, &runs.1.arguments, tally);
+    drop(runs);
+    checked
 }
 
 // Checks the preprocessing of arguments that were read.
@@ -165,10 +167,13 @@ fn check_preprocessed(
     env_vars: &[(String, String)],
     tally: &mut Tally,
 ) -> Result<(), AllocError> {
-    match nvcc.preprocess(alloc, "nvcc", parsed, "/w", env_vars) {
+    let answer = nvcc.preprocess(alloc, "nvcc", parsed, "/w", env_vars);
+    let checked = match &answer {
         Ok(_) => tally.count("nvcc lines preprocessed"),
-        Err(fault) => tally.refused(&fault),
-    }
+        Err(fault) => tally.refused(fault),
+    };
+    drop(answer);
+    checked
 }
 
 // Checks the command of arguments that were read.
@@ -180,10 +185,13 @@ fn check_written(
     places: &Places,
     tally: &mut Tally,
 ) -> Result<(), AllocError> {
-    match nvcc.generate_compile_commands(alloc, "nvcc", parsed, "/w", env_vars, places) {
-        Ok((command, _)) => check_dry_runs(alloc, &command, tally),
-        Err(fault) => tally.refused(&fault),
-    }
+    let written = nvcc.generate_compile_commands(alloc, "nvcc", parsed, "/w", env_vars, places);
+    let checked = match &written {
+        Ok((command, _)) => check_dry_runs(alloc, command, tally),
+        Err(fault) => tally.refused(fault),
+    };
+    drop(written);
+    checked
 }
 
 // The places of a command.
@@ -224,11 +232,14 @@ fn check_read(
     env_vars: &[(String, String)],
     tally: &mut Tally,
 ) -> Result<(), AllocError> {
-    match nvcc.parse_arguments(alloc, words, "/w", env_vars)? {
-        CompilerArguments::Ok(parsed) => check_parsed(alloc, nvcc, &parsed, env_vars, tally),
+    let reading = nvcc.parse_arguments(alloc, words, "/w", env_vars)?;
+    let checked = match &reading {
+        CompilerArguments::Ok(parsed) => check_parsed(alloc, nvcc, parsed, env_vars, tally),
         CompilerArguments::CannotCache(_, _) => tally.count("nvcc lines that can't be cached"),
         CompilerArguments::NotCompilation => tally.count("nvcc lines that are no compilation"),
-    }
+    };
+    drop(reading);
+    checked
 }
 
 // Checks what is left of a line, and what it is read as.

@@ -1,5 +1,7 @@
 //! Calls the planner with inputs that nobody wrote: dry runs, lines and shell texts by a seeded generator. What every
 //! answer has to keep is checked, and each failure is printed with the seed and the number that make it again.
+//!
+//! What has many fields is dropped by calls, after it was lent: the proofs are shorter so.
 #![tactic(auto)]
 
 use call::call_of;

@@ -2,20 +2,12 @@
 
 use crate::count::{Sum, run_of};
 use crate::pair::{Pair, Setting};
-use crate::renaming::check_renaming;
+use crate::renaming::{check_renaming, renamed};
 use crate::tally::Tally;
-use cuda_plans::dry_run::{Commands, DryRun, remap_commands};
+use cuda_plans::dry_run::DryRun;
 use cuda_plans::plan::{Dropped, NvccGeneratedSubcommand, Plan};
 use std::alloc::{AllocError, Global};
 use texts::fault::Fault;
-
-/// The commands of a run that a plan is made of: with canonical names, unless a folder keeps the files.
-pub fn named(alloc: Global, setting: &Setting, run: DryRun) -> Result<Commands, AllocError> {
-    match setting.keep_dir {
-        None => remap_commands(alloc, run.commands, &setting.suffixes),
-        Some(_) => Ok(run.commands),
-    }
-}
 
 /// Adds the commands of a run that are selected, by their programs' stems.
 pub fn add_selected(run: usize, commands: &[(usize, String, Vec<String>)], sum: &mut Sum) {
@@ -24,6 +16,24 @@ pub fn add_selected(run: usize, commands: &[(usize, String, Vec<String>)], sum: 
             sum.add(run, program.as_str(), words.as_slice());
         }
     }
+}
+
+/// Adds the commands of a dry run that are selected, as a plan has them: with canonical names, unless a folder keeps
+/// the files.
+pub fn add_named(
+    alloc: Global,
+    setting: &Setting,
+    run: usize,
+    read: &DryRun,
+    sum: &mut Sum,
+) -> Result<(), AllocError> {
+    if setting.keep_dir.is_some() {
+        add_selected(run, read.commands.as_slice(), sum);
+        return Ok(());
+    }
+    let commands = renamed(alloc, &setting.suffixes, read)?;
+    add_selected(run, commands.as_slice(), sum);
+    Ok(())
 }
 
 // Adds the commands of a group. Answers whether each stands in the folder that its program runs in.
@@ -67,14 +77,13 @@ fn add_dropped(dropped: &[Dropped], sum: &mut Sum) -> bool {
 fn check_commands(
     alloc: Global,
     setting: &Setting,
-    first: DryRun,
-    second: DryRun,
+    runs: (&DryRun, &DryRun),
     plan: &Plan,
     tally: &mut Tally,
 ) -> Result<(), AllocError> {
     let mut selected = Sum::new();
-    add_selected(1, named(alloc, setting, first)?.as_slice(), &mut selected);
-    add_selected(2, named(alloc, setting, second)?.as_slice(), &mut selected);
+    add_named(alloc, setting, 1, runs.0, &mut selected)?;
+    add_named(alloc, setting, 2, runs.1, &mut selected)?;
     let mut planned = Sum::new();
     let stand = add_groups(setting, plan, &mut planned);
     tally.expect(stand, "each planned command runs in the folder of its run")?;
@@ -108,6 +117,26 @@ fn check_refusal(read: &Fault, planned: &Fault, tally: &mut Tally) -> Result<(),
     )
 }
 
+// Checks what is answered for a pair: what its dry runs are read as, and its plan.
+fn check_answers(
+    alloc: Global,
+    pair: &Pair,
+    runs: (&Result<DryRun, Fault>, &Result<DryRun, Fault>),
+    planned: &Result<Plan, Fault>,
+    tally: &mut Tally,
+) -> Result<(), AllocError> {
+    match (runs.0, runs.1, planned) {
+        (Err(fault), _, Err(planned)) => check_refusal(fault, planned, tally),
+        (Ok(_), Err(fault), Err(planned)) => check_refusal(fault, planned, tally),
+        (Ok(first), Ok(second), Ok(plan)) => {
+            count_plan(plan, tally)?;
+            check_commands(alloc, &pair.setting, (first, second), plan, tally)?;
+            check_renaming(alloc, pair, plan, tally)
+        }
+        _ => tally.expect(false, "a plan comes exactly if both dry runs can be read"),
+    }
+}
+
 /// Plans a pair, and checks the answer.
 pub fn check_pair(alloc: Global, pair: &Pair, tally: &mut Tally) -> Result<(), AllocError> {
     tally.count("pairs")?;
@@ -116,14 +145,9 @@ pub fn check_pair(alloc: Global, pair: &Pair, tally: &mut Tally) -> Result<(), A
     let planned = setting.plan(alloc, first, second);
     let first = setting.read(alloc, first, 1);
     let second = setting.read(alloc, second, 2);
-    match (first, second, planned) {
-        (Err(fault), _, Err(planned)) => check_refusal(&fault, &planned, tally),
-        (Ok(_), Err(fault), Err(planned)) => check_refusal(&fault, &planned, tally),
-        (Ok(first), Ok(second), Ok(plan)) => {
-            count_plan(&plan, tally)?;
-            check_commands(alloc, setting, first, second, &plan, tally)?;
-            check_renaming(alloc, pair, &plan, tally)
-        }
-        _ => tally.expect(false, "a plan comes exactly if both dry runs can be read"),
-    }
+    let checked = check_answers(alloc, pair, (&first, &second), &planned, tally);
+    drop(first);
+    drop(second);
+    drop(planned);
+    checked
 }

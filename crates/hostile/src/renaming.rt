@@ -146,12 +146,15 @@ fn is_read_as(
     commands: &Commands,
     env: &Variables,
 ) -> bool {
-    match setting.read(alloc, bytes, 1) {
+    let read = setting.read(alloc, bytes, 1);
+    let holds = match &read {
         Ok(read) => {
-            read.commands == *commands && read.env == *env && is_clean(&read, &setting.suffixes)
+            read.commands == *commands && read.env == *env && is_clean(read, &setting.suffixes)
         }
         Err(_) => false,
-    }
+    };
+    drop(read);
+    holds
 }
 
 // A dry run, read, and written with the same commands or with other names; `None` if what is written isn't read as
@@ -190,10 +193,13 @@ fn check_anew(
     plan: &Plan,
     tally: &mut Tally,
 ) -> Result<(), AllocError> {
-    match setting.plan(alloc, first, second) {
-        Ok(other) => check_equal(alloc, &other, plan, tally),
+    let other = setting.plan(alloc, first, second);
+    let checked = match &other {
+        Ok(other) => check_equal(alloc, other, plan, tally),
         Err(_) => tally.expect(false, "runs that are written anew have a plan"),
-    }
+    };
+    drop(other);
+    checked
 }
 
 // Checks that two dry runs, written in another way, give the same plan.
@@ -226,8 +232,8 @@ fn check_same(
     )
 }
 
-// The commands of a run, with canonical names.
-fn renamed(alloc: Global, suffixes: &Suffixes, run: &DryRun) -> Result<Commands, AllocError> {
+/// The commands of a run, with canonical names.
+pub fn renamed(alloc: Global, suffixes: &Suffixes, run: &DryRun) -> Result<Commands, AllocError> {
     let commands = other_commands(alloc, None, &run.commands)?;
     remap_commands(alloc, commands, suffixes)
 }
@@ -255,11 +261,13 @@ fn check_canonical(
         commands: renamed(alloc, suffixes, run)?,
         env: run.env.try_clone(alloc)?,
     };
-    if is_clean(&once, suffixes) {
+    let checked = if is_clean(&once, suffixes) {
         check_twice(alloc, suffixes, &once, tally)
     } else {
         Ok(())
-    }
+    };
+    drop(once);
+    checked
 }
 
 // Checks clean runs.
@@ -312,8 +320,11 @@ pub fn check_renaming(
     let setting = &pair.setting;
     let first = setting.read(alloc, pair.first.as_slice(), 1);
     let second = setting.read(alloc, pair.second.as_slice(), 2);
-    match (&first, &second) {
+    let checked = match (&first, &second) {
         (Ok(first), Ok(second)) => check_runs(alloc, pair, (first, second), plan, tally),
         _ => tally.expect(false, "a run that was read is read again"),
-    }
+    };
+    drop(first);
+    drop(second);
+    checked
 }

@@ -21,8 +21,8 @@ pub fn report<W: Write, E: Write>(
     out: &mut W,
     err: &mut E,
 ) -> u8 {
-    match answer {
-        Ok(tally) if is_printed(&tally, out) => u8::from(tally.failed() > 0),
+    match &answer {
+        Ok(tally) if is_printed(tally, out) => u8::from(tally.failed() > 0),
         Ok(_) => 2,
         Err(stop) => {
             if let Ok(text) = format!(in alloc; "{stop}\n") {

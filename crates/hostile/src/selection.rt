@@ -2,9 +2,9 @@
 
 use crate::count::Sum;
 use crate::pair::{Pair, Setting};
-use crate::planned::{add_selected, named};
+use crate::planned::{add_named, add_selected};
 use crate::tally::Tally;
-use cuda_plans::dry_run::{Commands, FirstDir};
+use cuda_plans::dry_run::{Commands, DryRun, FirstDir};
 use cuda_plans::plan::select_nvcc_subcommands;
 use std::alloc::{AllocError, Global};
 use texts::fault::Fault;
@@ -49,13 +49,6 @@ fn copied(
     Ok(copy)
 }
 
-// The sum over the commands of a run whose programs' stems are asked for.
-fn selected_sum(run: usize, commands: &Commands) -> Sum {
-    let mut sum = Sum::new();
-    add_selected(run, commands.as_slice(), &mut sum);
-    sum
-}
-
 // Checks selected commands by the sum over those that are asked for.
 fn check_sum(
     run: usize,
@@ -63,10 +56,25 @@ fn check_sum(
     expected: &Sum,
     tally: &mut Tally,
 ) -> Result<(), AllocError> {
-    let sum = selected_sum(run, commands);
+    let mut sum = Sum::new();
+    add_selected(run, commands.as_slice(), &mut sum);
     let all = sum.commands == u64::try_from(commands.as_slice().len()).unwrap_or(0);
     tally.expect(all, "a selection holds nothing else")?;
     tally.expect(sum == *expected, "a selection is what is asked for")
+}
+
+// Checks the selected commands of a run that was read.
+fn check_read(
+    alloc: Global,
+    setting: &Setting,
+    run: usize,
+    commands: &Commands,
+    read: &DryRun,
+    tally: &mut Tally,
+) -> Result<(), AllocError> {
+    let mut expected = Sum::new();
+    add_named(alloc, setting, run, read, &mut expected)?;
+    check_sum(run, commands, &expected, tally)
 }
 
 // Checks the selected commands of a run: they are those whose programs' stems are asked for.
@@ -79,13 +87,13 @@ fn check_selected(
     tally: &mut Tally,
 ) -> Result<(), AllocError> {
     tally.count("selections")?;
-    match setting.read(alloc, bytes, run) {
-        Ok(read) => {
-            let expected = selected_sum(run, &named(alloc, setting, read)?);
-            check_sum(run, commands, &expected, tally)
-        }
+    let read = setting.read(alloc, bytes, run);
+    let checked = match &read {
+        Ok(read) => check_read(alloc, setting, run, commands, read, tally),
         Err(_) => tally.expect(false, "a selection comes exactly if its run can be read"),
-    }
+    };
+    drop(read);
+    checked
 }
 
 // Checks a refused selection: its run can't be read, and the environment stays as it was.
@@ -100,9 +108,11 @@ fn check_refused(
     tally.count("selections refused")?;
     let same = env_vars == setting.env_vars.as_slice();
     tally.expect(same, "a refused selection leaves the environment as it was")?;
-    let read = setting.read(alloc, bytes, run).is_ok();
+    let read = setting.read(alloc, bytes, run);
+    let refused = read.is_err();
+    drop(read);
     tally.expect(
-        !read,
+        refused,
         "a selection is refused exactly if its run can't be read",
     )
 }
@@ -116,10 +126,13 @@ fn check_run(
     tally: &mut Tally,
 ) -> Result<(), AllocError> {
     let mut env_vars = copied(alloc, setting.env_vars.as_slice())?;
-    match selected(alloc, setting, bytes, run, &mut env_vars) {
-        Ok(commands) => check_selected(alloc, setting, bytes, run, &commands, tally),
+    let selected = selected(alloc, setting, bytes, run, &mut env_vars);
+    let checked = match &selected {
+        Ok(commands) => check_selected(alloc, setting, bytes, run, commands, tally),
         Err(_) => check_refused(alloc, setting, bytes, run, env_vars.as_slice(), tally),
-    }
+    };
+    drop(selected);
+    checked
 }
 
 /// Selects the commands of both runs of a pair, and checks the answers.

@@ -1,6 +1,7 @@
 //! What a cache needs of a cicc line.
 
 ghost use Rattle.std.specs.Prelude.{◌≡◌, map, IfOk, string_bytes};
+ghost use Rattle.cuda_plans.specs.Compiler.{reading_of};
 ghost use Rattle.cuda_plans.specs.Fault.{UnlessMemory};
 ghost use Rattle.cuda_plans.specs.Cicc.{cicc_options};
 ghost use Rattle.cuda_plans.specs.Reading.{tool_reading};
@@ -70,13 +71,30 @@ fn entry_of<D: Digests>(
 ) -> Result<Entry, Fault>
     ensures { UnlessMemory result (spec.entry_of (D.digest digests.now) executable.now cwd.now parsed.now) }
 {
-    let (command, _) = cicc::generate_compile_commands(alloc, executable, parsed, cwd, &[])?;
     Ok(Entry {
         words: parsed.common_args.try_clone(alloc)?,
         digests: digests_of(alloc, digests, parsed.extra_hash_files.as_slice())?,
         files: paths_of(alloc, &parsed.outputs)?,
-        command,
+        command: cicc::generate_compile_commands(alloc, executable, parsed, cwd, &[])?.0,
     })
+}
+
+// The same of what a line was read as; `None` if it is no compilation.
+fn entry_of_reading<D: Digests>(
+    alloc: Global,
+    digests: &D,
+    executable: &str,
+    cwd: &str,
+    reading: &CompilerArguments<ParsedArguments>,
+) -> Result<Option<Entry>, Fault>
+    ensures { UnlessMemory result (spec.entry_of_reading (D.digest digests.now) executable.now cwd.now (reading_of reading.now)) }
+{
+    match reading {
+        CompilerArguments::Ok(parsed) => {
+            Ok(Some(entry_of(alloc, digests, executable, cwd, parsed)?))
+        }
+        _ => Ok(None),
+    }
 }
 
 /// Reads a cicc line at the working directory `cwd`, and says what a cache needs of it; `None` if the
@@ -92,10 +110,9 @@ pub fn cicc_entry<D: Digests>(
         (tool_reading cicc_options cwd.now Ptx 3 (map string_bytes words.now))) }
 {
     let compiler = Cicc { version: None };
-    match compiler.parse_arguments(alloc, words, cwd, &[])? {
-        CompilerArguments::Ok(parsed) => {
-            Ok(Some(entry_of(alloc, digests, executable, cwd, &parsed)?))
-        }
-        _ => Ok(None),
-    }
+    let reading = compiler.parse_arguments(alloc, words, cwd, &[])?;
+    let entry = entry_of_reading(alloc, digests, executable, cwd, &reading);
+    // By a call: so many fields that are dropped in place make a long proof.
+    drop(reading);
+    entry
 }

@@ -1,18 +1,18 @@
-//! A call of each caller, and the lines of what it answers.
+//! A call of each caller, and the lines of what it answers. What has many fields is dropped by calls, because the
+//! proofs are shorter so.
 
 use crate::cache::{Digests, Entry, cicc_entry};
 use crate::nvcc_line::dry_run_commands;
 use crate::runs::{Started, commands_to_start};
 use crate::words::{known_flags, requoted};
+use cuda_plans::arguments::{CompilerArguments, ParsedArguments};
 use cuda_plans::command::{CompileCommandImpl, SingleCompileCommand};
-use cuda_plans::compiler::Places;
+use cuda_plans::compiler::{CCompilerImpl, Places};
 use cuda_plans::dry_run::FirstDir;
 use cuda_plans::fault::Fault;
 use cuda_plans::nvcc::{Nvcc, NvccCompileCommand, NvccHostCompiler};
 use cuda_plans::shell;
 use cuda_plans::text::Text;
-use cuda_plans::variables::Variables;
-use cuda_plans::words::Words;
 use std::alloc::{AllocError, Global};
 
 // A file's path stands for its contents.
@@ -47,83 +47,72 @@ fn push_line(
     text.push_str("\n")
 }
 
-// Puts what a cache needs of a line last.
-fn push_entry(alloc: Global, text: &mut String, entry: &Entry) -> Result<(), AllocError> {
+// Puts what a cache needs of a line last, if it is a compilation.
+fn push_entry(alloc: Global, text: &mut String, entry: &Option<Entry>) -> Result<(), Fault> {
+    let Some(entry) = entry else {
+        return Ok(text.push_str("no compilation\n")?);
+    };
     push_line(alloc, text, "words", entry.words.as_slice())?;
     push_line(alloc, text, "digests", entry.digests.as_slice())?;
     push_line(alloc, text, "files", entry.files.as_slice())?;
     let executable = entry.command.get_executable();
-    push_line(alloc, text, executable, entry.command.get_arguments())
+    push_line(alloc, text, executable, entry.command.get_arguments())?;
+    Ok(())
 }
 
-// Puts what a cache needs of a cicc line last, if it is a compilation.
-fn push_line_entry(alloc: Global, text: &mut String, line: &str) -> Result<(), Fault> {
-    let line = words(alloc, line)?;
-    match cicc_entry(alloc, &Paths, "/bin/cicc", line.as_slice(), "/w")? {
-        Some(entry) => push_entry(alloc, text, &entry)?,
-        None => text.push_str("no compilation\n")?,
-    }
-    Ok(())
+// Calls `cicc_entry` with a line.
+fn push_line_entry(alloc: Global, text: &mut String, line: &[String]) -> Result<(), Fault> {
+    let entry = cicc_entry(alloc, &Paths, "/bin/cicc", line, "/w")?;
+    let pushed = push_entry(alloc, text, &entry);
+    drop(entry);
+    pushed
 }
 
 /// Calls `cicc_entry` with a line, and with one that is no compilation.
 pub fn call_cicc_entry(alloc: Global, text: &mut String) -> Result<(), Fault> {
-    let line = "--device-c --module_id_file_name k.id k.cpp1.ii --stub_file_name k.c -o k.ptx";
-    push_line_entry(alloc, text, line)?;
-    push_line_entry(alloc, text, "")
+    let line = words(
+        alloc,
+        "--device-c --module_id_file_name k.id k.cpp1.ii --stub_file_name k.c -o k.ptx",
+    )?;
+    push_line_entry(alloc, text, line.as_slice())?;
+    push_line_entry(alloc, text, &[])
 }
 
-// Puts the arguments of two dry runs last.
+// Puts the arguments of two dry runs last, if there are any.
 fn push_runs(
     alloc: Global,
     text: &mut String,
-    first: &SingleCompileCommand,
-    second: &SingleCompileCommand,
-) -> Result<(), AllocError> {
+    runs: &Option<(SingleCompileCommand, SingleCompileCommand)>,
+) -> Result<(), Fault> {
+    let Some((first, second)) = runs else {
+        return Ok(text.push_str("no dry runs\n")?);
+    };
     push_line(alloc, text, "first dry run", first.get_arguments())?;
-    push_line(alloc, text, "second dry run", second.get_arguments())
-}
-
-// The places of a call at `/w`.
-fn places(alloc: Global) -> Result<Places, AllocError> {
-    Ok(Places {
-        temp_dir: Text::copy_of(alloc, "/t")?,
-        canonical_input: Text::copy_of(alloc, "/w/k.cu")?,
-    })
-}
-
-const NVCC: Nvcc = Nvcc {
-    host_compiler: NvccHostCompiler::Gcc,
-    host_compiler_version: None,
-    version: None,
-};
-
-/// Calls `dry_run_commands` with a line.
-pub fn call_dry_run_commands(alloc: Global, text: &mut String) -> Result<(), Fault> {
-    let line = words(alloc, "-c k.cu -o k.o")?;
-    let places = places(alloc)?;
-    let words = line.as_slice();
-    match dry_run_commands(alloc, &NVCC, "/bin/nvcc", words, "/w", &[], &places)? {
-        Some((first, second)) => push_runs(alloc, text, &first, &second)?,
-        None => text.push_str("no dry runs\n")?,
-    }
+    push_line(alloc, text, "second dry run", second.get_arguments())?;
     Ok(())
 }
 
-// The call `nvcc -c k.cu -o k.o`.
-fn call(alloc: Global) -> Result<NvccCompileCommand, AllocError> {
-    Ok(NvccCompileCommand {
-        temp_dir: Text::copy_of(alloc, "/t")?,
-        keep_dir: None,
-        num_parallel: 1,
-        executable: Text::copy_of(alloc, "/bin/nvcc")?,
-        arguments: Words::from_vec(words(alloc, "-x cu -o k.o -c /w/k.cu")?),
-        compilation_flag: Text::copy_of(alloc, "-c")?,
-        env_vars: Variables::new(alloc),
-        cwd: Text::copy_of(alloc, "/w")?,
+// The compiler of the calls.
+fn nvcc() -> Nvcc {
+    Nvcc {
         host_compiler: NvccHostCompiler::Gcc,
-        output_file_name: Text::copy_of(alloc, "k.o")?,
-    })
+        host_compiler_version: None,
+        version: None,
+    }
+}
+
+// Calls `dry_run_commands` with a line.
+fn push_line_runs(
+    alloc: Global,
+    text: &mut String,
+    nvcc: &Nvcc,
+    line: &[String],
+    places: &Places,
+) -> Result<(), Fault> {
+    let runs = dry_run_commands(alloc, nvcc, "/bin/nvcc", line, "/w", &[], places)?;
+    let pushed = push_runs(alloc, text, &runs);
+    drop(runs);
+    pushed
 }
 
 // Puts a command that would be started last: its place, its program and its words.
@@ -134,15 +123,62 @@ fn push_started(alloc: Global, text: &mut String, started: &Started) -> Result<(
     push_line(alloc, text, command.exe.as_str(), command.args.as_slice())
 }
 
-/// Calls `commands_to_start` with a dry run of one command, which is both.
-pub fn call_commands_to_start(alloc: Global, text: &mut String) -> Result<(), Fault> {
+// Calls `commands_to_start` with a call, and a dry run of one command, which is both.
+fn push_call(alloc: Global, text: &mut String, call: &NvccCompileCommand) -> Result<(), Fault> {
     let dry_run = b"#$ PATH=/b\n#$ gcc -D__NVCC__ -c k.cpp -o k.o\n";
-    let call = call(alloc)?;
-    let recorder = commands_to_start(alloc, &call, dry_run, dry_run, &FirstDir)?;
+    let recorder = commands_to_start(alloc, call, dry_run, dry_run, &FirstDir)?;
     for started in &recorder.started {
         push_started(alloc, text, started)?;
     }
     Ok(())
+}
+
+// Calls `commands_to_start` with the call that a line was read as.
+fn push_reading(
+    alloc: Global,
+    text: &mut String,
+    nvcc: &Nvcc,
+    reading: &CompilerArguments<ParsedArguments>,
+    places: &Places,
+) -> Result<(), Fault> {
+    let CompilerArguments::Ok(parsed) = reading else {
+        return Ok(text.push_str("no call\n")?);
+    };
+    let (call, _) = nvcc.generate_compile_commands(alloc, "/bin/nvcc", parsed, "/w", &[], places)?;
+    let pushed = push_call(alloc, text, &call);
+    drop(call);
+    pushed
+}
+
+// Calls `commands_to_start` with the call of a line.
+fn push_line_started(
+    alloc: Global,
+    text: &mut String,
+    nvcc: &Nvcc,
+    line: &[String],
+    places: &Places,
+) -> Result<(), Fault> {
+    let reading = nvcc.parse_arguments(alloc, line, "/w", &[])?;
+    let pushed = push_reading(alloc, text, nvcc, &reading, places);
+    drop(reading);
+    pushed
+}
+
+// The places of a call at `/w`.
+fn places(alloc: Global) -> Result<Places, AllocError> {
+    Ok(Places {
+        temp_dir: Text::copy_of(alloc, "/t")?,
+        canonical_input: Text::copy_of(alloc, "/w/k.cu")?,
+    })
+}
+
+/// Calls `dry_run_commands` and `commands_to_start` with a line.
+pub fn call_with_nvcc_line(alloc: Global, text: &mut String) -> Result<(), Fault> {
+    let line = words(alloc, "-c k.cu -o k.o")?;
+    let places = places(alloc)?;
+    let nvcc = nvcc();
+    push_line_runs(alloc, text, &nvcc, line.as_slice(), &places)?;
+    push_line_started(alloc, text, &nvcc, line.as_slice(), &places)
 }
 
 // Puts words last, if there are any.

@@ -16,8 +16,7 @@ mod words;
 // Puts what each caller answers last.
 fn call_each(alloc: Global, text: &mut String) -> Result<(), Fault> {
     calls::call_cicc_entry(alloc, text)?;
-    calls::call_dry_run_commands(alloc, text)?;
-    calls::call_commands_to_start(alloc, text)?;
+    calls::call_with_nvcc_line(alloc, text)?;
     calls::call_requoted(alloc, text)?;
     words::known_line();
     Ok(())
