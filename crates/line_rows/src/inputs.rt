@@ -3,7 +3,7 @@
 use crate::reading;
 use crate::settings::Settings;
 use crate::tools::read;
-use cuda_below::arguments::CompilerArguments;
+use cuda_below::arguments::{CompilerArguments, ParsedArguments};
 use device_lines::cicc;
 use row_tables::{Answer, Row, Stop, refused};
 use std::alloc::Global;
@@ -66,26 +66,47 @@ fn shown(alloc: Global, output: &Result<Output, Fault>) -> Result<Answer, Stop> 
     Ok(answer)
 }
 
+// What a call answers that preprocesses the input of a line, by what the line is read as.
+fn of_reading<R: Files + AllocGlobal>(
+    rt: &R,
+    alloc: Global,
+    cwd: &str,
+    read: &CompilerArguments<ParsedArguments>,
+) -> Result<Answer, Stop> {
+    match read {
+        CompilerArguments::Ok(parsed) => shown(alloc, &cicc::preprocess(rt, alloc, cwd, parsed)),
+        read => reading::shown(alloc, read),
+    }
+}
+
+// What a call answers that preprocesses the input of a line. What has many fields is dropped by calls,
+// because the proof is shorter so.
+fn of_line<R: Files + AllocGlobal>(rt: &R, alloc: Global, row: &Row) -> Result<Answer, Stop> {
+    let settings = Settings::of(alloc, row)?;
+    let read = read(alloc, &settings, row.words.as_slice());
+    let answer = match &read {
+        Ok(read) => of_reading(rt, alloc, settings.cwd, read),
+        Err(_) => Err(Stop::Memory),
+    };
+    drop(read);
+    drop(settings);
+    answer
+}
+
+// What a call answers that reads bytes.
+fn of_bytes(alloc: Global, call: &str, bytes: &[u8]) -> Result<Answer, Stop> {
+    match call {
+        "read_input" => shown(alloc, &cicc::read_input(alloc, bytes)),
+        "read_input_slowly" => shown(alloc, &cicc::read_input(alloc, ByteByByte { left: bytes })),
+        _ => Err(Stop::Form("another call on an input")),
+    }
+}
+
 /// What a call that reads an input answers.
 pub fn answer<R: Files + AllocGlobal>(rt: &R, alloc: Global, row: &Row) -> Result<Answer, Stop> {
     if row.call.as_str() == "preprocess_input" {
-        let settings = Settings::of(alloc, row)?;
-        return match read(alloc, &settings, row.words.as_slice())? {
-            CompilerArguments::Ok(parsed) => {
-                shown(alloc, &cicc::preprocess(rt, alloc, settings.cwd, &parsed))
-            }
-            read => reading::shown(alloc, &read),
-        };
+        return of_line(rt, alloc, row);
     }
     let bytes = bytes_of(alloc, row.words.as_slice())?;
-    match row.call.as_str() {
-        "read_input" => shown(alloc, &cicc::read_input(alloc, bytes.as_slice())),
-        "read_input_slowly" => {
-            let reader = ByteByByte {
-                left: bytes.as_slice(),
-            };
-            shown(alloc, &cicc::read_input(alloc, reader))
-        }
-        _ => Err(Stop::Form("another call on an input")),
-    }
+    of_bytes(alloc, row.call.as_str(), bytes.as_slice())
 }

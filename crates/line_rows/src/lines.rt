@@ -148,6 +148,12 @@ fn answer_to_read(
 /// What a call on a tool's line answers.
 pub fn answer(alloc: Global, row: &Row) -> Result<Answer, Stop> {
     let settings = Settings::of(alloc, row)?;
-    let mut read = read(alloc, &settings, row.words.as_slice())?;
-    answer_to_read(alloc, row.call.as_str(), &settings, &mut read)
+    let mut read = read(alloc, &settings, row.words.as_slice());
+    let answer = match &mut read {
+        Ok(read) => answer_to_read(alloc, row.call.as_str(), &settings, read),
+        Err(_) => Err(Stop::Memory),
+    };
+    drop(read);
+    drop(settings);
+    answer
 }

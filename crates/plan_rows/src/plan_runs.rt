@@ -110,23 +110,61 @@ fn run(
     ended(alloc, runner, &outcome)
 }
 
+// Runs the plan of one dry run, which is both, or of two.
+fn of_runs(
+    alloc: Global,
+    command: &NvccCompileCommand,
+    runs: &[Vec<u8>],
+    suffixes: &Suffixes,
+    runner: &mut ToldRunner,
+) -> Result<Answer, Stop> {
+    match runs {
+        [both] => run(
+            alloc,
+            command,
+            both.as_slice(),
+            both.as_slice(),
+            suffixes,
+            runner,
+        ),
+        [first, second] => run(
+            alloc,
+            command,
+            first.as_slice(),
+            second.as_slice(),
+            suffixes,
+            runner,
+        ),
+        _ => Err(Stop::Form("another number of dry runs")),
+    }
+}
+
+// Runs the plan of the dry runs that a row names. What has many fields is dropped by a call, because the
+// proof is shorter so.
+fn with_settings<R: Files + AllocGlobal>(
+    rt: &R,
+    alloc: Global,
+    row: &Row,
+    settings: &mut RunSettings<'_>,
+) -> Result<Answer, Stop> {
+    let suffixes = settings.plan.handed.suffixes(alloc)?;
+    let runs = settings.plan.handed.runs(rt, alloc, row.words.as_slice())?;
+    let command = settings.plan.command(alloc, settings.num_parallel)?;
+    let answer = of_runs(
+        alloc,
+        &command,
+        runs.as_slice(),
+        &suffixes,
+        &mut settings.runner,
+    );
+    drop(command);
+    answer
+}
+
 /// What a run of the plan of two dry runs answers. One dry run is both.
 pub fn answer<R: Files + AllocGlobal>(rt: &R, alloc: Global, row: &Row) -> Result<Answer, Stop> {
     let mut settings = RunSettings::of(alloc, row)?;
-    let command = settings.plan.command(alloc, settings.num_parallel)?;
-    let suffixes = settings.plan.handed.suffixes(alloc)?;
-    let runs = settings.plan.handed.runs(rt, alloc, row.words.as_slice())?;
-    let (first, second) = match runs.as_slice() {
-        [both] => (both.as_slice(), both.as_slice()),
-        [first, second] => (first.as_slice(), second.as_slice()),
-        _ => return Err(Stop::Form("another number of dry runs")),
-    };
-    run(
-        alloc,
-        &command,
-        first,
-        second,
-        &suffixes,
-        &mut settings.runner,
-    )
+    let answer = with_settings(rt, alloc, row, &mut settings);
+    drop(settings);
+    answer
 }

@@ -71,7 +71,9 @@ fn of_bytes(
 ) -> Result<Answer, Stop> {
     let suffixes = handed.suffixes(alloc)?;
     let commands = selection.commands(alloc, dry_run, &mut handed.env_vars, &suffixes);
-    let mut answer = shown(alloc, &commands)?;
+    let answer = shown(alloc, &commands);
+    drop(commands);
+    let mut answer = answer?;
     add_variables(alloc, &mut answer, handed.env_vars.as_slice())?;
     Ok(answer)
 }
