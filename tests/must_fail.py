@@ -5,7 +5,7 @@ Usage: tests/must_fail.py [CRATE..]                   all crates, or those named
        tests/must_fail.py --gate FOLDER LOG           beside an `rt ci` that runs in FOLDER and writes to LOG
 
 `rt must-fail` tries the same files one after the other, each in a check of the whole crate. Here all of a crate are tried
-in one check, which takes half of the time. That is exact, since a function is proved against the contracts of what it calls and never
+in one check, which takes a third of the time. That is exact, since a function is proved against the contracts of what it calls and never
 against their bodies: a wrong body can't make the proof of another function fail. Of a function that only calls a wrong one the
 check says so, and that isn't counted as a refusal. What is no body, a table or a definition, is tried alone.
 
