@@ -9,7 +9,7 @@ use std::fs::Files;
 pub struct LineCalls;
 
 impl Calls for LineCalls {
-    // A further call is a further name here, and a function that makes its facts.
+    // A further call is a further name in one of these files, and a function that makes its facts.
     fn answer_of<R: Files + AllocGlobal>(
         &self,
         rt: &R,
@@ -17,37 +17,14 @@ impl Calls for LineCalls {
         row: &Row,
     ) -> Result<Answer, Stop> {
         match row.call.as_str() {
-            "parse"
-            | "write"
-            | "write_whole"
-            | "reread"
-            | "dry_runs"
-            | "preprocess"
-            | "preprocess_whole" => lines::answer(alloc, row),
-            "preprocess_input" | "read_input" | "read_input_slowly" => inputs::answer(
-                rt, alloc, row,
-            ),
-            "search" | "items" | "normalize_separated" | "normalize_concatenated" | "entries" => {
-                tables::answer(alloc, row)
-            }
-            "keep" | "threads" => taken::answer(alloc, row),
-            "split" | "quote" => shell_texts::answer(alloc, row),
-            "language_of_file" | "language_text" | "gcc_name" | "compiler" => {
-                languages::answer(alloc, row)
-            }
-            "message" | "is_success" | "is_same_status" => faults::answer(alloc, row),
-            "is_absolute"
-            | "join"
-            | "folder"
-            | "file_name"
-            | "file_stem"
-            | "last"
-            | "extension"
-            | "with_extension"
-            | "is_cicc_input"
-            | "is_ptxas_input"
-            | "input_suffixes"
-            | "found" => { paths::answer(alloc, row) }
+            name if lines::is_call(name) => lines::answer(alloc, row),
+            name if inputs::is_call(name) => inputs::answer(rt, alloc, row),
+            name if tables::is_call(name) => tables::answer(alloc, row),
+            name if taken::is_call(name) => taken::answer(alloc, row),
+            name if shell_texts::is_call(name) => shell_texts::answer(alloc, row),
+            name if languages::is_call(name) => languages::answer(alloc, row),
+            name if faults::is_call(name) => faults::answer(alloc, row),
+            name if paths::is_call(name) => paths::answer(alloc, row),
             _ => Err(Stop::Form("an unknown call")),
         }
     }

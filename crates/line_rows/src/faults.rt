@@ -102,6 +102,11 @@ fn shown(alloc: Global, fault: &Fault) -> Result<Answer, Stop> {
     Ok(answer)
 }
 
+/// Whether a name is that of a call on a fault or an exit status.
+pub fn is_call(name: &str) -> bool {
+    matches!(name, "message" | "is_success" | "is_same_status")
+}
+
 /// What a call on a fault or an exit status answers.
 pub fn answer(alloc: Global, row: &Row) -> Result<Answer, Stop> {
     match (row.call.as_str(), row.settings.as_slice()) {

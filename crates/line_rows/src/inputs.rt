@@ -102,6 +102,11 @@ fn of_bytes(alloc: Global, call: &str, bytes: &[u8]) -> Result<Answer, Stop> {
     }
 }
 
+/// Whether a name is that of a call that reads an input.
+pub fn is_call(name: &str) -> bool {
+    matches!(name, "preprocess_input" | "read_input" | "read_input_slowly")
+}
+
 /// What a call that reads an input answers.
 pub fn answer<R: Files + AllocGlobal>(rt: &R, alloc: Global, row: &Row) -> Result<Answer, Stop> {
     if row.call.as_str() == "preprocess_input" {

@@ -85,6 +85,11 @@ fn compiler(alloc: Global, name: &str, settings: &[String]) -> Result<Answer, St
     }
 }
 
+/// Whether a name is that of a call on a language or a compiler.
+pub fn is_call(name: &str) -> bool {
+    matches!(name, "language_of_file" | "language_text" | "gcc_name" | "compiler")
+}
+
 /// What a call on a language or a compiler answers.
 pub fn answer(alloc: Global, row: &Row) -> Result<Answer, Stop> {
     match (row.call.as_str(), row.settings.as_slice()) {

@@ -145,6 +145,20 @@ fn answer_to_read(
     }
 }
 
+/// Whether a name is that of a call on a tool's line.
+pub fn is_call(name: &str) -> bool {
+    matches!(
+        name,
+        "parse"
+            | "write"
+            | "write_whole"
+            | "reread"
+            | "dry_runs"
+            | "preprocess"
+            | "preprocess_whole"
+    )
+}
+
 /// What a call on a tool's line answers.
 pub fn answer(alloc: Global, row: &Row) -> Result<Answer, Stop> {
     let settings = Settings::of(alloc, row)?;

@@ -22,6 +22,25 @@ fn of_path(alloc: Global, call: &str, path: &str) -> Result<Answer, Stop> {
     }
 }
 
+/// Whether a name is that of a call on path texts.
+pub fn is_call(name: &str) -> bool {
+    matches!(
+        name,
+        "is_absolute"
+            | "join"
+            | "folder"
+            | "file_name"
+            | "file_stem"
+            | "last"
+            | "extension"
+            | "with_extension"
+            | "is_cicc_input"
+            | "is_ptxas_input"
+            | "input_suffixes"
+            | "found"
+    )
+}
+
 /// What a call on path texts answers.
 pub fn answer(alloc: Global, row: &Row) -> Result<Answer, Stop> {
     match (row.call.as_str(), row.settings.as_slice()) {

@@ -20,6 +20,11 @@ fn quoted(alloc: Global, words: &[String]) -> Result<Answer, Stop> {
     Ok(answer)
 }
 
+/// Whether a name is that of a call on shell words.
+pub fn is_call(name: &str) -> bool {
+    matches!(name, "split" | "quote")
+}
+
 /// What a call on shell words answers.
 pub fn answer(alloc: Global, row: &Row) -> Result<Answer, Stop> {
     match (row.call.as_str(), row.settings.as_slice()) {

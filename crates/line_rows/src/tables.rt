@@ -237,6 +237,18 @@ fn entries(alloc: Global, name: &str) -> Result<Answer, Stop> {
     Answer::of(alloc, &[count.as_str()])
 }
 
+/// Whether a name is that of a call on a table.
+pub fn is_call(name: &str) -> bool {
+    matches!(
+        name,
+        "search"
+            | "items"
+            | "normalize_separated"
+            | "normalize_concatenated"
+            | "entries"
+    )
+}
+
 /// What a call on a table answers.
 pub fn answer(alloc: Global, row: &Row) -> Result<Answer, Stop> {
     let words = row.words.as_slice();

@@ -29,6 +29,11 @@ fn threads(alloc: Global, words: &[String]) -> Result<Answer, Stop> {
     Ok(answer)
 }
 
+/// Whether a name is that of a call on keep words or thread words.
+pub fn is_call(name: &str) -> bool {
+    matches!(name, "keep" | "threads")
+}
+
 /// What a call on keep words or thread words answers.
 pub fn answer(alloc: Global, row: &Row) -> Result<Answer, Stop> {
     let words = row.words.as_slice();

@@ -162,6 +162,35 @@ fn of_text<R: Files>(
     }
 }
 
+// What the call on the text of a plan answers.
+fn printed<R: Files>(
+    rt: &R,
+    alloc: Global,
+    settings: &PlanSettings<'_>,
+    first: &[u8],
+    second: &[u8],
+) -> Result<Answer, Stop> {
+    let text = settings.plan_text(alloc, first, second);
+    let answer = of_text(rt, alloc, &text, settings.text_file.as_str());
+    drop(text);
+    answer
+}
+
+// What a call on a plan itself answers.
+fn made(
+    alloc: Global,
+    call: &str,
+    settings: &PlanSettings<'_>,
+    first: &[u8],
+    second: &[u8],
+) -> Result<Answer, Stop> {
+    let suffixes = settings.handed.suffixes(alloc)?;
+    let plan = settings.plan(alloc, first, second, &suffixes);
+    let answer = of_plan(alloc, call, &plan);
+    drop(plan);
+    answer
+}
+
 // What a call on the plan of two runs answers.
 fn planned<R: Files>(
     rt: &R,
@@ -172,31 +201,50 @@ fn planned<R: Files>(
     second: &[u8],
 ) -> Result<Answer, Stop> {
     if call == "plan_text" {
-        let text = settings.plan_text(alloc, first, second);
-        of_text(rt, alloc, &text, settings.text_file.as_str())
-    } else {
-        let suffixes = settings.handed.suffixes(alloc)?;
-        of_plan(alloc, call, &settings.plan(alloc, first, second, &suffixes))
+        return printed(rt, alloc, settings, first, second);
     }
+    made(alloc, call, settings, first, second)
 }
 
-/// What a call that plans two dry runs answers. One dry run is both.
-pub fn answer<R: Files + AllocGlobal>(rt: &R, alloc: Global, row: &Row) -> Result<Answer, Stop> {
-    let call = row.call.as_str();
-    let settings = PlanSettings::of(alloc, row)?;
-    let runs = settings.handed.runs(rt, alloc, row.words.as_slice())?;
-    match runs.as_slice() {
-        [both] => planned(rt, alloc, call, &settings, both.as_slice(), both.as_slice()),
+// What a call on one dry run, which is both, or on two answers.
+fn of_runs<R: Files>(
+    rt: &R,
+    alloc: Global,
+    call: &str,
+    settings: &PlanSettings<'_>,
+    runs: &[Vec<u8>],
+) -> Result<Answer, Stop> {
+    match runs {
+        [both] => planned(rt, alloc, call, settings, both.as_slice(), both.as_slice()),
         [first, second] => {
             planned(
                 rt,
                 alloc,
                 call,
-                &settings,
+                settings,
                 first.as_slice(),
                 second.as_slice(),
             )
         }
         _ => Err(Stop::Form("another number of dry runs")),
     }
+}
+
+// What a call on the dry runs that a row names answers.
+fn with_settings<R: Files>(
+    rt: &R,
+    alloc: Global,
+    row: &Row,
+    settings: &PlanSettings<'_>,
+) -> Result<Answer, Stop> {
+    let runs = settings.handed.runs(rt, alloc, row.words.as_slice())?;
+    of_runs(rt, alloc, row.call.as_str(), settings, runs.as_slice())
+}
+
+/// What a call that plans two dry runs answers. One dry run is both.
+pub fn answer<R: Files + AllocGlobal>(rt: &R, alloc: Global, row: &Row) -> Result<Answer, Stop> {
+    let settings = PlanSettings::of(alloc, row)?;
+    let answer = with_settings(rt, alloc, row, &settings);
+    drop(settings);
+    answer
 }

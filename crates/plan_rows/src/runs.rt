@@ -169,31 +169,59 @@ pub fn number_of(word: &str) -> Result<usize, Stop> {
     }
 }
 
-/// What a call on dry runs answers.
-pub fn answer<R: Files + AllocGlobal>(rt: &R, alloc: Global, row: &Row) -> Result<Answer, Stop> {
-    let (call, words) = (row.call.as_str(), row.words.as_slice());
-    let (number, folder, settings) = match (call, row.settings.as_slice()) {
-        ("read" | "read_whole", [run, cwd, settings @ ..]) => {
-            (number_of(run.as_str())?, cwd.as_str(), settings)
-        }
-        ("is_shadow" | "is_step_shadow", [tmp, settings @ ..]) => (1, tmp.as_str(), settings),
-        (_, settings) => (1, "/w", settings),
-    };
-    let handed = Handed::of(alloc, settings)?;
-    let suffixes = handed.suffixes(alloc)?;
-    let runs = handed.runs(rt, alloc, words)?;
-    match runs.as_slice() {
-        [run] => of_bytes(alloc, call, run.as_slice(), number, folder, &suffixes),
+// What a call on the bytes of one dry run or of two answers.
+fn of_texts(
+    alloc: Global,
+    call: &str,
+    runs: &[Vec<u8>],
+    place: (usize, &str),
+    suffixes: &Suffixes,
+) -> Result<Answer, Stop> {
+    match runs {
+        [run] => of_bytes(alloc, call, run.as_slice(), place.0, place.1, suffixes),
         [first, second] => {
             of_two(
                 alloc,
                 call,
                 first.as_slice(),
                 second.as_slice(),
-                folder,
-                &suffixes,
+                place.1,
+                suffixes,
             )
         }
         _ => Err(Stop::Form("another number of dry runs")),
     }
+}
+
+// What a call on the dry runs that are handed in answers.
+fn of_handed<R: Files>(
+    rt: &R,
+    alloc: Global,
+    row: &Row,
+    place: (usize, &str),
+    handed: &Handed,
+) -> Result<Answer, Stop> {
+    let suffixes = handed.suffixes(alloc)?;
+    let runs = handed.runs(rt, alloc, row.words.as_slice())?;
+    of_texts(alloc, row.call.as_str(), runs.as_slice(), place, &suffixes)
+}
+
+// The number of the run and the folder that a row's settings name, and its further settings.
+fn place_of(row: &Row) -> Result<(usize, &str, &[String]), Stop> {
+    match (row.call.as_str(), row.settings.as_slice()) {
+        ("read" | "read_whole", [run, cwd, more @ ..]) => {
+            Ok((number_of(run.as_str())?, cwd.as_str(), more))
+        }
+        ("is_shadow" | "is_step_shadow", [tmp, more @ ..]) => Ok((1, tmp.as_str(), more)),
+        (_, settings) => Ok((1, "/w", settings)),
+    }
+}
+
+/// What a call on dry runs answers.
+pub fn answer<R: Files + AllocGlobal>(rt: &R, alloc: Global, row: &Row) -> Result<Answer, Stop> {
+    let (number, folder, settings) = place_of(row)?;
+    let handed = Handed::of(alloc, settings)?;
+    let answer = of_handed(rt, alloc, row, (number, folder), &handed);
+    drop(handed);
+    answer
 }

@@ -78,6 +78,21 @@ fn of_bytes(
     Ok(answer)
 }
 
+// What the call answers of the one dry run that is handed in.
+fn of_handed<R: Files>(
+    rt: &R,
+    alloc: Global,
+    selection: Selection<'_>,
+    words: &[String],
+    handed: &mut Handed,
+) -> Result<Answer, Stop> {
+    let runs = handed.runs(rt, alloc, words)?;
+    match runs.as_slice() {
+        [run] => of_bytes(alloc, selection, run.as_slice(), handed),
+        _ => Err(Stop::Form("another number of dry runs")),
+    }
+}
+
 // Whether a word says that generated files get canonical names.
 fn renames(word: &str) -> Result<bool, Stop> {
     match word {
@@ -99,9 +114,7 @@ pub fn answer<R: Files + AllocGlobal>(rt: &R, alloc: Global, row: &Row) -> Resul
         remap: renames(names.as_str())?,
     };
     let mut handed = Handed::of(alloc, settings)?;
-    let runs = handed.runs(rt, alloc, row.words.as_slice())?;
-    match runs.as_slice() {
-        [run] => of_bytes(alloc, selection, run.as_slice(), &mut handed),
-        _ => Err(Stop::Form("another number of dry runs")),
-    }
+    let answer = of_handed(rt, alloc, selection, row.words.as_slice(), &mut handed);
+    drop(handed);
+    answer
 }
