@@ -47,7 +47,9 @@ where
     C::Command: Drop,
 {
     let reading = tool.parse_arguments(alloc, words, cwd, &[])?;
-    write_reading(alloc, tool, cwd, &reading, places)
+    let written = write_reading(alloc, tool, cwd, &reading, places);
+    drop(reading);
+    written
 }
 
 // The mean time of one of `count` runs that began at `start`, in nanoseconds.

@@ -104,7 +104,10 @@ fn of_bytes(alloc: Global, call: &str, bytes: &[u8]) -> Result<Answer, Stop> {
 
 /// Whether a name is that of a call that reads an input.
 pub fn is_call(name: &str) -> bool {
-    matches!(name, "preprocess_input" | "read_input" | "read_input_slowly")
+    matches!(
+        name,
+        "preprocess_input" | "read_input" | "read_input_slowly"
+    )
 }
 
 /// What a call that reads an input answers.

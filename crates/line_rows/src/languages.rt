@@ -87,7 +87,10 @@ fn compiler(alloc: Global, name: &str, settings: &[String]) -> Result<Answer, St
 
 /// Whether a name is that of a call on a language or a compiler.
 pub fn is_call(name: &str) -> bool {
-    matches!(name, "language_of_file" | "language_text" | "gcc_name" | "compiler")
+    matches!(
+        name,
+        "language_of_file" | "language_text" | "gcc_name" | "compiler"
+    )
 }
 
 /// What a call on a language or a compiler answers.

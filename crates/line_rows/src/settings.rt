@@ -50,27 +50,36 @@ impl<'a> Settings<'a> {
         Ok(settings)
     }
 
+    // Takes a variable.
+    fn take_variable(&mut self, alloc: Global, name: &str, value: &str) -> Result<(), Stop> {
+        let name = String::from_str(alloc, name)?;
+        self.env_vars.push((name, String::from_str(alloc, value)?))?;
+        Ok(())
+    }
+
+    // Takes the value of a setting that is no variable.
+    fn take_value(&mut self, alloc: Global, name: &str, value: &str) -> Result<(), Stop> {
+        match name {
+            "input" => self.places.canonical_input = Text::copy_of(alloc, value)?,
+            "temp" => self.places.temp_dir = Text::copy_of(alloc, value)?,
+            "unhashed" => self.unhashed.push(String::from_str(alloc, value)?)?,
+            "dependency" => self.dependency.push(String::from_str(alloc, value)?)?,
+            "language" => self.language = Some(language_named(value)?),
+            "outputs" => self.is_without_outputs = value == "none",
+            _ => return Err(Stop::Form("an unknown setting")),
+        }
+        Ok(())
+    }
+
     // Takes a setting.
     fn take(&mut self, alloc: Global, word: &str) -> Result<(), Stop> {
         let Some((name, value)) = word.split_once('=') else {
             return Err(Stop::Form("a setting without a value"));
         };
-        let value = String::from_str(alloc, value)?;
-        if let Some(variable) = name.strip_prefix('$') {
-            let variable = String::from_str(alloc, variable)?;
-            self.env_vars.push((variable, value))?;
-            return Ok(());
+        match name.strip_prefix('$') {
+            Some(variable) => self.take_variable(alloc, variable, value),
+            None => self.take_value(alloc, name, value),
         }
-        match name {
-            "input" => self.places.canonical_input = Text::new(value),
-            "temp" => self.places.temp_dir = Text::new(value),
-            "unhashed" => self.unhashed.push(value)?,
-            "dependency" => self.dependency.push(value)?,
-            "language" => self.language = Some(language_named(value.as_str())?),
-            "outputs" => self.is_without_outputs = value.as_str() == "none",
-            _ => return Err(Stop::Form("an unknown setting")),
-        }
-        Ok(())
     }
 
     /// Puts what the settings name into arguments, in place of what was read.

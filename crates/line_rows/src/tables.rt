@@ -129,6 +129,37 @@ fn add_item<T: Copy + Named>(
     }
 }
 
+// Adds an item, and puts the words last that it is written as.
+fn add_written<T: Copy + Named>(
+    alloc: Global,
+    answer: &mut Answer,
+    words: &mut Words,
+    item: Argument<T>,
+) -> Result<(), Stop> {
+    add_item(alloc, answer, &item)?;
+    item.write(alloc, words)?;
+    Ok(())
+}
+
+// Adds the items that are left, and puts the words last that those are written as that aren't faulty.
+fn add_items<T: Copy + Named, S: SearchableArgInfo<T> + Drop>(
+    alloc: Global,
+    items: &mut ArgsIter<'_, S, T>,
+    answer: &mut Answer,
+    words: &mut Words,
+) -> Result<(), Stop> {
+    while let Some(item) = items.next() {
+        match item {
+            Ok(item) => add_written(alloc, answer, words, item)?,
+            Err(_) => answer.add(alloc, &["faulty"])?,
+        }
+    }
+    if items.refused() {
+        return Err(Stop::Memory);
+    }
+    Ok(())
+}
+
 // The items of a line, and the words that those are written as that aren't faulty.
 fn items<T: Copy + Named, S: SearchableArgInfo<T> + Drop>(
     alloc: Global,
@@ -138,18 +169,9 @@ fn items<T: Copy + Named, S: SearchableArgInfo<T> + Drop>(
     let mut answer = Answer::new(alloc);
     let mut words = Words::new(alloc);
     let mut items = ArgsIter::new(alloc, line, table);
-    while let Some(item) = items.next() {
-        match item {
-            Ok(item) => {
-                add_item(alloc, &mut answer, &item)?;
-                item.write(alloc, &mut words)?;
-            }
-            Err(_) => answer.add(alloc, &["faulty"])?,
-        }
-    }
-    if items.refused() {
-        return Err(Stop::Memory);
-    }
+    let added = add_items(alloc, &mut items, &mut answer, &mut words);
+    drop(items);
+    added?;
     answer.add_words(alloc, "written", words.as_slice())?;
     Ok(answer)
 }
@@ -241,11 +263,7 @@ fn entries(alloc: Global, name: &str) -> Result<Answer, Stop> {
 pub fn is_call(name: &str) -> bool {
     matches!(
         name,
-        "search"
-            | "items"
-            | "normalize_separated"
-            | "normalize_concatenated"
-            | "entries"
+        "search" | "items" | "normalize_separated" | "normalize_concatenated" | "entries"
     )
 }
 
