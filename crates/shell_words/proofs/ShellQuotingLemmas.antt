@@ -1,16 +1,15 @@
 -- Words that are written with quotes are read back.
-use Rattle.std.proofs.Common.{ℕ, List, [], ◌∷◌, ◌++◌, ◌≡◌, ◌≢◌, refl, sym, ap, ◌∙◌, subst, append-nil, append_assoc, map, Some, Bool, true, false, ◌==◌, ◌||◌, ◌&&◌, arith, ⊎_elim, String, string_bytes, encode_utf8, encode_utf8_all, length, take, drop, get_or, ◌≤◌, ◌-◌, cond, Result, Ok, Err, is_ok, OnOk}
+use Rattle.std.proofs.Common.{ℕ, List, [], ◌∷◌, ◌++◌, ◌≡◌, ◌≢◌, refl, sym, ap, ◌∙◌, subst, append-nil, append_assoc, map, Some, Bool, true, false, ◌==◌, ◌||◌, ◌&&◌, arith, ⊎_elim, String, string_bytes, encode_utf8, encode_utf8_all, cond, Result, Ok, Err, is_ok, OnOk}
 use Rattle.std.specs.List.{list_all, flat_map}
 use Rattle.std.specs.Str.{chars}
 use Rattle.std.proofs.lemmas.Bool.{cond_both, cond-false, and_parts, or_cases, eqb-true}
 use Rattle.std.proofs.lemmas.Bool.Decides.{nat_tests}
 use Rattle.std.proofs.lemmas.Grind.{flat_map-append}
-use Rattle.std.proofs.lemmas.List.{take_all}
 use Rattle.std.proofs.lemmas.Str.{chars_from_encodes, encodes-chars, encodes-append, IsUtf8-string_bytes}
 use Rattle.shell_words.specs.declared.splitting.State.TheVariants.{Between, Word, Escaped, SingleQuoted}
 use Rattle.shell_words.specs.Shell.{hash, backslash, single_quote, double_quote, is_blank, HasWords, IsText}
 use Rattle.shell_words.specs.Shell.Splitting.{Gives, EndsWord, words_from, split_chars}
-use Rattle.shell_words.specs.Shell.Quoting.{is_safe, is_plain, quoted_char, quoted_word, further, quoted}
+use Rattle.shell_words.specs.Shell.Quoting.{is_safe, is_plain, quoted_char, quoted_word, further, quoted, written}
 use Rattle.shell_words.proofs.ShellSoundLemmas.{reading, begins_bare}
 use Rattle.shell_words.proofs.ShellCompleteLemmas.{text_of_words}
 
@@ -156,17 +155,14 @@ further_push now spaced new word rest all before space after =
     ∙ before
 
 -- the first word and the others
-pub words_push : {Z : Type 0} (old now new : List ℕ) (words : List (String Z)) (first : String Z) → 1 ≤ length words → first ≡ get_or words 0 first →
-    now ≡ old ++ encode_utf8_all (quoted_word (chars (string_bytes first))) →
-    new ≡ now ++ encode_utf8_all (further (map chars (map string_bytes (take (length words - 1) (drop 1 words))))) →
-    new ≡ old ++ encode_utf8_all (quoted (map chars (map string_bytes words)))
-words_push old now new [] first some is before after = absurd (omega arith)
-words_push old now new (word ∷ rest) first some is before after =
-    let w : List ℕ = quoted_word (chars (string_bytes word)) in
+pub words_push : {Z : Type 0} (old now new first : List ℕ) (rest : List (String Z)) →
+    now ≡ old ++ encode_utf8_all (quoted_word (chars first)) →
+    new ≡ now ++ encode_utf8_all (further (map chars (map string_bytes rest))) →
+    new ≡ old ++ written (first ∷ map string_bytes rest)
+words_push old now new first rest before after =
+    let w : List ℕ = quoted_word (chars first) in
     let others : List ℕ = further (map chars (map string_bytes rest)) in
-    let all : take (length (word ∷ rest) - 1) rest ≡ rest = take_all _ rest (omega arith) in
-    after ∙ ap (λ ws. now ++ encode_utf8_all (further (map chars (map string_bytes ws)))) all
-    ∙ ap (λ t. t ++ encode_utf8_all others) (before ∙ ap (λ v. old ++ encode_utf8_all (quoted_word (chars (string_bytes v)))) is)
+    after ∙ ap (λ t. t ++ encode_utf8_all others) before
     ∙ append_assoc old (encode_utf8_all w) (encode_utf8_all others)
     ∙ ap (λ t. old ++ t) (sym (encodes-append w others))
 

@@ -6,5 +6,5 @@ mod quoting;
 mod span;
 mod splitting;
 
-pub use quoting::quote;
+pub use quoting::{push_quoted, quote};
 pub use splitting::split;

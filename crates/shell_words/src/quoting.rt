@@ -1,10 +1,10 @@
 //! Writing the words of a shell command so that they are read back.
 
-ghost use Rattle.std.specs.Prelude.{◌≡◌, ◌++◌, Some, map, IfOk, OnOk, encode_utf8_all, string_bytes};
+ghost use Rattle.std.specs.Prelude.{◌≡◌, ◌++◌, ◌∷◌, Some, map, IfOk, OnOk, encode_utf8_all, string_bytes};
 ghost use Rattle.std.specs.Str.{chars};
 ghost use Rattle.shell_words.specs.Shell.{HasWords};
 ghost use Rattle.shell_words.specs.Shell.Splitting.{split_chars};
-ghost use Rattle.shell_words.specs.Shell.Quoting.{is_safe, is_plain, quoted_char, quoted_word, further, quoted};
+ghost use Rattle.shell_words.specs.Shell.Quoting.{is_safe, is_plain, quoted_char, quoted_word, further, quoted, written};
 
 use std::alloc::{AllocError, Global};
 
@@ -29,16 +29,24 @@ pub fn quote(alloc: Global, words: &[String]) -> Result<String, AllocError>
     Ok(text)
 }
 
-/// Writes words at the end, with a space between each two.
-fn push_words(text: &mut String, words: &[String]) -> Result<(), AllocError>
-    ensures { OnOk result (string_bytes text.new
-        ≡ string_bytes text.old ++ encode_utf8_all (quoted (map chars (map string_bytes words.now)))) }
+/// Writes the words `first` and `rest` at the end of `text`, quoted the way [`quote`] quotes them.
+///
+/// No space is written before `first`. The only error is an allocation failure; `text` may then end in a part of the words.
+pub fn push_quoted(text: &mut String, first: &str, rest: &[String]) -> Result<(), AllocError>
+    ensures { OnOk result (string_bytes text.new ≡ string_bytes text.old ++ written (first.now ∷ map string_bytes rest.now)) }
 {
-    let [first, rest @ ..] = words else {
-        return Ok(());
-    };
     push_word(text, first)?;
     push_further(text, rest)
+}
+
+/// Writes words at the end, with a space between each two.
+fn push_words(text: &mut String, words: &[String]) -> Result<(), AllocError>
+    ensures { OnOk result (string_bytes text.new ≡ string_bytes text.old ++ written (map string_bytes words.now)) }
+{
+    match words {
+        [] => Ok(()),
+        [first, rest @ ..] => push_quoted(text, first, rest),
+    }
 }
 
 /// Writes words at the end, each with a space in front.

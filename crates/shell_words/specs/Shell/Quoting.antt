@@ -1,7 +1,8 @@
 -- How the words of a command are written, so that they are read back.
-use Rattle.std.specs.Prelude.{ℕ, Bool, false, ◌||◌, ◌&&◌, ◌==◌, ◌≡◌, refl, if◌then◌else◌, List, [], ◌∷◌, ◌++◌, codes}
+use Rattle.std.specs.Prelude.{ℕ, Bool, false, ◌||◌, ◌&&◌, ◌==◌, ◌≡◌, refl, if◌then◌else◌, List, [], ◌∷◌, ◌++◌, map, codes, encode_utf8_all}
 use Rattle.std.specs.Char.{is_ascii_alphanumeric}
 use Rattle.std.specs.List.{list_all, flat_map}
+use Rattle.std.specs.Str.{chars}
 use Rattle.shell_words.specs.Shell.{backslash, single_quote}
 
 -- a letter or a digit of ASCII, or one of `_ - . / : , + @ %`
@@ -32,6 +33,10 @@ further words = flat_map (λ word. 32 ∷ quoted_word word) words
 abbrev pub quoted : List (List ℕ) → List ℕ
 quoted [] = []
 quoted (word ∷ words) = quoted_word word ++ further words
+
+-- the words of a command as they are written, all as bytes
+abbrev pub written : List (List ℕ) → List ℕ
+written words = encode_utf8_all (quoted (map chars words))
 
 -- Worked examples.
 pub plain_words : quoted (codes "-std=c++17" ∷ codes "a/b.cu" ∷ []) ≡ codes "-std=c++17 a/b.cu"
