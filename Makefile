@@ -1,62 +1,80 @@
-# What a newcomer and the gate call.
+# What users, contributors and the gate run. `make` alone prints the list.
 PREFIX ?= /usr/local
+DESTDIR ?=
+target = $(DESTDIR)$(PREFIX)
 
-.PHONY: help demo build install bench hostile must-fail refused-memory end-to-end test
+.PHONY: help demo build install uninstall bench fuzz hostile must-fail refused-memory end-to-end test-install test
 
 help:
-	@echo 'make demo             shows what the program prints, unproved, within a minute of a fresh clone'
-	@echo 'make build            proves and builds the programs: crates/cudaplan/out/cudaplan and crates/zigrunk/out/zigrunk'
-	@echo 'make install PREFIX=  installs them, zigrunk-nvcc and the man page, below /usr/local unless PREFIX is given'
-	@echo 'make bench            times the calls of the library'
-	@echo 'make hostile          calls the library with 10,000 cases that nobody wrote: SEED= COUNT= FIRST='
-	@echo 'make must-fail        tries the wrong bodies of all crates, or those of CRATES="texts dry_runs"'
-	@echo 'make refused-memory   refuses each growth of memory of the worked rows in turn'
-	@echo 'make end-to-end       compares calls of nvcc with those of zigrunk-nvcc, where nvcc and ninja are on the path'
-	@echo 'make test             the whole gate; its last line is N passed, M failed'
+	@echo 'make demo             run cudaplan, unproved, on two calls; a minute from a fresh clone'
+	@echo 'make build            prove and build the programs: crates/cudaplan/out/cudaplan and crates/zigrunk/out/zigrunk'
+	@echo 'make install          install them, zigrunk-nvcc, the man page and completions; PREFIX=/usr/local, DESTDIR='
+	@echo 'make uninstall        remove what make install installed, with the same PREFIX and DESTDIR'
+	@echo 'make test             the whole gate; the last line is N passed, M failed'
+	@echo 'make must-fail        check that the prover rejects the wrong bodies of all crates, or of CRATES="texts dry_runs"'
+	@echo 'make fuzz             run the library on 10,000 random cases of each kind; SEED=1 COUNT=10000 FIRST=0'
+	@echo 'make refused-memory   run the test cases again and again, each time with another allocation failing'
+	@echo 'make end-to-end       compare zigrunk-nvcc with nvcc; needs nvcc and ninja on the path'
+	@echo 'make test-install     install into an empty directory, run the programs from there, uninstall'
+	@echo 'make bench            time calls of the library'
 
-# The device-code line, read and written back, and the plan of two real dry runs: the two calls whose words demo/ has.
+# A cicc line that is read and written back, and the plan of two real dry runs: the calls in demo/.
 demo:
-	@echo 'This builds the program unproved and runs it twice, within a minute; make build proves and builds it.'
+	@echo 'This builds cudaplan without proving it and runs it twice, in about a minute. make build proves it.'
 	@cd crates/cudaplan && rt try --data one_target.dry1=../plan_rows/data/dry_runs/one_target.dry1 --data one_target.dry2=../plan_rows/data/dry_runs/one_target.dry2 --cases ../../demo
 
-# Proves the programs and builds them. rt builds a program only when it runs it, and leaves it in out/: so a short call is
-# run, and what it prints is thrown away.
+# rt builds a program only when it runs it, and leaves it in out/. So each program makes a short call, whose output is thrown away.
 build:
 	cd crates/cudaplan && rt check && rt run -- line cicc /w x.cpp1.ii -o x.ptx > /dev/null
 	cd crates/zigrunk && rt check && rt run -- --version > /dev/null
+	@.ci/built record
 
-install: build
-	install -D -m 755 crates/cudaplan/out/cudaplan $(DESTDIR)$(PREFIX)/bin/cudaplan
-	install -D -m 755 crates/zigrunk/out/zigrunk $(DESTDIR)$(PREFIX)/bin/zigrunk
-	install -D -m 755 bin/zigrunk-nvcc $(DESTDIR)$(PREFIX)/bin/zigrunk-nvcc
-	install -D -m 644 man/zigrunk.1 $(DESTDIR)$(PREFIX)/share/man/man1/zigrunk.1
-	ln -sf zigrunk.1 $(DESTDIR)$(PREFIX)/share/man/man1/zigrunk-nvcc.1
+# Nothing is proved again if out/ holds the programs that these sources make.
+install:
+	@.ci/built check || $(MAKE) build
+	install -D -m 755 crates/cudaplan/out/cudaplan "$(target)/bin/cudaplan"
+	install -D -m 755 crates/zigrunk/out/zigrunk "$(target)/bin/zigrunk"
+	install -D -m 755 bin/zigrunk-nvcc "$(target)/bin/zigrunk-nvcc"
+	install -D -m 644 man/zigrunk.1 "$(target)/share/man/man1/zigrunk.1"
+	ln -sf zigrunk.1 "$(target)/share/man/man1/zigrunk-nvcc.1"
+	install -D -m 644 completions/zigrunk.bash "$(target)/share/bash-completion/completions/zigrunk"
+	ln -sf zigrunk "$(target)/share/bash-completion/completions/cudaplan"
+	ln -sf zigrunk "$(target)/share/bash-completion/completions/zigrunk-nvcc"
+	install -D -m 644 completions/_zigrunk "$(target)/share/zsh/site-functions/_zigrunk"
+
+uninstall:
+	rm -f "$(target)/bin/cudaplan" "$(target)/bin/zigrunk" "$(target)/bin/zigrunk-nvcc"
+	rm -f "$(target)/share/man/man1/zigrunk.1" "$(target)/share/man/man1/zigrunk-nvcc.1"
+	rm -f "$(target)/share/bash-completion/completions/zigrunk" "$(target)/share/bash-completion/completions/cudaplan"
+	rm -f "$(target)/share/bash-completion/completions/zigrunk-nvcc" "$(target)/share/zsh/site-functions/_zigrunk"
 
 bench:
 	cd crates/cudabench && rt run -- line 100000 cicc /w --device-c -arch compute_80 --module_id_file_name kernel.module_id kernel.cpp1.ii --simt-only -o kernel.ptx
 
-# Cases by a seeded generator. A failure is printed with its seed and number: FIRST=number COUNT=1 makes it again.
+# Random cases from a seed. Each failure is printed with its seed and number: FIRST=number COUNT=1 makes it again.
 SEED ?= 1
 COUNT ?= 10000
 FIRST ?= 0
-hostile:
+fuzz hostile:
 	cd crates/hostile && rt run -- $(SEED) $(COUNT) $(FIRST)
 
-# The prover has to refuse each wrong body of crates/NAME/must-fail.
+# The prover has to reject each wrong body in crates/NAME/must-fail.
 must-fail:
 	tests/must_fail.py $(CRATES)
 
-# The worked rows and calls of the program, with each growth of memory refused in turn.
+# The test cases and calls of the programs, with the first allocation failing, then the second, and so on.
 refused-memory: build
 	cd crates/line_rows && rt check && { rt run > /dev/null 2>&1 || true; }
 	cd crates/plan_rows && rt check && { rt run > /dev/null 2>&1 || true; }
 	tests/refused_memory.sh
 
-# Calls of nvcc and of zigrunk-nvcc in two folders: their statuses, the files made, and what is in them.
+# Calls of nvcc and of zigrunk-nvcc side by side: exit statuses, the files they make, and what is in them.
 end-to-end:
 	@tests/end_to_end.sh
 
-# The whole gate: every proof from nothing, the must-fail edits, the tests and the programs, and last the calls of the
-# built programs and those of nvcc.
+test-install:
+	@tests/install.sh
+
+# Every proof from nothing, the wrong bodies, the tests and the programs, then calls of the built programs and of nvcc.
 test:
-	@.ci/gate
+	@before=$$(.ci/built sources) && .ci/gate && .ci/built record "$$before"
