@@ -1,6 +1,6 @@
 -- Facts about the ends of texts, which are read backwards.
-use Rattle.std.proofs.Common.{◌≡◌, ◌≢◌, ℕ, ◌<◌, ◌-◌, suc, Bool, true, false, cond, not, ◌&&◌, eqb, eq-eqb, eqb-true, ne_eqb, List, [], ◌∷◌, ◌++◌, Option, Some, None, MatchOption, Bor, refl, ap, sym, ◌∙◌, subst, drop, take, get_or, length, reverse, nat_eq, arith, append_assoc, append-nil}
-use Rattle.std.specs.List.{ends_with}
+use Rattle.std.proofs.Common.{◌≡◌, ◌≢◌, ℕ, ◌<◌, ◌-◌, suc, Bool, true, false, cond, not, ◌&&◌, ◌||◌, eqb, eq-eqb, eqb-true, ne_eqb, List, [], ◌∷◌, ◌++◌, Option, Some, None, MatchOption, Bor, refl, ap, sym, ◌∙◌, subst, drop, take, get_or, length, reverse, nat_eq, arith, append_assoc, append-nil}
+use Rattle.std.specs.List.{ends_with, list_any}
 use Rattle.std.specs.Str.Pattern.{RFindsChar, SplitsAroundMatch}
 use Rattle.std.specs.Cmp.Lexicographic.{pointwise}
 use Rattle.std.proofs.lemmas.List.{reverse-append, reverse-reverse, length-append, take-append-drop}
@@ -177,3 +177,12 @@ parted-char byte text (Some x) h ascii =
     let back : drop h.0 text ≡ byte ∷ drop h.1 text = drop_at_char byte text h.0 h.1 h.2.1 ascii in
     let bare : lacks byte (drop h.1 text) ≡ true = lacks-places byte (drop h.1 text) (λ i l e. NoCharPasses-char byte (drop h.1 text) i h.2.0 ascii l e) in
     (sym (take-append-drop h.0 text) ∙ ap (λ t. take h.0 text ++ t) back ∙ rw (h.3, h.4) refl, rw h.4 bare)
+
+-- a text lacks a byte if a search for it finds none
+not-or : (a b : Bool) → not (a || b) ≡ (not a && not b)
+not-or true b = refl
+not-or false b = refl
+
+pub lacks-by_search : (byte : ℕ) (text : List ℕ) → not (list_any (λ c. eqb c byte) text) ≡ lacks byte text
+lacks-by_search byte [] = refl
+lacks-by_search byte (c ∷ cs) = not-or (eqb c byte) (list_any (λ c. eqb c byte) cs) ∙ ap (λ t. not (eqb c byte) && t) (lacks-by_search byte cs)

@@ -8,6 +8,7 @@ pub mod Lists
 pub mod Numeral
 pub mod ObjectFlags
 pub mod Path
+pub mod Results
 pub mod Rows
 pub mod Status
 pub mod Variables

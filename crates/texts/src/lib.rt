@@ -3,6 +3,7 @@
 
 pub mod bytes;
 pub mod compilation_flags;
+pub mod decimal;
 pub mod device_files;
 pub mod extension;
 pub mod fault;

@@ -3,6 +3,7 @@
 ghost use Rattle.std.specs.Prelude.{◌≡◌, ◌==◌, ◌↔◌, ◌<◌, length, reverse, IsTrue, IfOk, MatchOption, string_bytes};
 ghost use Rattle.std.specs.Option.{option_copied};
 ghost use Rattle.std.specs.Str.Iter.{chars_rest};
+ghost use Rattle.texts.specs.Path as spec;
 ghost use Rattle.texts.specs.Path.{is_absolute_path, separator_after, joined, trimmed_backwards, folder_of, proper_name, file_name_of, file_stem_of};
 
 use crate::extension::{last, split_last, stem};
@@ -134,6 +135,13 @@ pub fn is_absolute(path: &str) -> bool
     ensures { IsTrue result ↔ IsTrue (is_absolute_path path.now) }
 {
     path.starts_with('/')
+}
+
+/// Whether `name` contains no `/`.
+pub fn is_bare(name: &str) -> bool
+    ensures { result ≡ spec.is_bare name.now }
+{
+    !name.as_bytes().contains(&b'/')
 }
 
 // What `join` puts between a folder and a name.

@@ -2,7 +2,9 @@
 
 ghost use Rattle.std.specs.Prelude.{◌≡◌, ◌∷◌, [], ◌++◌, ◌==◌, map, length, IfOk, OnOk, OnErr, string_bytes};
 ghost use Rattle.std.specs.Arc.{arc_value};
+ghost use Rattle.std.specs.Option.{option_copied};
 ghost use Rattle.std.specs.Slice.Iter.{iter_rest};
+ghost use Rattle.texts.specs.Variables as spec;
 ghost use Rattle.texts.specs.Variables.{pair_of};
 ghost use Rattle.texts.specs.VariablesView.{held_pairs};
 
@@ -179,6 +181,18 @@ impl Variables {
             }),
         }
     }
+}
+
+/// The value of the first of `pairs` whose name is `name`. `None` if no pair has that name.
+pub fn first_value<'a>(pairs: &'a [(String, String)], name: &str) -> Option<&'a str>
+    ensures { option_copied result ≡ spec.first_value name.now (map pair_of pairs.now) }
+{
+    for pair in pairs {
+        if name == pair.0.as_str() {
+            return Some(pair.1.as_str());
+        }
+    }
+    None
 }
 
 impl fmt::Debug for Variables {

@@ -1,7 +1,9 @@
 //! The words of a command line.
 
 ghost use Rattle.std.specs.Prelude.{◌≡◌, ◌∷◌, [], ◌++◌, map, length, IfOk, OnOk, ◌==◌, OnErr, string_bytes};
+ghost use Rattle.std.specs.Option.{option_copied};
 ghost use Rattle.std.specs.Slice.Iter.{iter_rest};
+ghost use Rattle.texts.specs.Lists as lists;
 
 use std::alloc::{AllocError, Global};
 use std::marker::Model;
@@ -166,6 +168,21 @@ impl Words {
     {
         Words::copy_of(alloc, self.as_slice())
     }
+}
+
+/// The word right after the first that equals `option`, as a file name after `-o`. `None` if no word equals it, or if
+/// only the last one does.
+pub fn word_after<'a>(words: &'a [String], option: &str) -> Option<&'a str>
+    ensures { option_copied result ≡ lists.word_after option.now (map string_bytes words.now) }
+{
+    let mut follows = false;
+    for word in words {
+        if follows {
+            return Some(word.as_str());
+        }
+        follows = option == word.as_str();
+    }
+    None
 }
 
 impl<'a> IntoIterator for &'a Words {
