@@ -3,7 +3,7 @@ PREFIX ?= /usr/local
 DESTDIR ?=
 target = $(DESTDIR)$(PREFIX)
 
-.PHONY: help demo build install uninstall bench fuzz hostile must-fail refused-memory end-to-end test-install test
+.PHONY: help demo build install uninstall bench fuzz must-fail refused-memory end-to-end test-install test
 
 help:
 	@echo 'make demo             run cudaplan, unproved, on two calls; a minute from a fresh clone'
@@ -21,7 +21,7 @@ help:
 # A cicc line that is read and written back, and the plan of two real dry runs: the calls in demo/.
 demo:
 	@echo 'This builds cudaplan without proving it and runs it twice, in about a minute. make build proves it.'
-	@cd crates/cudaplan && rt try --data one_target.dry1=../plan_rows/data/dry_runs/one_target.dry1 --data one_target.dry2=../plan_rows/data/dry_runs/one_target.dry2 --cases ../../demo
+	@cd crates/cudaplan && rt try --data one_target.dry1=../test_plans/data/dry_runs/one_target.dry1 --data one_target.dry2=../test_plans/data/dry_runs/one_target.dry2 --cases ../../demo
 
 # rt builds a program only when it runs it, and leaves it in out/. So each program makes a short call, whose output is thrown away.
 build:
@@ -55,8 +55,8 @@ bench:
 SEED ?= 1
 COUNT ?= 10000
 FIRST ?= 0
-fuzz hostile:
-	cd crates/hostile && rt run -- $(SEED) $(COUNT) $(FIRST)
+fuzz:
+	cd crates/test_fuzz && rt run -- $(SEED) $(COUNT) $(FIRST)
 
 # The prover has to reject each wrong body in crates/NAME/must-fail.
 must-fail:
@@ -64,8 +64,8 @@ must-fail:
 
 # The test cases and calls of the programs, with the first allocation failing, then the second, and so on.
 refused-memory: build
-	cd crates/line_rows && rt check && { rt run > /dev/null 2>&1 || true; }
-	cd crates/plan_rows && rt check && { rt run > /dev/null 2>&1 || true; }
+	cd crates/test_lines && rt check && { rt run > /dev/null 2>&1 || true; }
+	cd crates/test_plans && rt check && { rt run > /dev/null 2>&1 || true; }
 	tests/refused_memory.sh
 
 # Calls of nvcc and of zigrunk-nvcc side by side: exit statuses, the files they make, and what is in them.

@@ -10,7 +10,7 @@ set -u
 cd "$(dirname "$0")/.." || exit 1
 program=$(realpath "${1:-crates/cudaplan/out/cudaplan}")
 zigrunk=$(realpath "${2:-crates/zigrunk/out/zigrunk}")
-data=crates/plan_rows/data/dry_runs
+data=crates/test_plans/data/dry_runs
 scratch=$(mktemp -d)
 trap 'rm -rf "$scratch"' EXIT
 passed=0

@@ -3,18 +3,18 @@
 # growth has to end in "out of memory", and never in another answer. (The library's lists may ask again for less room
 # than the first time; a run in which that is granted gives the same as with memory, and is counted apart.)
 #
-# Usage: tests/refused_memory.sh [FILE..], each a file of crates/line_rows/data or crates/plan_rows/data; all that hold right
+# Usage: tests/refused_memory.sh [FILE..], each a file of crates/test_lines/data or crates/test_plans/data; all that hold right
 # rows, unless named.
 # A row that asks for more than MOST growths (3000, if that isn't set) is left out: it would take minutes.
-# The built programs have to stand in the out/ of crates/line_rows, crates/plan_rows and crates/cudaplan, as `make
+# The built programs have to stand in the out/ of crates/test_lines, crates/test_plans and crates/cudaplan, as `make
 # refused-memory` builds them. Each run is a process of its own, into which refuse_nth.c is preloaded.
 set -u
 cd "$(dirname "$0")/.."
 root=$PWD
-line_rows=$root/crates/line_rows/out/line_rows
-plan_rows=$root/crates/plan_rows/out/plan_rows
+test_lines=$root/crates/test_lines/out/test_lines
+test_plans=$root/crates/test_plans/out/test_plans
 program=$root/crates/cudaplan/out/cudaplan
-for built in "$line_rows" "$plan_rows" "$program"; do
+for built in "$test_lines" "$test_plans" "$program"; do
     if [ ! -x "$built" ]; then
         echo "not built: $built"
         exit 2
@@ -22,7 +22,7 @@ for built in "$line_rows" "$plan_rows" "$program"; do
 done
 work=$(mktemp -d)
 trap 'rm -rf "$work"' EXIT
-cp -r crates/line_rows/data/. crates/plan_rows/data/. "$work"
+cp -r crates/test_lines/data/. crates/test_plans/data/. "$work"
 cd "$work" || exit 2
 cc -shared -fPIC -O2 -o hook.so "$root/tests/refuse_nth.c" -ldl || exit 2
 
@@ -110,9 +110,9 @@ count_up() {
 
 # run_file FILE: takes the rows of a file, each alone, by the program whose file it is.
 run_file() {
-    local before=$refused file=$1 row rows=$line_rows
-    if [ -e "$root/crates/plan_rows/data/$file" ]; then
-        rows=$plan_rows
+    local before=$refused file=$1 row rows=$test_lines
+    if [ -e "$root/crates/test_plans/data/$file" ]; then
+        rows=$test_plans
     fi
     rm -rf parts
     mkdir parts

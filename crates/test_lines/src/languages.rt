@@ -1,0 +1,112 @@
+//! The calls on languages, and on compilers as such.
+
+use crate::names::{language_name, language_named};
+use cuda_below::compiler::{CCompilerImpl, CCompilerKind, NvccHostCompiler};
+use cuda_below::gcc::language_to_gcc_arg;
+use cuda_plans::nvcc::Nvcc;
+use device_lines::cicc::Cicc;
+use device_lines::cudafe::CudaFE;
+use device_lines::ptxas::Ptxas;
+use host_lines::nvhpc::Nvhpc;
+use std::alloc::Global;
+use test_tables::{Answer, Row, Stop};
+use texts::language::Language;
+use texts::text::Text;
+
+fn kind_name(kind: CCompilerKind) -> &'static str {
+    match kind {
+        CCompilerKind::Cicc => "Cicc",
+        CCompilerKind::CudaFE => "CudaFE",
+        CCompilerKind::Ptxas => "Ptxas",
+        CCompilerKind::Nvcc => "Nvcc",
+        CCompilerKind::Nvhpc => "Nvhpc",
+    }
+}
+
+// What a compiler says of itself.
+fn about<C: CCompilerImpl>(alloc: Global, compiler: &C) -> Result<Answer, Stop> {
+    let cxx = if compiler.plusplus() { "c++" } else { "c" };
+    let mut answer = Answer::of(alloc, &[kind_name(compiler.kind()), cxx])?;
+    match compiler.version(alloc)? {
+        Some(version) => answer.add(alloc, &["version", version.as_str()])?,
+        None => answer.add(alloc, &["no", "version"])?,
+    }
+    Ok(answer)
+}
+
+// The value of the setting of a name, which ends in `=`.
+fn value_of(alloc: Global, settings: &[String], name: &str) -> Result<Option<Text>, Stop> {
+    for setting in settings {
+        if let Some(value) = setting.as_str().strip_prefix(name) {
+            return Ok(Some(Text::copy_of(alloc, value)?));
+        }
+    }
+    Ok(None)
+}
+
+// What a device tool's compiler of this version says of itself.
+fn about_device(alloc: Global, name: &str, version: Option<Text>) -> Result<Answer, Stop> {
+    match name {
+        "cicc" => about(alloc, &Cicc { version }),
+        "cudafe++" => about(alloc, &CudaFE { version }),
+        _ => about(alloc, &Ptxas { version }),
+    }
+}
+
+// What nvhpc's compiler of this version says of itself.
+fn about_nvhpc(alloc: Global, nvcplusplus: bool, version: Option<Text>) -> Result<Answer, Stop> {
+    let nvhpc = Nvhpc {
+        nvcplusplus,
+        version,
+    };
+    about(alloc, &nvhpc)
+}
+
+// What nvcc says of itself.
+fn about_nvcc(alloc: Global, settings: &[String]) -> Result<Answer, Stop> {
+    let nvcc = Nvcc {
+        host_compiler: NvccHostCompiler::Gcc,
+        host_compiler_version: value_of(alloc, settings, "host=")?,
+        version: value_of(alloc, settings, "version=")?,
+    };
+    about(alloc, &nvcc)
+}
+
+// What the compiler of a name says of itself.
+fn compiler(alloc: Global, name: &str, settings: &[String]) -> Result<Answer, Stop> {
+    match name {
+        "cicc" | "cudafe++" | "ptxas" => {
+            about_device(alloc, name, value_of(alloc, settings, "version=")?)
+        }
+        "nvc" => about_nvhpc(alloc, false, value_of(alloc, settings, "version=")?),
+        "nvc++" => about_nvhpc(alloc, true, value_of(alloc, settings, "version=")?),
+        "nvcc" => about_nvcc(alloc, settings),
+        _ => Err(Stop::Form("an unknown tool")),
+    }
+}
+
+/// Whether a name is that of a call on a language or a compiler.
+pub fn is_call(name: &str) -> bool {
+    matches!(
+        name,
+        "language_of_file" | "language_text" | "gcc_name" | "compiler"
+    )
+}
+
+/// What a call on a language or a compiler answers.
+pub fn answer(alloc: Global, row: &Row) -> Result<Answer, Stop> {
+    match (row.call.as_str(), row.settings.as_slice()) {
+        ("language_of_file", [path]) => {
+            let language = Language::from_file_name(path.as_str());
+            Answer::of_option(alloc, language.map(language_name))
+        }
+        ("language_text", [name]) => {
+            Answer::of(alloc, &[language_named(name.as_str())?.as_str()])
+        }
+        ("gcc_name", [name]) => {
+            Answer::of_option(alloc, language_to_gcc_arg(language_named(name.as_str())?))
+        }
+        ("compiler", [name, settings @ ..]) => compiler(alloc, name.as_str(), settings),
+        _ => Err(Stop::Form("another call on a language or a compiler")),
+    }
+}

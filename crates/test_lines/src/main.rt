@@ -1,0 +1,28 @@
+//! Runs worked rows on words, option tables, languages, paths, faults, shell texts, and the lines of tools: calls with the
+//! answers that they have to give, from the files that the program is called with. data/README.md says how rows are written.
+#![tactic(auto)]
+
+use calls::LineCalls;
+use std::io;
+use std::process::ExitCode;
+use test_tables::run_program;
+
+mod calls;
+mod faults;
+mod inputs;
+mod languages;
+mod lines;
+mod names;
+mod paths;
+mod reading;
+mod settings;
+mod shell_texts;
+mod tables;
+mod taken;
+mod tools;
+mod writing;
+
+fn main(rt: HostRuntime) -> ExitCode {
+    let mut out = rt.stdout();
+    ExitCode::from(run_program(&rt, &LineCalls, &mut out))
+}

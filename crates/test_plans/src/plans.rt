@@ -1,0 +1,250 @@
+//! The calls on plans of two dry runs.
+
+use crate::handed::bytes_of_file;
+use crate::plan_settings::PlanSettings;
+use crate::runs::refused_at;
+use command_groups::{Dropped, NvccGeneratedSubcommand, Plan, Reason};
+use cuda_below::command::Cacheable;
+use plan_texts::Stop as PlanStop;
+use std::alloc::{AllocError, Global};
+use std::fs::Files;
+use test_tables::{Answer, Row, Stop};
+use texts::fault::Fault;
+
+fn reason_name(reason: Reason) -> &'static str {
+    match reason {
+        Reason::NotCuda => "NotCuda",
+        Reason::NoCiccGroup => "NoCiccGroup",
+        Reason::NoPtxasGroup => "NoPtxasGroup",
+        Reason::Superseded => "Superseded",
+    }
+}
+
+fn is_cloned(alloc: Global, command: &NvccGeneratedSubcommand) -> Result<bool, AllocError> {
+    let clone = command.try_clone(alloc)?;
+    Ok(*command == clone)
+}
+
+// Adds a command's environment, and that it is unlike its clone, if it is.
+fn add_environment(
+    alloc: Global,
+    answer: &mut Answer,
+    command: &NvccGeneratedSubcommand,
+) -> Result<(), Stop> {
+    for variable in command.env_vars.iter() {
+        answer.add(alloc, &["env", variable.0.as_str(), variable.1.as_str()])?;
+    }
+    if !is_cloned(alloc, command)? {
+        answer.add(alloc, &["unlike-its-clone"])?;
+    }
+    Ok(())
+}
+
+// Adds a command: whether its outputs may come from a cache, its folder, its program and its words.
+fn add_command(
+    alloc: Global,
+    answer: &mut Answer,
+    command: &NvccGeneratedSubcommand,
+) -> Result<(), Stop> {
+    let name = match command.cacheable {
+        Cacheable::Yes => "yes",
+        Cacheable::No => "no",
+    };
+    let heads = [name, command.cwd.as_str(), command.exe.as_str()];
+    answer.add_headed(alloc, heads.as_slice(), command.args.as_slice())
+}
+
+// Adds a group: its number, and its commands, with their environments if asked.
+fn add_group(
+    alloc: Global,
+    answer: &mut Answer,
+    number: usize,
+    group: &[NvccGeneratedSubcommand],
+    is_whole: bool,
+) -> Result<(), Stop> {
+    let number = format!(in alloc; "{number}")?;
+    answer.add_pair(alloc, "group", number.as_str())?;
+    for command in group {
+        add_command(alloc, answer, command)?;
+        if is_whole {
+            add_environment(alloc, answer, command)?;
+        }
+    }
+    Ok(())
+}
+
+// Adds a dropped command by its parts.
+fn add_dropped_words(
+    alloc: Global,
+    answer: &mut Answer,
+    line: &str,
+    run: &str,
+    reason: &str,
+    exe: &str,
+    words: &[String],
+) -> Result<(), Stop> {
+    answer.add_headed(alloc, &["dropped", line, run, reason, exe], words)
+}
+
+// Adds a dropped command: its line, its run, the reason, its program and its words.
+fn add_dropped(alloc: Global, answer: &mut Answer, dropped: &Dropped) -> Result<(), Stop> {
+    let (line, run) = (dropped.line, dropped.run);
+    let (line, run) = (format!(in alloc; "{line}")?, format!(in alloc; "{run}")?);
+    add_dropped_words(
+        alloc,
+        answer,
+        line.as_str(),
+        run.as_str(),
+        reason_name(dropped.reason),
+        dropped.exe.as_str(),
+        dropped.args.as_slice(),
+    )
+}
+
+// Adds each dropped command.
+fn add_all_dropped(alloc: Global, answer: &mut Answer, plan: &Plan) -> Result<(), Stop> {
+    for dropped in plan.dropped.as_slice() {
+        add_dropped(alloc, answer, dropped)?;
+    }
+    Ok(())
+}
+
+// A plan, as facts.
+fn shown(alloc: Global, plan: &Plan, is_whole: bool) -> Result<Answer, Stop> {
+    let mut answer = Answer::new(alloc);
+    for (number, group) in plan.groups.as_slice().iter().enumerate() {
+        add_group(alloc, &mut answer, number, group.as_slice(), is_whole)?;
+    }
+    add_all_dropped(alloc, &mut answer, plan)?;
+    Ok(answer)
+}
+
+// What a call on a plan answers.
+fn of_plan(alloc: Global, call: &str, plan: &Result<Plan, Fault>) -> Result<Answer, Stop> {
+    match plan {
+        Err(fault) => refused_at(alloc, fault),
+        Ok(plan) => shown(alloc, plan, call == "plan_whole"),
+    }
+}
+
+// The lines of a plan's text, as facts.
+fn lines_of(alloc: Global, text: &str) -> Result<Answer, Stop> {
+    let mut answer = Answer::new(alloc);
+    for line in text.lines() {
+        answer.add_text(alloc, "text", line)?;
+    }
+    Ok(answer)
+}
+
+// A plan's text, as facts, or whether it is what a file holds, where one is named.
+fn compared<R: Files>(rt: &R, alloc: Global, text: &[u8], file: &str) -> Result<Answer, Stop> {
+    if !file.is_empty() {
+        let wanted = bytes_of_file(rt, alloc, file)?;
+        return Answer::of_bool(alloc, text == wanted.as_slice());
+    }
+    match str::from_utf8(text) {
+        Ok(text) => lines_of(alloc, text),
+        Err(_) => Err(Stop::Form("a plan's text that isn't UTF-8")),
+    }
+}
+
+// What the text of a plan is, or why there is none.
+fn of_text<R: Files>(
+    rt: &R,
+    alloc: Global,
+    text: &Result<Vec<u8>, PlanStop>,
+    file: &str,
+) -> Result<Answer, Stop> {
+    match text {
+        Ok(text) => compared(rt, alloc, text.as_slice(), file),
+        Err(PlanStop::Fault(fault)) => refused_at(alloc, fault),
+        Err(_) => Err(Stop::Form("a text that cannot be written")),
+    }
+}
+
+// What the call on the text of a plan answers.
+fn printed<R: Files>(
+    rt: &R,
+    alloc: Global,
+    settings: &PlanSettings<'_>,
+    first: &[u8],
+    second: &[u8],
+) -> Result<Answer, Stop> {
+    let text = settings.plan_text(alloc, first, second);
+    let answer = of_text(rt, alloc, &text, settings.text_file.as_str());
+    drop(text);
+    answer
+}
+
+// What a call on a plan itself answers.
+fn made(
+    alloc: Global,
+    call: &str,
+    settings: &PlanSettings<'_>,
+    first: &[u8],
+    second: &[u8],
+) -> Result<Answer, Stop> {
+    let suffixes = settings.handed.suffixes(alloc)?;
+    let plan = settings.plan(alloc, first, second, &suffixes);
+    let answer = of_plan(alloc, call, &plan);
+    drop(plan);
+    answer
+}
+
+// What a call on the plan of two runs answers.
+fn planned<R: Files>(
+    rt: &R,
+    alloc: Global,
+    call: &str,
+    settings: &PlanSettings<'_>,
+    first: &[u8],
+    second: &[u8],
+) -> Result<Answer, Stop> {
+    if call == "plan_text" {
+        return printed(rt, alloc, settings, first, second);
+    }
+    made(alloc, call, settings, first, second)
+}
+
+// What a call on one dry run, which is both, or on two answers.
+fn of_runs<R: Files>(
+    rt: &R,
+    alloc: Global,
+    call: &str,
+    settings: &PlanSettings<'_>,
+    runs: &[Vec<u8>],
+) -> Result<Answer, Stop> {
+    match runs {
+        [both] => planned(rt, alloc, call, settings, both.as_slice(), both.as_slice()),
+        [first, second] => {
+            planned(
+                rt,
+                alloc,
+                call,
+                settings,
+                first.as_slice(),
+                second.as_slice(),
+            )
+        }
+        _ => Err(Stop::Form("another number of dry runs")),
+    }
+}
+
+// What a call on the dry runs that a row names answers.
+fn with_settings<R: Files>(
+    rt: &R,
+    alloc: Global,
+    row: &Row,
+    settings: &PlanSettings<'_>,
+) -> Result<Answer, Stop> {
+    let runs = settings.handed.runs(rt, alloc, row.words.as_slice())?;
+    of_runs(rt, alloc, row.call.as_str(), settings, runs.as_slice())
+}
+
+/// What a call that plans two dry runs answers. One dry run is both.
+pub fn answer<R: Files + AllocGlobal>(rt: &R, alloc: Global, row: &Row) -> Result<Answer, Stop> {
+    let settings = PlanSettings::of(alloc, row)?;
+    let answer = with_settings(rt, alloc, row, &settings);
+    drop(settings);
+    answer
+}

@@ -1,6 +1,0 @@
-use Rattle.std.proofs.Common.{◌≡◌, ◌++◌}
-use Rattle.uses.specs.Cache as spec
-use Rattle.uses.proofs.cache.paths_of.Given as goal
-
-abbrev pub invariant-loop-file : goal.invariant-loop-file
-invariant-loop-file l = l.paths ++ spec.paths_of l.file-iterator ≡ spec.paths_of l.outputs
