@@ -73,6 +73,7 @@ end-to-end:
 	@tests/end_to_end.sh
 
 test-install:
+	@.ci/built check || $(MAKE) build
 	@tests/install.sh
 
 # Every proof from nothing, the wrong bodies, the tests and the programs, then calls of the built programs and of nvcc.

@@ -1,8 +1,13 @@
 #!/usr/bin/env bash
 # Installs into an empty directory whose name has a space, runs each program from there, uninstalls, and sees that nothing stays.
-# Proves nothing if crates/*/out hold the programs that these sources make. The last line is "N passed, M failed".
+# Needs the programs that `make build` and the gate leave, and proves nothing. The last line is "N passed, M failed".
 set -u
-cd "$(dirname "$0")/.."
+cd "$(dirname "$0")/.." || exit 1
+if ! .ci/built check; then
+    echo 'crates/*/out lack the programs that these sources make; make build proves and builds them'
+    echo '0 passed, 1 failed'
+    exit 1
+fi
 top=$PWD
 scratch=$(mktemp -d)
 trap 'rm -rf "$scratch"' EXIT
