@@ -1,0 +1,375 @@
+-- Every order by the needs does what the plan's own order does.
+use Rattle.std.proofs.Common.{◌≡◌, ℕ, zero, suc, ◌+◌, ◌<◌, ◌≤◌, List, [], ◌∷◌, ◌++◌, Bool, true, false, not, cond, ◌&&◌, ◌||◌, ◌==◌, Option, Some, map, length, refl, sym, ap, subst, ◌∙◌, arith}
+use Rattle.std.specs.List.{list_all, range_with_len, sum_by}
+use Rattle.std.specs.Prelude.{IsPermutation}
+use Rattle.std.specs.Str.{bytes_eq}
+use Rattle.std.proofs.lemmas.Bool.{false≢true, and_parts, or_parts, eqb-true, eq-eqb}
+use Rattle.std.proofs.lemmas.List.Sums.{sum_by-cons, sum_by-append}
+use Rattle.std.proofs.lemmas.List.Sorted.{sum_by-IsPermutation}
+use Rattle.std.proofs.lemmas.Slice.Eq.{bytes_eq-Decides}
+use Rattle.command_files.specs.Files.{Files, is_among, share, touches, must_follow}
+use Rattle.command_files.specs.Order.{is_in, is_ready, needs_at, own_order, Contents, Effect, contents_after, contents_read, files_at, is_written, may_see, StaysWithin, Hold, OrdersAgree}
+
+-- Tests.
+
+pub in_either : {P : Type 0} (a b : Bool) → (a ≡ true → P) → (b ≡ true → P) → (a || b) ≡ true → P
+in_either true b f g e = f refl
+in_either false b f g e = g e
+
+pub in_first : (a b : Bool) → a ≡ true → (a || b) ≡ true
+in_first true b e = refl
+in_first false b e = absurd (false≢true e)
+
+pub in_second : (a b : Bool) → b ≡ true → (a || b) ≡ true
+in_second true b e = refl
+in_second false b e = e
+
+pub in_neither : (a b : Bool) → a ≡ false → b ≡ false → (a || b) ≡ false
+in_neither true b e f = absurd (false≢true (sym e))
+in_neither false b e f = f
+
+pub in_both : (a b : Bool) → a ≡ true → b ≡ true → (a && b) ≡ true
+in_both true b e f = f
+in_both false b e f = absurd (false≢true e)
+
+-- a test that can't hold fails
+pub fails : (b : Bool) → (b ≡ true → ⊥) → b ≡ false
+fails true f = absurd (f refl)
+fails false f = refl
+
+-- Commands that share no written file.
+
+apart : (some others : List (List ℕ)) (file : List ℕ) → share some others ≡ false → is_among some file ≡ true → is_among others file ≡ false
+apart [] others file e h = absurd (false≢true h)
+apart (x ∷ xs) others file e h =
+    let parts : (is_among others x ≡ false) × (share xs others ≡ false) = or_parts (is_among others x) (share xs others) e in
+    in_either (bytes_eq file x) (is_among xs file)
+    (λ k. ap (is_among others) ((bytes_eq-Decides file x).0 k) ∙ parts.0)
+    (λ k. apart xs others file parts.1 k) h
+
+apart_back : (some others : List (List ℕ)) (file : List ℕ) → share some others ≡ false → is_among others file ≡ true → is_among some file ≡ false
+apart_back some others file e h = fails (is_among some file) (λ k. false≢true (sym (apart some others file e k) ∙ h))
+
+record Apart (a b : Files) : Type 0 where
+  first : (file : List ℕ) → is_among a.writes file ≡ true → touches b file ≡ false
+  second : (file : List ℕ) → is_among b.writes file ≡ true → touches a file ≡ false
+
+apart_if_free : (a b : Files) → must_follow a b ≡ false → Apart a b
+apart_if_free a b e =
+    let read : (share a.writes b.reads ≡ false) × ((share a.reads b.writes || share a.writes b.writes) ≡ false) = or_parts (share a.writes b.reads) (share a.reads b.writes || share a.writes b.writes) e in
+    let written : (share a.reads b.writes ≡ false) × (share a.writes b.writes ≡ false) = or_parts (share a.reads b.writes) (share a.writes b.writes) read.1 in
+    record {
+      first = λ file h. in_neither (is_among b.reads file) (is_among b.writes file) (apart a.writes b.reads file read.0 h) (apart a.writes b.writes file written.1 h);
+      second = λ file h. in_neither (is_among a.reads file) (is_among a.writes file) (apart_back a.reads b.writes file written.0 h) (apart_back a.writes b.writes file written.1 h);
+    }
+
+turned : (a b : Files) → Apart a b → Apart b a
+turned a b h = record { first = h.second; second = h.first }
+
+-- What a command does that touches nothing beyond its record, if the plan's written files have those that it writes.
+record Fits (plan : List Files) (f : Files) (e : Effect) : Type 0 where
+  within : StaysWithin plan f e
+  known : (file : List ℕ) → is_among f.writes file ≡ true → is_written plan file ≡ true
+
+-- what one may see the other doesn't write
+unseen : (plan : List Files) (a b : Files) (eb : Effect) → Fits plan b eb → Apart a b → (file : List ℕ) → may_see plan a file ≡ true → is_among b.writes file ≡ false
+unseen plan a b eb fb h file see =
+    fails (is_among b.writes file) (λ w. false≢true (sym (in_neither (touches a file) (not (is_written plan file)) (h.second file w) (ap not (fb.known file w))) ∙ see))
+
+-- one after the other in a file that the first of them writes
+exchange_written : (plan : List Files) (a b : Files) (ea eb : Effect) → Fits plan a ea → Fits plan b eb → Apart a b → (c : Contents) (file : List ℕ) → is_among a.writes file ≡ true → ea (eb c) file ≡ eb (ea c) file
+exchange_written plan a b ea eb fa fb h c file w =
+    fa.within.depends (eb c) c (λ g see. fb.within.changes c g (unseen plan a b eb fb h g see)) file w
+    ∙ sym (fb.within.changes (ea c) file (or_parts (is_among b.reads file) (is_among b.writes file) (h.first file w)).1)
+
+exchange_at : (plan : List Files) (a b : Files) (ea eb : Effect) → Fits plan a ea → Fits plan b eb → Apart a b → (c : Contents) (file : List ℕ) → ea (eb c) file ≡ eb (ea c) file
+exchange_at plan a b ea eb fa fb h c file =
+    elim (is_among a.writes file) as (λ x. is_among a.writes file ≡ x → ea (eb c) file ≡ eb (ea c) file) [
+      | true ↦ λ w. exchange_written plan a b ea eb fa fb h c file w
+      | false ↦ λ u.
+          elim (is_among b.writes file) as (λ x. is_among b.writes file ≡ x → ea (eb c) file ≡ eb (ea c) file) [
+            | true ↦ λ w. sym (exchange_written plan b a eb ea fb fa (turned a b h) c file w)
+            | false ↦ λ v. fa.within.changes (eb c) file u ∙ fb.within.changes c file v ∙ sym (fb.within.changes (ea c) file v ∙ fa.within.changes c file u)
+          ]
+          refl
+    ]
+    refl
+
+-- what a command reads is the same behind another
+reads_same : (plan : List Files) (a b : Files) (eb : Effect) → Fits plan b eb → Apart a b → (c : Contents) (files : List (List ℕ)) → ((file : List ℕ) → is_among files file ≡ true → touches a file ≡ true) → map (eb c) files ≡ map c files
+reads_same plan a b eb fb h c [] among = refl
+reads_same plan a b eb fb h c (f ∷ fs) among =
+    let same : eb c f ≡ c f =
+    fb.within.changes c f (unseen plan a b eb fb h f (in_first (touches a f) (not (is_written plan f)) (among f (in_first (bytes_eq f f) (is_among fs f) ((bytes_eq-Decides f f).1 refl))))) in
+    let rest : map (eb c) fs ≡ map c fs = reads_same plan a b eb fb h c fs (λ file k. among file (in_second (bytes_eq file f) (is_among fs file) k)) in
+    λ i. same i ∷ rest i
+
+-- what holds of a command that may change places with the one behind it
+record Exchange (files : ℕ → Files) (effects : ℕ → Effect) (p x : ℕ) : Type 0 where
+  both : (c : Contents) → effects p (effects x c) ≡ effects x (effects p c)
+  reads_first : (c : Contents) → map (effects x c) (files p).reads ≡ map c (files p).reads
+  reads_second : (c : Contents) → map (effects p c) (files x).reads ≡ map c (files x).reads
+
+exchange : (plan : List Files) (files : ℕ → Files) (effects : ℕ → Effect) (p x : ℕ) → Fits plan (files p) (effects p) → Fits plan (files x) (effects x) → Apart (files p) (files x) → Exchange files effects p x
+exchange plan files effects p x fp fx h = record {
+  both = λ c i file. exchange_at plan (files p) (files x) (effects p) (effects x) fp fx h c file i;
+  reads_first = λ c. reads_same plan (files p) (files x) (effects x) fx h c (files p).reads (λ file k. in_first (is_among (files p).reads file) (is_among (files p).writes file) k);
+  reads_second = λ c. reads_same plan (files x) (files p) (effects p) fp (turned (files p) (files x) h) c (files x).reads (λ file k. in_first (is_among (files x).reads file) (is_among (files x).writes file) k);
+}
+
+-- Moving a command to the front.
+
+each_below : (a : ℕ) (xs : List ℕ) (x : ℕ) → is_in xs x ≡ true → is_in (a ∷ xs) x ≡ true
+each_below a xs x e = in_second (a == x) (is_in xs x) e
+
+at_head : (a : ℕ) (xs : List ℕ) → is_in (a ∷ xs) a ≡ true
+at_head a xs = in_first (a == a) (is_in xs a) (eq-eqb a a refl)
+
+moved : (files : ℕ → Files) (effects : ℕ → Effect) (p : ℕ) (before after : List ℕ) → ((x : ℕ) → is_in before x ≡ true → Exchange files effects p x) → (c : Contents) → contents_after effects (before ++ p ∷ after) c ≡ contents_after effects (before ++ after) (effects p c)
+moved files effects p [] after h c = refl
+moved files effects p (a ∷ before) after h c =
+    moved files effects p before after (λ x k. h x (each_below a before x k)) (effects a c)
+    ∙ ap (contents_after effects (before ++ after)) ((h a (at_head a before)).both c)
+
+exchange_tests : {X : Type 0} (u v : Bool) (x y z : X) → (u ≡ true → v ≡ true → ⊥) → cond u x (cond v y z) ≡ cond v y (cond u x z)
+exchange_tests true true x y z h = absurd (h refl refl)
+exchange_tests true false x y z h = refl
+exchange_tests false true x y z h = refl
+exchange_tests false false x y z h = refl
+
+moved_reads : (files : ℕ → Files) (effects : ℕ → Effect) (k p : ℕ) (before after : List ℕ) → is_in before p ≡ false → ((x : ℕ) → is_in before x ≡ true → Exchange files effects p x) → (c : Contents) → contents_read files effects k (before ++ p ∷ after) c ≡ contents_read files effects k (p ∷ (before ++ after)) c
+moved_reads files effects k p [] after new h c = refl
+moved_reads files effects k p (a ∷ before) after new h c =
+    let parts : ((a == p) ≡ false) × (is_in before p ≡ false) = or_parts (a == p) (is_in before p) new in
+    let swap : Exchange files effects p a = h a (at_head a before) in
+    let rest : Contents → Option (List (Option (List ℕ))) = contents_read files effects k (before ++ after) in
+    let inner : contents_read files effects k (before ++ p ∷ after) (effects a c) ≡ cond (p == k) (Some (map (effects a c) (files p).reads)) (rest (effects p (effects a c))) =
+    moved_reads files effects k p before after parts.1 (λ x m. h x (each_below a before x m)) (effects a c) in
+    ap (cond (a == k) (Some (map c (files a).reads))) (inner ∙ ap (λ (r : List (Option (List ℕ))). cond (p == k) (Some r) (rest (effects p (effects a c)))) (swap.reads_first c))
+    ∙ exchange_tests (a == k) (p == k) (Some (map c (files a).reads)) (Some (map c (files p).reads)) (rest (effects p (effects a c)))
+    (λ e f. false≢true (sym parts.0 ∙ eq-eqb a p (eqb-true a k e ∙ sym (eqb-true p k f))))
+    ∙ (λ i. cond (p == k) (Some (map c (files p).reads)) (cond (a == k) (Some (sym (swap.reads_second c) i)) (rest (swap.both c i))))
+
+-- How often numbers are in a list.
+
+abbrev mark : ℕ → ℕ → ℕ
+mark n x = cond (x == n) 1 0
+
+times : ℕ → List ℕ → ℕ
+times n xs = sum_by (mark n) xs
+
+times-nil : (n : ℕ) → times n [] ≡ 0
+unfolding times
+times-nil n = refl
+
+times-cons : (n x : ℕ) (xs : List ℕ) → times n (x ∷ xs) ≡ mark n x + times n xs
+unfolding times
+times-cons n x xs = sum_by-cons (mark n) x xs
+
+times-append : (n : ℕ) (xs ys : List ℕ) → times n (xs ++ ys) ≡ times n xs + times n ys
+unfolding times
+times-append n xs ys = sum_by-append (mark n) xs ys
+
+times-permutation : (n : ℕ) (xs ys : List ℕ) → IsPermutation xs ys → times n ys ≡ times n xs
+unfolding times
+times-permutation n xs ys h = sum_by-IsPermutation (mark n) xs ys h
+
+mark-same : (n : ℕ) → mark n n ≡ 1
+mark-same n = ap (λ b. cond b 1 0) (eq-eqb n n refl)
+
+times-in : (n : ℕ) (xs : List ℕ) → is_in xs n ≡ true → 1 ≤ times n xs
+times-in n [] e = absurd (false≢true e)
+times-in n (x ∷ xs) e =
+    let count = times-cons n x xs in
+    in_either (x == n) (is_in xs n)
+    (λ k. let one : mark n x ≡ 1 = ap (λ b. cond b 1 0) k in omega arith)
+    (λ k. let more : 1 ≤ times n xs = times-in n xs k in omega arith) e
+
+in-times : (n : ℕ) (xs : List ℕ) → 1 ≤ times n xs → is_in xs n ≡ true
+in-times n [] h = let none = times-nil n in absurd (omega arith)
+in-times n (x ∷ xs) h =
+    elim (x == n) as (λ b. (x == n) ≡ b → (b || is_in xs n) ≡ true) [
+      | true ↦ λ k. refl
+      | false ↦ λ k.
+          let count = times-cons n x xs in
+          let zero_here : mark n x ≡ 0 = ap (λ b. cond b 1 0) k in
+          in-times n xs (omega arith)
+    ]
+    refl
+
+-- A number's first place.
+
+record Split (n : ℕ) (xs : List ℕ) : Type 0 where
+  before : List ℕ
+  after : List ℕ
+  is : xs ≡ before ++ n ∷ after
+  new : is_in before n ≡ false
+
+split : (n : ℕ) (xs : List ℕ) → is_in xs n ≡ true → Split n xs
+split n [] e = absurd (false≢true e)
+split n (x ∷ xs) e =
+    let ih : (is_in xs n ≡ true → Split n xs) = split n xs in
+    (elim (x == n) as (λ b. (x == n) ≡ b → (b || is_in xs n) ≡ true → Split n (x ∷ xs)) [
+      | true ↦ λ k m. record { before = []; after = xs; is = ap (λ y. y ∷ xs) (eqb-true x n k); new = refl }
+      | false ↦ λ k m.
+          let s : Split n xs = ih m in
+          record { before = x ∷ s.before; after = s.after; is = ap (λ ys. x ∷ ys) s.is; new = in_neither (x == n) (is_in s.before n) k s.new }
+    ]) refl e
+
+-- What is ready.
+
+pub all_pass : (test : ℕ → Bool) (xs : List ℕ) (n : ℕ) → list_all test xs ≡ true → is_in xs n ≡ true → test n ≡ true
+all_pass test [] n h e = absurd (false≢true e)
+all_pass test (x ∷ xs) n h e =
+    let parts : (test x ≡ true) × (list_all test xs ≡ true) = and_parts (test x) (list_all test xs) h in
+    in_either (x == n) (is_in xs n) (λ k. ap test (sym (eqb-true x n k)) ∙ parts.0) (λ k. all_pass test xs n parts.1 k) e
+
+all_more : (test more : ℕ → Bool) → ((n : ℕ) → test n ≡ true → more n ≡ true) → (xs : List ℕ) → list_all test xs ≡ true → list_all more xs ≡ true
+all_more test more f [] h = refl
+all_more test more f (x ∷ xs) h =
+    let parts : (test x ≡ true) × (list_all test xs ≡ true) = and_parts (test x) (list_all test xs) h in
+    in_both (more x) (list_all more xs) (f x parts.0) (all_more test more f xs parts.1)
+
+more_behind : (a : ℕ) (done more : List ℕ) → ((n : ℕ) → is_in done n ≡ true → is_in more n ≡ true) → (n : ℕ) → is_in (a ∷ done) n ≡ true → is_in (a ∷ more) n ≡ true
+more_behind a done more f n e = in_either (a == n) (is_in done n) (λ k. in_first (a == n) (is_in more n) k) (λ k. in_second (a == n) (is_in more n) (f n k)) e
+
+ready_more : (needs : ℕ → List ℕ) (done more xs : List ℕ) → ((n : ℕ) → is_in done n ≡ true → is_in more n ≡ true) → is_ready needs done xs ≡ true → is_ready needs more xs ≡ true
+ready_more needs done more [] f h = refl
+ready_more needs done more (x ∷ xs) f h =
+    let parts : (list_all (is_in done) (needs x) ≡ true) × (is_ready needs (x ∷ done) xs ≡ true) = and_parts (list_all (is_in done) (needs x)) (is_ready needs (x ∷ done) xs) h in
+    in_both (list_all (is_in more) (needs x)) (is_ready needs (x ∷ more) xs)
+    (all_more (is_in done) (is_in more) f (needs x) parts.0)
+    (ready_more needs (x ∷ done) (x ∷ more) xs (more_behind x done more f) parts.1)
+
+exchanged_behind : (a p : ℕ) (done : List ℕ) (n : ℕ) → is_in (p ∷ (a ∷ done)) n ≡ true → is_in (a ∷ (p ∷ done)) n ≡ true
+exchanged_behind a p done n e =
+    in_either (p == n) ((a == n) || is_in done n)
+    (λ k. in_second (a == n) ((p == n) || is_in done n) (in_first (p == n) (is_in done n) k))
+    (λ m. in_either (a == n) (is_in done n)
+    (λ k. in_first (a == n) ((p == n) || is_in done n) k)
+    (λ k. in_second (a == n) ((p == n) || is_in done n) (in_second (p == n) (is_in done n) k)) m) e
+
+-- a command may run first where an order is ready
+ready_moved : (needs : ℕ → List ℕ) (done : List ℕ) (p : ℕ) (before after : List ℕ) → is_ready needs done (before ++ p ∷ after) ≡ true → is_ready needs (p ∷ done) (before ++ after) ≡ true
+ready_moved needs done p [] after h = (and_parts (list_all (is_in done) (needs p)) (is_ready needs (p ∷ done) after) h).1
+ready_moved needs done p (a ∷ before) after h =
+    let parts : (list_all (is_in done) (needs a) ≡ true) × (is_ready needs (a ∷ done) (before ++ p ∷ after) ≡ true) = and_parts (list_all (is_in done) (needs a)) (is_ready needs (a ∷ done) (before ++ p ∷ after)) h in
+    in_both (list_all (is_in (p ∷ done)) (needs a)) (is_ready needs (a ∷ (p ∷ done)) (before ++ after))
+    (all_more (is_in done) (is_in (p ∷ done)) (each_below p done) (needs a) parts.0)
+    (ready_more needs (p ∷ (a ∷ done)) (a ∷ (p ∷ done)) (before ++ after) (exchanged_behind a p done) (ready_moved needs (a ∷ done) p before after parts.1))
+
+-- none of the commands before one needs it
+not_needed : (needs : ℕ → List ℕ) (done : List ℕ) (p : ℕ) (before after : List ℕ) → is_in done p ≡ false → is_in before p ≡ false → is_ready needs done (before ++ p ∷ after) ≡ true → (x : ℕ) → is_in before x ≡ true → is_in (needs x) p ≡ false
+not_needed needs done p [] after fresh new h x e = absurd (false≢true e)
+not_needed needs done p (a ∷ before) after fresh new h x e =
+    let parts : (list_all (is_in done) (needs a) ≡ true) × (is_ready needs (a ∷ done) (before ++ p ∷ after) ≡ true) = and_parts (list_all (is_in done) (needs a)) (is_ready needs (a ∷ done) (before ++ p ∷ after)) h in
+    let others : ((a == p) ≡ false) × (is_in before p ≡ false) = or_parts (a == p) (is_in before p) new in
+    in_either (a == x) (is_in before x)
+    (λ k. ap (λ y. is_in (needs y) p) (sym (eqb-true a x k)) ∙ fails (is_in (needs a) p) (λ m. false≢true (sym fresh ∙ all_pass (is_in done) (needs a) p parts.0 m)))
+    (λ k. not_needed needs (a ∷ done) p before after (in_neither (a == p) (is_in done p) others.0 fresh) others.1 parts.1 x k) e
+
+-- The theorem, over the numbers of a plan.
+
+-- numbers of which none is twice in the list
+abbrev Distinct : List ℕ → Type 0
+Distinct [] = Unit {0}
+Distinct (p ∷ ps) = (is_in ps p ≡ false) × Distinct ps
+
+-- each later command needs the earlier ones that it must follow
+abbrev Needed : (ℕ → Files) → (ℕ → List ℕ) → List ℕ → Type 0
+Needed files needs [] = Unit {0}
+Needed files needs (p ∷ ps) = ((x : ℕ) → is_in ps x ≡ true → must_follow (files p) (files x) ≡ true → is_in (needs x) p ≡ true) × Needed files needs ps
+
+record Same (files : ℕ → Files) (effects : ℕ → Effect) (one other : List ℕ) (c : Contents) : Type 0 where
+  leaves : contents_after effects one c ≡ contents_after effects other c
+  reads : (k : ℕ) → contents_read files effects k one c ≡ contents_read files effects k other c
+
+agree : (plan : List Files) (files : ℕ → Files) (needs : ℕ → List ℕ) (effects : ℕ → Effect) (ps os done : List ℕ)
+    → Distinct ps → ((n : ℕ) → times n os ≡ times n ps) → ((n : ℕ) → is_in ps n ≡ true → is_in done n ≡ false) → Needed files needs ps
+    → ((n : ℕ) → is_in ps n ≡ true → Fits plan (files n) (effects n)) → is_ready needs done os ≡ true
+    → (c : Contents) → Same files effects os ps c
+agree plan files needs effects [] [] done distinct same fresh needed fits ready c = record { leaves = refl; reads = λ k. refl }
+agree plan files needs effects [] (x ∷ xs) done distinct same fresh needed fits ready c =
+    let count = same x in
+    let here = times-cons x x xs in
+    let one = mark-same x in
+    let none = times-nil x in
+    absurd (omega arith)
+agree plan files needs effects (p ∷ ps) os done distinct same fresh needed fits ready c =
+    let counted : 1 ≤ times p (p ∷ ps) = times-in p (p ∷ ps) (at_head p ps) in
+    let count = same p in
+    let s : Split p os = split p os (in-times p os (omega arith)) in
+    let rest : List ℕ = s.before ++ s.after in
+    let whole : is_ready needs done (s.before ++ p ∷ s.after) ≡ true = subst (λ (xs : List ℕ). is_ready needs done xs ≡ true) s.is ready in
+    let same_rest : ((n : ℕ) → times n (s.before ++ s.after) ≡ times n ps) =
+    λ n.
+    let all = same n in
+    let cut : times n os ≡ times n (s.before ++ p ∷ s.after) = ap (times n) s.is in
+    let a = times-append n s.before (p ∷ s.after) in
+    let b = times-append n s.before s.after in
+    let d = times-cons n p s.after in
+    let e = times-cons n p ps in
+    omega arith in
+    let later : ((x : ℕ) → is_in s.before x ≡ true → is_in ps x ≡ true) =
+    λ x k.
+    let some : 1 ≤ times x s.before = times-in x s.before k in
+    let b = times-append x s.before s.after in
+    let all = same_rest x in
+    in-times x ps (omega arith) in
+    let unneeded : ((x : ℕ) → is_in s.before x ≡ true → is_in (needs x) p ≡ false) = not_needed needs done p s.before s.after (fresh p (at_head p ps)) s.new whole in
+    let exchanges : ((x : ℕ) → is_in s.before x ≡ true → Exchange files effects p x) =
+    λ x k. exchange plan files effects p x (fits p (at_head p ps)) (fits x (each_below p ps x (later x k)))
+    (apart_if_free (files p) (files x) (fails (must_follow (files p) (files x)) (λ m. false≢true (sym (unneeded x k) ∙ needed.0 x (later x k) m)))) in
+    let fresh_rest : ((n : ℕ) → is_in ps n ≡ true → is_in (p ∷ done) n ≡ false) =
+    λ n k. in_neither (p == n) (is_in done n)
+    (fails (p == n) (λ m. false≢true (sym distinct.0 ∙ (ap (is_in ps) (eqb-true p n m) ∙ k))))
+    (fresh n (each_below p ps n k)) in
+    let ih : Same files effects rest ps (effects p c) =
+    agree plan files needs effects ps rest (p ∷ done) distinct.1 same_rest fresh_rest needed.1 (λ n k. fits n (each_below p ps n k)) (ready_moved needs done p s.before s.after whole) (effects p c) in
+    record {
+      leaves = ap (λ (xs : List ℕ). contents_after effects xs c) s.is ∙ moved files effects p s.before s.after exchanges c ∙ ih.leaves;
+      reads = λ k. ap (λ (xs : List ℕ). contents_read files effects k xs c) s.is ∙ moved_reads files effects k p s.before s.after s.new exchanges c ∙ ap (cond (p == k) (Some (map c (files p).reads))) (ih.reads k);
+    }
+
+-- Plans.
+
+pub in_range : (a n x : ℕ) → is_in (range_with_len a n) x ≡ true → (a ≤ x) × (x < a + n)
+in_range a zero x e = absurd (false≢true e)
+in_range a (suc n) x e =
+    in_either (a == x) (is_in (range_with_len (a + 1) n) x)
+    (λ k. let same = eqb-true a x k in (omega arith, omega arith))
+    (λ k. let ih : (a + 1 ≤ x) × (x < (a + 1) + n) = in_range (a + 1) n x k in (omega arith, omega arith)) e
+
+range_is_distinct : (a n : ℕ) → Distinct (range_with_len a n)
+range_is_distinct a zero = tt
+range_is_distinct a (suc n) =
+    (fails (is_in (range_with_len (a + 1) n) a) (λ k. let h : (a + 1 ≤ a) × (a < (a + 1) + n) = in_range (a + 1) n a k in omega arith), range_is_distinct (a + 1) n)
+
+range_is_needed : (plan : List Files) (needs : List (List ℕ)) → Hold must_follow plan needs → (a n : ℕ) → a + n ≡ length plan → Needed (files_at plan) (needs_at needs) (range_with_len a n)
+range_is_needed plan needs h a zero e = tt
+range_is_needed plan needs h a (suc n) e = (
+  λ x k m.
+      let place : (a + 1 ≤ x) × (x < (a + 1) + n) = in_range (a + 1) n x k in
+      h.needed a x (omega arith) (omega arith) m,
+  range_is_needed plan needs h (a + 1) n (omega arith),
+)
+
+known_at : (plan : List Files) (n : ℕ) (file : List ℕ) → is_among (files_at plan n).writes file ≡ true → is_written plan file ≡ true
+known_at [] n file e = absurd (false≢true e)
+known_at (f ∷ fs) zero file e = in_first (is_among f.writes file) (is_written fs file) e
+known_at (f ∷ fs) (suc n) file e = in_second (is_among f.writes file) (is_written fs file) (known_at fs n file e)
+
+pub orders_agree : OrdersAgree must_follow
+orders_agree plan needs order effects contents holds is fits =
+    let n : ℕ = length needs in
+    let bound = holds.each in
+    let same : Same (files_at plan) effects order (own_order needs) contents =
+    agree plan (files_at plan) (needs_at needs) effects (own_order needs) order []
+    (range_is_distinct 0 n)
+    (λ k. times-permutation k (own_order needs) order is.each_once)
+    (λ k e. refl)
+    (range_is_needed plan needs holds 0 n (omega arith))
+    (λ k e. let place : (0 ≤ k) × (k < 0 + length needs) = in_range 0 n k e in
+    record { within = fits k (omega arith); known = known_at plan k })
+    is.ready contents in
+    record { leaves = λ file i. same.leaves i file; reads = same.reads }

@@ -1,0 +1,105 @@
+-- Two commands each that may not change places.
+use Rattle.std.proofs.Common.{◌≡◌, ℕ, zero, suc, ◌<◌, List, [], ◌∷◌, Bool, true, false, cond, not, ◌||◌, Some, None, length, refl, sym, ap, ◌∙◌, arith}
+use Rattle.std.specs.Str.{bytes_eq}
+use Rattle.std.proofs.lemmas.Bool.{false≢true, or_parts}
+use Rattle.std.proofs.lemmas.List.Sorted.{IsPermutation-append_comm}
+use Rattle.command_files.specs.Files.{Files, touches}
+use Rattle.command_files.specs.Order.{needs_by, IsOrder, Contents, Effect, is_written, files_at, StaysWithin, OrdersAgree}
+use Rattle.command_files.specs.OrderNeeds.{but_reads_written, but_writes_read, but_writes_written}
+use Rattle.command_files.proofs.OrderLemmas.{in_either, in_first}
+use Rattle.command_files.proofs.NeedLemmas.{needs_hold}
+
+-- two files
+abbrev one_file : List ℕ
+one_file = 97 ∷ []
+
+abbrev other_file : List ℕ
+other_file = 98 ∷ []
+
+-- a command that writes a file: the same each time, or what another file holds
+abbrev puts : List ℕ → List ℕ → Effect
+puts target value contents file = cond (bytes_eq file target) (Some value) (contents file)
+
+abbrev copies : List ℕ → List ℕ → Effect
+copies target source contents file = cond (bytes_eq file target) (contents source) (contents file)
+
+abbrev putting : List ℕ → Files
+putting target = record { reads = []; writes = target ∷ [] }
+
+abbrev copying : List ℕ → List ℕ → Files
+copying target source = record { reads = source ∷ []; writes = target ∷ [] }
+
+other_than : (file target : List ℕ) → (bytes_eq file target || false) ≡ false → bytes_eq file target ≡ false
+other_than file target e = (or_parts (bytes_eq file target) false e).0
+
+that_file : (file target : List ℕ) → (bytes_eq file target || false) ≡ true → bytes_eq file target ≡ true
+that_file file target e = in_either (bytes_eq file target) false (λ k. k) (λ k. absurd (false≢true k)) e
+
+puts_within : (plan : List Files) (target value : List ℕ) → StaysWithin plan (putting target) (puts target value)
+puts_within plan target value = record {
+  changes = λ contents file e. ap (λ b. cond b (Some value) (contents file)) (other_than file target e);
+  depends = λ one other same file e. ap (λ b. cond b (Some value) (one file)) (that_file file target e) ∙ sym (ap (λ b. cond b (Some value) (other file)) (that_file file target e));
+}
+
+copies_within : (plan : List Files) (target source : List ℕ) → bytes_eq source source ≡ true → StaysWithin plan (copying target source) (copies target source)
+copies_within plan target source itself = record {
+  changes = λ contents file e. ap (λ b. cond b (contents source) (contents file)) (other_than file target e);
+  depends = λ one other same file e.
+      ap (λ b. cond b (one source) (one file)) (that_file file target e)
+      ∙ same source (in_first (touches (copying target source) source) (not (is_written plan source)) (in_first (bytes_eq source source || false) (bytes_eq source target || false) (in_first (bytes_eq source source) false itself)))
+      ∙ sym (ap (λ b. cond b (other source) (other file)) (that_file file target e));
+}
+
+-- two commands, and what two orders of them leave
+abbrev two : Effect → Effect → ℕ → Effect
+two a b zero = a
+two a b (suc n) = b
+
+two_stay : (f g : Files) (a b : Effect) → StaysWithin (f ∷ g ∷ []) f a → StaysWithin (f ∷ g ∷ []) g b → (n : ℕ) → n < length (f ∷ g ∷ []) → StaysWithin (f ∷ g ∷ []) (files_at (f ∷ g ∷ []) n) (two a b n)
+two_stay f g a b s t zero h = s
+two_stay f g a b s t (suc zero) h = t
+two_stay f g a b s t (suc (suc n)) h = absurd (omega arith)
+
+abbrev nothing : Contents
+nothing file = None
+
+-- orders by a test at which neither needs the other leave the same
+exchanged : (test : Files → Files → Bool) (f g : Files) (a b : Effect) → OrdersAgree test → IsOrder (needs_by test (f ∷ g ∷ [])) (1 ∷ 0 ∷ []) → StaysWithin (f ∷ g ∷ []) f a → StaysWithin (f ∷ g ∷ []) g b → (file : List ℕ) → a (b nothing) file ≡ b (a nothing) file
+exchanged test f g a b h order s t file =
+    (h (f ∷ g ∷ []) (needs_by test (f ∷ g ∷ [])) (1 ∷ 0 ∷ []) (two a b) nothing (needs_hold test (f ∷ g ∷ [])) order (two_stay f g a b s t)).leaves file
+
+abbrev one : List ℕ
+one = []
+
+abbrev another : List ℕ
+another = 97 ∷ []
+
+pub reads_must_follow : OrdersAgree but_reads_written → ⊥
+reads_must_follow h =
+    let same : None ≡ Some one =
+    exchanged but_reads_written (putting one_file) (copying other_file one_file) (puts one_file one) (copies other_file one_file) h
+    (record { each_once = IsPermutation-append_comm (0 ∷ []) (1 ∷ []); ready = refl })
+    (puts_within (putting one_file ∷ copying other_file one_file ∷ []) one_file one)
+    (copies_within (putting one_file ∷ copying other_file one_file ∷ []) other_file one_file refl)
+    other_file in
+    cc
+
+pub writes_must_follow_reads : OrdersAgree but_writes_read → ⊥
+writes_must_follow_reads h =
+    let same : Some one ≡ None =
+    exchanged but_writes_read (copying other_file one_file) (putting one_file) (copies other_file one_file) (puts one_file one) h
+    (record { each_once = IsPermutation-append_comm (0 ∷ []) (1 ∷ []); ready = refl })
+    (copies_within (copying other_file one_file ∷ putting one_file ∷ []) other_file one_file refl)
+    (puts_within (copying other_file one_file ∷ putting one_file ∷ []) one_file one)
+    other_file in
+    cc
+
+pub writes_must_follow_writes : OrdersAgree but_writes_written → ⊥
+writes_must_follow_writes h =
+    let same : Some one ≡ Some another =
+    exchanged but_writes_written (putting one_file) (putting one_file) (puts one_file one) (puts one_file another) h
+    (record { each_once = IsPermutation-append_comm (0 ∷ []) (1 ∷ []); ready = refl })
+    (puts_within (putting one_file ∷ putting one_file ∷ []) one_file one)
+    (puts_within (putting one_file ∷ putting one_file ∷ []) one_file another)
+    one_file in
+    cc
