@@ -3,7 +3,7 @@ PREFIX ?= /usr/local
 DESTDIR ?=
 target = $(DESTDIR)$(PREFIX)
 
-.PHONY: help demo build install uninstall bench fuzz must-fail refused-memory end-to-end test-install test
+.PHONY: help demo build install uninstall dist bench fuzz must-fail refused-memory end-to-end test-install dist-test test
 
 help:
 	@echo 'make demo             run cudaplan, unproved, on two calls; a minute from a fresh clone'
@@ -16,6 +16,8 @@ help:
 	@echo 'make refused-memory   run the test cases again and again, each time with another allocation failing'
 	@echo 'make end-to-end       compare zigrunk-nvcc with nvcc; needs nvcc and ninja on the path'
 	@echo 'make test-install     install into an empty directory, run the programs from there, uninstall'
+	@echo 'make dist             pack the built programs: a tarball, a Debian package and their checksums, in dist/'
+	@echo 'make dist-test        install the Debian package in fresh Debian roots, run it there, remove it; needs root'
 	@echo 'make bench            time calls of the library'
 
 # A cicc line that is read and written back, and the plan of two real dry runs: the calls in demo/.
@@ -37,6 +39,7 @@ install:
 	install -D -m 755 bin/zigrunk-nvcc "$(target)/bin/zigrunk-nvcc"
 	install -D -m 644 man/zigrunk.1 "$(target)/share/man/man1/zigrunk.1"
 	ln -sf zigrunk.1 "$(target)/share/man/man1/zigrunk-nvcc.1"
+	ln -sf zigrunk.1 "$(target)/share/man/man1/cudaplan.1"
 	install -D -m 644 completions/zigrunk.bash "$(target)/share/bash-completion/completions/zigrunk"
 	ln -sf zigrunk "$(target)/share/bash-completion/completions/cudaplan"
 	ln -sf zigrunk "$(target)/share/bash-completion/completions/zigrunk-nvcc"
@@ -44,7 +47,7 @@ install:
 
 uninstall:
 	rm -f "$(target)/bin/cudaplan" "$(target)/bin/zigrunk" "$(target)/bin/zigrunk-nvcc"
-	rm -f "$(target)/share/man/man1/zigrunk.1" "$(target)/share/man/man1/zigrunk-nvcc.1"
+	rm -f "$(target)/share/man/man1/zigrunk.1" "$(target)/share/man/man1/zigrunk-nvcc.1" "$(target)/share/man/man1/cudaplan.1"
 	rm -f "$(target)/share/bash-completion/completions/zigrunk" "$(target)/share/bash-completion/completions/cudaplan"
 	rm -f "$(target)/share/bash-completion/completions/zigrunk-nvcc" "$(target)/share/zsh/site-functions/_zigrunk"
 
@@ -71,6 +74,14 @@ refused-memory: build
 # Calls of nvcc and of zigrunk-nvcc side by side: exit statuses, the files they make, and what is in them.
 end-to-end:
 	@tests/end_to_end.sh
+
+# Proves nothing. Two runs from one commit give the same bytes.
+dist:
+	@.ci/built check || $(MAKE) build
+	@packaging/dist.sh
+
+dist-test:
+	@packaging/test.sh
 
 test-install:
 	@.ci/built check || $(MAKE) build

@@ -1,0 +1,79 @@
+#!/usr/bin/env bash
+# Packs the built programs: dist/zigrunk-VERSION-x86_64-linux.tar.gz, dist/zigrunk_VERSION_amd64.deb and dist/SHA256SUMS.
+# Proves and builds nothing. Two runs from one commit give the same bytes: files have the time SOURCE_DATE_EPOCH, which is
+# that of the commit unless it is set.
+set -eu
+cd "$(dirname "$0")/.."
+if ! .ci/built check; then
+    echo 'crates/*/out lack the programs that these sources make; make build proves and builds them' >&2
+    exit 1
+fi
+umask 022
+export LC_ALL=C TZ=UTC
+version=$(cat VERSION)
+export SOURCE_DATE_EPOCH=${SOURCE_DATE_EPOCH:-$(git log -1 --format=%ct)}
+scratch=$(mktemp -d)
+trap 'rm -rf "$scratch"' EXIT
+rm -rf dist
+mkdir dist
+
+# The oldest glibc with all versions of symbols that the programs need.
+glibc=$(objdump -T crates/cudaplan/out/cudaplan crates/zigrunk/out/zigrunk | grep -o 'GLIBC_[0-9.]*' | sed 's/GLIBC_//' | sort -V | tail -n 1)
+
+# date_all FOLDER: gives everything in a folder the one time.
+date_all() {
+    find "$1" -exec touch -h -d "@$SOURCE_DATE_EPOCH" {} +
+}
+
+name=zigrunk-$version-x86_64-linux
+make -s install DESTDIR="$scratch/" PREFIX="$name"
+strip "$scratch/$name/bin/cudaplan" "$scratch/$name/bin/zigrunk"
+install -m 644 packaging/README LICENSE NOTICE CHANGELOG.md "$scratch/$name"
+date_all "$scratch/$name"
+tar -c -C "$scratch" --sort=name --format=ustar --owner=0 --group=0 --numeric-owner "$name" | gzip -n -9 > "dist/$name.tar.gz"
+
+root=$scratch/root
+doc=$root/usr/share/doc/zigrunk
+make -s install DESTDIR="$root" PREFIX=/usr
+strip "$root/usr/bin/cudaplan" "$root/usr/bin/zigrunk"
+mkdir -p "$root/usr/share/zsh/vendor-completions" "$doc" "$root/DEBIAN"
+mv "$root/usr/share/zsh/site-functions/_zigrunk" "$root/usr/share/zsh/vendor-completions"
+rmdir "$root/usr/share/zsh/site-functions"
+for page in "$root"/usr/share/man/man1/*.1; do
+    if [ -h "$page" ]; then
+        ln -s "$(readlink "$page").gz" "$page.gz" && rm "$page"
+    else
+        gzip -n -9 "$page"
+    fi
+done
+install -m 644 packaging/copyright NOTICE "$doc"
+{
+    printf 'zigrunk (%s) unstable; urgency=medium\n\n  * See https://keepachangelog.com: CHANGELOG.md of the sources.\n\n' "$version"
+    printf ' -- Zigrunk maintainers <maintainers@users.noreply.zigrunk.example>  %s\n' "$(date -u -R -d "@$SOURCE_DATE_EPOCH")"
+} | gzip -n -9 > "$doc/changelog.gz"
+gzip -n -9 < CHANGELOG.md > "$doc/CHANGELOG.md.gz"
+cat > "$root/DEBIAN/control" << END
+Package: zigrunk
+Version: $version
+Architecture: amd64
+Maintainer: Zigrunk maintainers <maintainers@users.noreply.zigrunk.example>
+Installed-Size: $(find "$root/usr" -type f -printf '%s\n' | awk '{ size += $1 } END { print int(size / 1024) + 1 }')
+Depends: libc6 (>= $glibc), libgcc-s1, ninja-build
+Suggests: sccache, slurm-client
+Section: devel
+Priority: optional
+Description: split nvcc calls into their commands
+ nvcc is a driver: for each GPU architecture it runs a preprocessor, cicc and
+ ptxas, and then joins the results into one object. Zigrunk parses nvcc's two
+ dry runs and splits the call into those commands, so that independent ones run
+ in parallel and cacheable ones go through a compiler cache.
+ .
+ zigrunk-nvcc does so in place of nvcc; zigrunk writes Ninja files, shell
+ scripts and JSON.
+END
+(cd "$root" && find usr -type f -print0 | sort -z | xargs -0 md5sum > DEBIAN/md5sums)
+date_all "$root"
+dpkg-deb --root-owner-group -Zxz --build "$root" "dist/zigrunk_${version}_amd64.deb" > /dev/null
+(cd dist && sha256sum -- *.tar.gz *.deb > SHA256SUMS)
+echo "The programs need glibc $glibc."
+ls -l dist
