@@ -3,7 +3,7 @@ PREFIX ?= /usr/local
 DESTDIR ?=
 target = $(DESTDIR)$(PREFIX)
 
-.PHONY: help demo build install uninstall dist bench fuzz must-fail refused-memory end-to-end test-install dist-test test
+.PHONY: help demo build install uninstall dist bench fuzz must-fail refused-memory end-to-end test-install dist-test check-docs test
 
 help:
 	@echo 'make demo             run cudaplan, unproved, on two calls; a minute from a fresh clone'
@@ -15,6 +15,7 @@ help:
 	@echo 'make fuzz             run the library on 10,000 random cases of each kind; SEED=1 COUNT=10000 FIRST=0'
 	@echo 'make refused-memory   run the test cases again and again, each time with another allocation failing'
 	@echo 'make end-to-end       compare zigrunk-nvcc with nvcc; needs nvcc and ninja on the path'
+	@echo 'make check-docs       check links, quoted code and names in the pages, and the version number'
 	@echo 'make test-install     install into an empty directory, run the programs from there, uninstall'
 	@echo 'make dist             pack the built programs: a tarball, a Debian package and their checksums, in dist/'
 	@echo 'make dist-test        install the Debian package in fresh Debian roots, run it there, remove it; needs root'
@@ -74,6 +75,10 @@ refused-memory: build
 # Calls of nvcc and of zigrunk-nvcc side by side: exit statuses, the files they make, and what is in them.
 end-to-end:
 	@tests/end_to_end.sh
+
+# The pages name files, definitions and calls; this finds names that aren't there.
+check-docs:
+	@tests/docs.py
 
 # Proves nothing. Two runs from one commit give the same bytes.
 dist:

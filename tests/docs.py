@@ -1,0 +1,146 @@
+#!/usr/bin/env python3
+"""Checks that the pages say what is there: links, quoted code, names of files, definitions and calls, and the version number.
+
+Prints a line for each finding, and last 'N passed, M failed': a page or a kind of check counts once. The status is 1 if one failed.
+"""
+
+import os
+import re
+import sys
+
+TOP = os.path.realpath(f"{os.path.dirname(os.path.realpath(__file__))}/..")
+PAGES = ["README.md", "CHANGELOG.md", "CONTRIBUTING.md", *(f"docs/{name}" for name in sorted(os.listdir(f"{TOP}/docs")) if name.endswith(".md"))]
+
+
+def text_of(path):
+    with open(f"{TOP}/{path}", encoding="utf-8") as file:
+        return file.read()
+
+
+def files_below(folder, suffix):
+    """Returns the files below a folder with a suffix, as paths below it without the suffix."""
+    found = []
+    for place, _, names in os.walk(f"{TOP}/{folder}"):
+        found += [os.path.relpath(f"{place}/{name}", f"{TOP}/{folder}").removesuffix(suffix) for name in names if name.endswith(suffix)]
+    return sorted(found)
+
+
+def words_in_code(text):
+    return re.findall(r"`([^`\n]+)`", text)
+
+
+def crates():
+    lines = (line.split("#")[0] for line in text_of("crates.txt").splitlines())
+    return [line.split(":")[0].split()[0] for line in lines if ":" in line]
+
+
+def sources_of(crate):
+    return [name for name in files_below(f"crates/{crate}/src", ".rt") if name not in ("lib", "main")]
+
+
+def specs_of(crate):
+    return [name.replace("/", ".") for name in files_below(f"crates/{crate}/specs", ".antt") if name != "Lib"]
+
+
+def anchor(heading):
+    return re.sub(r"[^\w\- ]", "", heading.strip().lower()).replace(" ", "-")
+
+
+def links(page):
+    """Links to files and headings that aren't there."""
+    text = re.sub(r"```.*?```", "", text_of(page), flags=re.DOTALL)
+    for link in re.findall(r"\]\(([^)]+)\)", text):
+        if "://" in link:
+            continue
+        path, _, heading = link.partition("#")
+        target = os.path.normpath(f"{os.path.dirname(page)}/{path}") if path else page
+        if not os.path.exists(f"{TOP}/{target}"):
+            yield f"no such file: {link}"
+        elif heading and heading not in map(anchor, re.findall(r"^#+ (.*)$", text_of(target), re.MULTILINE)):
+            yield f"no such heading: {link}"
+
+
+def calling():
+    """Lines of quoted code that aren't in the sources of the callers."""
+    def lines(text):
+        return [" ".join(line.split()) for line in text.splitlines() if line.strip()]
+
+    there = {line for name in files_below("crates/test_callers/src", ".rt") for line in lines(text_of(f"crates/test_callers/src/{name}.rt"))}
+    for block in re.findall(r"```rust\n(.*?)```", text_of("docs/CALLING.md"), re.DOTALL):
+        for line in lines(block):
+            if line not in there:
+                yield f"CALLING quotes a line that test_callers lacks: {line}"
+
+
+def architecture():
+    """Crates and files that ARCHITECTURE lacks, and files that it names but aren't there."""
+    text = text_of("docs/ARCHITECTURE.md")
+    tables = dict(re.findall(r"^`(\w+)`\n\n((?:\|.*\n)+)", text, re.MULTILINE))
+    named = set(re.findall(r"\w+", text))
+    for crate in {*tables} - {*crates()}:
+        yield f"ARCHITECTURE has a table for a crate that isn't there: {crate}"
+    for crate in crates():
+        if crate not in named:
+            yield f"ARCHITECTURE lacks the crate {crate}"
+        sources, specs = sources_of(crate), specs_of(crate)
+        if crate not in tables:
+            lacks = [name for name in sources + specs if not set(re.findall(r"\w+", name)) <= named]
+            yield from (f"ARCHITECTURE lacks {crate}'s {name}" for name in lacks)
+            continue
+        rows = [row.split("|") for row in tables[crate].splitlines()[2:]]
+        in_tables = {word for row in rows for word in words_in_code(row[1])}, {word for row in rows for word in words_in_code(row[3])}
+        elsewhere = {*crates()}.union(*(specs_of(word) for word in in_tables[1] if word in crates()))
+        parents = {name.split("/")[0] for name in sources if "/" in name}
+        for kind, there, words in (("source", sources, in_tables[0]), ("specs", specs, in_tables[1])):
+            yield from (f"ARCHITECTURE lacks {crate}'s {kind} {name}" for name in there if name not in words and name not in parents)
+            yield from (f"ARCHITECTURE names {crate}'s {kind} {word}, which isn't there" for word in words if word not in there and word not in elsewhere)
+
+
+def definitions():
+    """Files of specs that DEFINITIONS names but aren't there."""
+    for paragraph in re.findall(r"^(`\w+`: (?:.+\n)+)", text_of("docs/DEFINITIONS.md"), re.MULTILINE):
+        crate = ""
+        for part in " ".join(paragraph.split()).split(";"):
+            if match := re.match(r" ?`(\w+)`: ", part):
+                crate, part = match[1], part[match.end():]
+            if crate in crates():
+                yield from (f"DEFINITIONS names {crate}'s {word}, which isn't there" for word in words_in_code(part)
+                            if not word.startswith("declared.") and word not in specs_of(crate))
+
+
+def words(page):
+    """Words in code that no source and no definition has."""
+    there = {*crates()}
+    for crate in crates():
+        for folder, suffix in (("src", ".rt"), ("specs", ".antt")):
+            for name in files_below(f"crates/{crate}/{folder}", suffix):
+                there.add(name.split("/")[-1])
+                there.update(re.findall(r"\w+", text_of(f"crates/{crate}/{folder}/{name}{suffix}")))
+    for word in {*words_in_code(text_of(page))}:
+        if re.fullmatch(r"[A-Za-z_]\w+", word) and word not in there:
+            yield f"{page} names {word}, which isn't there"
+
+
+def version():
+    """Places whose version isn't that of VERSION."""
+    number = text_of("VERSION").strip()
+    places = {"CHANGELOG.md": f"## [{number}]", "crates/zigrunk/src/page.rt": f"zigrunk {number}\\n",
+              **{f"man/{name}": f'"zigrunk {number}"' for name in os.listdir(f"{TOP}/man")}}
+    yield from (f"{place} lacks {text!r}" for place, text in places.items() if text not in text_of(place))
+
+
+def main():
+    checks = [(links, page) for page in PAGES] + [(calling,), (architecture,), (definitions,), (version,)]
+    checks += [(words, page) for page in ("docs/DEFINITIONS.md", "docs/GUARANTEES.md")]
+    failed = 0
+    for check, *page in checks:
+        found = sorted({*check(*page)})
+        failed += bool(found)
+        for line in found:
+            print(f"{page[0]}: {line}" if check is links else line)
+    print(f"{len(checks) - failed} passed, {failed} failed")
+    return 1 if failed else 0
+
+
+if __name__ == "__main__":
+    sys.exit(main())
