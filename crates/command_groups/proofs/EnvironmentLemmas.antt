@@ -5,7 +5,7 @@ use Rattle.std.specs.Prelude.{Option, Some, None, option_map, if◌then◌else�
 use Rattle.std.specs.Str.{bytes_eq}
 use Rattle.texts.specs.Variables.{pair_of}
 use Rattle.dry_runs.specs.Environment.{Variable, with_variable}
-use Rattle.command_groups.specs.EnvironmentPlace.{first_place}
+use Rattle.command_groups.specs.EnvironmentPlace.{variable_place}
 
 unknown-step : (b : Bool) (e : Variable) (es : List Variable) (v : Variable) (p : Option ℕ) → (p ≡ None → with_variable es v ≡ es ++ v ∷ []) → (if b then Some 0 else option_map suc p) ≡ None →
     (if b then (e.0, v.1) ∷ es else e ∷ with_variable es v) ≡ e ∷ (es ++ v ∷ [])
@@ -14,9 +14,9 @@ unknown-step false e es v None rest h = ap (λ t. e ∷ t) (rest refl)
 unknown-step false e es v (Some n) rest h = absurd (none-some (suc n) (sym h))
 
 -- a variable of a new name comes last
-pub set-unknown : (es : List Variable) (v : Variable) → first_place v.0 es ≡ None → with_variable es v ≡ es ++ v ∷ []
+pub set-unknown : (es : List Variable) (v : Variable) → variable_place v.0 es ≡ None → with_variable es v ≡ es ++ v ∷ []
 set-unknown [] v h = refl
-set-unknown (e ∷ es) v h = unknown-step (bytes_eq e.0 v.0) e es v (first_place v.0 es) (set-unknown es v) h
+set-unknown (e ∷ es) v h = unknown-step (bytes_eq e.0 v.0) e es v (variable_place v.0 es) (set-unknown es v) h
 
 abbrev Pair : Type 0
 Pair = String Global × String Global
@@ -31,8 +31,8 @@ known-step false e es name value zero x d (Some n) rest is h = absurd (omega (ar
 known-step false e es name value (suc place) x d (Some n) rest is h = ap (λ t. pair_of e ∷ t) (rest place is (ap Some (omega (arith, same_Some (suc n) (suc place) h))))
 
 -- the first variable of a known name gets the new value, and keeps its name
-pub set-known : (es : List Pair) (name : List ℕ) (value : String Global) (place : ℕ) (x d : Pair) → x ≡ slice_index_or es place d → first_place name (map pair_of es) ≡ Some place →
+pub set-known : (es : List Pair) (name : List ℕ) (value : String Global) (place : ℕ) (x d : Pair) → x ≡ slice_index_or es place d → variable_place name (map pair_of es) ≡ Some place →
     map pair_of (slice_set es place (x.0, value)) ≡ with_variable (map pair_of es) (name, string_bytes value)
 set-known [] name value place x d is h = absurd (none-some place h)
 set-known (e ∷ es) name value place x d is h =
-    known-step (bytes_eq (string_bytes e.0) name) e es name value place x d (first_place name (map pair_of es)) (λ n is' h'. set-known es name value n x d is' h') is h
+    known-step (bytes_eq (string_bytes e.0) name) e es name value place x d (variable_place name (map pair_of es)) (λ n is' h'. set-known es name value n x d is' h') is h

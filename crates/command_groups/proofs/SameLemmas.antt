@@ -6,8 +6,8 @@ use Rattle.std.proofs.lemmas.Bool.{eqb-true, eq-eqb}
 use Rattle.std.proofs.lemmas.Bool.Decides.{Decides-and, Decides-like}
 use Rattle.std.proofs.lemmas.Slice.Eq.{bytes_eq-Decides}
 use denote.Enum.Bare.{sameb, same_true, true_same}
-use Rattle.cuda_below.specs.contracts.command.Cacheable as cacheable
-use Rattle.cuda_below.specs.declared.command.Cacheable.{Cacheable}
+use Rattle.compilers.specs.contracts.command.Cacheable as cacheable
+use Rattle.compilers.specs.declared.command.Cacheable.{Cacheable}
 use Rattle.texts.specs.Equality.{TellsEqual}
 use Rattle.texts.proofs.EqualityLemmas.{lists, same_variables, variables}
 use Rattle.command_groups.specs.contracts.plan.Reason as reason

@@ -10,8 +10,8 @@ use Rattle.std.proofs.lemmas.List.Elements.{Contains-append_left}
 use Rattle.std.proofs.lemmas.List.Folds.{list_any-append}
 use Rattle.std.proofs.lemmas.List.Sorted.{Contains-permutation}
 use Rattle.std.proofs.lemmas.Slice.Eq.{bytes_eq-Decides}
-use Rattle.cuda_below.specs.declared.compiler.NvccHostCompiler.{NvccHostCompiler}
-use Rattle.cuda_below.specs.declared.compiler.NvccHostCompiler.TheVariants.{Gcc, Msvc, Nvhpc}
+use Rattle.compilers.specs.declared.compiler.NvccHostCompiler.{NvccHostCompiler}
+use Rattle.compilers.specs.declared.compiler.NvccHostCompiler.TheVariants.{Gcc, Msvc, Nvhpc}
 use Rattle.texts.specs.DeviceFiles.{is_cicc_word}
 use Rattle.texts.specs.Lists.{is_some_and, first_word, word_after}
 use Rattle.texts.specs.ObjectFlags.{makes_objects}

@@ -3,6 +3,6 @@ use Rattle.std.specs.Prelude.{ℕ, suc, List, [], ◌∷◌, Option, Some, None,
 use Rattle.std.specs.Str.{bytes_eq}
 
 -- the place of the first variable of a name
-abbrev pub first_place : List ℕ → List (List ℕ × List ℕ) → Option ℕ
-first_place name [] = None
-first_place name (e ∷ es) = if bytes_eq e.0 name then Some 0 else option_map suc (first_place name es)
+abbrev pub variable_place : List ℕ → List (List ℕ × List ℕ) → Option ℕ
+variable_place name [] = None
+variable_place name (e ∷ es) = if bytes_eq e.0 name then Some 0 else option_map suc (variable_place name es)

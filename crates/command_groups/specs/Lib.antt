@@ -1,4 +1,3 @@
-pub mod CallView
 pub mod Cutting
 pub mod CuttingView
 pub mod EntryView
@@ -18,8 +17,10 @@ pub mod PlanNeeds
 pub mod PlanOfBytes
 pub mod PlanOfBytesRows
 pub mod PlanRows
+pub mod Reasons
 pub mod Selection
 pub mod SelectionRows
+pub mod SettingView
 pub mod ShadowLaws
 pub mod ShadowRows
 pub mod Stage

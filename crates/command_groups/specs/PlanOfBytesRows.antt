@@ -2,16 +2,18 @@
 use Rattle.std.proofs.Common.{◌≡◌, ℕ, List, [], ◌∷◌, ◌++◌, Option, Some, None, Result, Ok, Err, codes, refl}
 use Rattle.texts.specs.declared.fault.Fault.{Fault}
 use Rattle.texts.specs.declared.fault.Fault.TheVariants.{NoPath, BadShell}
-use Rattle.cuda_below.specs.declared.compiler.NvccHostCompiler.TheVariants.{Gcc}
-use Rattle.cuda_below.specs.declared.command.Cacheable.TheVariants.{Yes, No}
+use Rattle.compilers.specs.declared.compiler.NvccHostCompiler.TheVariants.{Gcc}
+use Rattle.compilers.specs.declared.command.Cacheable.TheVariants.{Yes, No}
 use Rattle.command_groups.specs.declared.plan.Plan.{Plan}
 use Rattle.command_groups.specs.declared.plan.Reason.TheVariants.{NotCuda, NoCiccGroup, NoPtxasGroup}
 use Rattle.dry_runs.specs.Computing.{dry_runs_compute}
 use Rattle.dry_runs.specs.FirstDir.{first_dir}
+use Rattle.canonical_names.specs.AlikeRows.{one_kernel_is_alike}
 use Rattle.canonical_names.specs.Generated.{standard_suffixes}
 use Rattle.dry_runs.specs.OneKernel as bytes
+use Rattle.command_groups.specs.PlanLaws.{AreAlikeTexts}
 use Rattle.command_groups.specs.PlanOfBytes.{planning_of}
-use Rattle.command_groups.specs.PlanRows.{setting, one_kernel_plan, plan_with, runs, compiles, drops, step_and_cicc, superseded_pair}
+use Rattle.command_groups.specs.PlanRows.{setting, path_set, one_kernel_plan, plan_with, runs, compiles, drops, step_and_cicc, superseded_pair}
 
 -- two dry runs in the setting of the rows, with a keep directory or none
 abbrev pub planned_with : Option (List ℕ) → List ℕ → List ℕ → Result Plan Fault
@@ -37,6 +39,20 @@ OtherNamesFromBytes =
 pub other_names_from_bytes : OtherNamesFromBytes
 unfolding dry_runs_compute
 other_names_from_bytes = refl
+
+-- both texts are alike, as the law of alike texts asks
+abbrev pub OtherNamesAreAlike : Type 0
+OtherNamesAreAlike = AreAlikeTexts standard_suffixes first_dir (codes "/w") 1 bytes.one_kernel bytes.one_kernel_elsewhere
+
+pub other_names_are_alike : OtherNamesAreAlike
+unfolding dry_runs_compute
+other_names_are_alike = record {
+  one_says = (bytes.one_kernel_commands, path_set);
+  other_says = (bytes.one_kernel_elsewhere_commands, path_set);
+  one_is_read = refl;
+  other_is_read = refl;
+  like = record { one_is_clean = refl; other_is_clean = refl; alike = one_kernel_is_alike };
+}
 
 -- with the second run's generated files in the folder of temporary files, host commands name them there
 abbrev pub TemporaryNamesFromBytes : Type 0

@@ -2,7 +2,7 @@
 use Rattle.std.specs.Prelude.{◌≡◌, ℕ, ◌<◌, List, [], ◌∷◌, Bool, true, false, ◌&&◌, map, filter, Some, None, codes}
 use Rattle.std.specs.List.{Contains}
 use Rattle.std.specs.Str.{bytes_eq}
-use Rattle.cuda_below.specs.declared.compiler.NvccHostCompiler.{NvccHostCompiler}
+use Rattle.compilers.specs.declared.compiler.NvccHostCompiler.{NvccHostCompiler}
 use Rattle.texts.specs.Lists.{is_some_and, word_after}
 use Rattle.texts.specs.Path.{joined, is_bare, is_absolute_path, file_stem_of}
 use Rattle.dry_runs.specs.CommandLines.{CommandLine, line_of, program_of, words_of_command}

@@ -1,8 +1,9 @@
 -- Shadow runs worked out by hand, for the folder `/t`: where cicc stands beside the step that makes its input, and where it
 -- doesn't, since one premise is missing.
-use Rattle.std.proofs.Common.{◌≡◌, ℕ, List, [], ◌∷◌, None, true, false, map, filter, refl, codes}
+use Rattle.std.proofs.Common.{◌≡◌, ℕ, List, [], ◌∷◌, None, true, false, map, filter, refl, codes, lit<}
 use Rattle.std.specs.List.{list_all}
-use Rattle.cuda_below.specs.declared.compiler.NvccHostCompiler.TheVariants.{Gcc}
+use Rattle.std.proofs.lemmas.List.Elements.{Contains-push}
+use Rattle.compilers.specs.declared.compiler.NvccHostCompiler.TheVariants.{Gcc}
 use Rattle.texts.specs.Path.{joined, is_bare}
 use Rattle.dry_runs.specs.CommandLines.{CommandLine}
 use Rattle.dry_runs.specs.OneKernel.{at, one_kernel_commands}
@@ -15,7 +16,7 @@ use Rattle.command_groups.specs.Fate.{Fate, front, device, final, ungrouped, fat
 use Rattle.command_groups.specs.Plan.{PlanSetting, staged_commands}
 use Rattle.command_groups.specs.PlanOfBytes.{named}
 use Rattle.command_groups.specs.PlanRows.{setting}
-use Rattle.command_groups.specs.ShadowLaws.{is_step_to}
+use Rattle.command_groups.specs.ShadowLaws.{is_step_to, IsFedBy}
 
 abbrev pub shadow_setting : PlanSetting
 shadow_setting = setting Gcc (codes "-c")
@@ -32,11 +33,17 @@ abbrev pub AreBothClean : List CommandLine → List CommandLine → Type 0
 AreBothClean first second = (is_clean standard_suffixes first ≡ true) × (is_clean standard_suffixes second ≡ true)
 
 -- cicc and a step that stands earlier: they stand together
+abbrev pub cicc_of_a : CommandLine
+cicc_of_a = at 2 (codes "/b/cicc") (codes "a.cpp1.ii -o a.ptx")
+
 abbrev pub one_cicc : List CommandLine
-one_cicc = at 2 (codes "/b/cicc") (codes "a.cpp1.ii -o a.ptx") ∷ []
+one_cicc = cicc_of_a ∷ []
+
+abbrev pub step_of_a : CommandLine
+step_of_a = at 1 (codes "/b/gcc") (codes "-D__CUDACC__ -E a.cu -o /t/a.cpp1.ii")
 
 abbrev pub earlier_step : List CommandLine
-earlier_step = at 1 (codes "/b/gcc") (codes "-D__CUDACC__ -E a.cu -o /t/a.cpp1.ii") ∷ []
+earlier_step = step_of_a ∷ []
 
 abbrev pub EarlierStepStandsTogether : Type 0
 EarlierStepStandsTogether =
@@ -46,6 +53,24 @@ EarlierStepStandsTogether =
 
 pub earlier_step_stands_together : EarlierStepStandsTogether
 earlier_step_stands_together = ((refl, refl), refl, refl, refl)
+
+-- they meet all premises of the laws of shadow runs
+abbrev pub EarlierStepFeedsCicc : Type 0
+EarlierStepFeedsCicc = IsFedBy standard_suffixes shadow_setting one_cicc earlier_step cicc_of_a step_of_a (codes "a.cpp1.ii")
+
+pub earlier_step_feeds_cicc : EarlierStepFeedsCicc
+earlier_step_feeds_cicc = record {
+  first_is_clean = refl;
+  second_is_clean = refl;
+  folder_is_absolute = refl;
+  cicc_stands = Contains-push [] cicc_of_a;
+  cicc_is_cicc = refl;
+  input = refl;
+  input_is_bare = refl;
+  input_is_no_option = refl;
+  one_step = refl;
+  step_is_earlier = lit< tt;
+}
 
 -- the step stands at a later line: cicc has no group
 abbrev pub later_step : List CommandLine

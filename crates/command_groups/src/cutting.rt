@@ -1,46 +1,32 @@
 //! The plan that labelled commands are cut into.
 
 ghost use Rattle.std.specs.Prelude.{◌≡◌, ℕ, ◌+◌, ◌<◌, ◌^◌, List, [], ◌∷◌, ◌++◌, map, fold, length, IfOk, OnOk, string_bytes, vec_items};
-ghost use Rattle.std.specs.Vec.Iter.{into_iter_items};
 ghost use Rattle.command_groups.specs.Cutting as spec;
-ghost use Rattle.command_groups.specs.CuttingView.{setting_seen, cut_seen};
-ghost use Rattle.command_groups.specs.Grouping.{grouped};
-ghost use Rattle.command_groups.specs.GroupingView.{labelled_seen, grouping_seen};
+ghost use Rattle.command_groups.specs.CuttingView.{cut_seen};
+ghost use Rattle.command_groups.specs.GroupingView.{labelled_seen};
 ghost use Rattle.command_groups.specs.MergedView.{command_seen};
-ghost use Rattle.command_groups.specs.Plan.{subcommand_of, plan_of_staged};
-ghost use Rattle.command_groups.specs.Stage.{staged};
+ghost use Rattle.command_groups.specs.Plan.{subcommand_of};
+ghost use Rattle.command_groups.specs.SettingView.{setting_seen};
 
-use crate::environment::Environments;
-use crate::grouping::{Grouping, Label, LabelledCommand};
+use crate::grouping::{Label, LabelledCommand};
 use crate::merge::SelectedCommand;
 use crate::openings::OpenedNames;
 use crate::plan::{Dropped, DroppedCommands, Groups, NvccGeneratedSubcommand, Plan, Reason};
-use crate::stage::{Stage, cacheable_mark};
-use cuda_below::compiler::NvccHostCompiler;
+use crate::setting::Setting;
+use crate::stage::cacheable_mark;
 use std::alloc::{AllocError, Global};
-use std::vec::IntoIter;
 use texts::text::Text;
 use texts::words::Words;
-
-/// What a plan is made for, besides the commands.
-#[derive(Drop)]
-pub struct Setting<'a> {
-    /// The working directory's path, where host compilers run.
-    pub cwd: &'a str,
-    /// The path of the folder for temporary files, where nvcc's own tools run.
-    pub tmp: &'a str,
-    /// The flag that says what nvcc compiles to.
-    pub compilation_flag: &'a str,
-    pub host_compiler: NvccHostCompiler,
-    /// The environments of the commands.
-    pub env_vars: Environments,
-}
 
 // Where the commands of a run are run.
 fn folder_of_run<'a>(setting: &Setting<'a>, run: usize) -> &'a str
     ensures { result.now ≡ spec.folder_of (setting_seen setting.now) run }
 {
-    if run == 1 { setting.tmp } else { setting.cwd }
+    if run == 1 {
+        setting.call.tmp
+    } else {
+        setting.call.cwd
+    }
 }
 
 // A labelled command as a group holds it.
@@ -54,7 +40,7 @@ fn subcommand(
     let LabelledCommand { command, stage, .. } = labelled;
     Ok(NvccGeneratedSubcommand {
         cwd: Text::copy_of(alloc, folder_of_run(setting, command.run))?,
-        env_vars: setting.env_vars.of_stage(alloc, stage)?,
+        env_vars: setting.environments.of_stage(alloc, stage)?,
         exe: Text::new(command.program),
         args: Words::from_vec(command.words),
         cacheable: cacheable_mark(stage),
@@ -152,8 +138,8 @@ impl Cut {
     }
 }
 
-// The plan of labelled commands: each group has its commands in order.
-fn plan_by_labels(
+/// The plan of labelled commands: each group has its commands in order.
+pub fn plan_by_labels(
     alloc: Global,
     setting: &Setting<'_>,
     opened: &OpenedNames,
@@ -169,29 +155,4 @@ fn plan_by_labels(
         groups: Groups::from_vec(cut.groups),
         dropped: DroppedCommands::from_vec(cut.dropped),
     })
-}
-
-/// The plan of merged commands.
-pub fn plan_of_commands(
-    alloc: Global,
-    setting: &Setting<'_>,
-    commands: IntoIter<SelectedCommand>,
-) -> Result<Plan, AllocError>
-    ensures { IfOk result (λ plan. plan ≡ plan_of_staged (setting_seen setting.now) (map (staged setting.now.host_compiler (setting_seen setting.now).flag) (map command_seen (into_iter_items commands)))) }
-{
-    let mut grouping = Grouping::with_capacity(alloc, commands.len())?;
-    for command in commands {
-        grouping.take(
-            alloc,
-            setting.host_compiler,
-            setting.compilation_flag,
-            command,
-        )?;
-    }
-    let Grouping {
-        opened,
-        labelled,
-        ..
-    } = grouping;
-    plan_by_labels(alloc, setting, &opened, labelled)
 }

@@ -15,7 +15,7 @@ use crate::plan::Reason;
 use crate::stage::{
     Stage, cicc_input, edited_words, kind_of_program, last_word, opened_name, ptxas_input, stage_of,
 };
-use cuda_below::compiler::NvccHostCompiler;
+use compilers::compiler::NvccHostCompiler;
 use std::alloc::{AllocError, Global};
 
 /// Where a command goes.

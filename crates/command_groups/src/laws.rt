@@ -5,7 +5,7 @@ ghost use Rattle.command_groups.specs.FateLaws.{EachHasOneFate, DeviceGroupsBegi
 ghost use Rattle.command_groups.specs.MergeLaws.{MergedIsInOrder, MergedAreTheSelected};
 ghost use Rattle.command_groups.specs.PlanLaws.{AlikePairsHaveOnePlan, AlikeTextsHaveOnePlan, ReadableRunsArePlanned, PlannedRunsAreReadable, FirstRunIsRefused, SecondRunIsRefused, PlannedCommandsHaveOneFate};
 ghost use Rattle.command_groups.specs.PlanNeeds.{PlansAgreeFirstUnclean, PlansAgreeSecondUnclean, PlansAgreeByAnyMap, PlansAgreeInOtherFolders, PlansAgreeWithKeepDirectory, PlansAgreeWithAnyVariables};
-ghost use Rattle.command_groups.specs.PlanOfBytesRows.{OneKernelFromBytes, OtherNamesFromBytes, TemporaryNamesFromBytes, KeptNamesFromBytes, NothingFromBytes, HostCodeFromBytes, SecondRunIsBad, FirstRunIsBad, SecondPtxasFromBytes, SupersededCiccFromBytes, StepWithoutCiccFromBytes, OutputWithASlashFromBytes, NamelessFromBytes};
+ghost use Rattle.command_groups.specs.PlanOfBytesRows.{OneKernelFromBytes, OtherNamesFromBytes, TemporaryNamesFromBytes, KeptNamesFromBytes, NothingFromBytes, HostCodeFromBytes, OtherNamesAreAlike, SecondRunIsBad, FirstRunIsBad, SecondPtxasFromBytes, SupersededCiccFromBytes, StepWithoutCiccFromBytes, OutputWithASlashFromBytes, NamelessFromBytes};
 ghost use Rattle.command_groups.specs.PlanRows.{OneKernelPlan, NamesInAFolder, NamesAsTheyAre, EmptyRuns, HostCodeAlone, ReopenedGroup, SecondPtxas, SupersededCicc, StepMakesNoPtx, SharedPtx, PreprocessesForMsvc, CompilesForGcc, CiccLosesOneWord, CiccKeepsItsWords, NotForCuda, ProgramWithoutAStem, StepWithoutAnOutput, StepWithoutAFileName, OutputWithASlash, SecondGroupIsJoined, MergedByLineAndRun, FoldedEnvironment, MarkedTwice};
 ghost use Rattle.command_groups.specs.SelectionRows as selections;
 ghost use Rattle.command_groups.specs.ShadowLaws.{ShadowsStandTogether, StepShadowsStandTogether};
@@ -115,6 +115,7 @@ pub fn worked_plans()
 pub fn worked_plans_from_bytes()
     ensures one_kernel_from_bytes { OneKernelFromBytes }
     ensures other_names_from_bytes { OtherNamesFromBytes }
+    ensures other_names_are_alike { OtherNamesAreAlike }
     ensures temporary_names_from_bytes { TemporaryNamesFromBytes }
     ensures kept_names_from_bytes { KeptNamesFromBytes }
     ensures nothing_from_bytes { NothingFromBytes }
@@ -142,12 +143,13 @@ pub fn plans_need()
 {}
 
 /// Shadow runs worked out by hand: a cicc and its step that stand together, of the one-kernel dry run
-/// with cudafe++'s stub file bare in the second run (`one_kernel`) and alone (`earlier_step`); and
-/// such as don't, since the step stands at a later line (`later_step`), two steps make the input
-/// (`two_steps`), or the input has a folder (`folder`).
+/// with cudafe++'s stub file bare in the second run (`one_kernel`) and alone (`earlier_step`), which
+/// meet all premises of `shadow` (`feeds`); and such as don't, since the step stands at a later line
+/// (`later_step`), two steps make the input (`two_steps`), or the input has a folder (`folder`).
 pub fn worked_shadows()
     ensures one_kernel { shadows.OneKernelStandsTogether }
     ensures earlier_step { shadows.EarlierStepStandsTogether }
+    ensures feeds { shadows.EarlierStepFeedsCicc }
     ensures later_step { shadows.LaterStepStandsApart }
     ensures two_steps { shadows.TwoStepsStandApart }
     ensures folder { shadows.FolderStandsApart }

@@ -2,6 +2,7 @@
 #![tactic(auto)]
 
 mod cutting;
+mod driver;
 mod environment;
 mod grouping;
 pub mod laws;
@@ -10,6 +11,7 @@ mod openings;
 mod plan;
 mod planning;
 mod select;
+mod setting;
 mod stage;
 
 pub use plan::{Dropped, DroppedCommands, Groups, NvccGeneratedSubcommand, Plan, Reason};

@@ -1,8 +1,9 @@
 //! A plan: the commands that one `nvcc` call runs, in groups, and those that it doesn't run.
 
 ghost use Rattle.std.specs.Prelude.{◌≡◌, map, vec_items, IfOk};
+ghost use Rattle.command_groups.specs.Reasons.{reason_name};
 
-use cuda_below::command::Cacheable;
+use compilers::command::Cacheable;
 use std::alloc::{AllocError, Global};
 use std::marker::Model;
 use texts::text::Text;
@@ -50,6 +51,20 @@ pub enum Reason {
     NoPtxasGroup,
     /// A command of a device group that a later preprocess step opened again.
     Superseded,
+}
+
+impl Reason {
+    /// The reason's name, as the programs print it: `NotCuda`, `NoCiccGroup`, `NoPtxasGroup` or `Superseded`.
+    pub fn name(self) -> &'static str
+        ensures { result.now ≡ reason_name self }
+    {
+        match self {
+            Reason::NotCuda => "NotCuda",
+            Reason::NoCiccGroup => "NoCiccGroup",
+            Reason::NoPtxasGroup => "NoPtxasGroup",
+            Reason::Superseded => "Superseded",
+        }
+    }
 }
 
 /// A command that stands in no group.

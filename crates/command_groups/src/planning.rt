@@ -7,18 +7,18 @@ ghost use Rattle.texts.specs.Variables.{pair_of};
 ghost use Rattle.dry_runs.specs.CommandLines.{line_of};
 ghost use Rattle.dry_runs.specs.DryRun.{dry_run_of};
 ghost use Rattle.dry_runs.specs.Reading.{dry_run_seen};
-ghost use Rattle.command_groups.specs.CallView.{call_seen};
-ghost use Rattle.command_groups.specs.CuttingView.{setting_seen};
 ghost use Rattle.command_groups.specs.MergeLaws.{Rises};
 ghost use Rattle.command_groups.specs.Plan.{staged_commands, plan_of, plan_of_staged};
 ghost use Rattle.command_groups.specs.PlanOfBytes as spec;
+ghost use Rattle.command_groups.specs.SettingView.{call_seen, setting_seen};
 
-use crate::cutting::{Setting, plan_of_commands};
+use crate::driver::plan_of_commands;
 use crate::environment::Environments;
 use crate::merge::merge;
 use crate::plan::Plan;
+use crate::setting::{Call, Setting};
 use canonical_names::{Suffixes, remap_commands};
-use cuda_below::compiler::NvccHostCompiler;
+use compilers::compiler::NvccHostCompiler;
 use dry_runs::{Commands, DryRun, Which, read_dry_run};
 use std::alloc::{AllocError, Global};
 use texts::fault::Fault;
@@ -70,16 +70,6 @@ fn plan_of_runs(
     plan_of_commands(alloc, setting, merge(alloc, first, second)?)
 }
 
-// What a plan is made for, besides the dry runs.
-#[derive(Drop)]
-struct Call<'a> {
-    cwd: &'a str,
-    tmp: &'a str,
-    compilation_flag: &'a str,
-    host_compiler: NvccHostCompiler,
-    env_vars: &'a [(String, String)],
-}
-
 // The plan of two runs that were read.
 fn plan_of_dry_runs(
     alloc: Global,
@@ -94,11 +84,8 @@ fn plan_of_dry_runs(
     ensures { IfOk result (λ plan. plan ≡ plan_of (call_seen call.now) first.env (spec.named suffixes.now (option_copied keep_dir.entry) first.commands) (spec.named suffixes.now (option_copied keep_dir.entry) second.commands)) }
 {
     let setting = Setting {
-        cwd: call.cwd,
-        tmp: call.tmp,
-        compilation_flag: call.compilation_flag,
-        host_compiler: call.host_compiler,
-        env_vars: Environments::folded(alloc, call.env_vars, first.env)?,
+        call,
+        environments: Environments::folded(alloc, call.env_vars, first.env)?,
     };
     let (first, second) = (first.commands, second.commands);
     plan_of_runs(alloc, suffixes, keep_dir, &setting, first, second)

@@ -3,17 +3,18 @@
 ghost use Rattle.std.specs.Prelude.{◌≡◌, ◌<◌, ℕ, List, nat_eq, map, length, IfOk, IfSome, string_bytes};
 ghost use Rattle.std.specs.List.{starts_with};
 ghost use Rattle.std.specs.Option.{option_copied};
-ghost use Rattle.texts.specs.Lists.{last_of, word_after as word_right_after};
+ghost use Rattle.texts.specs.Lists.{last_of};
 ghost use Rattle.command_groups.specs.Stage as spec;
 ghost use Rattle.command_groups.specs.StageView.{kind_seen, named_stage};
 ghost use Rattle.command_groups.specs.WordPlace.{word_place};
 
-use cuda_below::command::Cacheable;
-use cuda_below::compiler::NvccHostCompiler;
+use compilers::command::Cacheable;
+use compilers::compiler::NvccHostCompiler;
 use std::alloc::{AllocError, Global};
 use texts::compilation_flags::asks_object;
 use texts::device_files::{is_cicc_input, is_ptxas_input};
 use texts::text::{file_name, file_stem};
+use texts::words::word_after;
 
 /// The kinds of programs.
 #[derive(Clone, Copy)]
@@ -260,20 +261,6 @@ pub fn ptxas_input(words: &[String]) -> Option<&str>
         if is_ptxas_input(word.as_str()) {
             return Some(word.as_str());
         }
-    }
-    None
-}
-
-// The word right after the first that is `option`.
-fn word_after<'a>(words: &'a [String], option: &str) -> Option<&'a str>
-    ensures { option_copied result ≡ word_right_after option.now (map string_bytes words.now) }
-{
-    let mut follows = false;
-    for word in words {
-        if follows {
-            return Some(word.as_str());
-        }
-        follows = option == word.as_str();
     }
     None
 }

@@ -1,3 +1,1 @@
 pub mod GccLemmas
-pub mod RecordLemmas
-pub mod Sorted

@@ -4,16 +4,16 @@ use Rattle.std.specs.Prelude.{None, is_some, is_none, unwrap_or, Result, Ok, Err
 use Rattle.std.specs.Option.{option_map, option_or}
 use Rattle.texts.specs.declared.language.Language.{Language}
 use Rattle.texts.specs.declared.language.Language.TheVariants.{C, Cxx, Cuda}
-use Rattle.cuda_below.specs.declared.compiler.CCompilerKind.{CCompilerKind}
-use Rattle.cuda_below.specs.declared.compiler.CCompilerKind.TheVariants.{Nvcc}
-use Rattle.cuda_below.specs.declared.outputs.ArtifactDescriptor.{ArtifactDescriptor}
-use Rattle.cuda_below.specs.declared.arguments.ColorMode.TheVariants.{Auto}
-use Rattle.cuda_below.specs.declared.arguments.ParsedArguments.{ParsedArguments}
+use Rattle.compilers.specs.declared.compiler.CCompilerKind.{CCompilerKind}
+use Rattle.compilers.specs.declared.compiler.CCompilerKind.TheVariants.{Nvcc}
+use Rattle.compilers.specs.declared.outputs.ArtifactDescriptor.{ArtifactDescriptor}
+use Rattle.compilers.specs.declared.arguments.ColorMode.TheVariants.{Auto}
+use Rattle.compilers.specs.declared.arguments.ParsedArguments.{ParsedArguments}
 use Rattle.cuda_below.specs.declared.gcc.options.ArgData.{ArgData}
-use Rattle.cuda_below.specs.Compiler.{Reading, accepted, cannot_cache, not_compilation}
+use Rattle.compilers.specs.Compiler.{Reading, accepted, cannot_cache, not_compilation}
 use Rattle.texts.specs.Extension.{with_extension}
 use Rattle.texts.specs.Language.{language_of_file}
-use Rattle.cuda_below.specs.Outputs.{with_entry}
+use Rattle.compilers.specs.Outputs.{with_entry}
 use Rattle.option_items.specs.Table.{Entry}
 use Rattle.cuda_below.specs.GccItems.{Asked, items_to_dashes, has_double_dash, first_refusal, asked_of}
 

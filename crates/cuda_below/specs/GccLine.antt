@@ -1,7 +1,7 @@
 -- The words that gcc's arguments are written back as.
 use Rattle.std.specs.Prelude.{ℕ, List, [], ◌∷◌, ◌++◌, Bool, if◌then◌else◌, Option, Some, None, codes}
 use Rattle.texts.specs.declared.language.Language.{Language}
-use Rattle.cuda_below.specs.declared.arguments.ParsedArguments.{ParsedArguments}
+use Rattle.compilers.specs.declared.arguments.ParsedArguments.{ParsedArguments}
 use Rattle.cuda_below.specs.GccItems.{name_of_language}
 
 -- the option for the language and its name, if it has one

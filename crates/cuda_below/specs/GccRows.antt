@@ -2,16 +2,16 @@
 use Rattle.std.specs.Prelude.{◌≡◌, ℕ, List, [], ◌∷◌, Bool, true, false, Option, None, refl, codes}
 use Rattle.texts.specs.declared.language.Language.{Language}
 use Rattle.texts.specs.declared.language.Language.TheVariants.{C, Cxx, Cuda, Ptx}
-use Rattle.cuda_below.specs.declared.compiler.CCompilerKind.{CCompilerKind}
-use Rattle.cuda_below.specs.declared.compiler.CCompilerKind.TheVariants.{Nvcc, Nvhpc}
-use Rattle.cuda_below.specs.declared.arguments.ColorMode.TheVariants.{Auto}
-use Rattle.cuda_below.specs.declared.arguments.ParsedArguments.{ParsedArguments}
+use Rattle.compilers.specs.declared.compiler.CCompilerKind.{CCompilerKind}
+use Rattle.compilers.specs.declared.compiler.CCompilerKind.TheVariants.{Nvcc, Nvhpc}
+use Rattle.compilers.specs.declared.arguments.ColorMode.TheVariants.{Auto}
+use Rattle.compilers.specs.declared.arguments.ParsedArguments.{ParsedArguments}
 use Rattle.cuda_below.specs.declared.gcc.options.ArgData.{ArgData}
 use Rattle.cuda_below.specs.declared.gcc.options.ArgData.TheVariants.{Standard, DepArgumentPath}
 use Rattle.option_items.specs.declared.table.ArgDisposition.TheVariants.{Separated}
 use Rattle.option_items.specs.Table.{Entry, longest_match, longer_choice}
 use Rattle.cuda_below.specs.GccOptions.{gcc_entries, joined_by_equals}
-use Rattle.cuda_below.specs.Compiler.{Reading, accepted, cannot_cache, not_compilation}
+use Rattle.compilers.specs.Compiler.{Reading, accepted, cannot_cache, not_compilation}
 use Rattle.cuda_below.specs.Gcc.{profile_reading}
 use Rattle.cuda_below.specs.GccLine.{gcc_words}
 use Rattle.option_items.specs.Items.{raw, with_value}

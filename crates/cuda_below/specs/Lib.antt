@@ -1,13 +1,13 @@
-pub mod Arguments
-pub mod Command
-pub mod Compiler
 pub mod Gcc
 pub mod GccItems
 pub mod GccLine
 pub mod GccOptions
 pub mod GccRows
 pub mod GccSteps
-pub mod Outputs
+pub use Rattle.compilers.specs.Arguments
+pub use Rattle.compilers.specs.Command
+pub use Rattle.compilers.specs.Compiler
+pub use Rattle.compilers.specs.Outputs
 pub use Rattle.option_items.specs.ArgsIter
 pub use Rattle.option_items.specs.Items
 pub use Rattle.option_items.specs.LongestMatch
@@ -24,6 +24,7 @@ pub use Rattle.texts.specs.Lists
 pub use Rattle.texts.specs.Numeral
 pub use Rattle.texts.specs.ObjectFlags
 pub use Rattle.texts.specs.Path
+pub use Rattle.texts.specs.Results
 pub use Rattle.texts.specs.Rows
 pub use Rattle.texts.specs.Status
 pub use Rattle.texts.specs.Variables

@@ -4,7 +4,7 @@
 ghost use Rattle.std.specs.Prelude.{◌≡◌, [], false, map, IfOk, MatchResult, Ok, Err, string_bytes};
 ghost use Rattle.std.specs.Option.{option_copied};
 ghost use Rattle.option_items.specs.Items.{item_of};
-ghost use Rattle.cuda_below.specs.Compiler.{reading_of};
+ghost use Rattle.compilers.specs.Compiler.{reading_of};
 ghost use Rattle.cuda_below.specs.GccItems.{refusal_of_option, refusal_of, is_double_dash, asked_of};
 ghost use Rattle.cuda_below.specs.GccSteps.{asked_by};
 ghost use Rattle.cuda_below.specs.Gcc.{gathering, profile_reading};
@@ -16,8 +16,8 @@ pub mod laws;
 mod line;
 mod options;
 
-use crate::arguments::{CompilerArguments, ParsedArguments};
-use crate::compiler::CCompilerKind;
+use compilers::arguments::{CompilerArguments, ParsedArguments};
+use compilers::compiler::CCompilerKind;
 use gathered::Gathered;
 use languages::language_from_gcc_arg;
 pub use languages::{language_to_gcc_arg, push_language};

@@ -1,26 +1,16 @@
 //! Laws of the records.
 
 ghost use Rattle.texts.specs.Equality.{TellsEqual, TellsEqualBy};
-ghost use Rattle.cuda_below.specs.Arguments.{answer_seen};
 ghost use Rattle.option_items.specs.Items.{item_of};
 
-use crate::arguments::{ColorMode, CompilerArguments, ParsedArguments};
-use crate::command::{Cacheable, SingleCompileCommand};
-use crate::compiler::{CCompilerKind, NvccHostCompiler, Places};
 use crate::gcc::ArgData;
-use crate::outputs::{ArtifactDescriptor, Outputs};
+use compilers::arguments::ColorMode;
+use compilers::command::Cacheable;
+use compilers::compiler::{CCompilerKind, NvccHostCompiler};
+pub use compilers::laws::{answer_equality, equality};
 use option_items::items::{ArgParseError, Argument, NormalizedDisposition};
 use option_items::table::ArgDisposition;
 use texts::language::Language;
-
-/// `==` compares all fields: it says whether two values are equal.
-pub fn equality()
-    ensures artifact { TellsEqual ⟦<ArtifactDescriptor as PartialEq>⟧.eq }
-    ensures outputs { TellsEqual ⟦<Outputs as PartialEq>⟧.eq }
-    ensures arguments { TellsEqual ⟦<ParsedArguments as PartialEq>⟧.eq }
-    ensures command { TellsEqual ⟦<SingleCompileCommand as PartialEq>⟧.eq }
-    ensures places { TellsEqual ⟦<Places as PartialEq>⟧.eq }
-{}
 
 /// `==` on the enums of a word or a flag says whether two values are equal.
 pub fn enum_equality()
@@ -33,13 +23,6 @@ pub fn enum_equality()
     ensures disposition { TellsEqual ⟦<ArgDisposition as PartialEq>⟧.eq }
     ensures normalized { TellsEqual ⟦<NormalizedDisposition as PartialEq>⟧.eq }
     ensures parse_error { TellsEqual ⟦<ArgParseError as PartialEq>⟧.eq }
-{}
-
-/// `==` on what a reader answers says whether two answers are equal, if `==` does so for what they
-/// hold.
-pub fn answer_equality<T: PartialEq>()
-    requires { TellsEqual T.eq }
-    ensures { TellsEqualBy answer_seen ⟦<CompilerArguments<T> as PartialEq>⟧.eq }
 {}
 
 /// `==` on items says whether two items are equal, if `==` does so for the kinds of their options.

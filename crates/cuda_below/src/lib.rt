@@ -3,13 +3,10 @@
 //! The layers below it are handed on.
 #![tactic(auto)]
 
-pub mod arguments;
-pub mod command;
-pub mod compiler;
 pub mod gcc;
 pub mod laws;
-pub mod outputs;
 
+pub use compilers::{arguments, command, compiler, outputs};
 pub use option_items::{items, table, views};
 pub use texts::{
     bytes, compilation_flags, device_files, extension, fault, language, status, text, variables,

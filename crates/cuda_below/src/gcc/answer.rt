@@ -1,13 +1,13 @@
 //! What is answered to a gcc line, of what its items ask for.
 
 ghost use Rattle.std.specs.Prelude.{◌≡◌, ◌++◌, map, IfOk, OnOk, MatchResult, string_bytes};
-ghost use Rattle.cuda_below.specs.Compiler.{reading_of, accepted};
+ghost use Rattle.compilers.specs.Compiler.{reading_of, accepted};
 ghost use Rattle.cuda_below.specs.Gcc as spec;
 
 use super::gathered::Gathered;
-use crate::arguments::{ColorMode, CompilerArguments, ParsedArguments};
-use crate::compiler::CCompilerKind;
-use crate::outputs::{ArtifactDescriptor, Outputs};
+use compilers::arguments::{ColorMode, CompilerArguments, ParsedArguments};
+use compilers::compiler::CCompilerKind;
+use compilers::outputs::{ArtifactDescriptor, Outputs};
 use std::alloc::{AllocError, Global};
 use texts::extension::with_extension;
 use texts::language::Language;

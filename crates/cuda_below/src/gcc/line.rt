@@ -4,13 +4,13 @@ ghost use Rattle.std.specs.Prelude.{◌≡◌, ◌++◌, map, None, Err, codes, 
 ghost use Rattle.texts.specs.Variables.{pair_of};
 ghost use Rattle.texts.specs.Fault.{UnlessMemory};
 ghost use Rattle.texts.specs.declared.fault.Fault.TheVariants.{MissingOutput};
-ghost use Rattle.cuda_below.specs.Outputs.{entry_at};
-ghost use Rattle.cuda_below.specs.Command.{written};
+ghost use Rattle.compilers.specs.Outputs.{entry_at};
+ghost use Rattle.compilers.specs.Command.{written};
 ghost use Rattle.cuda_below.specs.GccLine.{flag_words, input_words, option_words, gcc_words};
 
 use super::languages::push_language;
-use crate::arguments::ParsedArguments;
-use crate::command::{Cacheable, SingleCompileCommand};
+use compilers::arguments::ParsedArguments;
+use compilers::command::{Cacheable, SingleCompileCommand};
 use std::alloc::{AllocError, Global};
 use texts::fault::Fault;
 use texts::text::Text;

@@ -2,7 +2,8 @@ use Rattle.std.proofs.Common.{◌≡◌, ◌∙◌, List, [], ap, sym, map, fold
 use Rattle.std.proofs.lemmas.List.{nil_from_length}
 use Rattle.command_groups.specs.declared.grouping.LabelledCommand.{LabelledCommand}
 use Rattle.command_groups.specs.Cutting.{plan_of_cut, with_labelled, nothing_cut}
-use Rattle.command_groups.specs.CuttingView.{setting_seen, cut_seen}
+use Rattle.command_groups.specs.CuttingView.{cut_seen}
+use Rattle.command_groups.specs.SettingView.{setting_seen}
 use Rattle.command_groups.specs.GroupingView.{labelled_seen}
 use Rattle.command_groups.proofs.cutting.plan_by_labels.Goals as goal
 

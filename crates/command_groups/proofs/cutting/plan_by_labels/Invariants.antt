@@ -1,6 +1,7 @@
 use Rattle.std.proofs.Common.{◌≡◌, ◌+◌, map, fold, length}
 use Rattle.command_groups.specs.Cutting.{with_labelled, nothing_cut}
-use Rattle.command_groups.specs.CuttingView.{setting_seen, cut_seen}
+use Rattle.command_groups.specs.CuttingView.{cut_seen}
+use Rattle.command_groups.specs.SettingView.{setting_seen}
 use Rattle.command_groups.specs.GroupingView.{labelled_seen}
 use Rattle.command_groups.proofs.cutting.plan_by_labels.Given as goal
 

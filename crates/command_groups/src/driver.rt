@@ -1,0 +1,41 @@
+//! The driver of grouping: it labels the merged commands one after the other, and then cuts them into a plan.
+
+ghost use Rattle.std.specs.Prelude.{◌≡◌, map, IfOk};
+ghost use Rattle.std.specs.Vec.Iter.{into_iter_items};
+ghost use Rattle.command_groups.specs.MergedView.{command_seen};
+ghost use Rattle.command_groups.specs.Plan.{plan_of_staged};
+ghost use Rattle.command_groups.specs.SettingView.{setting_seen};
+ghost use Rattle.command_groups.specs.Stage.{staged};
+
+use crate::cutting::plan_by_labels;
+use crate::grouping::Grouping;
+use crate::merge::SelectedCommand;
+use crate::plan::Plan;
+use crate::setting::Setting;
+use std::alloc::{AllocError, Global};
+use std::vec::IntoIter;
+
+/// The plan of merged commands.
+pub fn plan_of_commands(
+    alloc: Global,
+    setting: &Setting<'_>,
+    commands: IntoIter<SelectedCommand>,
+) -> Result<Plan, AllocError>
+    ensures { IfOk result (λ plan. plan ≡ plan_of_staged (setting_seen setting.now) (map (staged setting.now.call.now.host_compiler (setting_seen setting.now).flag) (map command_seen (into_iter_items commands)))) }
+{
+    let mut grouping = Grouping::with_capacity(alloc, commands.len())?;
+    for command in commands {
+        grouping.take(
+            alloc,
+            setting.call.host_compiler,
+            setting.call.compilation_flag,
+            command,
+        )?;
+    }
+    let Grouping {
+        opened,
+        labelled,
+        ..
+    } = grouping;
+    plan_by_labels(alloc, setting, &opened, labelled)
+}

@@ -1,0 +1,228 @@
+//! What a reader makes of a command line.
+
+ghost use Rattle.std.specs.Prelude.{◌≡◌, ◌++◌, [], IfOk, OnOk, MatchResult, Ok, Err};
+ghost use Rattle.compilers.specs.Arguments as spec;
+
+use crate::outputs::{ArtifactDescriptor, OBJ, Outputs};
+use std::alloc::{AllocError, Global};
+use texts::fault::Fault;
+use texts::language::Language;
+use texts::text::Text;
+use texts::words::Words;
+
+/// Whether a compiler colours its messages.
+#[derive(Clone, Copy, Debug, PartialEq)]
+pub enum ColorMode {
+    Off,
+    On,
+    Auto,
+}
+
+/// A command line, read: what it compiles, the files that it makes, and its words by what they are
+/// for. Words and paths are UTF-8 texts, in the order of the line.
+#[derive(Debug, PartialEq, Drop)]
+pub struct ParsedArguments {
+    /// The path of the file that is compiled, as the line gives it.
+    pub input: Text,
+    /// The files that the command makes, by their keys.
+    pub outputs: Outputs,
+    /// Whether the input stands after `--`.
+    pub double_dash_input: bool,
+    /// The input's language, or what the tool makes of it.
+    pub language: Language,
+    /// The option that asks for a compilation, as `-c`; empty if the tool needs none.
+    pub compilation_flag: Text,
+    /// The path of the dependency file.
+    pub depfile: Option<Text>,
+    /// The words that ask for dependencies.
+    pub dependency_args: Words,
+    /// The words for the preprocessor.
+    pub preprocessor_args: Words,
+    /// The words that are part of a cache key.
+    pub common_args: Words,
+    /// The words that name architectures.
+    pub arch_args: Words,
+    /// The words that are no part of a cache key.
+    pub unhashed_args: Words,
+    /// Paths of files that a distributed compilation also needs.
+    pub extra_dist_files: Words,
+    /// Paths of files whose contents are part of a cache key.
+    pub extra_hash_files: Words,
+    pub uses_external_assembler: bool,
+    pub msvc_show_includes: bool,
+    pub msvc_explicit_language: bool,
+    pub profile_generate: bool,
+    pub color_mode: ColorMode,
+    pub suppress_rewrite_includes_only: bool,
+    /// The option that keeps a cache from looking at the preprocessor's input.
+    pub too_hard_for_preprocessor_cache_mode: Option<Text>,
+}
+
+/// What a reader answers: arguments, the option that no cache can serve with a word on it, or that
+/// the line is no compilation.
+#[derive(Debug, PartialEq, Drop)]
+pub enum CompilerArguments<T> {
+    Ok(T),
+    CannotCache(&'static str, Option<Text>),
+    NotCompilation,
+}
+
+impl ParsedArguments {
+    /// The arguments of a line that names an input and the files that are made of it, and nothing
+    /// else: no words, no flag, no dependency file, and each choice off.
+    pub fn of(alloc: Global, input: Text, language: Language, outputs: Outputs) -> ParsedArguments
+        ensures { result ≡ spec.plain_arguments input language outputs }
+    {
+        ParsedArguments {
+            input,
+            outputs,
+            double_dash_input: false,
+            language,
+            compilation_flag: Text::new(String::new(alloc)),
+            depfile: None,
+            dependency_args: Words::new(alloc),
+            preprocessor_args: Words::new(alloc),
+            common_args: Words::new(alloc),
+            arch_args: Words::new(alloc),
+            unhashed_args: Words::new(alloc),
+            extra_dist_files: Words::new(alloc),
+            extra_hash_files: Words::new(alloc),
+            uses_external_assembler: false,
+            msvc_show_includes: false,
+            msvc_explicit_language: false,
+            profile_generate: false,
+            color_mode: ColorMode::Off,
+            suppress_rewrite_includes_only: false,
+            too_hard_for_preprocessor_cache_mode: None,
+        }
+    }
+
+    /// The file that the command is run for: the output under the key `OBJ`. Without one the
+    /// arguments can't be written back: `MissingOutput`, with the language.
+    pub fn obj(&self) -> Result<&ArtifactDescriptor, Fault>
+        ensures { MatchResult result
+            (λ obj. spec.obj_of self.now ≡ Ok obj.now)
+            (λ fault. spec.obj_of self.now ≡ Err fault) }
+    {
+        match self.outputs.get(OBJ) {
+            Some(obj) => Ok(obj),
+            None => Err(Fault::MissingOutput {
+                language: self.language,
+            }),
+        }
+    }
+
+    /// Equal arguments, in memory of their own.
+    pub fn try_clone(&self, alloc: Global) -> Result<ParsedArguments, AllocError>
+        ensures { IfOk result (λ p. p ≡ self.now) }
+    {
+        let outputs = self.outputs.try_clone(alloc)?;
+        let texts = self.two_texts(alloc)?;
+        let optional = self.optional_texts(alloc)?;
+        let mut copy = self.without_words(alloc, outputs, texts, optional);
+        match copy.add_words(alloc, self) {
+            Ok(()) => Ok(copy),
+            Err(refused) => {
+                // Dropped by a call: see "Explicit drops" in docs/ARCHITECTURE.md.
+                drop(copy);
+                Err(refused)
+            }
+        }
+    }
+
+    // Copies of the input's path and of the option that asks for a compilation.
+    fn two_texts(&self, alloc: Global) -> Result<(Text, Text), AllocError>
+        ensures { IfOk result (λ t. t ≡ (self.now.input, self.now.compilation_flag)) }
+    {
+        Ok((
+            self.input.try_clone(alloc)?,
+            self.compilation_flag.try_clone(alloc)?,
+        ))
+    }
+
+    // Copies of the texts that may be missing.
+    fn optional_texts(&self, alloc: Global) -> Result<(Option<Text>, Option<Text>), AllocError>
+        ensures { IfOk result (λ t. t ≡ (self.now.depfile, self.now.too_hard_for_preprocessor_cache_mode)) }
+    {
+        Ok((
+            Text::clone_optional(alloc, &self.depfile)?,
+            Text::clone_optional(alloc, &self.too_hard_for_preprocessor_cache_mode)?,
+        ))
+    }
+
+    // Arguments of these outputs and texts, with the same choices and no words.
+    fn without_words(
+        &self,
+        alloc: Global,
+        outputs: Outputs,
+        texts: (Text, Text),
+        optional: (Option<Text>, Option<Text>),
+    ) -> ParsedArguments
+        ensures { result ≡ record self.now {
+          input = texts.0;
+          outputs = outputs;
+          compilation_flag = texts.1;
+          depfile = optional.0;
+          dependency_args = [];
+          preprocessor_args = [];
+          common_args = [];
+          arch_args = [];
+          unhashed_args = [];
+          extra_dist_files = [];
+          extra_hash_files = [];
+          too_hard_for_preprocessor_cache_mode = optional.1;
+        } }
+    {
+        let (input, compilation_flag) = texts;
+        let (depfile, too_hard_for_preprocessor_cache_mode) = optional;
+        ParsedArguments {
+            input,
+            outputs,
+            double_dash_input: self.double_dash_input,
+            language: self.language,
+            compilation_flag,
+            depfile,
+            dependency_args: Words::new(alloc),
+            preprocessor_args: Words::new(alloc),
+            common_args: Words::new(alloc),
+            arch_args: Words::new(alloc),
+            unhashed_args: Words::new(alloc),
+            extra_dist_files: Words::new(alloc),
+            extra_hash_files: Words::new(alloc),
+            uses_external_assembler: self.uses_external_assembler,
+            msvc_show_includes: self.msvc_show_includes,
+            msvc_explicit_language: self.msvc_explicit_language,
+            profile_generate: self.profile_generate,
+            color_mode: self.color_mode,
+            suppress_rewrite_includes_only: self.suppress_rewrite_includes_only,
+            too_hard_for_preprocessor_cache_mode,
+        }
+    }
+
+    // Puts copies of the words of `other` last.
+    fn add_words(&mut self, alloc: Global, other: &ParsedArguments) -> Result<(), AllocError>
+        ensures { OnOk result (self.new ≡ record self.old {
+          dependency_args = self.old.dependency_args ++ other.now.dependency_args;
+          preprocessor_args = self.old.preprocessor_args ++ other.now.preprocessor_args;
+          common_args = self.old.common_args ++ other.now.common_args;
+          arch_args = self.old.arch_args ++ other.now.arch_args;
+          unhashed_args = self.old.unhashed_args ++ other.now.unhashed_args;
+          extra_dist_files = self.old.extra_dist_files ++ other.now.extra_dist_files;
+          extra_hash_files = self.old.extra_hash_files ++ other.now.extra_hash_files;
+        }) }
+    {
+        let dependencies = other.dependency_args.as_slice();
+        self.dependency_args.extend(alloc, dependencies)?;
+        let preprocessor = other.preprocessor_args.as_slice();
+        self.preprocessor_args.extend(alloc, preprocessor)?;
+        self.common_args
+            .extend(alloc, other.common_args.as_slice())?;
+        self.arch_args.extend(alloc, other.arch_args.as_slice())?;
+        let unhashed = other.unhashed_args.as_slice();
+        self.unhashed_args.extend(alloc, unhashed)?;
+        let dist_files = other.extra_dist_files.as_slice();
+        self.extra_dist_files.extend(alloc, dist_files)?;
+        let hash_files = other.extra_hash_files.as_slice();
+        self.extra_hash_files.extend(alloc, hash_files)
+    }
+}

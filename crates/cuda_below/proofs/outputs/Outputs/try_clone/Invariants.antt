@@ -1,7 +1,0 @@
-use Rattle.std.proofs.Common.{◌≡◌, map}
-use Rattle.std.specs.List.{fold}
-use Rattle.cuda_below.specs.Outputs.{with_entry}
-use Rattle.cuda_below.proofs.outputs.Outputs.try_clone.Given as goal
-
-abbrev pub invariant-loop-key : goal.invariant-loop-key
-invariant-loop-key l = fold with_entry l.copy (map (λ e. (e.0.now, e.1)) l.key-iterator) ≡ l.self
