@@ -1,21 +1,19 @@
 //! The look-ups that reading a dry run makes.
 
 ghost use Rattle.std.specs.Prelude.{◌≡◌, [], map, codes, IfOk, OnOk, string_bytes};
-ghost use Rattle.std.specs.Option.{option_copied};
 ghost use Rattle.std.specs.Str.Lines.{lines};
 ghost use Rattle.shell_words.specs.Shell.Splitting.{shell_words};
-ghost use Rattle.texts.specs.Variables.{pair_of, first_value};
 ghost use Rattle.dry_runs.specs.DryRunLines.{marked_text};
 ghost use Rattle.dry_runs.specs.Environment.{expanded};
 ghost use Rattle.program_lookups.specs.Lookup.{with_lookups};
 ghost use Rattle.program_lookups.specs.Asked as spec;
-ghost use Rattle.program_lookups.specs.Asked.{asked_of, asked_behind as asked_behind_list};
+ghost use Rattle.program_lookups.specs.Asked.{asked_of, asked_of_both};
 
 use crate::lookup::{Lookup, add};
 use dry_runs::{assignment, expanded_words, first_line, marked};
 use std::alloc::{AllocError, Global};
 use texts::text::Text;
-use texts::variables::Variables;
+use texts::variables::{Variables, first_value};
 
 // What reading does at a line, whatever a look-up answers.
 #[derive(Drop)]
@@ -30,18 +28,6 @@ enum Asking {
     Ends,
 }
 
-// The value of the first variable of a name.
-fn value_of<'a>(env: &'a [(String, String)], name: &str) -> Option<&'a str>
-    ensures { option_copied result ≡ first_value name.now (map pair_of env.now) }
-{
-    for pair in env {
-        if name == pair.0.as_str() {
-            return Some(pair.1.as_str());
-        }
-    }
-    None
-}
-
 // What a command asks for, by its words.
 fn asking_of_words(
     alloc: Global,
@@ -54,7 +40,7 @@ fn asking_of_words(
     let Some(program) = words.first() else {
         return Ok(Asking::Ends);
     };
-    let Some(path) = value_of(env.as_slice(), "PATH") else {
+    let Some(path) = first_value(env.as_slice(), "PATH") else {
         return Ok(Asking::Ends);
     };
     Ok(Asking::Asks(Lookup::copy_of(alloc, program.as_str(), path, folder)?))
@@ -147,13 +133,13 @@ fn add_asked(
 }
 
 // The look-ups of a list, and behind them those of a dry run that the list lacks.
-pub(crate) fn asked_behind(
+fn asked_behind(
     alloc: Global,
     known: Vec<Lookup>,
     dry_run: &[u8],
     folder: &str,
 ) -> Result<Vec<Lookup>, AllocError>
-    ensures { IfOk result (λ lookups. lookups.items ≡ asked_behind_list known.items dry_run.now folder.now) }
+    ensures { IfOk result (λ lookups. lookups.items ≡ spec.asked_behind known.items dry_run.now folder.now) }
 {
     let mut lookups = known;
     let mut env = Variables::new(alloc);
@@ -170,9 +156,25 @@ pub(crate) fn asked_behind(
 /// Each command is compared with the look-ups listed before it. A text whose commands all name different programs takes
 /// time in the square of their number; nvcc names some ten.
 ///
-/// The only error is want of memory. A text that can't be read is refused by `read_dry_run`.
+/// The only error is `AllocError`. A text that can't be read is refused by `read_dry_run`.
 pub fn asked_lookups(alloc: Global, dry_run: &[u8], folder: &str) -> Result<Vec<Lookup>, AllocError>
     ensures { IfOk result (λ lookups. lookups.items ≡ asked_of dry_run.now folder.now) }
 {
     asked_behind(alloc, Vec::new(alloc), dry_run, folder)
+}
+
+/// The look-ups that reading two dry runs of one call makes from the working directory `folder`: those of `dry1`, and
+/// behind them those of `dry2` that `dry1` doesn't make, none twice.
+///
+/// Each run is listed as `asked_lookups` lists it. The only error is `AllocError`.
+pub fn asked_lookups_of_both(
+    alloc: Global,
+    dry1: &[u8],
+    dry2: &[u8],
+    folder: &str,
+) -> Result<Vec<Lookup>, AllocError>
+    ensures { IfOk result (λ lookups. lookups.items ≡ asked_of_both dry1.now dry2.now folder.now) }
+{
+    let first = asked_lookups(alloc, dry1, folder)?;
+    asked_behind(alloc, first, dry2, folder)
 }

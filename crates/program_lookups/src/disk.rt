@@ -6,7 +6,7 @@ ghost use Rattle.program_lookups.specs.Asked.{asked_of_both};
 ghost use Rattle.program_lookups.specs.Candidates.{found_on};
 ghost use Rattle.program_lookups.specs.Snapshot as spec;
 
-use crate::asking::{asked_behind, asked_lookups};
+use crate::asking::asked_lookups_of_both;
 use crate::lookup::Lookup;
 use crate::search_path::candidates;
 use crate::snapshot::{Entry, Snapshot};
@@ -89,8 +89,7 @@ pub fn snapshot_by<F: Fn(&str) -> bool + Drop>(
     ensures exact { (test : List ℕ → Bool) → spec.AnswersAs (F.post runs) test
         → IfOk result (λ snapshot. snapshot ≡ spec.taken (found_on test) (asked_of_both dry1.now dry2.now folder.now)) }
 {
-    let first = asked_lookups(alloc, dry1, folder)?;
-    let both = asked_behind(alloc, first, dry2, folder)?;
+    let both = asked_lookups_of_both(alloc, dry1, dry2, folder)?;
     answered(alloc, both, &runs)
 }
 

@@ -12,7 +12,7 @@ mod lookup;
 mod search_path;
 mod snapshot;
 
-pub use asking::asked_lookups;
+pub use asking::{asked_lookups, asked_lookups_of_both};
 pub use disk::{snapshot_by, snapshot_of};
 pub use lookup::Lookup;
 pub use search_path::candidates;
