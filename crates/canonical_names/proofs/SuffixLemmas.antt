@@ -1,5 +1,5 @@
 -- What is asked of suffixes follows from the rule by which a list is accepted.
-use Rattle.std.proofs.Common.{◌≡◌, ℕ, ◌&&◌, ◌||◌, Bool, true, false, not, suc, zero, List, [], ◌∷◌, Some, None, ◌-◌, drop, length, inl, inr, refl, ap, sym, ◌∙◌, subst, nat_eq, eqb, codes, arith, ◌++◌, take}
+use Rattle.std.proofs.Common.{◌≡◌, ℕ, ◌&&◌, ◌||◌, Bool, true, false, not, suc, zero, List, [], ◌∷◌, Some, None, ◌-◌, drop, length, inl, inr, refl, ap, sym, ◌∙◌, subst, nat_eq, eqb, codes, arith, ◌++◌, take, map}
 use Rattle.std.specs.List.{Contains, ends_with, list_all, list_any, slice_get}
 use Rattle.std.specs.Str.{bytes_eq}
 use Rattle.std.proofs.lemmas.Bool.{false≢true, and_parts, or_parts, cases_lt}
@@ -22,6 +22,11 @@ not-true false h = refl
 pub lacks-by_search : (byte : ℕ) (text : List ℕ) → not (list_any (λ c. eqb c byte) text) ≡ lacks byte text
 lacks-by_search byte [] = refl
 lacks-by_search byte (c ∷ cs) = not-or (eqb c byte) (list_any (λ c. eqb c byte) cs) ∙ ap (λ t. not (eqb c byte) && t) (lacks-by_search byte cs)
+
+-- a test of mapped elements is a test of the elements
+pub list_any-map : {X Y : Type 0} (p : X → Bool) (h : Y → X) (ys : List Y) → list_any p (map h ys) ≡ list_any (λ y. p (h y)) ys
+list_any-map p h [] = refl
+list_any-map p h (y ∷ ys) = ap (λ b. p (h y) || b) (list_any-map p h ys)
 
 -- what holds of each holds of a member
 pub each-member : {A : Type 0} (test : A → Bool) (xs : List A) (x : A) → list_all test xs ≡ true → Contains xs x → test x ≡ true

@@ -69,23 +69,15 @@ fn are_clean_words(
 ) -> bool
     ensures { result ≡ list_all (spec.is_clean_word suffixes.now (names_of_run suffixes.now (map line_seen commands.now))) (map string_bytes words.now) }
 {
-    for word in words {
-        if !is_clean_word(word.as_str(), commands, suffixes) {
-            return false;
-        }
-    }
-    true
+    words
+        .iter()
+        .all(|word| is_clean_word(word.as_str(), commands, suffixes))
 }
 
 fn are_clean(commands: &[(usize, String, Vec<String>)], suffixes: &Suffixes) -> bool
     ensures { result ≡ spec.is_clean suffixes.now (map line_seen commands.now) }
 {
-    for command in commands {
-        if !are_clean_words(command.2.as_slice(), commands, suffixes) {
-            return false;
-        }
-    }
-    true
+    commands.iter().all(|command| are_clean_words(command.2.as_slice(), commands, suffixes))
 }
 
 /// Whether a run is clean: each of its words is generated, or holds no generated name of the run, of

@@ -81,13 +81,7 @@ fn step_names<'a>(
 fn are_bare(names: &[&str]) -> bool
     ensures { result ≡ list_all is_bare_name (map name_shown names.now) }
 {
-    for name in names {
-        let name: &str = name;
-        if !is_bare(name.as_bytes()) {
-            return false;
-        }
-    }
-    true
+    names.iter().all(|name| is_bare(name.as_bytes()))
 }
 
 // Whether a text is a name put into a folder.
@@ -157,12 +151,9 @@ fn is_plain_output(word: Option<&str>) -> bool
 fn are_plain(commands: &[(usize, String, Vec<String>)]) -> bool
     ensures { result ≡ list_all (λ c. spec.is_plain_output (lists.word_after (codes "-o") (words_of_command c))) (map line_seen commands.now) }
 {
-    for command in commands {
-        if !is_plain_output(output(command.2.as_slice())) {
-            return false;
-        }
-    }
-    true
+    commands
+        .iter()
+        .all(|command| is_plain_output(output(command.2.as_slice())))
 }
 
 // Whether names of a first run are bare, those of a second run are the same ones put into a folder, and

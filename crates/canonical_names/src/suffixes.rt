@@ -88,13 +88,10 @@ fn is_apart_from(suffix: &str, others: &[String]) -> bool
     ensures { result ≡ list_all (spec.is_apart suffix.now) (map string_bytes others.now) }
 {
     let suffix = suffix.as_bytes();
-    for other in others {
+    others.iter().all(|other| {
         let other = other.as_str().as_bytes();
-        if suffix.ends_with(other) || other.ends_with(suffix) {
-            return false;
-        }
-    }
-    true
+        !suffix.ends_with(other) && !other.ends_with(suffix)
+    })
 }
 
 fn are_apart(list: &[String]) -> bool
@@ -113,23 +110,13 @@ fn are_apart(list: &[String]) -> bool
 fn are_each_suffixes(list: &[String]) -> bool
     ensures { result ≡ list_all spec.is_suffix (map string_bytes list.now) }
 {
-    for text in list {
-        if !is_suffix(text.as_str()) {
-            return false;
-        }
-    }
-    true
+    list.iter().all(|text| is_suffix(text.as_str()))
 }
 
 fn holds(list: &[String], suffix: &str) -> bool
     ensures { result ≡ list_any (bytes_eq suffix.now) (map string_bytes list.now) }
 {
-    for text in list {
-        if suffix == text.as_str() {
-            return true;
-        }
-    }
-    false
+    list.iter().any(|text| suffix == text.as_str())
 }
 
 fn are_suffixes(list: &[String]) -> bool

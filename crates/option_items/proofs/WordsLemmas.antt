@@ -40,32 +40,21 @@ value_after-some (Some d) (c ∷ cs) (v ∷ vs) h some =
       | false ↦ λ e k. cc
     ] refl h
 
--- what stands after the text of a flag, and of an option that awaits its value
+-- nothing follows the text of a flag, or of an option that awaits its value
 mapped-not : {A B : Type 0} (f : A → B) (o : Option A) (b : B) → ((a : A) → f a ≢ b) → option_map f o ≢ Some b
 mapped-not f None b never h = cc
 mapped-not f (Some a) b never h = never a (cc)
 
-rest-lone : (form : Option ArgDisposition) (rest : List ℕ) → matched_rest form rest ≡ Some lone → rest ≡ []
-rest-lone None [] h = refl
-rest-lone None (c ∷ cs) h = cc
-rest-lone (Some Separated) [] h = refl
-rest-lone (Some Separated) (c ∷ cs) h = cc
-rest-lone (Some (Concatenated d)) rest h = absurd (mapped-not joined (value_after d rest) lone (λ a e. cc) h)
-rest-lone (Some (CanBeSeparated d)) [] h = refl
-rest-lone (Some (CanBeSeparated d)) (c ∷ cs) h = absurd (mapped-not joined (value_after d (c ∷ cs)) lone (λ a e. cc) h)
-rest-lone (Some (CanBeConcatenated d)) [] h = refl
-rest-lone (Some (CanBeConcatenated d)) (c ∷ cs) h = absurd (mapped-not joined (value_after d (c ∷ cs)) lone (λ a e. cc) h)
-
-rest-awaiting : (form : Option ArgDisposition) (rest : List ℕ) → matched_rest form rest ≡ Some awaiting → rest ≡ []
-rest-awaiting None [] h = refl
-rest-awaiting None (c ∷ cs) h = cc
-rest-awaiting (Some Separated) [] h = refl
-rest-awaiting (Some Separated) (c ∷ cs) h = cc
-rest-awaiting (Some (Concatenated d)) rest h = absurd (mapped-not joined (value_after d rest) awaiting (λ a e. cc) h)
-rest-awaiting (Some (CanBeSeparated d)) [] h = refl
-rest-awaiting (Some (CanBeSeparated d)) (c ∷ cs) h = absurd (mapped-not joined (value_after d (c ∷ cs)) awaiting (λ a e. cc) h)
-rest-awaiting (Some (CanBeConcatenated d)) [] h = refl
-rest-awaiting (Some (CanBeConcatenated d)) (c ∷ cs) h = absurd (mapped-not joined (value_after d (c ∷ cs)) awaiting (λ a e. cc) h)
+rest-unjoined : (form : Option ArgDisposition) (rest : List ℕ) (m : Matched) → ((value : List ℕ) → joined value ≢ m) → matched_rest form rest ≡ Some m → rest ≡ []
+rest-unjoined None [] m never h = refl
+rest-unjoined None (c ∷ cs) m never h = cc
+rest-unjoined (Some Separated) [] m never h = refl
+rest-unjoined (Some Separated) (c ∷ cs) m never h = cc
+rest-unjoined (Some (Concatenated d)) rest m never h = absurd (mapped-not joined (value_after d rest) m never h)
+rest-unjoined (Some (CanBeSeparated d)) [] m never h = refl
+rest-unjoined (Some (CanBeSeparated d)) (c ∷ cs) m never h = absurd (mapped-not joined (value_after d (c ∷ cs)) m never h)
+rest-unjoined (Some (CanBeConcatenated d)) [] m never h = refl
+rest-unjoined (Some (CanBeConcatenated d)) (c ∷ cs) m never h = absurd (mapped-not joined (value_after d (c ∷ cs)) m never h)
 
 -- an option with a value that was joined to it is written as its text and what followed
 mapped-joined : (o : Option (List ℕ)) (value : List ℕ) → option_map joined o ≡ Some (joined value) → o ≡ Some value
@@ -88,11 +77,11 @@ rest-joined (Some (CanBeSeparated d)) text (c ∷ cs) value h whole = one_word t
 rest-joined (Some (CanBeConcatenated d)) text [] value h whole = absurd (mapped-not (λ _. awaiting) (value_after d []) (joined value) (λ a e. cc) h)
 rest-joined (Some (CanBeConcatenated d)) text (c ∷ cs) value h whole = one_word text (c ∷ cs) value d (mapped-joined (value_after d (c ∷ cs)) value h) whole
 
--- the text of an entry is the word where nothing follows
+-- the text of an entry is the word if nothing follows it
 text-alone : (text rest word : List ℕ) → word ≡ text ++ rest → rest ≡ [] → text ≡ word
 text-alone text rest word e none = sym (append-nil text) ∙ ap (λ t. text ++ t) (sym none) ∙ sym e
 
--- a word of no option is written as itself
+-- a word that is no option is written as itself
 unmatched-words : (T : Type 0) (word : List ℕ) → words_of (unmatched_item {T = T} word) ≡ word ∷ []
 unmatched-words T [] = refl
 unmatched-words T (c ∷ cs) =
@@ -113,7 +102,7 @@ module _ {T : Type 0} where
   said_by-words e word (Some lone) j at said whole =
       let is : j ≡ flag e.text e.kind = cc in
       let parts = matched-rest e word lone at in
-      ap words_of is ∙ ap (λ t. t ∷ []) (text-alone e.text parts.0 word parts.1 (rest-lone e.form parts.0 parts.2))
+      ap words_of is ∙ ap (λ t. t ∷ []) (text-alone e.text parts.0 word parts.1 (rest-unjoined e.form parts.0 lone (λ value e. cc) parts.2))
   said_by-words e word (Some (joined value)) j at said whole =
       let is : j ≡ with_value e.text e.kind value (joined_form e.form) = cc in
       let parts = matched-rest e word (joined value) at in
@@ -132,7 +121,7 @@ module _ {T : Type 0} where
   said_by-option e f word (Some awaiting) at said =
       let same : f ≡ e = cc in
       let parts = matched-rest e word awaiting at in
-      ap (λ (g : Entry T). g.text) same ∙ text-alone e.text parts.0 word parts.1 (rest-awaiting e.form parts.0 parts.2)
+      ap (λ (g : Entry T). g.text) same ∙ text-alone e.text parts.0 word parts.1 (rest-unjoined e.form parts.0 awaiting (λ value e. cc) parts.2)
 
   said-option : (word : List ℕ) (choice : Option (Entry T)) (f : Entry T) → said_of word choice ≡ option f → f.text ≡ word
   said-option word None f said = cc

@@ -1,4 +1,4 @@
--- What a reader of items shows: the words left, its table, and whether memory was refused.
+-- What a reader of items shows: the words left, its table, and whether an allocation failed.
 use Rattle.std.specs.Prelude.{ℕ, List, Bool}
 use Rattle.option_items.specs.declared.items.ArgsIter.{ArgsIter}
 

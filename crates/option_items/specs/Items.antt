@@ -10,8 +10,8 @@ use Rattle.option_items.specs.declared.items.NormalizedDisposition.{NormalizedDi
 use Rattle.option_items.specs.declared.items.NormalizedDisposition.TheVariants as normal
 use Rattle.option_items.specs.Table.{Entry, Matched, lone, joined, awaiting, matched}
 
--- an item of a command line: a word of no option, an unknown flag, a flag, an option with its value and how
--- that stood, or an option whose value is missing
+-- an item of a command line: a word that is no option, an unknown flag, a flag, an option with its value and that
+-- value's form, or an option whose value is missing
 pub data Item (T : Type 0) : Type 0 where
   raw : List ℕ → Item T
   unknown_flag : List ℕ → Item T
@@ -19,7 +19,7 @@ pub data Item (T : Type 0) : Type 0 where
   with_value : List ℕ → T → List ℕ → ArgDisposition → Item T
   faulty : Item T
 
--- how a value stood that was joined to its option
+-- the form of a value that is joined to its option
 abbrev pub joined_form : Option ArgDisposition → ArgDisposition
 joined_form None = Concatenated None
 joined_form (Some Separated) = Separated
@@ -27,7 +27,7 @@ joined_form (Some (Concatenated delimiter)) = Concatenated delimiter
 joined_form (Some (CanBeSeparated delimiter)) = CanBeSeparated delimiter
 joined_form (Some (CanBeConcatenated delimiter)) = CanBeSeparated delimiter
 
--- how a value stood that was the next word
+-- the form of a value that is the next word
 abbrev pub separate_form : Option ArgDisposition → ArgDisposition
 separate_form None = Separated
 separate_form (Some Separated) = Separated
@@ -35,7 +35,7 @@ separate_form (Some (Concatenated delimiter)) = Separated
 separate_form (Some (CanBeSeparated delimiter)) = CanBeConcatenated delimiter
 separate_form (Some (CanBeConcatenated delimiter)) = CanBeConcatenated delimiter
 
--- whether an option that awaits its value may be the last word, with the empty value joined to it
+-- whether an option that awaits its value may be the last word: it then has the empty value, joined to it
 abbrev pub may_stand_last : Option ArgDisposition → Bool
 may_stand_last None = false
 may_stand_last (Some Separated) = false
@@ -59,20 +59,20 @@ module _ {T : Type 0} where
   abbrev pub last_item : Entry T → Item T
   last_item e = if may_stand_last e.form then with_value e.text e.kind [] (joined_form e.form) else faulty
 
--- what a word says by itself: an item, or an option whose value is the next word
+-- what a word is by itself: an item, or an option whose value is the next word
 pub data Said (T : Type 0) : Type 0 where
   item : Item T → Said T
   option : Entry T → Said T
 
 module _ {T : Type 0} where
-  -- what a word says that an entry matches
+  -- what a word is that an entry matches
   abbrev pub said_by : Entry T → List ℕ → Option Matched → Said T
   said_by e word None = item (unmatched_item word)
   said_by e word (Some lone) = item (flag e.text e.kind)
   said_by e word (Some (joined value)) = item (with_value e.text e.kind value (joined_form e.form))
   said_by e word (Some awaiting) = option e
 
-  -- what a word says whose entry was looked up
+  -- what a word is, with the entry that it chooses
   abbrev pub said_of : List ℕ → Option (Entry T) → Said T
   said_of word None = item (unmatched_item word)
   said_of word (Some e) = said_by e word (matched e word)
@@ -84,14 +84,14 @@ module _ {T : Type 0} (chosen : List ℕ → Option (Entry T)) where
   items (w ∷ []) = elim (said_of w (chosen w)) [ item i ↦ i ∷ [] | option e ↦ last_item e ∷ [] ]
   items (w ∷ x ∷ rest) = elim (said_of w (chosen w)) [ item i ↦ i ∷ items (x ∷ rest) | option e ↦ separate_item e x ∷ items rest ]
 
--- what a word says, completed by the words after it: an option takes the next word, and at the end of the line
--- it is the last item; the last argument is the words left
+-- the item that a word begins, with the words after it before and after reading: an option takes the next word, and at
+-- the end of the line it is the last item
 abbrev pub Completes : {T : Type 0} → Said T → List (List ℕ) → Item T → List (List ℕ) → Type 0
 Completes (item j) before i after = (i ≡ j) × (after ≡ before)
 Completes (option e) [] i after = (i ≡ last_item e) × (after ≡ [])
 Completes (option e) (x ∷ rest) i after = (i ≡ separate_item e x) × (after ≡ rest)
 
--- what stands between an option and a joined value
+-- the bytes between an option and a joined value
 abbrev pub delimiter_before : List ℕ → Option ℕ → List ℕ
 delimiter_before value None = []
 delimiter_before [] (Some d) = []
@@ -104,7 +104,7 @@ value_words text value (CanBeConcatenated delimiter) = text ∷ value ∷ []
 value_words text value (Concatenated delimiter) = ((text ++ delimiter_before value delimiter) ++ value) ∷ []
 value_words text value (CanBeSeparated delimiter) = ((text ++ delimiter_before value delimiter) ++ value) ∷ []
 
--- how a value is to stand whose option may be written both ways; any other stands as it stood
+-- the form to write a value in, if its option may be written both ways; any other value keeps its form
 abbrev pub normal_form : NormalizedDisposition → ArgDisposition → ArgDisposition
 normal_form disposition Separated = Separated
 normal_form disposition (Concatenated delimiter) = Concatenated delimiter
@@ -114,7 +114,7 @@ normal_form normal.Separated (CanBeConcatenated delimiter) = Separated
 normal_form normal.Concatenated (CanBeConcatenated delimiter) = Concatenated delimiter
 
 module _ {T : Type 0} where
-  -- an item as it is to be written
+  -- an item in the form to write it in
   abbrev pub normalized : NormalizedDisposition → Item T → Item T
   normalized disposition (raw word) = raw word
   normalized disposition (unknown_flag word) = unknown_flag word
@@ -161,12 +161,12 @@ module _ {T : Type 0} where
   item_of (Flag text kind) = flag text.now kind
   item_of (WithValue text kind value form) = with_value text.now kind (string_bytes value) form
 
-  -- the item that a step of reading gives
+  -- the item that one step of reading gives
   abbrev pub item_read : Result (Argument T) ArgParseError → Item T
   item_read (Ok argument) = item_of argument
   item_read (Err error) = faulty
 
--- the words left of a line after what its first word says, of the words after that: an option takes the next one
+-- the words left after an item, of the words after its first: an option takes the next one
 abbrev pub words_past : {T : Type 0} → Said T → List (List ℕ) → List (List ℕ)
 words_past (item j) before = before
 words_past (option e) [] = []
@@ -177,10 +177,10 @@ abbrev pub words_after : {T : Type 0} → (List ℕ → Option (Entry T)) → Li
 words_after chosen [] = []
 words_after chosen (w ∷ before) = words_past (said_of w (chosen w)) before
 
--- one step of reading a line, of the words and the refusal before it to those after it: an item that comes is
--- the first of the items left; if none comes, memory was refused or no word is left; a reader that met refused
--- memory gives nothing more; without words nothing comes, and no refusal; and the words left are those after the
--- first item, also when memory was refused for it
+-- One step of reading a line, from the words and the state before it to those after it. An item that comes is the first
+-- of the items left. If none comes, an allocation failed or no word is left. After an allocation failure nothing more
+-- comes. Without words nothing comes and nothing fails. The words left are those after the first item, even if copying it
+-- failed.
 pub record ReadsItem {T : Type 0} (chosen : List ℕ → Option (Entry T)) (before : List (List ℕ)) (was_refused : Bool)
     (read : Option (Item T)) (after : List (List ℕ)) (refused : Bool) : Type 0 where
   pub next : IfSome read (λ i. items chosen before ≡ i ∷ items chosen after)

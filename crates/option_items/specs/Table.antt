@@ -1,4 +1,4 @@
--- Option tables: what an entry makes of a word, and which entry of a table a word chooses.
+-- Option tables: how an entry matches a word, and which entry of a table a word chooses.
 use Rattle.std.specs.Prelude.{◌≡◌, ℕ, ◌≤◌, List, [], ◌∷◌, Bool, true, ◌==◌, ◌&&◌, nat_lt, if◌then◌else◌, Option, Some}
 use Rattle.std.specs.Prelude.{None, is_some, length, fold, IsSome, MatchOption, All, Contains}
 use Rattle.std.specs.Option.{option_map, option_and_then}
@@ -16,20 +16,20 @@ pub record Entry (T : Type 0) : Type 0 where
   pub kind : T
   pub form : Option ArgDisposition
 
--- the entry that a row of a table is
+-- an entry of a table of the code
 abbrev pub entry_of : {T : Type 0} → ArgInfo T → Entry T
 entry_of (Flag text kind) = record { text = text.now; kind = kind; form = None }
 entry_of (TakeArg text kind form) = record { text = text.now; kind = kind; form = Some form }
 
--- a value that stands in the option's own word, by what follows the option's text there: all of it, or
--- with an ASCII delimiter nothing, or what follows the delimiter; any other delimiter never stands there
+-- the value in the option's own word, by what follows the option's text there: all of it, or with an ASCII delimiter
+-- nothing, or what follows the delimiter; another delimiter never matches
 abbrev pub value_after : Option ℕ → List ℕ → Option (List ℕ)
 value_after None rest = Some rest
 value_after (Some d) [] = if nat_lt d 128 then Some [] else None
 value_after (Some d) (c ∷ cs) = if nat_lt d 128 && (c == d) then Some cs else None
 
--- what a matching entry makes of a word: a lone flag, an option with its value joined to it, or an option
--- whose value is the next word
+-- how an entry matches a word: as a lone flag, as an option with its value joined to it, or as an option whose value is
+-- the next word
 pub data Matched : Type 0 where
   lone : Matched
   joined : List ℕ → Matched
@@ -41,12 +41,12 @@ matched_of Lone = lone
 matched_of (Joined value) = joined value.now
 matched_of Awaiting = awaiting
 
--- what an option that may be separated makes of a word, by what follows its text: alone it awaits its value
+-- how an option that may be separated matches a word, by what follows its text: alone it awaits its value
 abbrev pub matched_either : Option ℕ → List ℕ → Option Matched
 matched_either delimiter [] = option_map (λ _. awaiting) (value_after delimiter [])
 matched_either delimiter (c ∷ cs) = option_map joined (value_after delimiter (c ∷ cs))
 
--- what an entry of a form makes of a word, by what follows its text
+-- how an entry of a form matches a word, by what follows its text
 abbrev pub matched_rest : Option ArgDisposition → List ℕ → Option Matched
 matched_rest None [] = Some lone
 matched_rest None (_ ∷ _) = None
@@ -57,11 +57,11 @@ matched_rest (Some (CanBeSeparated delimiter)) rest = matched_either delimiter r
 matched_rest (Some (CanBeConcatenated delimiter)) rest = matched_either delimiter rest
 
 module _ {T : Type 0} where
-  -- what an entry makes of a word, and nothing if it doesn't match
+  -- how an entry matches a word; `None` if it doesn't
   abbrev pub matched : Entry T → List ℕ → Option Matched
   matched e word = option_and_then (matched_rest e.form) (rest_after e.text word)
 
-  -- an entry of greatest text length among those that match the word, and none exactly if none matches
+  -- an entry with the longest text of those that match the word; none exactly when none matches
   abbrev pub IsLongestMatch : List (Entry T) → List ℕ → Option (Entry T) → Type 0
   IsLongestMatch entries word choice =
       MatchOption choice (All (λ e. matched e word ≡ None) entries)
@@ -76,16 +76,16 @@ module _ {T : Type 0} where
   abbrev pub longer_match : List ℕ → Option (Entry T) → Entry T → Option (Entry T)
   longer_match word best e = if is_some (matched e word) && is_longer e best then Some e else best
 
-  -- the entry of a list that a word chooses: the longest match, the first of equal length
+  -- the entry of a list that a word chooses: the longest match, and the first of equally long ones
   abbrev pub longest_match : List (Entry T) → List ℕ → Option (Entry T)
   longest_match entries word = fold (longer_match word) None entries
 
-  -- the choice of two tables: the longer one, and of equal length the second table's
+  -- the choice of two tables: the longer one, and the second table's if both are equally long
   abbrev pub longer_choice : Option (Entry T) → Option (Entry T) → Option (Entry T)
   longer_choice None second = second
   longer_choice (Some first) None = Some first
   longer_choice (Some first) (Some second) = if nat_lt (length second.text) (length first.text) then Some first else Some second
 
-  -- the entry of two lists that a word chooses: the longer one of their choices, and of equal length the second's
+  -- the entry of two lists that a word chooses: the longer of their choices, and the second's if both are equally long
   abbrev pub longest_of_two : List (Entry T) → List (Entry T) → List ℕ → Option (Entry T)
   longest_of_two first second word = longer_choice (longest_match first word) (longest_match second word)

@@ -1,4 +1,4 @@
--- Items whose texts stand in the words of their line.
+-- Items that borrow their texts from the words of their line.
 use Rattle.std.specs.Prelude.{Result, Ok, Err}
 use Rattle.option_items.specs.declared.items.ArgParseError.{ArgParseError}
 use Rattle.option_items.specs.declared.views.ArgumentView.{ArgumentView}
@@ -13,7 +13,7 @@ module _ {T : Type 0} where
   item_seen (Flag text kind) = flag text.now kind
   item_seen (WithValue text kind value form) = with_value text.now kind value.now form
 
-  -- the item that a step of reading gives
+  -- the item that one step of reading gives
   abbrev pub item_viewed : Result (ArgumentView T) ArgParseError → Item T
   item_viewed (Ok view) = item_seen view
   item_viewed (Err error) = faulty

@@ -1,5 +1,5 @@
--- What is claimed of the words that items are written as: they are read as the same items again. All of it is said
--- of every choice of entries, so of every table.
+-- The words that items are written as are read as the same items again. All of it holds for every choice of entries, so
+-- for every table.
 use Rattle.std.specs.Prelude.{◌≡◌, ℕ, List, [], ◌∷◌, ◌++◌, Bool, true, false, not, ◌&&◌, map, Option}
 use Rattle.std.specs.List.{AllByRecursion, flat_map}
 use Rattle.std.specs.Str.{bytes_eq}
@@ -65,7 +65,7 @@ module _ {T : Type 0} (chosen : List ℕ → Option (Entry T)) where
   abbrev pub LinesAreTheirParts : Type 0
   LinesAreTheirParts = (line : List (List ℕ)) → (map (λ p. p.0) (parts line) ≡ items chosen line) × (flat_map (λ p. p.1) (parts line) ≡ line)
 
-  -- the words of each whole item of a line are its part, whatever items stand before it
+  -- the words of each whole item of a line are its part, whatever items come before it
   abbrev pub WholeItemsAreTheirParts : Type 0
   WholeItemsAreTheirParts = (line : List (List ℕ)) → AllByRecursion (λ p. is_whole p.0 ≡ true → words_of p.0 ≡ p.1) (parts line)
 

@@ -15,7 +15,7 @@ use std::alloc::{AllocError, Global};
 use std::marker::{Model, PhantomData};
 use texts::words::Words;
 
-/// The words of a command line that are still to be read, in order, seen as the list of their texts.
+/// The words of a command line that are left to read, in order. Clauses see the list of their texts.
 #[derive(Debug, Drop)]
 pub struct Line<'a> {
     front: &'a [String],
@@ -65,7 +65,7 @@ impl<'a> Line<'a> {
         Some(word.as_str())
     }
 
-    /// Puts the words that are left last among `words`. On an error these stay as they were.
+    /// Appends the words that are left to `words`. On an error `words` is unchanged.
     pub fn write(self, alloc: Global, words: &mut Words) -> Result<(), AllocError>
         ensures ok { OnOk result (words.new ≡ words.old ++ self.entry) }
         ensures err { OnErr result (words.new ≡ words.old) }
@@ -89,7 +89,7 @@ pub enum Argument<T: Copy> {
     WithValue(&'static str, T, String, ArgDisposition),
 }
 
-/// How the words of an option are to stand that may be written both ways.
+/// How to write an option whose value may be a word of its own or a part of the option's word.
 #[derive(Clone, Copy, Debug, PartialEq)]
 pub enum NormalizedDisposition {
     /// The option and its value as two words.
@@ -98,10 +98,10 @@ pub enum NormalizedDisposition {
     Concatenated,
 }
 
-/// Why a word is no item.
+/// Why a word gives no item.
 #[derive(Clone, Copy, Debug, PartialEq)]
 pub enum ArgParseError {
-    /// The line ends where an option's value would stand.
+    /// The line ends before the value of its last option.
     UnexpectedEndOfArgs,
 }
 
@@ -128,7 +128,7 @@ impl<T: Copy> Argument<T> {
         }
     }
 
-    /// The option's value, as the line gives it; empty for an item that takes none.
+    /// The option's value, as the line gives it; empty for an item without one.
     pub fn value(&self) -> &str
         ensures { result.now ≡ spec.value_of (item_of self.now) }
     {
@@ -138,8 +138,8 @@ impl<T: Copy> Argument<T> {
         }
     }
 
-    /// The same item, to be written as `disposition` says if its option may be written both ways.
-    /// Any other item stays as it is.
+    /// The same item, written as `disposition` says if its option may be written both ways. Any other
+    /// item is unchanged.
     pub fn normalize(self, disposition: NormalizedDisposition) -> Argument<T>
         ensures { item_of result ≡ spec.normalized disposition (item_of self) }
     {
@@ -151,7 +151,7 @@ impl<T: Copy> Argument<T> {
         }
     }
 
-    /// The words that the item is written as, in memory of their own: those of `write`.
+    /// The item's words, as `write` writes them, in memory of their own.
     pub fn words(&self, alloc: Global) -> Result<Words, AllocError>
         ensures { IfOk result (λ words. words ≡ spec.words_of (item_of self.now)) }
     {
@@ -160,7 +160,7 @@ impl<T: Copy> Argument<T> {
         Ok(words)
     }
 
-    // The same item, with texts that stand in this one.
+    // The same item, borrowing this one's texts.
     fn view(&self) -> ArgumentView<'_, T>
         ensures { item_seen result ≡ item_of self.now }
     {
@@ -174,10 +174,9 @@ impl<T: Copy> Argument<T> {
         }
     }
 
-    /// Puts the words that the item is written as last among `words`, and takes the item's texts for
-    /// them. An option with its value is two words; it is one word if the value was joined, with the
-    /// delimiter between them if there is one and the value isn't empty. On an error `words` stay as
-    /// they were.
+    /// Appends the item's words to `words`, and moves its texts there. An option and its value are two
+    /// words. If the value was joined, they are one word, with the delimiter between them if there is one
+    /// and the value isn't empty. On an error `words` is unchanged.
     pub fn write(self, alloc: Global, words: &mut Words) -> Result<(), AllocError>
         ensures ok { OnOk result (words.new ≡ words.old ++ spec.words_of (item_of self)) }
         ensures err { OnErr result (words.new ≡ words.old) }
@@ -193,7 +192,7 @@ impl<T: Copy> Argument<T> {
 }
 
 impl ArgDisposition {
-    // How a value is written that stood like this.
+    // How to write a value that was read in this form.
     fn normalize(self, disposition: NormalizedDisposition) -> ArgDisposition
         ensures { result ≡ spec.normal_form disposition self }
     {
@@ -251,11 +250,11 @@ pub(crate) fn joined_word(
     Ok(word)
 }
 
-/// The items of a line, over a table. It reads each word once, and gives at most as many items as
-/// there are words.
+/// The items of a line, read over a table. It reads each word once, so there are at most as many items
+/// as words.
 ///
-/// If memory is refused it gives nothing more, and `refused` tells. The words left are then those
-/// after the item that memory was refused for.
+/// After an allocation failure it yields nothing more, and `refused` returns true. The words left are then
+/// those after the item whose copy failed.
 #[derive(Drop)]
 pub struct ArgsIter<'a, S: SearchableArgInfo<T> + Drop, T: Copy> {
     alloc: Global,
@@ -293,7 +292,7 @@ impl<'a, S: SearchableArgInfo<T> + Drop, T: Copy> ArgsIter<'a, S, T> {
         }
     }
 
-    /// Whether memory was refused, so that the items that came are only a beginning.
+    /// Whether an allocation failed. If so, the items so far are only the first ones of the line.
     pub fn refused(&self) -> bool
         ensures { result ≡ is_refused self.now }
     {
@@ -329,10 +328,10 @@ impl<'a, S: SearchableArgInfo<T> + Drop, T: Copy> Iterator for ArgsIter<'a, S, T
     }
 }
 
-/// The item that `word` begins, whose table row is `row`. An option takes its value from `line`, also
-/// if memory is then refused.
+/// Reads the item that `word` begins; `row` is the entry that `word` chooses. An option takes its value
+/// from `line`, even if copying that value then fails.
 ///
-/// `ArgsIter` reads a whole line by it. A reader that needs the words between two items calls it itself.
+/// `ArgsIter` reads a whole line with it. Call it yourself if you need the words between two items.
 pub fn read_item<T: Copy>(
     alloc: Global,
     row: Option<&ArgInfo<T>>,
@@ -350,17 +349,16 @@ pub fn read_item<T: Copy>(
     }
 }
 
-/// A law, over every table: the words that an item is written as are read as that item again.
+/// A law over every table: reading the words that an item is written as gives that item again.
 ///
-/// A line is cut into the parts that its items were read from (`parts`). It is said of items that
-/// are whole: not faulty, and with no value that is both joined and empty. Wherever such an item
-/// stands in a line, its words are the part that it was read from (`placed`). If it is a line's first
-/// item, the line begins with its words, and the later items are those of the words after them
-/// (`written`).
+/// The parts of a line that its items were read from make up the line (`parts`). The rest of the law is
+/// about whole items: those that aren't faulty, and whose value isn't both joined and empty. Wherever a
+/// whole item is in a line, its words are the part that it was read from (`placed`). If it is the first
+/// item, the line begins with its words, and the later items are those of the words after them (`written`).
 ///
-/// Each item of a line counts as read from one (`read`). The words of a whole item that is read from
-/// some line are read as that item whatever words come after them (`reread`). So are the words of a
-/// list of such items (`lists`), and a line whose items are all whole is written as itself (`lines`).
+/// Every item of a line is the first item of some line (`read`). The words of a whole item that was read
+/// from a line are read as that item, whatever words follow (`reread`). The same goes for lists of such
+/// items (`lists`), and a line of whole items is written as itself (`lines`).
 pub fn words_law<T: Copy, S: SearchableArgInfo<T>>()
     ensures parts { (table : S) → law.LinesAreTheirParts (S.chosen table) }
     ensures placed { (table : S) → law.WholeItemsAreTheirParts (S.chosen table) }

@@ -6,8 +6,8 @@ ghost use Rattle.option_items.specs.Table.{Entry, entry_of};
 ghost use Rattle.option_items.specs.Table as spec;
 ghost use Rattle.texts.specs.Lists.{rest_after};
 
-/// How an option takes its value. A number is the delimiter between the text and a joined value, an
-/// ASCII byte; an entry with any other matches no word.
+/// How an option takes its value. The number is the delimiter between the option's text and a joined
+/// value. It must be an ASCII byte: an entry with any other delimiter matches no word.
 #[derive(Clone, Copy, Debug, PartialEq)]
 pub enum ArgDisposition {
     /// As the next word.
@@ -16,8 +16,8 @@ pub enum ArgDisposition {
     Concatenated(Option<u8>),
     /// In the same word, or as the next word if the option stands alone.
     CanBeSeparated(Option<u8>),
-    /// As the next word, though it might have been in the same word: how an item was read. An entry
-    /// that holds it is read as `CanBeSeparated`.
+    /// As the next word, although the same word would do. Items carry this form. In an entry it means
+    /// `CanBeSeparated`.
     CanBeConcatenated(Option<u8>),
 }
 
@@ -33,20 +33,19 @@ pub const EITHER_WAY: ArgDisposition = ArgDisposition::CanBeSeparated(None);
 /// A value in the option's own word, after `=`, or as the next word.
 pub const EITHER_WAY_OR_EQUALS: ArgDisposition = ArgDisposition::CanBeSeparated(Some(b'='));
 
-/// A row of an option table: the option's text, its kind, and for an option with a value how that
-/// value is taken.
+/// An entry of an option table: the option's text, its kind, and how it takes a value, if it does.
 #[derive(Clone, Copy, Debug)]
 pub enum ArgInfo<T: Copy> {
     Flag(&'static str, T),
     TakeArg(&'static str, T, ArgDisposition),
 }
 
-/// What a matching entry makes of a word.
+/// How an entry matches a word.
 #[derive(Clone, Copy, Debug)]
 pub enum Match<'a> {
     /// The word is the flag.
     Lone,
-    /// The word holds the option and this value.
+    /// The word holds the option and its value.
     Joined(&'a str),
     /// The word is the option, and its value is the next word.
     Awaiting,
@@ -72,7 +71,7 @@ fn value_past<'a>(byte: u8, rest: &'a str) -> Option<&'a str>
     }
 }
 
-// A value that stands in the option's own word, by what follows the option's text there.
+// The value in the option's own word, by what follows the option's text there.
 fn joined_value<'a>(delimiter: Option<u8>, rest: &'a str) -> Option<&'a str>
     ensures { option_copied result ≡ spec.value_after delimiter rest.now }
 {
@@ -82,8 +81,8 @@ fn joined_value<'a>(delimiter: Option<u8>, rest: &'a str) -> Option<&'a str>
     }
 }
 
-// Whether `word` may begin with `text`: it is as long, and has the same byte where `text` ends. It tells
-// most rows of a table from the one that a word chooses, without a comparison of texts.
+// Whether `word` may begin with `text`: it is long enough, and has the same byte where `text` ends. This rules
+// out most entries before any texts are compared.
 fn may_begin(text: &str, word: &str) -> bool
     ensures { result ≡ false → rest_after text.now word.now ≡ None }
 {
@@ -123,7 +122,7 @@ impl<T: Copy> ArgInfo<T> {
         }
     }
 
-    /// What this entry makes of `word`, and `None` if it doesn't match.
+    /// How this entry matches `word`; `None` if it doesn't.
     pub fn matches<'a>(&self, word: &'a str) -> Option<Match<'a>>
         ensures { option_map spec.matched_of result ≡ spec.matched (entry_of self.now) word.now }
     {
@@ -137,7 +136,7 @@ impl<T: Copy> ArgInfo<T> {
 }
 
 impl ArgDisposition {
-    // What an option of this form makes of a word, by what follows its text there.
+    // How an option of this form matches a word, by what follows its text there.
     fn matches<'a>(self, rest: &'a str) -> Option<Match<'a>>
         ensures { option_map spec.matched_of result ≡ spec.matched_rest (Some self) rest.now }
     {
@@ -168,7 +167,7 @@ pub trait SearchableArgInfo<T: Copy> {
     /// The entry that a word chooses.
     ghost chosen: { Self → List ℕ → Option (Entry T) };
 
-    /// The row that `word` chooses: a matching one of greatest text length, and `None` if none
+    /// The entry that `word` chooses: of those that match, one with the longest text. `None` if none
     /// matches.
     fn search(&self, word: &str) -> Option<&ArgInfo<T>>
         ensures { option_map entry_of (option_copied result) ≡ chosen self.now word.now };
@@ -176,8 +175,7 @@ pub trait SearchableArgInfo<T: Copy> {
     ghost longest: { (table : Self) (word : List ℕ) → spec.IsLongestMatch (entries table) word (chosen table word) };
 }
 
-/// A table whose entries are the rows of a slice. Of two matching entries of equal length the first
-/// is chosen.
+/// A table whose entries are in a slice. If two entries that match are equally long, the first wins.
 #[derive(Clone, Copy, Debug)]
 pub struct Table<'a, T: Copy> {
     pub rows: &'a [ArgInfo<T>],
@@ -203,7 +201,7 @@ impl<'a, T: Copy> SearchableArgInfo<T> for Table<'a, T> {
     }
 }
 
-// Whether `row` has a longer text than the row chosen so far.
+// Whether `row` has a longer text than the entry chosen so far.
 fn is_longer<T: Copy>(row: &ArgInfo<T>, best: Option<&ArgInfo<T>>) -> bool
     ensures { result ≡ spec.is_longer (entry_of row.now) (option_map entry_of (option_copied best.entry)) }
 {
@@ -213,7 +211,7 @@ fn is_longer<T: Copy>(row: &ArgInfo<T>, best: Option<&ArgInfo<T>>) -> bool
     }
 }
 
-// The longer of two choices, and of equal length the second.
+// The longer of two choices; the second if both are equally long.
 fn longer<'a, T: Copy>(
     first: Option<&'a ArgInfo<T>>,
     second: Option<&'a ArgInfo<T>>,
@@ -229,8 +227,8 @@ fn longer<'a, T: Copy>(
     }
 }
 
-/// Two tables, searched as one: the longer of their choices, and of equal length the second's. If the
-/// second table's entry of a text doesn't match a word, it doesn't count.
+/// Two tables searched as one: the longer of their choices wins, and the second's if both are equally
+/// long. An entry of the second table replaces one of the same text only for words that it matches.
 impl<T: Copy, A: SearchableArgInfo<T>, B: SearchableArgInfo<T>> SearchableArgInfo<T> for (A, B) {
     ghost use Rattle.option_items.specs.LongestMatch.{longer_choice-longest};
 
@@ -245,8 +243,8 @@ impl<T: Copy, A: SearchableArgInfo<T>, B: SearchableArgInfo<T>> SearchableArgInf
     }
 }
 
-/// The rows of two slices, searched as a pair of tables is. It has one lifetime, so that it can be
-/// handed to a generic reader.
+/// Two slices of entries, searched like a pair of tables. It has a single lifetime, so generic readers
+/// can take it.
 #[derive(Clone, Copy, Debug)]
 pub struct Pair<'a, T: Copy> {
     pub first: Table<'a, T>,

@@ -1,4 +1,4 @@
-//! Items that lend their texts from the words of their line, so that reading them takes no memory.
+//! Items that borrow their texts from the words of their line. Reading them allocates nothing.
 
 ghost use Rattle.std.specs.Prelude.{◌≡◌, ◌++◌, map, IfOk, OnOk, OnErr};
 ghost use Rattle.std.specs.Option.{option_map, option_copied};
@@ -12,7 +12,7 @@ use crate::table::{ArgDisposition, ArgInfo, Match};
 use std::alloc::{AllocError, Global};
 use texts::words::Words;
 
-/// An item of a command line, with texts that stand in the line. `T` is the kind that its table gives
+/// An item of a command line that borrows its texts from the line. `T` is the kind that its table gives
 /// each option.
 #[derive(Clone, Copy, Debug)]
 pub enum ArgumentView<'a, T: Copy> {
@@ -38,7 +38,7 @@ impl<'a, T: Copy> ArgumentView<'a, T> {
         }
     }
 
-    /// The same item, in memory of its own.
+    /// Copies the item's texts into memory of their own.
     pub fn to_argument(self, alloc: Global) -> Result<Argument<T>, AllocError>
         ensures { IfOk result (λ a. item_of a ≡ item_seen self.entry) }
     {
@@ -54,8 +54,8 @@ impl<'a, T: Copy> ArgumentView<'a, T> {
         })
     }
 
-    /// Puts copies of the words that the item is written as last among `words`: those of
-    /// `Argument::write`. On an error `words` stay as they were.
+    /// Appends copies of the item's words to `words`, as `Argument::write` writes them. On an error `words`
+    /// is unchanged.
     pub fn write(self, alloc: Global, words: &mut Words) -> Result<(), AllocError>
         ensures ok { OnOk result (words.new ≡ words.old ++ spec.words_of (item_seen self.entry)) }
         ensures err { OnErr result (words.new ≡ words.old) }
@@ -78,10 +78,11 @@ impl<'a, T: Copy> ArgumentView<'a, T> {
     }
 }
 
-/// The item that `word` begins, whose table row is `row`. An option takes its value from `line`.
+/// Reads the item that `word` begins; `row` is the entry that `word` chooses. An option takes its value
+/// from `line`.
 ///
-/// A reader that keeps few items, or parts of them, calls it for each word of a line. `read_item`
-/// gives the same item in memory of its own.
+/// Readers that keep few items, or only parts of them, call it for each word of a line. `read_item` gives the
+/// same item in memory of its own.
 pub fn view_item<'v, 'a: 'v, T: Copy>(
     row: Option<&ArgInfo<T>>,
     word: &'v str,

@@ -4,11 +4,22 @@ use Rattle.canonical_names.specs.Counted.{old_names}
 use Rattle.canonical_names.specs.References.{window_is, windows_are}
 use Rattle.canonical_names.proofs.WindowLemmas.{windows-none, windows-from, windows-end, windows-stand}
 use Rattle.canonical_names.proofs.references.stand_of.Goals as goal
+use Rattle.canonical_names.proofs.references.stand_of.Goals.{After-is_name_at}
 
 pub returns-then-text-length : goal.returns-then-text-length
 returns-then-text-length c =
     let names = old_names (map pair_of c.args.names.now.entries) in
     sym (windows-none c.args.length names c.args.text.now c.if-text-length.true) ∙ windows-stand c.args.length names c.requires c.args.text.now
+
+-- a name is in the rest if it is at its start, or in what follows the first byte
+from : (c : After-is_name_at) → windows_are c.args.length (old_names (map pair_of c.args.names.now.entries)) (drop c.loop-start.start c.args.text.now)
+    ≡ (window_is c.args.length (old_names (map pair_of c.args.names.now.entries)) (drop c.loop-start.start c.args.text.now)
+    || windows_are c.args.length (old_names (map pair_of c.args.names.now.entries)) (drop (c.loop-start.start + 1) c.args.text.now))
+from c =
+    let text = c.args.text.now in
+    let test : c.loop-start.start < length text - c.args.length + 1 = c.loop-start-test.true in
+    let enough : c.args.length ≤ length text = c.if-text-length.false in
+    windows-from c.args.length (old_names (map pair_of c.args.names.now.entries)) c.requires text c.loop-start.start (omega (arith, test, enough))
 
 pub returns-then-is_name_at : goal.returns-then-is_name_at
 returns-then-is_name_at c =
@@ -16,23 +27,16 @@ returns-then-is_name_at c =
     let text = c.args.text.now in
     let k = c.args.length in
     let i = c.loop-start.start in
-    let test : i < length text - k + 1 = c.loop-start-test.true in
-    let enough : k ≤ length text = c.if-text-length.false in
-    let from = windows-from k names c.requires text i (omega (arith, test, enough)) in
     let here : window_is k names (drop i text) ≡ true = sym c.is_name_at.ensures ∙ c.if-is_name_at.true in
-    sym (sym (windows-stand k names c.requires text) ∙ sym c.loop-start.invariant ∙ from ∙ ap (λ b. b || windows_are k names (drop (i + 1) text)) here)
+    sym (sym (windows-stand k names c.requires text) ∙ sym c.loop-start.invariant ∙ from (goal.at.returns-then-is_name_at c).After-is_name_at ∙ ap (λ b. b || windows_are k names (drop (i + 1) text)) here)
 
 pub loop-start-preserved : goal.loop-start-preserved
 loop-start-preserved c =
     let names = old_names (map pair_of c.args.names.now.entries) in
-    let text = c.args.text.now in
     let k = c.args.length in
     let i = c.loop-start.start in
-    let test : i < length text - k + 1 = c.loop-start-test.true in
-    let enough : k ≤ length text = c.if-text-length.false in
-    let from = windows-from k names c.requires text i (omega (arith, test, enough)) in
-    let here : window_is k names (drop i text) ≡ false = sym c.is_name_at.ensures ∙ c.if-is_name_at.false in
-    sym (from ∙ ap (λ b. b || windows_are k names (drop (i + 1) text)) here) ∙ c.loop-start.invariant
+    let here : window_is k names (drop i c.args.text.now) ≡ false = sym c.is_name_at.ensures ∙ c.if-is_name_at.false in
+    sym (from (goal.at.loop-start-preserved c).After-is_name_at ∙ ap (λ b. b || windows_are k names (drop (i + 1) c.args.text.now)) here) ∙ c.loop-start.invariant
 
 pub returns : goal.returns
 returns c =

@@ -1,0 +1,18 @@
+use Rattle.std.proofs.Common.{◌≡◌, ◌∙◌, sym, rules, ℕ, List, Bool, map}
+use Rattle.std.specs.List.{list_all}
+use Rattle.std.proofs.lemmas.List.Folds.{list_all-map}
+use Rattle.std.proofs.lemmas.Iterator.{YieldsList-from_slice}
+use Rattle.std.proofs.lemmas.Iterator.Search.{all_from_yields_List}
+use borrow.Author.Tests.{tests}
+use Rattle.dry_runs.specs.CommandLines.{line_seen, words_of_command}
+use Rattle.canonical_names.specs.Alike.{is_clean_word}
+use Rattle.canonical_names.specs.Renaming.{names_of_run}
+use Rattle.canonical_names.proofs.clean.are_clean.Goals as goal
+
+pub returns : goal.returns
+returns c =
+    let commands = c.args.commands.now in
+    let clean = is_clean_word c.args.suffixes.now (names_of_run c.args.suffixes.now (map line_seen commands)) in
+    let all : c.all.result ≡ list_all (λ x. list_all clean (words_of_command (line_seen x))) commands =
+    all_from_yields_List (λ x. list_all clean (words_of_command (line_seen x))) _ _ c.all.result c.all.ensures.ran (YieldsList-from_slice commands (search rules)) (λ x b q k. search (rules, tests)) in
+    all ∙ sym (list_all-map (λ command. list_all clean (words_of_command command)) line_seen commands)
