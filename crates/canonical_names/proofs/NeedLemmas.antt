@@ -8,7 +8,7 @@ use Rattle.std.proofs.lemmas.List.Elements.{All-from_recursion, All-contains}
 use Rattle.texts.specs.Path.{folder_of}
 use Rattle.dry_runs.specs.CommandLines.{CommandLine, words_of_command}
 use Rattle.canonical_names.specs.Alike.{IsRenaming, Alike}
-use Rattle.canonical_names.specs.AlikeRows.{run_with}
+use Rattle.canonical_names.specs.AlikeExamples.{run_with}
 use Rattle.canonical_names.specs.Generated.{standard_suffixes, class_of_name}
 use Rattle.canonical_names.specs.Renaming.{names_of_run}
 use Rattle.canonical_names.specs.RenamingNeeds.{AreAlikeFirstUnclean, AreAlikeSecondUnclean, AlikeByAnyMap, AlikeInOtherFolders, AreCleanByAnyMap, AreCleanInOtherFolders, Agree, OneRunIsAlikeFirstUnclean, OneRunIsAlikeSecondUnclean, EveryRunIsRenamedOnce}

@@ -1,27 +1,19 @@
 -- What is asked of suffixes follows from the rule by which a list is accepted.
-use Rattle.std.proofs.Common.{◌≡◌, ℕ, ◌&&◌, ◌||◌, Bool, true, false, not, suc, zero, List, [], ◌∷◌, Some, None, ◌-◌, drop, length, inl, inr, refl, ap, sym, ◌∙◌, subst, nat_eq, eqb, codes, arith, ◌++◌, take, map}
+use Rattle.std.proofs.Common.{◌≡◌, ℕ, ◌&&◌, ◌||◌, Bool, true, false, not, suc, zero, List, [], ◌∷◌, Some, None, ◌-◌, drop, length, inl, inr, refl, ap, sym, ◌∙◌, subst, nat_eq, codes, arith, ◌++◌, take, map}
 use Rattle.std.specs.List.{Contains, ends_with, list_all, list_any, slice_get}
 use Rattle.std.specs.Str.{bytes_eq}
 use Rattle.std.proofs.lemmas.Bool.{false≢true, and_parts, or_parts, cases_lt}
 use Rattle.std.proofs.lemmas.List.Elements.{All-contains}
 use Rattle.std.proofs.lemmas.List.Sums.{AllPass-from_list_all}
 use Rattle.std.proofs.lemmas.Slice.Eq.{bytes_eq-Decides}
-use Rattle.texts.specs.Path.{lacks, is_bare}
+use Rattle.texts.specs.Path.{is_bare}
 use Rattle.canonical_names.specs.SuffixRule.{is_suffix, is_apart, are_apart, are_suffixes, AcceptedAreSuffixes}
 use Rattle.canonical_names.proofs.CanonicalLemmas.{no-member, head-member, tail-member, member-cases, ends-split, shorter-end}
 
 -- tests
-not-or : (a b : Bool) → not (a || b) ≡ (not a && not b)
-not-or true b = refl
-not-or false b = refl
-
 not-true : (a : Bool) → not a ≡ true → a ≡ false
 not-true true h = sym h
 not-true false h = refl
-
-pub lacks-by_search : (byte : ℕ) (text : List ℕ) → not (list_any (λ c. eqb c byte) text) ≡ lacks byte text
-lacks-by_search byte [] = refl
-lacks-by_search byte (c ∷ cs) = not-or (eqb c byte) (list_any (λ c. eqb c byte) cs) ∙ ap (λ t. not (eqb c byte) && t) (lacks-by_search byte cs)
 
 -- a test of mapped elements is a test of the elements
 pub list_any-map : {X Y : Type 0} (p : X → Bool) (h : Y → X) (ys : List Y) → list_any p (map h ys) ≡ list_any (λ y. p (h y)) ys

@@ -1,4 +1,4 @@
--- What holds of canonical names, for all runs.
+-- The laws of canonical names, for all runs.
 use Rattle.std.specs.Prelude.{◌≡◌, ℕ, List, [], ◌∷◌, ◌++◌, true, false, nat_eq, length, fold, if◌then◌else◌, map, Option, Some, None, codes}
 use Rattle.std.specs.List.{Contains, ends_with, filter, list_any}
 use Rattle.std.specs.Str.{bytes_eq}
@@ -10,7 +10,8 @@ use Rattle.texts.specs.Lists.{with_name}
 use Rattle.canonical_names.specs.Alike.{holds, is_clean, Alike}
 use Rattle.canonical_names.specs.Shadow.{appearances}
 
--- what is asked of a list of suffixes: none is an end of another, none holds `/`, and that of cicc's input is among them
+-- what the laws ask of a list of suffixes: none is an end of another, none contains `/`, and that of cicc's input is among
+-- them
 pub record AreSuffixes (suffixes : List (List ℕ)) : Type 0 where
   pub apart : (s t : List ℕ) → Contains suffixes s → Contains suffixes t → ends_with nat_eq s t ≡ true → s ≡ t
   pub bare : (s : List ℕ) → Contains suffixes s → is_bare s ≡ true
@@ -33,17 +34,18 @@ FolderAndClassStay =
     (suffixes : List (List ℕ)) → AreSuffixes suffixes → (seen : List (List ℕ)) (name class : List ℕ) → class_of_name suffixes name ≡ Some class →
     (folder_of (canonical_name suffixes seen name) ≡ folder_of name) × (class_of_name suffixes (canonical_name suffixes seen name) ≡ Some class)
 
--- a word that isn't generated and holds no name seen so far keeps its text, but of several leading `-Fi` only one
+-- a word that isn't generated and contains no name seen so far keeps its text, except that of several leading `-Fi` one is
+-- left
 abbrev pub OtherWordsStay : Type 0
 OtherWordsStay =
     (suffixes seen : List (List ℕ)) (word : List ℕ) → class_of suffixes word ≡ None → list_any (λ name. holds name (core_of word)) seen ≡ false →
     renamed_word suffixes seen word ≡ head_of word ++ core_of word
 
--- the different ones among names, in the order of their first appearance
+-- names without repetitions, in order of first appearance
 abbrev pub different_ones : List (List ℕ) → List (List ℕ)
 different_ones names = fold (λ seen name. with_name seen (Some name)) [] names
 
--- the names that stand before a name's first appearance; all of them where it doesn't appear
+-- the names before a name's first appearance; all of them if it doesn't appear
 abbrev pub before_name : List ℕ → List (List ℕ) → List (List ℕ)
 before_name name [] = []
 before_name name (n ∷ names) = if bytes_eq n name then [] else n ∷ before_name name names
@@ -66,26 +68,26 @@ word_by_all suffixes names word = head_of word ++ core_by_all names (core_of wor
 abbrev pub command_by_all : List (List ℕ) → List (List ℕ) → CommandLine → CommandLine
 command_by_all suffixes names command = with_words command (map (word_by_all suffixes names) (words_of_command command))
 
--- in a clean run every word is renamed by itself, by all names of the run: a generated one to its canonical name, and any
--- other stays, but of several leading `-Fi` only one
+-- in a clean run each word is renamed on its own, by all names of the run: a generated one to its canonical name, and any
+-- other keeps its text, except that of several leading `-Fi` one is left
 abbrev pub CleanRunIsAMap : Type 0
 CleanRunIsAMap =
     (suffixes : List (List ℕ)) (commands : List CommandLine) → is_clean suffixes commands ≡ true →
     renamed suffixes commands ≡ map (command_by_all suffixes (names_of_run suffixes commands)) commands
 
--- clean runs that are alike have one canonical run
+-- clean runs that are alike have the same canonical run
 abbrev pub AlikeRunsAgree : Type 0
 AlikeRunsAgree =
     (suffixes : List (List ℕ)) → AreSuffixes suffixes → (first second : List CommandLine) →
     is_clean suffixes first ≡ true → is_clean suffixes second ≡ true → Alike suffixes first second → renamed suffixes first ≡ renamed suffixes second
 
--- a clean run is renamed once for all: the canonical run of its canonical run is that run
+-- renaming a clean run twice is the same as renaming it once
 abbrev pub RenamedOnceForAll : Type 0
 RenamedOnceForAll =
     (suffixes : List (List ℕ)) → AreSuffixes suffixes → (commands : List CommandLine) →
     is_clean suffixes commands ≡ true → renamed suffixes (renamed suffixes commands) ≡ renamed suffixes commands
 
--- clean runs that have one canonical run are alike
+-- clean runs with the same canonical run are alike
 abbrev pub OneCanonicalRun : Type 0
 OneCanonicalRun =
     (suffixes : List (List ℕ)) → AreSuffixes suffixes → (first second : List CommandLine) →

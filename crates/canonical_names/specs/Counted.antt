@@ -1,4 +1,4 @@
--- What a map of canonical names and its counters hold.
+-- A map of canonical names and its counters.
 use Rattle.std.specs.Prelude.{◌≡◌, ℕ, List, ◌++◌, Bool, true, nat_eq, length, map, filter, is_some, Option, Some, None, if◌then◌else◌, codes}
 use Rattle.std.specs.Fmt.{decimal}
 use Rattle.std.specs.List.{ends_with, list_all, slice_get}
@@ -26,8 +26,8 @@ with_canonical suffixes names n = (n, canonical_name suffixes names n)
 abbrev pub has_class : List (List ℕ) → List ℕ → Bool
 has_class suffixes n = is_some (class_of_name suffixes n)
 
--- the list of suffixes was accepted, each name has a class and stands with its canonical name, and each counter is the number
--- of names of its class
+-- the list of suffixes was accepted, each name has a class and is paired with its canonical name, and each counter is the
+-- number of names of its class
 pub record IsCounted (suffixes names : List (List ℕ)) (pairs : List (List ℕ × List ℕ)) (counts : List ℕ) : Type 0 where
   pub accepted : are_suffixes suffixes ≡ true
   pub classes : list_all (has_class suffixes) names ≡ true
@@ -38,6 +38,6 @@ pub record IsCounted (suffixes names : List (List ℕ)) (pairs : List (List ℕ 
 abbrev pub decimal_file : ℕ → List ℕ → List ℕ
 decimal_file k class = codes "x_" ++ (decimal k ++ class)
 
--- how many names are of the class at a place of the list of suffixes
+-- how many names are of the class at an index of the list of suffixes
 abbrev pub IsCount : List (List ℕ) → List (List ℕ) → ℕ → ℕ → Type 0
 IsCount suffixes names i count = (class : List ℕ) → slice_get suffixes i ≡ Some class → count ≡ count_of names class

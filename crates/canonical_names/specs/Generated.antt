@@ -1,9 +1,9 @@
--- Generated words: those that name a file which a dry run makes up.
+-- Generated words: those that name a file that nvcc generates.
 use Rattle.std.specs.Prelude.{◌≡◌, ℕ, List, [], ◌∷◌, Bool, true, false, ◌==◌, ◌&&◌, nat_eq, if◌then◌else◌, Option, Some, None, is_some, refl, codes}
 use Rattle.std.specs.List.{find, starts_with, ends_with}
 use Rattle.std.specs.Option.{option_map}
 
--- the suffixes of the files that nvcc makes up
+-- the suffixes of the files that nvcc generates
 abbrev pub standard_suffixes : List (List ℕ)
 standard_suffixes = codes ".cpp1.ii" ∷ codes ".cpp4.ii" ∷ codes ".cudafe1.c" ∷ codes ".cudafe1.cpp" ∷ codes ".cudafe1.stub.c" ∷ []
 
@@ -11,11 +11,11 @@ standard_suffixes = codes ".cpp1.ii" ∷ codes ".cpp4.ii" ∷ codes ".cudafe1.c"
 abbrev pub is_file_mark : ℕ → ℕ → ℕ → Bool
 is_file_mark a b c = (a == 45) && (b == 70) && (c == 105)
 
--- the head of a word: `-Fi` where it begins so, else nothing
+-- the head of a word: `-Fi` if it begins with that, else nothing
 abbrev pub head_of : List ℕ → List ℕ
 head_of word = if starts_with nat_eq word (codes "-Fi") then codes "-Fi" else []
 
--- the core of a word: what is left without every `-Fi` that it begins with
+-- the core of a word: what is left without all `-Fi` that it begins with
 abbrev pub core_of : List ℕ → List ℕ
 core_of [] = []
 core_of (a ∷ []) = a ∷ []
@@ -31,7 +31,7 @@ begins_with_dash (c ∷ _) = c == 45
 abbrev pub class_of_name : List (List ℕ) → List ℕ → Option (List ℕ)
 class_of_name suffixes name = find (ends_with nat_eq name) suffixes
 
--- the class of a word, which only a generated word has: its core doesn't begin with `-`, and ends in a suffix
+-- the class of a word. Only generated words have one: those whose core ends in a suffix and doesn't begin with `-`
 abbrev pub class_of : List (List ℕ) → List ℕ → Option (List ℕ)
 class_of suffixes word = if begins_with_dash (core_of word) then None else class_of_name suffixes (core_of word)
 
@@ -39,11 +39,11 @@ class_of suffixes word = if begins_with_dash (core_of word) then None else class
 abbrev pub is_generated : List (List ℕ) → List ℕ → Bool
 is_generated suffixes word = is_some (class_of suffixes word)
 
--- the name that a generated word holds: its core
+-- the name in a generated word: its core
 abbrev pub generated_name : List (List ℕ) → List ℕ → Option (List ℕ)
 generated_name suffixes word = option_map (λ _. core_of word) (class_of suffixes word)
 
--- examples: the head counts once, whatever stands in front; an option's word isn't generated
+-- Examples: several `-Fi` count as one head; an option's word isn't generated.
 pub core_after_two_marks : core_of (codes "-Fi-Fik.cpp1.ii") ≡ codes "k.cpp1.ii"
 core_after_two_marks = refl
 

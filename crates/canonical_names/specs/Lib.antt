@@ -1,12 +1,12 @@
 pub mod Alike
-pub mod AlikeRows
+pub mod AlikeExamples
 pub mod CanonicalNames
 pub mod Counted
 pub mod Generated
 pub mod References
 pub mod Renaming
+pub mod RenamingExamples
 pub mod RenamingNeeds
-pub mod RenamingRows
 pub mod Shadow
 pub mod Shown
 pub mod StepShadow

@@ -9,7 +9,7 @@ use Rattle.dry_runs.specs.Replacing.{replaced}
 use Rattle.texts.specs.Lists.{with_name}
 use Rattle.texts.specs.Numeral.{numeral}
 
--- Names are seen in the order of their first appearance, each once.
+-- Names are listed in order of first appearance, each once.
 
 -- the names seen after a word, and after the words of a command
 abbrev pub seen_after_word : List (List ℕ) → List (List ℕ) → List ℕ → List (List ℕ)
@@ -43,12 +43,12 @@ canonical_or seen name (Some class) = canonical_in seen name class
 abbrev pub canonical_name : List (List ℕ) → List (List ℕ) → List ℕ → List ℕ
 canonical_name suffixes seen name = canonical_or seen name (class_of_name suffixes name)
 
--- a name put into a list of names, behind all that are at least as long
+-- inserts a name into a list of names, after all that are at least as long
 abbrev pub insert_by_length : List (List ℕ) → List ℕ → List (List ℕ)
 insert_by_length [] name = name ∷ []
 insert_by_length (n ∷ ns) name = if nat_lt (length n) (length name) then name ∷ n ∷ ns else n ∷ insert_by_length ns name
 
--- names, the longest first, and those of equal length in the order in which they stand
+-- names, the longest first, and equally long ones in their order
 abbrev pub longest_first : List (List ℕ) → List (List ℕ)
 longest_first names = fold insert_by_length [] names
 
@@ -57,12 +57,12 @@ longest_first names = fold insert_by_length [] names
 abbrev pub rewritten : List (List ℕ) → List (List ℕ) → List ℕ → List ℕ
 rewritten suffixes seen text = fold (λ t name. replaced name (canonical_name suffixes seen name) t) text (longest_first seen)
 
--- the new core of a word, by its class: a canonical name where it is generated, else the text with its references rewritten
+-- the new core of a word, by its class: the canonical name if it is generated, else the text with its references rewritten
 abbrev pub renamed_core : List (List ℕ) → List (List ℕ) → List ℕ → Option (List ℕ) → List ℕ
 renamed_core suffixes seen core None = rewritten suffixes seen core
 renamed_core suffixes seen core (Some class) = canonical_in seen core class
 
--- a word after these names were seen: it keeps its head, and no further `-Fi`
+-- a word after these names were seen: it keeps its head, and no other `-Fi`
 abbrev pub renamed_word : List (List ℕ) → List (List ℕ) → List ℕ → List ℕ
 renamed_word suffixes seen word = head_of word ++ renamed_core suffixes seen (core_of word) (class_of suffixes word)
 
@@ -82,6 +82,6 @@ renamed_after suffixes seen (command ∷ commands) =
     with_words command (renamed_words suffixes seen (words_of_command command))
     ∷ renamed_after suffixes (seen_after suffixes seen (words_of_command command)) commands
 
--- the canonical run: the commands of a run with all of their words renamed
+-- the canonical run: the commands of a run with all their words renamed
 abbrev pub renamed : List (List ℕ) → List CommandLine → List CommandLine
 renamed suffixes commands = renamed_after suffixes [] commands

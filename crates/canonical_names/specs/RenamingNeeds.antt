@@ -1,4 +1,4 @@
--- The laws of renaming with one premise left out of each. None of these is so.
+-- The laws of renaming, each without one of its premises. None of these holds.
 use Rattle.std.specs.Prelude.{◌≡◌, ℕ, List, true, map}
 use Rattle.std.specs.List.{Contains}
 use Rattle.texts.specs.Path.{folder_of}
@@ -8,7 +8,7 @@ use Rattle.canonical_names.specs.CanonicalNames.{AreSuffixes}
 use Rattle.canonical_names.specs.Generated.{class_of_name}
 use Rattle.canonical_names.specs.Renaming.{names_of_run, renamed}
 
--- that names keep their folder, that they keep their class, and that different ones stay different
+-- names keep their folder; they keep their class; different ones stay different
 abbrev pub KeepsFolder : List (List ℕ) → (List ℕ → List ℕ) → Type 0
 KeepsFolder names f = (n : List ℕ) → Contains names n → folder_of (f n) ≡ folder_of n
 
@@ -18,7 +18,7 @@ KeepsClass suffixes names f = (n : List ℕ) → Contains names n → class_of_n
 abbrev pub IsOneToOne : List (List ℕ) → (List ℕ → List ℕ) → Type 0
 IsOneToOne names f = (m n : List ℕ) → Contains names m → Contains names n → f m ≡ f n → m ≡ n
 
--- two runs that are alike, but for a map of names that need not be one-to-one, or that need not keep folders
+-- two runs are alike by a map of names that needn't be one-to-one, or that needn't keep folders
 abbrev pub AlikeByAnyMap : List (List ℕ) → List CommandLine → List CommandLine → Type 0
 AlikeByAnyMap suffixes first second =
     (f : List ℕ → List ℕ) × KeepsFolder (names_of_run suffixes first) f × KeepsClass suffixes (names_of_run suffixes first) f ×
@@ -29,7 +29,7 @@ AlikeInOtherFolders suffixes first second =
     (f : List ℕ → List ℕ) × IsOneToOne (names_of_run suffixes first) f × KeepsClass suffixes (names_of_run suffixes first) f ×
     (map (command_through suffixes f) first ≡ map (command_through suffixes (λ n. n)) second)
 
--- runs that are alike in some way, of which one need not be clean, or both are
+-- runs that are alike in some way; one needn't be clean, or both are
 abbrev pub AreAlikeFirstUnclean : List (List ℕ) → List CommandLine → List CommandLine → Type 0
 AreAlikeFirstUnclean suffixes first second = (is_clean suffixes second ≡ true) × Alike suffixes first second
 
@@ -43,13 +43,13 @@ abbrev pub AreCleanInOtherFolders : List (List ℕ) → List CommandLine → Lis
 AreCleanInOtherFolders suffixes first second =
     (is_clean suffixes first ≡ true) × (is_clean suffixes second ≡ true) × AlikeInOtherFolders suffixes first second
 
--- runs that are alike in some way have one canonical run
+-- runs that are alike in some way have the same canonical run
 abbrev pub Agree : (List (List ℕ) → List CommandLine → List CommandLine → Type 0) → Type 0
 Agree Relation =
     (suffixes : List (List ℕ)) → AreSuffixes suffixes → (first second : List CommandLine) →
     Relation suffixes first second → renamed suffixes first ≡ renamed suffixes second
 
--- runs that have one canonical run are alike, where the first, or the second, need not be clean
+-- runs with the same canonical run are alike, even if the first, or the second, isn't clean
 abbrev pub OneRunIsAlikeFirstUnclean : Type 0
 OneRunIsAlikeFirstUnclean =
     (suffixes : List (List ℕ)) → AreSuffixes suffixes → (first second : List CommandLine) →
@@ -60,7 +60,7 @@ OneRunIsAlikeSecondUnclean =
     (suffixes : List (List ℕ)) → AreSuffixes suffixes → (first second : List CommandLine) →
     is_clean suffixes first ≡ true → renamed suffixes first ≡ renamed suffixes second → Alike suffixes first second
 
--- every run is renamed once for all, clean or not
+-- renaming any run twice is the same as renaming it once
 abbrev pub EveryRunIsRenamedOnce : Type 0
 EveryRunIsRenamedOnce =
     (suffixes : List (List ℕ)) → AreSuffixes suffixes → (commands : List CommandLine) →

@@ -1,4 +1,4 @@
--- Shadow runs: a second run whose generated files are those of the first, in a folder for temporary files.
+-- Shadow runs: second runs that put the generated files of the first run into a temporary directory.
 use Rattle.std.specs.Prelude.{ℕ, List, map, Bool, true, false, not, ◌&&◌, ◌||◌, Option, Some, None, codes}
 use Rattle.std.specs.List.{list_all, filter_map, flat_map}
 use Rattle.std.specs.Cmp.Lexicographic.{pointwise}
@@ -9,7 +9,7 @@ use Rattle.dry_runs.specs.CommandLines.{CommandLine, words_of_command}
 use Rattle.canonical_names.specs.Generated.{begins_with_dash, generated_name}
 use Rattle.texts.specs.Lists.{word_after}
 
--- the generated names of a run, in the order in which they appear, each as often as it does
+-- the generated names of a run in order of appearance, each as often as it appears
 abbrev pub appearances : List (List ℕ) → List CommandLine → List (List ℕ)
 appearances suffixes commands = flat_map (λ command. filter_map (generated_name suffixes) (words_of_command command)) commands
 
@@ -18,14 +18,14 @@ abbrev pub is_cicc_file : Option (List ℕ) → Bool
 is_cicc_file None = false
 is_cicc_file (Some name) = is_cicc_word name
 
--- an output is plain where its file name is no input of cicc, or it begins with no `-` and ends as such an input does.
--- So `k.cpp1.ii/` isn't plain
+-- An output is plain if its file name isn't that of an input of cicc, or if the whole word ends like such an input and
+-- doesn't begin with `-`. So `k.cpp1.ii/` isn't plain.
 abbrev pub is_plain_output : Option (List ℕ) → Bool
 is_plain_output None = true
 is_plain_output (Some word) = not (is_cicc_file (file_name_of word)) || (not (begins_with_dash word) && is_cicc_word word)
 
 -- whether the second run shadows the first in a folder: the first run's generated names are bare, the second's are the
--- same ones put into the folder, appearance by appearance, and the second run's outputs are plain
+-- same ones joined to the folder, one by one, and the second run's outputs are plain
 abbrev pub is_shadow : List (List ℕ) → List CommandLine → List CommandLine → List ℕ → Bool
 is_shadow suffixes first second folder =
     list_all is_bare (appearances suffixes first)

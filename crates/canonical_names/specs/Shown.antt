@@ -1,7 +1,7 @@
--- Names behind references.
+-- Names that are borrowed.
 use Rattle.std.specs.Prelude.{ℕ, List}
 use denote.Ref.{Bor}
 
--- the name that a reference shows
+-- the borrowed name
 abbrev pub name_shown : Bor (List ℕ) → List ℕ
 name_shown r = r.now

@@ -1,4 +1,4 @@
--- Shadow runs as far as the inputs of cicc go: what preprocess steps write and cicc reads.
+-- Shadow runs by the inputs of cicc alone: the files that preprocess steps write and cicc reads.
 use Rattle.std.specs.Prelude.{◌≡◌, ℕ, List, map, filter, Bool, true, false, ◌&&◌, ◌==◌, if◌then◌else◌, Some, refl, codes}
 use Rattle.std.specs.List.{list_all}
 use Rattle.std.specs.Cmp.Lexicographic.{pointwise}
@@ -14,39 +14,40 @@ use Rattle.canonical_names.specs.Generated.{standard_suffixes, begins_with_dash}
 use Rattle.canonical_names.specs.Renaming.{rank, canonical_file, names_of_run}
 use Rattle.canonical_names.specs.Shadow.{appearances, is_plain_output, is_shadow}
 
--- the generated names of a run that end in `.cpp1.ii`, in the order in which they appear, each as often as it does
+-- the generated names of a run that end in `.cpp1.ii` in order of appearance, each as often as it appears
 abbrev pub step_names : List (List ℕ) → List CommandLine → List (List ℕ)
 step_names suffixes commands = filter is_cicc_word (appearances suffixes commands)
 
--- whether the second run shadows the first in a folder as far as these names go: the first run's are bare, the second's are
--- the same ones put into the folder, appearance by appearance, and the second run's outputs are plain
+-- whether the second run shadows the first in a folder by these names: the first run's are bare, the second's are the
+-- same ones joined to the folder, one by one, and the second run's outputs are plain
 abbrev pub is_step_shadow : List (List ℕ) → List CommandLine → List CommandLine → List ℕ → Bool
 is_step_shadow suffixes first second folder =
     list_all is_bare (step_names suffixes first)
     && (pointwise bytes_eq (step_names suffixes second) (map (joined folder) (step_names suffixes first))
     && list_all (λ command. is_plain_output (word_after (codes "-o") (words_of_command command))) second)
 
--- a shadow is one as far as the inputs of cicc go
+-- a shadow is one by the inputs of cicc alone
 abbrev pub ShadowIsStepShadow : Type 0
 ShadowIsStepShadow =
     (suffixes : List (List ℕ)) → AreSuffixes suffixes → (first second : List CommandLine) (folder : List ℕ) →
     is_shadow suffixes first second folder ≡ true → is_step_shadow suffixes first second folder ≡ true
 
--- the inputs of cicc in one run, and the same ones in the folder in the other, have one rank, and so one canonical file name
+-- the inputs of cicc in one run, and the same ones in the folder in the other, have the same rank, and so the same canonical
+-- file name
 abbrev pub StepNamesKeepRank : Type 0
 StepNamesKeepRank =
     (suffixes : List (List ℕ)) → AreSuffixes suffixes → (first second : List CommandLine) (folder : List ℕ) →
     is_step_shadow suffixes first second folder ≡ true → (name : List ℕ) → is_bare name ≡ true → is_cicc_word name ≡ true →
     rank (codes ".cpp1.ii") (names_of_run suffixes first) name ≡ rank (codes ".cpp1.ii") (names_of_run suffixes second) (joined folder name)
 
--- of plain outputs only an input of cicc gets a canonical file name of its class, and that of its own rank
+-- of plain outputs only an input of cicc gets a canonical file name of its class, with its own rank
 abbrev pub PlainOutputsStayApart : Type 0
 PlainOutputsStayApart =
     (suffixes : List (List ℕ)) → AreSuffixes suffixes → (names : List (List ℕ)) (word : List ℕ) (k : ℕ) → is_plain_output (Some word) ≡ true →
     file_name_of (word_by_all suffixes names word) ≡ Some (canonical_file k (codes ".cpp1.ii")) →
     (begins_with_dash word ≡ false) × (is_cicc_word word ≡ true) × (rank (codes ".cpp1.ii") names word ≡ k)
 
--- the one-kernel dry run in the folder `/t`, where cudafe++ alone names the stub file without it, as nvcc 13.0 has it
+-- the one-kernel dry run in the folder `/t`, except that cudafe++ names the stub file without it, like nvcc 13.0
 abbrev pub bare_stub_commands : List CommandLine
 bare_stub_commands =
     map
@@ -57,8 +58,8 @@ bare_stub_commands =
     ) else c)
     one_kernel_in_temporary_commands
 
--- the one-kernel dry run and the same run in the folder `/t` are shadows as far as the inputs of cicc go, and still are where
--- cudafe++'s stub file is bare, which are no shadows; a run is none of itself
+-- The one-kernel dry run and the same run in the folder `/t` are shadows by the inputs of cicc. They still are if cudafe++'s
+-- stub file is bare, although they are no shadows then. A run doesn't shadow itself.
 abbrev pub OneKernelHasStepShadows : Type 0
 OneKernelHasStepShadows =
     (is_step_shadow standard_suffixes one_kernel_commands one_kernel_in_temporary_commands (codes "/t") ≡ true)

@@ -1,4 +1,4 @@
--- Which lists of suffixes of generated files may be handed in.
+-- Which lists of suffixes a caller may pass.
 use Rattle.std.specs.Prelude.{◌≡◌, ℕ, List, [], ◌∷◌, Bool, true, false, not, ◌&&◌, ◌-◌, ◌==◌, nat_eq, length, Option, refl, codes}
 use Rattle.std.specs.Char.{is_ascii_alphanumeric}
 use Rattle.std.specs.List.{list_all, list_any, ends_with, slice_get}
@@ -13,7 +13,7 @@ use Rattle.canonical_names.specs.CanonicalNames.{AreSuffixes}
 abbrev pub last_byte : List ℕ → Option ℕ
 last_byte text = slice_get text (length text - 1)
 
--- a suffix begins with `.`, ends in an ASCII letter or digit, and holds no `/`
+-- a suffix begins with `.`, ends in an ASCII letter or digit, and contains no `/`
 abbrev pub is_suffix : List ℕ → Bool
 is_suffix text = is_some_and (λ c. c == 46) (slice_get text 0) && (is_some_and is_ascii_alphanumeric (last_byte text) && is_bare text)
 
@@ -21,26 +21,26 @@ is_suffix text = is_some_and (λ c. c == 46) (slice_get text 0) && (is_some_and 
 abbrev pub is_apart : List ℕ → List ℕ → Bool
 is_apart s t = not (ends_with nat_eq s t) && not (ends_with nat_eq t s)
 
--- whether none is an end of one at another place
+-- whether none is an end of another one
 abbrev pub are_apart : List (List ℕ) → Bool
 are_apart [] = true
 are_apart (s ∷ suffixes) = list_all (is_apart s) suffixes && are_apart suffixes
 
--- whether a list may be handed in: each is a suffix, none is an end of one at another place, and that of cicc's input is
+-- whether a caller may pass a list: each is a suffix, none is an end of another one, and the suffix of cicc's input is
 -- among them
 abbrev pub are_suffixes : List (List ℕ) → Bool
 are_suffixes suffixes = list_all is_suffix suffixes && (are_apart suffixes && list_any (bytes_eq (codes ".cpp1.ii")) suffixes)
 
--- the suffixes of nvcc's files, unless others were handed in
+-- the suffixes of nvcc's files, unless the caller passed others
 abbrev pub suffixes_or_standard : Option (List (List ℕ)) → List (List ℕ)
 suffixes_or_standard handed = unwrap_or handed standard_suffixes
 
--- a list that may be handed in has all that is asked of it
+-- a list that a caller may pass has what the laws ask for
 abbrev pub AcceptedAreSuffixes : Type 0
 AcceptedAreSuffixes = (suffixes : List (List ℕ)) → are_suffixes suffixes ≡ true → AreSuffixes suffixes
 
--- examples: the standard ones, and one more; then an empty list, one without cicc's input, suffixes that overlap or stand
--- twice, and texts that are no suffixes
+-- Examples: the standard suffixes, and one more; then an empty list, one without cicc's input, suffixes that overlap or
+-- are listed twice, and texts that aren't suffixes.
 pub standard_are_accepted : are_suffixes standard_suffixes ≡ true
 standard_are_accepted = refl
 

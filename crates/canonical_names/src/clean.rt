@@ -1,4 +1,4 @@
-//! Clean runs: those in which no other word holds a generated name.
+//! Clean runs: only generated words contain generated names.
 
 ghost use Rattle.std.specs.Prelude.{◌≡◌, map, string_bytes};
 ghost use Rattle.std.specs.List.{list_any, list_all, filter_map};
@@ -14,9 +14,10 @@ use crate::references::holds;
 use crate::suffixes::Suffixes;
 use dry_runs::DryRun;
 
-// Whether a text holds a generated name of a command.
+// Whether a text contains a generated name of a command.
 fn holds_name_of(text: &str, words: &[String], suffixes: &Suffixes) -> bool
-    ensures { result ≡ list_any (λ n. spec.holds n text.now) (filter_map (generated.generated_name suffixes.now) (map string_bytes words.now)) }
+    ensures { result
+        ≡ list_any (λ n. spec.holds n text.now) (filter_map (generated.generated_name suffixes.now) (map string_bytes words.now)) }
 {
     for word in words {
         if is_held(text, suffixes.generated_name(word.as_str())) {
@@ -26,7 +27,7 @@ fn holds_name_of(text: &str, words: &[String], suffixes: &Suffixes) -> bool
     false
 }
 
-// Whether a text holds a name, where there is one.
+// Whether there is a name, and a text contains it.
 fn is_held(text: &str, name: Option<&str>) -> bool
     ensures { result ≡ is_some_and (λ n. spec.holds n text.now) (option_copied name.entry) }
 {
@@ -36,7 +37,7 @@ fn is_held(text: &str, name: Option<&str>) -> bool
     }
 }
 
-// Whether a text holds a generated name of a run.
+// Whether a text contains a generated name of a run.
 fn holds_name(text: &str, commands: &[(usize, String, Vec<String>)], suffixes: &Suffixes) -> bool
     ensures { result ≡ list_any (λ n. spec.holds n text.now) (appearances suffixes.now (map line_seen commands.now)) }
 {
@@ -48,8 +49,8 @@ fn holds_name(text: &str, commands: &[(usize, String, Vec<String>)], suffixes: &
     false
 }
 
-// Whether a word is generated, or holds no generated name of a run. A name ends in a suffix, so a word
-// that holds no suffix is searched for no name.
+// Whether a word is generated, or contains no generated name of a run. Every name ends in a suffix, so a word without
+// any suffix contains no name.
 fn is_clean_word(word: &str, commands: &[(usize, String, Vec<String>)], suffixes: &Suffixes) -> bool
     ensures { result ≡ spec.is_clean_word suffixes.now (names_of_run suffixes.now (map line_seen commands.now)) word.now }
 {
@@ -80,8 +81,8 @@ fn are_clean(commands: &[(usize, String, Vec<String>)], suffixes: &Suffixes) -> 
     commands.iter().all(|command| are_clean_words(command.2.as_slice(), commands, suffixes))
 }
 
-/// Whether a run is clean: each of its words is generated, or holds no generated name of the run, of
-/// any command. The laws of canonical names are of clean runs.
+/// Whether a run is clean: each of its words is generated, or contains no generated name of any command of the
+/// run. The laws of canonical names are about clean runs.
 pub fn is_clean(run: &DryRun, suffixes: &Suffixes) -> bool
     ensures { result ≡ spec.is_clean suffixes.now run.now.commands }
 {

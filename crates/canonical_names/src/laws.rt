@@ -1,10 +1,10 @@
-//! What holds of canonical names, and runs worked out by hand, which the definitions compute.
+//! Laws of canonical names, and examples worked out by hand.
 
 ghost use Rattle.texts.specs.Equality.{TellsEqual};
-ghost use Rattle.canonical_names.specs.AlikeRows.{OneKernelIsClean, ReferenceIsNotClean, OneKernelIsAlike, OtherPatternIsNotAlike, OneKernelHasAShadow};
+ghost use Rattle.canonical_names.specs.AlikeExamples.{OneKernelIsClean, ReferenceIsNotClean, OneKernelIsAlike, OtherPatternIsNotAlike, OneKernelHasAShadow};
 ghost use Rattle.canonical_names.specs.CanonicalNames.{StandardAreSuffixes, DifferentNames, FolderAndClassStay, OtherWordsStay, RankCountsNames, CleanRunIsAMap, AlikeRunsAgree, OneCanonicalRun, RenamedOnceForAll};
 ghost use Rattle.canonical_names.specs.RenamingNeeds.{Agree, AreAlikeFirstUnclean, AreAlikeSecondUnclean, AreCleanByAnyMap, AreCleanInOtherFolders, OneRunIsAlikeFirstUnclean, OneRunIsAlikeSecondUnclean, EveryRunIsRenamedOnce};
-ghost use Rattle.canonical_names.specs.RenamingRows.{LongestReferenceFirst, EarlyReferenceStays, OneMarkIsLeft, FolderStaysAsAPath, FolderLosesItsDot, FirstNameComesAgain, SecondNameComesAgain, OneKernelIsRenamed, EveryCommandCounts, BeginningIsTakenForTheName, SourceFileIsRenamed};
+ghost use Rattle.canonical_names.specs.RenamingExamples.{LongestReferenceFirst, EarlyReferenceStays, OneMarkIsLeft, FolderStaysAsAPath, FolderLosesItsDot, FirstNameComesAgain, SecondNameComesAgain, OneKernelIsRenamed, EveryCommandCounts, BeginningIsTakenForTheName, SourceFileIsRenamed};
 ghost use Rattle.canonical_names.specs.StepShadow.{ShadowIsStepShadow, StepNamesKeepRank, PlainOutputsStayApart, OneKernelHasStepShadows};
 ghost use Rattle.canonical_names.specs.SuffixRule.{AcceptedAreSuffixes};
 
@@ -15,15 +15,14 @@ pub fn equality()
     ensures suffixes { TellsEqual ⟦<Suffixes as PartialEq>⟧.eq }
 {}
 
-/// A list of suffixes that may be handed in has all that the laws of canonical names ask of it.
+/// Every list of suffixes that `Suffixes::new` accepts has what the laws of canonical names ask for.
 pub fn accepted_suffixes()
     ensures { AcceptedAreSuffixes }
 {}
 
-/// A shadow run is one as far as the inputs of cicc go (`implied`), and not the other way round
-/// (`worked`). Then an input of cicc and the same one in the folder have one rank (`ranks`), and of
-/// the second run's plain outputs only such an input gets a canonical file name of that class
-/// (`outputs`).
+/// A run that passes `is_shadow` passes `is_step_shadow` (`implied`), and not the other way round (`worked`).
+/// If a run passes, an input of cicc and the same one in the folder have the same rank (`ranks`), and of the
+/// second run's plain outputs only such an input gets a canonical file name of that suffix (`outputs`).
 pub fn step_shadows()
     ensures implied { ShadowIsStepShadow }
     ensures ranks { StepNamesKeepRank }
@@ -31,7 +30,7 @@ pub fn step_shadows()
     ensures worked { OneKernelHasStepShadows }
 {}
 
-/// What the words of some commands are renamed to, by the definitions.
+/// Examples: what the words of some commands are renamed to, by the definitions.
 pub fn worked_renamings()
     ensures longest_reference_first { LongestReferenceFirst }
     ensures early_reference_stays { EarlyReferenceStays }
@@ -46,7 +45,7 @@ pub fn worked_renamings()
     ensures source_file_is_renamed { SourceFileIsRenamed }
 {}
 
-/// Which worked runs are clean, alike or shadows, by the definitions.
+/// Examples: which runs are clean, alike or shadows, by the definitions.
 pub fn worked_likeness()
     ensures one_kernel_is_clean { OneKernelIsClean }
     ensures reference_is_not_clean { ReferenceIsNotClean }
@@ -55,13 +54,13 @@ pub fn worked_likeness()
     ensures one_kernel_has_a_shadow { OneKernelHasAShadow }
 {}
 
-/// What holds of the canonical names of every run, for every list of suffixes of which none is an
-/// end of another and none holds `/`, as those of nvcc (`standard`).
+/// Laws of the canonical names of every run, for every list of suffixes of which none is an end of another
+/// and none contains `/`. nvcc's own suffixes are such a list (`standard`).
 ///
-/// A canonical name keeps its folder, as a path, and its suffix (`kept`). Any other word that holds no name seen
-/// so far keeps its text, but of several leading `-Fi` only one (`others`). A name's rank is the number
-/// of different names of its suffix that appear before it in the run (`ranks`). In a clean run every
-/// word is renamed by itself, by all names of the run (`clean`).
+/// A canonical name keeps its folder, as a path, and its suffix (`kept`). A word that isn't generated and
+/// contains no name seen so far keeps its text, except that of several leading `-Fi` only one is left
+/// (`others`). A name's rank is the number of different names of its suffix that appear before it in the run
+/// (`ranks`). In a clean run each word is renamed on its own, by all names of the run (`clean`).
 pub fn canonical_names()
     ensures standard { StandardAreSuffixes }
     ensures kept { FolderAndClassStay }
@@ -70,11 +69,10 @@ pub fn canonical_names()
     ensures clean { CleanRunIsAMap }
 {}
 
-/// Two clean runs have one canonical run exactly if they are alike, for every list of suffixes of
-/// which none is an end of another and none holds `/`: those that are alike have one (`agree`), and
-/// those that have one are alike (`alike`). Different generated names of a run get different
-/// canonical names (`different`). A clean run is renamed once for all: renamed again, it stays as
-/// it is, even where its canonical run isn't clean (`once`).
+/// Two clean runs have the same canonical run if (`agree`) and only if (`alike`) they are alike. This holds for
+/// every list of suffixes of which none is an end of another and none contains `/`. Different generated names of
+/// a run get different canonical names (`different`). Renaming a clean run twice is the same as renaming it
+/// once, even if its canonical run isn't clean (`once`).
 pub fn renaming()
     ensures agree { AlikeRunsAgree }
     ensures alike { OneCanonicalRun }
@@ -82,12 +80,12 @@ pub fn renaming()
     ensures once { RenamedOnceForAll }
 {}
 
-/// None of the premises of `renaming` can be left out. Runs that are alike don't all have one
-/// canonical run if one of them isn't clean (`agree_first_clean`, `agree_second_clean`), if the map
-/// of their names isn't one-to-one (`agree_one_to_one`) or changes a folder (`agree_folder`). Runs
-/// that have one aren't all alike if one of them isn't clean (`alike_first_clean`,
-/// `alike_second_clean`). And not every run is renamed once for all: with a suffix of the caller's, a
-/// text that refers to a name can become a generated name (`once_clean`).
+/// None of the premises of `renaming` can be dropped. Runs that are alike may have different canonical runs if
+/// one of them isn't clean (`agree_first_clean`, `agree_second_clean`), or if the map of their names isn't
+/// one-to-one (`agree_one_to_one`) or changes a folder (`agree_folder`). Runs with the same canonical run may
+/// differ otherwise if one of them isn't clean (`alike_first_clean`, `alike_second_clean`). And renaming an
+/// unclean run twice may change it again: with a suffix of the caller's own, a reference to a name can become a
+/// generated name (`once_clean`).
 pub fn renaming_needs()
     ensures agree_first_clean { Agree AreAlikeFirstUnclean → ⊥ }
     ensures agree_second_clean { Agree AreAlikeSecondUnclean → ⊥ }

@@ -1,4 +1,4 @@
-//! Canonical names of the files that nvcc generates, so that a plan doesn't depend on what nvcc calls them.
+//! Canonical names for the files that nvcc generates. With them, a plan doesn't depend on what nvcc calls these files.
 #![tactic(auto)]
 
 mod clean;

@@ -11,14 +11,14 @@ ghost use Rattle.dry_runs.specs.Replacing.{replaced};
 use indexmap::IndexMap;
 use std::alloc::{AllocError, Global};
 
-// Whether `part` stands somewhere in `text`.
+// Whether `text` contains `part`.
 pub(crate) fn holds(text: &str, part: &str) -> bool
     ensures { result ≡ alike.holds part.now text.now }
 {
     text.contains(part)
 }
 
-// `text` with each place of `old`, which isn't empty, replaced by `new`.
+// `text` with each `old`, which isn't empty, replaced by `new`.
 fn replace(alloc: Global, text: &str, old: &str, new: &str) -> Result<String, AllocError>
     requires { 0 < length old.now }
     ensures { IfOk result (λ t. string_bytes t ≡ replaced old.now new.now text.now) }
@@ -26,7 +26,7 @@ fn replace(alloc: Global, text: &str, old: &str, new: &str) -> Result<String, Al
     text.replace(alloc, old, new)
 }
 
-// `text` with `old`, which isn't empty, replaced, and no other text where it doesn't hold that.
+// The same, without a copy if `text` doesn't contain `old`.
 fn replace_held(alloc: Global, text: String, old: &str, new: &str) -> Result<String, AllocError>
     requires { 0 < length old.now }
     ensures { IfOk result (λ t. string_bytes t ≡ replaced old.now new.now (string_bytes text)) }
@@ -68,7 +68,7 @@ fn is_name_at(names: &IndexMap<String, String>, text: &str, start: usize, length
     }
 }
 
-// Whether a name of `length` bytes stands in `text`, by the parts of `text` that have that length.
+// Whether `text` contains a name of `length` bytes: looks up each part of that length.
 fn stand_of(names: &IndexMap<String, String>, text: &str, length: usize) -> bool
     requires { 0 < length }
     ensures { result ≡ spec.stand_of length (old_names (map pair_of names.now.entries)) text.now }
@@ -84,8 +84,8 @@ fn stand_of(names: &IndexMap<String, String>, text: &str, length: usize) -> bool
     false
 }
 
-// How long the longest name is that stands in `text` and has at most `most` bytes, by the parts of
-// `text`; 0 where none does.
+// The length of the longest name in `text` of at most `most` bytes, or 0 if there is none: looks up the parts of
+// `text`.
 fn longest_part(names: &IndexMap<String, String>, text: &str, most: usize) -> usize
     ensures { result ≡ spec.longest_in text.now most (old_names (map pair_of names.now.entries)) }
 {
@@ -99,8 +99,7 @@ fn longest_part(names: &IndexMap<String, String>, text: &str, most: usize) -> us
     0
 }
 
-// How long the longest name is that stands in `text` and has at most `most` bytes, name by name; 0
-// where none does.
+// The same: searches `text` for one name after the other.
 fn longest_name(names: &IndexMap<String, String>, text: &str, most: usize) -> usize
     ensures { result ≡ spec.longest_in text.now most (old_names (map pair_of names.now.entries)) }
 {
@@ -113,8 +112,7 @@ fn longest_name(names: &IndexMap<String, String>, text: &str, most: usize) -> us
     best
 }
 
-// How long the longest name is that stands in `text` and has at most `most` bytes, by what is fewer:
-// the parts of `text`, or the names; 0 where none does.
+// The same, by what there are fewer of: the parts of `text`, or the names.
 fn longest_in(names: &IndexMap<String, String>, text: &str, most: usize) -> usize
     ensures { result ≡ spec.longest_in text.now most (old_names (map pair_of names.now.entries)) }
 {
@@ -125,10 +123,10 @@ fn longest_in(names: &IndexMap<String, String>, text: &str, most: usize) -> usiz
     }
 }
 
-/// `text` with each name of a map, none of which is empty, replaced by its canonical name: the longest
-/// name first, and of equally long ones the one that was put in first.
+/// Replaces each name of a map in `text` by its canonical name: the longest name first, and of equally long
+/// ones the one that was added first. No name is empty.
 ///
-/// Only the lengths of names that stand in the text are visited, so the names need no order.
+/// It visits only the lengths of names that `text` contains, so the names needn't be sorted.
 pub(crate) fn rewrite(
     alloc: Global,
     names: &IndexMap<String, String>,

@@ -1,4 +1,4 @@
-//! The words of a command with canonical names in the place of generated ones.
+//! Replaces generated names in the words of commands by canonical ones.
 
 ghost use Rattle.std.specs.Prelude.{◌≡◌, ◌⊎◌, ◌++◌, ◌∷◌, [], ℕ, map, take, IfOk, OnOk, OnErr, string_bytes};
 ghost use Rattle.std.specs.Option.{option_map, unwrap_or};
@@ -16,8 +16,10 @@ use texts::words::Words;
 
 // The new core of a word, by its core.
 fn remap_core(alloc: Global, text: &str, renames: &mut Renames) -> Result<String, AllocError>
-    ensures text { IfOk result (λ new. string_bytes new ≡ spec.renamed_core renames.old.0 renames.old.1 text.now (class_of_core renames.old.0 text.now)) }
-    ensures names { OnOk result (renames.new ≡ (renames.old.0, with_name renames.old.1 (option_map (λ _. text.now) (class_of_core renames.old.0 text.now)))) }
+    ensures text { IfOk result (λ new. string_bytes new
+        ≡ spec.renamed_core renames.old.0 renames.old.1 text.now (class_of_core renames.old.0 text.now)) }
+    ensures names { OnOk result (renames.new
+        ≡ (renames.old.0, with_name renames.old.1 (option_map (λ _. text.now) (class_of_core renames.old.0 text.now)))) }
     ensures err { OnErr result (renames.new ≡ renames.old) }
 {
     match renames.class(text) {
@@ -26,8 +28,7 @@ fn remap_core(alloc: Global, text: &str, renames: &mut Renames) -> Result<String
     }
 }
 
-// The new text of a word, unless it stays as it is. After a refusal the names that were seen may have
-// the word's own.
+// The new text of a word, or `None` if it stays as it is. After an error the word's own name may count as seen.
 fn remap_word(
     alloc: Global,
     word: &str,
@@ -35,7 +36,8 @@ fn remap_word(
 ) -> Result<Option<String>, AllocError>
     ensures word { IfOk result (λ new. unwrap_or (option_map string_bytes new) word.now ≡ spec.renamed_word renames.old.0 renames.old.1 word.now) }
     ensures names { OnOk result (renames.new ≡ (renames.old.0, spec.seen_after_word renames.old.0 renames.old.1 word.now)) }
-    ensures err { OnErr result ((renames.new ≡ renames.old) ⊎ (renames.new ≡ (renames.old.0, spec.seen_after_word renames.old.0 renames.old.1 word.now))) }
+    ensures err { OnErr result ((renames.new ≡ renames.old)
+        ⊎ (renames.new ≡ (renames.old.0, spec.seen_after_word renames.old.0 renames.old.1 word.now))) }
 {
     if renames.keep(word) {
         return Ok(None);
@@ -44,7 +46,7 @@ fn remap_word(
     Ok(Some(with_head(alloc, word, new)?))
 }
 
-// The new text of a word, or a copy of it where there is none.
+// The new text of a word, or a copy of the word if there is none.
 fn or_copy(alloc: Global, new: Option<String>, word: &str) -> Result<String, AllocError>
     ensures { IfOk result (λ t. string_bytes t ≡ unwrap_or (option_map string_bytes new) word.now) }
 {
@@ -54,20 +56,19 @@ fn or_copy(alloc: Global, new: Option<String>, word: &str) -> Result<String, All
     }
 }
 
-/// The words of a command with canonical names in the place of generated ones. `renames` has the
-/// names that were seen in the commands before, and gains those of these words, in order.
+/// Replaces the generated names in the words of a command by canonical ones. `renames` holds the names
+/// of the commands before, and gains those of these words, in order.
 ///
-/// A word is generated where what is left without every `-Fi` that it begins with doesn't begin with
-/// `-` and ends in one of the suffixes. It becomes `x_`, a number and the suffix, in its folder; the
-/// number is that of the different names of that suffix that were seen before the name's first
-/// appearance. In any other word each name that was seen is replaced by its canonical name, the
-/// longest name first, and of equally long ones the one that was seen first. A word that began with
-/// `-Fi` begins with one `-Fi` again.
+/// A word's core is what is left without all `-Fi` that it begins with. The word is generated if its core
+/// ends in one of the suffixes and doesn't begin with `-`. Its name becomes `x_`, a number and the suffix, in
+/// the same folder; the number counts the different names of that suffix seen before this one. In any other
+/// word, each name seen so far is replaced by its canonical name: the longest first, and of equally long
+/// ones the one seen first. A word that begins with `-Fi` keeps exactly one.
 ///
-/// A name of one suffix can be a beginning of a name of another: after `k.cudafe1.c` the word
-/// `-I=k.cudafe1.cpp` is taken to refer to that, and not to `k.cudafe1.cpp`, which comes later.
+/// A name of one suffix can be the beginning of a name of another. After `k.cudafe1.c` the word
+/// `-I=k.cudafe1.cpp` counts as a reference to that, even if `k.cudafe1.cpp` comes later.
 ///
-/// The error is a want of memory; `renames` then holds the names of a beginning of the words.
+/// The only error is an allocation failure; `renames` then has the names of the first words.
 pub fn remap_generated_filenames(
     alloc: Global,
     args: &[String],
@@ -75,7 +76,8 @@ pub fn remap_generated_filenames(
 ) -> Result<Words, AllocError>
     ensures words { IfOk result (λ words. words ≡ spec.renamed_words renames.old.0 renames.old.1 (map string_bytes args.now)) }
     ensures names { OnOk result (renames.new ≡ (renames.old.0, spec.seen_after renames.old.0 renames.old.1 (map string_bytes args.now))) }
-    ensures refused { OnErr result ((k : ℕ) × (renames.new ≡ (renames.old.0, spec.seen_after renames.old.0 renames.old.1 (take k (map string_bytes args.now))))) }
+    ensures refused { OnErr result ((k : ℕ)
+        × (renames.new ≡ (renames.old.0, spec.seen_after renames.old.0 renames.old.1 (take k (map string_bytes args.now))))) }
 {
     let mut words = Words::with_capacity(alloc, args.len())?;
     for word in args {
@@ -86,7 +88,7 @@ pub fn remap_generated_filenames(
     Ok(words)
 }
 
-// The same of words that are handed over: those that stay as they are move.
+// The same, taking the words: those that stay as they are move.
 fn remap_words(
     alloc: Global,
     words: Vec<String>,
@@ -103,14 +105,15 @@ fn remap_words(
     Ok(renamed)
 }
 
-// Puts a command last, its words renamed.
+// Appends a command, its words renamed.
 fn push_remapped(
     alloc: Global,
     command: (usize, String, Vec<String>),
     renames: &mut Renames,
     renamed: &mut Vec<(usize, String, Vec<String>)>,
 ) -> Result<(), AllocError>
-    ensures names { OnOk result (renames.new ≡ (renames.old.0, spec.seen_after renames.old.0 renames.old.1 (words_of_command (line_seen command)))) }
+    ensures names { OnOk result (renames.new
+        ≡ (renames.old.0, spec.seen_after renames.old.0 renames.old.1 (words_of_command (line_seen command)))) }
     ensures commands { OnOk result (map line_seen renamed.new.items ≡ map line_seen renamed.old.items
         ++ spec.with_words (line_seen command) (spec.renamed_words renames.old.0 renames.old.1 (words_of_command (line_seen command))) ∷ []) }
 {
@@ -120,8 +123,8 @@ fn push_remapped(
     Ok(())
 }
 
-/// The commands of a run with canonical names in the place of generated ones: those of all its commands
-/// count, in order.
+/// Replaces the generated names in all commands of a run by canonical ones. The names of earlier commands count
+/// for later ones.
 pub fn remap_commands(
     alloc: Global,
     commands: Commands,

@@ -19,10 +19,9 @@ use std::alloc::{AllocError, Global};
 use std::marker::Model;
 use texts::text::{folder, join};
 
-/// The canonical names of the generated names that were seen in a run.
+/// The generated names of a run that were seen so far, and their canonical names.
 ///
-/// It is seen as the pair of its list of suffixes, which no call changes, and of the names that were
-/// seen, in the order of their first appearance.
+/// Clauses see a pair: the list of suffixes, which no call changes, and the names in order of first appearance.
 #[derive(Drop)]
 pub struct Renames {
     suffixes: Suffixes,
@@ -44,7 +43,7 @@ impl Model for Renames {
     ghost invariant = { λ r. IsCounted r.suffixes (old_names (map pair_of r.names.entries)) (map pair_of r.names.entries) r.counts.items };
 }
 
-// The canonical name of a name: in its folder, `x_`, a number and its suffix.
+// The canonical name of a name: in the same folder, `x_`, a number and the suffix.
 fn canonical_name(
     alloc: Global,
     name: &str,
@@ -71,7 +70,7 @@ fn zeros(alloc: Global, count: usize) -> Result<Vec<usize>, AllocError>
 }
 
 impl Renames {
-    /// No names, with a copy of the list of suffixes.
+    /// No names, and a copy of the list of suffixes.
     pub fn new(alloc: Global, suffixes: &Suffixes) -> Result<Renames, AllocError>
         ensures { IfOk result (λ r. r ≡ (suffixes.now, [])) }
     {
@@ -100,15 +99,14 @@ impl Renames {
         self.len() == 0
     }
 
-    /// Each name that was seen, with its canonical name, in the order of their first appearance.
+    /// Each name that was seen, with its canonical name, in order of first appearance.
     pub fn iter(&self) -> Iter<'_, String, String>
         ensures { map pair_of result ≡ map (with_canonical self.now.0 self.now.1) self.now.1 }
     {
         self.names.iter()
     }
 
-    // Whether a word surely stays as it is: it begins with no `-Fi`, and holds no suffix, so it has no
-    // name to be replaced.
+    // Whether a word surely stays as it is: it doesn't begin with `-Fi`, and contains no suffix, so no name either.
     pub(crate) fn keep(&self, word: &str) -> bool
         ensures word { IsTrue result → spec.renamed_word self.now.0 self.now.1 word.now ≡ word.now }
         ensures names { IsTrue result → spec.seen_after_word self.now.0 self.now.1 word.now ≡ self.now.1 }
@@ -122,10 +120,10 @@ impl Renames {
         true
     }
 
-    // The place of the suffix of a word's core, which is a name where it doesn't begin with `-` and
-    // ends in a suffix.
+    // The index of the suffix of a word's core. The core is a name if it ends in a suffix and doesn't begin with `-`.
     pub(crate) fn class(&self, text: &str) -> Option<usize>
-        ensures none { MatchOption result ((if generated.begins_with_dash text.now then None else generated.class_of_name self.now.0 text.now) ≡ None) (λ i. (if generated.begins_with_dash text.now then None else generated.class_of_name self.now.0 text.now) ≡ slice_get self.now.0 i) }
+        ensures none { MatchOption result ((if generated.begins_with_dash text.now then None else generated.class_of_name self.now.0 text.now) ≡ None)
+            (λ i. (if generated.begins_with_dash text.now then None else generated.class_of_name self.now.0 text.now) ≡ slice_get self.now.0 i) }
         ensures within { MatchOption result ⊤ (λ i. i < length self.now.0) }
         ensures name { MatchOption result ⊤ (λ i. generated.class_of_name self.now.0 text.now ≡ slice_get self.now.0 i) }
     {
@@ -136,7 +134,7 @@ impl Renames {
         }
     }
 
-    // The canonical name of a name that ends in the suffix at the place `class`.
+    // The canonical name of a name that ends in the suffix at the index `class`.
     pub(crate) fn canonical(
         &mut self,
         alloc: Global,
@@ -155,8 +153,7 @@ impl Renames {
         self.add(alloc, name, class)
     }
 
-    // The canonical name of a name that wasn't seen, which is put last. A refused insertion leaves the
-    // map and the counters as they were.
+    // Adds a name that wasn't seen, and gives its canonical name. On an error the map and the counters are unchanged.
     fn add(&mut self, alloc: Global, name: &str, class: usize) -> Result<String, AllocError>
         requires within { class < length self.old.0 }
         requires class { generated.class_of_name self.old.0 name.now ≡ slice_get self.old.0 class }
@@ -174,7 +171,7 @@ impl Renames {
         Ok(answer)
     }
 
-    // How many names end in the suffix at the place `class`.
+    // How many names end in the suffix at the index `class`.
     fn count(&self, class: usize) -> usize
         requires { class < length self.now.0 }
         ensures value { IsCount self.now.0 self.now.1 class result }
@@ -187,7 +184,7 @@ impl Renames {
         count
     }
 
-    // Puts a new name last. A refused insertion leaves the map and the counters as they were.
+    // Adds a new name. On an error the map and the counters are unchanged.
     fn put(&mut self, name: String, canonical: String, class: usize) -> Result<(), AllocError>
         requires within { class < length self.old.0 }
         requires class { generated.class_of_name self.old.0 (string_bytes name) ≡ slice_get self.old.0 class }
@@ -202,8 +199,8 @@ impl Renames {
         Ok(())
     }
 
-    // A text with each name that was seen replaced by its canonical name, the longest name first. A
-    // name ends in a suffix, so a text that holds no suffix is searched for no name.
+    // A text with each name that was seen replaced by its canonical name, the longest name first. Every name ends in
+    // a suffix, so a text without any suffix contains no name.
     pub(crate) fn rewritten(&self, alloc: Global, text: &str) -> Result<String, AllocError>
         ensures { IfOk result (λ t. string_bytes t ≡ spec.rewritten self.now.0 self.now.1 text.now) }
     {

@@ -1,4 +1,4 @@
-//! Shadow runs: a second run whose generated files are those of the first, in a folder for temporary files.
+//! Shadow runs: second runs that put the generated files of the first run into a temporary directory.
 
 ghost use Rattle.std.specs.Prelude.{◌≡◌, ◌++◌, ◌&&◌, List, ℕ, map, filter, codes, nat_eq, IfOk, OnOk, string_bytes};
 ghost use Rattle.std.specs.Cmp.Lexicographic.{pointwise};
@@ -7,7 +7,8 @@ ghost use Rattle.std.specs.Option.{option_copied};
 ghost use Rattle.std.specs.Str.{bytes_eq};
 ghost use Rattle.texts.specs.DeviceFiles.{is_cicc_word};
 ghost use Rattle.texts.specs.Lists as lists;
-ghost use Rattle.texts.specs.Path.{joined, is_bare as is_bare_name};
+ghost use Rattle.texts.specs.Path as paths;
+ghost use Rattle.texts.specs.Path.{joined};
 ghost use Rattle.dry_runs.specs.CommandLines.{line_seen, words_of_command};
 ghost use Rattle.canonical_names.specs.Generated.{generated_name};
 ghost use Rattle.canonical_names.specs.Shadow as spec;
@@ -15,13 +16,14 @@ ghost use Rattle.canonical_names.specs.Shown.{name_shown};
 ghost use Rattle.canonical_names.specs.StepShadow as step;
 
 use crate::suffixes::Suffixes;
-use crate::words::{begins_with_dash, is_bare};
+use crate::words::begins_with_dash;
 use dry_runs::DryRun;
 use std::alloc::{AllocError, Global};
 use texts::device_files::is_cicc_input;
-use texts::text::{file_name, join};
+use texts::text::{file_name, is_bare, join};
+use texts::words::word_after;
 
-// Puts the generated names of a command last.
+// Appends the generated names of a command.
 fn push_names<'a>(
     names: &mut Vec<&'a str>,
     words: &'a [String],
@@ -37,7 +39,7 @@ fn push_names<'a>(
     Ok(())
 }
 
-// The generated names of a run, in the order in which they appear, each as often as it does.
+// The generated names of a run in order of appearance, each as often as it appears.
 fn appearances<'a>(
     alloc: Global,
     commands: &'a [(usize, String, Vec<String>)],
@@ -52,7 +54,7 @@ fn appearances<'a>(
     Ok(names)
 }
 
-// Those of some names that end in `.cpp1.ii`.
+// The names that end in `.cpp1.ii`.
 fn of_steps<'a>(alloc: Global, names: &[&'a str]) -> Result<Vec<&'a str>, AllocError>
     ensures { IfOk result (λ kept. map name_shown kept.items ≡ filter is_cicc_word (map name_shown names.now)) }
 {
@@ -79,9 +81,9 @@ fn step_names<'a>(
 }
 
 fn are_bare(names: &[&str]) -> bool
-    ensures { result ≡ list_all is_bare_name (map name_shown names.now) }
+    ensures { result ≡ list_all paths.is_bare (map name_shown names.now) }
 {
-    names.iter().all(|name| is_bare(name.as_bytes()))
+    names.iter().all(|name| is_bare(name))
 }
 
 // Whether a text is a name put into a folder.
@@ -112,20 +114,6 @@ fn are_joined(
     Ok(true)
 }
 
-// The word right after the first that is `-o`.
-fn output(words: &[String]) -> Option<&str>
-    ensures { option_copied result ≡ lists.word_after (codes "-o") (map string_bytes words.now) }
-{
-    let mut rest = words;
-    while let Some((word, others)) = rest.split_first() {
-        if word.as_str() == "-o" {
-            return Some(others.first()?.as_str());
-        }
-        rest = others;
-    }
-    None
-}
-
 fn is_cicc_file(name: Option<&str>) -> bool
     ensures { result ≡ spec.is_cicc_file (option_copied name.entry) }
 {
@@ -135,8 +123,8 @@ fn is_cicc_file(name: Option<&str>) -> bool
     }
 }
 
-// Whether the file name of an output is no input of cicc, or the output begins with no `-` and ends as
-// such an input does.
+// Whether an output's file name isn't that of an input of cicc, or the output ends like such an input and doesn't
+// begin with `-`.
 fn is_plain_output(word: Option<&str>) -> bool
     ensures { result ≡ spec.is_plain_output (option_copied word.entry) }
 {
@@ -151,13 +139,11 @@ fn is_plain_output(word: Option<&str>) -> bool
 fn are_plain(commands: &[(usize, String, Vec<String>)]) -> bool
     ensures { result ≡ list_all (λ c. spec.is_plain_output (lists.word_after (codes "-o") (words_of_command c))) (map line_seen commands.now) }
 {
-    commands
-        .iter()
-        .all(|command| is_plain_output(output(command.2.as_slice())))
+    commands.iter().all(|command| is_plain_output(word_after(command.2.as_slice(), "-o")))
 }
 
-// Whether names of a first run are bare, those of a second run are the same ones put into a folder, and
-// the second run's outputs are plain.
+// Whether the names of the first run are bare, those of the second run are the same ones in a folder, and the second
+// run's outputs are plain.
 fn are_shadows(
     alloc: Global,
     first: &[&str],
@@ -165,7 +151,9 @@ fn are_shadows(
     folder: &str,
     commands: &[(usize, String, Vec<String>)],
 ) -> Result<bool, AllocError>
-    ensures { IfOk result (λ b. b ≡ (list_all is_bare_name (map name_shown first.now) && (pointwise bytes_eq (map name_shown second.now) (map (joined folder.now) (map name_shown first.now)) && list_all (λ c. spec.is_plain_output (lists.word_after (codes "-o") (words_of_command c))) (map line_seen commands.now)))) }
+    ensures { IfOk result (λ b. b ≡ (list_all paths.is_bare (map name_shown first.now)
+        && (pointwise bytes_eq (map name_shown second.now) (map (joined folder.now) (map name_shown first.now))
+        && list_all (λ c. spec.is_plain_output (lists.word_after (codes "-o") (words_of_command c))) (map line_seen commands.now)))) }
 {
     if !are_bare(first) {
         return Ok(false);
@@ -173,12 +161,12 @@ fn are_shadows(
     Ok(are_joined(alloc, folder, first, second)? && are_plain(commands))
 }
 
-/// Whether a second run shadows a first one in the folder `tmp`: the first run's generated names are
-/// bare, the second's are the same ones put into the folder, appearance by appearance, and the second
-/// run's outputs are plain.
+/// Whether `run2` shadows `run1` in the folder `tmp`: the generated names of `run1` are bare, those of `run2`
+/// are the same ones joined to the folder, one by one, and the outputs of `run2` are plain.
 ///
-/// An output is the word after a command's first `-o`. It is plain where its file name doesn't end in
-/// `.cpp1.ii`, or where it begins with no `-` and itself ends so, which `k.cpp1.ii/` doesn't.
+/// An output is the word after a command's first `-o`. It is plain if its file name doesn't end in
+/// `.cpp1.ii`, or if the whole word ends in `.cpp1.ii` and doesn't begin with `-`. `k.cpp1.ii/` isn't plain:
+/// its file name ends so, and the word doesn't.
 pub fn is_shadow(
     alloc: Global,
     run1: &DryRun,
@@ -194,11 +182,10 @@ pub fn is_shadow(
     are_shadows(alloc, first.as_slice(), second.as_slice(), tmp, commands)
 }
 
-/// The same with names that end in `.cpp1.ii` alone, the files that preprocess steps write and cicc
-/// reads.
+/// The same, but only for names that end in `.cpp1.ii`: the files that preprocess steps write and cicc reads.
 ///
-/// nvcc 13.0 leaves cudafe++'s stub file bare in its second run. So most of its runs are shadows in this
-/// sense and not in that of `is_shadow`.
+/// nvcc 13.0 leaves the name of cudafe++'s stub file bare in its second run, so most of its runs are shadows
+/// by this test and not by `is_shadow`.
 pub fn is_step_shadow(
     alloc: Global,
     run1: &DryRun,

@@ -7,7 +7,6 @@ ghost use Rattle.std.specs.Str.{bytes_eq};
 ghost use Rattle.std.specs.Char.{is_ascii_alphanumeric};
 ghost use Rattle.texts.specs.Fault.{UnlessMemory};
 ghost use Rattle.texts.specs.Lists.{is_some_and};
-ghost use Rattle.texts.specs.Path.{is_bare as is_bare_name};
 ghost use Rattle.texts.specs.declared.fault.Fault.TheVariants.{BadSuffixes};
 ghost use Rattle.canonical_names.specs.Alike.{holds as text_holds};
 ghost use Rattle.canonical_names.specs.SuffixRule as spec;
@@ -15,17 +14,18 @@ ghost use Rattle.canonical_names.specs.Generated as generated;
 ghost use Rattle.canonical_names.specs.Generated.{standard_suffixes, class_of_name};
 ghost use Rattle.canonical_names.specs.CanonicalNames.{AreSuffixes};
 
-use crate::words::{begins_with_dash, core, is_bare};
+use crate::words::{begins_with_dash, core};
 use std::alloc::{AllocError, Global};
 use std::marker::Model;
 use texts::device_files::CICC_INPUT_SUFFIX;
 use texts::fault::Fault;
+use texts::text::is_bare;
 use texts::words::Words;
 
-/// The suffixes by which the names of generated files are told, seen as their list.
+/// The suffixes that mark the names of generated files. Clauses see them as a list.
 ///
-/// Each begins with `.`, ends in an ASCII letter or digit and holds no `/`; none is an end of one at
-/// another place; and `.cpp1.ii`, that of cicc's input, is among them.
+/// Each begins with `.`, ends in an ASCII letter or digit and contains no `/`. None is an end of another one.
+/// `.cpp1.ii`, the suffix of cicc's input, is among them.
 #[derive(Debug, Drop)]
 pub struct Suffixes {
     handed: Option<Words>,
@@ -42,7 +42,7 @@ impl Model for Suffixes {
     ghost invariant = { λ s. are_suffixes (suffixes_or_standard s.handed) ≡ true };
 }
 
-// A suffix of nvcc's files, by its place among them.
+// A suffix of nvcc's files, by its index.
 fn standard_suffix(index: usize) -> Option<&'static str>
     ensures { option_copied result ≡ slice_get standard_suffixes index }
 {
@@ -56,13 +56,11 @@ fn standard_suffix(index: usize) -> Option<&'static str>
     }
 }
 
-// Whether a text begins with `.`, ends in an ASCII letter or digit, and holds no `/`.
+// Whether a text begins with `.`, ends in an ASCII letter or digit, and contains no `/`.
 fn is_suffix(text: &str) -> bool
     ensures { result ≡ spec.is_suffix text.now }
 {
-    begins_with_dot(text.as_bytes())
-        && ends_in_letter_or_digit(text.as_bytes())
-        && is_bare(text.as_bytes())
+    begins_with_dot(text.as_bytes()) && ends_in_letter_or_digit(text.as_bytes()) && is_bare(text)
 }
 
 fn begins_with_dot(text: &[u8]) -> bool
@@ -139,9 +137,9 @@ impl Suffixes {
     /// A word that ends in one of them is the name of a generated file, so a suffix such as `.cu`
     /// renames the source file itself.
     ///
-    /// Each must begin with `.`, end in an ASCII letter or digit and hold no `/`; none may be an end of
-    /// one at another place, so none may stand twice; and `.cpp1.ii` must be among them, since a plan
-    /// groups the device commands by it. Any other list is the fault `BadSuffixes`.
+    /// Each must begin with `.`, end in an ASCII letter or digit and contain no `/`; none may be an end of
+    /// another one, so none may appear twice; and `.cpp1.ii` must be among them, since a plan groups the device
+    /// commands by it. Any other list is refused: `BadSuffixes`.
     pub fn new(alloc: Global, list: &[String]) -> Result<Suffixes, Fault>
         ensures { UnlessMemory result (if spec.are_suffixes (map string_bytes list.now) then Ok (map string_bytes list.now) else Err BadSuffixes) }
     {
@@ -164,7 +162,7 @@ impl Suffixes {
         }
     }
 
-    /// The suffix at the place `index`, counted from 0.
+    /// The suffix at `index`, counted from 0.
     pub fn get(&self, index: usize) -> Option<&str>
         ensures { option_copied result ≡ slice_get self.now index }
     {
@@ -174,8 +172,8 @@ impl Suffixes {
         }
     }
 
-    /// What holds of every list of suffixes: it keeps the rule (`rule`), and so the laws of canonical
-    /// names hold for it (`asked`).
+    /// What every value of this type guarantees: the list keeps the rule above (`rule`), so the laws of canonical
+    /// names apply to it (`asked`). The call does nothing else.
     pub fn keeps_the_rule(&self)
         ensures rule { spec.are_suffixes self.now ≡ true }
         ensures asked { AreSuffixes self.now }
@@ -183,7 +181,7 @@ impl Suffixes {
         let _ = &self.handed;
     }
 
-    /// An equal list, in memory of its own.
+    /// Copies the list into memory of its own.
     pub fn try_clone(&self, alloc: Global) -> Result<Suffixes, AllocError>
         ensures { IfOk result (λ s. s ≡ self.now) }
     {
@@ -219,8 +217,8 @@ impl Suffixes {
         }
     }
 
-    // Whether one of the suffixes stands somewhere in a text. Each begins with `.`, so they are looked
-    // for behind each `.` alone.
+    // Whether one of the suffixes is anywhere in a text. Each begins with `.`, so it is enough to look behind each
+    // `.`.
     pub(crate) fn stand_in(&self, text: &str) -> bool
         ensures { result ≡ list_any (λ s. text_holds s text.now) self.now }
     {
@@ -238,8 +236,7 @@ impl Suffixes {
         false
     }
 
-    // Whether a text may begin with what a suffix has behind its `.`: by its first byte, which nvcc's
-    // suffixes have in common.
+    // Whether a text may begin with what a suffix has after its `.`. All of nvcc's suffixes have a `c` there.
     fn may_follow_dot(&self, text: &str) -> bool
         ensures { result ≡ false → list_any (λ s. starts_with nat_eq text.now (drop 1 s)) self.now ≡ false }
     {
@@ -249,7 +246,7 @@ impl Suffixes {
         }
     }
 
-    // Whether a text begins with what one of the suffixes has behind its `.`.
+    // Whether a text begins with what one of the suffixes has after its `.`.
     fn follow_dot(&self, text: &str) -> bool
         ensures { result ≡ list_any (λ s. starts_with nat_eq text.now (drop 1 s)) self.now }
     {
@@ -266,7 +263,7 @@ impl Suffixes {
 }
 
 impl Suffixes {
-    // The name that a generated word holds: its core.
+    // The name in a generated word: its core.
     pub(crate) fn generated_name<'a>(&self, word: &'a str) -> Option<&'a str>
         ensures { option_copied result ≡ generated.generated_name self.now word.now }
     {
@@ -288,7 +285,7 @@ impl Suffixes {
     }
 }
 
-// Whether a text begins with what a suffix, where there is one, has behind its first byte.
+// Whether there is a suffix, and a text begins with what it has after its first byte.
 fn follows_dot(text: &str, suffix: Option<&str>) -> bool
     ensures { result ≡ is_some_and (λ s. starts_with nat_eq text.now (drop 1 s)) (option_copied suffix.entry) }
 {
@@ -301,7 +298,7 @@ fn follows_dot(text: &str, suffix: Option<&str>) -> bool
     }
 }
 
-// Whether a name ends in a suffix, where there is one.
+// Whether there is a suffix, and a name ends in it.
 fn ends_in(name: &str, suffix: Option<&str>) -> bool
     ensures { result ≡ is_some_and (ends_with nat_eq name.now) (option_copied suffix.entry) }
 {
@@ -321,7 +318,7 @@ fn are_equal(one: Option<&str>, other: Option<&str>) -> bool
     }
 }
 
-// A word of a list by its place.
+// The word of a list at an index.
 fn word_at(words: &[String], index: usize) -> Option<&str>
     ensures { option_copied result ≡ slice_get (map string_bytes words.now) index }
 {

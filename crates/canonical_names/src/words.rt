@@ -3,7 +3,6 @@
 ghost use Rattle.std.specs.Prelude.{◌≡◌, ◌++◌, nat_eq, codes, IfOk, string_bytes};
 ghost use Rattle.std.specs.List.{starts_with};
 ghost use Rattle.std.specs.Option.{option_copied};
-ghost use Rattle.texts.specs.Path.{is_bare as is_bare_name};
 ghost use Rattle.texts.specs.Lists.{rest_after};
 ghost use Rattle.canonical_names.specs.Generated as spec;
 
@@ -41,7 +40,7 @@ pub(crate) fn begins_with_dash(text: &str) -> bool
     text.as_bytes().starts_with(b"-")
 }
 
-// A text behind the head of a word: behind one `-Fi` where the word begins so.
+// A text after the head of a word: after one `-Fi` if the word begins with `-Fi`.
 pub(crate) fn with_head(alloc: Global, word: &str, text: String) -> Result<String, AllocError>
     ensures { IfOk result (λ t. string_bytes t ≡ spec.head_of word.now ++ string_bytes text) }
 {
@@ -50,11 +49,4 @@ pub(crate) fn with_head(alloc: Global, word: &str, text: String) -> Result<Strin
     } else {
         Ok(text)
     }
-}
-
-// Whether a text holds no `/`.
-pub(crate) fn is_bare(text: &[u8]) -> bool
-    ensures { result ≡ is_bare_name text.now }
-{
-    !text.contains(&b'/')
 }

@@ -8,7 +8,7 @@ use Rattle.compilers.specs.declared.compiler.NvccHostCompiler.TheVariants.{Gcc}
 use Rattle.dry_runs.specs.CommandLines.{CommandLine}
 use Rattle.dry_runs.specs.OneKernel.{at}
 use Rattle.canonical_names.specs.Alike.{Alike}
-use Rattle.canonical_names.specs.AlikeRows.{run_with}
+use Rattle.canonical_names.specs.AlikeExamples.{run_with}
 use Rattle.canonical_names.specs.Generated.{standard_suffixes}
 use Rattle.canonical_names.proofs.CanonicalLemmas.{standard-are_suffixes}
 use Rattle.canonical_names.proofs.NeedLemmas.{naming, one_name, clean_to_unclean, unclean_to_clean, two_names, one_name_twice, two_become_one, in_folder, in_no_folder, folder_goes}

@@ -8,11 +8,11 @@ pub mod Running
 pub mod Schedule
 pub mod ScheduleRows
 pub use Rattle.canonical_names.specs.Alike
-pub use Rattle.canonical_names.specs.AlikeRows
+pub use Rattle.canonical_names.specs.AlikeExamples
 pub use Rattle.canonical_names.specs.CanonicalNames
 pub use Rattle.canonical_names.specs.Generated
 pub use Rattle.canonical_names.specs.Renaming
-pub use Rattle.canonical_names.specs.RenamingRows
+pub use Rattle.canonical_names.specs.RenamingExamples
 pub use Rattle.canonical_names.specs.Shadow
 pub use Rattle.canonical_names.specs.StepShadow
 pub use Rattle.canonical_names.specs.SuffixRule

@@ -21,6 +21,9 @@ pub enum ArgDisposition {
     CanBeConcatenated(Option<u8>),
 }
 
+/// A value as the next word.
+pub const SEPARATED: ArgDisposition = ArgDisposition::Separated;
+
 /// A value in the option's own word.
 pub const JOINED: ArgDisposition = ArgDisposition::Concatenated(None);
 
@@ -38,6 +41,27 @@ pub const EITHER_WAY_OR_EQUALS: ArgDisposition = ArgDisposition::CanBeSeparated(
 pub enum ArgInfo<T: Copy> {
     Flag(&'static str, T),
     TakeArg(&'static str, T, ArgDisposition),
+}
+
+/// The entries of a table, in groups of a form, a kind and the texts: `flag KIND: "TEXT" ..;` for options without a
+/// value, and `FORM KIND: "TEXT" ..;` for options with one. `FORM` is a constant such as `JOINED`, and `KIND` a
+/// variant of the `ArgData` that is in scope.
+#[macro_export]
+macro_rules! entries {
+    ($($form:tt $kind:ident: $($text:literal)+;)+) => {
+        [$($($crate::entry!($form $kind $text)),+),+]
+    };
+}
+
+/// One entry of [`entries`].
+#[macro_export]
+macro_rules! entry {
+    (flag $kind:ident $text:literal) => {
+        $crate::table::ArgInfo::Flag($text, ArgData::$kind)
+    };
+    ($form:ident $kind:ident $text:literal) => {
+        $crate::table::ArgInfo::TakeArg($text, ArgData::$kind, $form)
+    };
 }
 
 /// How an entry matches a word.

@@ -1,4 +1,4 @@
-use Rattle.canonical_names.specs.RenamingRows.{longest_reference_first, early_reference_stays, one_mark_is_left, folder_stays_as_a_path, folder_loses_its_dot, first_name_comes_again, second_name_comes_again, one_kernel_is_renamed, every_command_counts, beginning_is_taken_for_the_name, source_file_is_renamed}
+use Rattle.canonical_names.specs.RenamingExamples.{longest_reference_first, early_reference_stays, one_mark_is_left, folder_stays_as_a_path, folder_loses_its_dot, first_name_comes_again, second_name_comes_again, one_kernel_is_renamed, every_command_counts, beginning_is_taken_for_the_name, source_file_is_renamed}
 use Rattle.canonical_names.proofs.laws.worked_renamings.Goals as goal
 
 pub returns : goal.returns

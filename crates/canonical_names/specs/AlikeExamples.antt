@@ -39,7 +39,7 @@ elsewhere name = codes "a1" ++ drop 6 name
 back : List ℕ → List ℕ
 back name = codes "kernel" ++ drop 2 name
 
--- what is shown name by name
+-- facts about each name
 Kept : List ℕ → Type 0
 Kept n = (back (elsewhere n) ≡ n) × (folder_of (elsewhere n) ≡ folder_of n)
     × (class_of_name standard_suffixes (elsewhere n) ≡ class_of_name standard_suffixes n)
@@ -63,13 +63,13 @@ one_kernel_is_alike = (
   refl,
 )
 
--- two runs of three words are not alike where the last is the first name in one, and the second name in the other
+-- two runs of three words are not alike if the last word is the first name in one, and the second name in the other
 abbrev pub OtherPatternIsNotAlike : Type 0
 OtherPatternIsNotAlike =
     ¬ Alike standard_suffixes (run_with (codes "a.cudafe1.c" ∷ codes "b.cudafe1.c" ∷ codes "a.cudafe1.c" ∷ []))
     (run_with (codes "a.cudafe1.c" ∷ codes "b.cudafe1.c" ∷ codes "b.cudafe1.c" ∷ []))
 
--- the one-kernel dry run and the same run in the folder `/t` are shadows there; a run is no shadow of itself
+-- the same run in the folder `/t` shadows the one-kernel dry run; a run doesn't shadow itself
 abbrev pub OneKernelHasAShadow : Type 0
 OneKernelHasAShadow =
     (is_shadow standard_suffixes one_kernel_commands one_kernel_in_temporary_commands (codes "/t") ≡ true) ×

@@ -10,7 +10,7 @@ use Rattle.canonical_names.specs.Renaming.{renamed, renamed_words}
 abbrev pub renames : List (List ℕ) → List (List ℕ)
 renames words = renamed_words standard_suffixes [] words
 
--- of two names that a word refers to, the longer one is replaced first, and what it became is replaced once more
+-- of two names that a word refers to, the longer one is replaced first, and the result is replaced once more
 abbrev pub LongestReferenceFirst : Type 0
 LongestReferenceFirst =
     renames (codes "longname.cudafe1.c" ∷ codes "x_0.cudafe1.c" ∷ codes "-I=longname.cudafe1.c" ∷ []) ≡
@@ -19,7 +19,7 @@ LongestReferenceFirst =
 pub longest_reference_first : LongestReferenceFirst
 longest_reference_first = refl
 
--- a reference that stands before its name has appeared is left as it is
+-- a reference before its name has appeared stays as it is
 abbrev pub EarlyReferenceStays : Type 0
 EarlyReferenceStays =
     renames (codes "-I=k.cudafe1.c" ∷ codes "k.cudafe1.c" ∷ []) ≡
@@ -28,14 +28,14 @@ EarlyReferenceStays =
 pub early_reference_stays : EarlyReferenceStays
 early_reference_stays = refl
 
--- of several marks one is left
+-- of several `-Fi` one is left
 abbrev pub OneMarkIsLeft : Type 0
 OneMarkIsLeft = renames (codes "-Fi-Fik.cpp1.ii" ∷ []) ≡ codes "-Fix_0.cpp1.ii" ∷ []
 
 pub one_mark_is_left : OneMarkIsLeft
 one_mark_is_left = refl
 
--- a folder stays as a path, and its text may lose what it can go without
+-- a folder stays the same path, though its text may get shorter
 abbrev pub FolderStaysAsAPath : Type 0
 FolderStaysAsAPath = renames (codes "//k.cpp4.ii" ∷ []) ≡ codes "/x_0.cpp4.ii" ∷ []
 
@@ -65,12 +65,12 @@ SecondNameComesAgain =
 pub second_name_comes_again : SecondNameComesAgain
 second_name_comes_again = refl
 
--- what a dry run says, its commands renamed
+-- the commands of a dry run, renamed
 abbrev pub renamed_said : Said → Said
 renamed_said (Ok said) = Ok (renamed standard_suffixes said.0, said.1)
 renamed_said (Err fault) = Err fault
 
--- the one-kernel dry run, and the same run with other names of its generated files, have one canonical run
+-- the one-kernel dry run, and the same run with other names of its generated files, have the same canonical run
 abbrev pub OneKernelIsRenamed : Type 0
 OneKernelIsRenamed =
     (renamed_said (first_run one_kernel) ≡ Ok (one_kernel_canonical, (codes "PATH", codes "/b") ∷ [])) ×
@@ -90,7 +90,7 @@ pub every_command_counts : EveryCommandCounts
 unfolding dry_runs_compute
 every_command_counts = refl
 
--- a name of one suffix can be a beginning of a name of another, which then is taken for it
+-- a name of one suffix can be the beginning of a name of another: the word then counts as a reference to it
 abbrev pub BeginningIsTakenForTheName : Type 0
 BeginningIsTakenForTheName =
     renames (codes "a.cudafe1.c" ∷ codes "k.cudafe1.c" ∷ codes "-I=k.cudafe1.cpp" ∷ codes "k.cudafe1.cpp" ∷ []) ≡
@@ -99,7 +99,7 @@ BeginningIsTakenForTheName =
 pub beginning_is_taken_for_the_name : BeginningIsTakenForTheName
 beginning_is_taken_for_the_name = refl
 
--- a suffix of the caller's own names files too: that of the source file renames the source file
+-- a suffix of the caller's own marks files too: that of the source file renames the source file
 abbrev pub SourceFileIsRenamed : Type 0
 SourceFileIsRenamed =
     renamed_words (codes ".cu" ∷ standard_suffixes) [] (codes "kernel.cu" ∷ codes "-o" ∷ codes "kernel.cpp1.ii" ∷ [])
