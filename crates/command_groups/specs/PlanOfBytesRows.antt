@@ -8,7 +8,7 @@ use Rattle.command_groups.specs.declared.plan.Plan.{Plan}
 use Rattle.command_groups.specs.declared.plan.Reason.TheVariants.{NotCuda, NoCiccGroup, NoPtxasGroup}
 use Rattle.dry_runs.specs.Computing.{dry_runs_compute}
 use Rattle.dry_runs.specs.FirstDir.{first_dir}
-use Rattle.canonical_names.specs.AlikeRows.{one_kernel_is_alike}
+use Rattle.canonical_names.specs.AlikeExamples.{one_kernel_is_alike}
 use Rattle.canonical_names.specs.Generated.{standard_suffixes}
 use Rattle.dry_runs.specs.OneKernel as bytes
 use Rattle.command_groups.specs.PlanLaws.{AreAlikeTexts}
