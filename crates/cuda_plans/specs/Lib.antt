@@ -24,6 +24,7 @@ pub use Rattle.command_groups.specs.Plan
 pub use Rattle.command_groups.specs.PlanOfBytes
 pub use Rattle.command_groups.specs.PlanOfBytesRows
 pub use Rattle.command_groups.specs.PlanRows
+pub use Rattle.command_groups.specs.Reasons
 pub use Rattle.command_groups.specs.Selection
 pub use Rattle.command_groups.specs.SelectionRows
 pub use Rattle.command_groups.specs.Stage
@@ -78,6 +79,7 @@ pub use Rattle.texts.specs.Lists
 pub use Rattle.texts.specs.Numeral
 pub use Rattle.texts.specs.ObjectFlags
 pub use Rattle.texts.specs.Path
+pub use Rattle.texts.specs.Results
 pub use Rattle.texts.specs.Rows
 pub use Rattle.texts.specs.Status
 pub use Rattle.texts.specs.Variables

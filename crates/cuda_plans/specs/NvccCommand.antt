@@ -16,6 +16,7 @@ use Rattle.cuda_plans.specs.declared.nvcc.command.NvccCompileCommand.{NvccCompil
 use Rattle.host_lines.specs.KeepThreads.{keep_of, threads_of}
 use Rattle.host_lines.specs.NvccEnvironment.{without_flags}
 use Rattle.texts.specs.ObjectFlags.{makes_objects}
+pub use Rattle.texts.specs.Results.{and_then}
 
 -- the output's path as it is written: as given under a flag that asks for an object file, else joined to the working
 -- directory
@@ -44,11 +45,6 @@ last_words p canonical = dashes_words p.double_dash_input ++ input_word p.input 
 abbrev pub nvcc_words : List ℕ → ParsedArguments → List ℕ → List (List ℕ) → List ℕ → List (List ℕ)
 nvcc_words cwd p obj unhashed canonical =
     ((((first_words cwd p obj ++ p.preprocessor_args) ++ unhashed) ++ p.common_args) ++ p.arch_args) ++ last_words p canonical
-
--- what follows a step that may refuse
-abbrev pub and_then : {A B : Type 0} → Result A Fault → (A → Result B Fault) → Result B Fault
-and_then (Ok x) next = next x
-and_then (Err fault) next = Err fault
 
 -- keep words, and after them thread words, removed from a line at a working directory: the words that stay, the keep
 -- directory, and how many commands may run at once

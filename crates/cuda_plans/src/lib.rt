@@ -16,4 +16,4 @@ pub use device_lines::{cicc, cudafe, ptxas};
 pub use host_lines::nvhpc;
 pub use option_items::{items, table, views};
 pub use shell_words as shell;
-pub use texts::{bytes, extension, fault, language, status, text, variables, words};
+pub use texts::{bytes, decimal, extension, fault, language, status, text, variables, words};
