@@ -40,14 +40,14 @@ pub use Rattle.cuda_below.specs.GccSteps
 pub use Rattle.cuda_below.specs.Outputs
 pub use Rattle.device_lines.specs.Cicc
 pub use Rattle.device_lines.specs.CudaFE
-pub use Rattle.device_lines.specs.DeviceRows
+pub use Rattle.device_lines.specs.DeviceExamples
 pub use Rattle.device_lines.specs.DeviceWords
 pub use Rattle.device_lines.specs.Input
 pub use Rattle.device_lines.specs.Options
 pub use Rattle.device_lines.specs.Ptxas
 pub use Rattle.device_lines.specs.Reading
 pub use Rattle.device_lines.specs.Reread
-pub use Rattle.device_lines.specs.RereadRows
+pub use Rattle.device_lines.specs.RereadExamples
 pub use Rattle.dry_runs.specs.CommandLines
 pub use Rattle.dry_runs.specs.Computing
 pub use Rattle.dry_runs.specs.DryRun

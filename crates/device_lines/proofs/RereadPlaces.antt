@@ -12,7 +12,7 @@ use Rattle.texts.specs.declared.language.Language.TheVariants.{C, Cxx, Objective
 use Rattle.texts.specs.Path.{is_absolute_path, separator_after, joined, lacks}
 use Rattle.texts.proofs.PathLemmas.{ends_slash, forwards, false-not_true, not-is}
 use Rattle.device_lines.proofs.RereadWords.{all-append}
-use Rattle.device_lines.specs.Reading.{is_input_word, place_from_end, first_place, input_place}
+use Rattle.device_lines.specs.Reading.{is_input_word, place_from_end, place_or, input_place}
 
 -- the first place of a list with one more element in front
 position-cons : {X : Type 0} (p : X → Bool) (x : X) (xs : List X) → position p (x ∷ xs) ≡ cond (p x) (Some 0) (option_map suc (position p xs))
@@ -102,7 +102,7 @@ module _ {X : Type 0} (p : X → Bool) where
 -- the words left of a line, where at most one of its words is by its end the input
 pub rest-none : (language : Language) (offset : ℕ) (words : List (List ℕ)) (place : ℕ) → length (filter (is_input_word language) words) ≤ 1 → input_place language offset words ≡ Some place → NonePass (is_input_word language) (remove words place)
 rest-none language offset words place few at =
-    elim (position (is_input_word language) words) as (λ o. position (is_input_word language) words ≡ o → first_place o (place_from_end offset (length words)) ≡ Some place → NonePass (is_input_word language) (remove words place)) [
+    elim (position (is_input_word language) words) as (λ o. position (is_input_word language) words ≡ o → place_or o (place_from_end offset (length words)) ≡ Some place → NonePass (is_input_word language) (remove words place)) [
       | None ↦ λ none _. none-removed (is_input_word language) words place (none-position (is_input_word language) words none)
       | Some first ↦ λ found is.
           let same : first ≡ place = cc in
@@ -122,11 +122,11 @@ pub third-last : (language : Language) (words : List (List ℕ)) (input option p
 third-last language words input option path none other away =
     let test = is_input_word language in
     let back = place_from_end 3 (length (words ++ input ∷ option ∷ path ∷ [])) in
-    elim (test input) as (λ b. test input ≡ b → first_place (position test (words ++ input ∷ option ∷ path ∷ [])) back ≡ Some (length words)) [
-      | true ↦ λ e. ap (λ o. first_place o back) (position-after test words input (option ∷ path ∷ []) none e)
+    elim (test input) as (λ b. test input ≡ b → place_or (position test (words ++ input ∷ option ∷ path ∷ [])) back ≡ Some (length words)) [
+      | true ↦ λ e. ap (λ o. place_or o back) (position-after test words input (option ∷ path ∷ []) none e)
       | false ↦ λ e.
           let nowhere = position-none test (words ++ input ∷ option ∷ path ∷ []) (all-append (λ w. test w ≡ false) words (input ∷ option ∷ path ∷ []) none (e, (other, (away, tt)))) in
-          ap (λ o. first_place o back) nowhere ∙ from-end 3 (length words) (length (words ++ input ∷ option ∷ path ∷ [])) (omega arith) (length-append words (input ∷ option ∷ path ∷ []))
+          ap (λ o. place_or o back) nowhere ∙ from-end 3 (length words) (length (words ++ input ∷ option ∷ path ∷ [])) (omega arith) (length-append words (input ∷ option ∷ path ∷ []))
     ] refl
 
 -- the input of a cudafe++ line that is written with it as the last word
@@ -140,7 +140,7 @@ host-words (w ∷ words) = host-words words
 
 pub last-place : (words : List (List ℕ)) (input : List ℕ) → input_place CudaFE 1 (words ++ input ∷ []) ≡ Some (length words)
 last-place words input =
-    ap (λ o. first_place o (place_from_end 1 (length (words ++ input ∷ [])))) (position-none (is_input_word CudaFE) (words ++ input ∷ []) (none-host (words ++ input ∷ [])))
+    ap (λ o. place_or o (place_from_end 1 (length (words ++ input ∷ [])))) (position-none (is_input_word CudaFE) (words ++ input ∷ []) (none-host (words ++ input ∷ [])))
     ∙ from-end 1 (length words) (length (words ++ input ∷ [])) (omega arith) (length-append words (input ∷ []))
 
 -- a line with its input cut out

@@ -21,11 +21,11 @@ cicc_options =
     separated (codes "-o") Output ∷
     []
 
--- what a cicc line is read as at a working directory; if no word ends as its input does, that is the third word from the
--- end, since a line ends in the input, `-o` and the output
+-- what a cicc line is read as at a working directory; if no word ends like the input, that is the third word from the end,
+-- because a line ends in the input, `-o` and the output
 abbrev pub cicc_reading : List ℕ → List (List ℕ) → Option ParsedArguments
 cicc_reading cwd words = reading (longest_match cicc_options) cwd Ptx 3 words
 
--- the same, as a compiler answers it
+-- the same, as a compiler's answer
 abbrev pub cicc_answer : List ℕ → List (List ℕ) → Reading
 cicc_answer cwd words = tool_reading cicc_options cwd Ptx 3 words

@@ -9,7 +9,7 @@ use Rattle.device_lines.specs.declared.options.ArgData.TheVariants.{Output, GenM
 use Rattle.device_lines.specs.Options.{plain_flag, separated}
 use Rattle.device_lines.specs.Reading.{reading, tool_reading}
 
--- cudafe++'s option table; the file that the tool is run for is the module id file
+-- cudafe++'s option table; its main output is the module id file
 abbrev pub cudafe_options : List (Entry ArgData)
 cudafe_options =
     separated (codes "--gen_c_file_name") UnhashedOutput ∷
@@ -22,6 +22,6 @@ cudafe_options =
 abbrev pub cudafe_reading : List ℕ → List (List ℕ) → Option ParsedArguments
 cudafe_reading cwd words = reading (longest_match cudafe_options) cwd languages.CudaFE 1 words
 
--- the same, as a compiler answers it
+-- the same, as a compiler's answer
 abbrev pub cudafe_answer : List ℕ → List (List ℕ) → Reading
 cudafe_answer cwd words = tool_reading cudafe_options cwd languages.CudaFE 1 words

@@ -1,4 +1,4 @@
--- The words that a device tool's arguments and their output are written as.
+-- The words that the arguments of a device tool and its output are written as.
 use Rattle.std.specs.Prelude.{ℕ, List, [], ◌∷◌, ◌++◌, codes}
 use Rattle.cuda_below.specs.declared.arguments.ParsedArguments.{ParsedArguments}
 

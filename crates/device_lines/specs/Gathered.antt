@@ -1,4 +1,4 @@
--- What reading a device tool's line has gathered, and how one more item changes it.
+-- What the reader of device tools' lines has gathered, and how one more item changes it.
 use Rattle.std.specs.Prelude.{ℕ, List, [], ◌++◌, Bool, false, ◌||◌, if◌then◌else◌, Option, Some, None, is_some}
 use Rattle.std.specs.List.{fold}
 use Rattle.cuda_below.specs.declared.arguments.ParsedArguments.{ParsedArguments}
@@ -36,7 +36,7 @@ with_item cwd g i = record {
   after_unknown = is_unknown i;
 }
 
--- what has been gathered of all items, as arguments
+-- what the reader gathered of all items, as arguments
 abbrev pub reading_of_gathered : List ℕ → Language → List ℕ → Gathered → ParsedArguments
 reading_of_gathered cwd language input g = record (plain_arguments input language
     (fold with_entry g.outputs (module_id_output cwd g.makes_module_id g.module_id))) {

@@ -1,4 +1,4 @@
--- What is read of an input file.
+-- Reading a file, and a device tool's input.
 use Rattle.std.specs.Prelude.{◌≡◌, ℕ, List, [], Option, Result, Err, IfSome, pos, MatchResult}
 use Rattle.texts.specs.declared.fault.Fault.{Fault}
 use Rattle.texts.specs.declared.fault.Fault.TheVariants.{Read}
@@ -9,8 +9,12 @@ use Rattle.texts.specs.Fault.{UnlessMemory}
 abbrev pub printed : List ℕ → Output
 printed bytes = record { status = pos 0; stdout = bytes; stderr = [] }
 
--- the answer of reading to the end: the bytes that the reader had left, if these are known; any refusal but
--- want of memory is that a read failed
+-- reading to the end gives the bytes that the reader had left, if these are known; a read that failed is the only error
+-- besides an allocation failure
+abbrev pub ReadsBytes : Option (List ℕ) → Result (List ℕ) Fault → Type 0
+ReadsBytes left answer = MatchResult answer (λ bytes. IfSome left (λ known. known ≡ bytes)) (λ _. UnlessMemory answer (Err Read))
+
+-- the same, with the bytes as an output
 abbrev pub ReadsToEnd : Option (List ℕ) → Result Output Fault → Type 0
 ReadsToEnd left answer =
     MatchResult answer (λ output. (bytes : List ℕ) × (output ≡ printed bytes) × IfSome left (λ known. known ≡ bytes)) (λ _. UnlessMemory answer (Err Read))

@@ -6,13 +6,13 @@ use Rattle.std.specs.declared.io.ErrorKind.TheVariants.{Interrupted}
 use Rattle.device_lines.specs.declared.input.Step.{Step}
 use Rattle.device_lines.specs.declared.input.Step.TheVariants.{GoesOn, Ends, Fails}
 
--- what a step says, with these bytes left after it: at the end there are none, and an interruption is no failure
+-- what a step tells of the bytes left after it: at the end there are none; an interruption isn't a failure
 abbrev pub StepHolds : Option (List ℕ) → Step → Type 0
 StepHolds left_after GoesOn = Unit {0}
 StepHolds left_after Ends = IsAtEnd left_after
 StepHolds left_after (Fails kind) = kind ≢ Interrupted
 
--- one read, of the bytes left and those gathered before and after it: it adds what it takes
+-- one read, by the bytes left and those gathered before and after it: it appends what it takes
 abbrev pub ReadsOn : Option (List ℕ) → Option (List ℕ) → List ℕ → List ℕ → Result Step AllocError → Type 0
 ReadsOn left left_after gathered gathered_after answer =
     MatchResult answer

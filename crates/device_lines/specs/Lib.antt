@@ -1,6 +1,6 @@
 pub mod Cicc
 pub mod CudaFE
-pub mod DeviceRows
+pub mod DeviceExamples
 pub mod DeviceWords
 pub mod Gathered
 pub mod Input
@@ -9,4 +9,4 @@ pub mod Options
 pub mod Ptxas
 pub mod Reading
 pub mod Reread
-pub mod RereadRows
+pub mod RereadExamples

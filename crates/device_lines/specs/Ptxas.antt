@@ -22,11 +22,11 @@ ptxas_options =
     separated (codes "-o") Output ∷
     []
 
--- what a ptxas line is read as at a working directory; if no word ends as its input does, that is the third word from the
--- end, since a line ends in the input, `-o` and the output
+-- what a ptxas line is read as at a working directory; if no word ends like the input, that is the third word from the end,
+-- because a line ends in the input, `-o` and the output
 abbrev pub ptxas_reading : List ℕ → List (List ℕ) → Option ParsedArguments
 ptxas_reading cwd words = reading (longest_match ptxas_options) cwd Cubin 3 words
 
--- the same, as a compiler answers it
+-- the same, as a compiler's answer
 abbrev pub ptxas_answer : List ℕ → List (List ℕ) → Reading
 ptxas_answer cwd words = tool_reading ptxas_options cwd Cubin 3 words

@@ -1,4 +1,4 @@
--- How a device tool's line is read: cicc, cudafe++ and ptxas share this reading.
+-- How the lines of device tools are read: cicc, cudafe++ and ptxas share this.
 use Rattle.std.specs.Prelude.{ℕ, ◌-◌, List, [], ◌∷◌, ◌++◌, Bool, true, false, ◌&&◌, ◌||◌, if◌then◌else◌, nat_lt}
 use Rattle.std.specs.Prelude.{nat_le, Option, Some, None, length, map, position, filter, codes, slice_index_or}
 use Rattle.std.specs.List.{filter_map, flat_map, list_any, remove}
@@ -20,7 +20,7 @@ use Rattle.device_lines.specs.declared.options.ArgData.TheVariants.{Output, Pass
 use Rattle.device_lines.specs.declared.options.ArgData.TheVariants.{GenModuleIdFileFlag, ModuleIdFileName}
 use Rattle.device_lines.specs.declared.options.ArgData.TheVariants.{UnhashedPassThrough, UnhashedOutput}
 
--- whether a word is by its end the input of the tool that makes this kind of file
+-- whether a word ends like the input of the tool that writes this kind of file
 abbrev pub is_input_word : Language → List ℕ → Bool
 is_input_word Ptx word = is_cicc_word word
 is_input_word Cubin word = is_ptxas_word word
@@ -30,14 +30,14 @@ is_input_word _ word = false
 abbrev pub place_from_end : ℕ → ℕ → Option ℕ
 place_from_end offset count = if nat_lt 0 offset && nat_le offset count then Some (count - offset) else None
 
--- the first of two positions that there is
-abbrev pub first_place : Option ℕ → Option ℕ → Option ℕ
-first_place (Some place) other = Some place
-first_place None other = other
+-- a position, or another one if there is none
+abbrev pub place_or : Option ℕ → Option ℕ → Option ℕ
+place_or (Some place) other = Some place
+place_or None other = other
 
--- the position of the input: of the first word that is it by its end, else by the offset from the end
+-- the position of the input: of the first word that ends like it, else by the offset from the end
 abbrev pub input_place : Language → ℕ → List (List ℕ) → Option ℕ
-input_place language offset words = first_place (position (is_input_word language) words) (place_from_end offset (length words))
+input_place language offset words = place_or (position (is_input_word language) words) (place_from_end offset (length words))
 
 -- the kinds whose words are common, and those whose words are unhashed
 abbrev pub is_common_kind : Option ArgData → Bool
@@ -52,7 +52,7 @@ is_unhashed_kind (Some UnhashedPassThrough) = true
 is_unhashed_kind (Some UnhashedOutput) = true
 is_unhashed_kind _ = false
 
--- an unknown flag, and a raw word
+-- whether an item is an unknown flag; whether it is a raw word
 abbrev pub is_unknown : Item ArgData → Bool
 is_unknown (unknown_flag word) = true
 is_unknown _ = false
@@ -61,7 +61,7 @@ abbrev pub is_raw : Item ArgData → Bool
 is_raw (raw word) = true
 is_raw _ = false
 
--- each item, beside whether an unknown flag stands right before it
+-- each item, and whether an unknown flag comes right before it
 abbrev pub beside : Bool → List (Item ArgData) → List (Bool × Item ArgData)
 beside after_unknown [] = []
 beside after_unknown (i ∷ is) = (after_unknown, i) ∷ beside (is_unknown i) is
@@ -77,11 +77,11 @@ common_items is = map (λ p. p.1) (filter is_common (beside false is))
 abbrev pub unhashed_items : List (Item ArgData) → List (Item ArgData)
 unhashed_items is = filter (λ i. is_unhashed_kind (kind_of i)) is
 
--- a file that is made at a path
+-- an output at a path
 abbrev pub made_at : Bool → List ℕ → ArtifactDescriptor
 made_at optional path = record { path = path; optional = optional }
 
--- the output that an item of a kind names: the line's output, or one under its option's text
+-- the output that an item of a kind names: the main one, or one under the option's text
 abbrev pub output_of_kind : List ℕ → Option ArgData → Item ArgData → Option (List ℕ × ArtifactDescriptor)
 output_of_kind cwd (Some Output) i = Some (codes "obj", made_at false (joined cwd (value_of i)))
 output_of_kind cwd (Some UnhashedOutput) i = option_map (λ text. (text, made_at false (joined cwd (value_of i)))) (text_of i)
@@ -98,7 +98,7 @@ module_id_of_kind _ value = None
 abbrev pub module_id_of : Item ArgData → Option (List ℕ)
 module_id_of i = module_id_of_kind (kind_of i) (value_of i)
 
--- whether an item says that the tool makes the module id file
+-- whether an item says that the tool writes the module id file
 abbrev pub is_generating_kind : Option ArgData → Bool
 is_generating_kind (Some GenModuleIdFileFlag) = true
 is_generating_kind _ = false
@@ -110,12 +110,12 @@ is_generating i = is_generating_kind (kind_of i)
 abbrev pub module_id : List (Item ArgData) → Option (List ℕ)
 module_id is = last_of (filter_map module_id_of is)
 
--- if the line makes the module id file, that file is an output that may be left out, recorded after all others
+-- if the tool writes the module id file, that file is an optional output, recorded after all others
 abbrev pub module_id_output : List ℕ → Bool → Option (List ℕ) → List (List ℕ × ArtifactDescriptor)
 module_id_output cwd false id = []
 module_id_output cwd true id = option_to_list (option_map (λ path. (codes "--module_id_file_name", made_at true (joined cwd path))) id)
 
--- else it is read, and its contents count
+-- else the tool reads it, and its contents affect the output
 abbrev pub module_id_file : List ℕ → Bool → Option (List ℕ) → List (List ℕ)
 module_id_file cwd true id = []
 module_id_file cwd false id = option_to_list (option_map (joined cwd) id)
@@ -133,8 +133,8 @@ reading_of_items cwd language input is = record (plain_arguments input language 
   extra_hash_files = module_id_file cwd (list_any is_generating is) (module_id is);
 }
 
--- what a line is read as over a table, with its input at a position: the input is cut out, and the items of the other
--- words are read
+-- what a line is read as over a table, with its input at a position: the input is cut out, and the other words are read as
+-- items
 abbrev pub reading_around : (List ℕ → Option (Entry ArgData)) → List ℕ → Language → List (List ℕ) → ℕ → ParsedArguments
 reading_around chosen cwd language words place = reading_of_items cwd language (slice_index_or words place []) (items chosen (remove words place))
 
@@ -142,7 +142,7 @@ reading_around chosen cwd language words place = reading_of_items cwd language (
 abbrev pub reading : (List ℕ → Option (Entry ArgData)) → List ℕ → Language → ℕ → List (List ℕ) → Option ParsedArguments
 reading chosen cwd language offset words = option_map (reading_around chosen cwd language words) (input_place language offset words)
 
--- the same as a reader answers it: without an input a line is no compilation
+-- the same as a reader's answer: a line without an input is no compilation
 abbrev pub reading_as_answer : Option ParsedArguments → Reading
 reading_as_answer None = not_compilation
 reading_as_answer (Some arguments) = accepted arguments

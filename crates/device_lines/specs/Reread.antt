@@ -1,4 +1,4 @@
--- Lines that are read, written back and read again: what is claimed of them, and under which premises.
+-- Lines that are read, written back and read again: the law, and its premises.
 use Rattle.std.specs.Prelude.{◌≡◌, ℕ, ◌≤◌, List, [], ◌++◌, Bool, true, not, ◌&&◌, Option, Some, Ok, IfSome, length, filter}
 use Rattle.std.specs.List.{AllByRecursion, flat_map, remove}
 use Rattle.std.specs.Str.{bytes_eq}
@@ -53,17 +53,17 @@ module _ (chosen : List ℕ → Option (Entry ArgData)) where
       → (common_words (common_words line ++ unhashed_words line) ≡ common_words line)
       × (unhashed_words (common_words line ++ unhashed_words line) ≡ unhashed_words line)
 
--- at most one word of a line is by its end the input of the tool that makes this kind of file
+-- at most one word of a line ends like the input of the tool that writes this kind of file
 abbrev pub AtMostOneInputWord : Language → List (List ℕ) → Type 0
 AtMostOneInputWord language words = length (filter (is_input_word language) words) ≤ 1
 
--- no option of a line has an empty value joined to it; the input is no part of an option
+-- no option of a line has an empty value joined to it; the input doesn't belong to an option
 abbrev pub NoEmptyValue : List (Entry ArgData) → Language → ℕ → List (List ℕ) → Type 0
 NoEmptyValue options language offset words =
     IfSome (input_place language offset words) (λ place. AllFilled (items (longest_match options) (remove words place)))
 
--- a line rereads: if it was read and its writing wasn't refused, the words of the command that it is written back as are
--- read, at the same working directory, as the same arguments
+-- a line rereads: if it can be read and written back, the words of the command that it is written back as are read, at the
+-- same working directory, as the same arguments
 abbrev pub Rereads : List (Entry ArgData) → Language → ℕ → (ParsedArguments → List ℕ → List (List ℕ)) → List ℕ → List (List ℕ) → Type 0
 Rereads options language offset words_to_write cwd words =
     (arguments : ParsedArguments) (executable : List ℕ) (env_vars : List (List ℕ × List ℕ)) (command : SingleCompileCommand × Cacheable) →
@@ -76,7 +76,7 @@ abbrev pub CiccLinesReread : Type 0
 CiccLinesReread =
     (cwd : List ℕ) (words : List (List ℕ)) → is_absolute_path cwd ≡ true → AtMostOneInputWord Ptx words → Rereads cicc_options Ptx 3 cicc_words cwd words
 
--- so do ptxas's, if besides no option has an empty value joined to it
+-- so do ptxas's, if also no option has an empty value joined to it
 abbrev pub PtxasLinesReread : Type 0
 PtxasLinesReread =
     (cwd : List ℕ) (words : List (List ℕ)) → is_absolute_path cwd ≡ true → AtMostOneInputWord Cubin words
@@ -86,14 +86,14 @@ PtxasLinesReread =
 abbrev pub CudaFELinesReread : Type 0
 CudaFELinesReread = (cwd : List ℕ) (words : List (List ℕ)) → is_absolute_path cwd ≡ true → Rereads cudafe_options CudaFE 1 cudafe_words cwd words
 
--- The same with one premise left out, for each tool and each of its premises. None of these is so.
+-- The same without one premise, for each tool and each of its premises. None of these holds.
 
--- ptxas's lines, also with an empty value that is joined to its option
+-- ptxas's lines, even with an empty value that is joined to its option
 abbrev pub PtxasLinesRereadWithEmptyValues : Type 0
 PtxasLinesRereadWithEmptyValues =
     (cwd : List ℕ) (words : List (List ℕ)) → is_absolute_path cwd ≡ true → AtMostOneInputWord Cubin words → Rereads ptxas_options Cubin 3 cicc_words cwd words
 
--- cicc's and ptxas's lines, also with several words that have the input's suffix
+-- cicc's and ptxas's lines, even with several words that have the input's suffix
 abbrev pub CiccLinesRereadWithSeveralInputs : Type 0
 CiccLinesRereadWithSeveralInputs = (cwd : List ℕ) (words : List (List ℕ)) → is_absolute_path cwd ≡ true → Rereads cicc_options Ptx 3 cicc_words cwd words
 

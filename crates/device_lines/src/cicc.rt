@@ -1,4 +1,4 @@
-//! The command lines of cicc, which makes PTX of preprocessed device code.
+//! The command lines of cicc, which compiles preprocessed device code to PTX.
 
 ghost use Rattle.std.specs.Prelude.{◌≡◌, None, Err, map, codes, IfOk};
 ghost use Rattle.option_items.specs.Table.{entry_of};
@@ -10,14 +10,14 @@ ghost use Rattle.texts.specs.declared.fault.Fault.TheVariants.{MissingOutput};
 ghost use Rattle.device_lines.specs.Cicc as spec;
 ghost use Rattle.device_lines.specs.DeviceWords as words;
 
-pub use crate::input::{preprocess, read_input};
+pub use crate::input::{preprocess, read_bytes, read_file, read_input};
 pub use crate::options::ArgData;
 pub use crate::reader::parse_arguments;
 use crate::writer::option_words;
 use cuda_below::arguments::{CompilerArguments, ParsedArguments};
 use cuda_below::command::{Cacheable, SingleCompileCommand};
 use cuda_below::compiler::{CCompilerImpl, CCompilerKind, Places};
-use option_items::table::{ArgDisposition, ArgInfo, Table};
+use option_items::table::{ArgInfo, SEPARATED, Table};
 use std::alloc::{AllocError, Global};
 pub use texts::device_files::{
     CICC_INPUT_SUFFIX, PTXAS_INPUT_SUFFIX, is_cicc_input, is_ptxas_input,
@@ -27,9 +27,7 @@ use texts::language::Language;
 use texts::text::Text;
 use texts::words::Words;
 
-const SEPARATED: ArgDisposition = ArgDisposition::Separated;
-
-/// cicc's options, as sccache 0.19.0's table has them.
+/// cicc's options, as in sccache 0.19.0's table.
 pub const ARGS: [ArgInfo<ArgData>; 7] = [
     ArgInfo::TakeArg("--gen_c_file_name", ArgData::UnhashedOutput, SEPARATED),
     ArgInfo::TakeArg("--gen_device_file_name", ArgData::UnhashedOutput, SEPARATED),
@@ -44,7 +42,7 @@ pub const ARGS: [ArgInfo<ArgData>; 7] = [
     ArgInfo::TakeArg("-o", ArgData::Output, SEPARATED),
 ];
 
-/// cicc's option table, to be searched.
+/// cicc's option table.
 pub fn table() -> Table<'static, ArgData>
     ensures { map entry_of result.rows.now ≡ spec.cicc_options }
 {
@@ -61,8 +59,8 @@ fn line_words(alloc: Global, parsed_args: &ParsedArguments, obj: &str) -> Result
     Ok(words)
 }
 
-/// Writes the arguments of a cicc or ptxas line back as a command that can be cached: the common
-/// words, the unhashed ones, the input, `-o` and the output's path. The other parts are as handed in.
+/// Writes the arguments of a cicc or ptxas line back as a cacheable command. Its words are the common ones, the
+/// unhashed ones, the input, `-o` and the output's path; the other parts are copied.
 ///
 /// Refuses arguments without an output `obj`: `MissingOutput`.
 pub fn generate_compile_commands(
@@ -86,12 +84,12 @@ pub fn generate_compile_commands(
 /// cicc, as a compiler.
 #[derive(Debug, PartialEq, Drop)]
 pub struct Cicc {
-    /// The text of its version, if one is known.
+    /// The text of its version, if known.
     pub version: Option<Text>,
 }
 
 impl Cicc {
-    /// An equal value, in memory of its own.
+    /// Copies the value into memory of its own.
     pub fn try_clone(&self, alloc: Global) -> Result<Cicc, AllocError>
         ensures { IfOk result (λ c. c ≡ self.now) }
     {

@@ -1,4 +1,4 @@
-//! The command lines of cudafe++, which parts host code from device code.
+//! The command lines of cudafe++, which separates host code from device code.
 
 ghost use Rattle.std.specs.Prelude.{◌≡◌, None, Err, map, codes, IfOk};
 ghost use Rattle.option_items.specs.Table.{entry_of};
@@ -16,16 +16,14 @@ use crate::writer::option_words;
 use cuda_below::arguments::{CompilerArguments, ParsedArguments};
 use cuda_below::command::{Cacheable, SingleCompileCommand};
 use cuda_below::compiler::{CCompilerImpl, CCompilerKind, Places};
-use option_items::table::{ArgDisposition, ArgInfo, Table};
+use option_items::table::{ArgInfo, SEPARATED, Table};
 use std::alloc::{AllocError, Global};
 use texts::fault::Fault;
 use texts::language::Language;
 use texts::text::Text;
 use texts::words::Words;
 
-const SEPARATED: ArgDisposition = ArgDisposition::Separated;
-
-/// cudafe++'s options, as sccache 0.19.0's table has them.
+/// cudafe++'s options, as in sccache 0.19.0's table.
 pub const ARGS: [ArgInfo<ArgData>; 4] = [
     ArgInfo::TakeArg("--gen_c_file_name", ArgData::UnhashedOutput, SEPARATED),
     ArgInfo::Flag("--gen_module_id_file", ArgData::GenModuleIdFileFlag),
@@ -33,7 +31,7 @@ pub const ARGS: [ArgInfo<ArgData>; 4] = [
     ArgInfo::TakeArg("--stub_file_name", ArgData::UnhashedPassThrough, SEPARATED),
 ];
 
-/// cudafe++'s option table, to be searched.
+/// cudafe++'s option table.
 pub fn table() -> Table<'static, ArgData>
     ensures { map entry_of result.rows.now ≡ spec.cudafe_options }
 {
@@ -50,9 +48,8 @@ fn line_words(alloc: Global, parsed_args: &ParsedArguments, obj: &str) -> Result
     Ok(words)
 }
 
-/// Writes the arguments of a cudafe++ line back as a command that can be cached: the common words,
-/// the unhashed ones, `--module_id_file_name` and the output's path, and the input. The other parts
-/// are as handed in.
+/// Writes the arguments of a cudafe++ line back as a cacheable command. Its words are the common ones, the unhashed
+/// ones, `--module_id_file_name`, the output's path and the input; the other parts are copied.
 ///
 /// Refuses arguments without an output `obj`: `MissingOutput`.
 pub fn generate_compile_commands(
@@ -76,12 +73,12 @@ pub fn generate_compile_commands(
 /// cudafe++, as a compiler.
 #[derive(Debug, PartialEq, Drop)]
 pub struct CudaFE {
-    /// The text of its version, if one is known.
+    /// The text of its version, if known.
     pub version: Option<Text>,
 }
 
 impl CudaFE {
-    /// An equal value, in memory of its own.
+    /// Copies the value into memory of its own.
     pub fn try_clone(&self, alloc: Global) -> Result<CudaFE, AllocError>
         ensures { IfOk result (λ c. c ≡ self.now) }
     {

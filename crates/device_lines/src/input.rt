@@ -1,9 +1,10 @@
-//! A device tool's input, which is preprocessed already: its bytes stand in for a preprocessor's output.
+//! The bytes of a file, and a device tool's input, which a preprocessor wrote.
 
 ghost use Rattle.std.specs.Prelude.{◌≡◌, ◌<◌, length, None, IfOk, string_bytes};
 ghost use Rattle.texts.specs.Path.{joined};
-ghost use Rattle.device_lines.specs.Input.{ReadsToEnd};
+ghost use Rattle.device_lines.specs.Input.{ReadsBytes, ReadsToEnd};
 ghost use Rattle.device_lines.specs.InputStep.{ReadsOn};
+ghost use Rattle.device_lines.specs.Input as spec;
 
 use cuda_below::arguments::ParsedArguments;
 use std::alloc::{AllocError, Global};
@@ -14,23 +15,23 @@ use texts::fault::Fault;
 use texts::status::{ExitStatus, Output};
 use texts::text::join;
 
-// The reads after which an input is taken to have no end.
+// After so many reads an input counts as endless.
 const MOST_READS: u64 = 1 << 40;
 
-// The bytes that are asked for at once.
+// How many bytes one read asks for.
 const READ_LENGTH: usize = 16384;
 
-// What one read of an input brought.
+// What one read of an input gave.
 #[derive(Clone, Copy)]
 enum Step {
     // Bytes, or an interruption: there may be more.
     GoesOn,
     Ends,
-    // An error of this kind, which is no interruption.
+    // An error of this kind, which isn't an interruption.
     Fails(ErrorKind),
 }
 
-// Reads once, and adds what comes.
+// Reads once, and appends what comes.
 fn read_on<R: Read>(
     reader: &mut R,
     buffer: &mut [u8],
@@ -50,12 +51,11 @@ fn read_on<R: Read>(
     }
 }
 
-/// Reads a device tool's input to its end. As in sccache 0.19.0, the bytes stand in for a
-/// preprocessor's output: they are the standard output of an output of status 0.
+/// Reads `reader` to its end.
 ///
 /// Refuses if a read fails, or if 2^40 reads bring no end: `Read`. An interrupted read is tried again.
-pub fn read_input<R: Read + Drop>(alloc: Global, reader: R) -> Result<Output, Fault>
-    ensures { ReadsToEnd (R.remaining reader) result }
+pub fn read_bytes<R: Read + Drop>(alloc: Global, reader: R) -> Result<Bytes, Fault>
+    ensures { ReadsBytes (R.remaining reader) result }
 {
     let mut reader = reader;
     let mut bytes = Vec::new(alloc);
@@ -63,17 +63,44 @@ pub fn read_input<R: Read + Drop>(alloc: Global, reader: R) -> Result<Output, Fa
     for _ in 0..MOST_READS {
         match read_on(&mut reader, &mut buffer, &mut bytes)? {
             Step::GoesOn => {}
-            Step::Ends => {
-                return Ok(Output {
-                    status: ExitStatus::from_code(0),
-                    stdout: Bytes::from_vec(bytes),
-                    stderr: Bytes::new(alloc),
-                });
-            }
+            Step::Ends => return Ok(Bytes::from_vec(bytes)),
             Step::Fails(_) => return Err(Fault::Read),
         }
     }
     Err(Fault::Read)
+}
+
+/// Reads the file at `path` to its end.
+///
+/// Refuses if the file can't be opened or read: `Read`.
+pub fn read_file<R: Files>(rt: &R, alloc: Global, path: &str) -> Result<Bytes, Fault>
+    ensures { ReadsBytes None result }
+{
+    let Ok(file) = fs::open(rt, path) else {
+        return Err(Fault::Read);
+    };
+    read_bytes(alloc, file)
+}
+
+// The output of a program that succeeds and prints these bytes.
+fn printed(alloc: Global, bytes: Bytes) -> Output
+    ensures { result ≡ spec.printed bytes }
+{
+    Output {
+        status: ExitStatus::from_code(0),
+        stdout: bytes,
+        stderr: Bytes::new(alloc),
+    }
+}
+
+/// Reads a device tool's input to its end. Its bytes take the place of a preprocessor's output, as in sccache
+/// 0.19.0: they are the standard output of a program that succeeded.
+///
+/// Refuses if a read fails, or if 2^40 reads bring no end: `Read`. An interrupted read is tried again.
+pub fn read_input<R: Read + Drop>(alloc: Global, reader: R) -> Result<Output, Fault>
+    ensures { ReadsToEnd (R.remaining reader) result }
+{
+    Ok(printed(alloc, read_bytes(alloc, reader)?))
 }
 
 // The path of the arguments' input.
@@ -83,8 +110,8 @@ fn input_path(alloc: Global, cwd: &str, parsed_args: &ParsedArguments) -> Result
     join(alloc, cwd, parsed_args.input.as_str())
 }
 
-/// Reads the input of arguments that were read at the working directory `cwd`. There is nothing to
-/// preprocess: the inputs of cicc, ptxas and cudafe++ are the output of a preprocessor already.
+/// Reads the input of arguments that were read at the working directory `cwd`. There is nothing to preprocess:
+/// the inputs of cicc, ptxas and cudafe++ come from a preprocessor.
 ///
 /// Refuses if the file can't be opened or read: `Read`.
 pub fn preprocess<R: Files>(
@@ -96,8 +123,5 @@ pub fn preprocess<R: Files>(
     ensures { ReadsToEnd None result }
 {
     let path = input_path(alloc, cwd, parsed_args)?;
-    let Ok(file) = fs::open(rt, path.as_str()) else {
-        return Err(Fault::Read);
-    };
-    read_input(alloc, file)
+    Ok(printed(alloc, read_file(rt, alloc, path.as_str())?))
 }

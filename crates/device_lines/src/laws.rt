@@ -1,20 +1,19 @@
-//! What holds of the lines of cicc, cudafe++ and ptxas, and lines worked out by hand, which the definitions compute.
+//! Laws of the lines of cicc, cudafe++ and ptxas, and examples worked out by hand.
 
 ghost use Rattle.std.specs.Prelude.{List, ℕ, Option};
 ghost use Rattle.texts.specs.Equality.{TellsEqual};
 ghost use Rattle.option_items.specs.Table.{Entry};
-ghost use Rattle.device_lines.specs.declared.options.ArgData.{ArgData as Kind};
-ghost use Rattle.device_lines.specs.DeviceRows as rows;
+ghost use Rattle.device_lines.specs.declared.options.ArgData as options;
+ghost use Rattle.device_lines.specs.DeviceExamples as lines;
 ghost use Rattle.device_lines.specs.Reread as spec;
-ghost use Rattle.device_lines.specs.RereadRows as again;
+ghost use Rattle.device_lines.specs.RereadExamples as again;
 
 use crate::cicc::Cicc;
 use crate::cudafe::CudaFE;
 use crate::options::ArgData;
 use crate::ptxas::Ptxas;
 
-/// `==` on the compilers compares all fields, and on the kinds of options the kinds: it says whether
-/// two values are equal.
+/// `==` on the compilers and on the kinds of options is true exactly for equal values.
 pub fn equality()
     ensures cicc { TellsEqual ⟦<Cicc as PartialEq>⟧.eq }
     ensures cudafe { TellsEqual ⟦<CudaFE as PartialEq>⟧.eq }
@@ -22,22 +21,22 @@ pub fn equality()
     ensures kind { TellsEqual ⟦<ArgData as PartialEq>⟧.eq }
 {}
 
-/// What lines are read as and written back as, by the definitions.
+/// Examples: what lines are read as and written back as, by the definitions.
 pub fn worked_lines()
-    ensures device_code_line_is_read { rows.DeviceCodeLineIsRead }
-    ensures device_code_line { rows.DeviceCodeLine }
-    ensures input_is_cut_out_first { rows.InputIsCutOutFirst }
-    ensures short_line_is_no_compilation { rows.ShortLineIsNoCompilation }
-    ensures third_word_from_the_end_is_the_input { rows.ThirdWordFromTheEndIsTheInput }
-    ensures faulty_item_is_dropped { rows.FaultyItemIsDropped }
-    ensures host_line_is_read { rows.HostLineIsRead }
+    ensures device_code_line_is_read { lines.DeviceCodeLineIsRead }
+    ensures device_code_line { lines.DeviceCodeLine }
+    ensures input_is_cut_out_first { lines.InputIsCutOutFirst }
+    ensures short_line_is_no_compilation { lines.ShortLineIsNoCompilation }
+    ensures third_word_from_the_end_is_the_input { lines.ThirdWordFromTheEndIsTheInput }
+    ensures faulty_item_is_dropped { lines.FaultyItemIsDropped }
+    ensures host_line_is_read { lines.HostLineIsRead }
 {}
 
-/// Lines that are written back and read again, by the definitions.
+/// Examples: lines that are written back and read again, by the definitions.
 ///
-/// Four of them are read as the same arguments. The other three show that each premise of `reread`
-/// is needed: an empty value (`empty_value_is_lost`), two words with the input's suffix
-/// (`second_input_comes_first`) and a relative working directory (`relative_folder_is_joined_twice`).
+/// Four of them are read as the same arguments. The other three show why `reread` has its premises: an empty value
+/// (`empty_value_is_lost`), two words with the input's suffix (`second_input_comes_first`) and a relative working
+/// directory (`relative_folder_is_joined_twice`).
 pub fn worked_rereadings()
     ensures device_code_line_rereads { again.DeviceCodeLineRereads }
     ensures renamed_host_line_rereads { again.RenamedHostLineRereads }
@@ -48,27 +47,26 @@ pub fn worked_rereadings()
     ensures relative_folder_is_joined_twice { again.RelativeFolderIsJoinedTwice }
 {}
 
-/// A law, over all lines: a cicc, ptxas or cudafe++ line that was read and written back is read
-/// again, at the same working directory, as the same arguments.
+/// A law over all lines: reading a cicc, ptxas or cudafe++ line, writing it back and reading that again, at the same
+/// working directory, gives the same arguments.
 ///
-/// The working directory is absolute, at most one word of a cicc or ptxas line has the input's
-/// suffix, and no ptxas option has an empty value joined to it (`cicc`, `ptxas`, `cudafe`). The other
-/// two parts are about the common and unhashed words, over every choice of options, so over every
-/// table, for every line in which no value is both joined and empty. These words are read as the
-/// items that they were written for (`items`), and have the same common and unhashed words (`words`).
+/// The premises are: the working directory is absolute, at most one word of a cicc or ptxas line has the input's
+/// suffix, and no ptxas option has an empty value joined to it (`cicc`, `ptxas`, `cudafe`). The other two parts are
+/// about the common and unhashed words. They hold over every table, for every line in which no value is both joined
+/// and empty: these words are read as the items that they were written for (`items`), and have the same common and
+/// unhashed words (`words`).
 pub fn reread()
-    ensures items { (chosen : List ℕ → Option (Entry Kind)) → spec.KeptWordsReadBack chosen }
-    ensures words { (chosen : List ℕ → Option (Entry Kind)) → spec.KeptWordsStay chosen }
+    ensures items { (chosen : List ℕ → Option (Entry options.ArgData)) → spec.KeptWordsReadBack chosen }
+    ensures words { (chosen : List ℕ → Option (Entry options.ArgData)) → spec.KeptWordsStay chosen }
     ensures cicc { spec.CiccLinesReread }
     ensures ptxas { spec.PtxasLinesReread }
     ensures cudafe { spec.CudaFELinesReread }
 {}
 
-/// None of the premises of `reread` can be left out, for any tool that has it. ptxas's lines don't all
-/// reread if options have empty values joined to them (`ptxas_empty_value`). Neither do cicc's and
-/// ptxas's if two words have the input's suffix (`cicc_one_input`, `ptxas_one_input`), nor any tool's
-/// at a working directory that isn't absolute (`cicc_absolute_folder`, `ptxas_absolute_folder`,
-/// `cudafe_absolute_folder`).
+/// No premise of `reread` can be dropped, for any tool that has it. Some ptxas lines don't reread if options have
+/// empty values joined to them (`ptxas_empty_value`). Some cicc and ptxas lines don't if two words have the input's
+/// suffix (`cicc_one_input`, `ptxas_one_input`). Some lines of each tool don't at a working directory that isn't
+/// absolute (`cicc_absolute_folder`, `ptxas_absolute_folder`, `cudafe_absolute_folder`).
 pub fn rereading_needs()
     ensures ptxas_empty_value { spec.PtxasLinesRereadWithEmptyValues → ⊥ }
     ensures cicc_one_input { spec.CiccLinesRereadWithSeveralInputs → ⊥ }

@@ -3,18 +3,18 @@
 /// What an option of a device tool's line is for.
 #[derive(Clone, Copy, Debug, PartialEq)]
 pub enum ArgData {
-    /// The file that the tool is run for.
+    /// The tool's main output.
     Output,
-    /// An option that matters to the output.
+    /// An option that affects the output.
     PassThrough,
-    /// A flag that doesn't matter to the output.
+    /// A flag that doesn't affect the output.
     UnhashedFlag,
     /// The flag that asks for a module id file.
     GenModuleIdFileFlag,
     /// The path of the module id file.
     ModuleIdFileName,
-    /// An option with a value that doesn't matter to the output.
+    /// An option with a value that doesn't affect the output.
     UnhashedPassThrough,
-    /// A further file that the tool makes.
+    /// Another file that the tool writes.
     UnhashedOutput,
 }

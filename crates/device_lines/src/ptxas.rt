@@ -1,4 +1,4 @@
-//! The command lines of ptxas, which makes machine code of PTX.
+//! The command lines of ptxas, which assembles PTX to machine code.
 
 ghost use Rattle.std.specs.Prelude.{◌≡◌, map, IfOk};
 ghost use Rattle.option_items.specs.Table.{entry_of};
@@ -10,20 +10,20 @@ use crate::reader::parse_arguments;
 use cuda_below::arguments::{CompilerArguments, ParsedArguments};
 use cuda_below::command::{Cacheable, SingleCompileCommand};
 use cuda_below::compiler::{CCompilerImpl, CCompilerKind, Places};
-use option_items::table::{ArgDisposition, ArgInfo, EITHER_WAY_OR_EQUALS, Table};
+use option_items::table::{ArgInfo, EITHER_WAY_OR_EQUALS, SEPARATED, Table};
 use std::alloc::{AllocError, Global};
 use texts::fault::Fault;
 use texts::language::Language;
 use texts::text::Text;
 
-/// ptxas's options, as sccache 0.19.0's table has them.
+/// ptxas's options, as in sccache 0.19.0's table.
 pub const ARGS: [ArgInfo<ArgData>; 3] = [
     ArgInfo::TakeArg("-arch", ArgData::PassThrough, EITHER_WAY_OR_EQUALS),
     ArgInfo::TakeArg("-m", ArgData::PassThrough, EITHER_WAY_OR_EQUALS),
-    ArgInfo::TakeArg("-o", ArgData::Output, ArgDisposition::Separated),
+    ArgInfo::TakeArg("-o", ArgData::Output, SEPARATED),
 ];
 
-/// ptxas's option table, to be searched.
+/// ptxas's option table.
 pub fn table() -> Table<'static, ArgData>
     ensures { map entry_of result.rows.now ≡ spec.ptxas_options }
 {
@@ -33,12 +33,12 @@ pub fn table() -> Table<'static, ArgData>
 /// ptxas, as a compiler.
 #[derive(Debug, PartialEq, Drop)]
 pub struct Ptxas {
-    /// The text of its version, if one is known.
+    /// The text of its version, if known.
     pub version: Option<Text>,
 }
 
 impl Ptxas {
-    /// An equal value, in memory of its own.
+    /// Copies the value into memory of its own.
     pub fn try_clone(&self, alloc: Global) -> Result<Ptxas, AllocError>
         ensures { IfOk result (λ c. c ≡ self.now) }
     {

@@ -1,4 +1,4 @@
-//! The reader of a device tool's line, which cicc, ptxas and cudafe++ share.
+//! The reader of device tools' lines, which cicc, ptxas and cudafe++ share.
 
 ghost use Rattle.std.specs.Prelude.{◌≡◌, ◌<◌, [], map, length, position, IfOk, IfSome, string_bytes, slice_index_or};
 ghost use Rattle.cuda_below.specs.Compiler.{accepted, reading_of};
@@ -15,7 +15,7 @@ use std::alloc::{AllocError, Global};
 use texts::device_files::{is_cicc_input, is_ptxas_input};
 use texts::language::Language;
 
-// Whether a word is by its end the input of the tool that makes `language`.
+// Whether a word ends like the input of the tool that writes `language`.
 fn is_input(language: Language, word: &str) -> bool
     ensures { result ≡ spec.is_input_word language word.now }
 {
@@ -26,7 +26,7 @@ fn is_input(language: Language, word: &str) -> bool
     }
 }
 
-// The position of the first word that is the input by its end.
+// The position of the first word that ends like the input.
 fn place_by_end(language: Language, words: &[String]) -> Option<usize>
     ensures { result ≡ position (λ word. spec.is_input_word language (string_bytes word)) words.now }
 {
@@ -46,7 +46,7 @@ fn place_from_end(offset: usize, count: usize) -> Option<usize>
     }
 }
 
-// The position of the input: by its end, else `offset` words from the end of the line.
+// The position of the input: by its ending, else `offset` words from the end of the line.
 fn input_place(language: Language, offset: usize, words: &[String]) -> Option<usize>
     ensures place { result ≡ spec.input_place language offset (map string_bytes words.now) }
     ensures within { IfSome result (λ place. place < length words.now) }
@@ -86,13 +86,12 @@ fn read_around<S: SearchableArgInfo<ArgData>>(
 
 /// Reads a device tool's line, as sccache 0.19.0's cicc reader does.
 ///
-/// The words are UTF-8 texts, without the tool's name; paths are joined to `cwd`. The input is the
-/// first word that ends in `.cpp1.ii` (for `Language::Ptx`) or `.ptx` (for `Language::Cubin`). For
-/// other languages, or if no word ends so, it is the word `input_arg_offset_from_end` words from the
-/// end, which is the last one for 1. The input is cut out first, because it may stand between an
-/// option and its value; the other words are read as items over `arg_info`.
+/// `arguments` are the words without the tool's name; paths are joined to `cwd`. The input is the first word that
+/// ends in `.cpp1.ii` (for `Language::Ptx`) or `.ptx` (for `Language::Cubin`). For other languages, or if no word
+/// ends so, it is the word `input_arg_offset_from_end` words from the end; 1 is the last word. The input is cut out
+/// before the other words are read as items over `arg_info`, because it may be between an option and its value.
 ///
-/// Answers `NotCompilation` if there is no input: the offset is 0, or the line is shorter.
+/// Returns `NotCompilation` if there is no input: the offset is 0, or the line is shorter.
 pub fn parse_arguments<S: SearchableArgInfo<ArgData> + Drop>(
     alloc: Global,
     arguments: &[String],

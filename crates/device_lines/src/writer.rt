@@ -1,4 +1,4 @@
-//! The words that every device tool's line begins with when it is written back.
+//! The words that every line of a device tool begins with when it is written back.
 
 ghost use Rattle.std.specs.Prelude.{◌≡◌, ◌++◌, IfOk};
 
@@ -6,7 +6,7 @@ use cuda_below::arguments::ParsedArguments;
 use std::alloc::{AllocError, Global};
 use texts::words::Words;
 
-/// The common words, and after them the unhashed ones, with room for three more.
+/// The common words and then the unhashed ones, with room for three more.
 pub(crate) fn option_words(
     alloc: Global,
     parsed_args: &ParsedArguments,

@@ -1,5 +1,5 @@
--- Keep words and thread words of an nvcc line: which folder intermediate files are kept in, how many commands run at
--- once, and the words without these. Each answer is a filter of the words.
+-- The words of an nvcc line for kept files and for threads: which folder keeps intermediate files, how many commands run at
+-- once, and the words without these. Each answer filters the words.
 use Rattle.std.specs.Prelude.{ℕ, ◌+◌, ◌*◌, ◌-◌, ◌^◌, List, [], ◌∷◌, Bool, true, false, not, ◌&&◌, ◌||◌, ◌==◌, nat_eq, nat_lt, if◌then◌else◌, Option, Some, None, unwrap_or, Result, Ok, Err, Vec, String, string_bytes, map, filter, drop, codes}
 use Rattle.std.specs.List.{filter_map, list_any, starts_with}
 use Rattle.std.specs.Option.{option_and_then, option_map}
@@ -10,13 +10,12 @@ use Rattle.texts.specs.declared.fault.Fault.TheVariants.{KeepDirValue, ThreadsVa
 use Rattle.texts.specs.Path.{joined}
 use Rattle.texts.specs.Lists.{last_of}
 
--- whether a word takes the next one as its value: an option of that kind does, if it isn't itself a value; the word
--- stands beside whether it is one
+-- whether a word takes the next one as its value: an option of that kind does, if it isn't a value itself. The flag beside
+-- the word says whether it is one
 abbrev pub takes_value : (List ℕ → Bool) → Bool × List ℕ → Bool
 takes_value takes (is_value, word) = not is_value && takes word
 
--- each word beside whether it is a value: whether the word right before it takes one; of the first word the flag
--- tells it
+-- each word and whether it is a value: whether the word right before it takes one; the flag tells it of the first word
 abbrev pub valued : (List ℕ → Bool) → Bool → List (List ℕ) → List (Bool × List ℕ)
 valued takes is_value [] = []
 valued takes is_value (word ∷ words) = (is_value, word) ∷ valued takes (takes_value takes (is_value, word)) words
@@ -26,15 +25,15 @@ abbrev pub is_unfinished : (List ℕ → Bool) → Option (Bool × List ℕ) →
 is_unfinished takes None = false
 is_unfinished takes (Some p) = takes_value takes p
 
--- whether the last word of a line takes a value, which is missing then
+-- whether the last word of a line takes a value, which is then missing
 abbrev pub lacks_value : (List ℕ → Bool) → List (Bool × List ℕ) → Bool
 lacks_value takes ps = is_unfinished takes (last_of ps)
 
--- the words of a list whose words stand beside a flag
+-- the words of a list of flags and words
 abbrev pub words_alone : List (Bool × List ℕ) → List (List ℕ)
 words_alone ps = map (λ p. p.1) ps
 
--- Keep words.
+-- Words for kept files.
 
 -- an option that takes the keep directory as its value
 abbrev pub is_keep_dir : List ℕ → Bool
@@ -46,7 +45,7 @@ is_keep word =
     bytes_eq word (codes "-keep") || bytes_eq word (codes "--keep")
     || bytes_eq word (codes "-save-temps") || bytes_eq word (codes "--save-temps")
 
--- the words of a line, each beside whether it is a keep directory
+-- the words of a line, and whether each is a keep directory
 abbrev pub beside_keep_dirs : List (List ℕ) → List (Bool × List ℕ)
 beside_keep_dirs words = valued is_keep_dir false words
 
@@ -54,11 +53,11 @@ beside_keep_dirs words = valued is_keep_dir false words
 abbrev pub sets_keep : Bool × List ℕ → Bool
 sets_keep (is_value, word) = not is_value && is_keep word
 
--- whether a word stays: it is neither a value nor a keep word
+-- whether a word stays: it is neither a value nor a word for kept files
 abbrev pub is_no_keep_word : Bool × List ℕ → Bool
 is_no_keep_word (is_value, word) = not is_value && not (is_keep_dir word) && not (is_keep word)
 
--- the words without the keep words
+-- the words without those for kept files
 abbrev pub words_without_keep : List (List ℕ) → List (List ℕ)
 words_without_keep words = words_alone (filter is_no_keep_word (beside_keep_dirs words))
 
@@ -66,17 +65,17 @@ words_without_keep words = words_alone (filter is_no_keep_word (beside_keep_dirs
 abbrev pub keep_directories : List (List ℕ) → List (List ℕ)
 keep_directories words = words_alone (filter (λ p. p.0) (beside_keep_dirs words))
 
--- the last directory looked up from the working directory, or that one if none is named
+-- the last directory joined to the working directory, or the working directory if there is none
 abbrev pub directory_from : List ℕ → Option (List ℕ) → List ℕ
 directory_from cwd None = cwd
 directory_from cwd (Some directory) = joined cwd directory
 
--- the words that stay, and the directory exactly if keep is set; or a refusal if a directory is missing
+-- the words that stay, and the directory if keep is set; or a refusal if a directory is missing
 abbrev pub keep_answer : List ℕ → Bool → List (List ℕ) → Bool → Option (List ℕ) → Result (List (List ℕ) × Option (List ℕ)) Fault
 keep_answer cwd is_missing stay is_kept directory =
     if is_missing then Err KeepDirValue else Ok (stay, (if is_kept then Some (directory_from cwd directory) else None))
 
--- what a line's keep words say, at a working directory
+-- what a line's words for kept files say, at a working directory
 abbrev pub keep_of : List ℕ → List (List ℕ) → Result (List (List ℕ) × Option (List ℕ)) Fault
 keep_of cwd words =
     keep_answer cwd (lacks_value is_keep_dir (beside_keep_dirs words)) (words_without_keep words)
@@ -89,7 +88,7 @@ abbrev pub after_plus : List ℕ → List ℕ
 after_plus [] = []
 after_plus (c ∷ cs) = if c == 43 then cs else c ∷ cs
 
--- the number that digits say which follow those of a number
+-- the number of further digits after those of a number
 abbrev pub digits_after : ℕ → List ℕ → ℕ
 digits_after n [] = n
 digits_after n (c ∷ cs) = digits_after (10 * n + (c - 48)) cs
@@ -99,17 +98,17 @@ abbrev pub is_number : List ℕ → Bool
 is_number [] = false
 is_number (c ∷ cs) = all_ascii_digits (c ∷ cs) && nat_lt (digits_after 0 (c ∷ cs)) (2 ^ 64)
 
--- the number that a text reads as, if it reads as one: an optional `+`, and then the digits
+-- the number in a text, if it is one: an optional `+`, and then the digits
 abbrev pub number_of : List ℕ → Option ℕ
 number_of text = if is_number (after_plus text) then Some (digits_after 0 (after_plus text)) else None
 
--- Thread words.
+-- Words for threads.
 
 -- the option that takes the number of threads as its value
 abbrev pub is_threads : List ℕ → Bool
 is_threads word = bytes_eq word (codes "--threads")
 
--- the words of a line, each beside whether it is the value of such an option
+-- the words of a line, and whether each is the value of such an option
 abbrev pub beside_threads : List (List ℕ) → List (Bool × List ℕ)
 beside_threads words = valued is_threads false words
 
@@ -117,11 +116,11 @@ beside_threads words = valued is_threads false words
 abbrev pub begins_with_t : List ℕ → Bool
 begins_with_t word = starts_with nat_eq word (codes "-t")
 
--- a word that holds `=`, at any place
+-- a word that contains `=`
 abbrev pub holds_equals : List ℕ → Bool
 holds_equals word = list_any (λ c. c == 61) word
 
--- where the number stands in a word that begins with `-t`: after 3 bytes if it holds `=`, else after 2
+-- where the number is in a word that begins with `-t`: after 3 bytes if the word contains `=`, else after 2
 abbrev pub joined_number : List ℕ → List ℕ
 joined_number word = drop (if holds_equals word then 3 else 2) word
 
@@ -130,19 +129,19 @@ abbrev pub number_text : Bool × List ℕ → Option (List ℕ)
 number_text (true, word) = Some word
 number_text (false, word) = if begins_with_t word then Some (joined_number word) else None
 
--- the number that a word gives, if it is readable
+-- the number that a word gives, if it is one
 abbrev pub number_given : Bool × List ℕ → Option ℕ
 number_given p = option_and_then number_of (number_text p)
 
--- whether a word stays: it is neither a value nor a thread word
+-- whether a word stays: it is neither a value nor a word for threads
 abbrev pub is_no_thread_word : Bool × List ℕ → Bool
 is_no_thread_word (is_value, word) = not is_value && not (is_threads word) && not (begins_with_t word)
 
--- the words without the thread words
+-- the words without those for threads
 abbrev pub words_without_threads : List (List ℕ) → List (List ℕ)
 words_without_threads words = words_alone (filter is_no_thread_word (beside_threads words))
 
--- the numbers that can be read, in order
+-- the numbers of a line, in order
 abbrev pub thread_numbers : List (List ℕ) → List ℕ
 thread_numbers words = filter_map number_given (beside_threads words)
 
@@ -150,13 +149,13 @@ thread_numbers words = filter_map number_given (beside_threads words)
 abbrev pub threads_answer : Bool → List (List ℕ) → Option ℕ → Result (List (List ℕ) × ℕ) Fault
 threads_answer is_missing stay number = if is_missing then Err ThreadsValue else Ok (stay, unwrap_or number 1)
 
--- what a line's thread words say
+-- what a line's words for threads say
 abbrev pub threads_of : List (List ℕ) → Result (List (List ℕ) × ℕ) Fault
 threads_of words =
     threads_answer (lacks_value is_threads (beside_threads words)) (words_without_threads words)
     (last_of (thread_numbers words))
 
--- what the two calls answer, seen as texts
+-- the answers of the two calls, as texts
 abbrev pub keep_seen : Result (Vec (String Global) Global × Option (String Global)) Fault → Result (List (List ℕ) × Option (List ℕ)) Fault
 keep_seen (Ok p) = Ok (map string_bytes p.0.items, option_map string_bytes p.1)
 keep_seen (Err fault) = Err fault

@@ -1,4 +1,4 @@
-pub mod HostRows
+pub mod HostExamples
 pub mod KeepThreads
 pub mod NvccEnvironment
 pub mod NvccOptions

@@ -5,22 +5,22 @@ use Rattle.std.specs.Str.{bytes_eq}
 use Rattle.texts.specs.Variables.{first_value}
 use Rattle.shell_words.specs.Shell.Splitting.{shell_words}
 
--- the names of the variables that nvcc takes words from: those before a line's words, and those after them
+-- the names of the variables that nvcc takes words from: the words before a line's own, and those after them
 abbrev pub prepended_name : List ℕ
 prepended_name = codes "NVCC_PREPEND_FLAGS"
 
 abbrev pub appended_name : List ℕ
 appended_name = codes "NVCC_APPEND_FLAGS"
 
--- a name of one of the two variables
+-- whether a name is one of the two
 abbrev pub is_flags_name : List ℕ → Bool
 is_flags_name name = bytes_eq name prepended_name || bytes_eq name appended_name
 
--- an environment without every variable of the two names
+-- an environment without the variables of these names
 abbrev pub without_flags : List (List ℕ × List ℕ) → List (List ℕ × List ℕ)
 without_flags env_vars = filter (λ variable. not (is_flags_name variable.0)) env_vars
 
--- the shell words of a variable's value, and none if it doesn't split
+-- the shell words of a variable's value, and none if the shell can't split it
 abbrev pub words_of_value : List ℕ → List (List ℕ)
 words_of_value text = unwrap_or (shell_words text) []
 

@@ -1,4 +1,4 @@
--- The options that the nvcc reader knows beside those of the gcc profile.
+-- nvcc's options beside those of the gcc profile.
 use Rattle.std.specs.Prelude.{◌≡◌, List, ◌∷◌, ◌++◌, true, refl, codes}
 use Rattle.option_items.specs.declared.table.ArgDisposition.TheVariants.{Separated}
 use Rattle.cuda_below.specs.declared.gcc.options.ArgData.{ArgData}
@@ -7,7 +7,7 @@ use Rattle.cuda_below.specs.GccOptions.{flags, options, joined, either_way, eith
 use Rattle.texts.specs.Rows.{spaced}
 use Rattle.option_items.specs.Table.{Entry}
 
--- the entries, by form and kind; one text holds a space
+-- the entries, by form and kind; one text contains a space
 abbrev pub nvcc_options : List (Entry ArgData)
 nvcc_options =
     flags DoCompilation (spaced "--compile --cubin --device-c --device-w --fatbin --optix-ir --ptx -cubin -dc -dw -fatbin -optix-ir -ptx")

@@ -25,10 +25,10 @@ nvhpc_options =
 pub nvhpc_texts_differ : differ nvhpc_options ≡ true
 nvhpc_texts_differ = refl
 
--- what a word chooses of gcc's options and nvhpc's: the longer, and of equal length nvhpc's
+-- what a word chooses of gcc's options and nvhpc's: the longer one, and nvhpc's if both are equally long
 abbrev pub nvhpc_chosen : List ℕ → Option (Entry ArgData)
 nvhpc_chosen word = longer_choice (longest_match gcc_entries word) (longest_match nvhpc_options word)
 
--- what a line is read as, of whether nvhpc takes C files for C++, the working directory and the line
+-- what a line is read as: by whether nvhpc compiles C files as C++, the working directory and the line
 abbrev pub nvhpc_reading : Bool → List ℕ → List (List ℕ) → Reading
 nvhpc_reading plusplus cwd words = profile_reading nvhpc_chosen cwd plusplus Nvhpc words

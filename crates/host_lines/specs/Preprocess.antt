@@ -14,32 +14,32 @@ use Rattle.cuda_below.specs.declared.compiler.NvccHostCompiler.{NvccHostCompiler
 use Rattle.cuda_below.specs.declared.compiler.NvccHostCompiler.TheVariants as host
 use Rattle.host_lines.specs.NvccEnvironment.{without_flags}
 
--- what both commands have: their first words are the preprocessor's, the common ones, the language's name and the input
+-- what both commands have: their first words are the preprocessor's, the common ones, `-x`, the language's name and the input
 abbrev pub common_command : List ℕ → ParsedArguments → List ℕ → List ℕ → List (List ℕ × List ℕ) → SingleCompileCommand
 common_command executable p name cwd env_vars =
     single_command executable (p.preprocessor_args ++ (p.common_args ++ (codes "-x" ∷ name ∷ p.input ∷ []))) cwd env_vars
 
--- a command with more words last
+-- a command with more words at its end
 abbrev pub with_words : SingleCompileCommand → List (List ℕ) → SingleCompileCommand
 with_words c words = record c { arguments = c.arguments ++ words }
 
--- the commands, of what both have, the words for the dependencies and those for the preprocessed code: the one for the
+-- the commands, from what both have, the words for the dependencies and those for the preprocessed code: the one for the
 -- dependencies comes first, and only if there are words for it
 abbrev pub preprocess_commands : SingleCompileCommand → List (List ℕ) → List (List ℕ) → List SingleCompileCommand
 preprocess_commands c [] preprocessor = with_words c preprocessor ∷ []
 preprocess_commands c (word ∷ words) preprocessor = with_words c (word ∷ words) ∷ with_words c preprocessor ∷ []
 
--- the commands by the name of the language, and a refusal with this text if it has none
+-- the commands by the language's name, or a refusal with this text if it has none
 abbrev pub unless_unnamed : List ℕ → (List ℕ → List SingleCompileCommand) → Option (List ℕ) → Result (List SingleCompileCommand) Fault
 unless_unnamed text commands None = Err (NoPreprocess text)
 unless_unnamed text commands (Some name) = Ok (commands name)
 
--- the words without those that stand earlier already
+-- the words without repetitions, each at its first appearance
 abbrev pub first_appearances : List (List ℕ) → List (List ℕ)
 first_appearances [] = []
 first_appearances (word ∷ words) = word ∷ filter (λ later. not (bytes_eq word later)) (first_appearances words)
 
--- nvcc's word for the dependencies alone, in place of one that asks for them beside a compilation
+-- nvcc's word for the dependencies without a compilation, in place of one for both
 abbrev pub nvcc_dependency_word : List ℕ → List ℕ
 nvcc_dependency_word word =
     if bytes_eq word (codes "-MD") || bytes_eq word (codes "--generate-dependencies-with-compile") then codes "-M"
@@ -47,17 +47,17 @@ nvcc_dependency_word word =
     then codes "-MM"
     else word
 
--- the words for nvcc's dependencies: no word stands twice, be it an option's value or not
+-- the words for nvcc's dependencies, without repetitions, even of options' values
 abbrev pub nvcc_dependency_words : List (List ℕ) → List (List ℕ)
 nvcc_dependency_words words = first_appearances (map nvcc_dependency_word words)
 
--- the words for nvcc's preprocessed code: the host compiler is asked to write no line numbers
+-- the words for nvcc's preprocessed code, without line numbers from the host compiler
 abbrev pub nvcc_preprocessor_words : NvccHostCompiler → List (List ℕ)
 nvcc_preprocessor_words host.Gcc = codes "-E" ∷ codes "-Xcompiler=-P" ∷ []
 nvcc_preprocessor_words host.Msvc = codes "-E" ∷ codes "-Xcompiler=-EP" ∷ []
 nvcc_preprocessor_words host.Nvhpc = codes "-E" ∷ [] ∷ []
 
--- nvcc's commands, of the host compiler, the executable, the arguments, the working directory and the environment
+-- nvcc's commands, by the host compiler, the executable, the arguments, the working directory and the environment
 abbrev pub nvcc_preprocess : NvccHostCompiler → List ℕ → ParsedArguments → List ℕ → List (List ℕ × List ℕ) → Result (List SingleCompileCommand) Fault
 nvcc_preprocess host_compiler executable p cwd env_vars =
     unless_unnamed (codes "PCH not supported by nvcc")
@@ -65,22 +65,22 @@ nvcc_preprocess host_compiler executable p cwd env_vars =
     (nvcc_dependency_words p.dependency_args) (nvcc_preprocessor_words host_compiler))
     (name_of_language p.language)
 
--- nvhpc's word for the dependencies alone, in place of one that asks for them beside a compilation
+-- nvhpc's word for the dependencies without a compilation, in place of one for both
 abbrev pub nvhpc_dependency_word : List ℕ → List ℕ
 nvhpc_dependency_word word =
     if bytes_eq word (codes "-MD") then codes "-M" else if bytes_eq word (codes "-MMD") then codes "-MM" else word
 
--- the name that nvhpc has for a language: gcc's, and none for CUDA
+-- nvhpc's name for a language: gcc's, and none for CUDA
 abbrev pub name_for_nvhpc : Language → Option (List ℕ)
 name_for_nvhpc Cuda = None
 name_for_nvhpc language = name_of_language language
 
--- the text that nvhpc refuses a language with
+-- the text of nvhpc's refusal of a language
 abbrev pub nvhpc_refusal : Language → List ℕ
 nvhpc_refusal Cuda = codes "CUDA compilation not supported by nvhpc"
 nvhpc_refusal language = codes "PCH not supported by nvhpc"
 
--- nvhpc's commands, of the executable, the arguments, the working directory and the environment
+-- nvhpc's commands, by the executable, the arguments, the working directory and the environment
 abbrev pub nvhpc_preprocess : List ℕ → ParsedArguments → List ℕ → List (List ℕ × List ℕ) → Result (List SingleCompileCommand) Fault
 nvhpc_preprocess executable p cwd env_vars =
     unless_unnamed (nvhpc_refusal p.language)
@@ -88,7 +88,7 @@ nvhpc_preprocess executable p cwd env_vars =
     (map nvhpc_dependency_word p.dependency_args) (codes "-E" ∷ []))
     (name_for_nvhpc p.language)
 
--- what a call answers, as the list of its commands
+-- the answer of a call, as a list of commands
 abbrev pub commands_seen : Result (Vec SingleCompileCommand Global) Fault → Result (List SingleCompileCommand) Fault
 commands_seen (Ok commands) = Ok commands.items
 commands_seen (Err fault) = Err fault

@@ -1,4 +1,4 @@
--- What taking keep words and thread words out has gathered, and how one more word changes it.
+-- What the readers of words for kept files and for threads have gathered, and how one more word changes it.
 use Rattle.std.specs.Prelude.{ℕ, List, [], ◌∷◌, ◌++◌, false, ◌||◌, if◌then◌else◌, Option, Some, None, Result}
 use Rattle.texts.specs.declared.fault.Fault.{Fault}
 use Rattle.host_lines.specs.declared.nvcc.taking.KeepWords.{KeepWords}
@@ -6,7 +6,7 @@ use Rattle.host_lines.specs.declared.nvcc.taking.ThreadWords.{ThreadWords}
 use Rattle.texts.specs.Lists.{latest}
 use Rattle.host_lines.specs.KeepThreads.{takes_value, is_keep_dir, sets_keep, is_no_keep_word, keep_answer, is_threads, is_no_thread_word, number_given, threads_answer}
 
--- no keep words yet
+-- no words for kept files yet
 abbrev pub nothing_kept : KeepWords
 nothing_kept = record { stay = []; directory = None; is_kept = false; awaits_directory = false }
 
@@ -23,7 +23,7 @@ with_keep_word k word = record {
 abbrev pub keep_of_gathered : List ℕ → KeepWords → Result (List (List ℕ) × Option (List ℕ)) Fault
 keep_of_gathered cwd k = keep_answer cwd k.awaits_directory k.stay k.is_kept k.directory
 
--- no thread words yet
+-- no words for threads yet
 abbrev pub no_threads : ThreadWords
 no_threads = record { stay = []; number = None; awaits_number = false }
 

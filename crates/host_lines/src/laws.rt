@@ -1,17 +1,17 @@
-//! What holds of the compilers' records, and lines worked out by hand, which the definitions compute.
+//! Laws of the compilers' records, and examples worked out by hand.
 
 ghost use Rattle.texts.specs.Equality.{TellsEqual};
-ghost use Rattle.host_lines.specs.HostRows.{KeepWordsTaken, ThreadWordsTaken, LinesPreprocessed, NvhpcLinesRead};
+ghost use Rattle.host_lines.specs.HostExamples.{KeepWordsTaken, ThreadWordsTaken, LinesPreprocessed, NvhpcLinesRead};
 
 use crate::nvhpc::Nvhpc;
 
-/// `==` compares all fields: it says whether two values are equal.
+/// `==` compares all fields: it is true exactly for equal values.
 pub fn equality()
     ensures { TellsEqual ⟦<Nvhpc as PartialEq>⟧.eq }
 {}
 
-/// What the keep words and the thread words of worked lines say (`keep`, `threads`), which commands
-/// preprocess worked inputs (`preprocessed`), and what worked lines of nvhpc are read as (`read`).
+/// Examples, by the definitions: the words for kept files and for threads that lines have (`keep`, `threads`), the
+/// commands that preprocess inputs (`preprocessed`), and what lines of nvhpc are read as (`read`).
 pub fn worked_lines()
     ensures keep { KeepWordsTaken }
     ensures threads { ThreadWordsTaken }

@@ -1,4 +1,4 @@
-//! The command lines of the compilers of host code: the words of nvcc's lines, and nvhpc as a compiler.
+//! Command lines that compile host code: the words of nvcc's lines, and nvhpc as a compiler.
 #![tactic(auto)]
 
 pub mod laws;

@@ -11,61 +11,29 @@ use cuda_below::arguments::{CompilerArguments, ParsedArguments};
 use cuda_below::command::{Cacheable, SingleCompileCommand};
 use cuda_below::compiler::{CCompilerImpl, CCompilerKind, Places};
 use cuda_below::gcc::{self, ArgData};
+use option_items::entries;
 use option_items::table::{ArgInfo, EITHER_WAY, EITHER_WAY_OR_EQUALS, JOINED, Pair, Table};
 use std::alloc::{AllocError, Global};
 use texts::fault::Fault;
 use texts::text::Text;
 
-/// nvhpc's options besides gcc's, as sccache 0.19.0's table has them. No two have one text.
-pub const ARGS: [ArgInfo<ArgData>; 29] = [
-    ArgInfo::TakeArg(
-        "--gcc-toolchain",
-        ArgData::PassThrough,
-        EITHER_WAY_OR_EQUALS,
-    ),
-    ArgInfo::TakeArg("-Mconcur", ArgData::PassThrough, EITHER_WAY_OR_EQUALS),
-    ArgInfo::TakeArg("-Xlinker", ArgData::PassThrough, EITHER_WAY_OR_EQUALS),
-    ArgInfo::TakeArg("-acc", ArgData::PassThrough, EITHER_WAY_OR_EQUALS),
-    ArgInfo::TakeArg("-cudalib", ArgData::PassThrough, EITHER_WAY_OR_EQUALS),
-    ArgInfo::TakeArg("-gpu", ArgData::PassThrough, EITHER_WAY_OR_EQUALS),
-    ArgInfo::TakeArg("-mcmodel", ArgData::PassThrough, EITHER_WAY_OR_EQUALS),
-    ArgInfo::TakeArg("-mcpu", ArgData::PassThrough, EITHER_WAY_OR_EQUALS),
-    ArgInfo::TakeArg("-ta", ArgData::PassThrough, EITHER_WAY_OR_EQUALS),
-    ArgInfo::TakeArg("-target", ArgData::PassThrough, EITHER_WAY_OR_EQUALS),
-    ArgInfo::TakeArg("-tp", ArgData::PassThrough, EITHER_WAY_OR_EQUALS),
-    ArgInfo::TakeArg("--linker-options", ArgData::PassThrough, EITHER_WAY),
-    ArgInfo::TakeArg("-Xfatbinary", ArgData::PassThrough, EITHER_WAY),
-    ArgInfo::TakeArg("-Xnvlink", ArgData::PassThrough, EITHER_WAY),
-    ArgInfo::TakeArg("-Xptxas", ArgData::PassThrough, EITHER_WAY),
-    ArgInfo::TakeArg(
-        "--include-path",
-        ArgData::PreprocessorArgumentPath,
-        EITHER_WAY,
-    ),
-    ArgInfo::TakeArg(
-        "--system-include-path",
-        ArgData::PreprocessorArgumentPath,
-        EITHER_WAY,
-    ),
-    ArgInfo::TakeArg("-Werror", ArgData::PreprocessorArgument, EITHER_WAY),
-    ArgInfo::TakeArg(
-        "-Xcompiler",
-        ArgData::PreprocessorArgument,
-        EITHER_WAY_OR_EQUALS,
-    ),
-    ArgInfo::Flag("-Mnostdlib", ArgData::PreprocessorArgumentFlag),
-    ArgInfo::Flag("-cuda", ArgData::PreprocessorArgumentFlag),
-    ArgInfo::Flag("-acclibs", ArgData::PassThroughFlag),
-    ArgInfo::Flag("-c++libs", ArgData::PassThroughFlag),
-    ArgInfo::Flag("-cudaforlibs", ArgData::PassThroughFlag),
-    ArgInfo::Flag("-fortranlibs", ArgData::PassThroughFlag),
-    ArgInfo::Flag("-gopt", ArgData::PassThroughFlag),
-    ArgInfo::Flag("-noswitcherror", ArgData::PassThroughFlag),
-    ArgInfo::TakeArg("-c++", ArgData::Standard, JOINED),
-    ArgInfo::TakeArg("-x", ArgData::Language, EITHER_WAY_OR_EQUALS),
+/// nvhpc's options besides gcc's, as in sccache 0.19.0's table. No two have the same text.
+pub const ARGS: [ArgInfo<ArgData>; 29] = entries![
+    EITHER_WAY_OR_EQUALS PassThrough:
+        "--gcc-toolchain" "-Mconcur" "-Xlinker" "-acc" "-cudalib" "-gpu" "-mcmodel" "-mcpu" "-ta"
+        "-target" "-tp";
+    EITHER_WAY PassThrough: "--linker-options" "-Xfatbinary" "-Xnvlink" "-Xptxas";
+    EITHER_WAY PreprocessorArgumentPath: "--include-path" "--system-include-path";
+    EITHER_WAY PreprocessorArgument: "-Werror";
+    EITHER_WAY_OR_EQUALS PreprocessorArgument: "-Xcompiler";
+    flag PreprocessorArgumentFlag: "-Mnostdlib" "-cuda";
+    flag PassThroughFlag:
+        "-acclibs" "-c++libs" "-cudaforlibs" "-fortranlibs" "-gopt" "-noswitcherror";
+    JOINED Standard: "-c++";
+    EITHER_WAY_OR_EQUALS Language: "-x";
 ];
 
-/// nvhpc's option table, to be searched after gcc's.
+/// nvhpc's option table, the second of a pair after gcc's.
 pub fn table() -> Table<'static, ArgData>
     ensures entries { map entry_of result.rows.now ≡ spec.nvhpc_options }
     ensures differ { differ (map entry_of result.rows.now) ≡ true }
@@ -75,19 +43,18 @@ pub fn table() -> Table<'static, ArgData>
 
 /// nvhpc, as a compiler.
 ///
-/// Its lines are read by the profile of gcc's options and nvhpc's own. Of two options that match a word
-/// the longer one counts, and nvhpc's if both are equally long. The environment isn't read. Arguments
-/// are written back as gcc's.
+/// It reads lines with gcc's options and nvhpc's own. Of two options that match a word the longer one counts,
+/// and nvhpc's if both are equally long. It ignores the environment. It writes arguments back like gcc.
 #[derive(Debug, PartialEq, Drop)]
 pub struct Nvhpc {
-    /// Whether it is `nvc++`, which takes C files for C++.
+    /// Whether it is `nvc++`, which compiles C files as C++.
     pub nvcplusplus: bool,
-    /// The text of its version, if one is known. It may be empty.
+    /// The text of its version, if known. It may be empty.
     pub version: Option<Text>,
 }
 
 impl Nvhpc {
-    /// An equal value, in memory of its own.
+    /// Copies the value into memory of its own.
     pub fn try_clone(&self, alloc: Global) -> Result<Nvhpc, AllocError>
         ensures { IfOk result (λ c. c ≡ self.now) }
     {

@@ -1,4 +1,4 @@
-//! The one or two commands that preprocess an input: what nvcc's and nvhpc's have in common.
+//! The commands that preprocess an input: what those of nvcc and of nvhpc have in common.
 
 ghost use Rattle.std.specs.Prelude.{◌≡◌, ◌∷◌, [], ◌++◌, Err, IfOk, OnOk, codes};
 ghost use Rattle.texts.specs.Fault.{UnlessMemory};
@@ -13,7 +13,7 @@ use texts::text::Text;
 use texts::variables::Variables;
 use texts::words::Words;
 
-/// The refusal to preprocess, with a text.
+/// Refuses to preprocess, with a text.
 pub fn refused(alloc: Global, text: &str) -> Result<Vec<SingleCompileCommand>, Fault>
     ensures { UnlessMemory (spec.commands_seen result) (Err (NoPreprocess text.now)) }
 {
@@ -21,14 +21,15 @@ pub fn refused(alloc: Global, text: &str) -> Result<Vec<SingleCompileCommand>, F
     Err(Fault::NoPreprocess(text))
 }
 
-// Puts the words last that both commands begin with.
+// Appends the words that both commands begin with.
 fn push_common(
     alloc: Global,
     words: &mut Words,
     parsed_args: &ParsedArguments,
     name: &str,
 ) -> Result<(), AllocError>
-    ensures { OnOk result (words.new ≡ words.old ++ (parsed_args.now.preprocessor_args ++ (parsed_args.now.common_args ++ (codes "-x" ∷ name.now ∷ parsed_args.now.input ∷ [])))) }
+    ensures { OnOk result (words.new ≡ words.old
+        ++ (parsed_args.now.preprocessor_args ++ (parsed_args.now.common_args ++ (codes "-x" ∷ name.now ∷ parsed_args.now.input ∷ [])))) }
 {
     words.push_copies(alloc, parsed_args.preprocessor_args.as_slice())?;
     words.push_copies(alloc, parsed_args.common_args.as_slice())?;
@@ -60,7 +61,7 @@ pub fn common_command(
     Ok(command)
 }
 
-// A command with more words last.
+// A command with more words at its end.
 fn with_words(
     alloc: Global,
     common: &SingleCompileCommand,
@@ -73,7 +74,7 @@ fn with_words(
     Ok(command)
 }
 
-/// The commands, of what both have, the words for the dependency file and those for the code.
+/// The commands, from what both have, the words for the dependency file and those for the code.
 pub fn commands(
     alloc: Global,
     common: &SingleCompileCommand,

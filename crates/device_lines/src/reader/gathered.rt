@@ -1,4 +1,4 @@
-//! What reading a device tool's line gathers, item by item.
+//! What the reader of device tools' lines gathers, item by item.
 
 ghost use Rattle.std.specs.Prelude.{◌≡◌, ◌∷◌, [], true, false, IfOk, OnOk, string_bytes};
 ghost use Rattle.std.specs.List.{fold};
@@ -22,7 +22,7 @@ use texts::language::Language;
 use texts::text::{Text, join};
 use texts::words::Words;
 
-/// A path as a line gives it, which stands in one of the line's words.
+/// A path as a line gives it, borrowed from one of the line's words.
 #[derive(Drop)]
 pub struct GivenPath<'a> {
     text: &'a str,
@@ -51,11 +51,11 @@ pub struct Gathered<'a> {
     pub common: Words,
     pub unhashed: Words,
     pub outputs: Outputs,
-    /// The path of the module id file, as the line gave it last.
+    /// The last path of a module id file, as the line gives it.
     pub module_id: Option<GivenPath<'a>>,
-    /// Whether the tool makes the module id file.
+    /// Whether the tool writes the module id file.
     pub makes_module_id: bool,
-    /// Whether the last item was an unknown flag, whose value a raw word after it may be.
+    /// Whether the last item was an unknown flag. A raw word after it may be its value.
     pub after_unknown: bool,
 }
 
@@ -95,7 +95,7 @@ impl<'a> Gathered<'a> {
         Ok(())
     }
 
-    // Records the file that an option names, joined to the working directory, and whether it may be left out.
+    // Records the file that an option names, joined to the working directory, and whether it is optional.
     fn record(
         &mut self,
         alloc: Global,
@@ -178,7 +178,7 @@ impl<'a> Gathered<'a> {
         }
     }
 
-    // Records the module id file as an output, if the tool makes it.
+    // Records the module id file as an output, if the tool writes it.
     fn record_module_id(&mut self, alloc: Global, cwd: &str) -> Result<(), AllocError>
         ensures { OnOk result (self.new ≡ record self.old {
           outputs = fold with_entry self.old.outputs (spec.module_id_output cwd.now self.old.makes_module_id self.old.module_id);
@@ -217,7 +217,7 @@ impl<'a> Gathered<'a> {
         Ok((first, second))
     }
 
-    // The arguments of what was gathered, with the module id file in two lists.
+    // The arguments from what was gathered, with the module id file in two lists.
     fn into_arguments(
         self,
         alloc: Global,
@@ -240,7 +240,7 @@ impl<'a> Gathered<'a> {
         arguments
     }
 
-    /// The answer of a reader that has taken all items, and whose input is `input`.
+    /// The answer of a reader that has taken all items, with this input.
     pub fn into_answer(
         self,
         alloc: Global,

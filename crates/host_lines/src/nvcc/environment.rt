@@ -1,29 +1,27 @@
 //! The environment of an nvcc line.
 
 ghost use Rattle.std.specs.Prelude.{◌≡◌, ◌++◌, map, IfOk, string_bytes};
-ghost use Rattle.std.specs.Option.{option_copied};
 ghost use Rattle.texts.specs.Variables.{pair_of};
-ghost use Rattle.texts.specs.Variables as variables;
 ghost use Rattle.host_lines.specs.NvccEnvironment as spec;
 
 use shell_words::split;
 use std::alloc::{AllocError, Global};
-use texts::variables::Variables;
+use texts::variables::{Variables, first_value};
 use texts::words::Words;
 
 const PREPENDED: &str = "NVCC_PREPEND_FLAGS";
 
 const APPENDED: &str = "NVCC_APPEND_FLAGS";
 
-// Whether a variable of this name holds words of an nvcc line.
+// Whether nvcc reads words from the variable of this name.
 fn is_flags_name(name: &str) -> bool
     ensures { result ≡ spec.is_flags_name name.now }
 {
     name == PREPENDED || name == APPENDED
 }
 
-/// The variables without `NVCC_PREPEND_FLAGS` and `NVCC_APPEND_FLAGS`. A line that was read has the words
-/// of both already: nvcc would take them twice.
+/// The variables without `NVCC_PREPEND_FLAGS` and `NVCC_APPEND_FLAGS`. The arguments of a line already include the
+/// words of both, so nvcc would read them twice.
 pub fn without_flags(alloc: Global, env_vars: &[(String, String)]) -> Result<Variables, AllocError>
     ensures { IfOk result (λ v. v ≡ spec.without_flags (map pair_of env_vars.now)) }
 {
@@ -38,19 +36,7 @@ pub fn without_flags(alloc: Global, env_vars: &[(String, String)]) -> Result<Var
     Ok(left)
 }
 
-// The value of the first variable of a name.
-fn first_value<'a>(env_vars: &'a [(String, String)], name: &str) -> Option<&'a str>
-    ensures { option_copied result ≡ variables.first_value name.now (map pair_of env_vars.now) }
-{
-    for pair in env_vars {
-        if name == pair.0.as_str() {
-            return Some(pair.1.as_str());
-        }
-    }
-    None
-}
-
-// The shell words of a variable's value; none if it doesn't split.
+// The shell words of a variable's value; none if the shell can't split it.
 fn words_of_value(alloc: Global, text: &str) -> Result<Words, AllocError>
     ensures { IfOk result (λ w. w ≡ spec.words_of_value text.now) }
 {
@@ -74,9 +60,9 @@ fn added_words(
     }
 }
 
-/// A line with the words that the environment adds, as nvcc takes them: those of the first
-/// `NVCC_PREPEND_FLAGS` before it, and those of the first `NVCC_APPEND_FLAGS` after it. Each text is
-/// split by the shell's rules, and one that doesn't split adds no word.
+/// Adds the words of the environment to a line: those of the first `NVCC_PREPEND_FLAGS` before it, and those of the
+/// first `NVCC_APPEND_FLAGS` after it. A value is split like a shell splits it, as in sccache 0.19.0; one with an
+/// open quote adds no word. (nvcc itself keeps quotes.)
 pub fn whole_line(
     alloc: Global,
     arguments: &[String],

@@ -17,21 +17,20 @@ use std::alloc::{AllocError, Global};
 use texts::fault::Fault;
 use texts::words::Words;
 
-/// The one or two commands that preprocess the input of an nvcc line, as in sccache 0.19.0. The last
-/// one prints the preprocessed code. If the line has dependency words, the first one writes the
-/// dependency file. The caller runs them in order, up to the first that fails.
+/// The one or two commands that preprocess the input of an nvcc line, as in sccache 0.19.0. The last one prints
+/// the preprocessed code. If the line has dependency words, the first one writes the dependency file. Run them in
+/// order, up to the first that fails.
 ///
-/// The words begin with the preprocessor's and the common ones, `-x`, the language's name and the
-/// input. For the dependency file the dependency words follow, with `-M` for `-MD` and
+/// Both begin with the preprocessor's words, the common words, `-x`, the language's name and the input. The command
+/// for the dependency file adds the dependency words, with `-M` for `-MD` and
 /// `--generate-dependencies-with-compile`, and `-MM` for `-MMD` and
-/// `--generate-nonsystem-dependencies-with-compile`: the words replaced ask for the file beside a
-/// compilation, which this isn't. After that a word that repeats an earlier one of them is left out,
-/// because two of these may have become one word; this goes for the values of options too.
+/// `--generate-nonsystem-dependencies-with-compile`: the words replaced want the file beside a compilation, and this
+/// is none. Two of these words may have become the same, so a repeated word is left out, even if it is an option's
+/// value.
 ///
-/// For the code `-E` follows, which nvcc takes only after the other words, and a word that asks the
-/// host compiler for no line numbers: `-Xcompiler=-P` (gcc), `-Xcompiler=-EP` (MSVC), or the empty word
-/// for nvhpc, which has no such option. The environment is the one handed in, without
-/// `NVCC_PREPEND_FLAGS` and `NVCC_APPEND_FLAGS`.
+/// The command for the code adds `-E`, which nvcc accepts only after the other words, and a word that turns off the
+/// host compiler's line numbers: `-Xcompiler=-P` (gcc), `-Xcompiler=-EP` (MSVC), or the empty word for nvhpc, which
+/// has no such option. Both get `env_vars` without `NVCC_PREPEND_FLAGS` and `NVCC_APPEND_FLAGS`.
 ///
 /// Refuses a language that nvcc can't preprocess: `NoPreprocess`.
 pub fn preprocess(
@@ -55,21 +54,22 @@ pub fn preprocess(
     Ok(commands)
 }
 
-// The commands, of what both have and the line's dependency words.
+// The commands, from what both have and the line's dependency words.
 fn nvcc_commands(
     alloc: Global,
     host_compiler: NvccHostCompiler,
     common: &SingleCompileCommand,
     dependency: &[String],
 ) -> Result<Vec<SingleCompileCommand>, AllocError>
-    ensures { IfOk result (λ c. c.items ≡ spec.preprocess_commands common.now (spec.nvcc_dependency_words (map string_bytes dependency.now)) (spec.nvcc_preprocessor_words host_compiler)) }
+    ensures { IfOk result (λ c. c.items ≡ spec.preprocess_commands common.now
+        (spec.nvcc_dependency_words (map string_bytes dependency.now)) (spec.nvcc_preprocessor_words host_compiler)) }
 {
     let dependency = nvcc_dependency_words(alloc, dependency)?;
     let code = nvcc_code_words(alloc, host_compiler)?;
     commands(alloc, common, &dependency, &code)
 }
 
-// nvcc's word for the dependency file alone.
+// nvcc's word for the dependency file without a compilation.
 fn nvcc_dependency_word<'a>(word: &'a str) -> &'a str
     ensures { result.now ≡ spec.nvcc_dependency_word word.now }
 {
@@ -80,7 +80,7 @@ fn nvcc_dependency_word<'a>(word: &'a str) -> &'a str
     }
 }
 
-// Puts a word last, unless it was seen.
+// Appends a word, unless it was seen.
 fn push_unseen<'a>(
     alloc: Global,
     seen: &mut IndexSet<&'a str>,
@@ -97,7 +97,7 @@ fn push_unseen<'a>(
     first.push_str(alloc, word)
 }
 
-// The words for nvcc's dependency file, each where it appears first.
+// The words for nvcc's dependency file, each at its first appearance.
 fn nvcc_dependency_words(alloc: Global, words: &[String]) -> Result<Words, AllocError>
     ensures { IfOk result (λ w. w ≡ spec.nvcc_dependency_words (map string_bytes words.now)) }
 {
@@ -110,7 +110,7 @@ fn nvcc_dependency_words(alloc: Global, words: &[String]) -> Result<Words, Alloc
     Ok(first)
 }
 
-// The words for nvcc's preprocessed code, with no line numbers from the host compiler.
+// The words for nvcc's preprocessed code, without line numbers from the host compiler.
 fn nvcc_code_words(alloc: Global, host_compiler: NvccHostCompiler) -> Result<Words, AllocError>
     ensures { IfOk result (λ w. w ≡ spec.nvcc_preprocessor_words host_compiler) }
 {

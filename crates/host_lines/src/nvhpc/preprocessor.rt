@@ -18,14 +18,11 @@ use texts::variables::Variables;
 use texts::words::Words;
 
 impl Nvhpc {
-    /// The one or two commands that preprocess a line's input, as in sccache 0.19.0. The last one prints
-    /// the preprocessed code. If the line has dependency words, the first one writes the dependency file.
-    /// The caller runs them in order, up to the first that fails.
+    /// The one or two commands that preprocess a line's input, as in sccache 0.19.0: like those of
+    /// [`nvcc::preprocess`](crate::nvcc::preprocess), except for the words that they end in.
     ///
-    /// The words begin with the preprocessor's and the common ones, `-x`, the language's name and the
-    /// input. For the dependency file the dependency words follow, with `-M` for `-MD` and `-MM` for
-    /// `-MMD`: the words replaced ask for the file beside a compilation, which this isn't. For the code
-    /// follows `-E`. The environment is as handed in.
+    /// The command for the dependency file adds the dependency words, with `-M` for `-MD` and `-MM` for `-MMD`. The
+    /// command for the code adds `-E`. Both get all of `env_vars`.
     ///
     /// Refuses a language that nvhpc can't preprocess, CUDA among them: `NoPreprocess`.
     pub fn preprocess(
@@ -49,13 +46,14 @@ impl Nvhpc {
     }
 }
 
-// The commands, of what both have and the line's dependency words.
+// The commands, from what both have and the line's dependency words.
 fn nvhpc_commands(
     alloc: Global,
     common: &SingleCompileCommand,
     dependency: &[String],
 ) -> Result<Vec<SingleCompileCommand>, AllocError>
-    ensures { IfOk result (λ c. c.items ≡ spec.preprocess_commands common.now (map spec.nvhpc_dependency_word (map string_bytes dependency.now)) (codes "-E" ∷ [])) }
+    ensures { IfOk result (λ c. c.items
+        ≡ spec.preprocess_commands common.now (map spec.nvhpc_dependency_word (map string_bytes dependency.now)) (codes "-E" ∷ [])) }
 {
     let dependency = nvhpc_dependency_words(alloc, dependency)?;
     let mut code = Words::new(alloc);
@@ -63,7 +61,7 @@ fn nvhpc_commands(
     commands(alloc, common, &dependency, &code)
 }
 
-// nvhpc's word for the dependency file alone.
+// nvhpc's word for the dependency file without a compilation.
 fn nvhpc_dependency_word<'a>(word: &'a str) -> &'a str
     ensures { result.now ≡ spec.nvhpc_dependency_word word.now }
 {
@@ -85,7 +83,7 @@ fn nvhpc_dependency_words(alloc: Global, words: &[String]) -> Result<Words, Allo
     Ok(replaced)
 }
 
-// The name that nvhpc has for a language: gcc's, and none for CUDA.
+// nvhpc's name for a language: gcc's, and none for CUDA.
 fn nvhpc_language_name(language: Language) -> Option<&'static str>
     ensures { option_copied result ≡ spec.name_for_nvhpc language }
 {
@@ -95,7 +93,7 @@ fn nvhpc_language_name(language: Language) -> Option<&'static str>
     }
 }
 
-// The text that nvhpc refuses a language with.
+// The text of the refusal of a language.
 fn nvhpc_refusal(language: Language) -> &'static str
     ensures { result.now ≡ spec.nvhpc_refusal language }
 {

@@ -1,4 +1,4 @@
-use Rattle.device_lines.specs.RereadRows.{device_code_line_rereads, renamed_host_line_rereads, host_line_rereads, assembler_line_rereads, empty_value_is_lost, second_input_comes_first, relative_folder_is_joined_twice}
+use Rattle.device_lines.specs.RereadExamples.{device_code_line_rereads, renamed_host_line_rereads, host_line_rereads, assembler_line_rereads, empty_value_is_lost, second_input_comes_first, relative_folder_is_joined_twice}
 use Rattle.device_lines.proofs.laws.worked_rereadings.Goals as goal
 
 pub returns : goal.returns

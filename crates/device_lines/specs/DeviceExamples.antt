@@ -34,7 +34,7 @@ abbrev pub device_code_words : List (List ℕ)
 device_code_words =
     spaced "--device-c -arch compute_80 --module_id_file_name kernel.module_id kernel.cpp1.ii --simt-only -o kernel.ptx"
 
--- it is read at `.`: its output and the module id file, which is read, are joined to that
+-- it is read at `.`: its output and the module id file, which cicc reads, are joined to that
 abbrev pub DeviceCodeLineIsRead : Type 0
 DeviceCodeLineIsRead =
     cicc_reading (codes ".") device_code_words
@@ -47,7 +47,7 @@ DeviceCodeLineIsRead =
 pub device_code_line_is_read : DeviceCodeLineIsRead
 device_code_line_is_read = refl
 
--- the device-code line: the input moves behind the other words, and the output's path is joined
+-- the device-code line: the input moves after the other words, and the output's path is joined
 abbrev pub DeviceCodeLine : Type 0
 DeviceCodeLine =
     cicc_written_back (codes "/w") device_code_words ≡
@@ -76,7 +76,7 @@ ShortLineIsNoCompilation =
 pub short_line_is_no_compilation : ShortLineIsNoCompilation
 short_line_is_no_compilation = (refl, refl, refl, refl)
 
--- of three words none of which ends as an input does, the first is the third from the end; the others are dropped, as raw
+-- of three words none of which ends like an input, the first is the third from the end; the others are dropped as raw
 -- words, and no output is left
 abbrev pub ThirdWordFromTheEndIsTheInput : Type 0
 ThirdWordFromTheEndIsTheInput =
@@ -86,7 +86,7 @@ ThirdWordFromTheEndIsTheInput =
 pub third_word_from_the_end_is_the_input : ThirdWordFromTheEndIsTheInput
 third_word_from_the_end_is_the_input = (refl, refl)
 
--- a last option without its value is dropped, and without an output nothing is written, by each of the three tools
+-- each of the three tools drops a last option without its value, and writes nothing back without an output
 abbrev pub FaultyItemIsDropped : Type 0
 FaultyItemIsDropped =
     (cicc_written_back (codes "/w") (spaced "k.cpp1.ii -o") ≡ Some (Err (MissingOutput languages.Ptx)))
@@ -97,7 +97,7 @@ FaultyItemIsDropped =
 pub faulty_item_is_dropped : FaultyItemIsDropped
 faulty_item_is_dropped = (refl, refl, refl)
 
--- a cudafe++ line at `/t`: the module id file is its output, and the file that it makes besides is recorded under its
+-- a cudafe++ line at `/t`: the module id file is its main output, and the other file that it writes is recorded under its
 -- option; the stub file isn't
 abbrev pub HostLineIsRead : Type 0
 HostLineIsRead =

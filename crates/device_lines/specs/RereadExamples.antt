@@ -1,5 +1,5 @@
--- Lines that are written back and read again, worked out by hand: lines that the law is about, and for each tool and each
--- of its premises a line without it that isn't read as the same.
+-- Lines that are written back and read again, worked out by hand: lines of the law, and for each tool and each of its
+-- premises a line without it that isn't read as the same.
 use Rattle.std.proofs.Common.{◌≡◌, ℕ, List, ◌++◌, Option, Some, Ok, Err, codes, refl}
 use Rattle.std.specs.Option.{option_map}
 use Rattle.texts.specs.declared.language.Language.TheVariants.{Cubin}
@@ -10,7 +10,7 @@ use Rattle.device_lines.specs.Cicc.{cicc_reading}
 use Rattle.device_lines.specs.CudaFE.{cudafe_reading}
 use Rattle.device_lines.specs.Ptxas.{ptxas_reading}
 use Rattle.device_lines.specs.DeviceWords.{cicc_words, cudafe_words}
-use Rattle.device_lines.specs.DeviceRows.{words_back, device_code_words}
+use Rattle.device_lines.specs.DeviceExamples.{words_back, device_code_words}
 
 -- a line is written back as other words, which are read as the same arguments
 abbrev pub GoesAndComes : (List (List ℕ) → Option ParsedArguments)
@@ -27,7 +27,7 @@ DeviceCodeLineRereads =
 pub device_code_line_rereads : DeviceCodeLineRereads
 device_code_line_rereads = (refl, refl)
 
--- a cudafe++ line of a dry run with its names renamed: the module id file moves behind the unhashed words
+-- a cudafe++ line of a dry run with canonical names: the module id file moves after the unhashed words
 abbrev pub RenamedHostLineRereads : Type 0
 RenamedHostLineRereads =
     GoesAndComes (cudafe_reading (codes "/t")) cudafe_words (codes "/t")
@@ -66,8 +66,8 @@ pub assembler_line_rereads : AssemblerLineRereads
 unfolding lib.Utf8.encode
 assembler_line_rereads = (refl, refl)
 
--- an empty value that is joined loses its `=`, and its option then takes the next word for its value: once the input
--- is cut out that is `-o`, so the line read again names no output, and its own writing is refused
+-- An empty value that is joined loses its `=`, so its option takes the next word as its value. Once the input is cut out,
+-- that is `-o`. Read again, the line has no output and can't be written back.
 abbrev pub EmptyValueIsLost : Type 0
 EmptyValueIsLost =
     (words_back cicc_words (codes "/w") (ptxas_reading (codes "/w") (spaced "-arch= k.ptx -o k.cubin")) ≡ Some (Ok (spaced "-arch k.ptx -o /w/k.cubin")))
@@ -76,15 +76,15 @@ EmptyValueIsLost =
 pub empty_value_is_lost : EmptyValueIsLost
 empty_value_is_lost = (refl, refl)
 
--- a line is written back as other words, of which another word is the input
+-- a line is written back as other words, and another word of these is the input
 abbrev pub ChangesItsInput : (List (List ℕ) → Option ParsedArguments) → List (List ℕ) → List (List ℕ) → List ℕ → List ℕ → Type 0
 ChangesItsInput read words back input other =
     (words_back cicc_words (codes "/w") (read words) ≡ Some (Ok back))
     × (option_map (λ p. p.input) (read words) ≡ Some input)
     × (option_map (λ p. p.input) (read back) ≡ Some other)
 
--- of two words with the input's suffix the first is the input; the other one, kept after its flag, is written before it
--- and is the first when the line is read again
+-- Of two words with the input's suffix the first is the input. The other one, kept after its flag, is written before it,
+-- so it is the first when the line is read again.
 abbrev pub SecondInputComesFirst : Type 0
 SecondInputComesFirst =
     ChangesItsInput (ptxas_reading (codes "/w"))
@@ -99,13 +99,13 @@ SecondInputComesFirst =
 pub second_input_comes_first : SecondInputComesFirst
 second_input_comes_first = ((refl, refl, refl), (refl, refl, refl))
 
--- a line at the working directory `.` is written back as other words, and these as others again
+-- a line at the working directory `.` is written back as other words, and these again as others
 abbrev pub ChangesTwice : (List (List ℕ) → Option ParsedArguments)
     → (ParsedArguments → List ℕ → List (List ℕ)) → List (List ℕ) → List (List ℕ) → List (List ℕ) → Type 0
 ChangesTwice read words_to_write words back again =
     (words_back words_to_write (codes ".") (read words) ≡ Some (Ok back)) × (words_back words_to_write (codes ".") (read back) ≡ Some (Ok again))
 
--- at a working directory that isn't absolute the output is put below it once more by each reading
+-- at a working directory that isn't absolute each reading joins the output to it once more
 abbrev pub RelativeFolderIsJoinedTwice : Type 0
 RelativeFolderIsJoinedTwice =
     ChangesTwice (cicc_reading (codes ".")) cicc_words

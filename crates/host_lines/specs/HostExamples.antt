@@ -1,4 +1,4 @@
--- Worked lines of nvcc and nvhpc, each computed.
+-- Lines of nvcc and nvhpc, worked out by hand and computed.
 use Rattle.std.specs.Prelude.{◌≡◌, ℕ, List, [], ◌∷◌, ◌++◌, false, Some, None, Result, Ok, Err, map, codes, refl}
 use Rattle.texts.specs.declared.fault.Fault.{Fault}
 use Rattle.texts.specs.declared.fault.Fault.TheVariants.{KeepDirValue, ThreadsValue, NoPreprocess}
@@ -14,7 +14,7 @@ use Rattle.host_lines.specs.KeepThreads.{keep_of, threads_of}
 use Rattle.host_lines.specs.Nvhpc.{nvhpc_reading}
 use Rattle.host_lines.specs.Preprocess.{nvcc_dependency_words, nvcc_preprocess, nvhpc_preprocess}
 
--- what the keep words of lines say, at the working directory `/w`
+-- what the words for kept files say, at the working directory `/w`
 pub record KeepWordsTaken : Type 0 where
   pub directory_is_joined : keep_of (codes "/w") (spaced "-keep -keep-dir out") ≡ Ok ([], Some (codes "/w/out"))
   pub directory_alone_keeps_nothing : keep_of (codes "/w") (spaced "-keep-dir out") ≡ Ok ([], None)
@@ -44,7 +44,7 @@ keep_words_taken = record {
   threads_option_stays = refl;
 }
 
--- what the thread words of lines say
+-- what the words for threads say
 pub record ThreadWordsTaken : Type 0 where
   pub threads_option_that_stayed : threads_of (spaced "--threads") ≡ Err ThreadsValue
   pub last_number_counts : threads_of (spaced "-t1 -t=2 -t3 --threads 1 --threads 2") ≡ Ok ([], 2)
@@ -74,12 +74,12 @@ thread_words_taken = record {
   equals_anywhere = refl;
 }
 
--- the words of the commands that a line is preprocessed by
+-- the words of the commands that preprocess a line's input
 abbrev pub words_of_commands : Result (List SingleCompileCommand) Fault → Result (List (List (List ℕ))) Fault
 words_of_commands (Ok commands) = Ok (map (λ c. c.arguments) commands)
 words_of_commands (Err fault) = Err fault
 
--- the arguments of a line that asks for a dependency file beside the compilation
+-- the arguments of a line that compiles and writes a dependency file
 abbrev pub with_dependencies : Language → List (List ℕ) → ParsedArguments
 with_dependencies language common = record (compiled (codes "foo.c") language (codes "foo.o")) {
   common_args = common;
@@ -94,9 +94,9 @@ pub record LinesPreprocessed : Type 0 where
   pub nvhpc_makes_two_commands :
       words_of_commands (nvhpc_preprocess (codes "nvc++") (with_dependencies Cxx (spaced "-fabc")) (codes "/w") []) ≡
       Ok (spaced "-fabc -x c++ foo.c -M -MF foo.o.d -MT foo.o" ∷ spaced "-fabc -x c++ foo.c -E" ∷ [])
-  -- a repeated value goes too
+  -- a repeated value is left out too
   pub a_repeated_value_goes : nvcc_dependency_words (spaced "-MF a -MT a") ≡ spaced "-MF a -MT"
-  -- words are compared once they are replaced
+  -- words are compared after they are replaced
   pub replaced_words_are_alike :
       nvcc_dependency_words
       (spaced "--generate-nonsystem-dependencies-with-compile -MP -MMD -MM --generate-dependencies-with-compile") ≡
@@ -128,7 +128,7 @@ read_by_nvhpc words = nvhpc_reading false (codes ".") words
 
 -- what lines of nvhpc are read as
 pub record NvhpcLinesRead : Type 0 where
-  -- options of gcc's table and of nvhpc's: a value that stood in its option's word becomes a word of its own if the
+  -- options of gcc's table and of nvhpc's: a value in its option's word becomes a word of its own if the
   -- option's text is long
   pub reads_by_both_tables :
       read_by_nvhpc
@@ -142,13 +142,13 @@ pub record NvhpcLinesRead : Type 0 where
   pub takes_an_equals_sign_as_value :
       read_by_nvhpc (spaced "-c foo.c --include-path=inc") ≡
       accepted (record (compiled (codes "foo.c") C (codes "foo.o")) { preprocessor_args = spaced "--include-path =inc" })
-  -- `-acc` takes the flag that asks for the compilation
+  -- `-acc` takes the flag for the compilation as its value
   pub takes_the_next_word : read_by_nvhpc (spaced "-acc -c foo.c") ≡ not_compilation
-  -- a flag takes no value, so that with one it is an unknown flag
+  -- a flag takes no value: with one it is an unknown flag
   pub knows_no_flag_with_a_value :
       read_by_nvhpc (spaced "-c foo.c -save-temps=obj") ≡
       accepted (record (compiled (codes "foo.c") C (codes "foo.o")) { common_args = spaced "-save-temps=obj" })
-  -- of two entries with one text nvhpc's counts, which may be joined
+  -- of two entries with the same text nvhpc's counts; its value may be joined
   pub joins_by_the_second_table :
       read_by_nvhpc (spaced "-x=c++ -c foo.c -Xlinker=-s") ≡
       accepted (record (compiled (codes "foo.c") Cxx (codes "foo.o")) { common_args = spaced "-Xlinker -s" })
