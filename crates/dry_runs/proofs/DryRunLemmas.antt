@@ -1,14 +1,11 @@
 -- Command lines compare as what is seen of them, and texts are cut at their first colon.
-use Rattle.std.proofs.Common.{◌≡◌, ℕ, ◌++◌, ◌&&◌, Bool, true, false, not, eqb, List, [], ◌∷◌, Option, Some, None, Vec, String, Bor, MatchOption, map, refl, ap, sym, ◌∙◌, nat_eq, length, take, string_bytes, arith}
+use Rattle.std.proofs.Common.{◌≡◌, ℕ, ◌&&◌, Bool, eqb, List, [], ◌∷◌, Option, Some, None, Vec, String, Bor, MatchOption, map, refl, ap, sym, ◌∙◌, nat_eq, length, take, string_bytes, arith}
 use Rattle.std.specs.declared.alloc.Global.{Global}
 use Rattle.std.specs.List.{position_or_len}
 use Rattle.std.specs.Cmp.Lexicographic.{pointwise}
 use Rattle.std.specs.Ordering.{on, eq_of_both}
-use Rattle.std.specs.Str.Pattern.{RFindsChar, SplitsAroundMatch}
 use Rattle.std.proofs.lemmas.Str.Pattern.{IsSplitOnceResult, split_once_first}
 use Rattle.std.proofs.Math.Seq.{take-length}
-use Rattle.texts.specs.Path.{lacks, is_bare}
-use Rattle.texts.proofs.PathLemmas.{parted-char}
 use Rattle.std.specs.Bool.{Decides}
 use Rattle.std.specs.Cmp.{unsigned_Decides}
 use Rattle.std.proofs.lemmas.Bool.Decides.{Decides-and, Decides-like}
@@ -29,25 +26,6 @@ pointwise-lines [] (y ∷ ys) = refl
 pointwise-lines (x ∷ xs) [] = refl
 pointwise-lines (x ∷ xs) (y ∷ ys) =
     rw (pointwise-texts x.2.items y.2.items, pointwise-lines xs ys) refl
-
--- a text that holds a byte doesn't lack it
-lacks-held : (byte : ℕ) (front back : List ℕ) → lacks byte (front ++ byte ∷ back) ≡ false
-lacks-held byte [] back = rw (eqb-same byte) refl where
-  eqb-same : (n : ℕ) → eqb n n ≡ true
-  eqb-same n = grind arith
-lacks-held byte (c ∷ front) back = rw (lacks-held byte front back) (and-false (not (eqb c byte))) where
-  and-false : (b : Bool) → (b && false) ≡ false
-  and-false true = refl
-  and-false false = refl
-
--- whether a text holds no `/`, by parting it at its last one
-pub bare-whole : (text : List ℕ) → RFindsChar 47 text None → true ≡ is_bare text
-bare-whole text h = let none : Option (Bor (List ℕ) × Bor (List ℕ)) = None in sym (parted-char 47 text none h (omega arith))
-
-pub bare-parted : (text : List ℕ) (x : Bor (List ℕ) × Bor (List ℕ)) → SplitsAroundMatch (RFindsChar 47) text x.0.now x.1.now → false ≡ is_bare text
-bare-parted text x h =
-    let parts = parted-char 47 text (Some x) h (omega arith) in
-    sym (ap is_bare parts.0 ∙ lacks-held 47 x.0.now x.1.now)
 
 -- what stands before the first colon, by splitting there
 pub colon-split : (text : List ℕ) (r : Option (Bor (List ℕ) × Bor (List ℕ))) → IsSplitOnceResult 58 text r → MatchOption r (text ≡ first_folder_of text) (λ x. x.0.now ≡ first_folder_of text)

@@ -3,3 +3,4 @@ pub mod ExpansionLemmas
 pub mod LineLemmas
 pub mod PlainWordLemmas
 pub mod ReadingLemmas
+pub mod StatementLemmas

@@ -9,3 +9,4 @@ pub mod OneKernel
 pub mod PlainWords
 pub mod Reading
 pub mod Replacing
+pub mod Statement

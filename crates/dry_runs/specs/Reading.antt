@@ -1,19 +1,20 @@
 -- What reading a dry run has gathered, and how one more line changes it.
-use Rattle.std.specs.Prelude.{◌≡◌, ℕ, List, [], ◌∷◌, ◌++◌, Bool, true, false, not, ◌==◌, ◌&&◌, length, if◌then◌else◌, Option, Some, None, Result, Ok, Err, String, string_bytes, codes}
+use Rattle.std.specs.Prelude.{◌≡◌, ℕ, List, [], ◌∷◌, ◌++◌, Bool, true, false, not, ◌==◌, ◌&&◌, length, if◌then◌else◌, Option, Some, None, Result, Ok, Err, String, string_bytes}
 use Rattle.std.specs.List.{list_all, list_any}
-use Rattle.std.specs.Option.{is_none}
-use Rattle.std.specs.Str.{bytes_eq}
 use Rattle.std.specs.Borrow.{Bor}
 use Rattle.std.specs.declared.alloc.Global.{Global}
 use Rattle.texts.specs.Path.{lacks}
 use Rattle.texts.specs.Lists.{rest_after}
 use Rattle.texts.specs.declared.fault.Fault.{Fault}
 use Rattle.texts.specs.declared.fault.Fault.TheVariants.{NotFound}
+use Rattle.texts.specs.declared.fault.Fault.TheVariants as faults
 use Rattle.dry_runs.specs.declared.commands.DryRun.{DryRun}
-use Rattle.dry_runs.specs.declared.reader.Said.{Said}
 use Rattle.dry_runs.specs.CommandLines.{CommandLine}
 use Rattle.dry_runs.specs.Environment.{Variable, is_name_byte, is_followed}
-use Rattle.dry_runs.specs.DryRun.{Meaning, Ignored, Assigns, Runs, Bad}
+use Rattle.dry_runs.specs.declared.statement.Statement.{Statement}
+use Rattle.dry_runs.specs.declared.statement.Statement.TheVariants.{Nothing, Sets}
+use Rattle.dry_runs.specs.declared.statement.Statement.TheVariants as statements
+use Rattle.dry_runs.specs.DryRun.{LookUp, Meaning, Ignored, Assigns, Runs, Bad, meaning_of_words}
 
 -- a text that is lent
 abbrev pub text_of : Bor (List ℕ) → List ℕ
@@ -65,30 +66,34 @@ abbrev pub found_or_fault : List ℕ → Option (List ℕ) → Result (List ℕ)
 found_or_fault program None = Err (NotFound program)
 found_or_fault program (Some path) = Ok path
 
+-- what a line means, by what it says: a command's program is looked up
+abbrev pub meaning_stated : LookUp → ℕ → List ℕ → ℕ → List Variable → Statement → Meaning
+meaning_stated which run cwd line env Nothing = Ignored
+meaning_stated which run cwd line env (Sets name value) = Assigns (name, value)
+meaning_stated which run cwd line env (statements.Runs words) = meaning_of_words which run cwd line env (Some words)
+meaning_stated which run cwd line env statements.BadShell = Bad (faults.BadShell run line)
+meaning_stated which run cwd line env statements.NotUtf8 = Bad (faults.NotUtf8 run line)
+
 -- nothing so far
-abbrev pub nothing_said : Said
-nothing_said = record { commands = []; env = []; path = None }
+abbrev pub nothing_said : DryRun
+nothing_said = record { commands = []; env = [] }
 
 -- one more variable
-abbrev pub with_variable : Said → Variable → Said
-with_variable s v = record {
-  commands = s.commands;
-  env = s.env ++ v ∷ [];
-  path = if is_none s.path && bytes_eq (codes "PATH") v.0 then Some v.1 else s.path;
-}
+abbrev pub with_variable : DryRun → Variable → DryRun
+with_variable s v = record { commands = s.commands; env = s.env ++ v ∷ [] }
 
 -- one more command
-abbrev pub with_command : Said → CommandLine → Said
-with_command s command = record { commands = s.commands ++ command ∷ []; env = s.env; path = s.path }
+abbrev pub with_command : DryRun → CommandLine → DryRun
+with_command s command = record { commands = s.commands ++ command ∷ []; env = s.env }
 
 -- one more line, by what it means
-abbrev pub said_next : Said → Meaning → Result Said Fault
+abbrev pub said_next : DryRun → Meaning → Result DryRun Fault
 said_next s Ignored = Ok s
 said_next s (Assigns v) = Ok (with_variable s v)
 said_next s (Runs command) = Ok (with_command s command)
 said_next s (Bad fault) = Err fault
 
 -- what is gathered behind a line, where it was read
-abbrev pub said_after : Result (Unit {0}) Fault → Said → Result Said Fault
+abbrev pub said_after : Result (Unit {0}) Fault → DryRun → Result DryRun Fault
 said_after (Ok _) s = Ok s
 said_after (Err fault) s = Err fault

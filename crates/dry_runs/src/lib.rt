@@ -7,10 +7,13 @@ pub mod laws;
 mod lines;
 mod plain_words;
 mod reader;
+mod statement;
 mod which;
 
 pub use commands::{Commands, DryRun};
 pub use environment::{assignment, expanded_words};
 pub use lines::{first_line, marked};
 pub use reader::read_dry_run;
-pub use which::{FirstDir, Which, is_bare};
+pub use statement::{Statement, statement_of};
+pub use texts::text::is_bare;
+pub use which::{FirstDir, Which};

@@ -2,11 +2,10 @@
 
 ghost use Rattle.std.specs.Prelude.{◌≡◌, IfOk, MatchOption, string_bytes, ℕ, List, Option};
 ghost use Rattle.std.specs.Option.{option_map};
-ghost use Rattle.texts.specs.Path.{is_bare as is_bare_name};
 ghost use Rattle.dry_runs.specs.FirstDir.{first_folder_of};
 
 use std::alloc::{AllocError, Global};
-use texts::text::join;
+use texts::text::{is_bare, join};
 
 /// A look-up of programs.
 pub trait Which {
@@ -29,16 +28,6 @@ pub trait Which {
 /// other is taken to be in the first folder of `PATH`, unless that is empty.
 #[derive(Clone, Copy, Debug)]
 pub struct FirstDir;
-
-/// Whether `name` holds no `/`.
-pub fn is_bare(name: &str) -> bool
-    ensures { result ≡ is_bare_name name.now }
-{
-    match name.rsplit_once('/') {
-        None => true,
-        Some(_) => false,
-    }
-}
 
 // The two parts of `path` round its first `:`.
 fn at_colon(path: &str) -> Option<(&str, &str)>

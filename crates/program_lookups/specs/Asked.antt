@@ -5,6 +5,9 @@ use Rattle.std.specs.Str.{is_utf8}
 use Rattle.std.specs.Str.Lines.{lines}
 use Rattle.texts.specs.Variables.{first_value}
 use Rattle.shell_words.specs.Shell.Splitting.{shell_words}
+use Rattle.dry_runs.specs.declared.statement.Statement.{Statement}
+use Rattle.dry_runs.specs.declared.statement.Statement.TheVariants.{Runs, BadShell, NotUtf8}
+use Rattle.dry_runs.specs.declared.statement.Statement.TheVariants as statements
 use Rattle.dry_runs.specs.DryRunLines.{marked_text}
 use Rattle.dry_runs.specs.Environment.{Variable, assignment, expanded}
 use Rattle.program_lookups.specs.declared.lookup.Lookup.{Lookup}
@@ -39,6 +42,14 @@ module _ (folder : List ℕ) where
   -- whatever is found, and ends the reading
   abbrev pub asking : List Variable → List ℕ → Asking
   asking env line = if is_utf8 line then asking_marked env (marked_text line) else Ends
+
+  -- the same, by what the line says
+  abbrev pub asking_stated : List Variable → Statement → Asking
+  asking_stated env statements.Nothing = Nothing
+  asking_stated env (statements.Sets name value) = Sets name value
+  asking_stated env (Runs words) = asking_of_words env (Some words)
+  asking_stated env BadShell = Ends
+  asking_stated env NotUtf8 = Ends
 
   -- the look-ups of the lines from one on, by what it asks for and by those of the lines behind it, for each environment
   abbrev pub asked_from : List Variable → Asking → (List Variable → List Lookup) → List Lookup

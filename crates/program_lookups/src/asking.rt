@@ -2,15 +2,12 @@
 
 ghost use Rattle.std.specs.Prelude.{◌≡◌, [], map, codes, IfOk, OnOk, string_bytes};
 ghost use Rattle.std.specs.Str.Lines.{lines};
-ghost use Rattle.shell_words.specs.Shell.Splitting.{shell_words};
-ghost use Rattle.dry_runs.specs.DryRunLines.{marked_text};
-ghost use Rattle.dry_runs.specs.Environment.{expanded};
 ghost use Rattle.program_lookups.specs.Lookup.{with_lookups};
 ghost use Rattle.program_lookups.specs.Asked as spec;
 ghost use Rattle.program_lookups.specs.Asked.{asked_of, asked_of_both};
 
 use crate::lookup::{Lookup, add};
-use dry_runs::{assignment, expanded_words, first_line, marked};
+use dry_runs::{Statement, first_line, statement_of};
 use std::alloc::{AllocError, Global};
 use texts::text::Text;
 use texts::variables::{Variables, first_value};
@@ -46,51 +43,20 @@ fn asking_of_words(
     Ok(Asking::Asks(Lookup::copy_of(alloc, program.as_str(), path, folder)?))
 }
 
-// What a command asks for, by the text behind its mark.
-fn asking_of_command(
+// What a line asks for, by what it says.
+fn asking_stated(
     alloc: Global,
     env: &Variables,
     folder: &str,
-    text: &str,
+    statement: Statement,
 ) -> Result<Asking, AllocError>
-    ensures { IfOk result (λ asking. asking ≡ spec.asking_of_words folder.now env.now (shell_words (expanded env.now text.now))) }
+    ensures { IfOk result (λ asking. asking ≡ spec.asking_stated folder.now env.now statement) }
 {
-    match expanded_words(alloc, env.as_slice(), text)? {
-        None => Ok(Asking::Ends),
-        Some(words) => asking_of_words(alloc, env, folder, words.as_slice()),
-    }
-}
-
-// What a line asks for, by the text behind its mark.
-fn asking_of_marked(
-    alloc: Global,
-    env: &Variables,
-    folder: &str,
-    text: &str,
-) -> Result<Asking, AllocError>
-    ensures { IfOk result (λ asking. asking ≡ spec.asking_marked folder.now env.now (Some text.now)) }
-{
-    match assignment(text) {
-        Some((name, value)) => Ok(Asking::Sets(
-            Text::copy_of(alloc, name)?,
-            Text::copy_of(alloc, value)?,
-        )),
-        None => asking_of_command(alloc, env, folder, text),
-    }
-}
-
-// What a line asks for that is text.
-fn asking_of_text(
-    alloc: Global,
-    env: &Variables,
-    folder: &str,
-    line: &str,
-) -> Result<Asking, AllocError>
-    ensures { IfOk result (λ asking. asking ≡ spec.asking_marked folder.now env.now (marked_text line.now)) }
-{
-    match marked(line) {
-        None => Ok(Asking::Nothing),
-        Some(text) => asking_of_marked(alloc, env, folder, text),
+    match statement {
+        Statement::Nothing => Ok(Asking::Nothing),
+        Statement::Sets(name, value) => Ok(Asking::Sets(name, value)),
+        Statement::Runs(words) => asking_of_words(alloc, env, folder, words.as_slice()),
+        Statement::BadShell | Statement::NotUtf8 => Ok(Asking::Ends),
     }
 }
 
@@ -103,10 +69,8 @@ fn asking_of(
 ) -> Result<Asking, AllocError>
     ensures { IfOk result (λ asking. asking ≡ spec.asking folder.now env.now line.now) }
 {
-    match str::from_utf8(line) {
-        Err(_) => Ok(Asking::Ends),
-        Ok(text) => asking_of_text(alloc, env, folder, text),
-    }
+    let statement = statement_of(alloc, env, line)?;
+    asking_stated(alloc, env, folder, statement)
 }
 
 // Puts the look-ups that lines ask for behind the environment lines `env` last, where the list lacks them.

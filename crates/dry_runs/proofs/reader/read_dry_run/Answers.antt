@@ -1,7 +1,7 @@
 use Rattle.std.proofs.Common.{◌∙◌, sym, arith}
 use Rattle.dry_runs.specs.DryRun.{meaning, dry_run_of}
 use Rattle.dry_runs.specs.Reading.{said_next}
-use Rattle.dry_runs.proofs.ReadingLemmas.{line-next, line-refused, kept-next, refused, passed-seen}
+use Rattle.dry_runs.proofs.ReadingLemmas.{line-next, line-refused, refused, passed-seen}
 use Rattle.dry_runs.proofs.reader.read_dry_run.Goals as goal
 
 pub loop-line-preserved : goal.loop-line-preserved
@@ -10,7 +10,6 @@ loop-line-preserved g c =
     let before = c.loop-line.said in
     record {
       whole = line-next answer c.args.run c.args.cwd.now before c.read.new.self c.loop-line.number c.in-Some.line.now c.loop-line.rest.now c.in-Some.behind.now c.in-Some.ensures.lines c.in_ok-read.ensures ∙ c.loop-line.invariant.whole;
-      kept = kept-next before c.read.new.self (meaning answer c.args.run c.args.cwd.now before.env (c.loop-line.number, c.in-Some.line.now)) c.loop-line.invariant.kept c.in_ok-read.ensures;
       room = omega (arith, c.in-Some.ensures.less, c.loop-line.invariant.room);
     }
 

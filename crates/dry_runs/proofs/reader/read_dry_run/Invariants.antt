@@ -2,13 +2,12 @@ use Rattle.std.proofs.Common.{◌≡◌, ◌+◌, ◌≤◌, length}
 use Rattle.std.specs.List.{enumerate_from}
 use Rattle.std.specs.Str.Lines.{lines}
 use Rattle.dry_runs.specs.DryRun.{meanings, run_of_meanings, dry_run_of}
-use Rattle.dry_runs.proofs.ReadingLemmas.{IsKept, said_with}
+use Rattle.dry_runs.proofs.ReadingLemmas.{said_with}
 use Rattle.dry_runs.proofs.reader.read_dry_run.Given as goal
 
 abbrev pub invariant-loop-line : goal.invariant-loop-line
 invariant-loop-line g l = record {
   whole : said_with l.said (run_of_meanings (meanings (g.W.Which.answer l.which) l.run l.cwd l.said.env (enumerate_from l.number (lines l.rest)))) ≡ dry_run_of l.run l.dry_run l.cwd (g.W.Which.answer l.which);
-  kept : IsKept l.said;
   room : l.number + length l.rest ≤ length l.dry_run;
 }
 
