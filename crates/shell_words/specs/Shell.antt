@@ -32,7 +32,7 @@ is_escapable c = (c == 36) || (c == 96) || (c == double_quote) || (c == backslas
 abbrev pub HasNone : ℕ → List ℕ → Type 0
 HasNone c cs = AllByRecursion (λ x. x ≢ c) cs
 
--- A gap is a blank, or `#` and all through the next newline.
+-- A gap is a blank, or `#` and everything through the next newline.
 pub data IsGap : List ℕ → Type 0 where
   blank : (c : ℕ) → is_blank c ≡ true → IsGap (c ∷ [])
   comment : (cs : List ℕ) → HasNone newline cs → IsGap (hash ∷ cs ++ newline ∷ [])
@@ -46,7 +46,7 @@ pub data IsInnerPiece : List ℕ → List ℕ → Type 0 where
   inner_joined : IsInnerPiece (backslash ∷ newline ∷ []) []
   inner_kept : (c : ℕ) → is_escapable c ≡ false → c ≢ newline → IsInnerPiece (backslash ∷ c ∷ []) (backslash ∷ c ∷ [])
 
--- what stands in double quotes: any number of inner pieces
+-- the inside of double quotes: any number of inner pieces
 pub data IsInside : List ℕ → List ℕ → Type 0 where
   inside_end : IsInside [] []
   inside_more : (piece rest given more : List ℕ) → IsInnerPiece piece given → IsInside rest more →
@@ -73,7 +73,7 @@ pub data IsWord : List ℕ → List ℕ → Type 0 where
   word : (piece rest given more : List ℕ) → IsPiece piece given → piece ≢ hash ∷ [] → IsPieces rest more →
       IsWord (piece ++ rest) (given ++ more)
 
--- A text and its words: nothing; a gap, and a text; `#` and all through the end; a word, and the end; or
+-- A text and its words: nothing; a gap, and a text; `#` and everything through the end; a word, and the end; or
 -- a word, a blank, and a text. A text has at most one list of words.
 pub data IsText : List ℕ → List (List ℕ) → Type 0 where
   text_end : IsText [] []

@@ -1,4 +1,4 @@
-//! What holds of the words of every text.
+//! Laws of the words of every text.
 
 ghost use Rattle.std.specs.Prelude.{◌≡◌, ℕ, List, Some, MatchOption};
 ghost use Rattle.shell_words.specs.Shell.{IsText};
@@ -11,13 +11,14 @@ pub fn one_list()
         IsText cs first → IsText cs second → first ≡ second }
 {}
 
-/// The words that are computed are those of the grammar. If none are computed, the grammar has none.
+/// The computed words are those of the grammar. If there are none, the grammar has none.
 pub fn computed_words()
     ensures { (cs : List ℕ) →
         MatchOption (split_chars cs) ((words : List (List ℕ)) → ¬ IsText cs words) (IsText cs) }
 {}
 
-/// Words that were written by the rule of `quote` are read back, whatever they hold.
+/// Words written by the rule of `quote` read back as themselves, whatever they contain. This is about the reading of
+/// [`split`](crate::split).
 pub fn quoted_words()
     ensures grammar { (words : List (List ℕ)) → IsText (quoted words) words }
     ensures computed { (words : List (List ℕ)) → split_chars (quoted words) ≡ Some words }

@@ -1,4 +1,4 @@
-//! The words of a shell command: splitting a text into them, and writing them so that they are read back.
+//! The words of shell commands: splits a text into words, and quotes words for a shell.
 #![tactic(auto)]
 
 pub mod laws;

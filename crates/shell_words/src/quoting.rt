@@ -1,4 +1,4 @@
-//! Writing the words of a shell command so that they are read back.
+//! Quotes the words of shell commands.
 
 ghost use Rattle.std.specs.Prelude.{◌≡◌, ◌++◌, ◌∷◌, Some, map, IfOk, OnOk, encode_utf8_all, string_bytes};
 ghost use Rattle.std.specs.Str.{chars};
@@ -10,11 +10,10 @@ use std::alloc::{AllocError, Global};
 
 /// Writes the words of a command so that a POSIX shell, and [`split`](super::split), read them back.
 ///
-/// A space stands between each two. A word of safe characters stays as it is, and any other, the empty word
-/// too, stands in single quotes, with each `'` written as `'\''`. A `=` is safe only in a word that begins with
-/// `-`, since a shell takes `A=b` for an assignment. The first word is written by the same rule, so it has to
-/// be a program: a shell may take another one as its own, such as `if`, an alias, or in bash a job like `%1`,
-/// quoted or not.
+/// There is a space between two words. A word of safe characters stays as it is. Any other word, and the empty one, is in
+/// single quotes, with `'\''` for each `'`. A `=` is safe only in a word that begins with `-`, because `A=b` is an
+/// assignment to a shell. The first word follows the same rule, so it must be a program: a shell may take another one as
+/// its own, such as `if`, an alias, or in bash a job like `%1`.
 pub fn quote(alloc: Global, words: &[String]) -> Result<String, AllocError>
     // The text, exactly.
     ensures text { IfOk result (λ t.
@@ -29,7 +28,7 @@ pub fn quote(alloc: Global, words: &[String]) -> Result<String, AllocError>
     Ok(text)
 }
 
-/// Writes the words `first` and `rest` at the end of `text`, quoted the way [`quote`] quotes them.
+/// Appends the words `first` and `rest` to `text`, quoted like [`quote`] quotes them.
 ///
 /// No space is written before `first`. The only error is an allocation failure; `text` may then end in a part of the words.
 pub fn push_quoted(text: &mut String, first: &str, rest: &[String]) -> Result<(), AllocError>
@@ -39,7 +38,7 @@ pub fn push_quoted(text: &mut String, first: &str, rest: &[String]) -> Result<()
     push_further(text, rest)
 }
 
-/// Writes words at the end, with a space between each two.
+/// Appends words, with a space between two.
 fn push_words(text: &mut String, words: &[String]) -> Result<(), AllocError>
     ensures { OnOk result (string_bytes text.new ≡ string_bytes text.old ++ written (map string_bytes words.now)) }
 {
@@ -49,7 +48,7 @@ fn push_words(text: &mut String, words: &[String]) -> Result<(), AllocError>
     }
 }
 
-/// Writes words at the end, each with a space in front.
+/// Appends words, each after a space.
 fn push_further(text: &mut String, words: &[String]) -> Result<(), AllocError>
     ensures { OnOk result (string_bytes text.new
         ≡ string_bytes text.old ++ encode_utf8_all (further (map chars (map string_bytes words.now)))) }
@@ -95,7 +94,7 @@ fn is_plain(word: &str) -> bool
     is_safe(first) && chars.all(|c| is_safe(c) || first == '-' && c == '=')
 }
 
-/// A character that no POSIX shell reads as anything but itself.
+/// Whether every POSIX shell reads a character as itself.
 fn is_safe(c: char) -> bool
     ensures { result ≡ is_safe c }
 {

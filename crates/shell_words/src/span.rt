@@ -1,4 +1,4 @@
-//! How far a text stands for itself.
+//! Spans: how many bytes of a text stand for themselves.
 
 ghost use Rattle.std.specs.Prelude.{◌≡◌, ◌+◌, ◌≤◌, ◌==◌, if◌then◌else◌, length, take, drop};
 ghost use Rattle.std.specs.List.{position_or_len};
@@ -8,10 +8,10 @@ ghost use lib.Count.{count_trailing_zeros};
 use crate::splitting::State;
 use std::simd::prelude::*;
 
-// How many bytes are tested at once.
+// How many bytes one test covers.
 const LANES: usize = 16;
 
-// Whether a character ends a span that is read in this state.
+// Whether a character ends a span in this state.
 #[inline(always)]
 pub(crate) fn ends_span(state: State, c: char) -> bool
     ensures { result ≡ spec.ends_span state c }
@@ -27,7 +27,7 @@ pub(crate) fn ends_span(state: State, c: char) -> bool
     }
 }
 
-// How many bytes the span has that a text begins with.
+// The length of the span at the beginning of a text, in bytes.
 #[inline(always)]
 pub(crate) fn span_len(state: State, text: &[u8]) -> usize
     ensures { result ≡ position_or_len (spec.ends_span state) text.now }
@@ -57,7 +57,7 @@ fn short_span_len(state: State, text: &[u8]) -> usize
     len
 }
 
-// How many of the bytes that are tested at once stand for themselves, from one on.
+// How many of the bytes of one test stand for themselves, from `at` on.
 #[inline(always)]
 fn run_at(state: State, text: &[u8], at: usize) -> usize
     requires { at + LANES ≤ length text.now }
@@ -105,7 +105,7 @@ fn double_quoted_run(text: &[u8], at: usize) -> usize
     first_set(ends.to_bitmask())
 }
 
-// The place of the lowest bit that is set, of as many as are tested at once; or how many these are.
+// The index of the lowest bit that is set, or the number of bits if none is.
 #[inline(always)]
 fn first_set(bits: u64) -> usize
     ensures { result ≡ (if bits == 0 then LANES else count_trailing_zeros 64 bits) }

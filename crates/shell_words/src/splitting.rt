@@ -1,4 +1,4 @@
-//! Splitting a text into the words of a shell command.
+//! Splits a text into the words of a shell command.
 
 ghost use Rattle.std.specs.Prelude.{◌≡◌, [], ◌∷◌, ◌<◌, ◌≤◌, false, map, length, IfOk, OnOk, MatchOption, encode_utf8_all, string_bytes};
 ghost use Rattle.std.specs.Bool.{MatchBool};
@@ -15,10 +15,10 @@ use std::mem;
 
 /// Splits a text into the words of a command.
 ///
-/// These are POSIX shell words before any expansion, as the crate `shlex` splits them: a `#` at a word's
-/// start begins a comment, which a newline ends, and `$`, `*`, `|` and `;` are characters like others.
-/// As in that crate, a backslash and a newline between blanks are an empty word, where a shell has none.
-/// `None` if a quote is not closed, or a backslash ends the text.
+/// It splits like the crate `shlex`: quotes and backslashes group characters like in a POSIX shell, a `#` at the start
+/// of a word begins a comment, which a newline ends, and `$`, `*`, `|` and `;` are ordinary characters. Like in that
+/// crate, a backslash and a newline between blanks are an empty word; a shell has none there.
+/// Returns `None` if a quote is left open, or a backslash ends the text.
 pub fn split(alloc: Global, text: &str) -> Result<Option<Vec<String>>, AllocError>
     // The text has these words, or it has none.
     ensures words { IfOk result (λ found.
@@ -55,7 +55,7 @@ pub(crate) enum State {
     EscapedInQuotes,
 }
 
-// The first character of a text, and what stands behind it.
+// The first character of a text, and the rest.
 fn next_char(text: &str) -> Option<(char, &str)>
     ensures { MatchOption result (chars text.now ≡ [])
         (λ next. (chars text.now ≡ next.0 ∷ chars next.1.now) × (length next.1.now < length text.now)) }
@@ -97,7 +97,7 @@ impl Splitter {
         }
     }
 
-    // Reads a span and what ends it, or a character that is no part of one. Answers what is left to read.
+    // Reads a span and what ends it, or a character outside any span. Returns what is left to read.
     #[inline(always)]
     fn read_some<'a>(&mut self, text: &'a str) -> Result<&'a str, AllocError>
         ensures same { IfOk result (λ rest.
@@ -134,7 +134,7 @@ impl Splitter {
         }
     }
 
-    // Gives a span to the word. If a blank ends a word that has nothing else, that is read too.
+    // Adds a span to the word. If the span is the whole word and a blank ends it, reads that too.
     #[inline(always)]
     fn take_span<'a>(&mut self, span: &str, rest: &'a str) -> Result<&'a str, AllocError>
         ensures same { IfOk result (λ left.

@@ -1,4 +1,4 @@
--- How the words of a command are written, so that they are read back.
+-- How the words of a command are quoted, so that they read back as themselves.
 use Rattle.std.specs.Prelude.{ℕ, Bool, false, ◌||◌, ◌&&◌, ◌==◌, ◌≡◌, refl, if◌then◌else◌, List, [], ◌∷◌, ◌++◌, map, codes, encode_utf8_all}
 use Rattle.std.specs.Char.{is_ascii_alphanumeric}
 use Rattle.std.specs.List.{list_all, flat_map}
@@ -11,8 +11,8 @@ is_safe c =
     is_ascii_alphanumeric c || (c == 95) || (c == 45) || (c == 46) || (c == 47) || (c == 58)
     || (c == 44) || (c == 43) || (c == 64) || (c == 37)
 
--- Whether a word needs no quotes: it is not empty, and all of it is safe. A word that begins with `-` may hold
--- a `=` too; elsewhere a shell could take it for an assignment.
+-- Whether a word needs no quotes: it is not empty, and all of it is safe. A word that begins with `-` may contain
+-- `=` too; any other word with `=` could be an assignment.
 abbrev pub is_plain : List ℕ → Bool
 is_plain [] = false
 is_plain (first ∷ rest) = is_safe first && list_all (λ c. is_safe c || ((first == 45) && (c == 61))) rest
@@ -38,7 +38,7 @@ quoted (word ∷ words) = quoted_word word ++ further words
 abbrev pub written : List (List ℕ) → List ℕ
 written words = encode_utf8_all (quoted (map chars words))
 
--- Worked examples.
+-- Examples.
 pub plain_words : quoted (codes "-std=c++17" ∷ codes "a/b.cu" ∷ []) ≡ codes "-std=c++17 a/b.cu"
 plain_words = refl
 

@@ -1,4 +1,4 @@
--- The words of a text, computed. They are those of the grammar: the law `computed_words` says it.
+-- The words of a text, computed. By the law `computed_words` they are those of the grammar.
 use Rattle.std.specs.Prelude.{ℕ, Bool, true, ◌||◌, ◌==◌, ◌≡◌, refl, if◌then◌else◌, List, [], ◌∷◌, ◌++◌, map, Option, Some, None, encode_utf8_all, codes}
 use Rattle.std.specs.Option.{option_map}
 use Rattle.std.specs.Str.{chars}
@@ -6,7 +6,7 @@ use Rattle.shell_words.specs.declared.splitting.State.{State}
 use Rattle.shell_words.specs.declared.splitting.State.TheVariants.{Between, Comment, Word, Escaped, SingleQuoted, DoubleQuoted, EscapedInQuotes}
 use Rattle.shell_words.specs.Shell.{newline, hash, backslash, single_quote, double_quote, is_blank, is_escapable}
 
--- what a character does: nothing, give these characters of the word that it stands in, or end that word
+-- what a character does: nothing, add these characters to the word that it is in, or end that word
 pub data Effect : Type 0 where
   Skips : Effect
   Gives : List ℕ → Effect
@@ -57,8 +57,8 @@ reads SingleQuoted c = reads_single_quoted c
 reads DoubleQuoted c = reads_double_quoted c
 reads EscapedInQuotes c = reads_escaped_in_quotes c
 
--- Whether a character ends a span, which is read in this state: the characters of a span are given as they
--- stand, and keep the state. In the other states there is no span.
+-- Whether a character ends a span in this state. The characters of a span stand for themselves and keep the
+-- state. In the other states there is no span.
 abbrev pub ends_span : State → ℕ → Bool
 ends_span Word c = is_blank c || (c == single_quote) || (c == double_quote) || (c == backslash)
 ends_span SingleQuoted c = c == single_quote
@@ -140,7 +140,7 @@ finished s = ended s.state s.words s.word
 abbrev pub shell_words : List ℕ → Option (List (List ℕ))
 shell_words text = option_map (map encode_utf8_all) (split_chars (chars text))
 
--- Worked examples. The first is the text  a\ b "c$d\e" '' # x
+-- Examples. The first is the text  a\ b "c$d\e" '' # x
 pub quotes_and_escapes : split_chars (codes "a\\ b \"c$d\\e\" '' # x") ≡ Some (codes "a b" ∷ codes "c$d\\e" ∷ [] ∷ [])
 quotes_and_escapes = refl
 
