@@ -47,7 +47,7 @@ fn subcommand(
     })
 }
 
-// A command that stands in no group.
+// A command that is in no group.
 fn dropped(command: SelectedCommand, reason: Reason) -> Dropped
     ensures { result ≡ spec.dropped_for reason (command_seen command) }
 {

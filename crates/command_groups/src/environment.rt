@@ -27,7 +27,7 @@ fn place_of(environment: &[(String, String)], name: &str) -> Option<usize>
     None
 }
 
-// Sets a variable: where its name is known, the first pair of that name has the new value; else the pair comes last.
+// Sets a variable: if its name is known, the first pair of that name gets the new value; else the pair comes last.
 fn set(
     environment: &mut Vec<(String, String)>,
     name: String,
@@ -73,7 +73,7 @@ fn marked(alloc: Global, name: &str, env_vars: &Variables) -> Result<Variables, 
 pub struct Environments {
     // What most commands have.
     plain: Variables,
-    // What host compilers have: they are told, by one more pair, that they compile for CUDA.
+    // What host compilers have: one more pair marks that they compile for CUDA.
     marked: Variables,
 }
 

@@ -52,8 +52,7 @@ pub struct LabelledCommand {
 /// The commands so far, in merged order, each with its label, beside what later labels depend on: the names that device
 /// groups were opened by, and the files that cicc commands make.
 ///
-/// A step that opens a group again changes no label: the labels that hold an earlier opening of it are told from the
-/// others when the groups are cut.
+/// A step that opens a group again changes no label. Cutting drops the commands whose labels hold an earlier opening.
 #[derive(Drop)]
 pub struct Grouping {
     pub opened: OpenedNames,

@@ -23,7 +23,7 @@ pub fn equality()
     ensures plan { TellsEqual ⟦<Plan as PartialEq>⟧.eq }
 {}
 
-/// Laws of the merged list: it stands in order of line and run (`in_order`), and it is the selected commands of both
+/// Laws of the merged list: it is in order of line and run (`in_order`), and has the selected commands of both
 /// runs, each once (`selected`).
 pub fn merge()
     ensures in_order { MergedIsInOrder }
@@ -54,11 +54,12 @@ pub fn plans()
 
 /// A law of shadow runs, for every list of suffixes that may be handed in: if the second of two clean
 /// runs shadows the first in the folder of temporary files, which is absolute, then a cicc command of
-/// the first run and the step that makes its input both stand in the device group of that input's
+/// the first run and the step that makes its input are both in the device group of that input's
 /// canonical name (`stand_together`).
 ///
-/// The input is the first of cicc's words that ends so, is bare and doesn't begin with `-`; exactly
-/// one preprocess step of the second run writes it in that folder, and stands at an earlier line.
+/// The input is the first of cicc's words that ends as an input does. It contains no `/` and doesn't
+/// begin with `-`. Exactly one preprocess step of the second run writes it in that folder, and that
+/// step has an earlier line.
 pub fn shadow()
     ensures stand_together { ShadowsStandTogether }
 {}
@@ -142,10 +143,11 @@ pub fn plans_need()
     ensures variables { PlansAgreeWithAnyVariables → ⊥ }
 {}
 
-/// Shadow runs worked out by hand: a cicc and its step that stand together, of the one-kernel dry run
-/// with cudafe++'s stub file bare in the second run (`one_kernel`) and alone (`earlier_step`), which
-/// meet all premises of `shadow` (`feeds`); and such as don't, since the step stands at a later line
-/// (`later_step`), two steps make the input (`two_steps`), or the input has a folder (`folder`).
+/// Shadow runs worked out by hand. In two of them cicc and its step share a group: the one-kernel dry
+/// run with cudafe++'s stub file bare in the second run (`one_kernel`), and a cicc and its step alone
+/// (`earlier_step`), which meet all premises of `shadow` (`feeds`). In the others they don't: the step
+/// has a later line (`later_step`), two steps make the input (`two_steps`), or the input has a folder
+/// (`folder`).
 pub fn worked_shadows()
     ensures one_kernel { shadows.OneKernelStandsTogether }
     ensures earlier_step { shadows.EarlierStepStandsTogether }

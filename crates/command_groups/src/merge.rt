@@ -78,10 +78,10 @@ fn in_order(
     commands.into_iter().sorted(alloc)
 }
 
-/// The commands of two runs that are planned: nvcc's own tools of the first run, and all other programs of the
+/// The planned commands of two runs: nvcc's own tools of the first run, and all other programs of the
 /// second, in order of line and run.
 ///
-/// A run's commands stand at different lines, in order. So no two of the merged ones share line and run.
+/// The commands of one run have rising lines, so no two merged commands share line and run.
 pub fn merge(
     alloc: Global,
     first: Commands,

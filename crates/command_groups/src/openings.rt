@@ -111,8 +111,8 @@ fn lower(first: Option<Opening>, opening: Opening) -> Opening
     }
 }
 
-/// The files that cicc commands make, each with the openings of the groups that these commands stand in. Contracts see
-/// the function from a path to its openings, in order.
+/// The files that cicc commands make, each with the openings of the groups of these commands. Contracts see the function
+/// from a path to its openings, in order.
 #[derive(Drop)]
 pub struct MadeFiles {
     openings: HashMap<String, Vec<Opening>>,

@@ -40,7 +40,7 @@ impl NvccGeneratedSubcommand {
     }
 }
 
-/// Why a command of a dry run stands in no group.
+/// Why a command of a dry run is in no group.
 #[derive(Clone, Copy, Debug, PartialEq)]
 pub enum Reason {
     /// A program other than nvcc's own tools, without a word that defines a CUDA macro.
@@ -67,7 +67,7 @@ impl Reason {
     }
 }
 
-/// A command that stands in no group.
+/// A command that is in no group.
 #[derive(Debug, PartialEq, Drop)]
 pub struct Dropped {
     /// The number of its line in the dry run, from 0.
@@ -83,7 +83,7 @@ pub struct Dropped {
 
 /// The groups of a plan, each a list of commands in order, seen in contracts as the list of these lists.
 ///
-/// It is made of a `Vec` of `Vec`s and gives it back without memory.
+/// `from_vec` and `into_vec` don't allocate.
 #[derive(Debug, Drop)]
 pub struct Groups {
     groups: Vec<Vec<NvccGeneratedSubcommand>>,
@@ -136,7 +136,7 @@ impl PartialEq for Groups {
 
 /// The dropped commands of a plan, in order, seen in contracts as their list.
 ///
-/// It is made of a `Vec` and gives it back without memory.
+/// `from_vec` and `into_vec` don't allocate.
 #[derive(Debug, Drop)]
 pub struct DroppedCommands {
     commands: Vec<Dropped>,
@@ -187,11 +187,11 @@ impl PartialEq for DroppedCommands {
     }
 }
 
-/// What one `nvcc` call runs: groups of commands, and the commands that stand in none.
+/// What one `nvcc` call runs: groups of commands, and the commands that are in no group.
 #[derive(Debug, PartialEq, Drop)]
 pub struct Plan {
     /// The front group, the device groups by first appearance of their names, and the final group.
     pub groups: Groups,
-    /// The commands that stand in no group, in order of line and run.
+    /// The commands that are in no group, in order of line and run.
     pub dropped: DroppedCommands,
 }

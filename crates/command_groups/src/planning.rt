@@ -23,7 +23,7 @@ use dry_runs::{Commands, DryRun, Which, read_dry_run};
 use std::alloc::{AllocError, Global};
 use texts::fault::Fault;
 
-// Reads a dry run. Its commands stand at rising lines.
+// Reads a dry run. Its commands have rising lines.
 fn read_run<W: Which>(
     alloc: Global,
     dry_run: &[u8],
@@ -91,7 +91,7 @@ fn plan_of_dry_runs(
     plan_of_runs(alloc, suffixes, keep_dir, &setting, first, second)
 }
 
-/// What one nvcc call runs, by two dry runs of it: its commands in groups, and those that stand in none, each with its
+/// Plans one nvcc call from two dry runs of it: its commands in groups, and those that are in no group, each with the
 /// reason.
 ///
 /// - `dry1` and `dry2` are what nvcc prints on standard error with `--dryrun --keep`, and `dry2` with `--keep-dir` and
@@ -99,37 +99,37 @@ fn plan_of_dry_runs(
 ///   and run in `tmp`; all other programs are those of `dry2`, and run in `cwd`. A program without a stem is left out.
 ///   The commands are planned in order of their lines, and on equal lines the first run's comes first.
 /// - `compilation_flag` is the option that says what nvcc makes, as `-c`.
-/// - `keep_dir` is the folder that the call keeps generated files in. If there is none, the generated files of each run
-///   get canonical names, told by `suffixes`; else all names stay.
-/// - `env_vars` is the call's environment. All commands have it with the first run's environment lines folded in: a
+/// - `keep_dir` is the folder in which the call keeps generated files. If there is none, the generated files of each run,
+///   recognized by `suffixes`, get canonical names; else all names stay.
+/// - `env_vars` is the call's environment. All commands run in it with the first run's environment lines folded in: a
 ///   known name gets its value at its first place, and a new one comes last.
 /// - `which` looks up the programs of both runs from `cwd`.
 ///
 /// Each command has a group, or a reason why it has none:
 ///
-/// - cudafe++ stands in the front group. If `--gen_module_id_file` isn't among its words, it is put before the first
+/// - cudafe++ goes to the front group. If its words lack `--gen_module_id_file`, it is added before the first
 ///   `--module_id_file_name`.
 /// - A program that isn't nvcc's own and has no word that begins with `-D__CUDACC__`, `-D__NVCC__`, `-D__CUDA_ARCH__`
 ///   or `-D__CUDA_ARCH_LIST__` is `NotCuda`. With such a word and `-E`, or `-P` if `host_compiler` is `Msvc`, it is a
-///   preprocess step: if the word after its first `-o` has a file name that ends in `.cpp1.ii`, it opens a device group
-///   of that name and stands in it, else it stands in the front group. Any other one compiles host code: it stands in
+///   preprocess step: if the word after its first `-o` has a file name that ends in `.cpp1.ii`, the step opens a device
+///   group of that name and goes to it, else it goes to the front group. Any other one compiles host code: it goes to
 ///   the final group, and has the variable `__SCCACHE_THIS_IS_A_CUDA_COMPILATION__`, empty, last in its environment.
-/// - cicc stands in the device group that its first `.cpp1.ii` word names, or is `NoCiccGroup`. If `compilation_flag`
+/// - cicc goes to the device group that its first `.cpp1.ii` word names, or is `NoCiccGroup`. If `compilation_flag`
 ///   asks for an object, it loses its first `--gen_module_id_file`.
-/// - ptxas stands in the first device group with a cicc whose last word is ptxas's first `.ptx` word, or is
-///   `NoPtxasGroup`. If ciccs of two groups write one file, every ptxas of that file stands in the first of them.
-/// - nvlink and fatbinary stand in the final group.
+/// - ptxas goes to the first device group with a cicc whose last word is ptxas's first `.ptx` word, or is
+///   `NoPtxasGroup`. If ciccs of two groups write one file, every ptxas of that file goes to the first of these groups.
+/// - nvlink and fatbinary go to the final group.
 ///
-/// A step that opens a group again empties it in its place: what stood there is `Superseded`. Device groups stand in
-/// order of first appearance of their names.
+/// A step that opens a group again empties it, and the group keeps its place: its former commands are `Superseded`.
+/// Device groups are in order of first appearance of their names.
 ///
-/// A run that can't be read is refused by its first bad line, as `read_dry_run` refuses it, and the first run's refusal
-/// comes first. So the faults are `NotUtf8`, `BadShell`, `EmptyCommand`, `NoPath`, `NotFound` and `Memory`, which may
-/// come in place of any other answer.
+/// Refuses a run that can't be read with the fault of its first bad line, as `read_dry_run` does. An error in the first
+/// run takes precedence. So the faults are `NotUtf8`, `BadShell`, `EmptyCommand`, `NoPath`, `NotFound` and `Memory`,
+/// which may come in place of any other answer.
 ///
-/// As sccache 0.19.0's grouping, except that sccache has ptxas join a group only by its last command, so that of two
-/// ptxas of one file the second is lost; that it drops commands in silence; and that its device groups have no fixed
-/// order, nor the refusals of two bad runs.
+/// As sccache 0.19.0's grouping, with these exceptions: in sccache ptxas joins a group only by that group's last command,
+/// so it loses the second of two ptxas of one file; it drops commands silently; and it fixes neither the order of device
+/// groups nor which of two bad runs it reports.
 pub fn group_nvcc_subcommands_by_compilation_stage<W: Which>(
     alloc: Global,
     dry1: &[u8],

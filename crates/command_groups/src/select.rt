@@ -76,7 +76,7 @@ fn chosen<F: Fn(&str) -> bool>(
     taken(alloc, select, commands)
 }
 
-// Folds variables into an environment. After an error it is as it was.
+// Folds variables into an environment. On an error the environment is unchanged.
 fn fold_into(
     alloc: Global,
     env_vars: &mut Vec<(String, String)>,
@@ -90,19 +90,19 @@ fn fold_into(
     Ok(())
 }
 
-/// The commands of one dry run whose program has a stem that `select` takes, in order: of each the number of its line,
+/// The commands of one dry run whose program has a stem that `select` accepts, in order: of each the number of its line,
 /// its program's path and its words.
 ///
 /// `run`, `cwd` and `which` are for `read_dry_run`, which reads the run. A program's stem is its file name without the
-/// last extension; a program without one isn't selected, and `select` may be asked of any text.
+/// last extension. A program without a stem isn't selected. `select` must accept any text as its argument.
 ///
-/// If `remap`, generated files, told by `suffixes`, get canonical names. The names of all commands of the run count, and
-/// not just those of the selected ones, so a name has the same number whatever is selected.
+/// If `remap`, generated files, recognized by `suffixes`, get canonical names. They are numbered over all commands of
+/// the run, not just the selected ones, so a name has the same number whatever is selected.
 ///
-/// The run's environment lines are folded into `env_vars`: a known name gets its value at its first place, and a new one
-/// comes last. All environment lines count, those behind a selected command too.
+/// Folds the run's environment lines into `env_vars`: a known name gets its value at its first place, and a new one
+/// comes last. All environment lines count, also those after the last selected command.
 ///
-/// A run that can't be read is refused as `read_dry_run` refuses it. After an error `env_vars` is as it was.
+/// Refuses a run that can't be read, with the fault of `read_dry_run`. On an error `env_vars` is unchanged.
 ///
 /// The rules are those of sccache 0.19.0's selection.
 pub fn select_nvcc_subcommands<F: Fn(&str) -> bool + Drop, W: Which>(

@@ -51,7 +51,7 @@ pub fn kind_of_program(program: &str) -> ProgramKind
     }
 }
 
-// Whether a word stands among words.
+// Whether words include a word.
 fn has_word(words: &[String], word: &str) -> bool
     ensures { result ≡ spec.has_word word.now (map string_bytes words.now) }
 {
@@ -138,10 +138,10 @@ fn cicc_words(flag: &str, words: Vec<String>) -> Vec<String>
     }
 }
 
-/// The words of a program of a kind, as they are run under a compilation flag.
+/// The words of a program of a kind, as a plan runs them under a compilation flag.
 ///
-/// cudafe++ is told to make the module id file where a word names it. Under a flag that asks for an object, cicc isn't
-/// told so: it reads the file that cudafe++ makes. It is as sccache 0.19.0 changes these words.
+/// Adds `--gen_module_id_file` to cudafe++ if a word names that file. If the flag asks for an object, removes it from
+/// cicc, which then reads the file that cudafe++ makes. sccache 0.19.0 makes the same changes.
 pub fn edited_words(
     alloc: Global,
     kind: ProgramKind,
@@ -205,7 +205,7 @@ fn is_for_cuda(words: &[String]) -> bool
     false
 }
 
-// The word by which a host compiler is told to preprocess only.
+// The option that makes a host compiler only preprocess.
 fn preprocess_word(host_compiler: NvccHostCompiler) -> &'static str
     ensures { result.now ≡ spec.preprocess_word host_compiler }
 {
@@ -265,8 +265,8 @@ pub fn ptxas_input(words: &[String]) -> Option<&str>
     None
 }
 
-/// The name that a preprocess step with these words opens a device group by: the file name of the word after its first
-/// `-o`, where that is cicc's input by its end.
+/// The name of the device group that a preprocess step with these words opens: the file name of the word after its first
+/// `-o`, if it ends as cicc's input does.
 pub fn opened_name(words: &[String]) -> Option<&str>
     ensures { option_copied result ≡ spec.opened_name (map string_bytes words.now) }
 {

@@ -26,7 +26,7 @@ pub struct ParsedArguments {
     pub input: Text,
     /// The files that the command makes, by their keys.
     pub outputs: Outputs,
-    /// Whether the input stands after `--`.
+    /// Whether the input comes after `--`.
     pub double_dash_input: bool,
     /// The input's language, or what the tool makes of it.
     pub language: Language,

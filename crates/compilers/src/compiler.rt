@@ -12,7 +12,7 @@ use std::alloc::{AllocError, Global};
 use texts::fault::Fault;
 use texts::text::Text;
 
-/// The tools whose command lines are read. Readers tell by it which tool's line they read.
+/// The tools whose command lines can be read.
 #[derive(Clone, Copy, Debug, PartialEq)]
 pub enum CCompilerKind {
     Cicc,
@@ -30,8 +30,8 @@ pub enum NvccHostCompiler {
     Nvhpc,
 }
 
-/// The places that a caller makes for a compilation: a folder for files of its own, and the input's
-/// path with symbolic links resolved. Both are paths.
+/// What a caller prepares for a compilation: the path of a folder for temporary files, and the input's path with
+/// symbolic links resolved.
 #[derive(Debug, PartialEq, Drop)]
 pub struct Places {
     pub temp_dir: Text,
@@ -51,8 +51,8 @@ impl Places {
     }
 }
 
-/// A compiler whose command lines can be read and written back. What its reading and its writing
-/// are, each implementor says in its members, so that generic callers know them.
+/// A compiler whose command lines can be read and written back. Its members `reading` and `writing` say what
+/// they give, so that contracts of generic callers can cite them.
 pub trait CCompilerImpl {
     ghost use Rattle.std.specs.Prelude.{List, ℕ, Bool, Option, Result};
     ghost use Rattle.compilers.specs.declared.compiler.CCompilerKind.{CCompilerKind};
@@ -86,7 +86,7 @@ pub trait CCompilerImpl {
     fn plusplus(&self) -> bool
         ensures { result ≡ plusplus self.now };
 
-    /// The text of its version, where one is known.
+    /// The text of its version, if one is known.
     fn version(&self, alloc: Global) -> Result<Option<String>, AllocError>
         ensures { IfOk result (λ v. option_map string_bytes v ≡ version self.now) };
 

@@ -99,8 +99,7 @@ impl Outputs {
         }
     }
 
-    /// Records `output` under `key`, in place of one that stands there. On an error all stays as it
-    /// was.
+    /// Records `output` under `key`, in place of an earlier one. On an error the outputs are unchanged.
     pub fn insert(
         &mut self,
         key: &'static str,

@@ -94,12 +94,11 @@ fn gather<S: SearchableArgInfo<ArgData>>(
 /// Reads a command line of gcc or of a compiler that takes gcc's options, by this project's profile
 /// of them. `arg_info` is the table, as the pair of `table()` and a tool's own.
 ///
-/// Words, paths and texts are UTF-8. The answer is `CannotCache` with the option's text if an option
-/// stands that no cache can serve, with `-x` if that names no language, and with `argument parse` if
-/// the last option lacks its value: the first of these in the line decides. Else it is
-/// `NotCompilation` if nothing asks for a compilation, and else `CannotCache` with `multiple input
-/// files`, `no input file` or `unknown source language` if one of these holds, looked for in this
-/// order.
+/// Words, paths and texts are UTF-8. The answer is `CannotCache` with the option's text for an option
+/// that no cache can serve, with `-x` if that names no language, and with `argument parse` if the last
+/// option lacks its value. The first of these in the line decides. Else it is `NotCompilation` if
+/// nothing asks for a compilation, and else `CannotCache` with `multiple input files`, `no input file`
+/// or `unknown source language` if one of these holds, checked in this order.
 pub fn parse_arguments<S: SearchableArgInfo<ArgData> + Drop>(
     alloc: Global,
     arguments: &[String],

@@ -1,4 +1,5 @@
-//! Laws of whole calls, and schedules worked out by hand, which the definitions compute. The laws of the crates below stand here too.
+//! Laws of whole calls, and schedules worked out by hand, which the definitions compute. The laws of the crates below are
+//! exported here too.
 
 ghost use Rattle.texts.specs.Equality.{TellsEqual};
 ghost use Rattle.command_groups.specs.PlanLaws.{AlikeTextsHaveOnePlan, ReadableRunsArePlanned, PlannedRunsAreReadable, FirstRunIsRefused, SecondRunIsRefused, PlannedCommandsHaveOneFate};
@@ -29,7 +30,7 @@ pub fn equality()
     texts::laws::equality();
 }
 
-/// The planning theorem: two dry runs give a plan exactly if both can be read; each selected command
+/// The planning theorem: two dry runs yield a plan exactly when both can be read; each selected command
 /// has the one fate of its rule, and each group is its fate's commands in line order; without a keep
 /// directory, pairs of clean runs that differ only by a one-to-one renaming of generated names give
 /// equal plans; and a cicc, ptxas or cudafe++ line that is written back is read again as the same

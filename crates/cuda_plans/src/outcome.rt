@@ -1,4 +1,4 @@
-//! Outputs joined, and the outputs of faults and of compilers that were run to their end.
+//! Outputs joined, and the outputs of faults and of finished compilers.
 
 ghost use Rattle.std.specs.Prelude.{◌≡◌, ◌++◌, IfOk, string_bytes};
 ghost use Rattle.std.specs.Fmt.{signed_decimal};
@@ -10,7 +10,7 @@ use texts::fault::Fault;
 use texts::status::{CompileFinished, ExitStatus, Output};
 use texts::text::file_stem;
 
-// Bytes, and others behind them.
+// Bytes, followed by others.
 fn joined(first: Bytes, second: Bytes) -> Result<Bytes, AllocError>
     ensures { IfOk result (λ bytes. bytes ≡ first ++ second) }
 {
@@ -19,8 +19,8 @@ fn joined(first: Bytes, second: Bytes) -> Result<Bytes, AllocError>
     Ok(Bytes::from_vec(bytes))
 }
 
-/// Joins two outputs: the texts of `lhs` and behind them those of `rhs`, with the first status that isn't
-/// success. Both are taken, so a want of memory loses them.
+/// Joins two outputs: the texts of `lhs` followed by those of `rhs`, with the first status that isn't
+/// success. It consumes both, so a failed allocation loses them.
 pub fn aggregate_output(lhs: Output, rhs: Output) -> Result<Output, AllocError>
     ensures { IfOk result (λ output. output ≡ spec.aggregated lhs rhs) }
 {
@@ -77,7 +77,7 @@ fn number_text(alloc: Global, signal: i32) -> Result<String, AllocError>
     format!(in alloc; "{signal}")
 }
 
-// What is said of a program that a signal ended.
+// The message on a program that a signal ended.
 fn terminated_text(alloc: Global, exe: &str, signal: i32) -> Result<String, AllocError>
     ensures { IfOk result (λ text. string_bytes text ≡ spec.terminated_text exe.now signal) }
 {
@@ -86,7 +86,7 @@ fn terminated_text(alloc: Global, exe: &str, signal: i32) -> Result<String, Allo
     format!(in alloc; "{name} terminated (signal: {number})")
 }
 
-// What is said of a program that a signal ended, with its standard error behind it.
+// The message on a program that a signal ended, followed by its standard error.
 fn terminated_stderr(
     alloc: Global,
     exe: &str,
@@ -99,9 +99,9 @@ fn terminated_stderr(
     joined(Bytes::from_vec(text.into_bytes()), stderr)
 }
 
-/// The output of the program `exe` that was compiled to its end. If a signal ended it, the status is that
-/// signal, and standard error begins `STEM terminated (signal: N)`, with no newline before what was there;
-/// a path without a stem stands whole. Else the status is the code's, and without a code success.
+/// The output of a finished run of the program `exe`. If a signal ended it, the status is that signal, and
+/// standard error begins `STEM terminated (signal: N)`, with no newline before what was there, and with the
+/// whole path if it has no stem. Else the status is the code's, or success if there is no code.
 pub fn compile_result_to_output(
     alloc: Global,
     exe: &str,

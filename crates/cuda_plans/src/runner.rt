@@ -8,7 +8,7 @@ use std::alloc::{AllocError, Global};
 use texts::fault::Fault;
 use texts::status::{CompileFinished, Output};
 
-/// Where a command of a plan stands.
+/// The place of a command in a plan.
 #[derive(Clone, Copy, Debug, PartialEq)]
 pub struct Place {
     /// The number of its group, from 0.
@@ -20,9 +20,9 @@ pub struct Place {
 /// What a runner answers to a command.
 #[derive(Debug, PartialEq, Drop)]
 pub enum Answer {
-    /// It ran as a process, which left this.
+    /// It ran as a process, with this output.
     Ran(Output),
-    /// It was compiled, perhaps from a cache, and this was left.
+    /// It was compiled, perhaps from a cache, with this result.
     Finished(CompileFinished),
     /// It couldn't be run, or failed.
     Failed(Fault),
@@ -41,14 +41,14 @@ impl Answer {
     }
 }
 
-/// Who runs the commands of a plan. A server that caches runs them as its own compilations, and an auditor may
-/// only record them.
+/// Runs the commands of a plan. A cache server can run them as its own compilations; an auditor can just
+/// record them.
 pub trait Runner {
-    /// The account of the commands that it was handed, each with its place and the answer, in order.
+    /// The commands that it received so far, each with its place and the answer, in order.
     ghost log: { Self → List AccountEntry };
 
-    /// Runs `command`, which stands at `place`, and puts both and the answer last in the account. An error is a
-    /// want of memory: the account stays, and whether the command ran is open.
+    /// Runs `command`, whose place is `place`, and appends both and the answer to the account. The only error is a
+    /// failed allocation: then the account is unchanged, and the command may or may not have run.
     fn run(
         &mut self,
         alloc: Global,

@@ -88,7 +88,7 @@ fn is_held_back(chunk: usize, next: usize, success: bool) -> bool
     chunk < next && !success
 }
 
-// Has the groups of a plan run, and joins their outputs. A failure stops the groups behind its chunk.
+// Runs the groups of a plan, and joins their outputs. After a failure no later chunk runs.
 fn run_groups<R: Runner>(
     alloc: Global,
     runner: &mut R,
@@ -128,7 +128,7 @@ fn empty_output(alloc: Global) -> Output
     }
 }
 
-// Has the groups of a plan run; a failure is told with the joined output.
+// Runs the groups of a plan. A failure carries the joined output.
 pub(crate) fn run_plan<R: Runner>(
     alloc: Global,
     runner: &mut R,

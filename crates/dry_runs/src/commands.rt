@@ -10,7 +10,7 @@ use texts::variables::Variables;
 /// The command lines of a dry run, in order: of each the number of its line, its program's path, and
 /// its words. Contracts see the list of these, as texts.
 ///
-/// It is made of a `Vec<(usize, String, Vec<String>)>` and gives it back without memory.
+/// `from_vec` and `into_vec` don't allocate.
 #[derive(Debug, Drop)]
 pub struct Commands {
     lines: Vec<(usize, String, Vec<String>)>,
@@ -91,6 +91,6 @@ impl PartialEq for Commands {
 pub struct DryRun {
     /// Its commands, in the order of their lines.
     pub commands: Commands,
-    /// What its environment lines set, in their order. A name may stand twice.
+    /// What its environment lines set, in their order. A name may occur twice.
     pub env: Variables,
 }

@@ -58,8 +58,8 @@ fn begins_name(text: &str) -> bool
     }
 }
 
-/// The name and the value that an environment line assigns; `None` where the text is no such line. Most commands are
-/// told by their first byte.
+/// The name and the value that an environment line assigns, or `None` if the text is no such line. The first byte
+/// rules most commands out.
 pub fn assignment(text: &str) -> Option<(&str, &str)>
     ensures { option_map texts_of result ≡ spec.assignment text.now }
 {
@@ -231,8 +231,8 @@ fn expanded(alloc: Global, text: &str, first: Reference) -> Result<String, Alloc
     Ok(expanded)
 }
 
-/// The shell words of a text, once the variables of an environment are expanded; `None` where it has none.
-/// A text that refers to no variable is its own expansion, and isn't copied.
+/// The shell words of a text in which the variables of an environment are expanded, or `None` if the result doesn't
+/// split. A text that refers to no variable isn't copied.
 pub fn expanded_words(
     alloc: Global,
     env: &[(String, String)],

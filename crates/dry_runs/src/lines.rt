@@ -25,10 +25,10 @@ fn without_return(line: &[u8]) -> &[u8]
     }
 }
 
-/// The first line of `rest`, and what follows it; `None` where nothing is left.
+/// The first line of `rest` and what follows it, or `None` if nothing is left.
 ///
-/// A line ends at a newline, and one carriage return right before that newline goes too. What stands
-/// behind the last newline is a line of its own, unless it is empty, and keeps its carriage return.
+/// A line ends at a newline. One carriage return right before that newline is removed too. The text after the last
+/// newline is a line of its own unless it is empty, and keeps its carriage return.
 pub fn first_line(rest: &[u8]) -> Option<(&[u8], &[u8])>
     ensures lines { MatchOption result (lines rest.now ≡ []) (λ cut. lines rest.now ≡ cut.0.now ∷ lines cut.1.now) }
     ensures less { IfSome result (λ cut. length cut.1.now < length rest.now) }
@@ -42,7 +42,7 @@ pub fn first_line(rest: &[u8]) -> Option<(&[u8], &[u8])>
     }
 }
 
-/// What follows the mark of a line, the text `#$ `; `None` where the line is unmarked.
+/// What follows a line's mark, the text `#$ `, or `None` if the line has no mark.
 pub fn marked(line: &str) -> Option<&str>
     ensures { option_copied result ≡ marked_text line.now }
 {

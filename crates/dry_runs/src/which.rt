@@ -12,8 +12,8 @@ pub trait Which {
     /// What it finds, by the program's name, the value of `PATH` and the working directory.
     ghost answer: { Self → List ℕ → List ℕ → List ℕ → Option (List ℕ) };
 
-    /// The path of the program `exe`, and `None` where there is none. `path` is the value of `PATH`,
-    /// and `cwd` the working directory. An error is a want of memory.
+    /// The path of the program `exe`, or `None` if there is none. `path` is the value of `PATH`, and
+    /// `cwd` the working directory. The only error is a failed allocation.
     fn found(
         &self,
         alloc: Global,
@@ -24,8 +24,8 @@ pub trait Which {
         ensures { IfOk result (λ found. option_map string_bytes found ≡ answer self.now exe.now path.now cwd.now) };
 }
 
-/// A look-up that looks at no file. A name that holds a `/` counts from the working directory; any
-/// other is taken to be in the first folder of `PATH`, unless that is empty.
+/// A look-up that reads no disk. It joins a name with a `/` to the working directory, and expects any
+/// other program in the first folder of `PATH`, unless that is empty.
 #[derive(Clone, Copy, Debug)]
 pub struct FirstDir;
 
@@ -36,7 +36,7 @@ fn at_colon(path: &str) -> Option<(&str, &str)>
     path.split_once(':')
 }
 
-// What stands in `path` before its first `:`; all of it where it has none.
+// The part of `path` before its first `:`, or all of it if it has none.
 fn first_folder(path: &str) -> &str
     ensures { result.now ≡ first_folder_of path.now }
 {

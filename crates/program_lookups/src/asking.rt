@@ -73,7 +73,7 @@ fn asking_of(
     asking_stated(alloc, env, folder, statement)
 }
 
-// Puts the look-ups that lines ask for behind the environment lines `env` last, where the list lacks them.
+// Appends the look-ups that lines ask for after the environment lines `env`, unless the list has them.
 fn add_asked(
     alloc: Global,
     lookups: &mut Vec<Lookup>,
@@ -96,7 +96,7 @@ fn add_asked(
     Ok(())
 }
 
-// The look-ups of a list, and behind them those of a dry run that the list lacks.
+// The look-ups of a list, followed by those of a dry run that the list lacks.
 fn asked_behind(
     alloc: Global,
     known: Vec<Lookup>,
@@ -113,12 +113,12 @@ fn asked_behind(
 
 /// The look-ups that reading a dry run makes from the working directory `folder`, in order of first ask, none twice.
 ///
-/// They depend on the text and the folder alone, and on nothing that a look-up answers. A line that is bad whatever is
-/// found ends the list, as it ends the reading. Reading ends at the first program that isn't found, too: then the list
-/// also holds what the lines behind it would have asked for.
+/// They depend on the text and the folder alone, not on what a look-up answers. A line that no answer can make good
+/// ends the list, as it ends the reading. Reading also ends at the first program that isn't found; the list goes on, and
+/// includes what the later lines would have asked for.
 ///
-/// Each command is compared with the look-ups listed before it. A text whose commands all name different programs takes
-/// time in the square of their number; nvcc names some ten.
+/// Each command is compared with the look-ups listed before it. If all commands of a text name different programs, the
+/// time is quadratic in their number; nvcc names some ten.
 ///
 /// The only error is `AllocError`. A text that can't be read is refused by `read_dry_run`.
 pub fn asked_lookups(alloc: Global, dry_run: &[u8], folder: &str) -> Result<Vec<Lookup>, AllocError>
@@ -127,10 +127,10 @@ pub fn asked_lookups(alloc: Global, dry_run: &[u8], folder: &str) -> Result<Vec<
     asked_behind(alloc, Vec::new(alloc), dry_run, folder)
 }
 
-/// The look-ups that reading two dry runs of one call makes from the working directory `folder`: those of `dry1`, and
-/// behind them those of `dry2` that `dry1` doesn't make, none twice.
+/// The look-ups that reading the two dry runs of one call makes from the working directory `folder`: those of `dry1`,
+/// followed by those of `dry2` that `dry1` doesn't make.
 ///
-/// Each run is listed as `asked_lookups` lists it. The only error is `AllocError`.
+/// It lists each run as `asked_lookups` does. The only error is `AllocError`.
 pub fn asked_lookups_of_both(
     alloc: Global,
     dry1: &[u8],

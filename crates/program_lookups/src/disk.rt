@@ -71,11 +71,11 @@ fn answered<F: Fn(&str) -> bool>(
     Ok(Snapshot::new(entries))
 }
 
-/// A snapshot of what reading two dry runs from the working directory `folder` looks up: each look-up once, in order of
-/// first ask. It finds the first of its `candidates` of which `runs` says that this is a program.
+/// A snapshot of the look-ups that reading two dry runs from the working directory `folder` makes: each look-up once, in
+/// order of first ask. A look-up finds the first of its `candidates` that `runs` accepts as a program.
 ///
-/// Where `runs` is a function of the path, reading with the snapshot is reading with the look-up itself
-/// (`laws::reading`). The only error is want of memory.
+/// If `runs` is a function of the path, reading with the snapshot equals reading with the look-up itself
+/// (`laws::reading`). The only error is a failed allocation.
 pub fn snapshot_by<F: Fn(&str) -> bool + Drop>(
     alloc: Global,
     dry1: &[u8],
@@ -108,16 +108,16 @@ fn is_program<R: Files>(rt: &R, path: &str) -> bool {
     }
 }
 
-/// A snapshot of the disk: what reading two dry runs from the working directory `folder` looks up, each look-up once, in
-/// order of first ask.
+/// A snapshot of the disk: the look-ups that reading two dry runs from the working directory `folder` makes, each once,
+/// in order of first ask.
 ///
-/// A look-up finds the first of its `candidates` that is a plain file with an execute bit; a symbolic link counts as the
-/// file that it leads to. The bits of the owner, of the group and of all others count alike, and the disk isn't asked
-/// whether this very process may run the file, since it can't be: so an access list, or a file system mounted without
-/// programs, is seen only when the program is run. What can't be read counts as missing.
+/// A look-up finds the first of its `candidates` that is a plain file with an execute bit. It follows symbolic links.
+/// Any execute bit will do: owner, group or others. Whether this very process may run the file can't be asked here, so
+/// an access list or a file system mounted `noexec` shows only when the program runs. A path that can't be read counts
+/// as missing.
 ///
-/// The only error is want of memory. A text that can't be read, and a program that isn't found, are refused by the
-/// reading that the snapshot is for.
+/// The only error is a failed allocation. If a text can't be read or a program is missing, the reading that uses the
+/// snapshot refuses it.
 pub fn snapshot_of<R: Files + AllocGlobal>(
     rt: &R,
     dry1: &[u8],

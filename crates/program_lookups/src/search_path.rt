@@ -16,7 +16,7 @@ fn in_part(alloc: Global, program: &str, folder: &str, part: &str) -> Result<Str
     join(alloc, base.as_str(), program)
 }
 
-// The first part of a `PATH`, and what stands behind its `:`; `None` where all of it is one part.
+// The first part of a `PATH` and what follows its `:`, or `None` if all of it is one part.
 fn first_part(path: &str) -> Option<(&str, &str)>
     ensures parts { MatchOption result (parts_of path.now ≡ path.now ∷ []) (λ cut. parts_of path.now ≡ cut.0.now ∷ parts_of cut.1.now) }
     ensures less { IfSome result (λ cut. length cut.1.now < length path.now) }

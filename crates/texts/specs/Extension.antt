@@ -31,7 +31,7 @@ extension_of_parts None = None
 extension_of_parts (Some ([], extension)) = None
 extension_of_parts (Some (c ∷ cs, extension)) = Some extension
 
--- what stands before the extension of a name and the `.` before that
+-- the part of a name before its extension and the `.` before that
 abbrev pub stem_of_parts : List ℕ → Option (List ℕ × List ℕ) → List ℕ
 stem_of_parts name None = name
 stem_of_parts name (Some ([], extension)) = name

@@ -5,7 +5,7 @@ use Rattle.texts.specs.declared.fault.Fault.{Fault}
 use Rattle.texts.specs.declared.fault.Fault.TheVariants.{NotUtf8, BadShell, EmptyCommand, NoPath, NotFound, MissingOutput, NoFileName, KeepDirValue, ThreadsValue, NoPreprocess, Process, Runner, Read, Memory, BadSuffixes}
 use Rattle.texts.specs.Language.{language_text}
 
--- where a line of a run stands, and what is wrong with it
+-- the run and line of a fault, and what is wrong there
 abbrev pub line_text : ℕ → ℕ → List ℕ → List ℕ
 line_text run line what = codes "run " ++ (decimal run ++ (codes " line " ++ (decimal line ++ what)))
 
@@ -27,12 +27,12 @@ message_of Read = codes "cannot read input"
 message_of Memory = codes "out of memory"
 message_of BadSuffixes = codes "bad generated suffixes"
 
--- a fact of every fault but want of memory
+-- a fact that holds for every fault but `Memory`
 abbrev pub UnlessMemoryIs : Fault → Type 0 → Type 0
 UnlessMemoryIs Memory P = Unit {0}
 UnlessMemoryIs _ P = P
 
--- a result is the expected one, want of memory aside
+-- a result is the expected one, unless an allocation failed
 abbrev pub UnlessMemory : {T : Type 0} → Result T Fault → Result T Fault → Type 0
 UnlessMemory (Ok x) expected = expected ≡ Ok x
 UnlessMemory (Err fault) expected = UnlessMemoryIs fault (expected ≡ Err fault)

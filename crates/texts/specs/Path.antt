@@ -10,7 +10,7 @@ abbrev pub is_absolute_path : List ℕ → Bool
 is_absolute_path [] = false
 is_absolute_path (c ∷ _) = c == 47
 
--- what stands between a folder and a name: nothing if the folder is empty or ends in `/`, else one `/`
+-- what joins a folder and a name: nothing if the folder is empty or ends in `/`, else one `/`
 abbrev pub separator_after : List ℕ → List ℕ
 separator_after base = if (length base == 0) || ends_with nat_eq base (codes "/") then [] else codes "/"
 

@@ -20,7 +20,7 @@ pub enum Fault {
     BadShell { run: usize, line: usize },
     /// A command's line, expanded, holds no word.
     EmptyCommand { run: usize, line: usize },
-    /// No line that sets `PATH` stands before a command's line.
+    /// No line before a command's line sets `PATH`.
     NoPath { run: usize, line: usize },
     /// The look-up has no such program.
     NotFound { program: Text },
@@ -40,9 +40,9 @@ pub enum Fault {
     Runner(Text),
     /// Opening or reading a file failed, or it has no end.
     Read,
-    /// Memory was refused.
+    /// An allocation failed.
     Memory,
-    /// A list of suffixes of generated files breaks what is asked of it.
+    /// A list of suffixes of generated files breaks a rule: see `Suffixes`.
     BadSuffixes,
 }
 

@@ -14,7 +14,7 @@ use std::str::Chars;
 
 /// A text that a record holds: UTF-8, seen in contracts as its bytes.
 ///
-/// It is made of a `String` and gives it back without memory.
+/// `new` and `into_string` don't allocate.
 #[derive(Debug, Drop)]
 pub struct Text {
     string: String,

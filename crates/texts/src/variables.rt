@@ -55,10 +55,9 @@ fn push_shared(
 }
 
 /// A list of environment variables that a record holds, each a name and its value, in order. A name
-/// may stand twice. Contracts see the list of pairs of texts.
+/// may occur twice. Contracts see the list of pairs of texts.
 ///
-/// It is made of a `Vec<(String, String)>` without memory. A list can share its pairs with its copies:
-/// `share` says how.
+/// `from_vec` doesn't allocate. A list can share its pairs with its copies: see `share`.
 #[derive(Drop)]
 pub struct Variables {
     pairs: Pairs,
@@ -98,7 +97,8 @@ impl Variables {
         self.pairs.as_slice()
     }
 
-    /// Gives the pairs as a `Vec`. Pairs that another list shares are copied; else it takes no memory.
+    /// The pairs as a `Vec`. It copies pairs that another list shares, which may fail. Otherwise it doesn't allocate and
+    /// never fails; no clause says so.
     pub fn into_vec(self) -> Result<Vec<(String, String)>, AllocError>
         ensures { IfOk result (λ pairs. map pair_of pairs.items ≡ self) }
     {
@@ -108,9 +108,8 @@ impl Variables {
         }
     }
 
-    /// An equal list, of which a copy by `try_clone` takes no memory: the list and its copies share the pairs. A
-    /// shared list takes memory to copy its pairs when it is changed or given back as a `Vec`, if another one still
-    /// shares them.
+    /// An equal list that shares its pairs with its copies, so that `try_clone` doesn't allocate. `push` and `into_vec`
+    /// copy the pairs first if another list still shares them.
     pub fn share(self, alloc: Global) -> Result<Variables, AllocError>
         ensures { IfOk result (λ v. v ≡ self) }
     {
@@ -144,7 +143,7 @@ impl Variables {
         self.as_slice().iter()
     }
 
-    /// Puts the pair of `name` and `value` last. On an error the pairs stay as they were.
+    /// Appends the pair of `name` and `value`. On an error the pairs are unchanged.
     pub fn push(&mut self, name: String, value: String) -> Result<(), AllocError>
         ensures ok { OnOk result (self.new ≡ self.old ++ (string_bytes name, string_bytes value) ∷ []) }
         ensures err { OnErr result (self.new ≡ self.old) }

@@ -11,7 +11,7 @@ use std::slice;
 
 /// A list of words that a record holds, in order, seen in contracts as the list of their texts.
 ///
-/// It is made of a `Vec<String>` and gives it back without memory.
+/// `from_vec` and `into_vec` don't allocate.
 #[derive(Debug, Drop)]
 pub struct Words {
     words: Vec<String>,
@@ -86,7 +86,7 @@ impl Words {
         self.words.iter()
     }
 
-    /// Puts `word` last. On an error the words stay as they were.
+    /// Appends `word`. On an error the words are unchanged.
     pub fn push(&mut self, word: String) -> Result<(), AllocError>
         ensures ok { OnOk result (self.new ≡ self.old ++ string_bytes word ∷ []) }
         ensures err { OnErr result (self.new ≡ self.old) }
@@ -95,7 +95,7 @@ impl Words {
         Ok(())
     }
 
-    /// Puts two words last. On an error the words stay as they were.
+    /// Appends two words. On an error the words are unchanged.
     pub fn push_two(&mut self, first: String, second: String) -> Result<(), AllocError>
         ensures ok { OnOk result (self.new ≡ self.old ++ string_bytes first ∷ string_bytes second ∷ []) }
         ensures err { OnErr result (self.new ≡ self.old) }
@@ -106,7 +106,7 @@ impl Words {
         Ok(())
     }
 
-    /// Puts a copy of `word` last. On an error the words stay as they were.
+    /// Appends a copy of `word`. On an error the words are unchanged.
     pub fn push_str(&mut self, alloc: Global, word: &str) -> Result<(), AllocError>
         ensures ok { OnOk result (self.new ≡ self.old ++ word.now ∷ []) }
         ensures err { OnErr result (self.new ≡ self.old) }
@@ -114,8 +114,7 @@ impl Words {
         self.push(String::from_str(alloc, word)?)
     }
 
-    /// Puts copies of two words last, as an option and its value. On an error the words stay as they
-    /// were.
+    /// Appends copies of two words, such as an option and its value. On an error the words are unchanged.
     pub fn push_pair(&mut self, alloc: Global, first: &str, second: &str) -> Result<(), AllocError>
         ensures ok { OnOk result (self.new ≡ self.old ++ first.now ∷ second.now ∷ []) }
         ensures err { OnErr result (self.new ≡ self.old) }
@@ -126,7 +125,7 @@ impl Words {
         )
     }
 
-    /// Puts a copy of each of `words` last, in order, as `extend` does.
+    /// Appends a copy of each of `words`, in order: `extend` by another name.
     pub fn push_copies(&mut self, alloc: Global, words: &[String]) -> Result<(), AllocError>
         ensures ok { OnOk result (self.new ≡ self.old ++ map string_bytes words.now) }
         ensures err { OnErr result (self.new ≡ self.old) }
@@ -134,7 +133,7 @@ impl Words {
         self.extend(alloc, words)
     }
 
-    /// Puts the words of `more` last, in order. On an error the words stay as they were.
+    /// Appends the words of `more`, in order. On an error the words are unchanged.
     pub fn append(&mut self, more: Words) -> Result<(), AllocError>
         ensures ok { OnOk result (self.new ≡ self.old ++ more) }
         ensures err { OnErr result (self.new ≡ self.old) }
@@ -143,8 +142,8 @@ impl Words {
         self.words.append(&mut words)
     }
 
-    /// Puts a copy of each of `words` last, in order, after it has made the room for all of them. The
-    /// copies take their memory where the list has its own. On an error the words stay as they were.
+    /// Appends a copy of each of `words`, in order. The copies use the list's own allocator. On an error the words
+    /// are unchanged.
     pub fn extend(&mut self, _alloc: Global, words: &[String]) -> Result<(), AllocError>
         ensures ok { OnOk result (self.new ≡ self.old ++ map string_bytes words.now) }
         ensures err { OnErr result (self.new ≡ self.old) }

@@ -61,7 +61,7 @@ fn two_words(alloc: Global, first: &str, second: &str) -> Result<Words, AllocErr
 impl Gathered {
     ghost use Rattle.cuda_below.specs.GccSteps.{asked_by, with_item, with_words, with_note};
 
-    /// Nothing is asked for.
+    /// The line asks for nothing.
     pub fn new(alloc: Global) -> Gathered
         ensures { asked_by result ≡ spec.asked_of [] false [] }
     {

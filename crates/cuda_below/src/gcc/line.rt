@@ -89,7 +89,7 @@ fn line_words(alloc: Global, parsed_args: &ParsedArguments, obj: &Text) -> Resul
 /// unhashed ones, the common ones, those that name architectures, and the input, after `--` if it
 /// stood after one. The other parts are as handed in.
 ///
-/// Refuses arguments without an output `obj`: `MissingOutput`, before any memory is asked for.
+/// Refuses arguments without an output `obj`: `MissingOutput`, before it allocates anything.
 pub fn generate_compile_commands(
     alloc: Global,
     executable: &str,

@@ -1,4 +1,4 @@
-//! Running the commands that an nvcc call stands for.
+//! Running the commands of an nvcc call.
 
 ghost use Rattle.std.specs.Prelude.{◌≡◌};
 ghost use Rattle.std.specs.Option.{option_copied};
@@ -54,17 +54,17 @@ impl NvccCompileCommand {
         )
     }
 
-    /// Runs what the call stands for, and answers the joined output.
+    /// Runs the commands of the call, and returns the joined output.
     ///
-    /// `dry1` and `dry2` are what the two commands of `dryrun_commands` print on standard error. They are
-    /// planned by `group_nvcc_subcommands_by_compilation_stage`, with `which` and `suffixes`, before anything
+    /// `dry1` and `dry2` are what the two commands of `dryrun_commands` print on standard error.
+    /// `group_nvcc_subcommands_by_compilation_stage` plans them, with `which` and `suffixes`, before anything
     /// runs. The plan's groups run in chunks: the front group, the device groups by `num_parallel` at a time,
-    /// at least one and at most all of them, and the final group. `runner` is handed each command once, with its
+    /// at least one and at most all of them, and the final group. `runner` receives each command once, with its
     /// place, one after the other.
     ///
-    /// A command fails if its answer's output isn't a success. Its group then stops, and the groups behind its
-    /// chunk don't run, but the other groups of its chunk do. The outputs' texts are joined in the order of the
-    /// places, and the first failure's status is kept.
+    /// A command fails if its answer's output isn't a success. Then its group stops and no later chunk runs, but
+    /// the other groups of its chunk do. The outputs' texts are joined in the order of the places, and the first
+    /// failure's status is kept.
     ///
     /// The runner's account says what ran: what it gains is
     /// - with an output, every command of the plan, none of which failed;
