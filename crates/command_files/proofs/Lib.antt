@@ -1,3 +1,4 @@
+pub mod NeedLemmas
 pub mod OrderLemmas
 pub mod OrderNeedLemmas
-pub mod NeedLemmas
+pub mod PartLemmas

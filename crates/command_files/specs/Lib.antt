@@ -1,3 +1,4 @@
+pub mod CommandFiles
 pub mod Files
 pub mod Order
 pub mod OrderNeeds

@@ -1,0 +1,26 @@
+-- Paths of words, one more at a time; the parts of an image, cut at its first comma.
+use Rattle.std.proofs.Common.{◌≡◌, ℕ, List, [], ◌∷◌, ◌++◌, append_assoc, sym, Option, Some, None, Bor, MatchOption, refl, ap, ◌∙◌, ◌<◌, length, false, eqb, get_or, arith}
+use Rattle.std.specs.List.{All}
+use Rattle.std.proofs.lemmas.Bool.{ne_eqb}
+use Rattle.std.proofs.lemmas.Grind.{get_or_default_zero}
+use Rattle.std.proofs.lemmas.List.Splits.{slice_split_none, slice_split_at}
+use Rattle.std.proofs.lemmas.Str.Pattern.{IsSplitOnceResult, split_parts}
+use Rattle.command_files.specs.CommandFiles.{joined_option, paths_by, parts_of}
+
+all-other : (c : ℕ) (xs : List ℕ) → ((i : ℕ) → i < length xs → get_or xs i 0 ≡ c → ⊥) → All (λ b. eqb b c ≡ false) xs
+all-other c xs h = λ k d within. ap (λ x. eqb x c) (get_or_default_zero xs k d within) ∙ ne_eqb (get_or xs k 0) c (h k within)
+
+pub first-part : (image : List ℕ) (r : Option (Bor (List ℕ) × Bor (List ℕ))) → IsSplitOnceResult 44 image r → MatchOption r (parts_of image ≡ image ∷ []) (λ x. parts_of image ≡ x.0.now ∷ parts_of x.1.now)
+first-part image None h =
+    let none : Option (Bor (List ℕ) × Bor (List ℕ)) = None in
+    slice_split_none (λ b. eqb b 44) image (all-other 44 image (split_parts 44 image none h (omega arith)))
+first-part image (Some x) h =
+    let cut = split_parts 44 image (Some x) h (omega arith) in
+    ap parts_of cut.0 ∙ slice_split_at (λ b. eqb b 44) x.0.now 44 x.1.now (all-other 44 x.0.now cut.1) refl
+
+pub paths-step : (cwd : List ℕ) (path_of : List ℕ → Option (List ℕ)) (done new target : List (List ℕ)) (word : List ℕ) (words : List (List ℕ)) (path : Option (List ℕ)) → path_of word ≡ path → new ≡ done ++ joined_option cwd path →
+    done ++ paths_by cwd path_of (word ∷ words) ≡ target → new ++ paths_by cwd path_of words ≡ target
+paths-step cwd path_of done new target word words path is put h =
+    ap (λ t. t ++ paths_by cwd path_of words) (put ∙ ap (λ p. done ++ joined_option cwd p) (sym is))
+    ∙ append_assoc done (joined_option cwd (path_of word)) (paths_by cwd path_of words)
+    ∙ h

@@ -1,0 +1,380 @@
+//! The files that a planned command reads and writes according to its words.
+
+ghost use Rattle.std.specs.Prelude.{◌≡◌, ◌<◌, ◌++◌, ◌∷◌, [], length, map, codes, IfOk, IfSome, MatchOption, OnOk, string_bytes};
+ghost use Rattle.std.specs.Option.{option_copied};
+ghost use Rattle.texts.specs.Lists.{rest_after};
+ghost use Rattle.texts.specs.Path.{file_stem_of};
+ghost use Rattle.cuda_below.specs.Compiler.{reading_of};
+ghost use Rattle.command_files.specs.CommandFiles as spec;
+
+use command_groups::NvccGeneratedSubcommand;
+use cuda_below::arguments::{CompilerArguments, ParsedArguments};
+use cuda_below::compiler::CCompilerImpl;
+use cuda_below::outputs::Outputs;
+use device_lines::cicc::Cicc;
+use device_lines::cudafe::CudaFE;
+use device_lines::ptxas::Ptxas;
+use std::alloc::{AllocError, Global};
+use texts::text::{file_stem, join};
+use texts::words::{Words, word_after};
+
+/// The files that a command reads and writes according to its words, as paths joined to its working directory.
+#[derive(Debug, Drop)]
+pub struct CommandFiles {
+    /// The files that it reads.
+    pub reads: Words,
+    /// The files that it writes.
+    pub writes: Words,
+    /// The files that it may write or leave out.
+    pub may_write: Words,
+    /// Whether the words name all files of the compilation that the command touches. Host compilers also read headers and
+    /// libraries, and a line that can't be read names nothing.
+    pub complete: bool,
+}
+
+/// The programs whose words name files in ways of their own.
+#[derive(Clone, Copy)]
+pub enum Tool {
+    Cicc,
+    Cudafe,
+    Ptxas,
+    Fatbinary,
+    /// nvlink or a host compiler.
+    Other,
+}
+
+// The tool of a program's stem.
+fn tool_of_stem(stem: &str) -> Tool
+    ensures { result ≡ spec.tool_of_name stem.now }
+{
+    match stem {
+        "cicc" => Tool::Cicc,
+        "cudafe++" => Tool::Cudafe,
+        "ptxas" => Tool::Ptxas,
+        "fatbinary" => Tool::Fatbinary,
+        _ => Tool::Other,
+    }
+}
+
+// The tool of a program, by its path.
+fn tool_of(program: &str) -> Tool
+    ensures { result ≡ spec.tool_of_stem (file_stem_of program.now) }
+{
+    match file_stem(program) {
+        None => Tool::Other,
+        Some(stem) => tool_of_stem(stem),
+    }
+}
+
+// Puts a path last, joined to `cwd`, if there is one.
+fn push_joined(
+    alloc: Global,
+    files: &mut Words,
+    cwd: &str,
+    path: Option<&str>,
+) -> Result<(), AllocError>
+    ensures { OnOk result (files.new ≡ files.old ++ spec.joined_option cwd.now (option_copied path.entry)) }
+{
+    match path {
+        None => Ok(()),
+        Some(path) => files.push(join(alloc, cwd, path)?),
+    }
+}
+
+// The paths of the outputs that a command writes for certain.
+fn certain_paths(alloc: Global, outputs: &Outputs) -> Result<Words, AllocError>
+    ensures { IfOk result (λ paths. paths ≡ spec.certain_paths outputs.now) }
+{
+    let mut paths = Words::new(alloc);
+    for (_, file) in outputs.iter() {
+        if !file.optional {
+            paths.push_str(alloc, file.path.as_str())?;
+        }
+    }
+    Ok(paths)
+}
+
+// The paths of the outputs that a command may leave out.
+fn optional_paths(alloc: Global, outputs: &Outputs) -> Result<Words, AllocError>
+    ensures { IfOk result (λ paths. paths ≡ spec.optional_paths outputs.now) }
+{
+    let mut paths = Words::new(alloc);
+    for (_, file) in outputs.iter() {
+        if file.optional {
+            paths.push_str(alloc, file.path.as_str())?;
+        }
+    }
+    Ok(paths)
+}
+
+// The files that a line's arguments read: the input, and the files that count for the outputs.
+fn read_by_arguments(
+    alloc: Global,
+    cwd: &str,
+    parsed: &ParsedArguments,
+) -> Result<Words, AllocError>
+    ensures { IfOk result (λ files. files ≡ (spec.files_of_arguments cwd.now parsed.now).reads) }
+{
+    let mut files = Words::new(alloc);
+    files.push(join(alloc, cwd, parsed.input.as_str())?)?;
+    files.extend(alloc, parsed.extra_hash_files.as_slice())?;
+    Ok(files)
+}
+
+// The files of a line that was read.
+fn files_of_arguments(
+    alloc: Global,
+    cwd: &str,
+    parsed: &ParsedArguments,
+) -> Result<CommandFiles, AllocError>
+    ensures { IfOk result (λ files. files ≡ spec.files_of_arguments cwd.now parsed.now) }
+{
+    Ok(CommandFiles {
+        reads: read_by_arguments(alloc, cwd, parsed)?,
+        writes: certain_paths(alloc, &parsed.outputs)?,
+        may_write: optional_paths(alloc, &parsed.outputs)?,
+        complete: true,
+    })
+}
+
+// No files, of a line that can't be read.
+fn unknown_files(alloc: Global) -> CommandFiles
+    ensures { result ≡ spec.unknown_files }
+{
+    CommandFiles {
+        reads: Words::new(alloc),
+        writes: Words::new(alloc),
+        may_write: Words::new(alloc),
+        complete: false,
+    }
+}
+
+// The files of what a line was read as.
+fn files_of_reading(
+    alloc: Global,
+    cwd: &str,
+    reading: &CompilerArguments<ParsedArguments>,
+) -> Result<CommandFiles, AllocError>
+    ensures { IfOk result (λ files. files ≡ spec.files_of_reading cwd.now (reading_of reading.now)) }
+{
+    match reading {
+        CompilerArguments::Ok(parsed) => files_of_arguments(alloc, cwd, parsed),
+        _ => Ok(unknown_files(alloc)),
+    }
+}
+
+// The files of a line, as a tool reads it.
+fn files_by_reader<C: CCompilerImpl>(
+    alloc: Global,
+    tool: &C,
+    cwd: &str,
+    words: &[String],
+) -> Result<CommandFiles, AllocError>
+    ensures { IfOk result (λ files. files ≡ spec.files_of_reading cwd.now (C.reading tool.now (map string_bytes words.now) cwd.now [])) }
+{
+    let reading = tool.parse_arguments(alloc, words, cwd, &[])?;
+    let files = files_of_reading(alloc, cwd, &reading);
+    // Dropped by a call: see "Explicit drops" in docs/ARCHITECTURE.md.
+    drop(reading);
+    files
+}
+
+// The files of a cicc line.
+fn cicc_files(alloc: Global, cwd: &str, words: &[String]) -> Result<CommandFiles, AllocError>
+    ensures { IfOk result (λ files. files ≡ spec.cicc_files cwd.now (map string_bytes words.now)) }
+{
+    let reader = Cicc { version: None };
+    let mut files = files_by_reader(alloc, &reader, cwd, words)?;
+    push_joined(alloc, &mut files.writes, cwd, word_after(words, "-olto"))?;
+    Ok(files)
+}
+
+// The files of a cudafe++ line.
+fn cudafe_files(alloc: Global, cwd: &str, words: &[String]) -> Result<CommandFiles, AllocError>
+    ensures { IfOk result (λ files. files ≡ spec.cudafe_files cwd.now (map string_bytes words.now)) }
+{
+    let reader = CudaFE { version: None };
+    files_by_reader(alloc, &reader, cwd, words)
+}
+
+// The files of a ptxas line.
+fn ptxas_files(alloc: Global, cwd: &str, words: &[String]) -> Result<CommandFiles, AllocError>
+    ensures { IfOk result (λ files. files ≡ spec.ptxas_files cwd.now (map string_bytes words.now)) }
+{
+    let reader = Ptxas { version: None };
+    files_by_reader(alloc, &reader, cwd, words)
+}
+
+// What follows a text that a word begins with.
+fn rest_of<'a>(word: &'a str, text: &str) -> Option<&'a str>
+    ensures { option_copied result ≡ rest_after text.now word.now }
+{
+    word.strip_prefix(text)
+}
+
+// Puts the paths last that words give behind a text that they begin with, joined to `cwd`.
+fn push_paths_behind(
+    alloc: Global,
+    files: &mut Words,
+    cwd: &str,
+    text: &str,
+    words: &[String],
+) -> Result<(), AllocError>
+    ensures { OnOk result (files.new ≡ files.old ++ spec.paths_behind cwd.now text.now (map string_bytes words.now)) }
+{
+    for word in words {
+        push_joined(alloc, files, cwd, rest_of(word.as_str(), text))?;
+    }
+    Ok(())
+}
+
+// The first part of an image, and what stands behind its comma; `None` if all of it is one part.
+fn first_part(image: &str) -> Option<(&str, &str)>
+    ensures parts { MatchOption result (spec.parts_of image.now ≡ image.now ∷ []) (λ cut. spec.parts_of image.now ≡ cut.0.now ∷ spec.parts_of cut.1.now) }
+    ensures less { IfSome result (λ cut. length cut.1.now < length image.now) }
+{
+    image.split_once(',')
+}
+
+// The file of an image.
+fn file_of_image(image: &str) -> Option<&str>
+    ensures { option_copied result ≡ spec.file_of_parts (spec.parts_of image.now) }
+{
+    let mut rest = image;
+    while let Some((part, behind)) = first_part(rest) {
+        if let Some(path) = rest_of(part, "file=") {
+            return Some(path);
+        }
+        rest = behind;
+    }
+    rest_of(rest, "file=")
+}
+
+// The file of a word that names an image.
+fn image_file(word: &str) -> Option<&str>
+    ensures { option_copied result ≡ spec.image_file word.now }
+{
+    file_of_image(rest_of(word, "--image")?)
+}
+
+// The files of the images that words name, joined to `cwd`.
+fn image_files(alloc: Global, cwd: &str, words: &[String]) -> Result<Words, AllocError>
+    ensures { IfOk result (λ files. files ≡ spec.image_files cwd.now (map string_bytes words.now)) }
+{
+    let mut files = Words::new(alloc);
+    for word in words {
+        push_joined(alloc, &mut files, cwd, image_file(word.as_str()))?;
+    }
+    Ok(files)
+}
+
+// The files that a fatbinary line writes.
+fn written_by_fatbinary(alloc: Global, cwd: &str, words: &[String]) -> Result<Words, AllocError>
+    ensures { IfOk result (λ files. files ≡ (spec.fatbinary_files cwd.now (map string_bytes words.now)).writes) }
+{
+    let mut files = Words::new(alloc);
+    push_paths_behind(alloc, &mut files, cwd, "--create=", words)?;
+    push_paths_behind(alloc, &mut files, cwd, "--embedded-fatbin=", words)?;
+    Ok(files)
+}
+
+// The files of a fatbinary line.
+fn fatbinary_files(alloc: Global, cwd: &str, words: &[String]) -> Result<CommandFiles, AllocError>
+    ensures { IfOk result (λ files. files ≡ spec.fatbinary_files cwd.now (map string_bytes words.now)) }
+{
+    Ok(CommandFiles {
+        reads: image_files(alloc, cwd, words)?,
+        writes: written_by_fatbinary(alloc, cwd, words)?,
+        may_write: Words::new(alloc),
+        complete: true,
+    })
+}
+
+// The word right before the first that is `option`.
+fn word_before<'a>(words: &'a [String], option: &str) -> Option<&'a str>
+    ensures { option_copied result ≡ spec.word_before option.now None (map string_bytes words.now) }
+{
+    let mut before = None;
+    for word in words {
+        if option == word.as_str() {
+            return before;
+        }
+        before = Some(word.as_str());
+    }
+    None
+}
+
+// The word itself, if it is no option.
+fn no_option(word: &str) -> Option<&str>
+    ensures { option_copied result ≡ spec.no_option word.now }
+{
+    if word.is_empty() || word.as_bytes().starts_with(b"-") {
+        None
+    } else {
+        Some(word)
+    }
+}
+
+// The input of a host compiler's line: the word right before `-o`.
+fn host_input(words: &[String]) -> Option<&str>
+    ensures { option_copied result ≡ spec.host_input (map string_bytes words.now) }
+{
+    no_option(word_before(words, "-o")?)
+}
+
+// The files that an nvlink line or a host compiler's line writes.
+fn written_by_host(alloc: Global, cwd: &str, words: &[String]) -> Result<Words, AllocError>
+    ensures { IfOk result (λ files. files ≡ (spec.host_files cwd.now (map string_bytes words.now)).writes) }
+{
+    let mut files = Words::new(alloc);
+    push_joined(alloc, &mut files, cwd, word_after(words, "-o"))?;
+    push_paths_behind(alloc, &mut files, cwd, "--register-link-binaries=", words)?;
+    Ok(files)
+}
+
+// The files that an nvlink line or a host compiler's line reads: its input.
+fn read_by_host(alloc: Global, cwd: &str, words: &[String]) -> Result<Words, AllocError>
+    ensures { IfOk result (λ files. files ≡ (spec.host_files cwd.now (map string_bytes words.now)).reads) }
+{
+    let mut files = Words::new(alloc);
+    push_joined(alloc, &mut files, cwd, host_input(words))?;
+    Ok(files)
+}
+
+// The files of an nvlink line or a host compiler's line.
+fn host_files(alloc: Global, cwd: &str, words: &[String]) -> Result<CommandFiles, AllocError>
+    ensures { IfOk result (λ files. files ≡ spec.host_files cwd.now (map string_bytes words.now)) }
+{
+    Ok(CommandFiles {
+        reads: read_by_host(alloc, cwd, words)?,
+        writes: written_by_host(alloc, cwd, words)?,
+        may_write: Words::new(alloc),
+        complete: false,
+    })
+}
+
+/// The files that a planned command reads and writes according to its words.
+///
+/// Lines of cicc, ptxas and cudafe++ are read by their readers in `device_lines`: the input and the files that count for
+/// the outputs are read, the outputs are written. cicc also writes what follows `-olto`. fatbinary reads the `file=` parts
+/// of its `--image` words and writes what stands behind `--create=` and `--embedded-fatbin=`. Any other program writes
+/// what follows its first `-o` (nvlink also what stands behind `--register-link-binaries=`) and reads the word before
+/// that, if it is no option; it may read other files too.
+///
+/// Programs are known by the stem of their path's file name.
+pub fn files_of(
+    alloc: Global,
+    command: &NvccGeneratedSubcommand,
+) -> Result<CommandFiles, AllocError>
+    ensures { IfOk result (λ files. files ≡ spec.files_of_words command.now.exe command.now.args command.now.cwd) }
+{
+    let words = command.args.as_slice();
+    let cwd = command.cwd.as_str();
+    match tool_of(command.exe.as_str()) {
+        Tool::Cicc => cicc_files(alloc, cwd, words),
+        Tool::Cudafe => cudafe_files(alloc, cwd, words),
+        Tool::Ptxas => ptxas_files(alloc, cwd, words),
+        Tool::Fatbinary => fatbinary_files(alloc, cwd, words),
+        Tool::Other => host_files(alloc, cwd, words),
+    }
+}
