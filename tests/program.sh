@@ -389,16 +389,16 @@ closed_streams() {
 
 # ---- zigrunk
 
-# calls_text DEPENDENCIES WORDS FLAG THREADS KEEP: what an nvcc line at /w gives, of these words before those of the dry
+# calls_text DEPENDENCIES WORDS FLAG JOBS KEEP: what an nvcc line at /w gives, of these words before those of the dry
 # runs. No word of it needs quotes.
 calls_text() {
     local begin="'( unset NVCC_PREPEND_FLAGS NVCC_APPEND_FLAGS; cd /w && nvcc" dependencies="''"
     [ -z "$1" ] || dependencies="$begin $1 )'"
     lines "dependencies=$dependencies" "first_dry_run=$begin $2 --dryrun --keep )'" \
-        "second_dry_run=$begin $2 --keep-dir /t --dryrun --keep )'" "flag=$3" "threads=$4" "keep_dir=$5"
+        "second_dry_run=$begin $2 --keep-dir /t --dryrun --keep )'" "flag=$3" "jobs=$4" "keep_dir=$5"
 }
 
-# reads NAME DEPENDENCIES WORDS FLAG THREADS KEEP WORD..: a line that is read so.
+# reads NAME DEPENDENCIES WORDS FLAG JOBS KEEP WORD..: a line that is read so.
 reads() {
     local name=$1 text
     text=$(calls_text "$2" "$3" "$4" "$5" "$6")
@@ -412,7 +412,7 @@ nvcc_lines() {
     reads 'a compilation and its dependency file' '-c -x cu k.cu -M -MF k.d -MT k.o' '-x cu -o k.o -c k.cu' -c "''" "''" \
         -MD -MF k.d -c k.cu -o k.o
     reads 'a number of threads' '' '-x cu -o k.o -c k.cu' -c 4 "''" --threads=4 -c k.cu -o k.o
-    reads 'no threads' '' '-x cu -o k.o -c k.cu' -c 0 "''" -t0 -c k.cu -o k.o
+    reads 'no threads' '' '-x cu -o k.o -c k.cu' -c "''" "''" -t0 -c k.cu -o k.o
     reads 'one thread' '' '-x cu -o k.o -c k.cu' -c 1 "''" --threads 1 -c k.cu -o k.o
     reads 'kept files' '' '-x cu -o k.o -c k.cu' -c "''" /w --keep -c k.cu -o k.o
     reads 'files kept in a folder' '' '-x cu -o k.o -c k.cu' -c "''" /w/out --keep --keep-dir out -c k.cu -o k.o
@@ -422,6 +422,53 @@ nvcc_lines() {
     reads 'a source by its whole path' '' '-x cu -o k.o -c /s/k.cu' -c "''" "''" -c /s/k.cu -o k.o
     NVCC_PREPEND_FLAGS='-O1 -g' NVCC_APPEND_FLAGS=-O2 reads 'words of the environment' '' '-x cu -o k.o -O1 -g -O2 -c k.cu' -c "''" "''" \
         -c k.cu -o k.o
+}
+
+# how many commands Ninja runs at once
+jobs_at_once() {
+    local line='-x cu -o k.o -c k.cu'
+    ZIGRUNK_JOBS=3 reads 'a number of jobs' '' "$line" -c 3 "''" -c k.cu -o k.o
+    ZIGRUNK_JOBS=0 reads 'Ninja chooses' '' "$line" -c "''" "''" --threads 4 -c k.cu -o k.o
+    ZIGRUNK_JOBS=two reads 'no number of jobs' '' "$line" -c 4 "''" --threads 4 -c k.cu -o k.o
+    MAKEFLAGS='n -j8 --jobserver-auth=fifo:/tmp/GMfifo1' reads 'a job of make' '' "$line" -c 1 "''" --threads 4 -c k.cu -o k.o
+    MAKEFLAGS=' -j8 --jobserver-fds=3,4' reads 'a job of an older make' '' "$line" -c 1 "''" -c k.cu -o k.o
+    MAKEFLAGS=' -j1' reads 'a make without a job server' '' "$line" -c "''" "''" -c k.cu -o k.o
+    MAKEFLAGS=' --jobserver-auth=3,4' ZIGRUNK_JOBS=2 reads 'a number of jobs under make' '' "$line" -c 2 "''" -c k.cu -o k.o
+}
+
+# named NAME TEXT WORD..: a call whose directory is named by the digest of this text.
+named() {
+    local name=$1 digest
+    digest=$(printf '%s' "$2" | sha256sum)
+    shift 2
+    check "$name" 0 "zigrunk-${digest%% *}"$'\n' '' directory "$@"
+}
+
+# names of the directories of calls
+directories() {
+    named 'the directory of a call' '2:/w4:nvcc0:0:2:-c4:k.cu' /w nvcc -c k.cu
+    named 'the directory of a call without words' '2:/w4:nvcc0:0:' /w nvcc
+    named 'the directory of odd words' '0:0:0:0:0:3:é:' '' '' '' 'é:'
+    NVCC_PREPEND_FLAGS=-O1 NVCC_APPEND_FLAGS='-g x' named 'the directory of a call with both variables' '2:/w4:nvcc3:-O14:-g x4:k.cu' /w nvcc k.cu
+}
+
+# alike WORD..: a call that both programs take, and answer alike.
+alike() {
+    local out err status
+    out=$("$cudaplan" "$@" 2> "$scratch/cudaplan.err"; status=$?; printf .; exit "$status")
+    status=$?
+    err=$(sed 's/^cudaplan: /zigrunk: /' "$scratch/cudaplan.err"; printf .)
+    check "zigrunk $1 as cudaplan" "$status" "${out%.}" "${err%.}" "$@"
+}
+
+forms_of_cudaplan() {
+    alike line cicc /w -D 'a b' k.cpp1.ii -o k.ptx
+    alike line ptxas /w a b
+    alike line cicc /w k.cpp1.ii
+    alike plan /w /t -c "$data/one_kernel.dry1" "$data/one_kernel.dry2"
+    alike plan /w /t -c "$data/one_kernel.dry1" "$scratch/missing"
+    alike plan /w /t -c "$data/bad_last_line.dry1" "$data/one_kernel.dry1"
+    alike plan /w /t -c "$data/one_kernel.dry1" "$data/one_kernel.dry2" .ii
 }
 
 # odd words of an nvcc line, which a shell reads back
@@ -506,7 +553,7 @@ plan_files() {
     local bin=$scratch/bin text env cached
     env="env 'PATH=$scratch/none:$bin'"
     cached="$env \$\${ZIGRUNK_LAUNCHER-} $bin"
-    text=$(lines 'tmp = /t' "builddir = \${tmp}" 'rule run' "  command = \${line}")
+    text=$(lines 'tmp = /t' "builddir = \${tmp}" 'rule run' '  command = ${line} || { code=$$?; echo $$code > ${out}.status; exit $$code; }')
     text=${text%.}$(
         edge 0.0 '' "/w && $env $bin/gcc -D__CUDACC__ -E k.cu -o x_0.cpp4.ii"
         edge 0.1 " \${tmp}/zigrunk.0.0" "/t && $cached/cudafe++ --gen_module_id_file --module_id_file_name k.id x_0.cpp4.ii"
@@ -520,6 +567,34 @@ plan_files() {
     run_of short '#$ g++ "a b"'
     check 'a plan as JSON' 0 "{\"dropped\":[{\"args\":[\"a b\"],\"exe\":\"$bin/g++\",\"line\":1,\"reason\":\"NotCuda\",\"run\":2}],\"groups\":[[],[]]}"$'\n' '' \
         json /w /t -c "$scratch/short" "$scratch/short"
+}
+
+# plans that have to be whole
+whole_plans() {
+    run_of whole "${KERNEL[@]:0:7}"
+    "$program" ninja /w /t -c "$scratch/whole" "$scratch/whole" > "$scratch/want"
+    check 'a whole plan' 0 "$(cat "$scratch/want")"$'\n' '' ninja --whole /w /t -c "$scratch/whole" "$scratch/whole"
+    "$program" ninja --keep /w /t -c "$scratch/whole" "$scratch/whole" > "$scratch/want"
+    check 'a whole plan with names kept' 0 "$(cat "$scratch/want")"$'\n' '' ninja --keep --whole /w /t -c "$scratch/whole" "$scratch/whole"
+    check 'a plan that dropped a command' 1 '' $'zigrunk: the plan dropped a command\n' ninja --whole /w /t -c "$scratch/kernel" "$scratch/kernel"
+    run_of nothing
+    check 'a plan without commands' 1 '' $'zigrunk: the plan has no command\n' ninja --whole /w /t -c "$scratch/nothing" "$scratch/nothing"
+    check 'a plan of one run' 1 '' $'zigrunk: the plan has no command\n' json --whole /w /t -c "$scratch/short" "$scratch/short"
+}
+
+# a command that fails leaves its status beside its stamp
+statuses() {
+    local tmp=$scratch/build line
+    mkdir -p "$tmp"
+    run_of status_run '#$ gcc -D__NVCC__ -E k.cu -o k.cpp1.ii'
+    printf '#!/bin/sh\nexit 7\n' > "$scratch/bin/gcc"
+    "$program" ninja "$scratch" "$tmp" -c "$scratch/status_run" "$scratch/status_run" > "$scratch/graph"
+    line=$(sed -n 's/^  line = //p' "$scratch/graph" | sed 's/\$\$/$/g')
+    line=$line out=$tmp/zigrunk.1.0 sh -c "$(sed -n 's/^  command = //p' "$scratch/graph" | sed -e 's/\$\$/$/g' -e "s/\${line}/eval \"\$line\"/")"
+    echo $? > "$scratch/status"
+    cat "$tmp/zigrunk.1.0.status" > "$scratch/out"
+    : > "$scratch/err"
+    judge 'the status of a command that failed' 7 $'7\n' ''
 }
 
 # plans that aren't written
@@ -557,13 +632,15 @@ zigrunk_pages() {
     "$program" --help > "$scratch/help" 2> "$scratch/err"
     echo $? > "$scratch/status"
     head -n 3 "$scratch/help" > "$scratch/out"
-    judge 'the help' 0 "usage: zigrunk shell|ninja|json [--keep] CWD TMP FLAG DRY1 DRY2 SUFFIX..
+    judge 'the help' 0 "usage: zigrunk shell|ninja|json [--keep] [--whole] CWD TMP FLAG DRY1 DRY2 SUFFIX..
        zigrunk calls CWD TMP NVCC WORD..
-       zigrunk --help | --version
+       zigrunk directory CWD NVCC WORD..
 " ''
-    local usage=$'usage: zigrunk shell|ninja|json [--keep] CWD TMP FLAG DRY1 DRY2 SUFFIX.. | calls CWD TMP NVCC WORD.. | --help | --version\n' format
+    local usage=$'usage: zigrunk shell|ninja|json [--keep] [--whole] CWD TMP FLAG DRY1 DRY2 SUFFIX.. | calls CWD TMP NVCC WORD.. | directory CWD NVCC WORD.. | line TOOL CWD WORD.. | plan CWD TMP FLAG DRY1 DRY2 SUFFIX.. | --help | --version\n' format
     check 'no words for zigrunk' 2 '' "$usage"
-    check 'a verb of cudaplan' 2 '' "$usage" plan /w /t -c "$scratch/kernel" "$scratch/kernel"
+    check 'a directory without nvcc' 2 '' "$usage" directory /w
+    check 'a line of another tool' 2 '' "$usage" line nvcc /w -c k.cu
+    check 'a plan with one file' 2 '' "$usage" plan /w /t -c "$scratch/kernel"
     check 'help and a word' 2 '' "$usage" --help me
     check 'version and a word' 2 '' "$usage" --version 1
     check 'calls without nvcc' 2 '' "$usage" calls /w /t
@@ -590,14 +667,20 @@ long_lines
 slow_streams
 short_streams
 closed_streams
+cudaplan=$program
 program=$zigrunk
-unset NVCC_PREPEND_FLAGS NVCC_APPEND_FLAGS
+unset NVCC_PREPEND_FLAGS NVCC_APPEND_FLAGS ZIGRUNK_JOBS MAKEFLAGS
 nvcc_lines
+jobs_at_once
+directories
+forms_of_cudaplan
 odd_nvcc_words
 refused_nvcc_lines
 kernel_programs
 plan_scripts
 plan_files
+whole_plans
+statuses
 refused_exports
 zigrunk_pages
 echo "$passed passed, $failed failed"
