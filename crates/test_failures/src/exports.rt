@@ -1,9 +1,10 @@
 //! Plans as other tools read them: a shell, Ninja, and readers of JSON.
 
+use cuda_plans::compiler::NvccHostCompiler;
 use cuda_plans::dry_run::FirstDir;
 use cuda_plans::plan::Plan;
 use plan_exports::{Refusal, json_text, ninja_file, shell_script};
-use plan_texts::plan_runs;
+use programs::plan_dry_runs;
 use std::alloc::Global;
 use texts::fault::Fault;
 
@@ -28,7 +29,7 @@ b' && env 'PATH=/b' /b/gcc -D__NVCC__ -E k.cu -o x_0.cpp1.ii )
 const NINJA: &str = "tmp = /t
 builddir = ${tmp}
 rule run
-  command = ${line}
+  command = ${line} || { code=$$?; echo $$code > ${out}.status; exit $$code; }
 build ${tmp}/zigrunk.1.0: run
   line = ( cd /w && env 'PATH=/b' /b/gcc -D__NVCC__ -E k.cu -o x_0.cpp1.ii ) && touch /t/zigrunk.1.0
 build ${tmp}/zigrunk.1.1: run ${tmp}/zigrunk.1.0
@@ -41,7 +42,7 @@ const JSON: &str =
 
 // The plan of the dry run in a working directory.
 fn plan(alloc: Global, cwd: &str) -> Result<Plan, Fault> {
-    plan_runs(
+    plan_dry_runs(
         alloc,
         cwd,
         "/t",
@@ -50,6 +51,8 @@ fn plan(alloc: Global, cwd: &str) -> Result<Plan, Fault> {
         DRY_RUN,
         DRY_RUN,
         &[],
+        &[],
+        NvccHostCompiler::Gcc,
         &FirstDir,
     )
 }

@@ -1,7 +1,8 @@
 //! Writers that fail, at any of their writes.
 
 use crate::one_kernel::ONE_KERNEL;
-use plan_texts::{Stop, Tool, run_line, run_plan};
+use plan_texts::Tool;
+use programs::{Stop, write_line, write_plan};
 use std::alloc::Global;
 use std::io::{self, Write};
 use texts::words::Words;
@@ -29,36 +30,36 @@ impl Write for Failing {
 }
 
 // Writes a line of cicc: nineteen bytes, with a newline behind each word.
-fn write_line(alloc: Global, writer: &mut Failing) -> Result<(), Stop> {
+fn fail_line(alloc: Global, writer: &mut Failing) -> Result<(), Stop> {
     let mut words = Words::new(alloc);
     words.push_pair(alloc, "k.cpp1.ii", "-o")?;
     words.push_str(alloc, "k.ptx")?;
-    run_line(alloc, Tool::Cicc, "/w", words.as_slice(), writer)
+    write_line(alloc, Tool::Cicc, "/w", words.as_slice(), writer)
 }
 
 #[test]
 fn lines_stop_at_each_write(rt: HostRuntime) {
     for writes in 0..2 {
-        let ended = write_line(rt.alloc(), &mut Failing { writes });
+        let ended = fail_line(rt.alloc(), &mut Failing { writes });
         assert!(rt; matches!(&ended, Err(Stop::Write)));
     }
     let mut writer = Failing { writes: 2 };
-    assert!(rt; write_line(rt.alloc(), &mut writer).is_ok());
+    assert!(rt; fail_line(rt.alloc(), &mut writer).is_ok());
     assert!(rt; writer.writes == 0);
 }
 
 // Writes the plan of one kernel: 895 bytes.
-fn write_plan(alloc: Global, writer: &mut Failing) -> Result<(), Stop> {
-    run_plan(alloc, "/w", "/t", "-c", ONE_KERNEL, ONE_KERNEL, &[], writer)
+fn fail_plan(alloc: Global, writer: &mut Failing) -> Result<(), Stop> {
+    write_plan(alloc, "/w", "/t", "-c", ONE_KERNEL, ONE_KERNEL, &[], writer)
 }
 
 #[test]
 fn plans_stop_at_each_write(rt: HostRuntime) {
     for writes in 0..56 {
-        let ended = write_plan(rt.alloc(), &mut Failing { writes });
+        let ended = fail_plan(rt.alloc(), &mut Failing { writes });
         assert!(rt; matches!(&ended, Err(Stop::Write)));
     }
     let mut writer = Failing { writes: 56 };
-    assert!(rt; write_plan(rt.alloc(), &mut writer).is_ok());
+    assert!(rt; fail_plan(rt.alloc(), &mut writer).is_ok());
     assert!(rt; writer.writes == 0);
 }

@@ -11,7 +11,8 @@ use cuda_plans::command::CompileCommandImpl;
 use cuda_plans::compiler::{CCompilerImpl, Places};
 use cuda_plans::cudafe::CudaFE;
 use cuda_plans::ptxas::Ptxas;
-use plan_texts::{Stop, Tool, run_line};
+use plan_texts::Tool;
+use programs::{Stop, write_line};
 use std::alloc::{AllocError, Global};
 use texts::text::Text;
 
@@ -289,7 +290,7 @@ pub fn check_line(alloc: Global, source: &mut Source, tally: &mut Tally) -> Resu
     let cwd = source.pick(&["/w", "/w", "/w/", "/", ".", ""]);
     let words = line(alloc, source, tool)?;
     let mut out = Vec::new(alloc);
-    match run_line(alloc, tool, cwd, words.as_slice(), &mut out) {
+    match write_line(alloc, tool, cwd, words.as_slice(), &mut out) {
         Ok(()) => check_written(alloc, tool, cwd, words.as_slice(), tally),
         Err(stop) => check_refusal(&stop, out.as_slice(), tally),
     }

@@ -4,7 +4,8 @@ use crate::pair::{Pair, Setting};
 use crate::tally::Tally;
 use cuda_plans::compiler::NvccHostCompiler;
 use cuda_plans::dry_run::Suffixes;
-use plan_texts::{Stop, run_plan, show_plan};
+use plan_texts::show_plan;
+use programs::{Stop, write_plan};
 use std::alloc::{AllocError, Global};
 use texts::fault::Fault;
 
@@ -60,7 +61,7 @@ fn check_refused(
 // Prints the plan of a pair.
 fn print(alloc: Global, pair: &Pair, out: &mut Vec<u8>) -> Result<(), Stop> {
     let setting = &pair.setting;
-    run_plan(
+    write_plan(
         alloc,
         setting.cwd,
         setting.tmp,

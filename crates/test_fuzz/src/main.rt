@@ -6,11 +6,13 @@
 
 use call::call_of;
 use cases::run;
-use plan_texts::call_words;
+use programs::call_words;
 use report::report;
+use std::alloc::Global;
 use std::io;
 use std::process::ExitCode;
 use stop::Stop;
+use tally::Tally;
 
 mod call;
 mod cases;
@@ -33,11 +35,18 @@ mod tally;
 mod template;
 mod word;
 
-fn main(rt: HostRuntime) -> ExitCode {
-    let words = call_words(&rt);
-    let answer = match call_of(words.as_slice()) {
-        Some(call) => run(rt.alloc(), &call),
+// Runs the cases that the words ask for.
+fn run_words(alloc: Global, words: &[String]) -> Result<Tally, Stop> {
+    match call_of(words) {
+        Some(call) => run(alloc, &call),
         None => Err(Stop::Usage),
+    }
+}
+
+fn main(rt: HostRuntime) -> ExitCode {
+    let answer = match call_words(&rt) {
+        Ok(words) => run_words(rt.alloc(), words.as_slice()),
+        Err(_) => Err(Stop::Memory),
     };
     let (mut out, mut err) = (rt.stdout(), rt.stderr());
     ExitCode::from(report(rt.alloc(), answer, &mut out, &mut err))

@@ -6,7 +6,7 @@ use command_groups::{Plan, group_nvcc_subcommands_by_compilation_stage};
 use cuda_below::compiler::NvccHostCompiler;
 use cuda_plans::nvcc::NvccCompileCommand;
 use dry_runs::FirstDir;
-use plan_texts::{Stop as PlanStop, run_plan};
+use programs::{Stop as PlanStop, write_plan};
 use std::alloc::{AllocError, Global};
 use test_tables::{Row, Stop};
 use texts::fault::Fault;
@@ -135,7 +135,7 @@ impl<'a> PlanSettings<'a> {
     ) -> Result<Vec<u8>, PlanStop> {
         let mut text = Vec::new(alloc);
         let further = self.handed.suffix_words();
-        run_plan(
+        write_plan(
             alloc, self.cwd, self.tmp, self.flag, first, second, further, &mut text,
         )?;
         Ok(text)

@@ -5,7 +5,7 @@ use crate::plan_settings::PlanSettings;
 use crate::runs::refused_at;
 use command_groups::{Dropped, NvccGeneratedSubcommand, Plan, Reason};
 use cuda_below::command::Cacheable;
-use plan_texts::Stop as PlanStop;
+use programs::Stop as PlanStop;
 use std::alloc::{AllocError, Global};
 use std::fs::Files;
 use test_tables::{Answer, Row, Stop};
