@@ -1,24 +1,34 @@
-//! Times the planner's calls: a tool's line that is read and written back, two dry runs that are planned, a text
-//! that is split, and a dry run that is read, or whose commands are renamed.
+//! Times the planner's calls: reading a tool's line and writing it back, planning two dry runs, splitting a text, reading a
+//! dry run, and renaming its commands.
 #![tactic(auto)]
 
 use call::call_of;
-use plan_texts::call_words;
+use programs::call_words;
 use report::{Stop, report};
+use std::fs::Files;
 use std::io;
 use std::process::ExitCode;
+use std::time::Clock;
+use texts::fault::Fault;
 use timing::mean_of;
 
 mod call;
 mod report;
 mod timing;
 
-fn main(rt: HostRuntime) -> ExitCode {
-    let words = call_words(&rt);
-    let answer = match call_of(words.as_slice()) {
-        Some(call) => mean_of(&rt, &call),
+// The mean time of the call that the words are, in nanoseconds.
+fn mean_of_words<R: Clock + Files + AllocGlobal>(rt: &R, words: &[String]) -> Result<u128, Stop> {
+    match call_of(words) {
+        Some(call) => mean_of(rt, &call),
         None => Err(Stop::Usage),
+    }
+}
+
+fn main(rt: HostRuntime) -> ExitCode {
+    let mean = match call_words(&rt) {
+        Ok(words) => mean_of_words(&rt, words.as_slice()),
+        Err(_) => Err(Stop::Fault(Fault::Memory)),
     };
     let (mut out, mut err) = (rt.stdout(), rt.stderr());
-    ExitCode::from(report(rt.alloc(), answer, &mut out, &mut err))
+    ExitCode::from(report(&mean, &mut out, &mut err))
 }

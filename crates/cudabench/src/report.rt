@@ -1,22 +1,22 @@
 //! What the program prints.
 
-use std::alloc::{AllocError, Global};
+use std::alloc::AllocError;
 use std::fmt;
 use std::io::Write;
 use texts::fault::Fault;
 
-/// Why nothing was timed.
+/// Why the program timed nothing.
 #[derive(Drop)]
 pub enum Stop {
-    /// The call has another form.
+    /// The words are no call.
     Usage,
     /// The line compiles nothing.
     NotCompilation,
-    /// The file's text is not UTF-8, or doesn't split.
+    /// The file isn't UTF-8, or a quote in it is left open.
     NoWords,
-    /// The clock can't be read.
+    /// The program can't read the clock.
     Clock,
-    /// A refusal.
+    /// A line or a file is at fault, or memory ran out.
     Fault(Fault),
 }
 
@@ -46,33 +46,13 @@ impl fmt::Display for Stop {
     }
 }
 
-// Prints the mean nanoseconds, and answers the exit status.
-fn tell_mean<W: Write>(alloc: Global, mean: u128, out: &mut W) -> u8 {
-    match format!(in alloc; "{mean} ns\n") {
-        Ok(text) => u8::from(out.write_all(text.as_bytes()).is_err()),
-        Err(_) => 1,
-    }
-}
-
-// Prints why nothing was timed.
-fn tell_stop<E: Write>(alloc: Global, stop: &Stop, err: &mut E) {
-    if let Ok(text) = format!(in alloc; "{stop}\n") {
-        let _ = err.write_all(text.as_bytes());
-    }
-}
-
-/// Prints the mean nanoseconds to `out`, or why there are none to `err`, and answers the exit status:
-/// 0, 1 where something was refused or `out` fails, 2 for a call of another form.
-pub fn report<W: Write, E: Write>(
-    alloc: Global,
-    answer: Result<u128, Stop>,
-    out: &mut W,
-    err: &mut E,
-) -> u8 {
-    match &answer {
-        Ok(mean) => tell_mean(alloc, *mean, out),
+/// Prints the mean nanoseconds to `out`, or to `err` why there are none. Gives the exit status: 0, 1 on a fault or if `out`
+/// fails, 2 for wrong usage.
+pub fn report<W: Write, E: Write>(answer: &Result<u128, Stop>, out: &mut W, err: &mut E) -> u8 {
+    match answer {
+        Ok(mean) => u8::from(writeln!(out, "{mean} ns").is_err()),
         Err(stop) => {
-            tell_stop(alloc, stop, err);
+            let _ = writeln!(err, "{stop}");
             if matches!(stop, Stop::Usage) { 2 } else { 1 }
         }
     }

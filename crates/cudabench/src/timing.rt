@@ -10,11 +10,11 @@ use cuda_plans::dry_run::{FirstDir, Renames, Suffixes, read_dry_run, remap_gener
 use cuda_plans::plan::group_nvcc_subcommands_by_compilation_stage;
 use cuda_plans::ptxas::Ptxas;
 use cuda_plans::shell;
-use plan_texts::{Tool, read_file};
+use plan_texts::Tool;
+use programs::read_file;
 use std::alloc::{AllocError, Global};
 use std::fs::Files;
 use std::time::{Clock, Instant};
-use texts::bytes::Bytes;
 use texts::text::Text;
 
 // Writes back what a line was read as.
@@ -165,15 +165,15 @@ fn mean_of_plan<R: Clock>(
 }
 
 // The same, of the dry runs of two files, which are read before.
-fn mean_of_planned_files<R: Clock + Files>(
+fn mean_of_planned_files<R: Clock + Files + AllocGlobal>(
     rt: &R,
     alloc: Global,
     count: u64,
     setting: (&str, &str, &str),
     files: (&str, &str),
 ) -> Result<u128, Stop> {
-    let dry1 = bytes_of(rt, alloc, files.0)?;
-    let dry2 = bytes_of(rt, alloc, files.1)?;
+    let dry1 = read_file(rt, files.0)?;
+    let dry2 = read_file(rt, files.1)?;
     mean_of_plan(
         rt,
         alloc,
@@ -197,13 +197,13 @@ fn mean_of_split<R: Clock>(rt: &R, alloc: Global, count: u64, text: &str) -> Res
 }
 
 // The same, of the text of a file.
-fn mean_of_split_file<R: Clock + Files>(
+fn mean_of_split_file<R: Clock + Files + AllocGlobal>(
     rt: &R,
     alloc: Global,
     count: u64,
     file: &str,
 ) -> Result<u128, Stop> {
-    let bytes = bytes_of(rt, alloc, file)?;
+    let bytes = read_file(rt, file)?;
     match str::from_utf8(bytes.as_slice()) {
         Ok(text) => mean_of_split(rt, alloc, count, text),
         Err(_) => Err(Stop::NoWords),
@@ -222,13 +222,13 @@ fn mean_of_read<R: Clock>(rt: &R, alloc: Global, count: u64, dry_run: &[u8]) -> 
 }
 
 // The same, of the dry run of a file.
-fn mean_of_read_file<R: Clock + Files>(
+fn mean_of_read_file<R: Clock + Files + AllocGlobal>(
     rt: &R,
     alloc: Global,
     count: u64,
     file: &str,
 ) -> Result<u128, Stop> {
-    let bytes = bytes_of(rt, alloc, file)?;
+    let bytes = read_file(rt, file)?;
     mean_of_read(rt, alloc, count, bytes.as_slice())
 }
 
@@ -280,19 +280,14 @@ fn mean_of_renamed_run<R: Clock>(
 }
 
 // The same, of the dry run of a file.
-fn mean_of_renamed_file<R: Clock + Files>(
+fn mean_of_renamed_file<R: Clock + Files + AllocGlobal>(
     rt: &R,
     alloc: Global,
     count: u64,
     file: &str,
 ) -> Result<u128, Stop> {
-    let bytes = bytes_of(rt, alloc, file)?;
+    let bytes = read_file(rt, file)?;
     mean_of_renamed_run(rt, alloc, count, bytes.as_slice())
-}
-
-// The bytes of a file.
-fn bytes_of<R: Files>(rt: &R, alloc: Global, file: &str) -> Result<Bytes, Stop> {
-    Ok(read_file(rt, alloc, file)?.stdout)
 }
 
 /// The mean time of what a call times, in nanoseconds.

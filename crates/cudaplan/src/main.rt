@@ -1,8 +1,8 @@
-//! Prints what CUDA command lines are read as, and what two dry runs plan.
+//! Prints how the CUDA tools' lines are read and written back, and the plan of two dry runs.
 #![tactic(auto)]
 
-use plan_texts::call_words;
-use program::run_program;
+use program::{run_program, stopped};
+use programs::call_words;
 use std::io;
 use std::process::ExitCode;
 
@@ -10,7 +10,9 @@ mod call;
 mod program;
 
 fn main(rt: HostRuntime) -> ExitCode {
-    let words = call_words(&rt);
     let (mut out, mut err) = (rt.stdout(), rt.stderr());
-    ExitCode::from(run_program(&rt, words.as_slice(), &mut out, &mut err))
+    ExitCode::from(match call_words(&rt) {
+        Ok(words) => run_program(&rt, words.as_slice(), &mut out, &mut err),
+        Err(stop) => stopped(&stop, &mut err),
+    })
 }

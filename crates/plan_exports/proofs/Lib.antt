@@ -1,6 +1,6 @@
 pub mod EscapedLemmas
 pub mod JsonLemmas
-pub mod JsonRows
+pub mod JsonExamples
 pub mod Pushing
 pub mod ReadBackLemmas
 pub mod ReadGraphLemmas

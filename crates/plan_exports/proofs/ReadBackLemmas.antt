@@ -6,11 +6,11 @@ use Rattle.std.specs.Str.{IsUtf8, chars}
 use Rattle.std.proofs.lemmas.List.{map-append}
 use Rattle.std.proofs.lemmas.Str.{encodes-chars, chars-nil}
 use Rattle.shell_words.specs.Shell.Splitting.{Gives, EndsWord, begins_piece, reads_between, words_from, split_chars, shell_words}
-use Rattle.shell_words.specs.Shell.Quoting.{quoted}
+use Rattle.shell_words.specs.Shell.Quoting.{quoted, written}
 use Rattle.shell_words.proofs.ShellSoundLemmas.{reading}
 use Rattle.command_groups.specs.declared.plan.NvccGeneratedSubcommand.{NvccGeneratedSubcommand}
 use Rattle.command_groups.specs.declared.plan.Plan.{Plan}
-use Rattle.plan_exports.specs.CommandText.{written, assignment, env_words, command_text, command_words}
+use Rattle.plan_exports.specs.CommandText.{assignment, env_words, command_text, command_words}
 use Rattle.plan_exports.specs.Script.{command_line, group_lines, groups_lines, script}
 use Rattle.plan_exports.specs.ReadBack.{IsOfTexts}
 use Rattle.shell_words.proofs.ShellQuotingLemmas.{quoted_then}

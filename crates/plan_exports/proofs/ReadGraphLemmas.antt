@@ -15,7 +15,7 @@ use Rattle.texts.specs.Numeral.{numeral}
 use Rattle.texts.specs.Path.{lacks}
 use Rattle.texts.proofs.PathLemmas.{lacks-places, lacks-append}
 use Rattle.shell_words.specs.Shell.{backslash, single_quote}
-use Rattle.shell_words.specs.Shell.Quoting.{is_plain, quoted_char, quoted_word, further, quoted}
+use Rattle.shell_words.specs.Shell.Quoting.{is_plain, quoted_char, quoted_word, further, quoted, written}
 use Rattle.command_groups.specs.declared.plan.NvccGeneratedSubcommand.{NvccGeneratedSubcommand}
 use Rattle.command_groups.specs.declared.plan.Dropped.{Dropped}
 use Rattle.command_groups.specs.declared.plan.Reason.{Reason}
@@ -24,10 +24,11 @@ use Rattle.command_groups.specs.declared.plan.Plan.{Plan}
 use Rattle.plan_exports.specs.declared.refusal.Refusal.{Refusal}
 use Rattle.plan_exports.specs.declared.refusal.Refusal.TheVariants.{Unheld}
 use Rattle.plan_exports.specs.declared.refusal.Form.TheVariants.{Ninja}
-use Rattle.plan_exports.specs.CommandText.{written, assignment, env_words, command_text}
+use Rattle.plan_exports.specs.CommandText.{assignment, env_words, command_text}
 use Rattle.plan_exports.specs.Judging.{holds, holds_text, holds_variables, holds_command, judged_command, judged_group, judged_groups, and_then}
 use Rattle.plan_exports.specs.Script.{unless_refused}
-use Rattle.plan_exports.specs.Graph.{escaped_char, escaped, stamp, stamp_below, stamp_path, launcher, touch, edge_command, edge_line, edge, needs_at, edges_from as written_edges, last_stamp, last_stamps, waits_for, group_needs, group_edges, reason_name, comment, rule, head, graph, holds_dropped, judged_rest, ninja_answer}
+use Rattle.command_groups.specs.Reasons.{reason_name}
+use Rattle.plan_exports.specs.Graph.{escaped_char, escaped, stamp, stamp_below, stamp_path, launcher, touch, edge_command, edge_line, edge, needs_at, edges_from as written_edges, last_stamp, last_stamps, waits_for, group_needs, group_edges, comment, rule, head, graph, holds_dropped, judged_rest, ninja_answer}
 use Rattle.plan_exports.specs.ReadBack.{IsOfTexts}
 use Rattle.plan_exports.specs.ReadGraph.{parts_at, behind, Edge, path_of, head_parts, head_behind, with_edge, edges_from, edges_in, edges_of_lines, edges_of, last_place, last_places, waits_at, group_waits, edge_of, group_edges_of, plan_edges, IsDroppedText}
 use Rattle.plan_exports.proofs.TextLemmas.{written_utf8}
@@ -403,17 +404,17 @@ comments-read tmp (d ∷ dropped) are h =
 
 -- ---- the file
 
-head-lines : (tmp rest : List ℕ) → IsLine tmp → parts_at 10 (head tmp ++ rest) ≡ (codes "tmp = " ++ escaped tmp) ∷ codes "builddir = ${tmp}" ∷ codes "rule run" ∷ codes "  command = ${line}" ∷ parts_at 10 rest
+head-lines : (tmp rest : List ℕ) → IsLine tmp → parts_at 10 (head tmp ++ rest) ≡ (codes "tmp = " ++ escaped tmp) ∷ codes "builddir = ${tmp}" ∷ codes "rule run" ∷ codes "  command = ${line} || { code=$$?; echo $$code > ${out}.status; exit $$code; }" ∷ parts_at 10 rest
 head-lines tmp rest is =
     ap (λ t. parts_at 10 (codes "tmp = " ++ t)) (append_assoc (escaped tmp) rule rest)
-    ∙ parts-past 10 (codes "tmp = " ++ escaped tmp) (codes "builddir = ${tmp}\nrule run\n  command = ${line}\n" ++ rest) (lacks-append 10 (codes "tmp = ") (escaped tmp) refl (line-escaped tmp is))
+    ∙ parts-past 10 (codes "tmp = " ++ escaped tmp) (codes "builddir = ${tmp}\nrule run\n  command = ${line} || { code=$$?; echo $$code > ${out}.status; exit $$code; }\n" ++ rest) (lacks-append 10 (codes "tmp = ") (escaped tmp) refl (line-escaped tmp is))
 
 graph-reads : (tmp : List ℕ) (plan : Plan) → IsLine tmp → AllByRecursion (AllByRecursion IsOfTexts) plan.groups → AllByRecursion IsDroppedText plan.dropped →
     judged_groups Ninja plan.groups ≡ Ok tt → list_all holds_dropped plan.dropped ≡ true → edges_of (graph tmp plan) ≡ Some (plan_edges tmp plan.groups 0 plan.groups)
 graph-reads tmp plan is groups dropped judged held =
     let rest = group_edges tmp plan.groups 0 plan.groups ++ flat_map comment plan.dropped in
     ap edges_of_lines (head-lines tmp rest is)
-    ∙ ap (λ o. edges_in o (codes "builddir = ${tmp}" ∷ codes "rule run" ∷ codes "  command = ${line}" ∷ parts_at 10 rest)) (value_reads_back tmp is.0)
+    ∙ ap (λ o. edges_in o (codes "builddir = ${tmp}" ∷ codes "rule run" ∷ codes "  command = ${line} || { code=$$?; echo $$code > ${out}.status; exit $$code; }" ∷ parts_at 10 rest)) (value_reads_back tmp is.0)
     ∙ groups-read tmp plan.groups 0 plan.groups (flat_map comment plan.dropped) [] is groups judged (comments-read tmp plan.dropped dropped held)
     ∙ ap Some (append-nil (plan_edges tmp plan.groups 0 plan.groups))
 

@@ -6,8 +6,8 @@ use Rattle.std.proofs.Math.Utf8.{scalars}
 use Rattle.std.proofs.lemmas.Bool.{cond_both, and_parts}
 use Rattle.std.proofs.lemmas.Str.{chars-append, chars-encodes, encodes-chars, scalars-chars, IsUtf8-append}
 use Rattle.shell_words.specs.Shell.{backslash, single_quote}
-use Rattle.shell_words.specs.Shell.Quoting.{is_plain, quoted_char, quoted_word, further, quoted}
-use Rattle.plan_exports.specs.CommandText.{written, assignment}
+use Rattle.shell_words.specs.Shell.Quoting.{is_plain, quoted_char, quoted_word, further, quoted, written}
+use Rattle.plan_exports.specs.CommandText.{assignment}
 
 pub scalars_append : (xs ys : List ℕ) → scalars xs ≡ true → scalars ys ≡ true → scalars (xs ++ ys) ≡ true
 scalars_append [] ys first second = second

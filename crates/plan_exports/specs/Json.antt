@@ -5,9 +5,9 @@ use Rattle.cuda_below.specs.declared.command.Cacheable.TheVariants.{Yes, No}
 use Rattle.command_groups.specs.declared.plan.NvccGeneratedSubcommand.{NvccGeneratedSubcommand}
 use Rattle.command_groups.specs.declared.plan.Dropped.{Dropped}
 use Rattle.command_groups.specs.declared.plan.Plan.{Plan}
+use Rattle.command_groups.specs.Reasons.{reason_name}
 use Rattle.serde_json.specs.Data.{unsigned, Data, boolean, number, string, array, object, no_items, item, no_members, member}
 use Rattle.serde_json.specs.View.{items_of}
-use Rattle.plan_exports.specs.Graph.{reason_name}
 
 -- a list of texts
 abbrev pub texts_data : List (List ℕ) → Data
@@ -17,16 +17,16 @@ texts_data texts = array (items_of (map string texts))
 abbrev pub variable_data : List ℕ × List ℕ → Data
 variable_data p = array (item (string p.0) (item (string p.1) no_items))
 
--- variables, in their order: a name may stand twice
+-- variables in order. A name may occur twice
 abbrev pub variables_data : List (List ℕ × List ℕ) → Data
 variables_data variables = array (items_of (map variable_data variables))
 
--- whether a command's outputs may come from a cache
+-- whether a cache may serve a command's outputs
 abbrev pub is_cacheable : Cacheable → Bool
 is_cacheable Yes = true
 is_cacheable No = false
 
--- a command; the members of an object stand in the order of their names
+-- a command. The members of an object are in the order of their names
 abbrev pub command_data : NvccGeneratedSubcommand → Data
 command_data c =
     object (member (codes "args") (texts_data c.args)
@@ -35,7 +35,7 @@ command_data c =
     (member (codes "env") (variables_data c.env_vars)
     (member (codes "exe") (string c.exe) no_members)))))
 
--- the commands of a group, and those of groups, in order
+-- the commands of a group, and of groups, in order
 abbrev pub group_data : List NvccGeneratedSubcommand → Data
 group_data group = array (items_of (map command_data group))
 

@@ -1,4 +1,4 @@
--- Which plans can be written.
+-- Which plans a form can represent.
 use Rattle.std.specs.Prelude.{ℕ, List, [], ◌∷◌, Bool, true, false, ◌==◌, ◌&&◌, not, if◌then◌else◌, Result, Ok, Err}
 use Rattle.std.specs.List.{list_all}
 use Rattle.texts.specs.Path.{lacks}
@@ -8,7 +8,7 @@ use Rattle.plan_exports.specs.declared.refusal.Refusal.TheVariants.{Unheld, Vari
 use Rattle.plan_exports.specs.declared.refusal.Form.{Form}
 use Rattle.plan_exports.specs.declared.refusal.Form.TheVariants.{Shell, Ninja}
 
--- whether a form can hold a byte: none holds NUL, and a line of Ninja's no end of a line either
+-- whether a form can represent a byte: none can represent NUL, and a line of a Ninja file no end of a line either
 abbrev pub holds : Form → ℕ → Bool
 holds Shell byte = not (byte == 0)
 holds Ninja byte = not (byte == 0) && (not (byte == 10) && not (byte == 13))
@@ -16,11 +16,11 @@ holds Ninja byte = not (byte == 0) && (not (byte == 10) && not (byte == 13))
 abbrev pub holds_text : Form → List ℕ → Bool
 holds_text form text = list_all (holds form) text
 
--- whether a form can hold the name and the value of each variable
+-- whether a form can represent the name and the value of each variable
 abbrev pub holds_variables : Form → List (List ℕ × List ℕ) → Bool
 holds_variables form variables = list_all (λ p. holds_text form p.0 && holds_text form p.1) variables
 
--- whether a form can hold all that a command says
+-- whether a form can represent all texts of a command
 abbrev pub holds_command : Form → NvccGeneratedSubcommand → Bool
 holds_command form c =
     holds_text form c.cwd && (holds_variables form c.env_vars && (holds_text form c.exe && list_all (holds_text form) c.args))
@@ -34,19 +34,19 @@ abbrev pub is_empty : List ℕ → Bool
 is_empty [] = true
 is_empty (first ∷ rest) = false
 
--- whether `env` takes a word for a program, or, with `=` and a value behind it, for the name of a variable: it is no option
--- then, and the first `=` of the operand is not within it
+-- whether `env` takes a word for a program, or for the name of a variable if `=` and a value follow: the word is no option,
+-- and has no `=` of its own
 abbrev pub is_for_env : List ℕ → Bool
 is_for_env word = not (is_empty word) && (not (begins_by 45 word) && lacks 61 word)
 
--- why a command can't be written in a form, if it can't
+-- why a form can't represent a command, if it can't
 abbrev pub judged_command : Form → NvccGeneratedSubcommand → Result (Unit {0}) Refusal
 judged_command form c =
     if not (holds_command form c) then Err Unheld else
     if not (list_all (λ p. is_for_env p.0) c.env_vars) then Err VariableName else
     if not (is_for_env c.exe) then Err Program else Ok tt
 
--- one verdict, and the next if that is none
+-- the first of two refusals
 abbrev pub and_then : Result (Unit {0}) Refusal → Result (Unit {0}) Refusal → Result (Unit {0}) Refusal
 and_then (Ok _) next = next
 and_then (Err refusal) next = Err refusal

@@ -1,6 +1,6 @@
 pub mod Answers
 pub mod CommandText
-pub mod ExportRows
+pub mod ExportExamples
 pub mod Graph
 pub mod Json
 pub mod Judging

@@ -1,4 +1,4 @@
--- The texts of the refusals.
+-- What a refusal says.
 use Rattle.std.specs.Prelude.{ℕ, List, codes}
 use Rattle.plan_exports.specs.declared.refusal.Refusal.{Refusal}
 use Rattle.plan_exports.specs.declared.refusal.Refusal.TheVariants.{Unheld, VariableName, Program, Memory}

@@ -1,4 +1,4 @@
--- What Ninja reads of a file that is written here: its edges.
+-- What Ninja reads in a written file: its edges.
 use Rattle.std.specs.Prelude.{◌≡◌, ℕ, ◌+◌, ◌-◌, List, [], ◌∷◌, ◌++◌, map, length, drop, nat_lt, ◌==◌, if◌then◌else◌, Option, Some, None, Ok, codes, refl}
 use Rattle.std.specs.List.{AllByRecursion}
 use Rattle.std.specs.Option.{option_map}
@@ -10,7 +10,7 @@ use Rattle.plan_exports.specs.Graph.{stamp_path, edge_command, waits_for, ninja_
 use Rattle.plan_exports.specs.ReadBack.{IsOfTexts}
 use Rattle.plan_exports.specs.ReadValue.{value_of}
 
--- the parts of a text that stand between such bytes
+-- the parts of a text between occurrences of a byte
 abbrev pub onto_first : ℕ → List (List ℕ) → List (List ℕ)
 onto_first c [] = (c ∷ []) ∷ []
 onto_first c (part ∷ parts) = (c ∷ part) ∷ parts
@@ -19,7 +19,7 @@ abbrev pub parts_at : ℕ → List ℕ → List (List ℕ)
 parts_at byte [] = [] ∷ []
 parts_at byte (c ∷ cs) = if c == byte then [] ∷ parts_at byte cs else onto_first c (parts_at byte cs)
 
--- what stands behind a beginning, if a text begins so
+-- what follows a beginning, if a text begins so
 abbrev pub behind : List ℕ → List ℕ → Option (List ℕ)
 behind [] text = Some text
 behind (b ∷ beginning) [] = None
@@ -31,7 +31,7 @@ pub record Edge : Type 0 where
   pub needs : List (List ℕ)
   pub command : List ℕ
 
--- the path of a file: what begins with `${tmp}` stands below that folder
+-- a file's path: `${tmp}` names the temporary directory
 abbrev pub path_behind : List ℕ → List ℕ → Option (List ℕ) → List ℕ
 path_behind tmp text None = text
 path_behind tmp text (Some rest) = tmp ++ rest
@@ -44,7 +44,7 @@ abbrev pub value_behind : Option (List ℕ) → Option (List ℕ)
 value_behind None = None
 value_behind (Some text) = value_of text
 
--- The output and the needs of an edge's first line. Behind `:` stand the name of the rule and the needs, each behind a blank.
+-- The output and the needs on an edge's first line. After `:` come the rule's name and the needs, each after a space.
 abbrev pub needs_of : List ℕ → List ℕ → Option (List (List ℕ))
 needs_of tmp text = option_map (λ rest. map (path_of tmp) (drop 1 (parts_at 32 rest))) (behind (codes " run") text)
 
@@ -63,15 +63,16 @@ abbrev pub with_edge : List ℕ × List (List ℕ) → Option (List ℕ) → Opt
 with_edge head None edges = None
 with_edge head (Some command) edges = option_map (λ es. record { output = head.0; needs = head.1; command = command } ∷ es) edges
 
--- The edges of lines, by the first line of an edge if that stands right before them. A line that begins no edge says nothing
--- of edges: variables, the rule, and comments.
+-- The edges of lines, given the first line of an edge if it comes right before them. Other lines have no edges: variables,
+-- the rule, and comments.
 abbrev pub edges_from : List ℕ → Option (List ℕ × List (List ℕ)) → List (List ℕ) → Option (List Edge)
 edges_from tmp None [] = Some []
 edges_from tmp (Some head) [] = None
 edges_from tmp None (line ∷ lines) = edges_from tmp (head_behind tmp (behind (codes "build ") line)) lines
-edges_from tmp (Some head) (line ∷ lines) = with_edge head (value_behind (behind (codes "  line = ") line)) (edges_from tmp None lines)
+edges_from tmp (Some head) (line ∷ lines) =
+    with_edge head (value_behind (behind (codes "  line = ") line)) (edges_from tmp None lines)
 
--- the edges of a file, whose first line says the folder of temporary files
+-- the edges of a file, whose first line names the temporary directory
 abbrev pub edges_in : Option (List ℕ) → List (List ℕ) → Option (List Edge)
 edges_in None lines = None
 edges_in (Some tmp) lines = edges_from tmp None lines
@@ -83,7 +84,7 @@ edges_of_lines (line ∷ lines) = edges_in (value_behind (behind (codes "tmp = "
 abbrev pub edges_of : List ℕ → Option (List Edge)
 edges_of text = edges_of_lines (parts_at 10 text)
 
--- ---- what a plan asks for
+-- ---- the edges of a plan
 
 -- the last command of a group, if it has one, as its group's number and its place there
 abbrev pub last_place : ℕ → List NvccGeneratedSubcommand → List (ℕ × ℕ)
@@ -113,21 +114,24 @@ edge_of tmp group place waits c = record {
 -- the edges of a group's commands from a place on, and of groups from a number on
 abbrev pub group_edges_of : List ℕ → ℕ → ℕ → List (ℕ × ℕ) → List NvccGeneratedSubcommand → List Edge
 group_edges_of tmp group place first [] = []
-group_edges_of tmp group place first (c ∷ commands) = edge_of tmp group place (waits_at group place first) c ∷ group_edges_of tmp group (place + 1) first commands
+group_edges_of tmp group place first (c ∷ commands) =
+    edge_of tmp group place (waits_at group place first) c ∷ group_edges_of tmp group (place + 1) first commands
 
 abbrev pub plan_edges : List ℕ → List (List NvccGeneratedSubcommand) → ℕ → List (List NvccGeneratedSubcommand) → List Edge
 plan_edges tmp all group [] = []
-plan_edges tmp all group (commands ∷ groups) = group_edges_of tmp group 0 (group_waits all group) commands ++ plan_edges tmp all (group + 1) groups
+plan_edges tmp all group (commands ∷ groups) =
+    group_edges_of tmp group 0 (group_waits all group) commands ++ plan_edges tmp all (group + 1) groups
 
--- all that a dropped command says is UTF-8
+-- all texts of a dropped command are UTF-8
 pub record IsDroppedText (d : Dropped) : Type 0 where
   pub exe : IsUtf8 d.exe
   pub args : AllByRecursion IsUtf8 d.args
 
--- Ninja reads a file that was written as an edge for each command of the plan, and no other
+-- Ninja reads a written file as an edge for each command of the plan, and no others
 abbrev pub GraphsReadBack : Type 0
 GraphsReadBack =
-    (tmp : List ℕ) (plan : Plan) (text : List ℕ) → IsUtf8 tmp → AllByRecursion (AllByRecursion IsOfTexts) plan.groups → AllByRecursion IsDroppedText plan.dropped →
+    (tmp : List ℕ) (plan : Plan) (text : List ℕ) →
+    IsUtf8 tmp → AllByRecursion (AllByRecursion IsOfTexts) plan.groups → AllByRecursion IsDroppedText plan.dropped →
     ninja_answer tmp plan ≡ Ok text → edges_of text ≡ Some (plan_edges tmp plan.groups 0 plan.groups)
 
 -- ---- Worked examples.
@@ -136,7 +140,8 @@ pub three_parts : parts_at 58 (codes "a:bc:") ≡ codes "a" ∷ codes "bc" ∷ [
 three_parts = refl
 
 pub one_edge :
-    edges_of (codes "tmp = /t\nrule run\nbuild ${tmp}/b: run ${tmp}/a\n  line = x $$y\n# build\n") ≡ Some (record { output = codes "/t/b"; needs = codes "/t/a" ∷ []; command = codes "x $y" } ∷ [])
+    edges_of (codes "tmp = /t\nrule run\nbuild ${tmp}/b: run ${tmp}/a\n  line = x $$y\n# build\n") ≡
+    Some (record { output = codes "/t/b"; needs = codes "/t/a" ∷ []; command = codes "x $y" } ∷ [])
 unfolding chars lib.Utf8.encode
 one_edge = refl
 

@@ -1,18 +1,18 @@
--- Ninja reads the value of a variable as the text that it was written of.
+-- Ninja reads a written value of a variable as the original text.
 use Rattle.std.specs.Prelude.{◌≡◌, ℕ, List, [], ◌∷◌, ◌==◌, Bool, true, false, if◌then◌else◌, Option, Some, None, codes, encode_utf8_all, refl}
 use Rattle.std.specs.Option.{option_map}
 use Rattle.std.specs.Str.{IsUtf8, chars}
 use Rattle.plan_exports.specs.Graph.{escaped}
 
--- The characters of a value's rest, by whether a `$` stands right before it. Behind a `$` only a second one is read here: the
--- other forms, as `${tmp}`, are Ninja's too, and no value that is written has one.
+-- The characters of a value's rest, given whether a `$` comes right before it. Only a second `$` may follow a `$` here. Ninja
+-- has other forms, as `${tmp}`, but no written value has one.
 abbrev pub value_from : Bool → List ℕ → Option (List ℕ)
 value_from false [] = Some []
 value_from true [] = None
 value_from false (c ∷ cs) = if c == 36 then value_from true cs else option_map (λ read. c ∷ read) (value_from false cs)
 value_from true (c ∷ cs) = if c == 36 then option_map (λ read. 36 ∷ read) (value_from false cs) else None
 
--- the value that a text is read as
+-- the value of a text
 abbrev pub value_of : List ℕ → Option (List ℕ)
 value_of text = option_map encode_utf8_all (value_from false (chars text))
 

@@ -8,22 +8,22 @@ use Rattle.plan_exports.specs.declared.refusal.Form.TheVariants.{Shell}
 use Rattle.plan_exports.specs.Judging.{judged_groups}
 use Rattle.plan_exports.specs.CommandText.{command_text}
 
--- the line of a command
+-- a command's line
 abbrev pub command_line : NvccGeneratedSubcommand → List ℕ
 command_line c = command_text [] c ++ 10 ∷ []
 
--- the lines of a group, and those of groups in order
+-- the lines of a group, and of groups, in order
 abbrev pub group_lines : List NvccGeneratedSubcommand → List ℕ
 group_lines group = flat_map command_line group
 
 abbrev pub groups_lines : List (List NvccGeneratedSubcommand) → List ℕ
 groups_lines groups = flat_map group_lines groups
 
--- the script: it stops at the first command that fails
+-- the script. It stops at the first command that fails
 abbrev pub script : Plan → List ℕ
 script plan = codes "set -e\n" ++ groups_lines plan.groups
 
--- a text, where nothing stands against it
+-- a text, unless there is a refusal
 abbrev pub unless_refused : Result (Unit {0}) Refusal → List ℕ → Result (List ℕ) Refusal
 unless_refused (Ok _) text = Ok text
 unless_refused (Err refusal) text = Err refusal

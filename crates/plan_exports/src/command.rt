@@ -2,34 +2,13 @@
 
 ghost use Rattle.std.specs.Prelude.{◌≡◌, ◌++◌, ◌∷◌, [], IfOk, OnOk, map, codes, string_bytes};
 ghost use Rattle.texts.specs.Variables.{pair_of};
+ghost use Rattle.shell_words.specs.Shell.Quoting.{written};
 ghost use Rattle.plan_exports.specs.CommandText as spec;
 
 use command_groups::NvccGeneratedSubcommand;
-use shell_words::quote;
+use shell_words::push_quoted;
 use std::alloc::{AllocError, Global};
 use texts::words::Words;
-
-// Adds words as a shell reads them.
-fn push_written(alloc: Global, text: &mut String, words: &[String]) -> Result<(), AllocError>
-    ensures { OnOk result (string_bytes text.new ≡ string_bytes text.old ++ spec.written (map string_bytes words.now)) }
-{
-    text.push_str(quote(alloc, words)?.as_str())
-}
-
-// Adds a word as a shell reads it, and further words.
-pub fn push_words(
-    alloc: Global,
-    text: &mut String,
-    first: &str,
-    further: &[String],
-) -> Result<(), AllocError>
-    ensures { OnOk result (string_bytes text.new ≡ string_bytes text.old ++ spec.written (first.now ∷ map string_bytes further.now)) }
-{
-    let mut words = Words::new(alloc);
-    words.push_str(alloc, first)?;
-    words.push_copies(alloc, further)?;
-    push_written(alloc, text, words.as_slice())
-}
 
 // A variable as `env` takes it.
 fn assignment(alloc: Global, pair: &(String, String)) -> Result<String, AllocError>
@@ -59,10 +38,10 @@ fn push_env(
     text: &mut String,
     command: &NvccGeneratedSubcommand,
 ) -> Result<(), AllocError>
-    ensures { OnOk result (string_bytes text.new ≡ string_bytes text.old ++ spec.written (spec.env_words command.now)) }
+    ensures { OnOk result (string_bytes text.new ≡ string_bytes text.old ++ written (spec.env_words command.now)) }
 {
     let variables = assignments(alloc, command.env_vars.as_slice())?;
-    push_words(alloc, text, "env", variables.as_slice())
+    push_quoted(text, "env", variables.as_slice())
 }
 
 // Adds a command's program and words, and what ends its text.
@@ -71,9 +50,9 @@ fn push_run(
     text: &mut String,
     command: &NvccGeneratedSubcommand,
 ) -> Result<(), AllocError>
-    ensures { OnOk result (string_bytes text.new ≡ string_bytes text.old ++ (spec.written (command.now.exe ∷ command.now.args) ++ codes " )")) }
+    ensures { OnOk result (string_bytes text.new ≡ string_bytes text.old ++ (written (command.now.exe ∷ command.now.args) ++ codes " )")) }
 {
-    push_words(alloc, text, command.exe.as_str(), command.args.as_slice())?;
+    push_quoted(text, command.exe.as_str(), command.args.as_slice())?;
     text.push_str(" )")
 }
 
@@ -87,7 +66,7 @@ pub fn push_command(
     ensures { OnOk result (string_bytes text.new ≡ string_bytes text.old ++ spec.command_text launcher.now command.now) }
 {
     text.push_str("( cd ")?;
-    push_words(alloc, text, command.cwd.as_str(), &[])?;
+    push_quoted(text, command.cwd.as_str(), &[])?;
     text.push_str(" && ")?;
     push_env(alloc, text, command)?;
     text.push_str(" ")?;

@@ -6,23 +6,22 @@ ghost use Rattle.serde_json.specs.Read.{read};
 ghost use Rattle.serde_json.specs.View.{view, members_view};
 ghost use Rattle.serde_json.specs.Written.{compact_text};
 ghost use Rattle.texts.specs.Variables.{pair_of};
-ghost use Rattle.plan_exports.specs.Graph as graph;
+ghost use Rattle.command_groups.specs.Reasons.{reason_name};
 ghost use Rattle.plan_exports.specs.Json as spec;
 
-use crate::ninja::reason_name;
 use command_groups::{Dropped, NvccGeneratedSubcommand, Plan};
 use cuda_below::command::Cacheable;
 use serde_json::{Map, Value, push, put};
 use std::alloc::{AllocError, Global};
 
-// Puts a text last in a list.
+// Adds a text to a list.
 fn push_text(alloc: Global, list: &mut Vec<Value>, text: &str) -> Result<(), AllocError>
     ensures { OnOk result (map view list.new.items ≡ map view list.old.items ++ string text.now ∷ []) }
 {
     push(list, Value::try_from_str(alloc, text)?)
 }
 
-// Texts, as a list.
+// A list of texts.
 fn texts_value(alloc: Global, texts: &[String]) -> Result<Value, AllocError>
     ensures { IfOk result (λ v. view v ≡ spec.texts_data (map string_bytes texts.now)) }
 {
@@ -33,7 +32,7 @@ fn texts_value(alloc: Global, texts: &[String]) -> Result<Value, AllocError>
     Ok(Value::Array(list))
 }
 
-// A variable, as a list of its name and its value.
+// A variable: a list of its name and its value.
 fn variable_value(alloc: Global, pair: &(String, String)) -> Result<Value, AllocError>
     ensures { IfOk result (λ v. view v ≡ spec.variable_data (pair_of pair.now)) }
 {
@@ -43,7 +42,7 @@ fn variable_value(alloc: Global, pair: &(String, String)) -> Result<Value, Alloc
     Ok(Value::Array(list))
 }
 
-// Puts a variable last in a list.
+// Adds a variable to a list.
 fn push_variable(
     alloc: Global,
     list: &mut Vec<Value>,
@@ -54,7 +53,7 @@ fn push_variable(
     push(list, variable_value(alloc, pair)?)
 }
 
-// Variables, as a list.
+// A list of variables.
 fn variables_value(alloc: Global, variables: &[(String, String)]) -> Result<Value, AllocError>
     ensures { IfOk result (λ v. view v ≡ spec.variables_data (map pair_of variables.now)) }
 {
@@ -65,7 +64,7 @@ fn variables_value(alloc: Global, variables: &[(String, String)]) -> Result<Valu
     Ok(Value::Array(list))
 }
 
-// Whether a command's outputs may come from a cache.
+// Whether a cache may serve a command's outputs.
 fn is_cacheable(cacheable: Cacheable) -> bool
     ensures { result ≡ spec.is_cacheable cacheable }
 {
@@ -75,7 +74,7 @@ fn is_cacheable(cacheable: Cacheable) -> bool
     }
 }
 
-// Puts a text into an object.
+// Adds a text to an object.
 fn put_text(
     alloc: Global,
     members: &mut Map<String, Value>,
@@ -87,7 +86,7 @@ fn put_text(
     put(members, alloc, key, Value::try_from_str(alloc, text)?)
 }
 
-// Puts a program and its words into an object.
+// Adds a program and its words to an object.
 fn put_run(
     alloc: Global,
     members: &mut Map<String, Value>,
@@ -102,7 +101,7 @@ fn put_run(
     put(members, alloc, "args", texts_value(alloc, args)?)
 }
 
-// Puts where a command runs into an object, and whether its outputs may come from a cache.
+// Adds to an object where a command runs, and whether a cache may serve its outputs.
 fn put_place(
     alloc: Global,
     members: &mut Map<String, Value>,
@@ -120,7 +119,7 @@ fn put_place(
     put(members, alloc, "cacheable", cacheable)
 }
 
-// A command, as an object.
+// A command's object.
 fn command_value(alloc: Global, command: &NvccGeneratedSubcommand) -> Result<Value, AllocError>
     ensures { IfOk result (λ v. view v ≡ spec.command_data command.now) }
 {
@@ -135,7 +134,7 @@ fn command_value(alloc: Global, command: &NvccGeneratedSubcommand) -> Result<Val
     Ok(Value::Object(map))
 }
 
-// Puts a command last in a list.
+// Adds a command to a list.
 fn push_command(
     alloc: Global,
     list: &mut Vec<Value>,
@@ -146,7 +145,7 @@ fn push_command(
     push(list, command_value(alloc, command)?)
 }
 
-// The commands of a group, as a list.
+// A list of a group's commands.
 fn group_value(alloc: Global, group: &[NvccGeneratedSubcommand]) -> Result<Value, AllocError>
     ensures { IfOk result (λ v. view v ≡ spec.group_data group.now) }
 {
@@ -157,7 +156,7 @@ fn group_value(alloc: Global, group: &[NvccGeneratedSubcommand]) -> Result<Value
     Ok(Value::Array(list))
 }
 
-// Puts the commands of a group last in a list.
+// Adds the list of a group's commands to a list.
 fn push_group(
     alloc: Global,
     list: &mut Vec<Value>,
@@ -168,7 +167,7 @@ fn push_group(
     push(list, group_value(alloc, group)?)
 }
 
-// Groups, as a list.
+// A list of groups.
 fn groups_value(alloc: Global, groups: &[Vec<NvccGeneratedSubcommand>]) -> Result<Value, AllocError>
     ensures { IfOk result (λ v. view v ≡ spec.groups_data (map vec_items groups.now)) }
 {
@@ -179,23 +178,23 @@ fn groups_value(alloc: Global, groups: &[Vec<NvccGeneratedSubcommand>]) -> Resul
     Ok(Value::Array(list))
 }
 
-// Puts where a dropped command stood into an object, and why it was dropped.
+// Adds to an object which line of which run a dropped command is, and why the plan dropped it.
 fn put_line(
     alloc: Global,
     members: &mut Map<String, Value>,
     dropped: &Dropped,
 ) -> Result<(), AllocError>
     ensures { OnOk result (members_view members.new.entries
-        ≡ with_member (codes "reason") (string (graph.reason_name dropped.now.reason))
+        ≡ with_member (codes "reason") (string (reason_name dropped.now.reason))
         (with_member (codes "run") (number (unsigned dropped.now.run))
         (with_member (codes "line") (number (unsigned dropped.now.line)) (members_view members.old.entries)))) }
 {
     put(members, alloc, "line", Value::from(dropped.line))?;
     put(members, alloc, "run", Value::from(dropped.run))?;
-    put_text(alloc, members, "reason", reason_name(dropped.reason))
+    put_text(alloc, members, "reason", dropped.reason.name())
 }
 
-// A dropped command, as an object.
+// A dropped command's object.
 fn dropped_value(alloc: Global, dropped: &Dropped) -> Result<Value, AllocError>
     ensures { IfOk result (λ v. view v ≡ spec.dropped_data dropped.now) }
 {
@@ -210,14 +209,14 @@ fn dropped_value(alloc: Global, dropped: &Dropped) -> Result<Value, AllocError>
     Ok(Value::Object(map))
 }
 
-// Puts a dropped command last in a list.
+// Adds a dropped command to a list.
 fn push_dropped(alloc: Global, list: &mut Vec<Value>, dropped: &Dropped) -> Result<(), AllocError>
     ensures { OnOk result (map view list.new.items ≡ map view list.old.items ++ spec.dropped_data dropped.now ∷ []) }
 {
     push(list, dropped_value(alloc, dropped)?)
 }
 
-// Dropped commands, as a list.
+// A list of dropped commands.
 fn all_dropped_value(alloc: Global, dropped: &[Dropped]) -> Result<Value, AllocError>
     ensures { IfOk result (λ v. view v ≡ spec.all_dropped_data dropped.now) }
 {
@@ -228,7 +227,7 @@ fn all_dropped_value(alloc: Global, dropped: &[Dropped]) -> Result<Value, AllocE
     Ok(Value::Array(list))
 }
 
-// Puts groups into an object.
+// Adds groups to an object.
 fn put_groups(
     alloc: Global,
     members: &mut Map<String, Value>,
@@ -239,7 +238,7 @@ fn put_groups(
     put(members, alloc, "groups", groups_value(alloc, groups)?)
 }
 
-// Puts dropped commands into an object.
+// Adds dropped commands to an object.
 fn put_dropped(
     alloc: Global,
     members: &mut Map<String, Value>,
@@ -255,7 +254,7 @@ fn put_dropped(
     )
 }
 
-// A plan, as an object.
+// A plan's object.
 fn plan_value(alloc: Global, plan: &Plan) -> Result<Value, AllocError>
     ensures { IfOk result (λ v. view v ≡ spec.data_of plan.now) }
 {
@@ -265,11 +264,12 @@ fn plan_value(alloc: Global, plan: &Plan) -> Result<Value, AllocError>
     Ok(Value::Object(map))
 }
 
-/// A plan as JSON, `{"dropped":[..],"groups":[[..]]}`, without blanks and with the members of each object
-/// in the order of their names. A command has the members `args`, `cacheable` (a boolean), `cwd`, `env`
-/// (a list of pairs `[name, value]`, since a name may stand twice) and `exe`; a dropped command has
-/// `args`, `exe`, `line`, `reason` and `run`. Read back, the text gives the plan's values. JSON holds
-/// every text, so only want of memory stands against it.
+/// A plan as JSON, `{"dropped":[..],"groups":[[..]]}`, without spaces. The members of an object are in the order of their
+/// names. A command has `args`, `cacheable` (a boolean), `cwd`, `env` (a list of pairs `[name, value]`, since a name may occur
+/// twice) and `exe`. A dropped command has `args`, `exe`, `line`, `reason` and `run`. A reader of the text gets the plan's
+/// values back.
+///
+/// Fails only if memory runs out, since JSON can represent every text.
 pub fn json_text(alloc: Global, plan: &Plan) -> Result<String, AllocError>
     ensures text { IfOk result (λ text. string_bytes text ≡ compact_text (spec.data_of plan.now)) }
     ensures reads_back { IfOk result (λ text. read (string_bytes text) ≡ Some (spec.data_of plan.now)) }

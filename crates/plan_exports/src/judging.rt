@@ -1,4 +1,4 @@
-//! Whether a plan can be written in a form.
+//! Whether a form can represent a plan.
 
 ghost use Rattle.std.specs.Prelude.{◌≡◌, map, string_bytes, vec_items};
 ghost use Rattle.std.specs.List.{list_all};
@@ -9,7 +9,7 @@ ghost use Rattle.plan_exports.specs.Judging as spec;
 use crate::refusal::{Form, Refusal};
 use command_groups::NvccGeneratedSubcommand;
 
-// Whether a form can hold a byte.
+// Whether a form can represent a byte.
 fn holds(form: Form, byte: u8) -> bool
     ensures { result ≡ spec.holds form byte }
 {
@@ -19,14 +19,14 @@ fn holds(form: Form, byte: u8) -> bool
     }
 }
 
-// Whether a form can hold the bytes of a text.
+// Whether a form can represent a text.
 pub fn holds_text(form: Form, text: &[u8]) -> bool
     ensures { result ≡ spec.holds_text form text.now }
 {
     text.iter().all(|byte| holds(form, *byte))
 }
 
-// Whether a form can hold all words.
+// Whether a form can represent all of these words.
 pub fn holds_words(form: Form, words: &[String]) -> bool
     ensures { result ≡ list_all (spec.holds_text form) (map string_bytes words.now) }
 {
@@ -38,7 +38,7 @@ pub fn holds_words(form: Form, words: &[String]) -> bool
     true
 }
 
-// Whether a form can hold the names and values of variables.
+// Whether a form can represent the names and values of variables.
 fn holds_variables(form: Form, variables: &[(String, String)]) -> bool
     ensures { result ≡ spec.holds_variables form (map pair_of variables.now) }
 {
@@ -50,7 +50,7 @@ fn holds_variables(form: Form, variables: &[(String, String)]) -> bool
     true
 }
 
-// Whether a form can hold all that a command says.
+// Whether a form can represent all parts of a command.
 fn holds_command(form: Form, command: &NvccGeneratedSubcommand) -> bool
     ensures { result ≡ spec.holds_command form command.now }
 {
@@ -101,7 +101,7 @@ fn are_names(variables: &[(String, String)]) -> bool
     true
 }
 
-// Why a command can't be written in a form.
+// Why a form can't represent a command, if it can't.
 fn judge_command(form: Form, command: &NvccGeneratedSubcommand) -> Result<(), Refusal>
     ensures { result ≡ spec.judged_command form command.now }
 {

@@ -1,4 +1,4 @@
-//! Plans for other tools: the text of a plan as a shell script, as a file for Ninja and as JSON.
+//! Plans for other tools: a plan as a shell script, as a Ninja file and as JSON.
 #![tactic(auto)]
 
 mod command;

@@ -1,19 +1,20 @@
-//! A plan as a file for Ninja.
+//! A plan as a Ninja file.
 
 ghost use Rattle.std.specs.Prelude.{◌≡◌, ◌++◌, IfOk, OnOk, codes, map, encode_utf8_all, string_bytes, vec_items};
 ghost use Rattle.std.specs.List.{flat_map, list_all};
-ghost use Rattle.texts.specs.Numeral.{numeral};
 ghost use Rattle.plan_exports.specs.Answers.{Answers};
 ghost use Rattle.plan_exports.specs.Graph as spec;
 
-use crate::command::{push_command, push_words};
+use crate::command::push_command;
 use crate::judging::{holds_text, holds_words, judge_groups};
 use crate::refusal::{Form, Refusal};
-use command_groups::{Dropped, NvccGeneratedSubcommand, Plan, Reason};
+use command_groups::{Dropped, NvccGeneratedSubcommand, Plan};
 use cuda_below::command::Cacheable;
+use shell_words::push_quoted;
 use std::alloc::{AllocError, Global};
+use texts::decimal::push_number;
 
-// Adds a character of a value: `$` is written twice.
+// Adds a character of a value. `$` is doubled.
 fn push_char(text: &mut String, c: char) -> Result<(), AllocError>
     ensures { OnOk result (string_bytes text.new ≡ string_bytes text.old ++ encode_utf8_all (spec.escaped_char c)) }
 {
@@ -24,7 +25,7 @@ fn push_char(text: &mut String, c: char) -> Result<(), AllocError>
     }
 }
 
-// Adds a text as the value of a variable.
+// Adds a text as a variable's value.
 fn push_escaped(text: &mut String, value: &str) -> Result<(), AllocError>
     ensures { OnOk result (string_bytes text.new ≡ string_bytes text.old ++ spec.escaped value.now) }
 {
@@ -32,20 +33,6 @@ fn push_escaped(text: &mut String, value: &str) -> Result<(), AllocError>
         push_char(text, c)?;
     }
     Ok(())
-}
-
-// A number in decimal digits.
-fn number_text(alloc: Global, number: usize) -> Result<String, AllocError>
-    ensures { IfOk result (λ text. string_bytes text ≡ numeral number) }
-{
-    format!(in alloc; "{number}")
-}
-
-// Adds a number in decimal digits.
-fn push_number(alloc: Global, text: &mut String, number: usize) -> Result<(), AllocError>
-    ensures { OnOk result (string_bytes text.new ≡ string_bytes text.old ++ numeral number) }
-{
-    text.push_str(number_text(alloc, number)?.as_str())
 }
 
 // Adds the name of a stamp.
@@ -63,7 +50,7 @@ fn push_stamp(
     push_number(alloc, text, place)
 }
 
-// Adds a blank and a stamp below the folder of temporary files.
+// Adds a space and the path of a stamp in the temporary directory.
 fn push_stamp_below(
     alloc: Global,
     text: &mut String,
@@ -86,7 +73,7 @@ fn stamp_path(alloc: Global, tmp: &str, group: usize, place: usize) -> Result<St
     Ok(path)
 }
 
-// What stands in front of a program.
+// What runs a program: a launcher, if a cache may serve the program's outputs.
 fn launcher(cacheable: Cacheable) -> &'static str
     ensures { result.now ≡ spec.launcher cacheable }
 {
@@ -96,7 +83,7 @@ fn launcher(cacheable: Cacheable) -> &'static str
     }
 }
 
-// Adds that a stamp is touched.
+// Adds the command that touches a stamp.
 fn push_touch(
     alloc: Global,
     text: &mut String,
@@ -108,7 +95,7 @@ fn push_touch(
 {
     let path = stamp_path(alloc, tmp, group, place)?;
     text.push_str(" && touch ")?;
-    push_words(alloc, text, path.as_str(), &[])
+    push_quoted(text, path.as_str(), &[])
 }
 
 // What an edge runs.
@@ -127,7 +114,7 @@ fn edge_command(
     Ok(text)
 }
 
-// Adds the line of what an edge runs.
+// Adds the line that says what an edge runs.
 fn push_edge_line(text: &mut String, command: &str) -> Result<(), AllocError>
     ensures { OnOk result (string_bytes text.new ≡ string_bytes text.old ++ spec.edge_line command.now) }
 {
@@ -136,7 +123,7 @@ fn push_edge_line(text: &mut String, command: &str) -> Result<(), AllocError>
     text.push_str("\n")
 }
 
-// Adds what a command needs: the one before it in its group, and for the first what the group needs.
+// Adds what a command needs: the one before it in its group, or what the group needs if it is the first.
 fn push_needs(
     alloc: Global,
     text: &mut String,
@@ -220,7 +207,7 @@ fn push_last_stamp(
     push_stamp_below(alloc, text, group, commands.len() - 1)
 }
 
-// Adds the same for a group below a number.
+// Adds the same if the group's number is below another.
 fn push_last_below(
     alloc: Global,
     text: &mut String,
@@ -252,7 +239,7 @@ fn last_stamps(
     Ok(text)
 }
 
-// How many groups the first command of a group waits for.
+// How many groups, from the front group on, the first command of a group waits for.
 fn waits_for(count: usize, group: usize) -> usize
     ensures { result ≡ spec.waits_for count group }
 {
@@ -283,7 +270,8 @@ fn push_groups(
     tmp: &str,
     groups: &[Vec<NvccGeneratedSubcommand>],
 ) -> Result<(), AllocError>
-    ensures { OnOk result (string_bytes text.new ≡ string_bytes text.old ++ spec.group_edges tmp.now (map vec_items groups.now) 0 (map vec_items groups.now)) }
+    ensures { OnOk result (string_bytes text.new ≡ string_bytes text.old
+        ++ spec.group_edges tmp.now (map vec_items groups.now) 0 (map vec_items groups.now)) }
 {
     for (group, commands) in groups.iter().enumerate() {
         let first = group_needs(alloc, groups, group)?;
@@ -292,26 +280,14 @@ fn push_groups(
     Ok(())
 }
 
-// The name of a reason.
-pub fn reason_name(reason: Reason) -> &'static str
-    ensures { result.now ≡ spec.reason_name reason }
-{
-    match reason {
-        Reason::NotCuda => "NotCuda",
-        Reason::NoCiccGroup => "NoCiccGroup",
-        Reason::NoPtxasGroup => "NoPtxasGroup",
-        Reason::Superseded => "Superseded",
-    }
-}
-
 // Adds the reason and the words of a dropped command.
 fn push_comment_words(alloc: Global, text: &mut String, dropped: &Dropped) -> Result<(), AllocError>
     ensures { OnOk result (string_bytes text.new ≡ string_bytes text.old ++ spec.comment_words dropped.now) }
 {
     text.push_str(" ")?;
-    text.push_str(reason_name(dropped.reason))?;
+    text.push_str(dropped.reason.name())?;
     text.push_str(" ")?;
-    push_words(alloc, text, dropped.exe.as_str(), dropped.args.as_slice())?;
+    push_quoted(text, dropped.exe.as_str(), dropped.args.as_slice())?;
     text.push_str("\n")
 }
 
@@ -336,11 +312,11 @@ fn push_comments(alloc: Global, text: &mut String, dropped: &[Dropped]) -> Resul
     Ok(())
 }
 
-// The lines behind the folder's.
+// The lines after the one that names the temporary directory.
 fn rule() -> &'static str
     ensures { result.now ≡ spec.rule }
 {
-    "\nbuilddir = ${tmp}\nrule run\n  command = ${line}\n"
+    "\nbuilddir = ${tmp}\nrule run\n  command = ${line} || { code=$$?; echo $$code > ${out}.status; exit $$code; }\n"
 }
 
 // Adds the first lines.
@@ -352,7 +328,7 @@ fn push_head(text: &mut String, tmp: &str) -> Result<(), AllocError>
     text.push_str(rule())
 }
 
-// The file of a plan.
+// The Ninja file of a plan.
 fn graph(alloc: Global, tmp: &str, plan: &Plan) -> Result<String, AllocError>
     ensures { IfOk result (λ text. string_bytes text ≡ spec.graph tmp.now plan.now) }
 {
@@ -363,7 +339,7 @@ fn graph(alloc: Global, tmp: &str, plan: &Plan) -> Result<String, AllocError>
     Ok(text)
 }
 
-// Whether a comment can hold a dropped command.
+// Whether a comment can represent a dropped command.
 fn holds_dropped(dropped: &Dropped) -> bool
     ensures { result ≡ spec.holds_dropped dropped.now }
 {
@@ -371,7 +347,7 @@ fn holds_dropped(dropped: &Dropped) -> bool
         && holds_words(Form::Ninja, dropped.args.as_slice())
 }
 
-// Whether comments can hold the dropped commands.
+// Whether comments can represent all dropped commands.
 fn hold_all_dropped(dropped: &[Dropped]) -> bool
     ensures { result ≡ list_all spec.holds_dropped dropped.now }
 {
@@ -383,7 +359,7 @@ fn hold_all_dropped(dropped: &[Dropped]) -> bool
     true
 }
 
-// Why a file can't hold the folder of temporary files or the dropped commands.
+// Why a file can't represent the temporary directory or the dropped commands, if it can't.
 fn judge_rest(tmp: &str, dropped: &[Dropped]) -> Result<(), Refusal>
     ensures { result ≡ spec.judged_rest tmp.now dropped.now }
 {
@@ -394,16 +370,16 @@ fn judge_rest(tmp: &str, dropped: &[Dropped]) -> Result<(), Refusal>
     }
 }
 
-/// A plan as a file for Ninja: an edge for each command, which runs it and then touches its stamp, a
-/// file below `tmp`. A command needs the one before it in its group. The first of a device group needs
-/// the front group's last, and the first of the final group the last of each group before it; a group
-/// without commands is needed by none. In front of a program whose outputs may come from a cache stands
-/// what the variable `ZIGRUNK_LAUNCHER` says when it runs, which may be nothing. Dropped commands stand
-/// behind the edges, as comments. `tmp` is to be an absolute path; Ninja's own files lie there too.
+/// A plan as a Ninja file. Each command has an edge that runs it and then touches its stamp, the file `zigrunk.GROUP.PLACE`
+/// in the temporary directory `tmp`. If the command fails, its exit status goes to the file `zigrunk.GROUP.PLACE.status` in
+/// decimal. A command needs the one before it in its group. The first command of a device group needs the front group's
+/// last, and the first of the final group needs the last of each group before it. Nothing needs a group without commands.
+/// The program that the variable `ZIGRUNK_LAUNCHER` names runs each command whose outputs a cache may serve; the variable may
+/// be unset. Dropped commands follow the edges as comments. `tmp` has to be an absolute path. Ninja's own files go there too.
 ///
-/// Refuses a text that no line of such a file can hold, one with a NUL, a newline or a carriage return
-/// (`Refusal::Unheld`): `tmp` and the dropped commands first, and then each command; and what
-/// [`shell_script`](crate::shell_script) refuses.
+/// Fails if a text has a NUL, a newline or a carriage return, which no line of a Ninja file can represent
+/// (`Refusal::Unheld`): first `tmp` and the dropped commands, then each command. Fails also if
+/// [`shell_script`](crate::shell_script) does.
 pub fn ninja_file(alloc: Global, tmp: &str, plan: &Plan) -> Result<String, Refusal>
     ensures { Answers result (spec.ninja_answer tmp.now plan.now) }
 {

@@ -1,19 +1,19 @@
-//! Why a plan isn't written.
+//! Why a form can't represent a plan.
 
 use std::alloc::AllocError;
 use std::error::Error;
 use std::fmt;
 
-/// Why a plan can't be written in a form.
+/// Why a form can't represent a plan.
 #[derive(Clone, Copy, Debug, PartialEq)]
 pub enum Refusal {
-    /// A text of the plan has a byte that the form can't hold.
+    /// A text of the plan has a byte that the form can't represent.
     Unheld,
-    /// `env` doesn't take the name of a variable as one.
+    /// `env` would not take a variable's name for one.
     VariableName,
-    /// `env` doesn't take the program's path as one.
+    /// `env` would not take a program's path for one.
     Program,
-    /// Memory was refused.
+    /// Memory ran out.
     Memory,
 }
 
@@ -55,6 +55,6 @@ impl From<AllocError> for Refusal {
 pub enum Form {
     /// A script for a POSIX shell.
     Shell,
-    /// A file for Ninja.
+    /// A Ninja file.
     Ninja,
 }

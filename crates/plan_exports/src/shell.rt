@@ -60,15 +60,13 @@ fn script(alloc: Global, plan: &Plan) -> Result<String, AllocError>
     Ok(text)
 }
 
-/// A plan as a script for a POSIX shell, which runs its groups in order and stops at the first command
-/// that fails. Each command has a line `( cd CWD && env NAME=VALUE .. EXE WORD .. )`, each word of it
-/// quoted where a shell would read it otherwise; a newline within a word stands as it is, in quotes. The
-/// environment of the script's caller stays below the command's variables. Dropped commands aren't
-/// written. The folders are to be absolute paths.
+/// A plan as a script for a POSIX shell. It runs the groups in order and stops at the first command that fails. Each command
+/// has a line `( cd CWD && env NAME=VALUE .. EXE WORD .. )`, with quotes around each word that needs them. A newline in a word
+/// keeps its form, in quotes. Variables of the command override those of the script's caller. The script leaves out dropped
+/// commands. Directories have to be absolute paths.
 ///
-/// Refuses, at the first command for which this holds, a NUL byte (`Refusal::Unheld`), and, since `env`
-/// would take it for something else, a variable's name (`Refusal::VariableName`) or a program
-/// (`Refusal::Program`) that is empty, begins with `-` or has a `=`.
+/// Fails at the first command with a NUL byte (`Refusal::Unheld`), or with a variable's name (`Refusal::VariableName`) or a
+/// program (`Refusal::Program`) that is empty, begins with `-` or has a `=`, since `env` would take it for something else.
 pub fn shell_script(alloc: Global, plan: &Plan) -> Result<String, Refusal>
     ensures { Answers result (spec.shell_answer plan.now) }
 {

@@ -1,16 +1,6 @@
--- A text or a list that was pushed to, one part after the other.
-use Rattle.std.proofs.Common.{◌≡◌, ℕ, suc, ◌+◌, ◌<◌, List, [], ◌∷◌, ◌++◌, length, take, append_assoc, ap, sym, ◌∙◌, arith}
-use Rattle.std.specs.List.{slice_get}
-use Rattle.std.specs.Option.{option_to_list}
-use Rattle.std.proofs.lemmas.Option.{slice_get-get_or}
-use Rattle.std.proofs.Math.Seq.{take-suc}
+-- A text that was pushed to, one part after the other.
+use Rattle.std.proofs.Common.{◌≡◌, ℕ, List, ◌++◌, append_assoc, ap, ◌∙◌}
 
 -- what stands behind a pushed part stands behind that part and the text before it
 pub pushed : (before part after rest : List ℕ) → after ≡ before ++ part → after ++ rest ≡ before ++ (part ++ rest)
 pushed before part after rest e = ap (λ t. t ++ rest) e ∙ append_assoc before part rest
-
--- the first elements of a list and the one behind them are one more of its first elements
-pub next-taken : (xs : List (List ℕ)) (i : ℕ) → i < length xs → take i xs ++ option_to_list (slice_get xs i) ≡ take (i + 1) xs
-next-taken xs i within =
-    let one_more : suc i ≡ i + 1 = omega arith in
-    ap (λ x. take i xs ++ option_to_list x) (slice_get-get_or xs i [] within) ∙ sym (take-suc xs i [] within) ∙ ap (λ n. take n xs) one_more

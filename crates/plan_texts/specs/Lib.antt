@@ -1,7 +1,4 @@
-pub mod Delivery
-pub mod PlanCalls
-pub mod PlanText
 pub mod Shown
 pub mod ShownPlan
-pub mod ShownPlanRows
+pub mod ShownPlanExamples
 pub mod Tools

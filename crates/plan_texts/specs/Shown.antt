@@ -1,5 +1,5 @@
--- The text that the program shows of a line.
-use Rattle.std.specs.Prelude.{ℕ, List, [], ◌∷◌, ◌++◌, Result, Ok, Err}
+-- The text of a line that a device tool reads and writes back.
+use Rattle.std.specs.Prelude.{ℕ, List, [], ◌∷◌, ◌++◌, Option, Some, None, Result, Ok, Err}
 use Rattle.std.specs.List.{flat_map}
 use Rattle.cuda_below.specs.declared.arguments.ParsedArguments.{ParsedArguments}
 use Rattle.cuda_below.specs.declared.command.Cacheable.{Cacheable}
@@ -13,9 +13,6 @@ use Rattle.device_lines.specs.CudaFE.{cudafe_options}
 use Rattle.device_lines.specs.DeviceWords.{cicc_words, cudafe_words}
 use Rattle.device_lines.specs.Ptxas.{ptxas_options}
 use Rattle.device_lines.specs.Reading.{tool_reading}
-use Rattle.plan_texts.specs.declared.stop.Stop.{Stop}
-use Rattle.plan_texts.specs.declared.stop.Stop.TheVariants.{NotCompilation}
-use Rattle.plan_texts.specs.declared.stop.Stop.TheVariants as stops
 use Rattle.plan_texts.specs.declared.tool.Tool.{Tool}
 use Rattle.plan_texts.specs.declared.tool.Tool.TheVariants.{Cicc, Ptxas, CudaFe}
 
@@ -23,27 +20,28 @@ use Rattle.plan_texts.specs.declared.tool.Tool.TheVariants.{Cicc, Ptxas, CudaFe}
 abbrev pub show_line : List (List ℕ) → List ℕ
 show_line words = flat_map (λ word. word ++ 10 ∷ []) words
 
--- the text of a command, by what its words are
-abbrev pub show_command : {C : Type 0} → (C → List (List ℕ)) → Result (C × Cacheable) Fault → Result (List ℕ) Stop
-show_command words (Ok c) = Ok (show_line (words c.0))
-show_command words (Err fault) = Err (stops.Fault fault)
+-- the text of a command, given a way to see its words
+abbrev pub show_command : {C : Type 0} → (C → List (List ℕ)) → Result (C × Cacheable) Fault → Result (Option (List ℕ)) Fault
+show_command words (Ok c) = Ok (Some (show_line (words c.0)))
+show_command words (Err fault) = Err fault
 
--- the text of what a line was read as: its arguments written back, if it compiles something
-abbrev pub show_reading : {C : Type 0} → (C → List (List ℕ)) → (ParsedArguments → Result (C × Cacheable) Fault) → Reading → Result (List ℕ) Stop
+-- the text of what a line was read as: its arguments written back, or none if it compiles nothing
+abbrev pub show_reading :
+    {C : Type 0} → (C → List (List ℕ)) → (ParsedArguments → Result (C × Cacheable) Fault) → Reading → Result (Option (List ℕ)) Fault
 show_reading words writing (accepted p) = show_command words (writing p)
-show_reading words writing (cannot_cache text word) = Err NotCompilation
-show_reading words writing not_compilation = Err NotCompilation
+show_reading words writing (cannot_cache text word) = Ok None
+show_reading words writing not_compilation = Ok None
 
 -- the places of a compilation that needs none
 abbrev pub no_places : Places
 no_places = record { temp_dir = []; canonical_input = [] }
 
--- the text of what a device tool's line was read as, by what its arguments and their output are written as
-abbrev pub show_tool : (ParsedArguments → List ℕ → List (List ℕ)) → List ℕ → Reading → Result (List ℕ) Stop
+-- the text of what a device tool's line was read as, given how the tool writes its arguments and their output
+abbrev pub show_tool : (ParsedArguments → List ℕ → List (List ℕ)) → List ℕ → Reading → Result (Option (List ℕ)) Fault
 show_tool words cwd read = show_reading (λ c. c.arguments) (λ p. written words [] p cwd []) read
 
--- the text of a tool's line, read at a working directory and written back, or why there is none
-abbrev pub shown_line : Tool → List ℕ → List (List ℕ) → Result (List ℕ) Stop
-shown_line Cicc cwd words = show_tool cicc_words cwd (tool_reading cicc_options cwd Ptx 3 words)
-shown_line Ptxas cwd words = show_tool cicc_words cwd (tool_reading ptxas_options cwd Cubin 3 words)
-shown_line CudaFe cwd words = show_tool cudafe_words cwd (tool_reading cudafe_options cwd CudaFE 1 words)
+-- the text of a tool's line, read at a working directory and written back
+abbrev pub line_text : Tool → List ℕ → List (List ℕ) → Result (Option (List ℕ)) Fault
+line_text Cicc cwd words = show_tool cicc_words cwd (tool_reading cicc_options cwd Ptx 3 words)
+line_text Ptxas cwd words = show_tool cicc_words cwd (tool_reading ptxas_options cwd Cubin 3 words)
+line_text CudaFe cwd words = show_tool cudafe_words cwd (tool_reading cudafe_options cwd CudaFE 1 words)

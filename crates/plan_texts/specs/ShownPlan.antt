@@ -1,24 +1,23 @@
--- The text that the program shows of a plan.
+-- The text of a plan.
 use Rattle.std.specs.Prelude.{ℕ, ◌+◌, List, [], ◌∷◌, ◌++◌, flat_map, codes}
 use Rattle.cuda_below.specs.declared.command.Cacheable.{Cacheable}
 use Rattle.cuda_below.specs.declared.command.Cacheable.TheVariants.{Yes, No}
 use Rattle.command_groups.specs.declared.plan.NvccGeneratedSubcommand.{NvccGeneratedSubcommand}
 use Rattle.command_groups.specs.declared.plan.Dropped.{Dropped}
-use Rattle.command_groups.specs.declared.plan.Reason.{Reason}
-use Rattle.command_groups.specs.declared.plan.Reason.TheVariants.{NotCuda, NoCiccGroup, NoPtxasGroup, Superseded}
 use Rattle.command_groups.specs.declared.plan.Plan.{Plan}
+use Rattle.command_groups.specs.Reasons.{reason_name}
 use Rattle.texts.specs.Numeral.{numeral}
 
--- a program and its words, each word after one blank, and the end of the line
+-- a program and its words, each word after a space, and the end of the line
 abbrev pub show_words : List ℕ → List (List ℕ) → List ℕ
 show_words exe words = exe ++ (flat_map (λ word. 32 ∷ word) words ++ 10 ∷ [])
 
--- whether a command's outputs may come from a cache
+-- whether a cache may serve a command's outputs
 abbrev pub show_cacheable : Cacheable → List ℕ
 show_cacheable Yes = codes "yes"
 show_cacheable No = codes "no"
 
--- the line of a command: whether it can be cached, its folder, its program and its words
+-- the line of a command: whether a cache may serve it, its directory, its program and its words
 abbrev pub show_subcommand : NvccGeneratedSubcommand → List ℕ
 show_subcommand c = show_cacheable c.cacheable ++ (codes " cd " ++ (c.cwd ++ (codes " && " ++ show_words c.exe c.args)))
 
@@ -31,17 +30,10 @@ abbrev pub show_groups : ℕ → List (List NvccGeneratedSubcommand) → List �
 show_groups number [] = []
 show_groups number (group ∷ groups) = show_group number group ++ show_groups (number + 1) groups
 
--- the name of a reason
-abbrev pub show_reason : Reason → List ℕ
-show_reason NotCuda = codes "NotCuda"
-show_reason NoCiccGroup = codes "NoCiccGroup"
-show_reason NoPtxasGroup = codes "NoPtxasGroup"
-show_reason Superseded = codes "Superseded"
-
 -- the line of a dropped command: its line, its run, the reason, its program and its words
 abbrev pub show_dropped : Dropped → List ℕ
 show_dropped d =
-    codes "dropped " ++ (numeral d.line ++ (codes " run " ++ (numeral d.run ++ (32 ∷ (show_reason d.reason ++ (32 ∷ show_words d.exe d.args))))))
+    codes "dropped " ++ (numeral d.line ++ (codes " run " ++ (numeral d.run ++ (32 ∷ (reason_name d.reason ++ (32 ∷ show_words d.exe d.args))))))
 
 -- the text of a plan: its groups, numbered from 0, then its dropped commands
 abbrev pub show_plan : Plan → List ℕ

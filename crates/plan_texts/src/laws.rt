@@ -1,8 +1,16 @@
-//! Texts of plans worked out by hand, which the definitions compute.
+//! What `==` says of tools, and worked examples of the texts of plans.
 
-ghost use Rattle.plan_texts.specs.ShownPlanRows.{OneKernelShown, EmptyRunsShown, DroppedShown, PtxasWithoutAGroupShown, OutputWithASlashShown, NotForCudaShown};
+ghost use Rattle.plan_texts.specs.ShownPlanExamples.{OneKernelShown, EmptyRunsShown, DroppedShown, PtxasWithoutAGroupShown, OutputWithASlashShown, NotForCudaShown};
+ghost use Rattle.texts.specs.Equality.{TellsEqual};
 
-/// What is shown of some plans, by the definitions.
+use crate::tool::Tool;
+
+/// `==` on tools says whether two tools are equal.
+pub fn equality()
+    ensures { TellsEqual ⟦<Tool as PartialEq>⟧.eq }
+{}
+
+/// The definitions give these texts for these plans.
 pub fn worked_texts()
     ensures one_kernel_shown { OneKernelShown }
     ensures empty_runs_shown { EmptyRunsShown }

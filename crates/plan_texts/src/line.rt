@@ -1,12 +1,9 @@
-//! The engine that reads a device tool's line and writes it back.
+//! The text of a device tool's line, read and written back.
 
 ghost use Rattle.std.specs.Prelude.{◌≡◌, [], IfOk, map, string_bytes};
-ghost use Rattle.cuda_below.specs.Compiler.{reading_of};
-ghost use Rattle.plan_texts.specs.Delivery.{Answers, Delivers, text_of};
+ghost use Rattle.texts.specs.Fault.{UnlessMemory};
 ghost use Rattle.plan_texts.specs.Shown as spec;
 
-use crate::delivery::deliver;
-use crate::stop::Stop;
 use crate::tool::Tool;
 use cuda_below::arguments::{CompilerArguments, ParsedArguments};
 use cuda_below::command::CompileCommandImpl;
@@ -15,7 +12,7 @@ use device_lines::cicc::Cicc;
 use device_lines::cudafe::CudaFE;
 use device_lines::ptxas::Ptxas;
 use std::alloc::{AllocError, Global};
-use std::io::Write;
+use texts::fault::Fault;
 use texts::text::Text;
 
 // Each word on a line of its own.
@@ -34,10 +31,7 @@ fn shown_words(alloc: Global, words: &[String]) -> Result<String, AllocError>
 fn no_places(alloc: Global) -> Places
     ensures { result ≡ spec.no_places }
 {
-    Places {
-        temp_dir: Text::new(String::new(alloc)),
-        canonical_input: Text::new(String::new(alloc)),
-    }
+    Places::empty(alloc)
 }
 
 // The text of arguments that a compiler writes back.
@@ -46,14 +40,14 @@ fn arguments_text<C: CCompilerImpl>(
     compiler: &C,
     cwd: &str,
     parsed: &ParsedArguments,
-) -> Result<String, Stop>
+) -> Result<Option<Text>, Fault>
 where
     C::Command: Drop,
-    ensures { Answers (text_of result) (spec.show_command C.Command.arguments (C.writing compiler.now [] parsed.now cwd.now [] spec.no_places)) }
+    ensures { UnlessMemory result (spec.show_command C.Command.arguments (C.writing compiler.now [] parsed.now cwd.now [] spec.no_places)) }
 {
     let places = no_places(alloc);
     let (command, _) = compiler.generate_compile_commands(alloc, "", parsed, cwd, &[], &places)?;
-    Ok(shown_words(alloc, command.get_arguments())?)
+    Ok(Some(Text::new(shown_words(alloc, command.get_arguments())?)))
 }
 
 // The text of a line that a compiler reads and writes back.
@@ -62,41 +56,34 @@ fn line_text<C: CCompilerImpl>(
     compiler: &C,
     cwd: &str,
     words: &[String],
-) -> Result<String, Stop>
+) -> Result<Option<Text>, Fault>
 where
     C::Command: Drop,
-    ensures { Answers (text_of result) (spec.show_reading C.Command.arguments (λ p. C.writing compiler.now [] p cwd.now [] spec.no_places) (C.reading compiler.now (map string_bytes words.now) cwd.now [])) }
+    ensures { UnlessMemory result (spec.show_reading C.Command.arguments
+        (λ p. C.writing compiler.now [] p cwd.now [] spec.no_places)
+        (C.reading compiler.now (map string_bytes words.now) cwd.now [])) }
 {
     match compiler.parse_arguments(alloc, words, cwd, &[])? {
         CompilerArguments::Ok(parsed) => arguments_text(alloc, compiler, cwd, &parsed),
-        _ => Err(Stop::NotCompilation),
+        _ => Ok(None),
     }
 }
 
-// The text of a tool's line, read and written back.
-fn tool_text(alloc: Global, tool: Tool, cwd: &str, words: &[String]) -> Result<String, Stop>
-    ensures { Answers (text_of result) (spec.shown_line tool cwd.now (map string_bytes words.now)) }
+/// Reads the words of a tool's line at the working directory `cwd`, writes them back, and gives the written words, each
+/// followed by a newline. `None` if the line compiles nothing.
+///
+/// Fails if the line names no output (`Fault::MissingOutput`).
+pub fn show_line(
+    alloc: Global,
+    tool: Tool,
+    cwd: &str,
+    words: &[String],
+) -> Result<Option<Text>, Fault>
+    ensures { UnlessMemory result (spec.line_text tool cwd.now (map string_bytes words.now)) }
 {
     match tool {
         Tool::Cicc => line_text(alloc, &Cicc { version: None }, cwd, words),
         Tool::Ptxas => line_text(alloc, &Ptxas { version: None }, cwd, words),
         Tool::CudaFe => line_text(alloc, &CudaFE { version: None }, cwd, words),
     }
-}
-
-/// Reads the words of a tool's line at the working directory `cwd`, and writes the words that it is
-/// written back as to `w`, each followed by a newline.
-///
-/// Refuses a line that is no compilation (`Stop::NotCompilation`) and one without an output
-/// (`Fault::MissingOutput`), with nothing written; `Stop::Write` if `w` fails.
-pub fn run_line<W: Write>(
-    alloc: Global,
-    tool: Tool,
-    cwd: &str,
-    words: &[String],
-    w: &mut W,
-) -> Result<(), Stop>
-    ensures { Delivers result (spec.shown_line tool cwd.now (map string_bytes words.now)) (W.contents w.old) (W.contents w.new) }
-{
-    deliver(tool_text(alloc, tool, cwd, words), w)
 }

@@ -2,26 +2,14 @@
 
 ghost use Rattle.std.specs.Prelude.{◌≡◌, ◌++◌, IfOk, OnOk, map, string_bytes, vec_items};
 ghost use Rattle.std.specs.List.{flat_map};
-ghost use Rattle.texts.specs.Numeral.{numeral};
 ghost use Rattle.plan_texts.specs.ShownPlan as spec;
 
-use command_groups::{Dropped, NvccGeneratedSubcommand, Plan, Reason};
+use command_groups::{Dropped, NvccGeneratedSubcommand, Plan};
 use cuda_below::command::Cacheable;
 use std::alloc::{AllocError, Global};
+use texts::decimal::push_number;
 
-// The name of a reason.
-fn reason_name(reason: Reason) -> &'static str
-    ensures { result.now ≡ spec.show_reason reason }
-{
-    match reason {
-        Reason::NotCuda => "NotCuda",
-        Reason::NoCiccGroup => "NoCiccGroup",
-        Reason::NoPtxasGroup => "NoPtxasGroup",
-        Reason::Superseded => "Superseded",
-    }
-}
-
-// Whether a command's outputs may come from a cache.
+// Whether a cache may serve a command's outputs.
 fn cacheable_name(cacheable: Cacheable) -> &'static str
     ensures { result.now ≡ spec.show_cacheable cacheable }
 {
@@ -31,21 +19,7 @@ fn cacheable_name(cacheable: Cacheable) -> &'static str
     }
 }
 
-// A number in decimal digits.
-fn number_text(alloc: Global, number: usize) -> Result<String, AllocError>
-    ensures { IfOk result (λ text. string_bytes text ≡ numeral number) }
-{
-    format!(in alloc; "{number}")
-}
-
-// Adds a number in decimal digits.
-fn push_number(alloc: Global, text: &mut String, number: usize) -> Result<(), AllocError>
-    ensures { OnOk result (string_bytes text.new ≡ string_bytes text.old ++ numeral number) }
-{
-    text.push_str(number_text(alloc, number)?.as_str())
-}
-
-// Adds a program and its words, each word after one blank, and the end of the line.
+// Adds a program and its words, each word after a space, and the end of the line.
 fn push_words(text: &mut String, exe: &str, words: &[String]) -> Result<(), AllocError>
     ensures { OnOk result (string_bytes text.new ≡ string_bytes text.old ++ spec.show_words exe.now (map string_bytes words.now)) }
 {
@@ -116,7 +90,7 @@ fn push_dropped(alloc: Global, text: &mut String, dropped: &Dropped) -> Result<(
     text.push_str(" run ")?;
     push_number(alloc, text, dropped.run)?;
     text.push_str(" ")?;
-    text.push_str(reason_name(dropped.reason))?;
+    text.push_str(dropped.reason.name())?;
     text.push_str(" ")?;
     push_words(text, dropped.exe.as_str(), dropped.args.as_slice())
 }
@@ -131,10 +105,9 @@ fn push_all_dropped(alloc: Global, text: &mut String, dropped: &[Dropped]) -> Re
     Ok(())
 }
 
-/// The text of a plan. For each group it has the line `group N`, N from 0, and a line for each
-/// command: `yes` or `no`, whether its outputs may come from a cache, ` cd CWD && EXE`, and each word
-/// after one blank. For each dropped command follows a line `dropped LINE run RUN REASON EXE` and the
-/// words in the same way. No word is quoted, and each line ends in a newline.
+/// The text of a plan. Each group has a line `group N`, N from 0, and then a line for each command: `yes` or `no` for
+/// whether a cache may serve its outputs, ` cd CWD && EXE`, and each word after a space. Each dropped command follows on a
+/// line `dropped LINE run RUN REASON EXE`, with its words in the same way. No word is quoted, and each line ends in a newline.
 pub fn show_plan(alloc: Global, plan: &Plan) -> Result<String, AllocError>
     ensures { IfOk result (λ text. string_bytes text ≡ spec.show_plan plan.now) }
 {

@@ -1,49 +1,70 @@
 -- How calls of the program end.
-use Rattle.std.specs.Prelude.{◌≡◌, ℕ, List, ◌⊎◌, Option, Result, Ok, Err, MatchOption}
+use Rattle.std.specs.Prelude.{◌≡◌, ℕ, List, [], ◌∷◌, ◌++◌, ◌⊎◌, Option, Result, Ok, Err, MatchOption}
 use Rattle.std.specs.Io.KnownBytes.{Keeps}
+use Rattle.nvcc_calls.specs.Directory.{directory_name}
 use Rattle.program_lookups.specs.declared.snapshot.Entry.{Entry}
 use Rattle.program_lookups.specs.Asked.{asked_of_both}
 use Rattle.program_lookups.specs.Snapshot.{answer_in, IsSnapshotOf}
-use Rattle.plan_texts.specs.declared.stop.Stop.{Stop}
-use Rattle.plan_texts.specs.declared.stop.Stop.TheVariants.{Fault, NotCompilation, CannotCache, Unwritable, Write}
-use Rattle.plan_texts.specs.Delivery.{Delivers}
-use Rattle.plan_texts.specs.PlanText.{unread}
-use Rattle.zigrunk.specs.Calls.{CallOf, ExportOf, exports, reads, helps, tells_version}
+use Rattle.programs.specs.declared.stop.Stop.{Stop}
+use Rattle.programs.specs.declared.stop.Stop.TheVariants.{Fault, NotCompilation, CannotCache, Unwritable, Write}
+use Rattle.programs.specs.Delivery.{Delivers}
+use Rattle.programs.specs.LineText.{shown_line}
+use Rattle.programs.specs.PlanText.{PlansFiles, unread}
+use Rattle.zigrunk.specs.Calls.{CallOf, ExportOf, exports, reads, names, rewrites, plans, helps, tells_version}
 use Rattle.zigrunk.specs.Exports.{exported}
-use Rattle.zigrunk.specs.NvccLine.{nvcc_text}
+use Rattle.zigrunk.specs.NvccText.{nvcc_text}
 use Rattle.zigrunk.specs.Pages.{help_text, version_text}
 
--- the exit status of what an engine answers: 3 for an nvcc line that is no compilation or that no cache can serve
-abbrev pub status_of : Result (Unit {0}) Stop → ℕ
-status_of (Ok _) = 0
-status_of (Err NotCompilation) = 3
-status_of (Err (CannotCache what)) = 3
-status_of (Err (Fault fault)) = 1
-status_of (Err (Unwritable why)) = 1
-status_of (Err Write) = 1
+-- the exit status of a call that reads an nvcc line, if it stops: 3 if the line compiles nothing or no cache can serve it
+abbrev pub nvcc_status : Stop → ℕ
+nvcc_status NotCompilation = 3
+nvcc_status (CannotCache what) = 3
+nvcc_status (Fault fault) = 1
+nvcc_status (Unwritable why) = 1
+nvcc_status Write = 1
 
--- what is written for a call that writes a plan, by the bytes of its two files and the engine's answer: what the disk says
--- of the programs that they ask for is open
+-- the exit status of a call that stops
+abbrev pub stopped_status : CallOf → Stop → ℕ
+stopped_status (exports c) stop = 1
+stopped_status (reads c) stop = nvcc_status stop
+stopped_status (names c) stop = 1
+stopped_status (rewrites c) stop = 1
+stopped_status (plans c) stop = 1
+stopped_status helps stop = 1
+stopped_status tells_version stop = 1
+
+-- the exit status of a call, given the engine's answer
+abbrev pub status_of : CallOf → Result (Unit {0}) Stop → ℕ
+status_of call (Ok _) = 0
+status_of call (Err stop) = stopped_status call stop
+
+-- what the program writes for a call that exports a plan, given the bytes of its two files and the engine's answer. The disk
+-- may say anything of the programs that the dry runs look up
 abbrev pub ExportsBytes : ExportOf → List ℕ → List ℕ → Result (Unit {0}) Stop → Option (List ℕ) → Option (List ℕ) → Type 0
 ExportsBytes c first second answer before after =
     (programs : List Entry)
     × IsSnapshotOf (asked_of_both first second c.plan.cwd) programs
     × Delivers answer (exported c (answer_in programs) first second) before after
 
--- the same by the engine's answer alone: what stands in the files is open too, and a file that can't be read is refused
+-- the same, given only the engine's answer: nothing if a file can't be read, else the plan of the bytes of both files,
+-- whatever they are
 abbrev pub ExportsFiles : ExportOf → Result (Unit {0}) Stop → Option (List ℕ) → Option (List ℕ) → Type 0
 ExportsFiles c answer before after =
     Delivers answer unread before after ⊎ ((first : List ℕ) × (second : List ℕ) × ExportsBytes c first second answer before after)
 
--- what is written for a call, by the engine's answer and the variables that nvcc takes words from
+-- what the program writes for a call, given the engine's answer and the variables that nvcc takes words from
 abbrev pub Serves : CallOf → List (List ℕ × List ℕ) → Result (Unit {0}) Stop → Option (List ℕ) → Option (List ℕ) → Type 0
 Serves (exports c) variables answer before after = ExportsFiles c answer before after
 Serves (reads c) variables answer before after = Delivers answer (nvcc_text c variables) before after
+Serves (names c) variables answer before after = Delivers answer (Ok (directory_name c variables ++ 10 ∷ [])) before after
+Serves (rewrites c) variables answer before after = Delivers answer (shown_line c.tool c.cwd c.words) before after
+Serves (plans c) variables answer before after = PlansFiles c answer before after
 Serves helps variables answer before after = Delivers answer (Ok help_text) before after
 Serves tells_version variables answer before after = Delivers answer (Ok version_text) before after
 
--- how a call ends: with status 2 and nothing printed if the words are no call; else with the status of an answer of the
--- engine, which leaves in the output what that answer says
+-- how a call ends: with status 2 and nothing written if the words are no call, else with the status of an engine's answer,
+-- and with what that engine writes
 abbrev pub Ends : ℕ → Option CallOf → List (List ℕ × List ℕ) → Option (List ℕ) → Option (List ℕ) → Type 0
 Ends status call variables before after =
-    MatchOption call ((status ≡ 2) × Keeps before after) (λ c. (answer : Result (Unit {0}) Stop) × (status ≡ status_of answer) × Serves c variables answer before after)
+    MatchOption call ((status ≡ 2) × Keeps before after)
+    (λ c. (answer : Result (Unit {0}) Stop) × (status ≡ status_of c answer) × Serves c variables answer before after)

@@ -1,5 +1,5 @@
 pub mod Calls
 pub mod Endings
 pub mod Exports
-pub mod NvccLine
+pub mod NvccText
 pub mod Pages

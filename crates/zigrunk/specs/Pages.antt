@@ -1,4 +1,4 @@
--- The texts that the program says of itself.
+-- The texts that the program shows of itself.
 use Rattle.std.specs.Prelude.{ℕ, List, [], ◌∷◌, ◌++◌, codes}
 use Rattle.std.specs.List.{flat_map}
 
@@ -10,18 +10,35 @@ lines_of lines = flat_map (λ line. line ++ 10 ∷ []) lines
 abbrev pub help_text : List ℕ
 help_text =
     lines_of
-    (codes "usage: zigrunk shell|ninja|json [--keep] CWD TMP FLAG DRY1 DRY2 SUFFIX.." ∷
+    (codes "usage: zigrunk shell|ninja|json [--keep] [--whole] CWD TMP FLAG DRY1 DRY2 SUFFIX.." ∷
     codes "       zigrunk calls CWD TMP NVCC WORD.." ∷
+    codes "       zigrunk directory CWD NVCC WORD.." ∷
+    codes "       zigrunk line TOOL CWD WORD.." ∷
+    codes "       zigrunk plan CWD TMP FLAG DRY1 DRY2 SUFFIX.." ∷
     codes "       zigrunk --help | --version" ∷
     [] ∷
-    codes "The first form plans the two dry runs of an nvcc call that lie in the files" ∷
-    codes "DRY1 and DRY2, and writes the plan as a shell script, for Ninja or as JSON." ∷
-    codes "With --keep, generated files keep the names that nvcc gives them." ∷
-    codes "The second form reads the words of an nvcc line and writes, for a shell's" ∷
-    codes "eval, the commands that make the two dry runs, and what else the line says." ∷
-    codes "The exit status is 3 for a line that is no compilation or that no cache can" ∷
-    codes "serve, 2 for a call of another form, and 1 for any other refusal." ∷
-    codes "See zigrunk(1); zigrunk-nvcc does both." ∷
+    codes "shell, ninja, json  Plan the two dry runs of an nvcc call, in the files DRY1 and" ∷
+    codes "                    DRY2, and write the plan as a shell script, as a Ninja file" ∷
+    codes "                    or as JSON. With --keep, generated files keep nvcc's names." ∷
+    codes "                    With --whole, it is an error if the plan has no command or" ∷
+    codes "                    dropped one." ∷
+    codes "calls               Read the words of an nvcc line and write, for a shell's eval," ∷
+    codes "                    the commands that make its two dry runs and what else the" ∷
+    codes "                    line says." ∷
+    codes "directory           Write a name for the directory of an nvcc call. The same call" ∷
+    codes "                    always has the same name." ∷
+    codes "line                Read a line of cicc, ptxas or cudafe++ and write it back, one" ∷
+    codes "                    word a line." ∷
+    codes "plan                Write the plan of two dry runs as text." ∷
+    [] ∷
+    codes "CWD is the working directory, TMP the temporary directory, FLAG the compilation" ∷
+    codes "flag, as -c. Each SUFFIX names further generated files. calls and directory read" ∷
+    codes "NVCC_PREPEND_FLAGS and NVCC_APPEND_FLAGS. calls also reads ZIGRUNK_JOBS and" ∷
+    codes "MAKEFLAGS, and says how many commands run at once." ∷
+    [] ∷
+    codes "The exit status is 0 on success, 1 on a fault, 2 for wrong usage, and 3 if calls" ∷
+    codes "reads a line that compiles nothing or that no cache can serve." ∷
+    codes "See zigrunk(1). zigrunk-nvcc runs calls, ninja and Ninja for you." ∷
     [])
 
 -- what `--version` writes

@@ -1,11 +1,12 @@
-//! The variables of the environment that nvcc takes words from.
+//! The variables of the environment that the program reads.
 
+use programs::Stop;
 use std::alloc::AllocError;
 use std::env::{self, VarError};
 use std::rt::Env;
 use texts::variables::Variables;
 
-// Puts a variable last, if the environment has it.
+// Adds a variable, if the environment has it.
 fn push_variable<R: Env + AllocGlobal>(
     rt: &R,
     name: &str,
@@ -18,16 +19,24 @@ fn push_variable<R: Env + AllocGlobal>(
     }
 }
 
-// The same, of both variables.
-fn both_variables<R: Env + AllocGlobal>(rt: &R) -> Result<Variables, VarError> {
+// The variables that the environment has.
+fn variables_of<R: Env + AllocGlobal>(rt: &R) -> Result<Variables, VarError> {
     let mut variables = Variables::new(rt.alloc());
     push_variable(rt, "NVCC_PREPEND_FLAGS", &mut variables)?;
     push_variable(rt, "NVCC_APPEND_FLAGS", &mut variables)?;
+    push_variable(rt, "ZIGRUNK_JOBS", &mut variables)?;
+    push_variable(rt, "MAKEFLAGS", &mut variables)?;
     Ok(variables)
 }
 
-/// `NVCC_PREPEND_FLAGS` and `NVCC_APPEND_FLAGS`, as far as the environment has them; none if one isn't UTF-8
-/// or memory is refused.
-pub fn nvcc_variables<R: Env + AllocGlobal>(rt: &R) -> Option<Variables> {
-    both_variables(rt).ok()
+/// Those of `NVCC_PREPEND_FLAGS`, `NVCC_APPEND_FLAGS`, `ZIGRUNK_JOBS` and `MAKEFLAGS` that the environment has, or `None` if
+/// one isn't UTF-8.
+///
+/// Fails if memory runs out.
+pub fn call_variables<R: Env + AllocGlobal>(rt: &R) -> Result<Option<Variables>, Stop> {
+    match variables_of(rt) {
+        Ok(variables) => Ok(Some(variables)),
+        Err(VarError::OutOfMemory) => Err(Stop::from(AllocError)),
+        Err(_) => Ok(None),
+    }
 }

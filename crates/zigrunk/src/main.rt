@@ -1,30 +1,42 @@
 //! Reads nvcc lines, and writes what they run for a shell, for Ninja and as JSON.
 #![tactic(auto)]
 
-use environment::nvcc_variables;
-use plan_texts::call_words;
+use environment::call_variables;
 use program::run_program;
-use std::io;
+use programs::{Stop, call_words, complain};
+use std::fs::Files;
+use std::io::{self, Write};
 use std::process::ExitCode;
+use std::rt::Env;
 
 mod call;
 mod environment;
 mod export;
-mod nvcc_line;
+mod nvcc_text;
 mod page;
 mod program;
 
+// Runs the call that the program was started with. If a variable that it reads isn't UTF-8, the call is
+// wrong usage.
+fn run<R: Env + Files + AllocGlobal, W: Write, E: Write>(
+    rt: &R,
+    out: &mut W,
+    err: &mut E,
+) -> Result<u8, Stop> {
+    let words = call_words(rt)?;
+    Ok(match call_variables(rt)? {
+        Some(variables) => run_program(rt, words.as_slice(), variables.as_slice(), out, err),
+        None => run_program(rt, &[], &[], out, err),
+    })
+}
+
 fn main(rt: HostRuntime) -> ExitCode {
-    let words = call_words(&rt);
     let (mut out, mut err) = (rt.stdout(), rt.stderr());
-    ExitCode::from(match nvcc_variables(&rt) {
-        Some(variables) => run_program(
-            &rt,
-            words.as_slice(),
-            variables.as_slice(),
-            &mut out,
-            &mut err,
-        ),
-        None => run_program(&rt, &[], &[], &mut out, &mut err),
+    ExitCode::from(match run(&rt, &mut out, &mut err) {
+        Ok(status) => status,
+        Err(stop) => {
+            let _ = complain("zigrunk", &stop, &mut err);
+            1
+        }
     })
 }

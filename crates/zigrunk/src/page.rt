@@ -1,28 +1,47 @@
-//! The texts that the program says of itself.
+//! The texts that the program shows of itself.
 
 ghost use Rattle.std.specs.Prelude.{◌≡◌};
 ghost use Rattle.zigrunk.specs.Pages as spec;
 
-/// What is written to standard error for a call of another form.
-pub const USAGE: &str = "usage: zigrunk shell|ninja|json [--keep] CWD TMP FLAG DRY1 DRY2 SUFFIX.. \
-| calls CWD TMP NVCC WORD.. | --help | --version\n";
+/// What the program writes to standard error for wrong usage.
+pub const USAGE: &str =
+    "usage: zigrunk shell|ninja|json [--keep] [--whole] CWD TMP FLAG DRY1 DRY2 SUFFIX.. \
+| calls CWD TMP NVCC WORD.. | directory CWD NVCC WORD.. | line TOOL CWD WORD.. | plan CWD TMP FLAG DRY1 DRY2 SUFFIX.. \
+| --help | --version\n";
 
 /// What `--help` writes.
 pub fn help() -> &'static str
     ensures { result.now ≡ spec.help_text }
 {
-    "usage: zigrunk shell|ninja|json [--keep] CWD TMP FLAG DRY1 DRY2 SUFFIX..
+    "usage: zigrunk shell|ninja|json [--keep] [--whole] CWD TMP FLAG DRY1 DRY2 SUFFIX..
        zigrunk calls CWD TMP NVCC WORD..
+       zigrunk directory CWD NVCC WORD..
+       zigrunk line TOOL CWD WORD..
+       zigrunk plan CWD TMP FLAG DRY1 DRY2 SUFFIX..
        zigrunk --help | --version
 
-The first form plans the two dry runs of an nvcc call that lie in the files
-DRY1 and DRY2, and writes the plan as a shell script, for Ninja or as JSON.
-With --keep, generated files keep the names that nvcc gives them.
-The second form reads the words of an nvcc line and writes, for a shell's
-eval, the commands that make the two dry runs, and what else the line says.
-The exit status is 3 for a line that is no compilation or that no cache can
-serve, 2 for a call of another form, and 1 for any other refusal.
-See zigrunk(1); zigrunk-nvcc does both.
+shell, ninja, json  Plan the two dry runs of an nvcc call, in the files DRY1 and
+                    DRY2, and write the plan as a shell script, as a Ninja file
+                    or as JSON. With --keep, generated files keep nvcc's names.
+                    With --whole, it is an error if the plan has no command or
+                    dropped one.
+calls               Read the words of an nvcc line and write, for a shell's eval,
+                    the commands that make its two dry runs and what else the
+                    line says.
+directory           Write a name for the directory of an nvcc call. The same call
+                    always has the same name.
+line                Read a line of cicc, ptxas or cudafe++ and write it back, one
+                    word a line.
+plan                Write the plan of two dry runs as text.
+
+CWD is the working directory, TMP the temporary directory, FLAG the compilation
+flag, as -c. Each SUFFIX names further generated files. calls and directory read
+NVCC_PREPEND_FLAGS and NVCC_APPEND_FLAGS. calls also reads ZIGRUNK_JOBS and
+MAKEFLAGS, and says how many commands run at once.
+
+The exit status is 0 on success, 1 on a fault, 2 for wrong usage, and 3 if calls
+reads a line that compiles nothing or that no cache can serve.
+See zigrunk(1). zigrunk-nvcc runs calls, ninja and Ninja for you.
 "
 }
 

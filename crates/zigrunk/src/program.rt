@@ -1,23 +1,25 @@
 //! The program's calls.
 
-ghost use Rattle.std.specs.Prelude.{◌≡◌, ◌⊎◌, List, ℕ, map, Ok, Err, string_bytes};
+ghost use Rattle.std.specs.Prelude.{◌≡◌, ◌⊎◌, List, ℕ, [], ◌∷◌, ◌++◌, map, Ok, string_bytes};
 ghost use Rattle.texts.specs.Variables.{pair_of};
-ghost use Rattle.plan_texts.specs.Delivery.{Delivers};
-ghost use Rattle.plan_texts.specs.PlanText.{unread};
+ghost use Rattle.nvcc_calls.specs.Directory as directories;
+ghost use Rattle.programs.specs.Delivery.{Delivers};
+ghost use Rattle.programs.specs.PlanText.{unread};
 ghost use Rattle.zigrunk.specs.Calls as forms;
 ghost use Rattle.zigrunk.specs.Endings as spec;
 
 use crate::call::{Call, ExportCall, call_of};
-use crate::export::run_export;
-use crate::nvcc_line::run_nvcc_line;
+use crate::export::write_export;
+use crate::nvcc_text::write_nvcc_text;
 use crate::page::{USAGE, help, version};
-use plan_texts::{Stop, complain, deliver, read_file};
+use nvcc_calls::{DirectoryCall, directory_name};
 use program_lookups::snapshot_of;
+use programs::{Stop, complain, deliver, read_file, write_line, write_plan_of_files};
 use std::alloc::Global;
 use std::fs::Files;
 use std::io::Write;
 
-// Plans two dry runs, by what the disk says of their programs, and writes the plan.
+// Plans two dry runs, with the programs that the disk has, and writes the plan.
 fn export_bytes<R: Files + AllocGlobal, W: Write>(
     rt: &R,
     call: &ExportCall<'_>,
@@ -29,7 +31,7 @@ fn export_bytes<R: Files + AllocGlobal, W: Write>(
         ⊎ spec.ExportsBytes (forms.export_of call.now) dry1.now dry2.now result (W.contents out.old) (W.contents out.new) }
 {
     let programs = snapshot_of(rt, dry1, dry2, call.plan.cwd)?;
-    run_export(rt.alloc(), call, dry1, dry2, &programs, out)
+    write_export(rt.alloc(), call, dry1, dry2, &programs, out)
 }
 
 // Reads the file of the second dry run, plans both, and writes the plan.
@@ -42,8 +44,8 @@ fn export_second<R: Files + AllocGlobal, W: Write>(
     ensures { Delivers result unread (W.contents out.old) (W.contents out.new)
         ⊎ ((second : List ℕ) × spec.ExportsBytes (forms.export_of call.now) dry1.now second result (W.contents out.old) (W.contents out.new)) }
 {
-    let dry2 = read_file(rt, rt.alloc(), call.plan.dry2)?;
-    export_bytes(rt, call, dry1, dry2.stdout.as_slice(), out)
+    let dry2 = read_file(rt, call.plan.dry2)?;
+    export_bytes(rt, call, dry1, dry2.as_slice(), out)
 }
 
 // Reads the files of two dry runs, plans them, and writes the plan.
@@ -54,8 +56,8 @@ fn export_files<R: Files + AllocGlobal, W: Write>(
 ) -> Result<(), Stop>
     ensures { spec.ExportsFiles (forms.export_of call.now) result (W.contents out.old) (W.contents out.new) }
 {
-    let dry1 = read_file(rt, rt.alloc(), call.plan.dry1)?;
-    export_second(rt, call, dry1.stdout.as_slice(), out)
+    let dry1 = read_file(rt, call.plan.dry1)?;
+    export_second(rt, call, dry1.as_slice(), out)
 }
 
 // Writes a page.
@@ -64,6 +66,21 @@ fn show<W: Write>(alloc: Global, page: &str, out: &mut W) -> Result<(), Stop>
 {
     let text = String::from_str(alloc, page)?;
     deliver(Ok(text), out)
+}
+
+// Writes the name of a directory and a newline.
+fn show_directory<W: Write>(
+    alloc: Global,
+    call: &DirectoryCall<'_>,
+    variables: &[(String, String)],
+    out: &mut W,
+) -> Result<(), Stop>
+    ensures { Delivers result (Ok (directories.directory_name (directories.directory_of call.now) (map pair_of variables.now) ++ 10 ∷ []))
+        (W.contents out.old) (W.contents out.new) }
+{
+    let mut name = directory_name(alloc, call, variables)?;
+    name.push_str("\n")?;
+    deliver(Ok(name), out)
 }
 
 // Runs the engine that a call asks for.
@@ -77,15 +94,18 @@ fn serve<R: Files + AllocGlobal, W: Write>(
 {
     match call {
         Call::Export(export) => export_files(rt, export, out),
-        Call::Nvcc(line) => run_nvcc_line(rt.alloc(), line, variables, out),
+        Call::Nvcc(line) => write_nvcc_text(rt.alloc(), line, variables, out),
+        Call::Directory(call) => show_directory(rt.alloc(), call, variables, out),
+        Call::Line(line) => write_line(rt.alloc(), line.tool, line.cwd, line.words, out),
+        Call::Plan(plan) => write_plan_of_files(rt, plan, out),
         Call::Help => show(rt.alloc(), help(), out),
         Call::Version => show(rt.alloc(), version(), out),
     }
 }
 
-// The exit status of a program that stops.
-fn status_of(stop: &Stop) -> u8
-    ensures { result ≡ spec.status_of (Err stop.now) }
+// The exit status of a call that reads an nvcc line, if it stops.
+fn nvcc_status(stop: &Stop) -> u8
+    ensures { result ≡ spec.nvcc_status stop.now }
 {
     match stop {
         Stop::NotCompilation | Stop::CannotCache(_) => 3,
@@ -93,23 +113,32 @@ fn status_of(stop: &Stop) -> u8
     }
 }
 
-// The exit status of what an engine answers, once it is told why the engine stopped.
-fn ended<E: Write>(alloc: Global, answer: &Result<(), Stop>, err: &mut E) -> u8
-    ensures { result ≡ spec.status_of answer.now }
+// The exit status of a call that stops.
+fn stopped_status(call: &Call<'_>, stop: &Stop) -> u8
+    ensures { result ≡ spec.stopped_status (forms.seen call.now) stop.now }
+{
+    match call {
+        Call::Nvcc(_) => nvcc_status(stop),
+        _ => 1,
+    }
+}
+
+// The exit status of an engine's answer. If the engine stopped, it first says why.
+fn ended<E: Write>(call: &Call<'_>, answer: &Result<(), Stop>, err: &mut E) -> u8
+    ensures { result ≡ spec.status_of (forms.seen call.now) answer.now }
 {
     match answer {
         Ok(()) => 0,
         Err(stop) => {
-            complain(alloc, "zigrunk", stop, err);
-            status_of(stop)
+            let _ = complain("zigrunk", stop, err);
+            stopped_status(call, stop)
         }
     }
 }
 
-/// Runs a call of the program: the words after its name. `variables` are those of the environment that
-/// nvcc takes words from. What the call prints goes to `out`, the line that says why it stopped to `err`.
-/// Answers the exit status: 0, 1 for a refusal or a failed write, 2 for a call of another form, 3 for an
-/// nvcc line that is no compilation or that no cache can serve.
+/// Runs a call of the program, given the words after its name and `variables`, those of the environment that nvcc takes
+/// words from. The output goes to `out`, and the line that says why the program stopped to `err`. Gives the exit status: 0 on
+/// success, 1 on a fault or if a write failed, 2 for wrong usage, 3 if an nvcc line compiles nothing or no cache can serve it.
 pub fn run_program<R: Files + AllocGlobal, W: Write, E: Write>(
     rt: &R,
     words: &[String],
@@ -124,5 +153,5 @@ pub fn run_program<R: Files + AllocGlobal, W: Write, E: Write>(
         return 2;
     };
     let answer = serve(rt, &call, variables, out);
-    ended(rt.alloc(), &answer, err)
+    ended(&call, &answer, err)
 }

@@ -1,5 +1,6 @@
 use Rattle.std.proofs.Common.{◌≡◌, [], ◌∷◌, ◌++◌, OnOk, string_bytes, subst, ap, ◌∙◌, codes}
-use Rattle.plan_exports.specs.CommandText.{written, env_words, command_text}
+use Rattle.shell_words.specs.Shell.Quoting.{written}
+use Rattle.plan_exports.specs.CommandText.{env_words, command_text}
 use Rattle.plan_exports.proofs.Pushing.{pushed}
 use Rattle.plan_exports.proofs.command.push_command.Goals as goal
 
@@ -12,12 +13,12 @@ returns c =
     let behind_cd = codes " && " ++ (written (env_words command) ++ behind_env) in
     let t0 = string_bytes c.args.text.now in
     let t1 = string_bytes c.push_str.new.self in
-    let t2 = string_bytes c.push_words.new.text in
+    let t2 = string_bytes c.push_quoted.new.text in
     let t3 = string_bytes c.push_str-2.new.self in
     let t4 = string_bytes c.push_env.new.text in
     let t5 = string_bytes c.push_str-3.new.self in
     let t6 = string_bytes c.push_str-4.new.self in
-    let folder : t2 ≡ t1 ++ written (command.cwd ∷ []) = c.in_ok-push_words.ensures ∙ ap (λ w. t1 ++ written (w ∷ [])) c.as_str.ensures in
+    let folder : t2 ≡ t1 ++ written (command.cwd ∷ []) = c.in_ok-push_quoted.ensures ∙ ap (λ w. t1 ++ written (w ∷ [])) c.as_str.ensures in
     let whole : t6 ++ run ≡ t0 ++ command_text launcher command =
     pushed t5 launcher t6 run c.in_ok-push_str-4.ensures.bytes
     ∙ pushed t4 (codes " ") t5 (launcher ++ run) c.in_ok-push_str-3.ensures.bytes

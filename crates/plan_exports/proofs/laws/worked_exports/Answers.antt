@@ -1,5 +1,5 @@
-use Rattle.plan_exports.specs.ExportRows.{line_of_cicc, edge_of_cicc, front_needs, device_needs, final_needs, dash_refused, newline_held, newline_refused}
-use Rattle.plan_exports.proofs.JsonRows.{json_of_cicc}
+use Rattle.plan_exports.specs.ExportExamples.{line_of_cicc, edge_of_cicc, front_needs, device_needs, final_needs, dash_refused, newline_held, newline_refused}
+use Rattle.plan_exports.proofs.JsonExamples.{json_of_cicc}
 use Rattle.plan_exports.proofs.laws.worked_exports.Goals as goal
 
 pub returns : goal.returns

@@ -1,4 +1,4 @@
-use Rattle.plan_texts.specs.ShownPlanRows.{one_kernel_shown, empty_runs_shown, dropped_shown, ptxas_without_a_group_shown, output_with_a_slash_shown, not_for_cuda_shown}
+use Rattle.plan_texts.specs.ShownPlanExamples.{one_kernel_shown, empty_runs_shown, dropped_shown, ptxas_without_a_group_shown, output_with_a_slash_shown, not_for_cuda_shown}
 use Rattle.plan_texts.proofs.laws.worked_texts.Goals as goal
 
 pub returns : goal.returns

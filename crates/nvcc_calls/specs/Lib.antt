@@ -1,0 +1,5 @@
+pub mod Answer
+pub mod Calls
+pub mod Directory
+pub mod Jobs
+pub mod Outline

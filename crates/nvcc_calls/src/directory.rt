@@ -1,0 +1,112 @@
+//! The name of a call's directory.
+
+ghost use Rattle.std.specs.Prelude.{◌≡◌, ◌++◌, IfOk, OnOk, codes, flat_map, map, string_bytes, unwrap_or};
+ghost use Rattle.std.specs.Option.{option_copied, option_map};
+ghost use Rattle.hex.specs.Hex.{encode_lower};
+ghost use Rattle.sha2.specs.Sha256.{sha256};
+ghost use Rattle.texts.specs.Variables.{pair_of};
+ghost use Rattle.nvcc_calls.specs.Directory as spec;
+
+use sha2::{Digest, Sha256};
+use std::alloc::{AllocError, Global};
+use texts::decimal::push_number;
+use texts::variables::first_value;
+
+/// A call that asks for the name of an nvcc call's directory.
+#[derive(Debug, Drop)]
+pub struct DirectoryCall<'a> {
+    /// The working directory's path.
+    pub cwd: &'a str,
+    /// nvcc's path or name.
+    pub nvcc: &'a str,
+    /// The line's words, without nvcc's name.
+    pub words: &'a [String],
+}
+
+/// Parses `CWD NVCC WORD..`. `None` if the words are too few.
+pub fn directory_call<'a>(words: &'a [String]) -> Option<DirectoryCall<'a>>
+    ensures { option_map spec.directory_of result ≡ spec.directory_call_of (map string_bytes words.now) }
+{
+    let [cwd, nvcc, line @ ..] = words else {
+        return None;
+    };
+    Some(DirectoryCall {
+        cwd: cwd.as_str(),
+        nvcc: nvcc.as_str(),
+        words: line,
+    })
+}
+
+// Adds a part behind its length.
+fn push_sized(alloc: Global, text: &mut String, part: &str) -> Result<(), AllocError>
+    ensures { OnOk result (string_bytes text.new ≡ string_bytes text.old ++ spec.sized part.now) }
+{
+    push_number(alloc, text, part.len())?;
+    text.push_str(":")?;
+    text.push_str(part)
+}
+
+// Adds each word behind its length.
+fn push_words(alloc: Global, text: &mut String, words: &[String]) -> Result<(), AllocError>
+    ensures { OnOk result (string_bytes text.new ≡ string_bytes text.old ++ spec.identity (map string_bytes words.now)) }
+{
+    for word in words {
+        push_sized(alloc, text, word.as_str())?;
+    }
+    Ok(())
+}
+
+// Adds a variable's value behind its length.
+fn push_value(
+    alloc: Global,
+    text: &mut String,
+    variables: &[(String, String)],
+    name: &str,
+) -> Result<(), AllocError>
+    ensures { OnOk result (string_bytes text.new ≡ string_bytes text.old ++ spec.sized (spec.value_in (map pair_of variables.now) name.now)) }
+{
+    match first_value(variables, name) {
+        Some(value) => push_sized(alloc, text, value),
+        None => push_sized(alloc, text, ""),
+    }
+}
+
+// All that a call depends on, as one text.
+fn identity(
+    alloc: Global,
+    call: &DirectoryCall<'_>,
+    variables: &[(String, String)],
+) -> Result<String, AllocError>
+    ensures { IfOk result (λ text. string_bytes text ≡ spec.identity (spec.parts_of (spec.directory_of call.now) (map pair_of variables.now))) }
+{
+    let mut text = String::new(alloc);
+    push_sized(alloc, &mut text, call.cwd)?;
+    push_sized(alloc, &mut text, call.nvcc)?;
+    push_value(alloc, &mut text, variables, "NVCC_PREPEND_FLAGS")?;
+    push_value(alloc, &mut text, variables, "NVCC_APPEND_FLAGS")?;
+    push_words(alloc, &mut text, call.words)?;
+    Ok(text)
+}
+
+// The SHA-256 of a text, in lower-case hex digits.
+fn hex_digest(alloc: Global, text: &str) -> Result<String, AllocError>
+    ensures { IfOk result (λ hex. string_bytes hex ≡ encode_lower (sha256 text.now)) }
+{
+    hex::encode(alloc, Sha256::digest(text.as_bytes()))
+}
+
+/// The name of the directory of an nvcc call: `zigrunk-` and the SHA-256 of all that the call depends on, in lower-case hex
+/// digits: the working directory, nvcc, both variables of nvcc's flags and the words, each behind its length, so no two calls
+/// share a text.
+pub fn directory_name(
+    alloc: Global,
+    call: &DirectoryCall<'_>,
+    variables: &[(String, String)],
+) -> Result<String, AllocError>
+    ensures { IfOk result (λ name. string_bytes name ≡ spec.directory_name (spec.directory_of call.now) (map pair_of variables.now)) }
+{
+    let identity = identity(alloc, call, variables)?;
+    let mut name = String::from_str(alloc, "zigrunk-")?;
+    name.push_str(hex_digest(alloc, identity.as_str())?.as_str())?;
+    Ok(name)
+}

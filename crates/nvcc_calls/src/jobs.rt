@@ -1,0 +1,81 @@
+//! How many commands Ninja runs at once.
+
+ghost use Rattle.std.specs.Prelude.{◌≡◌, IfOk, codes, map, string_bytes};
+ghost use Rattle.std.specs.Option.{option_and_then, option_copied};
+ghost use Rattle.texts.specs.Variables.{pair_of};
+ghost use Rattle.texts.specs.Variables as variables_spec;
+ghost use Rattle.canonical_names.specs.Alike as alike;
+ghost use Rattle.host_lines.specs.KeepThreads.{number_of};
+ghost use Rattle.nvcc_calls.specs.Jobs as spec;
+
+use std::alloc::{AllocError, Global};
+use texts::decimal;
+use texts::text::Text;
+use texts::variables::first_value;
+
+// Whether `text` contains `part`.
+fn holds(text: &str, part: &str) -> bool
+    ensures { result ≡ alike.holds part.now text.now }
+{
+    text.contains(part)
+}
+
+// Whether make's flags name a job server.
+fn has_jobserver(flags: Option<&str>) -> bool
+    ensures { result ≡ spec.has_jobserver (option_copied flags.entry) }
+{
+    match flags {
+        None => false,
+        Some(flags) => holds(flags, "--jobserver-auth=") || holds(flags, "--jobserver-fds="),
+    }
+}
+
+// The number that a text is.
+fn number_in(text: &str) -> Option<usize>
+    ensures { result ≡ number_of text.now }
+{
+    text.parse::<usize>().ok()
+}
+
+// The number in the environment.
+fn number_given(variables: &[(String, String)]) -> Option<usize>
+    ensures { result ≡ option_and_then number_of (variables_spec.first_value (codes "ZIGRUNK_JOBS") (map pair_of variables.now)) }
+{
+    number_in(first_value(variables, "ZIGRUNK_JOBS")?)
+}
+
+// The number of jobs, or 0 for Ninja's own choice.
+fn number_of_jobs(variables: &[(String, String)], threads: usize) -> usize
+    ensures { result ≡ spec.jobs_of (map pair_of variables.now) threads }
+{
+    match number_given(variables) {
+        Some(number) => number,
+        None if has_jobserver(first_value(variables, "MAKEFLAGS")) => 1,
+        None => threads,
+    }
+}
+
+/// The number for Ninja's `-j`, or empty for Ninja's own choice, given the line's number of `threads` or 0.
+///
+/// `ZIGRUNK_JOBS` decides if it is a number. Else, under a make that hands out jobs, one command runs at a time.
+pub fn jobs(
+    alloc: Global,
+    variables: &[(String, String)],
+    threads: usize,
+) -> Result<Text, AllocError>
+    ensures { IfOk result (λ text. text ≡ spec.jobs_text (spec.jobs_of (map pair_of variables.now) threads)) }
+{
+    let number = number_of_jobs(variables, threads);
+    if number == 0 {
+        return Ok(Text::new(String::new(alloc)));
+    }
+    Ok(Text::new(decimal::number_text(alloc, number)?))
+}
+
+/// The number of threads that a line asks for, or 0 if it has no thread words, given its words and what is left of them
+/// without thread words.
+pub fn threads_asked(words: &[String], left: &[String], number: usize) -> usize
+    ensures { result ≡ spec.threads_asked (map string_bytes words.now) (map string_bytes left.now, number) }
+{
+    if left.len() == words.len() { 0 } else { number }
+}

@@ -1,0 +1,17 @@
+//! What to run for an nvcc line: its dry runs, the command that writes its dependency file, and what else the line says.
+#![tactic(auto)]
+
+mod answer;
+mod call;
+mod command_text;
+mod directory;
+mod jobs;
+pub mod laws;
+mod outline;
+mod shell;
+
+pub use answer::{Answer, read_call};
+pub use call::{NvccCall, nvcc_call};
+pub use directory::{DirectoryCall, directory_call, directory_name};
+pub use outline::Outline;
+pub use shell::shell_text;

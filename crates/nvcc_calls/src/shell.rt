@@ -1,0 +1,34 @@
+//! What an nvcc line says, as text for a shell's `eval`.
+
+ghost use Rattle.std.specs.Prelude.{◌≡◌, ◌++◌, IfOk, OnOk, string_bytes};
+ghost use Rattle.nvcc_calls.specs.Outline as spec;
+
+use crate::outline::Outline;
+use shell_words::push_quoted;
+use std::alloc::{AllocError, Global};
+use texts::text::Text;
+
+// Adds the line that gives a variable a value.
+fn push_assignment(text: &mut String, name: &str, value: &Text) -> Result<(), AllocError>
+    ensures { OnOk result (string_bytes text.new ≡ string_bytes text.old ++ spec.assignment name.now value.now) }
+{
+    text.push_str(name)?;
+    text.push_str("=")?;
+    push_quoted(text, value.as_str(), &[])?;
+    text.push_str("\n")
+}
+
+/// The text for a shell's `eval`: a line `NAME=VALUE` for each of `dependencies`, `first_dry_run`, `second_dry_run`, `flag`,
+/// `jobs` and `keep_dir`, in this order, with the value quoted.
+pub fn shell_text(alloc: Global, outline: &Outline) -> Result<String, AllocError>
+    ensures { IfOk result (λ text. string_bytes text ≡ spec.outline_text outline.now) }
+{
+    let mut text = String::new(alloc);
+    push_assignment(&mut text, "dependencies", &outline.dependencies)?;
+    push_assignment(&mut text, "first_dry_run", &outline.first)?;
+    push_assignment(&mut text, "second_dry_run", &outline.second)?;
+    push_assignment(&mut text, "flag", &outline.flag)?;
+    push_assignment(&mut text, "jobs", &outline.jobs)?;
+    push_assignment(&mut text, "keep_dir", &outline.keep_dir)?;
+    Ok(text)
+}

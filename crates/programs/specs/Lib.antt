@@ -1,0 +1,5 @@
+pub mod Calls
+pub mod Complaint
+pub mod Delivery
+pub mod LineText
+pub mod PlanText

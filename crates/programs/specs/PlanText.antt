@@ -1,0 +1,54 @@
+-- The text that a program writes for two dry runs.
+use Rattle.std.specs.Prelude.{ℕ, List, [], ◌++◌, if◌then◌else◌, ◌⊎◌, Option, None, Result, Ok, Err}
+use Rattle.cuda_below.specs.declared.compiler.NvccHostCompiler.TheVariants.{Gcc}
+use Rattle.texts.specs.declared.fault.Fault.{Fault}
+use Rattle.texts.specs.declared.fault.Fault.TheVariants.{BadSuffixes, Read}
+use Rattle.canonical_names.specs.Generated.{standard_suffixes}
+use Rattle.canonical_names.specs.SuffixRule.{are_suffixes}
+use Rattle.command_groups.specs.declared.plan.Plan.{Plan}
+use Rattle.command_groups.specs.Plan.{PlanSetting}
+use Rattle.command_groups.specs.PlanOfBytes.{planning_of}
+use Rattle.dry_runs.specs.DryRun.{LookUp}
+use Rattle.dry_runs.specs.FirstDir.{first_dir}
+use Rattle.programs.specs.declared.stop.Stop.{Stop}
+use Rattle.programs.specs.declared.stop.Stop.TheVariants as stops
+use Rattle.plan_texts.specs.ShownPlan.{show_plan}
+use Rattle.programs.specs.Calls.{PlanOf}
+use Rattle.programs.specs.Delivery.{Delivers}
+
+-- what a program plans for: gcc compiles host code, and the call's environment is empty
+abbrev pub program_setting : List ℕ → List ℕ → List ℕ → PlanSetting
+program_setting cwd tmp flag = record { cwd = cwd; tmp = tmp; flag = flag; host_compiler = Gcc; env_vars = [] }
+
+-- the suffixes of a call: the standard ones, and the further ones behind them, if together they are a list of suffixes
+abbrev pub all_suffixes : List (List ℕ) → Result (List (List ℕ)) Fault
+all_suffixes further = if are_suffixes (standard_suffixes ++ further) then Ok (standard_suffixes ++ further) else Err BadSuffixes
+
+-- the text of a plan, or why there is none
+abbrev pub show_planning : Result Plan Fault → Result (List ℕ) Stop
+show_planning (Ok plan) = Ok (show_plan plan)
+show_planning (Err fault) = Err (stops.Fault fault)
+
+-- the plan of two dry runs with these suffixes, unless the suffixes are at fault
+abbrev pub planned_with : Option (List ℕ) → PlanSetting → LookUp → List ℕ → List ℕ → Result (List (List ℕ)) Fault → Result Plan Fault
+planned_with keep_dir setting which first second (Ok suffixes) = planning_of suffixes keep_dir setting which first second
+planned_with keep_dir setting which first second (Err fault) = Err fault
+
+-- the plan of a program, with the standard suffixes and further ones. Bad suffixes come before any fault of a run
+abbrev pub planned : List ℕ → List ℕ → List ℕ → Option (List ℕ) → LookUp → List ℕ → List ℕ → List (List ℕ) → Result Plan Fault
+planned cwd tmp flag keep_dir which first second further = planned_with keep_dir (program_setting cwd tmp flag) which first second (all_suffixes further)
+
+-- the text of the plan of two dry runs, without a keep directory. Every program is looked up in the first folder of `PATH`
+abbrev pub shown_plan : List ℕ → List ℕ → List ℕ → List ℕ → List ℕ → List (List ℕ) → Result (List ℕ) Stop
+shown_plan cwd tmp flag first second further = show_planning (planned cwd tmp flag None first_dir first second further)
+
+-- the answer if the file of a run can't be read
+abbrev pub unread : Result (List ℕ) Stop
+unread = Err (stops.Fault Read)
+
+-- what a program writes for a call that plans, given the engine's answer: nothing if a file can't be read, else the text for
+-- the bytes of both files, whatever they are
+abbrev pub PlansFiles : PlanOf → Result (Unit {0}) Stop → Option (List ℕ) → Option (List ℕ) → Type 0
+PlansFiles c answer before after =
+    Delivers answer unread before after ⊎
+    ((first : List ℕ) × (second : List ℕ) × Delivers answer (shown_plan c.cwd c.tmp c.flag first second c.suffixes) before after)

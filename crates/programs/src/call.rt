@@ -1,0 +1,83 @@
+//! The words of a program's call.
+
+ghost use Rattle.std.specs.Prelude.{◌≡◌, map, string_bytes};
+ghost use Rattle.std.specs.Option.{option_map};
+ghost use Rattle.programs.specs.Calls as spec;
+
+use crate::stop::Stop;
+use plan_texts::Tool;
+use std::env;
+use std::io::ErrorKind;
+use std::rt::Env;
+use texts::fault::Fault;
+
+/// The words after the program's name, or none if one isn't UTF-8, so that a program never takes part of a call for
+/// another call.
+///
+/// Fails if memory runs out.
+pub fn call_words<R: Env + AllocGlobal>(rt: &R) -> Result<Vec<String>, Stop> {
+    match env::args(rt) {
+        Ok(args) => Ok(args.skip(1).collect(rt.alloc())?),
+        Err(error) if error.kind() == ErrorKind::OutOfMemory => Err(Stop::Fault(Fault::Memory)),
+        Err(_) => Ok(Vec::new(rt.alloc())),
+    }
+}
+
+/// A call that reads a tool's line and writes it back.
+#[derive(Debug, Drop)]
+pub struct LineCall<'a> {
+    /// The tool whose line it is.
+    pub tool: Tool,
+    /// The working directory's path.
+    pub cwd: &'a str,
+    /// The line's words, without the tool's name.
+    pub words: &'a [String],
+}
+
+/// A call that plans the dry runs of two files.
+#[derive(Debug, Drop)]
+pub struct PlanCall<'a> {
+    /// The working directory's path.
+    pub cwd: &'a str,
+    /// The temporary directory's path.
+    pub tmp: &'a str,
+    /// The compilation flag, as `-c`.
+    pub flag: &'a str,
+    /// The path of the first dry run's file.
+    pub dry1: &'a str,
+    /// The path of the second dry run's file.
+    pub dry2: &'a str,
+    /// Further suffixes of generated files.
+    pub suffixes: &'a [String],
+}
+
+/// Parses `TOOL CWD WORD..`. `None` if the words have another form or name another tool.
+pub fn line_call<'a>(words: &'a [String]) -> Option<LineCall<'a>>
+    ensures { option_map spec.line_of result ≡ spec.line_call_of (map string_bytes words.now) }
+{
+    let [tool, cwd, line @ ..] = words else {
+        return None;
+    };
+    Some(LineCall {
+        tool: Tool::named(tool.as_str())?,
+        cwd: cwd.as_str(),
+        words: line,
+    })
+}
+
+/// Parses `CWD TMP FLAG DRY1 DRY2 SUFFIX..`. `None` if the words are too few.
+pub fn plan_call<'a>(words: &'a [String]) -> Option<PlanCall<'a>>
+    ensures { option_map spec.plan_of result ≡ spec.plan_call_of (map string_bytes words.now) }
+{
+    let [cwd, tmp, flag, dry1, dry2, suffixes @ ..] = words else {
+        return None;
+    };
+    Some(PlanCall {
+        cwd: cwd.as_str(),
+        tmp: tmp.as_str(),
+        flag: flag.as_str(),
+        dry1: dry1.as_str(),
+        dry2: dry2.as_str(),
+        suffixes,
+    })
+}

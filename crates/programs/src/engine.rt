@@ -1,0 +1,141 @@
+//! The engines that programs run: they read a line or plan two dry runs, and write the text.
+
+ghost use Rattle.std.specs.Prelude.{◌≡◌, ◌⊎◌, ℕ, List, Option, Result, map, string_bytes};
+ghost use Rattle.texts.specs.declared.fault.Fault.{Fault};
+ghost use Rattle.texts.specs.Fault.{UnlessMemory};
+ghost use Rattle.programs.specs.Calls.{plan_of};
+ghost use Rattle.programs.specs.Delivery.{Answers, Delivers, text_of};
+ghost use Rattle.programs.specs.LineText.{shown_line, stopped};
+ghost use Rattle.programs.specs.PlanText as spec;
+
+use crate::call::PlanCall;
+use crate::delivery::deliver;
+use crate::file::read_file;
+use crate::planning::plan_dry_runs;
+use crate::stop::Stop;
+use cuda_below::compiler::NvccHostCompiler;
+use dry_runs::FirstDir;
+use plan_texts::{Tool, show_line, show_plan};
+use std::alloc::Global;
+use std::fs::Files;
+use std::io::Write;
+use texts::fault::Fault;
+use texts::text::Text;
+
+// A text, or why there is none.
+fn answered(text: Result<Option<Text>, Fault>) -> Result<String, Stop>
+    ensures { (expected : Result (Option (List ℕ)) Fault) → UnlessMemory text expected → Answers (text_of result) (stopped expected) }
+{
+    match text? {
+        Some(text) => Ok(text.into_string()),
+        None => Err(Stop::NotCompilation),
+    }
+}
+
+/// Reads the words of a tool's line at the working directory `cwd`, writes them back, and writes the written words to `w`
+/// in one piece, each followed by a newline.
+///
+/// Fails if the line compiles nothing (`Stop::NotCompilation`) or names no output (`Fault::MissingOutput`), with nothing
+/// written, and if `w` fails (`Stop::Write`).
+pub fn write_line<W: Write>(
+    alloc: Global,
+    tool: Tool,
+    cwd: &str,
+    words: &[String],
+    w: &mut W,
+) -> Result<(), Stop>
+    ensures { Delivers result (shown_line tool cwd.now (map string_bytes words.now)) (W.contents w.old) (W.contents w.new) }
+{
+    deliver(answered(show_line(alloc, tool, cwd, words)), w)
+}
+
+// The text of the plan of two dry runs.
+fn plan_text(
+    alloc: Global,
+    cwd: &str,
+    tmp: &str,
+    flag: &str,
+    dry1: &[u8],
+    dry2: &[u8],
+    further: &[String],
+) -> Result<String, Stop>
+    ensures { Answers (text_of result) (spec.shown_plan cwd.now tmp.now flag.now dry1.now dry2.now (map string_bytes further.now)) }
+{
+    let gcc = NvccHostCompiler::Gcc;
+    let plan = plan_dry_runs(
+        alloc,
+        cwd,
+        tmp,
+        flag,
+        None,
+        dry1,
+        dry2,
+        further,
+        &[],
+        gcc,
+        &FirstDir,
+    )?;
+    Ok(show_plan(alloc, &plan)?)
+}
+
+/// Plans the dry runs of one `nvcc` call, `dry1` of `--dryrun --keep` and `dry2` of `--keep-dir TMP --dryrun --keep`, and
+/// writes the text of the plan to `w` in one piece. `cwd` is the working directory, `tmp` the temporary directory, `flag` the
+/// compilation flag, as `-c`. It takes every program to be in the first folder of `PATH`, gcc to compile host code, and the
+/// call's environment to be empty. The further `suffixes` of generated files follow the standard ones.
+///
+/// Fails, in this order and with nothing written, if the suffixes break the rule (`Fault::BadSuffixes`), at the first bad
+/// line of the first run, and at that of the second. Fails if `w` fails (`Stop::Write`).
+pub fn write_plan<W: Write>(
+    alloc: Global,
+    cwd: &str,
+    tmp: &str,
+    flag: &str,
+    dry1: &[u8],
+    dry2: &[u8],
+    suffixes: &[String],
+    w: &mut W,
+) -> Result<(), Stop>
+    ensures { Delivers result (spec.shown_plan cwd.now tmp.now flag.now dry1.now dry2.now (map string_bytes suffixes.now))
+        (W.contents w.old) (W.contents w.new) }
+{
+    deliver(plan_text(alloc, cwd, tmp, flag, dry1, dry2, suffixes), w)
+}
+
+// Reads the file of the second dry run, plans both, and writes the plan.
+fn write_with_second<R: Files + AllocGlobal, W: Write>(
+    rt: &R,
+    call: &PlanCall<'_>,
+    dry1: &[u8],
+    w: &mut W,
+) -> Result<(), Stop>
+    ensures { Delivers result spec.unread (W.contents w.old) (W.contents w.new)
+        ⊎ ((second : List ℕ) × Delivers result
+        (spec.shown_plan call.now.cwd.now call.now.tmp.now call.now.flag.now dry1.now second (map string_bytes call.now.suffixes.now))
+        (W.contents w.old) (W.contents w.new)) }
+{
+    let dry2 = read_file(rt, call.dry2)?;
+    write_plan(
+        rt.alloc(),
+        call.cwd,
+        call.tmp,
+        call.flag,
+        dry1,
+        dry2.as_slice(),
+        call.suffixes,
+        w,
+    )
+}
+
+/// Reads the two files of a call, plans their dry runs as [`write_plan`] does, and writes the plan's text to `w`.
+///
+/// Fails as [`write_plan`] does, and before that if a file can't be read (`Fault::Read`).
+pub fn write_plan_of_files<R: Files + AllocGlobal, W: Write>(
+    rt: &R,
+    call: &PlanCall<'_>,
+    w: &mut W,
+) -> Result<(), Stop>
+    ensures { spec.PlansFiles (plan_of call.now) result (W.contents w.old) (W.contents w.new) }
+{
+    let dry1 = read_file(rt, call.dry1)?;
+    write_with_second(rt, call, dry1.as_slice(), w)
+}

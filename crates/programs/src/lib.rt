@@ -1,0 +1,19 @@
+//! What the programs have in common: the words of their calls, the files they read, the engines they run, how they write
+//! what an engine made, and what they say when they stop.
+#![tactic(auto)]
+
+mod call;
+mod complaint;
+mod delivery;
+mod engine;
+mod file;
+mod planning;
+mod stop;
+
+pub use call::{LineCall, PlanCall, call_words, line_call, plan_call};
+pub use complaint::complain;
+pub use delivery::deliver;
+pub use engine::{write_line, write_plan, write_plan_of_files};
+pub use file::read_file;
+pub use planning::{all_suffixes, plan_dry_runs};
+pub use stop::Stop;

@@ -1,7 +1,0 @@
-use Rattle.std.proofs.Common.{◌≡◌, string_bytes, subst}
-use Rattle.std.specs.Result.{IfOk}
-use Rattle.texts.proofs.NumeralLemmas.{decimal-numeral}
-use Rattle.zigrunk.proofs.nvcc_line.digits.Goals as goal
-
-pub returns : goal.returns
-returns c = subst (λ digits. IfOk c.format.result (λ text. string_bytes text ≡ digits)) (decimal-numeral c.args.number c.ranges.number.fits) c.format.ensures.ok
