@@ -1,4 +1,4 @@
--- What is read of a line.
+-- A parsed line.
 use Rattle.std.specs.Prelude.{ℕ, List, Option, Some, None}
 use Rattle.cuda_plans.specs.Compiler.{Reading, accepted, cannot_cache, not_compilation}
 

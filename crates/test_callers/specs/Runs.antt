@@ -1,4 +1,4 @@
--- What a runner records that starts nothing.
+-- The record of a runner that starts nothing.
 use Rattle.std.specs.Prelude.{List, map, Result, Ok, Err}
 use Rattle.cuda_plans.specs.declared.fault.Fault.{Fault}
 use Rattle.cuda_plans.specs.declared.plan.Plan.{Plan}

@@ -17,7 +17,7 @@ use cuda_plans::outputs::Outputs;
 use cuda_plans::words::Words;
 use std::alloc::{AllocError, Global};
 
-/// Who tells the contents of files.
+/// Computes digests of files.
 pub trait Digests {
     ghost use Rattle.std.specs.Prelude.{List, ℕ};
 
@@ -29,8 +29,8 @@ pub trait Digests {
         ensures { IfOk result (λ text. string_bytes text ≡ digest self.now path.now) };
 }
 
-/// What a cache needs of a line. Its key is made of `words` and `digests`, beside the tool, its version
-/// and the contents of the input. `files` are what it stores, and `command` makes them.
+/// What a cache needs of a line. Its key is made from `words` and `digests`, the tool, its version and the contents of the
+/// input. It stores `files`, which `command` makes.
 #[derive(Drop)]
 pub struct Entry {
     pub words: Words,
@@ -61,7 +61,7 @@ fn paths_of(alloc: Global, outputs: &Outputs) -> Result<Words, AllocError>
     Ok(paths)
 }
 
-// What a cache needs of a cicc line that was read.
+// What a cache needs of a parsed cicc line.
 fn entry_of<D: Digests>(
     alloc: Global,
     digests: &D,
@@ -79,7 +79,7 @@ fn entry_of<D: Digests>(
     })
 }
 
-// The same of what a line was read as; `None` if it is no compilation.
+// The same; `None` if the line is no compilation.
 fn entry_of_reading<D: Digests>(
     alloc: Global,
     digests: &D,
@@ -97,8 +97,8 @@ fn entry_of_reading<D: Digests>(
     }
 }
 
-/// Reads a cicc line at the working directory `cwd`, and says what a cache needs of it; `None` if the
-/// line is no compilation. A line without an output is refused: `MissingOutput`.
+/// Parses a cicc line in the working directory `cwd`, and returns what a cache needs of it; `None` if the line is no
+/// compilation. A line without an output is an error: `MissingOutput`.
 pub fn cicc_entry<D: Digests>(
     alloc: Global,
     digests: &D,
@@ -112,7 +112,7 @@ pub fn cicc_entry<D: Digests>(
     let compiler = Cicc { version: None };
     let reading = compiler.parse_arguments(alloc, words, cwd, &[])?;
     let entry = entry_of_reading(alloc, digests, executable, cwd, &reading);
-    // By a call: so many fields that are dropped in place make a long proof.
+    // Dropped by a call: see "Explicit drops" in docs/ARCHITECTURE.md.
     drop(reading);
     entry
 }

@@ -1,5 +1,6 @@
-//! A call of each caller, and the lines of what it answers. What has many fields is dropped by calls, because the
-//! proofs are shorter so.
+//! One call of each caller, and its result as lines.
+//!
+//! Dropped by a call: see "Explicit drops" in docs/ARCHITECTURE.md.
 
 use crate::cache::{Digests, Entry, cicc_entry};
 use crate::nvcc_line::dry_run_commands;
@@ -15,7 +16,7 @@ use cuda_plans::shell;
 use cuda_plans::text::Text;
 use std::alloc::{AllocError, Global};
 
-// A file's path stands for its contents.
+// Takes a file's path as its digest.
 struct Paths;
 
 impl Digests for Paths {
@@ -26,7 +27,7 @@ impl Digests for Paths {
     }
 }
 
-// The words of a text, and none if it has no words.
+// The words of a text, or none if it can't be split.
 fn words(alloc: Global, text: &str) -> Result<Vec<String>, AllocError> {
     match shell::split(alloc, text)? {
         Some(words) => Ok(words),
@@ -34,7 +35,7 @@ fn words(alloc: Global, text: &str) -> Result<Vec<String>, AllocError> {
     }
 }
 
-// Puts a line last: a name and words.
+// Appends a line: a name and words.
 fn push_line(
     alloc: Global,
     text: &mut String,
@@ -47,7 +48,7 @@ fn push_line(
     text.push_str("\n")
 }
 
-// Puts what a cache needs of a line last, if it is a compilation.
+// Appends what a cache needs of a line, if it is a compilation.
 fn push_entry(alloc: Global, text: &mut String, entry: &Option<Entry>) -> Result<(), Fault> {
     let Some(entry) = entry else {
         return Ok(text.push_str("no compilation\n")?);
@@ -78,7 +79,7 @@ pub fn call_cicc_entry(alloc: Global, text: &mut String) -> Result<(), Fault> {
     push_line_entry(alloc, text, &[])
 }
 
-// Puts the arguments of two dry runs last, if there are any.
+// Appends the arguments of two dry runs, if there are any.
 fn push_runs(
     alloc: Global,
     text: &mut String,
@@ -115,7 +116,7 @@ fn push_line_runs(
     pushed
 }
 
-// Puts a command that would be started last: its place, its program and its words.
+// Appends a command to start: its place, program and words.
 fn push_started(alloc: Global, text: &mut String, started: &Started) -> Result<(), AllocError> {
     let (group, index) = (started.place.group, started.place.index);
     text.push_str(format!(in alloc; "{group}.{index} ")?.as_str())?;
@@ -123,7 +124,7 @@ fn push_started(alloc: Global, text: &mut String, started: &Started) -> Result<(
     push_line(alloc, text, command.exe.as_str(), command.args.as_slice())
 }
 
-// Calls `commands_to_start` with a call, and a dry run of one command, which is both.
+// Calls `commands_to_start` with a call, and a dry run of one command, taken twice.
 fn push_call(alloc: Global, text: &mut String, call: &NvccCompileCommand) -> Result<(), Fault> {
     let dry_run = b"#$ PATH=/b\n#$ gcc -D__NVCC__ -c k.cpp -o k.o\n";
     let recorder = commands_to_start(alloc, call, dry_run, dry_run, &FirstDir)?;
@@ -133,7 +134,7 @@ fn push_call(alloc: Global, text: &mut String, call: &NvccCompileCommand) -> Res
     Ok(())
 }
 
-// Calls `commands_to_start` with the call that a line was read as.
+// Calls `commands_to_start` with the call of a parsed line.
 fn push_reading(
     alloc: Global,
     text: &mut String,
@@ -181,7 +182,7 @@ pub fn call_with_nvcc_line(alloc: Global, text: &mut String) -> Result<(), Fault
     push_line_started(alloc, text, &nvcc, line.as_slice(), &places)
 }
 
-// Puts words last, if there are any.
+// Appends words, if there are any.
 fn push_found(
     alloc: Global,
     text: &mut String,

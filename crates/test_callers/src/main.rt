@@ -1,5 +1,5 @@
-//! Callers of the library, each with its contract: a cicc line for a cache, the dry runs of an nvcc line and
-//! what it would start, shell words. The program calls each once, and prints what it answers.
+//! Callers of the library, each with its contract: a cicc line for a cache, the dry runs of an nvcc line and the commands
+//! that it would start, shell words. The program makes each call once and prints the result.
 #![tactic(auto)]
 
 use cuda_plans::fault::Fault;
@@ -13,7 +13,7 @@ mod nvcc_line;
 mod runs;
 mod words;
 
-// Puts what each caller answers last.
+// Makes all calls and appends their results to `text`.
 fn call_each(alloc: Global, text: &mut String) -> Result<(), Fault> {
     calls::call_cicc_entry(alloc, text)?;
     calls::call_with_nvcc_line(alloc, text)?;

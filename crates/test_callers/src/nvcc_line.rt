@@ -14,7 +14,7 @@ use cuda_plans::fault::Fault;
 use cuda_plans::nvcc::Nvcc;
 use std::alloc::Global;
 
-// The dry runs of what an nvcc line was read as.
+// The dry runs of a parsed nvcc line.
 fn commands_of_reading(
     alloc: Global,
     nvcc: &Nvcc,
@@ -34,13 +34,13 @@ fn commands_of_reading(
         alloc, executable, parsed, cwd, env_vars, places,
     )?;
     let runs = command.dryrun_commands(alloc);
-    // By a call: so many fields that are dropped in place make a long proof.
+    // Dropped by a call: see "Explicit drops" in docs/ARCHITECTURE.md.
     drop(command);
     Ok(Some(runs?))
 }
 
-/// The two commands whose standard error says what an nvcc line runs; `None` if no cache can serve the
-/// line, or it is no compilation. The refusals are those of nvcc's writer.
+/// The two dry runs of an nvcc line. `None` if the line is no compilation or can't be cached. The errors are those of
+/// writing nvcc's command.
 pub fn dry_run_commands(
     alloc: Global,
     nvcc: &Nvcc,

@@ -1,4 +1,4 @@
-//! What an nvcc call would start.
+//! The commands that an nvcc call would start.
 
 ghost use Rattle.std.specs.Prelude.{◌≡◌, map};
 ghost use Rattle.cuda_plans.specs.Fault.{UnlessMemory};
@@ -16,20 +16,20 @@ use cuda_plans::runner::{Answer, Place, Runner};
 use cuda_plans::status::{ExitStatus, Output};
 use std::alloc::{AllocError, Global};
 
-/// A command that would be started, and its place.
+/// A command to start, and its place.
 #[derive(Drop)]
 pub struct Started {
     pub place: Place,
     pub command: NvccGeneratedSubcommand,
 }
 
-/// A runner that starts nothing. It records each command, and answers that it succeeded.
+/// A runner that starts nothing. It records each command and reports success.
 #[derive(Drop)]
 pub struct Recorder {
     pub started: Vec<Started>,
 }
 
-// What a process leaves that succeeds and writes nothing.
+// The output of a process that succeeds and writes nothing.
 fn success(alloc: Global) -> Output
     ensures { result ≡ empty_success }
 {
@@ -56,8 +56,8 @@ impl Runner for Recorder {
     }
 }
 
-/// The commands that an nvcc call would start if none failed: all of its plan, each at its place, in order. The
-/// refusals are those of the planning.
+/// The commands that an nvcc call starts if none fails: its whole plan, in order, with places. The errors are those of
+/// planning.
 pub fn commands_to_start<W: Which>(
     alloc: Global,
     call: &NvccCompileCommand,

@@ -1,4 +1,4 @@
-//! Plans as other tools read them: a shell, Ninja, and readers of JSON.
+//! Plans as shell scripts, Ninja files and JSON.
 
 use cuda_plans::compiler::NvccHostCompiler;
 use cuda_plans::dry_run::FirstDir;
@@ -8,7 +8,7 @@ use programs::plan_dry_runs;
 use std::alloc::Global;
 use texts::fault::Fault;
 
-// A device group of two commands, between a front group and a final group without commands, and one that is dropped.
+// A device group of two commands between two empty groups, and a dropped command.
 const DRY_RUN: &[u8] = b"#$ PATH=/b
 #$ gcc -D__NVCC__ -E k.cu -o k.cpp1.ii
 #$ cicc 'a b$' k.cpp1.ii -o k.ptx
@@ -57,7 +57,7 @@ fn plan(alloc: Global, cwd: &str) -> Result<Plan, Fault> {
     )
 }
 
-// Whether a plan is written as these texts.
+// Whether a plan gives these texts.
 fn is_written(alloc: Global, plan: &Plan) -> bool {
     let script = shell_script(alloc, plan);
     let is_script = matches!(&script, Ok(text) if text.as_str() == SCRIPT);
@@ -73,7 +73,7 @@ fn plans_are_written_for_other_tools(rt: HostRuntime) {
     assert!(rt; matches!(&planned, Ok(plan) if is_written(rt.alloc(), plan)));
 }
 
-// Whether a plan with a newline is written as a script and refused as a file for Ninja.
+// Whether a plan with a newline has a script and no Ninja file.
 fn is_script_alone(alloc: Global, plan: &Plan) -> bool {
     let script = shell_script(alloc, plan);
     let is_script = matches!(&script, Ok(text) if text.as_str() == SCRIPT_OF_FOUR_LINES);

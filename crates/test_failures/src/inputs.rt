@@ -1,17 +1,17 @@
-//! Inputs that are preprocessed already, read by a reader that is interrupted, or fails.
+//! Preprocessed inputs from a reader that is interrupted or fails.
 
 use cuda_plans::cicc;
 use std::io::{self, Read};
 use texts::fault::Fault;
 use texts::status::Output;
 
-// Any bytes, of which the second is no UTF-8.
+// Any bytes; the second isn't UTF-8.
 const BYTES: &[u8] = b"\x00\xff\n";
 
-// What is read before a read fails.
+// The bytes before a read fails.
 const BEGINNINGS: [&[u8]; 5] = [b"", b"x", b"xx", b"xxx", b"xxxx"];
 
-// A reader that gives one byte at a time, is interrupted before each, and fails at the end if so.
+// A reader that returns one byte at a time, is interrupted before each, and fails at the end if `fails`.
 #[derive(Drop)]
 struct Slow<'a> {
     left: &'a [u8],
@@ -46,7 +46,7 @@ fn reader_of(left: &[u8], fails: bool) -> Slow<'_> {
     }
 }
 
-// Whether an output is a success that holds the bytes.
+// Whether an output is a success with these bytes.
 fn is_whole(output: &Output) -> bool {
     let is_alone = output.status.success() && output.stderr.is_empty();
     is_alone && output.stdout.as_slice() == BYTES
@@ -59,7 +59,7 @@ fn interrupted_reads_are_tried_again(rt: HostRuntime) {
 }
 
 #[test]
-fn failed_reads_are_refused(rt: HostRuntime) {
+fn failed_reads_are_errors(rt: HostRuntime) {
     for left in BEGINNINGS.iter() {
         let answer = cicc::read_input(rt.alloc(), reader_of(left, true));
         assert!(rt; matches!(&answer, Err(Fault::Read)));

@@ -1,12 +1,15 @@
-//! Tests of what a row of text can't say: that each call which takes memory answers where there is enough, and what
-//! readers, writers and runners that fail give. Worked lines and texts are rows of the programs `test_lines`
-//! and `test_plans`.
+//! Tests that a line of a file of cases can't express: readers, writers, runners and look-ups that fail, `Debug` output, and
+//! calls that allocate and succeed if there is memory. The cases are in `test_lines` and `test_plans`.
 #![tactic(auto)]
 
+#[cfg(test)]
+mod debug;
 #[cfg(test)]
 mod exports;
 #[cfg(test)]
 mod inputs;
+#[cfg(test)]
+mod lookups;
 #[cfg(test)]
 mod one_kernel;
 #[cfg(test)]

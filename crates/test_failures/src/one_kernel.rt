@@ -1,6 +1,6 @@
 //! A dry run of one kernel.
 
-/// What one kernel is compiled by: seven commands, in three groups.
+/// The commands that compile one kernel: seven, in three groups.
 pub const ONE_KERNEL: &[u8] = br#"#$ PATH=/b
 #$ gcc -D__CUDACC__ -E -x c++ "kernel.cu" -o "kernel.cpp4.ii"
 #$ cudafe++ --gen_c_file_name "kernel.cudafe1.cpp" --stub_file_name "kernel.cudafe1.stub.c" --module_id_file_name "kernel.module_id" --simt-only "kernel.cpp4.ii"

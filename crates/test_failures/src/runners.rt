@@ -1,4 +1,4 @@
-//! A runner that is refused memory, at any of its calls.
+//! A runner that runs out of memory at any of its calls.
 
 ghost use Rattle.std.specs.Prelude.{◌≡◌, ◌++◌, ◌∷◌, [], map};
 ghost use Rattle.cuda_plans.specs.Outcome.{empty_success};
@@ -20,21 +20,21 @@ use texts::text::Text;
 use texts::variables::Variables;
 use texts::words::Words;
 
-// A command that a runner was handed.
+// A command that the runner received.
 #[derive(Drop)]
-struct Entry {
+struct RunnerCall {
     place: Place,
     command: NvccGeneratedSubcommand,
 }
 
-// A runner that answers a number of calls, and then is refused memory. It keeps its account.
+// A runner that answers `calls` calls and then runs out of memory. It keeps an account of the commands.
 #[derive(Drop)]
-struct Refused {
+struct OutOfMemory {
     calls: usize,
-    account: Vec<Entry>,
+    account: Vec<RunnerCall>,
 }
 
-// The answer that a command failed, and left a success: so it didn't fail.
+// The answer that a command failed with the output of a success, which counts as a success.
 fn no_failure(alloc: Global) -> Answer
     ensures { result ≡ Failed (Process empty_success) }
 {
@@ -45,7 +45,7 @@ fn no_failure(alloc: Global) -> Answer
     }))
 }
 
-impl Runner for Refused {
+impl Runner for OutOfMemory {
     ghost log = { λ r. map (λ e. record { place = e.place; command = e.command; answer = Failed (Process empty_success) }) r.account.items };
 
     fn run(
@@ -57,7 +57,7 @@ impl Runner for Refused {
         if self.account.len() == self.calls {
             return Err(AllocError);
         }
-        self.account.push(Entry { place, command })?;
+        self.account.push(RunnerCall { place, command })?;
         Ok(no_failure(alloc))
     }
 }
@@ -83,16 +83,16 @@ fn call(alloc: Global) -> NvccCompileCommand {
 }
 
 // Runs the commands of one kernel, one after the other.
-fn run(alloc: Global, runner: &mut Refused) -> Result<Output, Fault> {
+fn run(alloc: Global, runner: &mut OutOfMemory) -> Result<Output, Fault> {
     let suffixes = Suffixes::standard();
     call(alloc).execute(alloc, ONE_KERNEL, ONE_KERNEL, &FirstDir, runner, &suffixes)
 }
 
 #[test]
-fn runs_end_at_each_call_that_is_refused_memory(rt: HostRuntime) {
+fn runs_end_at_each_call_without_memory(rt: HostRuntime) {
     for calls in 0..7 {
         let account = Vec::new(rt.alloc());
-        let mut runner = Refused { calls, account };
+        let mut runner = OutOfMemory { calls, account };
         assert!(rt; matches!(&run(rt.alloc(), &mut runner), Err(Fault::Memory)));
         assert!(rt; runner.account.len() == calls);
     }
@@ -101,7 +101,7 @@ fn runs_end_at_each_call_that_is_refused_memory(rt: HostRuntime) {
 #[test]
 fn failures_of_successes_end_no_run(rt: HostRuntime) {
     let account = Vec::new(rt.alloc());
-    let mut runner = Refused { calls: 9, account };
+    let mut runner = OutOfMemory { calls: 9, account };
     let answer = run(rt.alloc(), &mut runner);
     assert!(rt; matches!(&answer, Ok(output) if output.status.success()));
     assert!(rt; runner.account.len() == 7);

@@ -1,4 +1,4 @@
-//! A table's row alone, and the words of a line that are left.
+//! A single entry of an option table, and the rest of a line.
 
 use option_items::items::Line;
 use option_items::table::{ArgDisposition, ArgInfo, Match};

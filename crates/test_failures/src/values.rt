@@ -1,5 +1,5 @@
-//! Values that callers make and copy. What a call answers is proved, unless memory is refused; these tests show that it
-//! isn't where there is enough.
+//! Values that callers make and copy. The contracts say what each call returns unless an allocation fails. These tests show
+//! that the calls succeed if there is memory.
 
 use cuda_below::outputs::{ArtifactDescriptor, Outputs};
 use cuda_plans::cicc::Cicc;
@@ -32,7 +32,7 @@ fn texts_and_bytes_are_copied(rt: HostRuntime) {
     assert!(rt; matches!(are_bytes_copied(rt.alloc()), Ok(true)));
 }
 
-// Adds to a list by each call that adds words: seven words, if `more` is two.
+// Adds to a list with each call that adds words: seven words if `more` has two.
 fn add(alloc: Global, list: &mut Words, more: &[String]) -> Result<(), AllocError> {
     list.push(String::new(alloc))?;
     list.push_two(String::new(alloc), String::new(alloc))?;
@@ -40,7 +40,7 @@ fn add(alloc: Global, list: &mut Words, more: &[String]) -> Result<(), AllocErro
     list.extend(alloc, more)
 }
 
-// Whether words are added and copied.
+// Whether words can be added and copied.
 fn are_added(alloc: Global) -> Result<bool, AllocError> {
     let mut more = Words::with_capacity(alloc, 2)?;
     more.push_pair(alloc, "d", "e")?;
@@ -62,7 +62,7 @@ fn environment(alloc: Global) -> Result<Variables, AllocError> {
     Ok(list)
 }
 
-// Whether an environment is copied, and given back.
+// Whether an environment can be copied and turned into a list.
 fn is_environment_copied(alloc: Global) -> Result<bool, AllocError> {
     let list = environment(alloc)?;
     let is_copied = list.try_clone(alloc).is_ok();
@@ -77,14 +77,14 @@ fn is_kept(alloc: Global, shared: &Variables) -> Result<bool, AllocError> {
     Ok(shared.len() == 1 && other.len() == 2)
 }
 
-// Whether both are given back of two lists that share their pairs: a copy first, then the pairs.
+// Whether two lists that share their pairs can both be turned into lists: the first by a copy.
 fn are_given_back(alloc: Global, shared: Variables) -> Result<bool, AllocError> {
     let last = shared.try_clone(alloc)?;
     let is_first_given = shared.into_vec().is_ok();
     Ok(last.into_vec().is_ok() && is_first_given)
 }
 
-// Whether an environment is shared, changed and given back.
+// Whether an environment can be shared, changed and turned into a list.
 fn is_shared(alloc: Global) -> Result<bool, AllocError> {
     let shared = environment(alloc)?.share(alloc)?;
     let is_kept = is_kept(alloc, &shared)?;
@@ -97,7 +97,7 @@ fn environments_are_copied_and_shared(rt: HostRuntime) {
     assert!(rt; matches!(is_shared(rt.alloc()), Ok(true)));
 }
 
-// Whether a file that a command makes is copied, alone and among its files.
+// Whether an output can be copied, alone and in a list.
 fn are_files_copied(alloc: Global) -> Result<bool, AllocError> {
     let file = ArtifactDescriptor {
         path: Text::copy_of(alloc, "/w/a.o")?,
@@ -114,7 +114,7 @@ fn files_are_copied(rt: HostRuntime) {
     assert!(rt; matches!(are_files_copied(rt.alloc()), Ok(true)));
 }
 
-// Whether the compilers of device code are copied, of one version.
+// Whether the device compilers can be copied.
 fn are_device_compilers_copied(alloc: Global, version: Text) -> bool {
     let cicc = Cicc {
         version: Some(version),
@@ -130,7 +130,7 @@ fn are_device_compilers_copied(alloc: Global, version: Text) -> bool {
     ptxas.try_clone(alloc).is_ok() && is_cicc_copied && is_cudafe_copied
 }
 
-// Whether the compilers of host code are copied, of one version.
+// Whether the host compilers can be copied.
 fn are_host_compilers_copied(alloc: Global, version: Text) -> bool {
     let nvhpc = Nvhpc {
         nvcplusplus: false,
@@ -145,7 +145,7 @@ fn are_host_compilers_copied(alloc: Global, version: Text) -> bool {
     nvcc.try_clone(alloc).is_ok() && is_copied
 }
 
-// Whether all compilers are copied.
+// Whether all compilers can be copied.
 fn are_compilers_copied(alloc: Global) -> Result<bool, AllocError> {
     let are_copied = are_device_compilers_copied(alloc, Text::copy_of(alloc, "1")?);
     Ok(are_host_compilers_copied(alloc, Text::copy_of(alloc, "1")?) && are_copied)
@@ -156,7 +156,7 @@ fn compilers_are_copied(rt: HostRuntime) {
     assert!(rt; matches!(are_compilers_copied(rt.alloc()), Ok(true)));
 }
 
-// Whether a number as `wait` gives it tells this code and this signal.
+// Whether a status from `wait` has this code and this signal.
 fn tells(number: i32, code: Option<i32>, signal: Option<i32>) -> bool {
     let status = ExitStatus::from_signal(number);
     status.code() == code && status.signal() == signal
@@ -165,7 +165,7 @@ fn tells(number: i32, code: Option<i32>, signal: Option<i32>) -> bool {
 #[test]
 fn statuses_tell_codes_and_signals(rt: HostRuntime) {
     assert!(rt; ExitStatus::from_signal(0).success());
-    // A core dump without a signal has code 0, and isn't success.
+    // A core dump without a signal has code 0 and isn't a success.
     assert!(rt; !ExitStatus::from_signal(128).success());
     assert!(rt; tells(128, Some(0), None));
     assert!(rt; tells(127, None, None));
@@ -175,7 +175,7 @@ fn statuses_tell_codes_and_signals(rt: HostRuntime) {
     assert!(rt; ExitStatus::from_code(-2) == ExitStatus::from_signal(65024));
 }
 
-// What ptxas left that wrote this and was ended by a signal, if by any.
+// The output of ptxas, which wrote `says` and may have been ended by a signal.
 fn ended(alloc: Global, signal: Option<i32>, says: &[u8]) -> Result<Output, AllocError> {
     let finished = CompileFinished {
         retcode: None,
@@ -186,25 +186,25 @@ fn ended(alloc: Global, signal: Option<i32>, says: &[u8]) -> Result<Output, Allo
     compile_result_to_output(alloc, "/b/ptxas", finished)
 }
 
-// The output of two compilers, of which the second was ended by a signal.
+// The joined output of two compilers; a signal ended the second.
 fn joined(alloc: Global) -> Result<Output, AllocError> {
     let first = ended(alloc, None, b"x")?;
     let output = aggregate_output(first, ended(alloc, Some(9), b"y")?)?;
     error_to_output(alloc, Fault::Process(output))
 }
 
-// Whether it is that signal and both texts.
+// Whether it has that signal and both texts.
 fn is_joined(output: &Output) -> bool {
     let says = b"xptxas terminated (signal: 9)y".as_slice();
     output.status == ExitStatus::from_signal(9) && output.stderr.as_slice() == says
 }
 
-// The output of what a runner says.
+// The output for a runner's message.
 fn told(alloc: Global) -> Result<Output, AllocError> {
     error_to_output(alloc, Fault::Runner(Text::copy_of(alloc, "none such")?))
 }
 
-// Whether it is told with code 1.
+// Whether it has the message and code 1.
 fn is_told(output: &Output) -> bool {
     let says = b"none such".as_slice();
     output.status == ExitStatus::from_code(1) && output.stderr.as_slice() == says

@@ -1,4 +1,4 @@
-//! Writers that fail, at any of their writes.
+//! Writers that fail at any of their writes.
 
 use crate::one_kernel::ONE_KERNEL;
 use plan_texts::Tool;
@@ -7,7 +7,7 @@ use std::alloc::Global;
 use std::io::{self, Write};
 use texts::words::Words;
 
-// A writer that takes at most sixteen bytes at a write, and fails after a number of writes.
+// A writer that takes at most sixteen bytes in one write, and fails after `writes` writes.
 #[derive(Drop)]
 struct Failing {
     writes: usize,
@@ -29,7 +29,7 @@ impl Write for Failing {
     }
 }
 
-// Writes a line of cicc: nineteen bytes, with a newline behind each word.
+// Writes a cicc line: nineteen bytes, with a newline after each word.
 fn fail_line(alloc: Global, writer: &mut Failing) -> Result<(), Stop> {
     let mut words = Words::new(alloc);
     words.push_pair(alloc, "k.cpp1.ii", "-o")?;

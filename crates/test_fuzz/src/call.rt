@@ -1,6 +1,6 @@
-//! The program's calls.
+//! The program's arguments.
 
-/// A call: the seed, the number of the first case, and how many cases are run.
+/// The seed, the number of the first case, and the number of cases.
 #[derive(Clone, Copy)]
 pub struct Call {
     pub seed: u64,
@@ -8,13 +8,12 @@ pub struct Call {
     pub count: u64,
 }
 
-// The number that a word is.
+// A number in decimal digits.
 fn number(word: &str) -> Option<u64> {
     word.parse::<u64>().ok()
 }
 
-/// The call that the words after the program's name are: `SEED COUNT` or `SEED COUNT FIRST`, decimal numbers.
-/// `FIRST` is 0 if it isn't there.
+/// Parses the arguments `SEED COUNT` or `SEED COUNT FIRST`, decimal numbers. `FIRST` is 0 if it is missing.
 pub fn call_of(words: &[String]) -> Option<Call> {
     let (seed, count, first) = match words {
         [seed, count] => (seed.as_str(), count.as_str(), "0"),

@@ -1,18 +1,18 @@
-//! The cases of a run of the program.
+//! Runs the cases.
 
 use crate::call::Call;
 use crate::engine::check_engine;
 use crate::pair::{Pair, some_pair};
 use crate::planned::check_pair;
+use crate::run_error::RunError;
 use crate::selection::check_selections;
 use crate::shell_text::check_shell;
 use crate::source::Source;
-use crate::stop::Stop;
 use crate::tally::Tally;
 use crate::{device, host};
 use std::alloc::{AllocError, Global};
 
-// Shows the dry runs of a pair, any byte that is no text as a replacement character.
+// Shows the dry runs of a pair, with a replacement character for each byte that isn't UTF-8.
 fn show(alloc: Global, pair: &Pair, tally: &mut Tally) -> Result<(), AllocError> {
     let first = String::from_utf8_lossy(alloc, pair.first.as_slice())?;
     tally.show("first dry run:", first.as_str())?;
@@ -20,7 +20,7 @@ fn show(alloc: Global, pair: &Pair, tally: &mut Tally) -> Result<(), AllocError>
     tally.show("second dry run:", second.as_str())
 }
 
-// Checks what is answered for a pair, and shows the pair if something failed.
+// Checks the results for a pair, and shows the pair if a check failed.
 fn check_dry_runs(alloc: Global, pair: &Pair, tally: &mut Tally) -> Result<(), AllocError> {
     let before = tally.failed();
     check_pair(alloc, pair, tally)?;
@@ -56,8 +56,8 @@ fn run_all(alloc: Global, call: &Call, tally: &mut Tally) -> Result<(), AllocErr
     Ok(())
 }
 
-/// Runs the cases of a call, and answers what was seen.
-pub fn run(alloc: Global, call: &Call) -> Result<Tally, Stop> {
+/// Runs the cases of a call and returns the tally.
+pub fn run(alloc: Global, call: &Call) -> Result<Tally, RunError> {
     let mut tally = Tally::new(alloc, call)?;
     run_all(alloc, call, &mut tally)?;
     Ok(tally)

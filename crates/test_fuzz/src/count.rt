@@ -1,16 +1,16 @@
-//! Sums over commands, by which two lists of the same commands in another order are told to be the same.
+//! Sums over commands. Two lists with the same commands in another order have equal sums.
 
 use std::alloc::{AllocError, Global};
 use texts::text::file_stem;
 
-/// How many commands there are, and a sum of a number for each of them, which its program and words give.
+/// The number of commands, and a sum of hashes of their programs and words.
 #[derive(Clone, Copy, PartialEq)]
 pub struct Sum {
     pub commands: u64,
     pub marks: u64,
 }
 
-// A number for what came before and some bytes.
+// The hash of some bytes, continued from `before`.
 fn mixed(before: u64, bytes: &[u8]) -> u64 {
     let mut mark = before;
     for byte in bytes {
@@ -19,12 +19,12 @@ fn mixed(before: u64, bytes: &[u8]) -> u64 {
     (mark ^ 0x100).wrapping_mul(0x0100_0000_01b3)
 }
 
-/// A number that a text gives.
+/// The hash of a text.
 pub fn mark_of(text: &str) -> u64 {
     mixed(0xcbf2_9ce4_8422_2325, text.as_bytes())
 }
 
-// A number for a command: for its run, its program and its words, without those that a plan adds or leaves out.
+// The hash of a command: its run, program and words, without the word that a plan may add.
 fn command_mark(run: usize, exe: &str, words: &[String]) -> u64 {
     let mut mark = mark_of(exe).wrapping_add(if run == 1 { 1 } else { 2 });
     for word in words {
@@ -36,7 +36,7 @@ fn command_mark(run: usize, exe: &str, words: &[String]) -> u64 {
 }
 
 impl Sum {
-    /// Of no commands.
+    /// The sum of no commands.
     pub fn new() -> Sum {
         Sum {
             commands: 0,
@@ -51,7 +51,7 @@ impl Sum {
     }
 }
 
-/// The run that a program's commands are taken from: 1 for nvcc's own tools, 2 for all others, none for a program
+/// The run that a plan takes a program's commands from: 1 for nvcc's own tools, 2 for all others, `None` for a program
 /// without a stem.
 pub fn run_of(program: &str) -> Option<usize> {
     match file_stem(program)? {

@@ -16,7 +16,7 @@ use programs::{Stop, write_line};
 use std::alloc::{AllocError, Global};
 use texts::text::Text;
 
-// A word of a line by chance.
+// A random word of a line.
 fn word(alloc: Global, source: &mut Source, names: &Names) -> Result<String, AllocError> {
     if source.one_in(12) {
         return odd_word(alloc, source);
@@ -27,7 +27,7 @@ fn word(alloc: Global, source: &mut Source, names: &Names) -> Result<String, All
     Ok(word)
 }
 
-// Adds up to so many words by chance.
+// Adds fewer than `most` random words.
 fn push_words(
     alloc: Global,
     source: &mut Source,
@@ -67,7 +67,7 @@ fn push_needed(
     Ok(())
 }
 
-// A line by chance. Most have what makes them a compilation.
+// A random line. Most lines are compilations.
 fn line(alloc: Global, source: &mut Source, tool: Tool) -> Result<Vec<String>, AllocError> {
     let names = Names::new(source);
     let mut words = Vec::new(alloc);
@@ -79,7 +79,7 @@ fn line(alloc: Global, source: &mut Source, tool: Tool) -> Result<Vec<String>, A
     Ok(words)
 }
 
-// How many words end so.
+// How many words have this ending.
 fn ending_so(words: &[String], suffix: &str) -> usize {
     words
         .iter()
@@ -94,7 +94,7 @@ fn may_be_valueless(words: &[String]) -> bool {
         .any(|word| matches!(word.as_str(), "" | "-arch=" | "-m="))
 }
 
-// Whether a line, once it is written back, is read as the same arguments.
+// Whether a written line has to parse into the same arguments.
 fn is_reread(tool: Tool, cwd: &str, words: &[String]) -> bool {
     if !cwd.starts_with("/") {
         return false;
@@ -106,7 +106,7 @@ fn is_reread(tool: Tool, cwd: &str, words: &[String]) -> bool {
     }
 }
 
-// No places.
+// Empty places.
 fn no_places(alloc: Global) -> Places {
     Places {
         temp_dir: Text::new(String::new(alloc)),
@@ -114,7 +114,7 @@ fn no_places(alloc: Global) -> Places {
     }
 }
 
-// The words that a line is written back as; `None` where it is refused.
+// The words of the written line; `None` on an error.
 fn rewritten<C: CCompilerImpl>(
     alloc: Global,
     compiler: &C,
@@ -151,7 +151,7 @@ fn copies(alloc: Global, words: &[String]) -> Result<Vec<String>, AllocError> {
     Ok(copies)
 }
 
-// Whether arguments that words are read as are those that they were written of, and written as the same words.
+// Whether parsed arguments are equal to the original ones, and written as the same words.
 fn are_written_so<C: CCompilerImpl>(
     alloc: Global,
     compiler: &C,
@@ -172,7 +172,7 @@ where
     }
 }
 
-// Whether words are read as these arguments, and written as the same words.
+// Whether words parse into these arguments, and are written as the same words.
 fn are_words_of<C: CCompilerImpl>(
     alloc: Global,
     compiler: &C,
@@ -192,7 +192,7 @@ where
     same
 }
 
-// Whether arguments are written as words that are read and written as the same.
+// Whether the words written for these arguments parse into the same arguments and are written as the same words.
 fn are_kept<C: CCompilerImpl>(
     alloc: Global,
     compiler: &C,
@@ -208,7 +208,7 @@ where
     }
 }
 
-// Whether a line that was written back is read and written as the same.
+// Whether a written line makes the round trip.
 fn is_same_again<C: CCompilerImpl>(
     alloc: Global,
     compiler: &C,
@@ -227,7 +227,7 @@ where
     kept
 }
 
-// Whether a tool's line that was written back is read and written as the same.
+// Whether a tool's written line makes the round trip.
 fn is_same_line(
     alloc: Global,
     tool: Tool,
@@ -241,7 +241,7 @@ fn is_same_line(
     }
 }
 
-// Checks a refusal of a line.
+// Checks an error for a line.
 fn check_refusal(stop: &Stop, out: &[u8], tally: &mut Tally) -> Result<(), AllocError> {
     tally.expect(out.is_empty(), "a refused line leaves nothing written")?;
     match stop {
@@ -254,7 +254,7 @@ fn check_refusal(stop: &Stop, out: &[u8], tally: &mut Tally) -> Result<(), Alloc
     }
 }
 
-// Checks a line that was written back.
+// Checks a written line.
 fn check_written(
     alloc: Global,
     tool: Tool,
@@ -274,7 +274,7 @@ fn check_written(
     )
 }
 
-// A tool by chance.
+// A random tool.
 fn some_tool(source: &mut Source) -> Tool {
     match source.below(3) {
         0 => Tool::Cicc,
@@ -283,7 +283,7 @@ fn some_tool(source: &mut Source) -> Tool {
     }
 }
 
-/// Reads a line by chance and writes it back, and checks the answer.
+/// Parses a random line, writes it back and checks the result.
 pub fn check_line(alloc: Global, source: &mut Source, tally: &mut Tally) -> Result<(), AllocError> {
     tally.count("device lines")?;
     let tool = some_tool(source);

@@ -1,4 +1,4 @@
-//! Dry runs by chance.
+//! Random dry runs.
 
 use crate::pools::{COMMANDS, LINES};
 use crate::source::Source;
@@ -6,12 +6,12 @@ use crate::template::{Names, push_filled};
 use crate::word::{long_word, push_odd};
 use std::alloc::{AllocError, Global};
 
-/// What a dry run is made of.
+/// A kind of dry run.
 #[derive(Clone, Copy)]
 pub enum Kind {
     /// Commands as nvcc prints them, and others, with generated names.
     Commands,
-    /// The same, and odd words in them.
+    /// The same, with odd words in them.
     OddCommands,
     /// Marked lines of odd words.
     OddLines,
@@ -25,7 +25,7 @@ pub enum Kind {
     ManyLines,
 }
 
-/// A kind by chance. Long words and many lines are rare.
+/// A random kind. Long words and many lines are rare.
 pub fn some_kind(source: &mut Source) -> Kind {
     if source.one_in(1000) {
         return Kind::ManyLines;
@@ -42,7 +42,7 @@ pub fn some_kind(source: &mut Source) -> Kind {
     }
 }
 
-// Adds the line that most runs begin with.
+// Adds the first line of most runs.
 fn push_path(source: &mut Source, text: &mut String) -> Result<(), AllocError> {
     match source.below(40) {
         0 => Ok(()),
@@ -121,7 +121,7 @@ fn push_references(source: &mut Source, text: &mut String) -> Result<(), AllocEr
     Ok(())
 }
 
-// Adds variables that refer to one another, six at the most: each can make a text thrice as long.
+// Adds at most six variables that refer to one another: each can make a text three times as long.
 fn push_variables(source: &mut Source, text: &mut String) -> Result<(), AllocError> {
     let count = source.below(7);
     for _ in 0..count {
@@ -189,7 +189,7 @@ fn any_bytes(alloc: Global, source: &mut Source) -> Result<Vec<u8>, AllocError> 
     Ok(bytes)
 }
 
-// Puts a byte at a place by chance, most of them no whole character.
+// Inserts a random byte at a random place, mostly one that isn't a whole character.
 fn put_byte(source: &mut Source, bytes: &mut Vec<u8>) -> Result<(), AllocError> {
     let place = source.below(bytes.len().saturating_add(1));
     let byte = match source.below(8) {
@@ -230,7 +230,7 @@ fn push_lines(
     }
 }
 
-/// A dry run of a kind. The same source and other names give the same run with other names.
+/// A dry run of a kind. The same source with other names gives the same run with other names.
 pub fn dry_run(
     alloc: Global,
     source: &mut Source,

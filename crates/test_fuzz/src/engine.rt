@@ -1,4 +1,4 @@
-//! What is checked of the engine that prints a plan.
+//! Checks the engine that prints a plan.
 
 use crate::pair::{Pair, Setting};
 use crate::tally::Tally;
@@ -20,7 +20,7 @@ fn all_suffixes(alloc: Global, further: &[String]) -> Result<Suffixes, Fault> {
     Suffixes::new(alloc, list.as_slice())
 }
 
-// The text of the plan that the engine is to print.
+// The text that the engine has to print.
 fn expected_text(alloc: Global, pair: &Pair) -> Result<String, Fault> {
     let setting = Setting {
         cwd: pair.setting.cwd,
@@ -46,7 +46,7 @@ fn check_written(expected: &str, out: &[u8], tally: &mut Tally) -> Result<(), Al
     tally.expect(same, "the engine prints the plan's text")
 }
 
-// Checks a refusal of the engine.
+// Checks an error of the engine.
 fn check_refused(
     expected: &Fault,
     fault: &Fault,
@@ -73,7 +73,7 @@ fn print(alloc: Global, pair: &Pair, out: &mut Vec<u8>) -> Result<(), Stop> {
     )
 }
 
-// Checks what the engine answered and wrote.
+// Checks what the engine returned and wrote.
 fn check_answer(
     answer: &Result<(), Stop>,
     expected: &Result<String, Fault>,
@@ -87,7 +87,7 @@ fn check_answer(
     }
 }
 
-/// Prints the plan of a pair, and checks what is printed.
+/// Prints the plan of a pair and checks the text.
 pub fn check_engine(alloc: Global, pair: &Pair, tally: &mut Tally) -> Result<(), AllocError> {
     let mut out = Vec::new(alloc);
     let answer = print(alloc, pair, &mut out);

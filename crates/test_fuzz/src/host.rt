@@ -12,7 +12,7 @@ use std::alloc::{AllocError, Global};
 use texts::text::Text;
 use texts::words::Words;
 
-// A word of a line by chance.
+// A random word of a line.
 fn word(alloc: Global, source: &mut Source) -> Result<String, AllocError> {
     if source.one_in(24) {
         return odd_word(alloc, source);
@@ -20,7 +20,7 @@ fn word(alloc: Global, source: &mut Source) -> Result<String, AllocError> {
     String::from_str(alloc, source.pick(&HOST_WORDS))
 }
 
-// A line by chance. Most have what makes them a compilation.
+// A random line. Most lines are compilations.
 fn line(alloc: Global, source: &mut Source) -> Result<Vec<String>, AllocError> {
     let mut words = Vec::new(alloc);
     if !source.one_in(3) {
@@ -34,7 +34,7 @@ fn line(alloc: Global, source: &mut Source) -> Result<Vec<String>, AllocError> {
     Ok(words)
 }
 
-// An environment by chance.
+// A random environment.
 fn environment(alloc: Global, source: &mut Source) -> Result<Vec<(String, String)>, AllocError> {
     let mut env_vars = Vec::new(alloc);
     let names = ["NVCC_PREPEND_FLAGS", "NVCC_APPEND_FLAGS", "A"];
@@ -62,7 +62,7 @@ fn is_keep_word(word: &str) -> bool {
     )
 }
 
-// Whether a word says how many threads run.
+// Whether a word sets the number of threads.
 fn is_thread_word(word: &str) -> bool {
     word == "--threads" || word.starts_with("-t")
 }
@@ -77,7 +77,7 @@ fn are_without_keep_words(words: &[String]) -> bool {
     true
 }
 
-// Whether no word says how many threads run.
+// Whether no word sets the number of threads.
 fn are_without_thread_words(words: &[String]) -> bool {
     for word in words {
         if is_thread_word(word.as_str()) {
@@ -87,7 +87,7 @@ fn are_without_thread_words(words: &[String]) -> bool {
     true
 }
 
-// Checks what is left of a line without the words on kept files.
+// Checks the rest of a line without the words on kept files.
 fn check_kept(alloc: Global, words: &[String], tally: &mut Tally) -> Result<(), AllocError> {
     let left = match take_keep(alloc, words, "/w") {
         Ok((left, _folder)) => left,
@@ -98,7 +98,7 @@ fn check_kept(alloc: Global, words: &[String], tally: &mut Tally) -> Result<(), 
     tally.expect(none, "no word on kept files is left")
 }
 
-// Checks what is left of a line without the words on threads.
+// Checks the rest of a line without the words on threads.
 fn check_threads(alloc: Global, words: &[String], tally: &mut Tally) -> Result<(), AllocError> {
     let left = match take_threads(alloc, words) {
         Ok((left, _threads)) => left,
@@ -109,7 +109,7 @@ fn check_threads(alloc: Global, words: &[String], tally: &mut Tally) -> Result<(
     tally.expect(none, "no word on threads is left")
 }
 
-// Whether words are those of a command, and ask for a dry run.
+// Whether words are those of a command, followed by a request for a dry run.
 fn are_first_words(
     alloc: Global,
     command: &NvccCompileCommand,
@@ -120,7 +120,7 @@ fn are_first_words(
     Ok(*words == expected)
 }
 
-// Whether words are those of a command, and ask for a dry run that keeps its files.
+// Whether words are those of a command, followed by a request for a dry run that keeps its files.
 fn are_second_words(
     alloc: Global,
     command: &NvccCompileCommand,
@@ -159,7 +159,7 @@ fn check_dry_runs(
     checked
 }
 
-// Checks the preprocessing of arguments that were read.
+// Checks the preprocessing of parsed arguments.
 fn check_preprocessed(
     alloc: Global,
     nvcc: &Nvcc,
@@ -176,7 +176,7 @@ fn check_preprocessed(
     checked
 }
 
-// Checks the command of arguments that were read.
+// Checks the command of parsed arguments.
 fn check_written(
     alloc: Global,
     nvcc: &Nvcc,
@@ -202,7 +202,7 @@ fn places(alloc: Global) -> Result<Places, AllocError> {
     })
 }
 
-// Checks arguments that were read.
+// Checks parsed arguments.
 fn check_parsed(
     alloc: Global,
     nvcc: &Nvcc,
@@ -215,7 +215,7 @@ fn check_parsed(
     check_written(alloc, nvcc, parsed, env_vars, &places, tally)
 }
 
-// A host compiler by chance.
+// A random host compiler.
 fn host_compiler(source: &mut Source) -> NvccHostCompiler {
     match source.below(3) {
         0 => NvccHostCompiler::Msvc,
@@ -224,7 +224,7 @@ fn host_compiler(source: &mut Source) -> NvccHostCompiler {
     }
 }
 
-// Checks what a line is read as.
+// Checks a parsed line.
 fn check_read(
     alloc: Global,
     nvcc: &Nvcc,
@@ -242,7 +242,7 @@ fn check_read(
     checked
 }
 
-// Checks what is left of a line, and what it is read as.
+// Checks the rest of a line, and the parsed line.
 fn check_words_of(
     alloc: Global,
     nvcc: &Nvcc,
@@ -255,7 +255,7 @@ fn check_words_of(
     check_read(alloc, nvcc, words, env_vars, tally)
 }
 
-/// Reads a line by chance and writes it, and checks the answers.
+/// Parses a random line, writes it and checks the results.
 pub fn check_line(alloc: Global, source: &mut Source, tally: &mut Tally) -> Result<(), AllocError> {
     tally.count("nvcc lines")?;
     let nvcc = Nvcc {

@@ -1,17 +1,17 @@
-//! Calls the planner with inputs that nobody wrote: dry runs, lines and shell texts by a seeded generator. What every
-//! answer has to keep is checked, and each failure is printed with the seed and the number that make it again.
+//! A fuzzer: runs the planner on random dry runs, lines and shell texts, checks what has to hold of every result, and
+//! prints each failure with the seed and number that make it again.
 //!
-//! What has many fields is dropped by calls, after it was lent: the proofs are shorter so.
+//! Dropped by a call: see "Explicit drops" in docs/ARCHITECTURE.md.
 #![tactic(auto)]
 
 use call::call_of;
 use cases::run;
 use programs::call_words;
 use report::report;
+use run_error::RunError;
 use std::alloc::Global;
 use std::io;
 use std::process::ExitCode;
-use stop::Stop;
 use tally::Tally;
 
 mod call;
@@ -26,27 +26,27 @@ mod planned;
 mod pools;
 mod renaming;
 mod report;
+mod run_error;
 mod selection;
 mod shell_text;
 mod source;
-mod stop;
 mod suffix_list;
 mod tally;
 mod template;
 mod word;
 
 // Runs the cases that the words ask for.
-fn run_words(alloc: Global, words: &[String]) -> Result<Tally, Stop> {
+fn run_words(alloc: Global, words: &[String]) -> Result<Tally, RunError> {
     match call_of(words) {
         Some(call) => run(alloc, &call),
-        None => Err(Stop::Usage),
+        None => Err(RunError::Usage),
     }
 }
 
 fn main(rt: HostRuntime) -> ExitCode {
     let answer = match call_words(&rt) {
         Ok(words) => run_words(rt.alloc(), words.as_slice()),
-        Err(_) => Err(Stop::Memory),
+        Err(_) => Err(RunError::Memory),
     };
     let (mut out, mut err) = (rt.stdout(), rt.stderr());
     ExitCode::from(report(rt.alloc(), answer, &mut out, &mut err))

@@ -1,4 +1,4 @@
-//! Pairs of dry runs by chance, with what else a plan is made of.
+//! Random pairs of dry runs, with the other arguments of a plan.
 
 use crate::dry_run::{Kind, dry_run, some_kind};
 use crate::source::Source;
@@ -11,7 +11,7 @@ use cuda_plans::plan::{Plan, group_nvcc_subcommands_by_compilation_stage};
 use std::alloc::{AllocError, Global};
 use texts::fault::Fault;
 
-/// What a plan is made of beside its dry runs.
+/// The arguments of a plan other than its dry runs.
 #[derive(Drop)]
 pub struct Setting {
     pub cwd: &'static str,
@@ -23,17 +23,17 @@ pub struct Setting {
     pub suffixes: Suffixes,
 }
 
-/// Two dry runs, and what else their plan is made of.
+/// Two dry runs, and the other arguments of their plan.
 #[derive(Drop)]
 pub struct Pair {
     pub first: Vec<u8>,
     pub second: Vec<u8>,
     pub setting: Setting,
-    /// Suffixes of generated files that stand behind the standard ones where the plan is printed.
+    /// Further suffixes of generated files, after the standard ones, for printing the plan.
     pub further: Vec<String>,
 }
 
-// A host compiler by chance.
+// A random host compiler.
 fn host_compiler(source: &mut Source) -> NvccHostCompiler {
     match source.below(6) {
         0 => NvccHostCompiler::Msvc,
@@ -42,7 +42,7 @@ fn host_compiler(source: &mut Source) -> NvccHostCompiler {
     }
 }
 
-// An environment by chance.
+// A random environment.
 fn env_vars(alloc: Global, source: &mut Source) -> Result<Vec<(String, String)>, AllocError> {
     let mut env_vars = Vec::new(alloc);
     let count = source.below(3);
@@ -55,7 +55,7 @@ fn env_vars(alloc: Global, source: &mut Source) -> Result<Vec<(String, String)>,
 }
 
 impl Setting {
-    /// A setting by chance.
+    /// A random setting.
     pub fn new(
         alloc: Global,
         source: &mut Source,
@@ -95,7 +95,7 @@ impl Setting {
     }
 }
 
-// What the generated files of the second run are called, where those of the first are called `names`.
+// The names of generated files in the second run, if `names` are those in the first.
 fn second_names(source: &mut Source, names: Names) -> Names {
     match source.below(4) {
         0 => Names::new(source),
@@ -107,7 +107,7 @@ fn second_names(source: &mut Source, names: Names) -> Names {
     }
 }
 
-// Counts the kinds of dry runs that are rare.
+// Counts the rare kinds of dry runs.
 fn count_kind(kind: Kind, tally: &mut Tally) -> Result<(), AllocError> {
     match kind {
         Kind::LongWord => tally.count("dry runs with a long word"),
@@ -116,7 +116,7 @@ fn count_kind(kind: Kind, tally: &mut Tally) -> Result<(), AllocError> {
     }
 }
 
-/// The pair of a seed and a number.
+/// The pair for a seed and a number.
 pub fn some_pair(
     alloc: Global,
     seed: u64,

@@ -1,4 +1,4 @@
-//! What is checked of the plan of two dry runs.
+//! Checks the plan of two dry runs.
 
 use crate::count::{Sum, run_of};
 use crate::pair::{Pair, Setting};
@@ -9,7 +9,7 @@ use cuda_plans::plan::{Dropped, NvccGeneratedSubcommand, Plan};
 use std::alloc::{AllocError, Global};
 use texts::fault::Fault;
 
-/// Adds the commands of a run that are selected, by their programs' stems.
+/// Adds the selected commands of a run, by their programs' stems.
 pub fn add_selected(run: usize, commands: &[(usize, String, Vec<String>)], sum: &mut Sum) {
     for (_, program, words) in commands {
         if run_of(program.as_str()) == Some(run) {
@@ -18,8 +18,7 @@ pub fn add_selected(run: usize, commands: &[(usize, String, Vec<String>)], sum: 
     }
 }
 
-/// Adds the commands of a dry run that are selected, as a plan has them: with canonical names, unless a folder keeps
-/// the files.
+/// Adds the selected commands of a dry run as a plan has them: with canonical names, unless a directory keeps the files.
 pub fn add_named(
     alloc: Global,
     setting: &Setting,
@@ -36,7 +35,7 @@ pub fn add_named(
     Ok(())
 }
 
-// Adds the commands of a group. Answers whether each stands in the folder that its program runs in.
+// Adds the commands of a group. Returns whether each has its program's working directory.
 fn add_group(setting: &Setting, group: &[NvccGeneratedSubcommand], sum: &mut Sum) -> bool {
     let mut holds = true;
     for command in group {
@@ -48,7 +47,7 @@ fn add_group(setting: &Setting, group: &[NvccGeneratedSubcommand], sum: &mut Sum
     holds
 }
 
-// Adds the commands of all groups. Answers whether each stands in its folder.
+// Adds the commands of all groups. Returns whether each has its program's working directory.
 fn add_groups(setting: &Setting, plan: &Plan, sum: &mut Sum) -> bool {
     let mut holds = plan.groups.as_slice().len() >= 2;
     for group in plan.groups.as_slice() {
@@ -58,8 +57,7 @@ fn add_groups(setting: &Setting, plan: &Plan, sum: &mut Sum) -> bool {
     holds
 }
 
-// Adds the dropped commands. Answers whether each is of the run that its program is taken from, and their lines and
-// runs rise.
+// Adds the dropped commands. Returns whether each comes from its program's run, and whether their lines and runs rise.
 fn add_dropped(dropped: &[Dropped], sum: &mut Sum) -> bool {
     let mut holds = true;
     let mut last = (0, 0);
@@ -95,7 +93,7 @@ fn check_commands(
     )
 }
 
-// Counts a plan and what it holds.
+// Counts a plan, its groups and its dropped commands.
 fn count_plan(plan: &Plan, tally: &mut Tally) -> Result<(), AllocError> {
     tally.count("plans")?;
     if plan.groups.as_slice().len() > 2 {
@@ -107,7 +105,7 @@ fn count_plan(plan: &Plan, tally: &mut Tally) -> Result<(), AllocError> {
     Ok(())
 }
 
-// Checks a refusal: it is that of the run that can't be read.
+// Checks an error: it is that of the run that can't be read.
 fn check_refusal(read: &Fault, planned: &Fault, tally: &mut Tally) -> Result<(), AllocError> {
     tally.count("pairs refused")?;
     tally.refused(planned)?;
@@ -117,7 +115,7 @@ fn check_refusal(read: &Fault, planned: &Fault, tally: &mut Tally) -> Result<(),
     )
 }
 
-// Checks what is answered for a pair: what its dry runs are read as, and its plan.
+// Checks the results for a pair: its dry runs and its plan.
 fn check_answers(
     alloc: Global,
     pair: &Pair,
@@ -137,7 +135,7 @@ fn check_answers(
     }
 }
 
-/// Plans a pair, and checks the answer.
+/// Plans a pair and checks the result.
 pub fn check_pair(alloc: Global, pair: &Pair, tally: &mut Tally) -> Result<(), AllocError> {
     tally.count("pairs")?;
     let setting = &pair.setting;

@@ -1,4 +1,4 @@
-//! The texts that inputs are made of.
+//! The texts that random inputs are made from.
 
 /// Parts of odd words.
 pub const ODD: [&str; 44] = [
@@ -48,7 +48,7 @@ pub const ODD: [&str; 44] = [
     "-D__NVCC__",
 ];
 
-/// What generated files may be called before their suffix. Some hold others.
+/// Names of generated files without their suffix. Some contain others.
 pub const BASES: [&str; 20] = [
     "k",
     "kk",
@@ -72,7 +72,7 @@ pub const BASES: [&str; 20] = [
     "k.cudafe1",
 ];
 
-/// Suffixes that are handed in, good ones and bad ones.
+/// Suffixes, good ones and bad ones.
 pub const HANDED: [&str; 16] = [
     ".cpp1.ii",
     ".cpp4.ii",
@@ -92,7 +92,7 @@ pub const HANDED: [&str; 16] = [
     ".é1",
 ];
 
-/// The commands of a dry run. `@` stands for what a generated file is called before its suffix.
+/// The commands of a dry run. `@` stands for the name of a generated file without its suffix.
 pub const COMMANDS: [&str; 28] = [
     "gcc -D__CUDACC__ -E -x c++ \"k.cu\" -o \"@.cpp4.ii\"",
     "gcc -D__CUDA_ARCH__=800 -D__CUDACC__ -E -x c++ k.cu -o @.cpp1.ii",
@@ -124,7 +124,7 @@ pub const COMMANDS: [&str; 28] = [
     "..",
 ];
 
-/// The lines of a dry run that name no command. `@` stands for what a generated file is called before its suffix.
+/// Lines of a dry run without a command. `@` stands for the name of a generated file without its suffix.
 pub const LINES: [&str; 14] = [
     "#$ TOP=/u",
     "#$ TOP=..",
@@ -142,7 +142,7 @@ pub const LINES: [&str; 14] = [
     "",
 ];
 
-/// The words of a device tool's line. `@` stands for what a file is called before its suffix.
+/// The words of a device tool's line. `@` stands for the name of a file without its suffix.
 pub const DEVICE_WORDS: [&str; 40] = [
     "-o",
     "-o",

@@ -1,4 +1,4 @@
-//! Plans of dry runs whose generated files are called otherwise.
+//! Plans of dry runs whose generated files have other names.
 
 use crate::count::mark_of;
 use crate::pair::{Pair, Setting};
@@ -25,8 +25,8 @@ fn parted<'a>(suffixes: &'a Suffixes, name: &'a str) -> Option<(&'a str, &'a str
     None
 }
 
-// Another name in the same folder, with the same suffix. Different names get different ones: a number that the whole
-// name gives stands in them.
+// Another name in the same directory, with the same suffix. It holds a hash of the whole name, so different names get
+// different ones.
 fn other_name(alloc: Global, name: &str, front: &str, suffix: &str) -> Result<String, AllocError> {
     let mark = mark_of(name);
     match front.rsplit_once('/') {
@@ -35,7 +35,7 @@ fn other_name(alloc: Global, name: &str, front: &str, suffix: &str) -> Result<St
     }
 }
 
-// A word whose generated name is another.
+// A word with another generated name.
 fn other_word(alloc: Global, suffixes: &Suffixes, word: &str) -> Result<String, AllocError> {
     let name = word.trim_start_matches("-Fi");
     match (parted(suffixes, name), word.strip_suffix(name)) {
@@ -47,7 +47,7 @@ fn other_word(alloc: Global, suffixes: &Suffixes, word: &str) -> Result<String, 
     }
 }
 
-// A word, with another generated name or as it is.
+// A word, renamed or unchanged.
 fn other_or_same(
     alloc: Global,
     suffixes: Option<&Suffixes>,
@@ -59,7 +59,7 @@ fn other_or_same(
     }
 }
 
-// Words, with other generated names or as they are.
+// Words, renamed or unchanged.
 fn other_words(
     alloc: Global,
     suffixes: Option<&Suffixes>,
@@ -72,7 +72,7 @@ fn other_words(
     Ok(others)
 }
 
-// A command, with other generated names or as it is.
+// A command, renamed or unchanged.
 fn other_command(
     alloc: Global,
     suffixes: Option<&Suffixes>,
@@ -83,7 +83,7 @@ fn other_command(
     Ok((command.0, program, words))
 }
 
-// The commands, with other generated names or as they are.
+// Commands, renamed or unchanged.
 fn other_commands(
     alloc: Global,
     suffixes: Option<&Suffixes>,
@@ -105,8 +105,8 @@ fn quoted(alloc: Global, program: &str, words: &[String]) -> Result<String, Allo
     format!(in alloc; "#$ {program} {words}")
 }
 
-// Adds a line: the first of the commands that are left if it is the line's, else the line as it is. Answers the
-// commands that are left then.
+// Adds a line: the first remaining command if it comes from that line, else the line unchanged. Returns the commands
+// that remain.
 fn push_line<'a>(
     alloc: Global,
     number: usize,
@@ -127,7 +127,7 @@ fn push_line<'a>(
     }
 }
 
-// A dry run with these commands at their lines, and its other lines as they are.
+// A dry run with these commands at their lines, and its other lines unchanged.
 fn written(alloc: Global, bytes: &[u8], commands: &Commands) -> Result<Vec<u8>, AllocError> {
     let mut text = Vec::new(alloc);
     let mut rest = commands.as_slice();
@@ -138,7 +138,7 @@ fn written(alloc: Global, bytes: &[u8], commands: &Commands) -> Result<Vec<u8>, 
     Ok(text)
 }
 
-// Whether a dry run is read as these commands and variables, and is clean.
+// Whether a dry run has these commands and variables, and is clean.
 fn is_read_as(
     alloc: Global,
     setting: &Setting,
@@ -157,8 +157,8 @@ fn is_read_as(
     holds
 }
 
-// A dry run, read, and written with the same commands or with other names; `None` if what is written isn't read as
-// what it was made of, or isn't clean. So it goes with words that hold newlines, or what a variable is referred by.
+// A dry run, read and written again, with other names or unchanged. `None` if the new run doesn't read as its source, or
+// isn't clean. That happens if words hold newlines or references to variables.
 fn rewritten(
     alloc: Global,
     setting: &Setting,
@@ -172,7 +172,7 @@ fn rewritten(
     Ok(if holds { Some(text) } else { None })
 }
 
-// Checks that two plans are the same, and are printed so.
+// Checks that two plans are equal and print the same text.
 fn check_equal(
     alloc: Global,
     other: &Plan,
@@ -184,7 +184,7 @@ fn check_equal(
     tally.expect(same, "other generated names give the same printed plan")
 }
 
-// Checks that dry runs that are written anew have a plan.
+// Checks that rewritten dry runs have a plan.
 fn check_anew(
     alloc: Global,
     setting: &Setting,
@@ -202,7 +202,7 @@ fn check_anew(
     checked
 }
 
-// Checks that two dry runs, written in another way, give the same plan.
+// Checks that two rewritten dry runs give the same plan.
 fn check_same(
     alloc: Global,
     pair: &Pair,
@@ -238,7 +238,7 @@ pub fn renamed(alloc: Global, suffixes: &Suffixes, run: &DryRun) -> Result<Comma
     remap_commands(alloc, commands, suffixes)
 }
 
-// Checks that a run with canonical names stays as it is.
+// Checks that renaming again changes nothing.
 fn check_twice(
     alloc: Global,
     suffixes: &Suffixes,
@@ -250,7 +250,7 @@ fn check_twice(
     tally.expect(same, "canonical names of canonical names are the same")
 }
 
-// Checks that canonical names are canonical, where no other word holds one.
+// Checks that renaming again changes nothing if the run is clean.
 fn check_canonical(
     alloc: Global,
     suffixes: &Suffixes,
@@ -293,7 +293,7 @@ fn check_clean(
     check_same(alloc, pair, runs, plan, Some(suffixes), tally)
 }
 
-// Checks runs, where both are clean.
+// Checks two runs if both are clean.
 fn check_runs(
     alloc: Global,
     pair: &Pair,
@@ -309,8 +309,8 @@ fn check_runs(
     }
 }
 
-/// Checks the plan of a pair against those of the same runs, written anew and with other generated names, where both
-/// are clean.
+/// Checks the plan of a pair against the plans of the same runs, rewritten and with other generated names, if both are
+/// clean.
 pub fn check_renaming(
     alloc: Global,
     pair: &Pair,

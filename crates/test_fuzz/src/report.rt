@@ -1,11 +1,11 @@
-//! What the program prints.
+//! Prints the result.
 
-use crate::stop::Stop;
+use crate::run_error::RunError;
 use crate::tally::Tally;
 use std::alloc::Global;
 use std::io::Write;
 
-// Prints what was seen, and answers whether it could be printed.
+// Prints the tally. Returns whether that worked.
 fn is_printed<W: Write>(tally: &Tally, out: &mut W) -> bool {
     match tally.text() {
         Ok(text) => out.write_all(text.as_bytes()).is_ok(),
@@ -13,19 +13,19 @@ fn is_printed<W: Write>(tally: &Tally, out: &mut W) -> bool {
     }
 }
 
-/// Prints what was seen to `out`, or why nothing was run to `err`, and answers the exit status: 0, 1 where something
-/// failed, 2 for a call of another form, and where memory is refused or `out` fails.
+/// Prints the tally to `out`, or the error to `err`, and returns the exit status: 0, 1 if a check failed, 2 for wrong
+/// usage, if an allocation failed, or if `out` fails.
 pub fn report<W: Write, E: Write>(
     alloc: Global,
-    answer: Result<Tally, Stop>,
+    answer: Result<Tally, RunError>,
     out: &mut W,
     err: &mut E,
 ) -> u8 {
     match &answer {
         Ok(tally) if is_printed(tally, out) => u8::from(tally.failed() > 0),
         Ok(_) => 2,
-        Err(stop) => {
-            if let Ok(text) = format!(in alloc; "{stop}\n") {
+        Err(error) => {
+            if let Ok(text) = format!(in alloc; "{error}\n") {
                 let _ = err.write_all(text.as_bytes());
             }
             2

@@ -1,4 +1,4 @@
-//! What is checked of the selection of a run's commands.
+//! Checks the selection of a run's commands.
 
 use crate::count::Sum;
 use crate::pair::{Pair, Setting};
@@ -14,7 +14,7 @@ fn is_own(stem: &str) -> bool {
     matches!(stem, "cicc" | "ptxas" | "cudafe++" | "nvlink" | "fatbinary")
 }
 
-// Selects the commands of a run that a plan is made of: nvcc's own tools of the first run, the others of the second.
+// Selects the commands that a plan takes from a run: nvcc's own tools from the first run, the others from the second.
 fn selected(
     alloc: Global,
     setting: &Setting,
@@ -49,7 +49,7 @@ fn copied(
     Ok(copy)
 }
 
-// Checks selected commands by the sum over those that are asked for.
+// Checks selected commands against the sum of the wanted ones.
 fn check_sum(
     run: usize,
     commands: &Commands,
@@ -63,7 +63,7 @@ fn check_sum(
     tally.expect(sum == *expected, "a selection is what is asked for")
 }
 
-// Checks the selected commands of a run that was read.
+// Checks the selected commands of a parsed run.
 fn check_read(
     alloc: Global,
     setting: &Setting,
@@ -77,7 +77,7 @@ fn check_read(
     check_sum(run, commands, &expected, tally)
 }
 
-// Checks the selected commands of a run: they are those whose programs' stems are asked for.
+// Checks the selected commands of a run: those whose programs have a wanted stem.
 fn check_selected(
     alloc: Global,
     setting: &Setting,
@@ -96,7 +96,7 @@ fn check_selected(
     checked
 }
 
-// Checks a refused selection: its run can't be read, and the environment stays as it was.
+// Checks an error of a selection: its run can't be read, and the environment is unchanged.
 fn check_refused(
     alloc: Global,
     setting: &Setting,
@@ -135,7 +135,7 @@ fn check_run(
     checked
 }
 
-/// Selects the commands of both runs of a pair, and checks the answers.
+/// Selects the commands of both runs of a pair and checks the results.
 pub fn check_selections(alloc: Global, pair: &Pair, tally: &mut Tally) -> Result<(), AllocError> {
     check_run(alloc, &pair.setting, pair.first.as_slice(), 1, tally)?;
     check_run(alloc, &pair.setting, pair.second.as_slice(), 2, tally)

@@ -6,7 +6,7 @@ use crate::word::{long_word, odd_words, push_odd};
 use cuda_plans::shell;
 use std::alloc::{AllocError, Global};
 
-// Whether words that are quoted are split into themselves.
+// Whether quoted words split into the same words.
 fn are_kept(alloc: Global, words: &[String]) -> Result<bool, AllocError> {
     let text = shell::quote(alloc, words)?;
     match shell::split(alloc, text.as_str())? {
@@ -15,7 +15,7 @@ fn are_kept(alloc: Global, words: &[String]) -> Result<bool, AllocError> {
     }
 }
 
-// Checks a text: where it has words, they are split again from what they are quoted as.
+// Checks a text: if it has words, quoting and splitting them gives the same words.
 fn check_text(alloc: Global, text: &str, tally: &mut Tally) -> Result<(), AllocError> {
     match shell::split(alloc, text)? {
         Some(words) => {
@@ -27,7 +27,7 @@ fn check_text(alloc: Global, text: &str, tally: &mut Tally) -> Result<(), AllocE
     }
 }
 
-// A text by chance.
+// A random text.
 fn text(alloc: Global, source: &mut Source) -> Result<String, AllocError> {
     let mut text = String::new(alloc);
     let count = source.below(14);
@@ -35,7 +35,7 @@ fn text(alloc: Global, source: &mut Source) -> Result<String, AllocError> {
     Ok(text)
 }
 
-/// Quotes and splits words and a text by chance, and checks the answers.
+/// Quotes and splits random words and a random text, and checks the results.
 pub fn check_shell(
     alloc: Global,
     source: &mut Source,

@@ -1,16 +1,16 @@
-//! Where chance comes from: a seeded generator.
+//! Random values from a seeded generator.
 
 use rand_core::{Rng, SeedableRng};
 use rand_xoshiro::Xoshiro256PlusPlus;
 
-/// A source of chance. Two that are made of the same numbers give the same.
+/// A source of random values. Two sources made from the same numbers give the same values.
 #[derive(Drop)]
 pub struct Source {
     rng: Xoshiro256PlusPlus,
 }
 
 impl Source {
-    /// The source of a case: by the seed, the case's number, and a number for its use there.
+    /// The source for a case: from the seed, the case's number, and a number for the use.
     pub fn new(seed: u64, number: u64, part: u64) -> Source {
         let mixed = seed.wrapping_mul(0x9e37_79b9_7f4a_7c15) ^ number.wrapping_mul(16);
         Source {
@@ -18,7 +18,7 @@ impl Source {
         }
     }
 
-    /// A number below `count`, and 0 where `count` is 0.
+    /// A number below `count`, or 0 if `count` is 0.
     pub fn below(&mut self, count: usize) -> usize {
         if count == 0 {
             return 0;
@@ -27,12 +27,12 @@ impl Source {
         usize::try_from(drawn).unwrap_or(0) % count
     }
 
-    /// Whether it is the one of so many.
+    /// True once in `count` times on average.
     pub fn one_in(&mut self, count: usize) -> bool {
         self.below(count) == 0
     }
 
-    /// One of a list's texts, and the empty one where it has none.
+    /// One of a list's texts, or the empty text if the list is empty.
     pub fn pick(&mut self, list: &[&'static str]) -> &'static str {
         let index = self.below(list.len());
         match list.get(index) {

@@ -1,4 +1,4 @@
-//! Lists of suffixes by chance.
+//! Random lists of suffixes.
 
 use crate::pools::HANDED;
 use crate::source::Source;
@@ -6,7 +6,7 @@ use crate::tally::Tally;
 use cuda_plans::dry_run::Suffixes;
 use std::alloc::{AllocError, Global};
 
-// Up to six suffixes, of which the first is mostly that of cicc's input.
+// Up to six suffixes; the first is mostly that of cicc's input.
 fn list(alloc: Global, source: &mut Source) -> Result<Vec<String>, AllocError> {
     let mut list = Vec::new(alloc);
     if !source.one_in(6) {
@@ -19,7 +19,7 @@ fn list(alloc: Global, source: &mut Source) -> Result<Vec<String>, AllocError> {
     Ok(list)
 }
 
-// The suffixes of a list, and the standard ones where it is refused.
+// The suffixes of a list, or the standard ones if the list is bad.
 fn handed(alloc: Global, source: &mut Source, tally: &mut Tally) -> Result<Suffixes, AllocError> {
     let list = list(alloc, source)?;
     match Suffixes::new(alloc, list.as_slice()) {
@@ -38,7 +38,7 @@ fn handed(alloc: Global, source: &mut Source, tally: &mut Tally) -> Result<Suffi
     }
 }
 
-/// Mostly no suffix, and else one to stand behind the standard ones.
+/// Mostly no suffix, otherwise one to follow the standard ones.
 pub fn further(alloc: Global, source: &mut Source) -> Result<Vec<String>, AllocError> {
     let mut list = Vec::new(alloc);
     if source.one_in(4) {
@@ -47,7 +47,7 @@ pub fn further(alloc: Global, source: &mut Source) -> Result<Vec<String>, AllocE
     Ok(list)
 }
 
-/// The standard suffixes, or handed-in ones.
+/// The standard suffixes, or random ones.
 pub fn suffixes(
     alloc: Global,
     source: &mut Source,

@@ -1,11 +1,11 @@
-//! What a run of the program has seen.
+//! Counts and failures of a run.
 
 use crate::call::Call;
-use crate::stop::name_of;
+use crate::run_error::name_of;
 use std::alloc::{AllocError, Global};
 use texts::fault::Fault;
 
-// What is counted, in the order in which it is printed.
+// The names of the counts, in the order in which they are printed.
 const NAMES: [&str; 44] = [
     "pairs",
     "plans",
@@ -53,7 +53,7 @@ const NAMES: [&str; 44] = [
     "refused: other",
 ];
 
-// The counts before anything was seen.
+// All counts at zero.
 fn nothing_seen(alloc: Global) -> Result<Vec<Count>, AllocError> {
     let mut counts = Vec::new(alloc);
     for name in NAMES {
@@ -62,14 +62,14 @@ fn nothing_seen(alloc: Global) -> Result<Vec<Count>, AllocError> {
     Ok(counts)
 }
 
-// How often something was seen.
+// How often something occurred.
 #[derive(Drop)]
 struct Count {
     name: &'static str,
     seen: u64,
 }
 
-/// What was seen so far: how often each thing, and what failed.
+/// The counts and failures so far.
 #[derive(Drop)]
 pub struct Tally {
     alloc: Global,
@@ -81,7 +81,7 @@ pub struct Tally {
 }
 
 impl Tally {
-    /// Nothing yet.
+    /// No counts and no failures.
     pub fn new(alloc: Global, call: &Call) -> Result<Tally, AllocError> {
         Ok(Tally {
             alloc,
@@ -93,12 +93,12 @@ impl Tally {
         })
     }
 
-    /// Turns to the case of this number.
+    /// Starts the case with this number.
     pub fn turn_to(&mut self, number: u64) {
         self.number = number;
     }
 
-    /// Counts one more of what is seen.
+    /// Adds one to a count.
     pub fn count(&mut self, name: &'static str) -> Result<(), AllocError> {
         for count in self.counts.iter_mut() {
             if count.name == name {
@@ -110,14 +110,14 @@ impl Tally {
         Ok(())
     }
 
-    /// Counts a refusal. One of these kinds comes of the input; any other is a failure.
+    /// Counts an error. Only some kinds can come from the input; any other kind is a failure.
     pub fn refused(&mut self, fault: &Fault) -> Result<(), AllocError> {
         let name = name_of(fault);
         self.expect(name != "refused: other", "a refusal that no input asks for")?;
         self.count(name)
     }
 
-    /// Notes a failure, unless what was to hold holds.
+    /// Records a failure unless `holds`.
     pub fn expect(&mut self, holds: bool, what: &'static str) -> Result<(), AllocError> {
         if holds {
             return Ok(());
@@ -128,7 +128,7 @@ impl Tally {
         self.failures.push_str(line.as_str())
     }
 
-    /// Shows the bytes of an input that failed, under a heading.
+    /// Adds the input of a failed case to the output, under a heading.
     pub fn show(&mut self, heading: &str, input: &str) -> Result<(), AllocError> {
         self.failures.push_str(heading)?;
         self.failures.push_str("\n")?;
@@ -136,12 +136,12 @@ impl Tally {
         self.failures.push_str("\n")
     }
 
-    /// How many things failed.
+    /// The number of failures.
     pub fn failed(&self) -> u64 {
         self.failed
     }
 
-    /// What is printed: the counts, and what failed.
+    /// The text to print: the counts, then the failures.
     pub fn text(&self) -> Result<String, AllocError> {
         let mut text = String::new(self.alloc);
         for count in self.counts.iter() {

@@ -1,10 +1,10 @@
-//! Texts with places for the names of generated files.
+//! Texts with placeholders for the names of generated files.
 
 use crate::pools::BASES;
 use crate::source::Source;
 use std::alloc::AllocError;
 
-/// What the generated files of a run are called: three names, and what stands before each.
+/// The names of the generated files of a run: three names, and what comes before each.
 #[derive(Clone, Copy)]
 pub struct Names {
     pub names: [&'static str; 3],
@@ -12,7 +12,7 @@ pub struct Names {
 }
 
 impl Names {
-    /// Three names by chance, with nothing before them.
+    /// Three random names, with nothing before them.
     pub fn new(source: &mut Source) -> Names {
         Names {
             names: [
@@ -31,7 +31,7 @@ impl Names {
     }
 }
 
-/// Adds a template to a text, with a name at each `@`.
+/// Adds a template to a text, with a name in place of each `@`.
 pub fn push_filled(
     source: &mut Source,
     names: &Names,

@@ -4,7 +4,7 @@ use crate::pools::ODD;
 use crate::source::Source;
 use std::alloc::{AllocError, Global};
 
-/// Adds so many odd parts to a text.
+/// Adds `count` odd parts to a text.
 pub fn push_odd(source: &mut Source, text: &mut String, count: usize) -> Result<(), AllocError> {
     for _ in 0..count {
         text.push_str(source.pick(&ODD))?;
@@ -20,7 +20,7 @@ pub fn odd_word(alloc: Global, source: &mut Source) -> Result<String, AllocError
     Ok(word)
 }
 
-/// So many odd words.
+/// `count` odd words.
 pub fn odd_words(
     alloc: Global,
     source: &mut Source,
@@ -33,7 +33,7 @@ pub fn odd_words(
     Ok(words)
 }
 
-/// A long word: a part again and again, up to 100,000 bytes.
+/// A long word: one part repeated, up to 100,000 bytes.
 pub fn long_word(alloc: Global, source: &mut Source) -> Result<String, AllocError> {
     let part = source.pick(&ODD);
     let mut word = String::new(alloc);

@@ -1,30 +1,30 @@
-//! The calls on faults and exit statuses.
+//! Calls on errors and exit statuses.
 
 use crate::names::language_named;
 use std::alloc::{AllocError, Global};
-use test_tables::{Answer, Row, Stop};
+use test_tables::{Answer, Case, CaseError, debugged};
 use texts::bytes::Bytes;
 use texts::fault::Fault;
 use texts::status::{ExitStatus, Output};
 use texts::text::Text;
 
-// The number that a word is.
-fn number(word: &str) -> Result<usize, Stop> {
+// A number in decimal digits.
+fn number(word: &str) -> Result<usize, CaseError> {
     match word.parse::<usize>() {
         Ok(number) => Ok(number),
-        Err(_) => Err(Stop::Form("no number")),
+        Err(_) => Err(CaseError::Form("no number")),
     }
 }
 
-// The exit code that a word is.
-fn code(word: &str) -> Result<i32, Stop> {
+// An exit code in decimal digits.
+fn code(word: &str) -> Result<i32, CaseError> {
     match word.parse::<i32>() {
         Ok(code) => Ok(code),
-        Err(_) => Err(Stop::Form("no exit code")),
+        Err(_) => Err(CaseError::Form("no exit code")),
     }
 }
 
-// The fault of a process that ends with a code and writes nothing.
+// The fault of a process that exits with a code and writes nothing.
 fn process_fault(alloc: Global, code: i32) -> Fault {
     Fault::Process(Output {
         status: ExitStatus::from_code(code),
@@ -33,20 +33,20 @@ fn process_fault(alloc: Global, code: i32) -> Fault {
     })
 }
 
-// The fault of a name that stands at a line of a run.
-fn fault_at(name: &str, run: &str, line: &str) -> Result<Fault, Stop> {
+// A fault with this name, at a line of a run.
+fn fault_at(name: &str, run: &str, line: &str) -> Result<Fault, CaseError> {
     let (run, line) = (number(run)?, number(line)?);
     match name {
         "NotUtf8" => Ok(Fault::NotUtf8 { run, line }),
         "BadShell" => Ok(Fault::BadShell { run, line }),
         "EmptyCommand" => Ok(Fault::EmptyCommand { run, line }),
         "NoPath" => Ok(Fault::NoPath { run, line }),
-        _ => Err(Stop::Form("an unknown fault")),
+        _ => Err(CaseError::Form("an unknown fault")),
     }
 }
 
-// The fault of a name that holds a word.
-fn fault_of(alloc: Global, name: &str, word: &str) -> Result<Fault, Stop> {
+// A fault with this name that holds a word.
+fn fault_of(alloc: Global, name: &str, word: &str) -> Result<Fault, CaseError> {
     match name {
         "NotFound" => Ok(Fault::NotFound {
             program: Text::copy_of(alloc, word)?,
@@ -57,12 +57,12 @@ fn fault_of(alloc: Global, name: &str, word: &str) -> Result<Fault, Stop> {
         "NoPreprocess" => Ok(Fault::NoPreprocess(Text::copy_of(alloc, word)?)),
         "Runner" => Ok(Fault::Runner(Text::copy_of(alloc, word)?)),
         "Process" => Ok(process_fault(alloc, code(word)?)),
-        _ => Err(Stop::Form("an unknown fault")),
+        _ => Err(CaseError::Form("an unknown fault")),
     }
 }
 
-// The fault of a name alone.
-fn plain_fault(name: &str) -> Result<Fault, Stop> {
+// A fault that holds nothing.
+fn plain_fault(name: &str) -> Result<Fault, CaseError> {
     match name {
         "NoFileName" => Ok(Fault::NoFileName),
         "KeepDirValue" => Ok(Fault::KeepDirValue),
@@ -70,16 +70,16 @@ fn plain_fault(name: &str) -> Result<Fault, Stop> {
         "Read" => Ok(Fault::Read),
         "Memory" => Ok(Fault::Memory),
         "BadSuffixes" => Ok(Fault::BadSuffixes),
-        _ => Err(Stop::Form("an unknown fault")),
+        _ => Err(CaseError::Form("an unknown fault")),
     }
 }
 
-fn fault(alloc: Global, settings: &[String]) -> Result<Fault, Stop> {
+fn fault(alloc: Global, settings: &[String]) -> Result<Fault, CaseError> {
     match settings {
         [name] => plain_fault(name.as_str()),
         [name, word] => fault_of(alloc, name.as_str(), word.as_str()),
         [name, run, line] => fault_at(name.as_str(), run.as_str(), line.as_str()),
-        _ => Err(Stop::Form("an unknown fault")),
+        _ => Err(CaseError::Form("an unknown fault")),
     }
 }
 
@@ -88,8 +88,8 @@ fn is_cloned(alloc: Global, fault: &Fault) -> Result<bool, AllocError> {
     Ok(*fault == clone)
 }
 
-// A fault's message, and what it is printed as.
-fn shown(alloc: Global, fault: &Fault) -> Result<Answer, Stop> {
+// A fault's message, and how `Display` prints it if that differs.
+fn shown(alloc: Global, fault: &Fault) -> Result<Answer, CaseError> {
     let (message, printed) = (fault.message(alloc)?, format!(in alloc; "{fault}")?);
     let mut answer = Answer::new(alloc);
     answer.add_text(alloc, "message", message.as_str())?;
@@ -102,17 +102,24 @@ fn shown(alloc: Global, fault: &Fault) -> Result<Answer, Stop> {
     Ok(answer)
 }
 
-/// Whether a name is that of a call on a fault or an exit status.
+/// Whether this is the name of a call on a fault or an exit status.
 pub fn is_call(name: &str) -> bool {
-    matches!(name, "message" | "is_success" | "is_same_status")
+    matches!(
+        name,
+        "message" | "message_debug" | "is_success" | "is_same_status"
+    )
 }
 
-/// What a call on a fault or an exit status answers.
-pub fn answer(alloc: Global, row: &Row) -> Result<Answer, Stop> {
-    match (row.call.as_str(), row.settings.as_slice()) {
+/// Makes a call on a fault or an exit status.
+pub fn answer(alloc: Global, case: &Case) -> Result<Answer, CaseError> {
+    match (case.call.as_str(), case.settings.as_slice()) {
         ("message", settings) => {
             let fault = fault(alloc, settings)?;
             shown(alloc, &fault)
+        }
+        ("message_debug", settings) => {
+            let fault = fault(alloc, settings)?;
+            debugged(alloc, &fault)
         }
         ("is_success", [word]) => {
             let code = code(word.as_str())?;
@@ -125,6 +132,6 @@ pub fn answer(alloc: Global, row: &Row) -> Result<Answer, Stop> {
                 ExitStatus::from_code(one) == ExitStatus::from_code(other),
             )
         }
-        _ => Err(Stop::Form("another call on a fault or a status")),
+        _ => Err(CaseError::Form("another call on a fault or a status")),
     }
 }

@@ -1,4 +1,4 @@
-//! The calls that read inputs that are preprocessed already.
+//! Calls that read already preprocessed inputs.
 
 use crate::reading;
 use crate::settings::Settings;
@@ -8,11 +8,11 @@ use device_lines::cicc;
 use std::alloc::Global;
 use std::fs::Files;
 use std::io::{self, Read};
-use test_tables::{Answer, Row, Stop, refused};
+use test_tables::{Answer, Case, CaseError, refused};
 use texts::fault::Fault;
 use texts::status::Output;
 
-// A reader that gives one byte at a time.
+// A reader that returns one byte at a time.
 #[derive(Drop)]
 struct ByteByByte<'a> {
     left: &'a [u8],
@@ -31,20 +31,20 @@ impl Read for ByteByByte<'_> {
     }
 }
 
-// The bytes that words are in hexadecimal digits.
-fn bytes_of(alloc: Global, words: &[String]) -> Result<Vec<u8>, Stop> {
+// Bytes written as words of hexadecimal digits.
+fn bytes_of(alloc: Global, words: &[String]) -> Result<Vec<u8>, CaseError> {
     let mut bytes = Vec::new(alloc);
     for word in words {
         match u8::from_str_radix(word.as_str(), 16) {
             Ok(byte) => bytes.push(byte)?,
-            Err(_) => return Err(Stop::Form("no byte")),
+            Err(_) => return Err(CaseError::Form("no byte")),
         }
     }
     Ok(bytes)
 }
 
 // Bytes as words of two hexadecimal digits each.
-fn hex_words(alloc: Global, bytes: &[u8]) -> Result<Vec<String>, Stop> {
+fn hex_words(alloc: Global, bytes: &[u8]) -> Result<Vec<String>, CaseError> {
     let mut words = Vec::new(alloc);
     for byte in bytes {
         words.push(format!(in alloc; "{byte:02x}")?)?;
@@ -52,8 +52,8 @@ fn hex_words(alloc: Global, bytes: &[u8]) -> Result<Vec<String>, Stop> {
     Ok(words)
 }
 
-// What reading an input gives, as facts.
-fn shown(alloc: Global, output: &Result<Output, Fault>) -> Result<Answer, Stop> {
+// The output of reading an input, as facts.
+fn shown(alloc: Global, output: &Result<Output, Fault>) -> Result<Answer, CaseError> {
     let output = match output {
         Ok(output) => output,
         Err(fault) => return refused(alloc, fault),
@@ -66,43 +66,48 @@ fn shown(alloc: Global, output: &Result<Output, Fault>) -> Result<Answer, Stop> 
     Ok(answer)
 }
 
-// What a call answers that preprocesses the input of a line, by what the line is read as.
+// Preprocesses the input of a line that was parsed.
 fn of_reading<R: Files + AllocGlobal>(
     rt: &R,
     alloc: Global,
     cwd: &str,
     read: &CompilerArguments<ParsedArguments>,
-) -> Result<Answer, Stop> {
+) -> Result<Answer, CaseError> {
     match read {
         CompilerArguments::Ok(parsed) => shown(alloc, &cicc::preprocess(rt, alloc, cwd, parsed)),
         read => reading::shown(alloc, read),
     }
 }
 
-// What a call answers that preprocesses the input of a line. What has many fields is dropped by calls,
-// because the proof is shorter so.
-fn of_line<R: Files + AllocGlobal>(rt: &R, alloc: Global, row: &Row) -> Result<Answer, Stop> {
-    let settings = Settings::of(alloc, row)?;
-    let read = read(alloc, &settings, row.words.as_slice());
+// Preprocesses the input of a line.
+//
+// Dropped by a call: see "Explicit drops" in docs/ARCHITECTURE.md.
+fn of_line<R: Files + AllocGlobal>(
+    rt: &R,
+    alloc: Global,
+    case: &Case,
+) -> Result<Answer, CaseError> {
+    let settings = Settings::of(alloc, case)?;
+    let read = read(alloc, &settings, case.words.as_slice());
     let answer = match &read {
         Ok(read) => of_reading(rt, alloc, settings.cwd, read),
-        Err(_) => Err(Stop::Memory),
+        Err(_) => Err(CaseError::Memory),
     };
     drop(read);
     drop(settings);
     answer
 }
 
-// What a call answers that reads bytes.
-fn of_bytes(alloc: Global, call: &str, bytes: &[u8]) -> Result<Answer, Stop> {
+// Reads bytes.
+fn of_bytes(alloc: Global, call: &str, bytes: &[u8]) -> Result<Answer, CaseError> {
     match call {
         "read_input" => shown(alloc, &cicc::read_input(alloc, bytes)),
         "read_input_slowly" => shown(alloc, &cicc::read_input(alloc, ByteByByte { left: bytes })),
-        _ => Err(Stop::Form("another call on an input")),
+        _ => Err(CaseError::Form("another call on an input")),
     }
 }
 
-/// Whether a name is that of a call that reads an input.
+/// Whether this is the name of a call that reads an input.
 pub fn is_call(name: &str) -> bool {
     matches!(
         name,
@@ -110,11 +115,15 @@ pub fn is_call(name: &str) -> bool {
     )
 }
 
-/// What a call that reads an input answers.
-pub fn answer<R: Files + AllocGlobal>(rt: &R, alloc: Global, row: &Row) -> Result<Answer, Stop> {
-    if row.call.as_str() == "preprocess_input" {
-        return of_line(rt, alloc, row);
+/// Makes a call that reads an input.
+pub fn answer<R: Files + AllocGlobal>(
+    rt: &R,
+    alloc: Global,
+    case: &Case,
+) -> Result<Answer, CaseError> {
+    if case.call.as_str() == "preprocess_input" {
+        return of_line(rt, alloc, case);
     }
-    let bytes = bytes_of(alloc, row.words.as_slice())?;
-    of_bytes(alloc, row.call.as_str(), bytes.as_slice())
+    let bytes = bytes_of(alloc, case.words.as_slice())?;
+    of_bytes(alloc, case.call.as_str(), bytes.as_slice())
 }

@@ -1,4 +1,4 @@
-//! The calls on languages, and on compilers as such.
+//! Calls on languages, and on compilers without a line.
 
 use crate::names::{language_name, language_named};
 use cuda_below::compiler::{CCompilerImpl, CCompilerKind, NvccHostCompiler};
@@ -9,7 +9,7 @@ use device_lines::cudafe::CudaFE;
 use device_lines::ptxas::Ptxas;
 use host_lines::nvhpc::Nvhpc;
 use std::alloc::Global;
-use test_tables::{Answer, Row, Stop};
+use test_tables::{Answer, Case, CaseError};
 use texts::language::Language;
 use texts::text::Text;
 
@@ -23,8 +23,8 @@ fn kind_name(kind: CCompilerKind) -> &'static str {
     }
 }
 
-// What a compiler says of itself.
-fn about<C: CCompilerImpl>(alloc: Global, compiler: &C) -> Result<Answer, Stop> {
+// A compiler's kind, language and version.
+fn about<C: CCompilerImpl>(alloc: Global, compiler: &C) -> Result<Answer, CaseError> {
     let cxx = if compiler.plusplus() { "c++" } else { "c" };
     let mut answer = Answer::of(alloc, &[kind_name(compiler.kind()), cxx])?;
     match compiler.version(alloc)? {
@@ -34,8 +34,8 @@ fn about<C: CCompilerImpl>(alloc: Global, compiler: &C) -> Result<Answer, Stop> 
     Ok(answer)
 }
 
-// The value of the setting of a name, which ends in `=`.
-fn value_of(alloc: Global, settings: &[String], name: &str) -> Result<Option<Text>, Stop> {
+// The value of the setting `name`, which ends in `=`.
+fn value_of(alloc: Global, settings: &[String], name: &str) -> Result<Option<Text>, CaseError> {
     for setting in settings {
         if let Some(value) = setting.as_str().strip_prefix(name) {
             return Ok(Some(Text::copy_of(alloc, value)?));
@@ -44,8 +44,8 @@ fn value_of(alloc: Global, settings: &[String], name: &str) -> Result<Option<Tex
     Ok(None)
 }
 
-// What a device tool's compiler of this version says of itself.
-fn about_device(alloc: Global, name: &str, version: Option<Text>) -> Result<Answer, Stop> {
+// The same of a device tool with this version.
+fn about_device(alloc: Global, name: &str, version: Option<Text>) -> Result<Answer, CaseError> {
     match name {
         "cicc" => about(alloc, &Cicc { version }),
         "cudafe++" => about(alloc, &CudaFE { version }),
@@ -53,8 +53,12 @@ fn about_device(alloc: Global, name: &str, version: Option<Text>) -> Result<Answ
     }
 }
 
-// What nvhpc's compiler of this version says of itself.
-fn about_nvhpc(alloc: Global, nvcplusplus: bool, version: Option<Text>) -> Result<Answer, Stop> {
+// The same of nvhpc with this version.
+fn about_nvhpc(
+    alloc: Global,
+    nvcplusplus: bool,
+    version: Option<Text>,
+) -> Result<Answer, CaseError> {
     let nvhpc = Nvhpc {
         nvcplusplus,
         version,
@@ -62,8 +66,8 @@ fn about_nvhpc(alloc: Global, nvcplusplus: bool, version: Option<Text>) -> Resul
     about(alloc, &nvhpc)
 }
 
-// What nvcc says of itself.
-fn about_nvcc(alloc: Global, settings: &[String]) -> Result<Answer, Stop> {
+// The same of nvcc, with the versions in the settings.
+fn about_nvcc(alloc: Global, settings: &[String]) -> Result<Answer, CaseError> {
     let nvcc = Nvcc {
         host_compiler: NvccHostCompiler::Gcc,
         host_compiler_version: value_of(alloc, settings, "host=")?,
@@ -72,8 +76,8 @@ fn about_nvcc(alloc: Global, settings: &[String]) -> Result<Answer, Stop> {
     about(alloc, &nvcc)
 }
 
-// What the compiler of a name says of itself.
-fn compiler(alloc: Global, name: &str, settings: &[String]) -> Result<Answer, Stop> {
+// The same of the tool with this name.
+fn compiler(alloc: Global, name: &str, settings: &[String]) -> Result<Answer, CaseError> {
     match name {
         "cicc" | "cudafe++" | "ptxas" => {
             about_device(alloc, name, value_of(alloc, settings, "version=")?)
@@ -81,11 +85,11 @@ fn compiler(alloc: Global, name: &str, settings: &[String]) -> Result<Answer, St
         "nvc" => about_nvhpc(alloc, false, value_of(alloc, settings, "version=")?),
         "nvc++" => about_nvhpc(alloc, true, value_of(alloc, settings, "version=")?),
         "nvcc" => about_nvcc(alloc, settings),
-        _ => Err(Stop::Form("an unknown tool")),
+        _ => Err(CaseError::Form("an unknown tool")),
     }
 }
 
-/// Whether a name is that of a call on a language or a compiler.
+/// Whether this is the name of a call on a language or a compiler.
 pub fn is_call(name: &str) -> bool {
     matches!(
         name,
@@ -93,9 +97,9 @@ pub fn is_call(name: &str) -> bool {
     )
 }
 
-/// What a call on a language or a compiler answers.
-pub fn answer(alloc: Global, row: &Row) -> Result<Answer, Stop> {
-    match (row.call.as_str(), row.settings.as_slice()) {
+/// Makes a call on a language or a compiler.
+pub fn answer(alloc: Global, case: &Case) -> Result<Answer, CaseError> {
+    match (case.call.as_str(), case.settings.as_slice()) {
         ("language_of_file", [path]) => {
             let language = Language::from_file_name(path.as_str());
             Answer::of_option(alloc, language.map(language_name))
@@ -107,6 +111,6 @@ pub fn answer(alloc: Global, row: &Row) -> Result<Answer, Stop> {
             Answer::of_option(alloc, language_to_gcc_arg(language_named(name.as_str())?))
         }
         ("compiler", [name, settings @ ..]) => compiler(alloc, name.as_str(), settings),
-        _ => Err(Stop::Form("another call on a language or a compiler")),
+        _ => Err(CaseError::Form("another call on a language or a compiler")),
     }
 }

@@ -1,4 +1,4 @@
-//! The calls on tools' lines: reading, writing back, and what follows.
+//! Calls on the lines of tools: parsing, writing back, dry runs and preprocessing.
 
 use crate::settings::Settings;
 use crate::tools::{Written, preprocess, read, write};
@@ -6,10 +6,10 @@ use crate::{reading, writing};
 use cuda_below::arguments::{CompilerArguments, ParsedArguments};
 use cuda_below::command::{Cacheable, CompileCommandImpl, SingleCompileCommand};
 use std::alloc::Global;
-use test_tables::{Answer, Row, Stop, refused};
+use test_tables::{Answer, Case, CaseError, debugged, refused};
 use texts::fault::Fault;
 
-// Whether a line is read as these arguments.
+// Whether a line was parsed into these arguments.
 fn is_read(read: &CompilerArguments<ParsedArguments>, parsed: &ParsedArguments) -> bool {
     match read {
         CompilerArguments::Ok(read) => *read == *parsed,
@@ -17,7 +17,7 @@ fn is_read(read: &CompilerArguments<ParsedArguments>, parsed: &ParsedArguments) 
     }
 }
 
-// The words of what arguments are written as.
+// The words of a written command.
 fn words_of(written: &Written) -> &[String] {
     match written {
         Written::Single(command) => command.get_arguments(),
@@ -25,13 +25,13 @@ fn words_of(written: &Written) -> &[String] {
     }
 }
 
-// Whether arguments are written as words that are read as equal arguments.
+// Whether the written words parse into equal arguments.
 fn reread(
     alloc: Global,
     settings: &Settings<'_>,
     parsed: &ParsedArguments,
     written: &Result<(Written, Cacheable), Fault>,
-) -> Result<Answer, Stop> {
+) -> Result<Answer, CaseError> {
     match written {
         Ok((written, _)) => {
             let again = read(alloc, settings, words_of(written))?;
@@ -41,12 +41,24 @@ fn reread(
     }
 }
 
-// Two dry runs.
+// The `Debug` output of a written command.
+fn shown_debug(
+    alloc: Global,
+    written: &Result<(Written, Cacheable), Fault>,
+) -> Result<Answer, CaseError> {
+    match written {
+        Ok((Written::Single(command), _)) => debugged(alloc, command),
+        Ok((Written::Nvcc(command), _)) => debugged(alloc, command),
+        Err(fault) => refused(alloc, fault),
+    }
+}
+
+// Two dry runs, as facts.
 fn both(
     alloc: Global,
     first: &SingleCompileCommand,
     second: &SingleCompileCommand,
-) -> Result<Answer, Stop> {
+) -> Result<Answer, CaseError> {
     let mut answer = Answer::new(alloc);
     writing::add_single(alloc, &mut answer, "first", first, true)?;
     writing::add_single(alloc, &mut answer, "second", second, true)?;
@@ -54,18 +66,25 @@ fn both(
 }
 
 // The two dry runs of a command.
-fn dry_runs(alloc: Global, written: &Result<(Written, Cacheable), Fault>) -> Result<Answer, Stop> {
+fn dry_runs(
+    alloc: Global,
+    written: &Result<(Written, Cacheable), Fault>,
+) -> Result<Answer, CaseError> {
     match written {
         Ok((Written::Nvcc(command), _)) => {
             let (first, second) = command.dryrun_commands(alloc)?;
             both(alloc, &first, &second)
         }
-        Ok((Written::Single(_), _)) => Err(Stop::Form("a tool without dry runs")),
+        Ok((Written::Single(_), _)) => Err(CaseError::Form("a tool without dry runs")),
         Err(fault) => refused(alloc, fault),
     }
 }
 
-fn runs(alloc: Global, commands: &[SingleCompileCommand], has_parts: bool) -> Result<Answer, Stop> {
+fn runs(
+    alloc: Global,
+    commands: &[SingleCompileCommand],
+    has_parts: bool,
+) -> Result<Answer, CaseError> {
     let mut answer = Answer::new(alloc);
     for command in commands {
         writing::add_single(alloc, &mut answer, "run", command, has_parts)?;
@@ -73,55 +92,56 @@ fn runs(alloc: Global, commands: &[SingleCompileCommand], has_parts: bool) -> Re
     Ok(answer)
 }
 
-// The commands that preprocess a line's input.
+// The commands that preprocess a line's input, as facts.
 fn preprocessing(
     alloc: Global,
     settings: &Settings<'_>,
     parsed: &ParsedArguments,
     has_parts: bool,
-) -> Result<Answer, Stop> {
+) -> Result<Answer, CaseError> {
     match preprocess(alloc, settings, parsed) {
         Some(Ok(commands)) => runs(alloc, commands.as_slice(), has_parts),
         Some(Err(fault)) => refused(alloc, &fault),
-        None => Err(Stop::Form("a tool that preprocesses nothing")),
+        None => Err(CaseError::Form("a tool that preprocesses nothing")),
     }
 }
 
-// What a call answers to what arguments are written as.
+// Makes a call on a written command.
 fn answer_to_written(
     alloc: Global,
     call: &str,
     settings: &Settings<'_>,
     parsed: &ParsedArguments,
     written: &Result<(Written, Cacheable), Fault>,
-) -> Result<Answer, Stop> {
+) -> Result<Answer, CaseError> {
     match call {
         "write" => writing::shown(alloc, written, false),
         "write_whole" => writing::shown(alloc, written, true),
+        "write_debug" => shown_debug(alloc, written),
         "reread" => reread(alloc, settings, parsed, written),
         "dry_runs" => dry_runs(alloc, written),
-        _ => Err(Stop::Form("an unknown call")),
+        _ => Err(CaseError::Form("an unknown call")),
     }
 }
 
-// What a call answers that writes arguments.
+// Makes a call that writes arguments.
 fn answer_to_writing(
     alloc: Global,
     call: &str,
     settings: &Settings<'_>,
     parsed: &ParsedArguments,
-) -> Result<Answer, Stop> {
+) -> Result<Answer, CaseError> {
     let written = write(alloc, settings, parsed);
     answer_to_written(alloc, call, settings, parsed, &written)
 }
 
-// What a call that begins with a line's arguments answers.
+// Makes a call on a line's arguments.
 fn answer_to(
     alloc: Global,
     call: &str,
     settings: &Settings<'_>,
     parsed: &ParsedArguments,
-) -> Result<Answer, Stop> {
+) -> Result<Answer, CaseError> {
     match call {
         "preprocess" => preprocessing(alloc, settings, parsed, false),
         "preprocess_whole" => preprocessing(alloc, settings, parsed, true),
@@ -129,14 +149,15 @@ fn answer_to(
     }
 }
 
-// What a call answers to what its line is read as.
+// Makes a call on a parsed line.
 fn answer_to_read(
     alloc: Global,
     call: &str,
     settings: &Settings<'_>,
     read: &mut CompilerArguments<ParsedArguments>,
-) -> Result<Answer, Stop> {
+) -> Result<Answer, CaseError> {
     match read {
+        read if call == "parse_debug" => debugged(alloc, read),
         CompilerArguments::Ok(parsed) if call != "parse" => {
             settings.edit(alloc, parsed)?;
             answer_to(alloc, call, settings, parsed)
@@ -145,13 +166,15 @@ fn answer_to_read(
     }
 }
 
-/// Whether a name is that of a call on a tool's line.
+/// Whether this is the name of a call on a tool's line.
 pub fn is_call(name: &str) -> bool {
     matches!(
         name,
         "parse"
+            | "parse_debug"
             | "write"
             | "write_whole"
+            | "write_debug"
             | "reread"
             | "dry_runs"
             | "preprocess"
@@ -159,13 +182,13 @@ pub fn is_call(name: &str) -> bool {
     )
 }
 
-/// What a call on a tool's line answers.
-pub fn answer(alloc: Global, row: &Row) -> Result<Answer, Stop> {
-    let settings = Settings::of(alloc, row)?;
-    let mut read = read(alloc, &settings, row.words.as_slice());
+/// Makes a call on a tool's line.
+pub fn answer(alloc: Global, case: &Case) -> Result<Answer, CaseError> {
+    let settings = Settings::of(alloc, case)?;
+    let mut read = read(alloc, &settings, case.words.as_slice());
     let answer = match &mut read {
-        Ok(read) => answer_to_read(alloc, row.call.as_str(), &settings, read),
-        Err(_) => Err(Stop::Memory),
+        Ok(read) => answer_to_read(alloc, case.call.as_str(), &settings, read),
+        Err(_) => Err(CaseError::Memory),
     };
     drop(read);
     drop(settings);

@@ -1,5 +1,5 @@
-//! Runs worked rows on words, option tables, languages, paths, faults, shell texts, and the lines of tools: calls with the
-//! answers that they have to give, from the files that the program is called with. data/README.md says how rows are written.
+//! Runs the cases on words, option tables, languages, paths, errors, shell texts and the lines of tools. The arguments name
+//! the files of cases; data/README.md says how cases are written.
 #![tactic(auto)]
 
 use calls::LineCalls;

@@ -1,13 +1,13 @@
-//! The names that rows have for languages, kinds of options and forms of values.
+//! The names that cases use for languages, kinds of options and forms of values.
 
 use cuda_below::gcc;
 use device_lines::cicc;
 use option_items::table::ArgDisposition;
 use std::alloc::{AllocError, Global};
-use test_tables::Stop;
+use test_tables::CaseError;
 use texts::language::Language;
 
-/// The name of a language.
+/// The name of this language.
 pub fn language_name(language: Language) -> &'static str {
     match language {
         Language::C => "C",
@@ -21,8 +21,8 @@ pub fn language_name(language: Language) -> &'static str {
     }
 }
 
-/// The language of a name.
-pub fn language_named(name: &str) -> Result<Language, Stop> {
+/// The language with this name.
+pub fn language_named(name: &str) -> Result<Language, CaseError> {
     match name {
         "C" => Ok(Language::C),
         "Cxx" => Ok(Language::Cxx),
@@ -32,11 +32,11 @@ pub fn language_named(name: &str) -> Result<Language, Stop> {
         "CudaFE" => Ok(Language::CudaFE),
         "Ptx" => Ok(Language::Ptx),
         "Cubin" => Ok(Language::Cubin),
-        _ => Err(Stop::Form("an unknown language")),
+        _ => Err(CaseError::Form("an unknown language")),
     }
 }
 
-/// A kind of option, which has a name.
+/// A kind of option with a name.
 pub trait Named {
     /// The kind's name.
     fn name(&self) -> &'static str;
@@ -81,7 +81,7 @@ impl Named for gcc::ArgData {
     }
 }
 
-// A name with the delimiter after it, if there is one.
+// A name, followed by the delimiter if there is one.
 fn with_delimiter(alloc: Global, name: &str, delimiter: Option<u8>) -> Result<String, AllocError> {
     let mut text = String::from_str(alloc, name)?;
     if let Some(byte) = delimiter {
@@ -90,7 +90,7 @@ fn with_delimiter(alloc: Global, name: &str, delimiter: Option<u8>) -> Result<St
     Ok(text)
 }
 
-/// The name of the form of an option: `flag` where it takes no value.
+/// The name of an option's form: `flag` if it takes no value.
 pub fn form_name(alloc: Global, form: Option<ArgDisposition>) -> Result<String, AllocError> {
     let Some(form) = form else {
         return String::from_str(alloc, "flag");

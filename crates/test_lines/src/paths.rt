@@ -1,14 +1,14 @@
-//! The calls on path texts.
+//! Calls on paths.
 
 use device_lines::cicc::{CICC_INPUT_SUFFIX, PTXAS_INPUT_SUFFIX, is_cicc_input, is_ptxas_input};
 use dry_runs::{FirstDir, Which};
 use std::alloc::Global;
-use test_tables::{Answer, Row, Stop};
+use test_tables::{Answer, Case, CaseError};
 use texts::extension::{extension, last, with_extension};
 use texts::text::{file_name, file_stem, folder, is_absolute, join};
 
-// What a call on one path answers.
-fn of_path(alloc: Global, call: &str, path: &str) -> Result<Answer, Stop> {
+// Makes a call on one path.
+fn of_path(alloc: Global, call: &str, path: &str) -> Result<Answer, CaseError> {
     match call {
         "is_absolute" => Answer::of_bool(alloc, is_absolute(path)),
         "folder" => Answer::of(alloc, &[folder(path)]),
@@ -18,11 +18,11 @@ fn of_path(alloc: Global, call: &str, path: &str) -> Result<Answer, Stop> {
         "extension" => Answer::of_option(alloc, extension(path)),
         "is_cicc_input" => Answer::of_bool(alloc, is_cicc_input(path)),
         "is_ptxas_input" => Answer::of_bool(alloc, is_ptxas_input(path)),
-        _ => Err(Stop::Form("another call on a path")),
+        _ => Err(CaseError::Form("another call on a path")),
     }
 }
 
-/// Whether a name is that of a call on path texts.
+/// Whether this is the name of a call on paths.
 pub fn is_call(name: &str) -> bool {
     matches!(
         name,
@@ -41,9 +41,9 @@ pub fn is_call(name: &str) -> bool {
     )
 }
 
-/// What a call on path texts answers.
-pub fn answer(alloc: Global, row: &Row) -> Result<Answer, Stop> {
-    match (row.call.as_str(), row.settings.as_slice()) {
+/// Makes a call on paths.
+pub fn answer(alloc: Global, case: &Case) -> Result<Answer, CaseError> {
+    match (case.call.as_str(), case.settings.as_slice()) {
         ("join", [base, path]) => {
             Answer::of(
                 alloc,
@@ -60,6 +60,6 @@ pub fn answer(alloc: Global, row: &Row) -> Result<Answer, Stop> {
         }
         ("input_suffixes", []) => Answer::of(alloc, &[CICC_INPUT_SUFFIX, PTXAS_INPUT_SUFFIX]),
         (call, [path]) => of_path(alloc, call, path.as_str()),
-        _ => Err(Stop::Form("another call on a path")),
+        _ => Err(CaseError::Form("another call on a path")),
     }
 }

@@ -1,13 +1,13 @@
-//! What a reader makes of a line, as facts.
+//! Parsed lines, as facts.
 
 use crate::names::language_name;
 use cuda_below::arguments::{ColorMode, CompilerArguments, ParsedArguments};
 use cuda_below::outputs::{ArtifactDescriptor, Outputs};
 use std::alloc::{AllocError, Global};
-use test_tables::{Answer, Stop};
+use test_tables::{Answer, CaseError};
 use texts::text::Text;
 
-// Every key that a reader gives an output.
+// All keys of outputs.
 const KEYS: [&str; 6] = [
     "obj",
     "d",
@@ -22,7 +22,7 @@ fn add_output(
     answer: &mut Answer,
     key: &str,
     output: &ArtifactDescriptor,
-) -> Result<(), Stop> {
+) -> Result<(), CaseError> {
     let path = output.path.as_str();
     if output.optional {
         answer.add(alloc, &[key, path, "optional"])
@@ -31,7 +31,7 @@ fn add_output(
     }
 }
 
-fn add_outputs(alloc: Global, answer: &mut Answer, outputs: &Outputs) -> Result<(), Stop> {
+fn add_outputs(alloc: Global, answer: &mut Answer, outputs: &Outputs) -> Result<(), CaseError> {
     let mut known = Outputs::new(alloc);
     for key in KEYS {
         if let Some(output) = outputs.get(key) {
@@ -45,7 +45,11 @@ fn add_outputs(alloc: Global, answer: &mut Answer, outputs: &Outputs) -> Result<
     Ok(())
 }
 
-fn add_lists(alloc: Global, answer: &mut Answer, parsed: &ParsedArguments) -> Result<(), Stop> {
+fn add_lists(
+    alloc: Global,
+    answer: &mut Answer,
+    parsed: &ParsedArguments,
+) -> Result<(), CaseError> {
     answer.add_list(alloc, "dependency", parsed.dependency_args.as_slice())?;
     answer.add_list(alloc, "preprocessor", parsed.preprocessor_args.as_slice())?;
     answer.add_list(alloc, "common", parsed.common_args.as_slice())?;
@@ -55,15 +59,19 @@ fn add_lists(alloc: Global, answer: &mut Answer, parsed: &ParsedArguments) -> Re
     answer.add_list(alloc, "hashed", parsed.extra_hash_files.as_slice())
 }
 
-// Adds a fact of this name alone, if it holds.
-fn add_flag(alloc: Global, answer: &mut Answer, name: &str, holds: bool) -> Result<(), Stop> {
+// Adds a fact without words, if it holds.
+fn add_flag(alloc: Global, answer: &mut Answer, name: &str, holds: bool) -> Result<(), CaseError> {
     if holds {
         answer.add(alloc, &[name])?;
     }
     Ok(())
 }
 
-fn add_flags(alloc: Global, answer: &mut Answer, parsed: &ParsedArguments) -> Result<(), Stop> {
+fn add_flags(
+    alloc: Global,
+    answer: &mut Answer,
+    parsed: &ParsedArguments,
+) -> Result<(), CaseError> {
     add_flag(
         alloc,
         answer,
@@ -92,7 +100,7 @@ fn add_optional(
     answer: &mut Answer,
     name: &str,
     text: &Option<Text>,
-) -> Result<(), Stop> {
+) -> Result<(), CaseError> {
     match text {
         Some(text) => answer.add(alloc, &[name, text.as_str()]),
         None => Ok(()),
@@ -104,7 +112,11 @@ fn is_cloned(alloc: Global, parsed: &ParsedArguments) -> Result<bool, AllocError
     Ok(*parsed == clone)
 }
 
-fn add_arguments(alloc: Global, answer: &mut Answer, parsed: &ParsedArguments) -> Result<(), Stop> {
+fn add_arguments(
+    alloc: Global,
+    answer: &mut Answer,
+    parsed: &ParsedArguments,
+) -> Result<(), CaseError> {
     let language = language_name(parsed.language);
     answer.add_pair(alloc, language, parsed.input.as_str())?;
     add_flag(alloc, answer, "dashes", parsed.double_dash_input)?;
@@ -121,8 +133,11 @@ fn add_arguments(alloc: Global, answer: &mut Answer, parsed: &ParsedArguments) -
     add_flag(alloc, answer, "unlike-its-clone", !is_cloned)
 }
 
-/// The facts of what a reader answers.
-pub fn shown(alloc: Global, read: &CompilerArguments<ParsedArguments>) -> Result<Answer, Stop> {
+/// A parsed line, as facts.
+pub fn shown(
+    alloc: Global,
+    read: &CompilerArguments<ParsedArguments>,
+) -> Result<Answer, CaseError> {
     let mut answer = Answer::new(alloc);
     match read {
         CompilerArguments::Ok(parsed) => add_arguments(alloc, &mut answer, parsed)?,

@@ -1,4 +1,4 @@
-//! What a row's line is read and written with.
+//! The settings of a case with a line.
 
 use crate::names::language_named;
 use crate::tools::{Tool, tool_named};
@@ -6,13 +6,12 @@ use cuda_below::arguments::ParsedArguments;
 use cuda_below::compiler::Places;
 use cuda_below::outputs::Outputs;
 use std::alloc::Global;
-use test_tables::{Row, Stop};
+use test_tables::{Case, CaseError};
 use texts::language::Language;
 use texts::text::Text;
 use texts::words::Words;
 
-/// The tool whose line it is, the working directory, the environment and the places, and what is put
-/// into the line's arguments in place of what was read.
+/// The line's tool, working directory, environment and places, and the fields to replace in its parsed arguments.
 #[derive(Drop)]
 pub struct Settings<'a> {
     pub tool: Tool,
@@ -26,10 +25,10 @@ pub struct Settings<'a> {
 }
 
 impl<'a> Settings<'a> {
-    /// The settings of a row.
-    pub fn of(alloc: Global, row: &'a Row) -> Result<Settings<'a>, Stop> {
-        let [tool, cwd, more @ ..] = row.settings.as_slice() else {
-            return Err(Stop::Form("no tool and working directory"));
+    /// The settings of a case.
+    pub fn of(alloc: Global, case: &'a Case) -> Result<Settings<'a>, CaseError> {
+        let [tool, cwd, more @ ..] = case.settings.as_slice() else {
+            return Err(CaseError::Form("no tool and working directory"));
         };
         let mut settings = Settings {
             tool: tool_named(tool.as_str())?,
@@ -51,14 +50,14 @@ impl<'a> Settings<'a> {
     }
 
     // Takes a variable.
-    fn take_variable(&mut self, alloc: Global, name: &str, value: &str) -> Result<(), Stop> {
+    fn take_variable(&mut self, alloc: Global, name: &str, value: &str) -> Result<(), CaseError> {
         let name = String::from_str(alloc, name)?;
         self.env_vars.push((name, String::from_str(alloc, value)?))?;
         Ok(())
     }
 
     // Takes the value of a setting that is no variable.
-    fn take_value(&mut self, alloc: Global, name: &str, value: &str) -> Result<(), Stop> {
+    fn take_value(&mut self, alloc: Global, name: &str, value: &str) -> Result<(), CaseError> {
         match name {
             "input" => self.places.canonical_input = Text::copy_of(alloc, value)?,
             "temp" => self.places.temp_dir = Text::copy_of(alloc, value)?,
@@ -66,15 +65,15 @@ impl<'a> Settings<'a> {
             "dependency" => self.dependency.push(String::from_str(alloc, value)?)?,
             "language" => self.language = Some(language_named(value)?),
             "outputs" => self.is_without_outputs = value == "none",
-            _ => return Err(Stop::Form("an unknown setting")),
+            _ => return Err(CaseError::Form("an unknown setting")),
         }
         Ok(())
     }
 
     // Takes a setting.
-    fn take(&mut self, alloc: Global, word: &str) -> Result<(), Stop> {
+    fn take(&mut self, alloc: Global, word: &str) -> Result<(), CaseError> {
         let Some((name, value)) = word.split_once('=') else {
-            return Err(Stop::Form("a setting without a value"));
+            return Err(CaseError::Form("a setting without a value"));
         };
         match name.strip_prefix('$') {
             Some(variable) => self.take_variable(alloc, variable, value),
@@ -82,8 +81,8 @@ impl<'a> Settings<'a> {
         }
     }
 
-    /// Puts what the settings name into arguments, in place of what was read.
-    pub fn edit(&self, alloc: Global, parsed: &mut ParsedArguments) -> Result<(), Stop> {
+    /// Replaces the fields of parsed arguments that the settings name.
+    pub fn edit(&self, alloc: Global, parsed: &mut ParsedArguments) -> Result<(), CaseError> {
         if !self.unhashed.is_empty() {
             parsed.unhashed_args = Words::copy_of(alloc, self.unhashed.as_slice())?;
         }

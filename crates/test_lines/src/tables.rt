@@ -1,4 +1,4 @@
-//! The calls on option tables and on the items of a line.
+//! Calls on option tables, and on the items that a table finds in a line.
 
 use crate::names::{Named, form_name};
 use cuda_below::gcc;
@@ -7,10 +7,10 @@ use host_lines::{nvcc, nvhpc};
 use option_items::items::{ArgsIter, Argument, NormalizedDisposition};
 use option_items::table::{ArgDisposition, ArgInfo, Pair, SearchableArgInfo, Table};
 use std::alloc::Global;
-use test_tables::{Answer, Row, Stop};
+use test_tables::{Answer, Case, CaseError};
 use texts::words::Words;
 
-// What is done over a table.
+// What a call does with a table.
 #[derive(Clone, Copy)]
 enum Work<'a> {
     Search(&'a str),
@@ -18,9 +18,9 @@ enum Work<'a> {
     Normalize(NormalizedDisposition, &'a [String]),
 }
 
-// Entries that a tool's table has none of: one text twice, in both orders of the two forms, a
-// delimiter that isn't ASCII, and the form of an item that was read from two words.
-const ODD_ROWS: [ArgInfo<cicc::ArgData>; 6] = [
+// Entries that no tool has: one text twice, in both orders of the two forms, a delimiter that isn't ASCII, and the form
+// that an item read from two words has.
+const ODD_ENTRIES: [ArgInfo<cicc::ArgData>; 6] = [
     ArgInfo::Flag("-twice", cicc::ArgData::UnhashedFlag),
     ArgInfo::TakeArg(
         "-twice",
@@ -41,18 +41,18 @@ const ODD_ROWS: [ArgInfo<cicc::ArgData>; 6] = [
     ),
 ];
 
-// The row of a table that a word chooses.
-fn chosen<T: Copy + Named>(alloc: Global, row: Option<&ArgInfo<T>>) -> Result<Answer, Stop> {
-    let Some(row) = row else {
+// The entry that a word selects, as facts.
+fn chosen<T: Copy + Named>(alloc: Global, entry: Option<&ArgInfo<T>>) -> Result<Answer, CaseError> {
+    let Some(entry) = entry else {
         return Answer::of(alloc, &["none"]);
     };
-    let form = form_name(alloc, row.disposition())?;
+    let form = form_name(alloc, entry.disposition())?;
     let mut answer = Answer::new(alloc);
     add_three(
         alloc,
         &mut answer,
-        row.text(),
-        row.kind().name(),
+        entry.text(),
+        entry.kind().name(),
         form.as_str(),
     )?;
     Ok(answer)
@@ -64,7 +64,7 @@ fn add_three(
     first: &str,
     second: &str,
     third: &str,
-) -> Result<(), Stop> {
+) -> Result<(), CaseError> {
     answer.add(alloc, &[first, second, third])
 }
 
@@ -75,7 +75,7 @@ fn add_word(
     word: &str,
     text: &str,
     kind: &str,
-) -> Result<(), Stop> {
+) -> Result<(), CaseError> {
     answer.add(alloc, &[what, word, text, kind])
 }
 
@@ -86,7 +86,7 @@ fn add_five(
     kind: &str,
     value: &str,
     form: &str,
-) -> Result<(), Stop> {
+) -> Result<(), CaseError> {
     answer.add(alloc, &["option", text, kind, value, form])
 }
 
@@ -97,7 +97,7 @@ fn add_option(
     kind: &str,
     value: &str,
     form: ArgDisposition,
-) -> Result<(), Stop> {
+) -> Result<(), CaseError> {
     let form = form_name(alloc, Some(form))?;
     add_five(alloc, answer, text, kind, value, form.as_str())
 }
@@ -110,12 +110,12 @@ fn kind_of<T: Copy + Named>(item: &Argument<T>) -> &'static str {
     }
 }
 
-// Adds an item: what it is, and what its parts say.
+// Adds an item: its kind and its parts.
 fn add_item<T: Copy + Named>(
     alloc: Global,
     answer: &mut Answer,
     item: &Argument<T>,
-) -> Result<(), Stop> {
+) -> Result<(), CaseError> {
     let (text, kind) = (item.flag_str().unwrap_or("textless"), kind_of(item));
     match item {
         Argument::Raw(word) => add_word(alloc, answer, "raw", word.as_str(), text, kind),
@@ -129,25 +129,25 @@ fn add_item<T: Copy + Named>(
     }
 }
 
-// Adds an item, and puts the words last that it is written as.
+// Adds an item, and appends its written words to `words`.
 fn add_written<T: Copy + Named>(
     alloc: Global,
     answer: &mut Answer,
     words: &mut Words,
     item: Argument<T>,
-) -> Result<(), Stop> {
+) -> Result<(), CaseError> {
     add_item(alloc, answer, &item)?;
     item.write(alloc, words)?;
     Ok(())
 }
 
-// Adds the items that are left, and puts the words last that those are written as that aren't faulty.
+// Adds the remaining items, and appends the written words of those without an error to `words`.
 fn add_items<T: Copy + Named, S: SearchableArgInfo<T> + Drop>(
     alloc: Global,
     items: &mut ArgsIter<'_, S, T>,
     answer: &mut Answer,
     words: &mut Words,
-) -> Result<(), Stop> {
+) -> Result<(), CaseError> {
     while let Some(item) = items.next() {
         match item {
             Ok(item) => add_written(alloc, answer, words, item)?,
@@ -155,17 +155,17 @@ fn add_items<T: Copy + Named, S: SearchableArgInfo<T> + Drop>(
         }
     }
     if items.refused() {
-        return Err(Stop::Memory);
+        return Err(CaseError::Memory);
     }
     Ok(())
 }
 
-// The items of a line, and the words that those are written as that aren't faulty.
+// The items of a line, and the written words of those without an error.
 fn items<T: Copy + Named, S: SearchableArgInfo<T> + Drop>(
     alloc: Global,
     table: S,
     line: &[String],
-) -> Result<Answer, Stop> {
+) -> Result<Answer, CaseError> {
     let mut answer = Answer::new(alloc);
     let mut words = Words::new(alloc);
     let mut items = ArgsIter::new(alloc, line, table);
@@ -176,13 +176,13 @@ fn items<T: Copy + Named, S: SearchableArgInfo<T> + Drop>(
     Ok(answer)
 }
 
-// The words that a line's items are written as, once they are normalized.
+// The written words of a line's items after normalization.
 fn normalize<T: Copy, S: SearchableArgInfo<T> + Drop>(
     alloc: Global,
     table: S,
     form: NormalizedDisposition,
     line: &[String],
-) -> Result<Answer, Stop> {
+) -> Result<Answer, CaseError> {
     let mut words = Words::new(alloc);
     let mut items = ArgsIter::new(alloc, line, table);
     while let Some(item) = items.next() {
@@ -191,7 +191,7 @@ fn normalize<T: Copy, S: SearchableArgInfo<T> + Drop>(
         }
     }
     if items.refused() {
-        return Err(Stop::Memory);
+        return Err(CaseError::Memory);
     }
     let mut answer = Answer::new(alloc);
     answer.add_words(alloc, "written", words.as_slice())?;
@@ -202,7 +202,7 @@ fn over<T: Copy + Named, S: SearchableArgInfo<T> + Drop>(
     alloc: Global,
     table: S,
     work: Work<'_>,
-) -> Result<Answer, Stop> {
+) -> Result<Answer, CaseError> {
     match work {
         Work::Search(word) => chosen(alloc, table.search(word)),
         Work::Items(line) => items(alloc, table, line),
@@ -210,7 +210,7 @@ fn over<T: Copy + Named, S: SearchableArgInfo<T> + Drop>(
     }
 }
 
-// Gcc's table and a tool's own.
+// gcc's table and a tool's own.
 fn with_gcc(second: Table<'static, gcc::ArgData>) -> Pair<'static, gcc::ArgData> {
     Pair {
         first: gcc::table(),
@@ -218,8 +218,8 @@ fn with_gcc(second: Table<'static, gcc::ArgData>) -> Pair<'static, gcc::ArgData>
     }
 }
 
-// Does work over the table of a name.
-fn over_named(alloc: Global, name: &str, work: Work<'_>) -> Result<Answer, Stop> {
+// Does the work with the table of this name.
+fn over_named(alloc: Global, name: &str, work: Work<'_>) -> Result<Answer, CaseError> {
     match name {
         "cicc" => over(alloc, cicc::table(), work),
         "cudafe++" => over(alloc, cudafe::table(), work),
@@ -229,19 +229,19 @@ fn over_named(alloc: Global, name: &str, work: Work<'_>) -> Result<Answer, Stop>
         "nvhpc" => over(alloc, nvhpc::table(), work),
         "gcc+nvcc" => over(alloc, with_gcc(nvcc::table()), work),
         "gcc+nvhpc" => over(alloc, with_gcc(nvhpc::table()), work),
-        "odd" => over(alloc, Table { rows: &ODD_ROWS }, work),
-        _ => Err(Stop::Form("an unknown table")),
+        "odd" => over(alloc, Table { rows: &ODD_ENTRIES }, work),
+        _ => Err(CaseError::Form("an unknown table")),
     }
 }
 
-// What a word chooses in two tables beside each other.
-fn search_both(alloc: Global, word: &str) -> Result<Answer, Stop> {
+// The entry that a word selects in two tables, as a tuple.
+fn search_both(alloc: Global, word: &str) -> Result<Answer, CaseError> {
     let pair = (cicc::table(), cudafe::table());
     chosen(alloc, pair.search(word))
 }
 
-// How many entries the table of a name has.
-fn length(name: &str) -> Result<usize, Stop> {
+// The number of entries in the table of this name.
+fn length(name: &str) -> Result<usize, CaseError> {
     match name {
         "cicc" => Ok(cicc::ARGS.len()),
         "cudafe++" => Ok(cudafe::ARGS.len()),
@@ -249,17 +249,17 @@ fn length(name: &str) -> Result<usize, Stop> {
         "gcc" => Ok(gcc::ARGS.len()),
         "nvcc" => Ok(nvcc::ARGS.len()),
         "nvhpc" => Ok(nvhpc::ARGS.len()),
-        _ => Err(Stop::Form("an unknown table")),
+        _ => Err(CaseError::Form("an unknown table")),
     }
 }
 
-// The number of entries of the table of a name, as an answer.
-fn entries(alloc: Global, name: &str) -> Result<Answer, Stop> {
+// The same, as an answer.
+fn entries(alloc: Global, name: &str) -> Result<Answer, CaseError> {
     let count = format!(in alloc; "{}", length(name)?)?;
     Answer::of(alloc, &[count.as_str()])
 }
 
-/// Whether a name is that of a call on a table.
+/// Whether this is the name of a call on a table.
 pub fn is_call(name: &str) -> bool {
     matches!(
         name,
@@ -267,10 +267,10 @@ pub fn is_call(name: &str) -> bool {
     )
 }
 
-/// What a call on a table answers.
-pub fn answer(alloc: Global, row: &Row) -> Result<Answer, Stop> {
-    let words = row.words.as_slice();
-    match (row.call.as_str(), row.settings.as_slice()) {
+/// Makes a call on a table.
+pub fn answer(alloc: Global, case: &Case) -> Result<Answer, CaseError> {
+    let words = case.words.as_slice();
+    match (case.call.as_str(), case.settings.as_slice()) {
         ("search", [name, word]) => match name.as_str() {
             "cicc,cudafe++" => search_both(alloc, word.as_str()),
             name => over_named(alloc, name, Work::Search(word.as_str())),
@@ -285,6 +285,6 @@ pub fn answer(alloc: Global, row: &Row) -> Result<Answer, Stop> {
             over_named(alloc, name.as_str(), Work::Normalize(form, words))
         }
         ("entries", [name]) => entries(alloc, name.as_str()),
-        _ => Err(Stop::Form("another call on a table")),
+        _ => Err(CaseError::Form("another call on a table")),
     }
 }

@@ -1,10 +1,10 @@
-//! The calls that take keep words and thread words out of a line.
+//! Calls that take the keep and thread options out of a line.
 
 use host_lines::nvcc::{take_keep, take_threads};
 use std::alloc::Global;
-use test_tables::{Answer, Row, Stop, refused};
+use test_tables::{Answer, Case, CaseError, refused};
 
-fn keep(alloc: Global, cwd: &str, words: &[String]) -> Result<Answer, Stop> {
+fn keep(alloc: Global, cwd: &str, words: &[String]) -> Result<Answer, CaseError> {
     let (left, directory) = match take_keep(alloc, words, cwd) {
         Ok(taken) => taken,
         Err(fault) => return refused(alloc, &fault),
@@ -17,7 +17,7 @@ fn keep(alloc: Global, cwd: &str, words: &[String]) -> Result<Answer, Stop> {
     Ok(answer)
 }
 
-fn threads(alloc: Global, words: &[String]) -> Result<Answer, Stop> {
+fn threads(alloc: Global, words: &[String]) -> Result<Answer, CaseError> {
     let (left, number) = match take_threads(alloc, words) {
         Ok(taken) => taken,
         Err(fault) => return refused(alloc, &fault),
@@ -29,17 +29,17 @@ fn threads(alloc: Global, words: &[String]) -> Result<Answer, Stop> {
     Ok(answer)
 }
 
-/// Whether a name is that of a call on keep words or thread words.
+/// Whether this is the name of a call on keep or thread options.
 pub fn is_call(name: &str) -> bool {
     matches!(name, "keep" | "threads")
 }
 
-/// What a call on keep words or thread words answers.
-pub fn answer(alloc: Global, row: &Row) -> Result<Answer, Stop> {
-    let words = row.words.as_slice();
-    match (row.call.as_str(), row.settings.as_slice()) {
+/// Makes a call on keep or thread options.
+pub fn answer(alloc: Global, case: &Case) -> Result<Answer, CaseError> {
+    let words = case.words.as_slice();
+    match (case.call.as_str(), case.settings.as_slice()) {
         ("keep", [cwd]) => keep(alloc, cwd.as_str(), words),
         ("threads", []) => threads(alloc, words),
-        _ => Err(Stop::Form("another call on keep or thread words")),
+        _ => Err(CaseError::Form("another call on keep or thread words")),
     }
 }

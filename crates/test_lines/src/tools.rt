@@ -1,4 +1,4 @@
-//! The tools whose lines are read and written.
+//! The tools whose lines are parsed and written.
 
 use crate::names::language_named;
 use crate::settings::Settings;
@@ -13,7 +13,7 @@ use device_lines::ptxas::Ptxas;
 use host_lines::nvhpc::Nvhpc;
 use option_items::table::{ArgInfo, Pair, Table};
 use std::alloc::{AllocError, Global};
-use test_tables::Stop;
+use test_tables::CaseError;
 use texts::fault::Fault;
 use texts::language::Language;
 
@@ -23,29 +23,29 @@ pub enum Tool {
     Cicc,
     CudaFe,
     Ptxas,
-    /// cicc's reader and writer, with this language and this place of the input from the line's end.
+    /// cicc's parser and writer, with this language and the input this many words from the line's end.
     Device(Language, usize),
-    /// nvcc over this compiler of host code.
+    /// nvcc with this host compiler.
     Nvcc(NvccHostCompiler),
-    /// nvhpc, for C++ if so.
+    /// nvhpc; C++ if true.
     Nvhpc(bool),
-    /// The reader and writer of gcc's options alone: whether C files are C++, and for which tool.
+    /// gcc's options alone: whether C files count as C++, and for which tool.
     Gcc(bool, CCompilerKind),
 }
 
-// cicc's reader and writer with the language and the place that a name holds, as `Ptx-3`.
-fn device_named(name: &str) -> Result<Tool, Stop> {
+// cicc's parser and writer for a name such as `Ptx-3`: a language, and the input's place from the end.
+fn device_named(name: &str) -> Result<Tool, CaseError> {
     let Some((language, offset)) = name.split_once('-') else {
-        return Err(Stop::Form("an unknown tool"));
+        return Err(CaseError::Form("an unknown tool"));
     };
     match offset.parse::<usize>() {
         Ok(offset) => Ok(Tool::Device(language_named(language)?, offset)),
-        Err(_) => Err(Stop::Form("an unknown tool")),
+        Err(_) => Err(CaseError::Form("an unknown tool")),
     }
 }
 
-/// The tool of a name.
-pub fn tool_named(name: &str) -> Result<Tool, Stop> {
+/// The tool with this name.
+pub fn tool_named(name: &str) -> Result<Tool, CaseError> {
     match name {
         "cicc" => Ok(Tool::Cicc),
         "cudafe++" => Ok(Tool::CudaFe),
@@ -62,7 +62,7 @@ pub fn tool_named(name: &str) -> Result<Tool, Stop> {
     }
 }
 
-/// nvcc of no known version.
+/// nvcc without a version.
 pub fn nvcc(host_compiler: NvccHostCompiler) -> Nvcc {
     Nvcc {
         host_compiler,
@@ -71,7 +71,7 @@ pub fn nvcc(host_compiler: NvccHostCompiler) -> Nvcc {
     }
 }
 
-/// nvhpc of no known version.
+/// nvhpc without a version.
 pub fn nvhpc(nvcplusplus: bool) -> Nvhpc {
     Nvhpc {
         nvcplusplus,
@@ -79,17 +79,17 @@ pub fn nvhpc(nvcplusplus: bool) -> Nvhpc {
     }
 }
 
-const NO_ROWS: [ArgInfo<gcc::ArgData>; 0] = [];
+const NO_ENTRIES: [ArgInfo<gcc::ArgData>; 0] = [];
 
-// gcc's options, beside a table of none.
+// gcc's options and an empty table.
 fn gcc_alone() -> Pair<'static, gcc::ArgData> {
     Pair {
         first: gcc::table(),
-        second: Table { rows: &NO_ROWS },
+        second: Table { rows: &NO_ENTRIES },
     }
 }
 
-/// What a line is read as.
+/// Parses a line.
 pub fn read(
     alloc: Global,
     settings: &Settings<'_>,
@@ -111,14 +111,14 @@ pub fn read(
     }
 }
 
-/// A command that a tool's arguments are written as.
+/// A command written for a tool.
 #[derive(Drop)]
 pub enum Written {
     Single(SingleCompileCommand),
     Nvcc(NvccCompileCommand),
 }
 
-// What the arguments of any tool but nvcc are written as, by the executable `executable`.
+// Writes the command of any tool but nvcc.
 fn write_single(
     alloc: Global,
     settings: &Settings<'_>,
@@ -149,7 +149,7 @@ fn write_single(
     }
 }
 
-/// What a tool's arguments are written as, with the executable `/b/tool`.
+/// Writes a tool's command. Its executable is `/b/tool`.
 pub fn write(
     alloc: Global,
     settings: &Settings<'_>,
@@ -170,7 +170,7 @@ pub fn write(
     Ok((Written::Nvcc(command), cacheable))
 }
 
-/// The commands that preprocess a line's input, for nvcc and nvhpc.
+/// The commands that preprocess a line's input; `None` for tools other than nvcc and nvhpc.
 pub fn preprocess(
     alloc: Global,
     settings: &Settings<'_>,

@@ -1,19 +1,19 @@
-//! Commands, as facts.
+//! Written commands, as facts.
 
 use crate::tools::Written;
 use cuda_below::command::{Cacheable, CompileCommandImpl, SingleCompileCommand};
 use cuda_below::compiler::NvccHostCompiler;
 use cuda_plans::nvcc::NvccCompileCommand;
 use std::alloc::{AllocError, Global};
-use test_tables::{Answer, Stop, refused};
+use test_tables::{Answer, CaseError, refused};
 use texts::fault::Fault;
 
-// Adds the parts that any command has but its words.
+// Adds a command's executable, working directory and environment.
 fn add_parts<C: CompileCommandImpl>(
     alloc: Global,
     answer: &mut Answer,
     command: &C,
-) -> Result<(), Stop> {
+) -> Result<(), CaseError> {
     answer.add(alloc, &["executable", command.get_executable()])?;
     answer.add(alloc, &["cwd", command.get_cwd()])?;
     for variable in command.get_env_vars() {
@@ -22,8 +22,8 @@ fn add_parts<C: CompileCommandImpl>(
     Ok(())
 }
 
-// Adds that a value is unlike its clone, if it is.
-fn add_likeness(alloc: Global, answer: &mut Answer, is_cloned: bool) -> Result<(), Stop> {
+// Adds a fact if a value isn't equal to its clone.
+fn add_likeness(alloc: Global, answer: &mut Answer, is_cloned: bool) -> Result<(), CaseError> {
     if is_cloned {
         return Ok(());
     }
@@ -40,19 +40,19 @@ fn is_nvcc_cloned(alloc: Global, command: &NvccCompileCommand) -> Result<bool, A
     Ok(*command == clone)
 }
 
-fn add_threads(alloc: Global, answer: &mut Answer, number: usize) -> Result<(), Stop> {
+fn add_threads(alloc: Global, answer: &mut Answer, number: usize) -> Result<(), CaseError> {
     let number = format!(in alloc; "{number}")?;
     answer.add(alloc, &["threads", number.as_str()])
 }
 
-/// Adds a command under a name: its words, and the other parts if asked.
+/// Adds a command: a fact `name` with its words, then the other parts if `has_parts`.
 pub fn add_single(
     alloc: Global,
     answer: &mut Answer,
     name: &str,
     command: &SingleCompileCommand,
     has_parts: bool,
-) -> Result<(), Stop> {
+) -> Result<(), CaseError> {
     answer.add_words(alloc, name, command.get_arguments())?;
     if has_parts {
         add_parts(alloc, answer, command)?;
@@ -71,25 +71,25 @@ fn host_name(host: NvccHostCompiler) -> &'static str {
     }
 }
 
-// Adds the parts that nvcc's command alone has, and that aren't handed in.
+// Adds the parts that only nvcc's command has.
 fn add_nvcc_parts(
     alloc: Global,
     answer: &mut Answer,
     command: &NvccCompileCommand,
-) -> Result<(), Stop> {
+) -> Result<(), CaseError> {
     answer.add(alloc, &["temp", command.temp_dir.as_str()])?;
     answer.add(alloc, &["flag", command.compilation_flag.as_str()])?;
     answer.add(alloc, &["host", host_name(command.host_compiler)])
 }
 
-// Adds nvcc's command under a name.
+// Adds nvcc's command, as `add_single` adds others.
 fn add_nvcc(
     alloc: Global,
     answer: &mut Answer,
     name: &str,
     command: &NvccCompileCommand,
     has_parts: bool,
-) -> Result<(), Stop> {
+) -> Result<(), CaseError> {
     answer.add_words(alloc, name, command.get_arguments())?;
     answer.add(alloc, &["name", command.output_file_name.as_str()])?;
     add_threads(alloc, answer, command.num_parallel)?;
@@ -103,12 +103,12 @@ fn add_nvcc(
     add_likeness(alloc, answer, is_nvcc_cloned(alloc, command)?)
 }
 
-/// The facts of what arguments are written as, with all parts if asked.
+/// A written command as facts, with all parts if `has_parts`.
 pub fn shown(
     alloc: Global,
     written: &Result<(Written, Cacheable), Fault>,
     has_parts: bool,
-) -> Result<Answer, Stop> {
+) -> Result<Answer, CaseError> {
     let (written, cacheable) = match written {
         Ok((written, cacheable)) => (written, *cacheable),
         Err(fault) => return refused(alloc, fault),

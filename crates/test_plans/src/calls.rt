@@ -1,30 +1,34 @@
-//! The calls that rows make, by their names.
+//! The calls that cases make, by name.
 
 use crate::{plan_runs, plans, renaming, runs, selection};
 use std::alloc::Global;
 use std::fs::Files;
-use test_tables::{Answer, Calls, Row, Stop};
+use test_tables::{Answer, Calls, Case, CaseError};
 
-/// The calls on dry runs, and on what is made of them.
+/// Calls on dry runs, canonical names, selections and plans.
 pub struct PlanCalls;
 
 impl Calls for PlanCalls {
-    // A further call is a further name here, and a function that makes its facts.
+    // For a new call, add its name here, and a function that returns its facts.
     fn answer_of<R: Files + AllocGlobal>(
         &self,
         rt: &R,
         alloc: Global,
-        row: &Row,
-    ) -> Result<Answer, Stop> {
-        match row.call.as_str() {
-            "read" | "read_whole" | "rename_run" | "is_clean" | "is_shadow" | "is_step_shadow" => {
-                runs::answer(rt, alloc, row)
-            }
-            "rename" | "suffixes" | "standard_suffixes" => renaming::answer(alloc, row),
-            "select" => selection::answer(rt, alloc, row),
-            "plan" | "plan_whole" | "plan_text" => plans::answer(rt, alloc, row),
-            "run" => plan_runs::answer(rt, alloc, row),
-            _ => Err(Stop::Form("an unknown call")),
+        case: &Case,
+    ) -> Result<Answer, CaseError> {
+        match case.call.as_str() {
+            "read"
+            | "read_whole"
+            | "read_debug"
+            | "rename_run"
+            | "is_clean"
+            | "is_shadow"
+            | "is_step_shadow" => { runs::answer(rt, alloc, case) }
+            "rename" | "suffixes" | "standard_suffixes" => renaming::answer(alloc, case),
+            "select" => selection::answer(rt, alloc, case),
+            "plan" | "plan_whole" | "plan_debug" | "plan_text" => plans::answer(rt, alloc, case),
+            "run" => plan_runs::answer(rt, alloc, case),
+            _ => Err(CaseError::Form("an unknown call")),
         }
     }
 }

@@ -1,51 +1,51 @@
-//! What the calls on dry runs are handed: dry runs, and suffixes of generated files.
+//! The arguments of calls on dry runs: dry runs, suffixes of generated files, variables.
 
 use canonical_names::Suffixes;
 use device_lines::cicc::read_input;
 use std::alloc::Global;
 use std::fs::{self, Files};
-use test_tables::{Stop, parts_of};
+use test_tables::{CaseError, parts_of};
 
-/// The bytes of a file, which lies beside the rows.
-pub fn bytes_of_file<R: Files>(rt: &R, alloc: Global, name: &str) -> Result<Vec<u8>, Stop> {
+/// The bytes of a file beside the cases.
+pub fn bytes_of_file<R: Files>(rt: &R, alloc: Global, name: &str) -> Result<Vec<u8>, CaseError> {
     let Ok(file) = fs::open(rt, name) else {
-        return Err(Stop::Form("a file that cannot be opened"));
+        return Err(CaseError::Form("a file that cannot be opened"));
     };
     match read_input(alloc, file) {
         Ok(output) => Ok(output.stdout.into_vec()),
-        Err(_) => Err(Stop::Form("a file that cannot be read")),
+        Err(_) => Err(CaseError::Form("a file that cannot be read")),
     }
 }
 
-// A text as far as it is made of its words.
+// A text that is put together from words.
 #[derive(Drop)]
 struct Made {
     bytes: Vec<u8>,
-    // Whether a blank parts the next word from what stands here.
+    // Whether a blank goes before the next word.
     has_word: bool,
 }
 
 impl Made {
-    // Puts bytes last.
-    fn push(&mut self, bytes: &[u8]) -> Result<(), Stop> {
+    // Appends bytes.
+    fn push(&mut self, bytes: &[u8]) -> Result<(), CaseError> {
         for byte in bytes {
             self.bytes.push(*byte)?;
         }
         Ok(())
     }
 
-    // Puts the byte last that a word is in hexadecimal digits.
-    fn push_byte(&mut self, digits: &str) -> Result<(), Stop> {
+    // Appends the byte with these hexadecimal digits.
+    fn push_byte(&mut self, digits: &str) -> Result<(), CaseError> {
         match u8::from_str_radix(digits, 16) {
             Ok(byte) => self.bytes.push(byte)?,
-            Err(_) => return Err(Stop::Form("no byte")),
+            Err(_) => return Err(CaseError::Form("no byte")),
         }
         self.has_word = false;
         Ok(())
     }
 
-    // Puts a word last.
-    fn take(&mut self, word: &str) -> Result<(), Stop> {
+    // Appends a word.
+    fn take(&mut self, word: &str) -> Result<(), CaseError> {
         if let Some(digits) = word.strip_prefix("0x") {
             return self.push_byte(digits);
         }
@@ -58,9 +58,8 @@ impl Made {
     }
 }
 
-// The bytes of a text that a row writes: its words, with a blank between two, but none behind a newline
-// and none beside a byte.
-fn bytes_of_text(alloc: Global, words: &[String]) -> Result<Vec<u8>, Stop> {
+// The bytes of a text in a case: its words, separated by blanks, but with no blank after a newline or beside a byte.
+fn bytes_of_text(alloc: Global, words: &[String]) -> Result<Vec<u8>, CaseError> {
     let mut made = Made {
         bytes: Vec::new(alloc),
         has_word: false,
@@ -71,8 +70,8 @@ fn bytes_of_text(alloc: Global, words: &[String]) -> Result<Vec<u8>, Stop> {
     Ok(made.bytes)
 }
 
-// The bytes of each text that a row writes.
-fn bytes_of_texts(alloc: Global, words: &[String]) -> Result<Vec<Vec<u8>>, Stop> {
+// The bytes of each text in a case.
+fn bytes_of_texts(alloc: Global, words: &[String]) -> Result<Vec<Vec<u8>>, CaseError> {
     let parts = parts_of(alloc, words)?;
     let mut texts = Vec::new(alloc);
     for part in parts.iter() {
@@ -81,12 +80,12 @@ fn bytes_of_texts(alloc: Global, words: &[String]) -> Result<Vec<Vec<u8>>, Stop>
     Ok(texts)
 }
 
-/// Puts the suffixes of a list last.
+/// Appends the suffixes.
 pub fn push_suffixes(
     alloc: Global,
     suffixes: &Suffixes,
     list: &mut Vec<String>,
-) -> Result<(), Stop> {
+) -> Result<(), CaseError> {
     for index in 0..suffixes.len() {
         let suffix = suffixes.get(index).unwrap_or("");
         list.push(String::from_str(alloc, suffix)?)?;
@@ -94,8 +93,8 @@ pub fn push_suffixes(
     Ok(())
 }
 
-// Puts a suffix last; `standard` stands for those of nvcc's files.
-fn push_suffix(alloc: Global, word: &str, list: &mut Vec<String>) -> Result<(), Stop> {
+// Appends a suffix, or the standard suffixes for the word `standard`.
+fn push_suffix(alloc: Global, word: &str, list: &mut Vec<String>) -> Result<(), CaseError> {
     if word == "standard" {
         return push_suffixes(alloc, &Suffixes::standard(), list);
     }
@@ -103,8 +102,8 @@ fn push_suffix(alloc: Global, word: &str, list: &mut Vec<String>) -> Result<(), 
     Ok(())
 }
 
-/// The suffixes that words name.
-pub fn suffix_list(alloc: Global, words: &[String]) -> Result<Vec<String>, Stop> {
+/// The suffixes that these words name.
+pub fn suffix_list(alloc: Global, words: &[String]) -> Result<Vec<String>, CaseError> {
     let mut list = Vec::new(alloc);
     for word in words {
         push_suffix(alloc, word.as_str(), &mut list)?;
@@ -112,7 +111,7 @@ pub fn suffix_list(alloc: Global, words: &[String]) -> Result<Vec<String>, Stop>
     Ok(list)
 }
 
-/// What a row's settings hand in: files of dry runs, suffixes of generated files, and variables.
+/// A case's settings: files with dry runs, suffixes of generated files, and variables.
 #[derive(Drop)]
 pub struct Handed {
     files: Vec<String>,
@@ -122,7 +121,7 @@ pub struct Handed {
 }
 
 impl Handed {
-    /// Nothing yet.
+    /// No settings.
     pub fn new(alloc: Global) -> Handed {
         Handed {
             files: Vec::new(alloc),
@@ -131,8 +130,8 @@ impl Handed {
         }
     }
 
-    /// What settings hand in.
-    pub fn of(alloc: Global, settings: &[String]) -> Result<Handed, Stop> {
+    /// Reads settings.
+    pub fn of(alloc: Global, settings: &[String]) -> Result<Handed, CaseError> {
         let mut handed = Handed::new(alloc);
         for setting in settings {
             handed.take(alloc, setting.as_str())?;
@@ -140,8 +139,8 @@ impl Handed {
         Ok(handed)
     }
 
-    // Takes the value of a setting.
-    fn take_value(&mut self, alloc: Global, name: &str, value: &str) -> Result<(), Stop> {
+    // Adds a setting with a name and a value.
+    fn take_value(&mut self, alloc: Global, name: &str, value: &str) -> Result<(), CaseError> {
         if let Some(variable) = name.strip_prefix('$') {
             let variable = String::from_str(alloc, variable)?;
             self.env_vars
@@ -151,37 +150,37 @@ impl Handed {
         match name {
             "file" => self.files.push(String::from_str(alloc, value)?)?,
             "suffix" => push_suffix(alloc, value, &mut self.suffixes)?,
-            _ => return Err(Stop::Form("an unknown setting")),
+            _ => return Err(CaseError::Form("an unknown setting")),
         }
         Ok(())
     }
 
-    /// Takes a setting.
-    pub fn take(&mut self, alloc: Global, setting: &str) -> Result<(), Stop> {
+    /// Adds a setting.
+    pub fn take(&mut self, alloc: Global, setting: &str) -> Result<(), CaseError> {
         match setting.split_once('=') {
             Some((name, value)) => self.take_value(alloc, name, value),
-            None => Err(Stop::Form("a setting without a value")),
+            None => Err(CaseError::Form("a setting without a value")),
         }
     }
 
-    /// The suffixes as they are handed in.
+    /// The suffixes in the settings.
     pub fn suffix_words(&self) -> &[String] {
         self.suffixes.as_slice()
     }
 
-    /// The suffixes, or those of nvcc's files where none are handed in.
-    pub fn suffixes(&self, alloc: Global) -> Result<Suffixes, Stop> {
+    /// The suffixes, or the standard ones if the settings have none.
+    pub fn suffixes(&self, alloc: Global) -> Result<Suffixes, CaseError> {
         if self.suffixes.is_empty() {
             return Ok(Suffixes::standard());
         }
         match Suffixes::new(alloc, self.suffixes.as_slice()) {
             Ok(suffixes) => Ok(suffixes),
-            Err(_) => Err(Stop::Form("bad suffixes")),
+            Err(_) => Err(CaseError::Form("bad suffixes")),
         }
     }
 
     // The bytes of the files.
-    fn bytes_of_files<R: Files>(&self, rt: &R, alloc: Global) -> Result<Vec<Vec<u8>>, Stop> {
+    fn bytes_of_files<R: Files>(&self, rt: &R, alloc: Global) -> Result<Vec<Vec<u8>>, CaseError> {
         let mut runs = Vec::new(alloc);
         for name in self.files.iter() {
             runs.push(bytes_of_file(rt, alloc, name.as_str())?)?;
@@ -189,13 +188,13 @@ impl Handed {
         Ok(runs)
     }
 
-    /// The bytes of the dry runs: those of the files, or of the texts in `words` where there are no files.
+    /// The bytes of the dry runs: of the files, or of the texts in `words` if there are no files.
     pub fn runs<R: Files>(
         &self,
         rt: &R,
         alloc: Global,
         words: &[String],
-    ) -> Result<Vec<Vec<u8>>, Stop> {
+    ) -> Result<Vec<Vec<u8>>, CaseError> {
         if self.files.is_empty() {
             return bytes_of_texts(alloc, words);
         }

@@ -1,5 +1,5 @@
-//! Runs worked rows on dry runs, canonical names, selections, plans, and runs of plans: calls with the answers that they have
-//! to give, from the files that the program is called with. data/README.md says where it is told how rows are written.
+//! Runs the cases on dry runs, canonical names, selections, plans, and runs of plans. The arguments name the files of
+//! cases; data/README.md says how cases are written.
 #![tactic(auto)]
 
 use calls::PlanCalls;
@@ -15,8 +15,8 @@ mod plans;
 mod renaming;
 mod run_settings;
 mod runs;
+mod scripted_runner;
 mod selection;
-mod told_runner;
 
 fn main(rt: HostRuntime) -> ExitCode {
     let mut out = rt.stdout();

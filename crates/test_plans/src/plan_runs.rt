@@ -1,66 +1,80 @@
-//! The call that runs the plan of two dry runs.
+//! The call that runs a plan.
 
 use crate::run_settings::RunSettings;
 use crate::runs::refused_at;
-use crate::told_runner::{Entry, ToldRunner};
+use crate::scripted_runner::{RunnerCall, ScriptedRunner};
 use canonical_names::Suffixes;
 use cuda_plans::nvcc::NvccCompileCommand;
 use dry_runs::FirstDir;
 use std::alloc::Global;
 use std::fs::Files;
-use test_tables::{Answer, Row, Stop};
+use test_tables::{Answer, Case, CaseError};
 use texts::bytes::Bytes;
 use texts::fault::Fault;
 use texts::status::{ExitStatus, Output};
 
-// Adds where a command stands that ran.
-fn add_place(alloc: Global, answer: &mut Answer, entry: &Entry) -> Result<(), Stop> {
+// Adds the place of a command that ran.
+fn add_place(alloc: Global, answer: &mut Answer, entry: &RunnerCall) -> Result<(), CaseError> {
     let (group, index) = (entry.place.group, entry.place.index);
     let (group, index) = (format!(in alloc; "{group}")?, format!(in alloc; "{index}")?);
     answer.add(alloc, &["place", group.as_str(), index.as_str()])
 }
 
-// Adds where each command stands that ran, in order.
-fn add_places(alloc: Global, answer: &mut Answer, runner: &ToldRunner) -> Result<(), Stop> {
+// Adds the places of all commands that ran, in order.
+fn add_places(
+    alloc: Global,
+    answer: &mut Answer,
+    runner: &ScriptedRunner,
+) -> Result<(), CaseError> {
     for entry in runner.account.iter() {
         add_place(alloc, answer, entry)?;
     }
     Ok(())
 }
 
-// What a status is: the name of its kind, and its number.
-fn kind_of(status: ExitStatus) -> Result<(&'static str, i32), Stop> {
+// The kind of a status, and its number.
+fn kind_of(status: ExitStatus) -> Result<(&'static str, i32), CaseError> {
     match (status.code(), status.signal()) {
         (Some(code), _) => Ok(("code", code)),
         (None, Some(signal)) => Ok(("signal", signal)),
-        (None, None) => Err(Stop::Form("a status that is neither a code nor a signal")),
+        (None, None) => Err(CaseError::Form("a status that is neither a code nor a signal")),
     }
 }
 
-// Adds bytes that were written, as the words of a text, unless there are none.
-fn add_bytes(alloc: Global, answer: &mut Answer, name: &str, bytes: &Bytes) -> Result<(), Stop> {
+// Adds what a process wrote, as the words of a text, unless it wrote nothing.
+fn add_bytes(
+    alloc: Global,
+    answer: &mut Answer,
+    name: &str,
+    bytes: &Bytes,
+) -> Result<(), CaseError> {
     if bytes.is_empty() {
         return Ok(());
     }
     match str::from_utf8(bytes.as_slice()) {
         Ok(text) => answer.add_text(alloc, name, text),
-        Err(_) => Err(Stop::Form("an output that isn't UTF-8")),
+        Err(_) => Err(CaseError::Form("an output that isn't UTF-8")),
     }
 }
 
-// Adds a status by its parts: how the run ended, the kind of the status, and its number.
+// Adds a status: how the run ended, the kind of the status, and its number.
 fn add_status(
     alloc: Global,
     answer: &mut Answer,
     name: &str,
     kind: &str,
     number: &str,
-) -> Result<(), Stop> {
+) -> Result<(), CaseError> {
     answer.add(alloc, &[name, kind, number])
 }
 
-// Adds an output: under this name its status, and what was written.
-fn add_output(alloc: Global, answer: &mut Answer, name: &str, output: &Output) -> Result<(), Stop> {
+// Adds an output: a fact `name` with its status, then what was written.
+fn add_output(
+    alloc: Global,
+    answer: &mut Answer,
+    name: &str,
+    output: &Output,
+) -> Result<(), CaseError> {
     let (kind, number) = kind_of(output.status)?;
     let number = format!(in alloc; "{number}")?;
     add_status(alloc, answer, name, kind, number.as_str())?;
@@ -68,28 +82,33 @@ fn add_output(alloc: Global, answer: &mut Answer, name: &str, output: &Output) -
     add_bytes(alloc, answer, "stderr", &output.stderr)
 }
 
-// The facts of what ran and what was left of it.
-fn shown(alloc: Global, runner: &ToldRunner, name: &str, output: &Output) -> Result<Answer, Stop> {
+// What ran and the final output, as facts.
+fn shown(
+    alloc: Global,
+    runner: &ScriptedRunner,
+    name: &str,
+    output: &Output,
+) -> Result<Answer, CaseError> {
     let mut answer = Answer::new(alloc);
     add_places(alloc, &mut answer, runner)?;
     add_output(alloc, &mut answer, name, output)?;
     Ok(answer)
 }
 
-// The facts of a refusal. One of a dry run is alone, as no command may have run.
-fn refused(alloc: Global, runner: &ToldRunner, fault: &Fault) -> Result<Answer, Stop> {
+// An error as facts. After an error in a dry run no command may have run.
+fn refused(alloc: Global, runner: &ScriptedRunner, fault: &Fault) -> Result<Answer, CaseError> {
     if *fault != Fault::Memory && !runner.account.is_empty() {
-        return Err(Stop::Form("a refusal after a command ran"));
+        return Err(CaseError::Form("a refusal after a command ran"));
     }
     refused_at(alloc, fault)
 }
 
-// The facts of a run, by how it ended.
+// The result of a run, as facts.
 fn ended(
     alloc: Global,
-    runner: &ToldRunner,
+    runner: &ScriptedRunner,
     outcome: &Result<Output, Fault>,
-) -> Result<Answer, Stop> {
+) -> Result<Answer, CaseError> {
     match outcome {
         Ok(output) => shown(alloc, runner, "ended", output),
         Err(Fault::Process(output)) => shown(alloc, runner, "failed", output),
@@ -104,20 +123,20 @@ fn run(
     first: &[u8],
     second: &[u8],
     suffixes: &Suffixes,
-    runner: &mut ToldRunner,
-) -> Result<Answer, Stop> {
+    runner: &mut ScriptedRunner,
+) -> Result<Answer, CaseError> {
     let outcome = command.execute(alloc, first, second, &FirstDir, runner, suffixes);
     ended(alloc, runner, &outcome)
 }
 
-// Runs the plan of one dry run, which is both, or of two.
+// Runs the plan of one dry run, taken twice, or of two.
 fn of_runs(
     alloc: Global,
     command: &NvccCompileCommand,
     runs: &[Vec<u8>],
     suffixes: &Suffixes,
-    runner: &mut ToldRunner,
-) -> Result<Answer, Stop> {
+    runner: &mut ScriptedRunner,
+) -> Result<Answer, CaseError> {
     match runs {
         [both] => run(
             alloc,
@@ -135,20 +154,21 @@ fn of_runs(
             suffixes,
             runner,
         ),
-        _ => Err(Stop::Form("another number of dry runs")),
+        _ => Err(CaseError::Form("another number of dry runs")),
     }
 }
 
-// Runs the plan of the dry runs that a row names. What has many fields is dropped by a call, because the
-// proof is shorter so.
+// Runs the plan of the dry runs in a case.
+//
+// Dropped by a call: see "Explicit drops" in docs/ARCHITECTURE.md.
 fn with_settings<R: Files + AllocGlobal>(
     rt: &R,
     alloc: Global,
-    row: &Row,
+    case: &Case,
     settings: &mut RunSettings<'_>,
-) -> Result<Answer, Stop> {
+) -> Result<Answer, CaseError> {
     let suffixes = settings.plan.handed.suffixes(alloc)?;
-    let runs = settings.plan.handed.runs(rt, alloc, row.words.as_slice())?;
+    let runs = settings.plan.handed.runs(rt, alloc, case.words.as_slice())?;
     let command = settings.plan.command(alloc, settings.num_parallel)?;
     let answer = of_runs(
         alloc,
@@ -161,10 +181,14 @@ fn with_settings<R: Files + AllocGlobal>(
     answer
 }
 
-/// What a run of the plan of two dry runs answers. One dry run is both.
-pub fn answer<R: Files + AllocGlobal>(rt: &R, alloc: Global, row: &Row) -> Result<Answer, Stop> {
-    let mut settings = RunSettings::of(alloc, row)?;
-    let answer = with_settings(rt, alloc, row, &mut settings);
+/// Runs the plan of two dry runs. One dry run is taken twice.
+pub fn answer<R: Files + AllocGlobal>(
+    rt: &R,
+    alloc: Global,
+    case: &Case,
+) -> Result<Answer, CaseError> {
+    let mut settings = RunSettings::of(alloc, case)?;
+    let answer = with_settings(rt, alloc, case, &mut settings);
     drop(settings);
     answer
 }

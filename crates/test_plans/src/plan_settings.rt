@@ -1,4 +1,4 @@
-//! What two dry runs are planned with.
+//! The settings of a plan.
 
 use crate::handed::Handed;
 use canonical_names::Suffixes;
@@ -8,14 +8,13 @@ use cuda_plans::nvcc::NvccCompileCommand;
 use dry_runs::FirstDir;
 use programs::{Stop as PlanStop, write_plan};
 use std::alloc::{AllocError, Global};
-use test_tables::{Row, Stop};
+use test_tables::{Case, CaseError};
 use texts::fault::Fault;
 use texts::text::Text;
 use texts::variables::Variables;
 use texts::words::Words;
 
-/// The working directory, the folder for temporary files and the compilation flag of a row, and its
-/// settings.
+/// A working directory, a directory for temporary files, a compilation flag, and further settings.
 #[derive(Drop)]
 pub struct PlanSettings<'a> {
     cwd: &'a str,
@@ -25,24 +24,27 @@ pub struct PlanSettings<'a> {
     host_compiler: NvccHostCompiler,
     /// The dry runs, suffixes and variables.
     pub handed: Handed,
-    /// The file that holds the plan's text.
+    /// The file with the plan's text; empty if the case names none.
     pub text_file: String,
 }
 
-fn host_named(name: &str) -> Result<NvccHostCompiler, Stop> {
+fn host_named(name: &str) -> Result<NvccHostCompiler, CaseError> {
     match name {
         "gcc" => Ok(NvccHostCompiler::Gcc),
         "msvc" => Ok(NvccHostCompiler::Msvc),
         "nvhpc" => Ok(NvccHostCompiler::Nvhpc),
-        _ => Err(Stop::Form("an unknown host compiler")),
+        _ => Err(CaseError::Form("an unknown host compiler")),
     }
 }
 
 impl<'a> PlanSettings<'a> {
-    /// What the first three settings of a row say, and the further ones.
-    pub fn begun(alloc: Global, row: &'a Row) -> Result<(PlanSettings<'a>, &'a [String]), Stop> {
-        let [cwd, tmp, flag, more @ ..] = row.settings.as_slice() else {
-            return Err(Stop::Form("no two folders and a flag"));
+    /// The settings so far of a case, from its first three words, and the remaining words.
+    pub fn begun(
+        alloc: Global,
+        case: &'a Case,
+    ) -> Result<(PlanSettings<'a>, &'a [String]), CaseError> {
+        let [cwd, tmp, flag, more @ ..] = case.settings.as_slice() else {
+            return Err(CaseError::Form("no two folders and a flag"));
         };
         let settings = PlanSettings {
             cwd: cwd.as_str(),
@@ -56,19 +58,19 @@ impl<'a> PlanSettings<'a> {
         Ok((settings, more))
     }
 
-    /// The settings of a row.
-    pub fn of(alloc: Global, row: &'a Row) -> Result<PlanSettings<'a>, Stop> {
-        let (mut settings, more) = PlanSettings::begun(alloc, row)?;
+    /// The settings of a case.
+    pub fn of(alloc: Global, case: &'a Case) -> Result<PlanSettings<'a>, CaseError> {
+        let (mut settings, more) = PlanSettings::begun(alloc, case)?;
         for setting in more {
             settings.take(alloc, setting.as_str())?;
         }
         Ok(settings)
     }
 
-    /// Takes a setting.
-    pub fn take(&mut self, alloc: Global, setting: &str) -> Result<(), Stop> {
+    /// Adds a setting.
+    pub fn take(&mut self, alloc: Global, setting: &str) -> Result<(), CaseError> {
         let Some((name, value)) = setting.split_once('=') else {
-            return Err(Stop::Form("a setting without a value"));
+            return Err(CaseError::Form("a setting without a value"));
         };
         match name {
             "keep" => self.keep_dir = Some(String::from_str(alloc, value)?),
@@ -102,7 +104,7 @@ impl<'a> PlanSettings<'a> {
         )
     }
 
-    /// The call of nvcc, with so many device groups at once.
+    /// The nvcc call, with `num_parallel` device groups at once.
     pub fn command(
         &self,
         alloc: Global,
@@ -126,7 +128,7 @@ impl<'a> PlanSettings<'a> {
         })
     }
 
-    /// The text of the plan of two dry runs, with the suffixes behind the standard ones.
+    /// The text of the plan of two dry runs. The suffixes come after the standard ones.
     pub fn plan_text(
         &self,
         alloc: Global,

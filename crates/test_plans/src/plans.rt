@@ -1,4 +1,4 @@
-//! The calls on plans of two dry runs.
+//! Calls on plans of two dry runs.
 
 use crate::handed::bytes_of_file;
 use crate::plan_settings::PlanSettings;
@@ -8,7 +8,7 @@ use cuda_below::command::Cacheable;
 use programs::Stop as PlanStop;
 use std::alloc::{AllocError, Global};
 use std::fs::Files;
-use test_tables::{Answer, Row, Stop};
+use test_tables::{Answer, Case, CaseError, debugged};
 use texts::fault::Fault;
 
 fn reason_name(reason: Reason) -> &'static str {
@@ -25,12 +25,12 @@ fn is_cloned(alloc: Global, command: &NvccGeneratedSubcommand) -> Result<bool, A
     Ok(*command == clone)
 }
 
-// Adds a command's environment, and that it is unlike its clone, if it is.
+// Adds a command's environment, and a fact if it isn't equal to its clone.
 fn add_environment(
     alloc: Global,
     answer: &mut Answer,
     command: &NvccGeneratedSubcommand,
-) -> Result<(), Stop> {
+) -> Result<(), CaseError> {
     for variable in command.env_vars.iter() {
         answer.add(alloc, &["env", variable.0.as_str(), variable.1.as_str()])?;
     }
@@ -40,12 +40,12 @@ fn add_environment(
     Ok(())
 }
 
-// Adds a command: whether its outputs may come from a cache, its folder, its program and its words.
+// Adds a command: `yes` if it is cacheable or `no`, its working directory, program and words.
 fn add_command(
     alloc: Global,
     answer: &mut Answer,
     command: &NvccGeneratedSubcommand,
-) -> Result<(), Stop> {
+) -> Result<(), CaseError> {
     let name = match command.cacheable {
         Cacheable::Yes => "yes",
         Cacheable::No => "no",
@@ -54,14 +54,14 @@ fn add_command(
     answer.add_headed(alloc, heads.as_slice(), command.args.as_slice())
 }
 
-// Adds a group: its number, and its commands, with their environments if asked.
+// Adds a group: its number and its commands, with their environments if `is_whole`.
 fn add_group(
     alloc: Global,
     answer: &mut Answer,
     number: usize,
     group: &[NvccGeneratedSubcommand],
     is_whole: bool,
-) -> Result<(), Stop> {
+) -> Result<(), CaseError> {
     let number = format!(in alloc; "{number}")?;
     answer.add_pair(alloc, "group", number.as_str())?;
     for command in group {
@@ -73,7 +73,7 @@ fn add_group(
     Ok(())
 }
 
-// Adds a dropped command by its parts.
+// Adds the parts of a dropped command.
 fn add_dropped_words(
     alloc: Global,
     answer: &mut Answer,
@@ -82,12 +82,12 @@ fn add_dropped_words(
     reason: &str,
     exe: &str,
     words: &[String],
-) -> Result<(), Stop> {
+) -> Result<(), CaseError> {
     answer.add_headed(alloc, &["dropped", line, run, reason, exe], words)
 }
 
-// Adds a dropped command: its line, its run, the reason, its program and its words.
-fn add_dropped(alloc: Global, answer: &mut Answer, dropped: &Dropped) -> Result<(), Stop> {
+// Adds a dropped command: line, run, reason, program and words.
+fn add_dropped(alloc: Global, answer: &mut Answer, dropped: &Dropped) -> Result<(), CaseError> {
     let (line, run) = (dropped.line, dropped.run);
     let (line, run) = (format!(in alloc; "{line}")?, format!(in alloc; "{run}")?);
     add_dropped_words(
@@ -102,7 +102,7 @@ fn add_dropped(alloc: Global, answer: &mut Answer, dropped: &Dropped) -> Result<
 }
 
 // Adds each dropped command.
-fn add_all_dropped(alloc: Global, answer: &mut Answer, plan: &Plan) -> Result<(), Stop> {
+fn add_all_dropped(alloc: Global, answer: &mut Answer, plan: &Plan) -> Result<(), CaseError> {
     for dropped in plan.dropped.as_slice() {
         add_dropped(alloc, answer, dropped)?;
     }
@@ -110,7 +110,7 @@ fn add_all_dropped(alloc: Global, answer: &mut Answer, plan: &Plan) -> Result<()
 }
 
 // A plan, as facts.
-fn shown(alloc: Global, plan: &Plan, is_whole: bool) -> Result<Answer, Stop> {
+fn shown(alloc: Global, plan: &Plan, is_whole: bool) -> Result<Answer, CaseError> {
     let mut answer = Answer::new(alloc);
     for (number, group) in plan.groups.as_slice().iter().enumerate() {
         add_group(alloc, &mut answer, number, group.as_slice(), is_whole)?;
@@ -119,16 +119,17 @@ fn shown(alloc: Global, plan: &Plan, is_whole: bool) -> Result<Answer, Stop> {
     Ok(answer)
 }
 
-// What a call on a plan answers.
-fn of_plan(alloc: Global, call: &str, plan: &Result<Plan, Fault>) -> Result<Answer, Stop> {
+// A plan or an error, as facts.
+fn of_plan(alloc: Global, call: &str, plan: &Result<Plan, Fault>) -> Result<Answer, CaseError> {
     match plan {
         Err(fault) => refused_at(alloc, fault),
+        Ok(plan) if call == "plan_debug" => debugged(alloc, plan),
         Ok(plan) => shown(alloc, plan, call == "plan_whole"),
     }
 }
 
 // The lines of a plan's text, as facts.
-fn lines_of(alloc: Global, text: &str) -> Result<Answer, Stop> {
+fn lines_of(alloc: Global, text: &str) -> Result<Answer, CaseError> {
     let mut answer = Answer::new(alloc);
     for line in text.lines() {
         answer.add_text(alloc, "text", line)?;
@@ -136,54 +137,54 @@ fn lines_of(alloc: Global, text: &str) -> Result<Answer, Stop> {
     Ok(answer)
 }
 
-// A plan's text, as facts, or whether it is what a file holds, where one is named.
-fn compared<R: Files>(rt: &R, alloc: Global, text: &[u8], file: &str) -> Result<Answer, Stop> {
+// A plan's text as facts, or whether a file holds that text if the case names one.
+fn compared<R: Files>(rt: &R, alloc: Global, text: &[u8], file: &str) -> Result<Answer, CaseError> {
     if !file.is_empty() {
         let wanted = bytes_of_file(rt, alloc, file)?;
         return Answer::of_bool(alloc, text == wanted.as_slice());
     }
     match str::from_utf8(text) {
         Ok(text) => lines_of(alloc, text),
-        Err(_) => Err(Stop::Form("a plan's text that isn't UTF-8")),
+        Err(_) => Err(CaseError::Form("a plan's text that isn't UTF-8")),
     }
 }
 
-// What the text of a plan is, or why there is none.
+// The text of a plan or an error, as facts.
 fn of_text<R: Files>(
     rt: &R,
     alloc: Global,
     text: &Result<Vec<u8>, PlanStop>,
     file: &str,
-) -> Result<Answer, Stop> {
+) -> Result<Answer, CaseError> {
     match text {
         Ok(text) => compared(rt, alloc, text.as_slice(), file),
         Err(PlanStop::Fault(fault)) => refused_at(alloc, fault),
-        Err(_) => Err(Stop::Form("a text that cannot be written")),
+        Err(_) => Err(CaseError::Form("a text that cannot be written")),
     }
 }
 
-// What the call on the text of a plan answers.
+// Makes the call on the text of a plan.
 fn printed<R: Files>(
     rt: &R,
     alloc: Global,
     settings: &PlanSettings<'_>,
     first: &[u8],
     second: &[u8],
-) -> Result<Answer, Stop> {
+) -> Result<Answer, CaseError> {
     let text = settings.plan_text(alloc, first, second);
     let answer = of_text(rt, alloc, &text, settings.text_file.as_str());
     drop(text);
     answer
 }
 
-// What a call on a plan itself answers.
+// Makes a call on a plan itself.
 fn made(
     alloc: Global,
     call: &str,
     settings: &PlanSettings<'_>,
     first: &[u8],
     second: &[u8],
-) -> Result<Answer, Stop> {
+) -> Result<Answer, CaseError> {
     let suffixes = settings.handed.suffixes(alloc)?;
     let plan = settings.plan(alloc, first, second, &suffixes);
     let answer = of_plan(alloc, call, &plan);
@@ -191,7 +192,7 @@ fn made(
     answer
 }
 
-// What a call on the plan of two runs answers.
+// Makes a call on the plan of two dry runs.
 fn planned<R: Files>(
     rt: &R,
     alloc: Global,
@@ -199,21 +200,21 @@ fn planned<R: Files>(
     settings: &PlanSettings<'_>,
     first: &[u8],
     second: &[u8],
-) -> Result<Answer, Stop> {
+) -> Result<Answer, CaseError> {
     if call == "plan_text" {
         return printed(rt, alloc, settings, first, second);
     }
     made(alloc, call, settings, first, second)
 }
 
-// What a call on one dry run, which is both, or on two answers.
+// Makes a call on one dry run, taken twice, or on two.
 fn of_runs<R: Files>(
     rt: &R,
     alloc: Global,
     call: &str,
     settings: &PlanSettings<'_>,
     runs: &[Vec<u8>],
-) -> Result<Answer, Stop> {
+) -> Result<Answer, CaseError> {
     match runs {
         [both] => planned(rt, alloc, call, settings, both.as_slice(), both.as_slice()),
         [first, second] => {
@@ -226,25 +227,29 @@ fn of_runs<R: Files>(
                 second.as_slice(),
             )
         }
-        _ => Err(Stop::Form("another number of dry runs")),
+        _ => Err(CaseError::Form("another number of dry runs")),
     }
 }
 
-// What a call on the dry runs that a row names answers.
+// Makes a call on the dry runs in a case.
 fn with_settings<R: Files>(
     rt: &R,
     alloc: Global,
-    row: &Row,
+    case: &Case,
     settings: &PlanSettings<'_>,
-) -> Result<Answer, Stop> {
-    let runs = settings.handed.runs(rt, alloc, row.words.as_slice())?;
-    of_runs(rt, alloc, row.call.as_str(), settings, runs.as_slice())
+) -> Result<Answer, CaseError> {
+    let runs = settings.handed.runs(rt, alloc, case.words.as_slice())?;
+    of_runs(rt, alloc, case.call.as_str(), settings, runs.as_slice())
 }
 
-/// What a call that plans two dry runs answers. One dry run is both.
-pub fn answer<R: Files + AllocGlobal>(rt: &R, alloc: Global, row: &Row) -> Result<Answer, Stop> {
-    let settings = PlanSettings::of(alloc, row)?;
-    let answer = with_settings(rt, alloc, row, &settings);
+/// Makes a call that plans two dry runs. One dry run is taken twice.
+pub fn answer<R: Files + AllocGlobal>(
+    rt: &R,
+    alloc: Global,
+    case: &Case,
+) -> Result<Answer, CaseError> {
+    let settings = PlanSettings::of(alloc, case)?;
+    let answer = with_settings(rt, alloc, case, &settings);
     drop(settings);
     answer
 }

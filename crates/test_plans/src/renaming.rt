@@ -1,23 +1,23 @@
-//! The calls on the names of generated files, and on their suffixes.
+//! Calls on the canonical names of generated files, and on their suffixes.
 
 use crate::handed::{Handed, push_suffixes, suffix_list};
 use canonical_names::{Renames, Suffixes, remap_generated_filenames};
 use std::alloc::Global;
-use test_tables::{Answer, Row, Stop, parts_of, refused};
+use test_tables::{Answer, Case, CaseError, parts_of, refused};
 
-// Adds the words of a line, renamed.
+// Adds the renamed words of a line.
 fn add_renamed(
     alloc: Global,
     answer: &mut Answer,
     words: &[String],
     renames: &mut Renames,
-) -> Result<(), Stop> {
+) -> Result<(), CaseError> {
     let renamed = remap_generated_filenames(alloc, words, renames)?;
     answer.add_words(alloc, "words", renamed.as_slice())
 }
 
-// The words of lines, renamed one line after the other.
-fn renamed(alloc: Global, words: &[String], suffixes: &Suffixes) -> Result<Answer, Stop> {
+// The renamed words of lines, one line after the other.
+fn renamed(alloc: Global, words: &[String], suffixes: &Suffixes) -> Result<Answer, CaseError> {
     let lines = parts_of(alloc, words)?;
     let mut renames = Renames::new(alloc, suffixes)?;
     let mut answer = Answer::new(alloc);
@@ -27,8 +27,8 @@ fn renamed(alloc: Global, words: &[String], suffixes: &Suffixes) -> Result<Answe
     Ok(answer)
 }
 
-// A list of suffixes, as facts.
-fn shown(alloc: Global, suffixes: &Suffixes) -> Result<Answer, Stop> {
+// Suffixes, as facts.
+fn shown(alloc: Global, suffixes: &Suffixes) -> Result<Answer, CaseError> {
     let mut list = Vec::new(alloc);
     push_suffixes(alloc, suffixes, &mut list)?;
     let mut answer = Answer::new(alloc);
@@ -42,8 +42,8 @@ fn shown(alloc: Global, suffixes: &Suffixes) -> Result<Answer, Stop> {
     Ok(answer)
 }
 
-// What comes of a list that is handed in as suffixes.
-fn checked(alloc: Global, words: &[String]) -> Result<Answer, Stop> {
+// Makes suffixes from a list.
+fn checked(alloc: Global, words: &[String]) -> Result<Answer, CaseError> {
     let list = suffix_list(alloc, words)?;
     match Suffixes::new(alloc, list.as_slice()) {
         Ok(suffixes) => shown(alloc, &suffixes),
@@ -51,16 +51,16 @@ fn checked(alloc: Global, words: &[String]) -> Result<Answer, Stop> {
     }
 }
 
-/// What a call on generated names or their suffixes answers.
-pub fn answer(alloc: Global, row: &Row) -> Result<Answer, Stop> {
-    match (row.call.as_str(), row.settings.as_slice()) {
+/// Makes a call on generated names or their suffixes.
+pub fn answer(alloc: Global, case: &Case) -> Result<Answer, CaseError> {
+    match (case.call.as_str(), case.settings.as_slice()) {
         ("rename", settings) => {
             let handed = Handed::of(alloc, settings)?;
             let suffixes = handed.suffixes(alloc)?;
-            renamed(alloc, row.words.as_slice(), &suffixes)
+            renamed(alloc, case.words.as_slice(), &suffixes)
         }
         ("suffixes", words) => checked(alloc, words),
         ("standard_suffixes", []) => shown(alloc, &Suffixes::standard()),
-        _ => Err(Stop::Form("another call on generated names")),
+        _ => Err(CaseError::Form("another call on generated names")),
     }
 }

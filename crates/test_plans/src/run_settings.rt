@@ -1,39 +1,39 @@
-//! What a run of a plan is made with.
+//! The settings of a run of a plan.
 
 use crate::plan_settings::PlanSettings;
-use crate::told_runner::{ToldRunner, left};
+use crate::scripted_runner::{ScriptedRunner, left};
 use cuda_plans::runner::{Answer, Place};
 use std::alloc::Global;
-use test_tables::{Row, Stop};
+use test_tables::{Case, CaseError};
 use texts::bytes::Bytes;
 use texts::fault::Fault;
 use texts::status::CompileFinished;
 use texts::text::Text;
 
-/// What the plan is made with, how many of its device groups run at once, and who runs it.
+/// The settings of the plan, how many device groups run at once, and the runner.
 #[derive(Drop)]
 pub struct RunSettings<'a> {
     pub plan: PlanSettings<'a>,
     pub num_parallel: usize,
-    pub runner: ToldRunner,
+    pub runner: ScriptedRunner,
 }
 
-fn number(word: &str) -> Result<usize, Stop> {
+fn number(word: &str) -> Result<usize, CaseError> {
     match word.parse::<usize>() {
         Ok(number) => Ok(number),
-        Err(_) => Err(Stop::Form("no number")),
+        Err(_) => Err(CaseError::Form("no number")),
     }
 }
 
-fn code(word: &str) -> Result<i32, Stop> {
+fn code(word: &str) -> Result<i32, CaseError> {
     match word.parse::<i32>() {
         Ok(code) => Ok(code),
-        Err(_) => Err(Stop::Form("no code or signal")),
+        Err(_) => Err(CaseError::Form("no code or signal")),
     }
 }
 
-// The place that two numbers name, as `1,0`.
-fn place(word: &str) -> Result<Place, Stop> {
+// The place written as two numbers, such as `1,0`: group and index.
+fn place(word: &str) -> Result<Place, CaseError> {
     match word.split_once(',') {
         Some((group, index)) => {
             Ok(Place {
@@ -41,11 +41,11 @@ fn place(word: &str) -> Result<Place, Stop> {
                 index: number(index)?,
             })
         }
-        None => Err(Stop::Form("no place")),
+        None => Err(CaseError::Form("no place")),
     }
 }
 
-// The answer that a compilation was ended by a signal.
+// The answer that a signal ended a compilation.
 fn ended_by(alloc: Global, signal: i32) -> Answer {
     Answer::Finished(CompileFinished {
         retcode: None,
@@ -55,8 +55,8 @@ fn ended_by(alloc: Global, signal: i32) -> Answer {
     })
 }
 
-// The answer that a setting's name and value say.
-fn answer_of(alloc: Global, name: &str, value: &str) -> Result<Answer, Stop> {
+// The answer that a setting describes.
+fn answer_of(alloc: Global, name: &str, value: &str) -> Result<Answer, CaseError> {
     match name {
         "fail" => Ok(Answer::Ran(left(alloc, code(value)?, Bytes::new(alloc)))),
         "print" => {
@@ -72,47 +72,47 @@ fn answer_of(alloc: Global, name: &str, value: &str) -> Result<Answer, Stop> {
             let text = Text::copy_of(alloc, value)?;
             Ok(Answer::Failed(Fault::Runner(text)))
         }
-        _ => Err(Stop::Form("another answer of a runner")),
+        _ => Err(CaseError::Form("another answer of a runner")),
     }
 }
 
 impl<'a> RunSettings<'a> {
-    /// The settings of a row.
-    pub fn of(alloc: Global, row: &'a Row) -> Result<RunSettings<'a>, Stop> {
-        let (plan, more) = PlanSettings::begun(alloc, row)?;
+    /// The settings of a case.
+    pub fn of(alloc: Global, case: &'a Case) -> Result<RunSettings<'a>, CaseError> {
+        let (plan, more) = PlanSettings::begun(alloc, case)?;
         let mut settings = RunSettings {
             plan,
             num_parallel: 1,
-            runner: ToldRunner::new(alloc),
+            runner: ScriptedRunner::new(alloc),
         };
         settings.take_all(alloc, more)?;
         Ok(settings)
     }
 
     // Takes settings.
-    fn take_all(&mut self, alloc: Global, settings: &[String]) -> Result<(), Stop> {
+    fn take_all(&mut self, alloc: Global, settings: &[String]) -> Result<(), CaseError> {
         for setting in settings {
             self.take(alloc, setting.as_str())?;
         }
         Ok(())
     }
 
-    // Tells the runner the answer at a place, as `1,0:3`.
-    fn tell(&mut self, alloc: Global, name: &str, told: &str) -> Result<(), Stop> {
+    // Gives the runner an answer at a place, such as `1,0:3`.
+    fn prepare(&mut self, alloc: Global, name: &str, told: &str) -> Result<(), CaseError> {
         let Some((at, value)) = told.split_once(':') else {
-            return Err(Stop::Form("no place and answer"));
+            return Err(CaseError::Form("no place and answer"));
         };
         let answer = answer_of(alloc, name, value)?;
-        self.runner.tell(place(at)?, answer)?;
+        self.runner.prepare(place(at)?, answer)?;
         Ok(())
     }
 
     // Takes a setting.
-    fn take(&mut self, alloc: Global, setting: &str) -> Result<(), Stop> {
+    fn take(&mut self, alloc: Global, setting: &str) -> Result<(), CaseError> {
         match setting.split_once('=') {
             Some(("parallel", value)) => self.num_parallel = number(value)?,
             Some((name @ ("fail" | "print" | "signal" | "failed" | "refuse"), told)) => {
-                self.tell(alloc, name, told)?;
+                self.prepare(alloc, name, told)?;
             }
             _ => self.plan.take(alloc, setting)?,
         }

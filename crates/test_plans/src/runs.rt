@@ -1,27 +1,32 @@
-//! The calls on dry runs.
+//! Calls on dry runs.
 
 use crate::handed::Handed;
 use canonical_names::{Suffixes, is_clean, is_shadow, is_step_shadow, remap_commands};
 use dry_runs::{Commands, DryRun, FirstDir, read_dry_run};
 use std::alloc::Global;
 use std::fs::Files;
-use test_tables::{Answer, Row, Stop, refused};
+use test_tables::{Answer, Case, CaseError, debugged, refused};
 use texts::fault::Fault;
 
-// Adds a fact of a name and a number.
-fn add_number(alloc: Global, answer: &mut Answer, name: &str, number: usize) -> Result<(), Stop> {
+// Adds a fact with a name and a number.
+fn add_number(
+    alloc: Global,
+    answer: &mut Answer,
+    name: &str,
+    number: usize,
+) -> Result<(), CaseError> {
     let number = format!(in alloc; "{number}")?;
     answer.add_pair(alloc, name, number.as_str())
 }
 
-// Adds where a refusal comes from: the run and the line.
-fn add_place(alloc: Global, answer: &mut Answer, run: usize, line: usize) -> Result<(), Stop> {
+// Adds the run and the line of an error.
+fn add_place(alloc: Global, answer: &mut Answer, run: usize, line: usize) -> Result<(), CaseError> {
     let (run, line) = (format!(in alloc; "{run}")?, format!(in alloc; "{line}")?);
     answer.add(alloc, &["at", run.as_str(), line.as_str()])
 }
 
-/// The facts of a refusal, with the run and the line where its message doesn't tell them.
-pub fn refused_at(alloc: Global, fault: &Fault) -> Result<Answer, Stop> {
+/// An error as facts, with the run and the line if its message doesn't have them.
+pub fn refused_at(alloc: Global, fault: &Fault) -> Result<Answer, CaseError> {
     let mut answer = refused(alloc, fault)?;
     match fault {
         Fault::BadShell { run, line } | Fault::EmptyCommand { run, line } => {
@@ -32,13 +37,13 @@ pub fn refused_at(alloc: Global, fault: &Fault) -> Result<Answer, Stop> {
     Ok(answer)
 }
 
-// Adds a command under a name: the number of its line, its program and its words.
+// Adds a command: a fact `name` with its line, program and words.
 fn add_command(
     alloc: Global,
     answer: &mut Answer,
     name: &str,
     command: &(usize, String, Vec<String>),
-) -> Result<(), Stop> {
+) -> Result<(), CaseError> {
     let number = command.0;
     let number = format!(in alloc; "{number}")?;
     let heads = [name, number.as_str(), command.1.as_str()];
@@ -46,7 +51,11 @@ fn add_command(
 }
 
 /// Adds each command.
-pub fn add_commands(alloc: Global, answer: &mut Answer, commands: &Commands) -> Result<(), Stop> {
+pub fn add_commands(
+    alloc: Global,
+    answer: &mut Answer,
+    commands: &Commands,
+) -> Result<(), CaseError> {
     for command in commands.as_slice() {
         add_command(alloc, answer, "line", command)?;
     }
@@ -54,7 +63,7 @@ pub fn add_commands(alloc: Global, answer: &mut Answer, commands: &Commands) -> 
 }
 
 // Adds each variable.
-fn add_variables(alloc: Global, answer: &mut Answer, run: &DryRun) -> Result<(), Stop> {
+fn add_variables(alloc: Global, answer: &mut Answer, run: &DryRun) -> Result<(), CaseError> {
     for variable in run.env.iter() {
         answer.add(alloc, &["env", variable.0.as_str(), variable.1.as_str()])?;
     }
@@ -62,7 +71,7 @@ fn add_variables(alloc: Global, answer: &mut Answer, run: &DryRun) -> Result<(),
 }
 
 // All commands and variables of a run, as facts.
-fn whole(alloc: Global, run: &DryRun) -> Result<Answer, Stop> {
+fn whole(alloc: Global, run: &DryRun) -> Result<Answer, CaseError> {
     let mut answer = Answer::new(alloc);
     add_commands(alloc, &mut answer, &run.commands)?;
     add_variables(alloc, &mut answer, run)?;
@@ -72,8 +81,8 @@ fn whole(alloc: Global, run: &DryRun) -> Result<Answer, Stop> {
     Ok(answer)
 }
 
-// How many commands and variables a run has, and its first and its last command, as facts.
-fn counted(alloc: Global, run: &DryRun) -> Result<Answer, Stop> {
+// The numbers of commands and variables in a run, and the first and last command, as facts.
+fn counted(alloc: Global, run: &DryRun) -> Result<Answer, CaseError> {
     let mut answer = Answer::new(alloc);
     let commands = run.commands.as_slice();
     add_number(alloc, &mut answer, "commands", commands.len())?;
@@ -87,47 +96,53 @@ fn counted(alloc: Global, run: &DryRun) -> Result<Answer, Stop> {
     Ok(answer)
 }
 
-// The commands of a run with canonical names, as facts.
-fn renamed(alloc: Global, run: DryRun, suffixes: &Suffixes) -> Result<Answer, Stop> {
+// A run's commands with canonical names, as facts.
+fn renamed(alloc: Global, run: DryRun, suffixes: &Suffixes) -> Result<Answer, CaseError> {
     let commands = remap_commands(alloc, run.commands, suffixes)?;
     let mut answer = Answer::new(alloc);
     add_commands(alloc, &mut answer, &commands)?;
     Ok(answer)
 }
 
-// What a call on one run answers.
-fn of_run(alloc: Global, call: &str, run: DryRun, suffixes: &Suffixes) -> Result<Answer, Stop> {
+// Makes a call on one run.
+fn of_run(
+    alloc: Global,
+    call: &str,
+    run: DryRun,
+    suffixes: &Suffixes,
+) -> Result<Answer, CaseError> {
     match call {
         "read" => counted(alloc, &run),
         "read_whole" => whole(alloc, &run),
+        "read_debug" => debugged(alloc, &run),
         "rename_run" => renamed(alloc, run, suffixes),
         "is_clean" => Answer::of_bool(alloc, is_clean(&run, suffixes)),
-        _ => Err(Stop::Form("another call on a dry run")),
+        _ => Err(CaseError::Form("another call on a dry run")),
     }
 }
 
-// What a call on two runs answers.
+// Makes a call on two runs.
 fn of_runs(
     alloc: Global,
     call: &str,
     runs: (&DryRun, &DryRun),
     tmp: &str,
     suffixes: &Suffixes,
-) -> Result<Answer, Stop> {
+) -> Result<Answer, CaseError> {
     let is_so = match call {
         "is_shadow" => is_shadow(alloc, runs.0, runs.1, tmp, suffixes)?,
         "is_step_shadow" => is_step_shadow(alloc, runs.0, runs.1, tmp, suffixes)?,
-        _ => return Err(Stop::Form("another call on two dry runs")),
+        _ => return Err(CaseError::Form("another call on two dry runs")),
     };
     Answer::of_bool(alloc, is_so)
 }
 
-// Reads a dry run in the folder `cwd`.
+// Reads a dry run made in `cwd`.
 fn read(alloc: Global, bytes: &[u8], number: usize, cwd: &str) -> Result<DryRun, Fault> {
     read_dry_run(alloc, bytes, number, cwd, &FirstDir)
 }
 
-// What a call on the bytes of one dry run answers.
+// Makes a call on the bytes of one dry run.
 fn of_bytes(
     alloc: Global,
     call: &str,
@@ -135,14 +150,14 @@ fn of_bytes(
     number: usize,
     cwd: &str,
     suffixes: &Suffixes,
-) -> Result<Answer, Stop> {
+) -> Result<Answer, CaseError> {
     match read(alloc, bytes, number, cwd) {
         Ok(run) => of_run(alloc, call, run, suffixes),
         Err(fault) => refused_at(alloc, &fault),
     }
 }
 
-// What a call on the bytes of two dry runs answers.
+// Makes a call on the bytes of two dry runs.
 fn of_two(
     alloc: Global,
     call: &str,
@@ -150,7 +165,7 @@ fn of_two(
     second: &[u8],
     tmp: &str,
     suffixes: &Suffixes,
-) -> Result<Answer, Stop> {
+) -> Result<Answer, CaseError> {
     let first = match read(alloc, first, 1, "/w") {
         Ok(run) => run,
         Err(fault) => return refused_at(alloc, &fault),
@@ -161,22 +176,22 @@ fn of_two(
     }
 }
 
-/// The number of a run that a word is.
-pub fn number_of(word: &str) -> Result<usize, Stop> {
+/// The number of a run, in decimal digits.
+pub fn number_of(word: &str) -> Result<usize, CaseError> {
     match word.parse::<usize>() {
         Ok(number) => Ok(number),
-        Err(_) => Err(Stop::Form("no number of a run")),
+        Err(_) => Err(CaseError::Form("no number of a run")),
     }
 }
 
-// What a call on the bytes of one dry run or of two answers.
+// Makes a call on the bytes of one or two dry runs.
 fn of_texts(
     alloc: Global,
     call: &str,
     runs: &[Vec<u8>],
     place: (usize, &str),
     suffixes: &Suffixes,
-) -> Result<Answer, Stop> {
+) -> Result<Answer, CaseError> {
     match runs {
         [run] => of_bytes(alloc, call, run.as_slice(), place.0, place.1, suffixes),
         [first, second] => {
@@ -189,27 +204,27 @@ fn of_texts(
                 suffixes,
             )
         }
-        _ => Err(Stop::Form("another number of dry runs")),
+        _ => Err(CaseError::Form("another number of dry runs")),
     }
 }
 
-// What a call on the dry runs that are handed in answers.
+// Makes a call on the dry runs in a case.
 fn of_handed<R: Files>(
     rt: &R,
     alloc: Global,
-    row: &Row,
+    case: &Case,
     place: (usize, &str),
     handed: &Handed,
-) -> Result<Answer, Stop> {
+) -> Result<Answer, CaseError> {
     let suffixes = handed.suffixes(alloc)?;
-    let runs = handed.runs(rt, alloc, row.words.as_slice())?;
-    of_texts(alloc, row.call.as_str(), runs.as_slice(), place, &suffixes)
+    let runs = handed.runs(rt, alloc, case.words.as_slice())?;
+    of_texts(alloc, case.call.as_str(), runs.as_slice(), place, &suffixes)
 }
 
-// The number of the run and the folder that a row's settings name, and its further settings.
-fn place_of(row: &Row) -> Result<(usize, &str, &[String]), Stop> {
-    match (row.call.as_str(), row.settings.as_slice()) {
-        ("read" | "read_whole", [run, cwd, more @ ..]) => {
+// The number of the run and the directory in a case's settings, and its further settings.
+fn place_of(case: &Case) -> Result<(usize, &str, &[String]), CaseError> {
+    match (case.call.as_str(), case.settings.as_slice()) {
+        ("read" | "read_whole" | "read_debug", [run, cwd, more @ ..]) => {
             Ok((number_of(run.as_str())?, cwd.as_str(), more))
         }
         ("is_shadow" | "is_step_shadow", [tmp, more @ ..]) => Ok((1, tmp.as_str(), more)),
@@ -217,11 +232,15 @@ fn place_of(row: &Row) -> Result<(usize, &str, &[String]), Stop> {
     }
 }
 
-/// What a call on dry runs answers.
-pub fn answer<R: Files + AllocGlobal>(rt: &R, alloc: Global, row: &Row) -> Result<Answer, Stop> {
-    let (number, folder, settings) = place_of(row)?;
+/// Makes a call on dry runs.
+pub fn answer<R: Files + AllocGlobal>(
+    rt: &R,
+    alloc: Global,
+    case: &Case,
+) -> Result<Answer, CaseError> {
+    let (number, folder, settings) = place_of(case)?;
     let handed = Handed::of(alloc, settings)?;
-    let answer = of_handed(rt, alloc, row, (number, folder), &handed);
+    let answer = of_handed(rt, alloc, case, (number, folder), &handed);
     drop(handed);
     answer
 }

@@ -7,11 +7,11 @@ use command_groups::select_nvcc_subcommands;
 use dry_runs::{Commands, FirstDir};
 use std::alloc::Global;
 use std::fs::Files;
-use test_tables::{Answer, Row, Stop};
+use test_tables::{Answer, Case, CaseError};
 use texts::fault::Fault;
 
-// What a dry run is selected of: its number, its working directory, the stem that is taken, and whether
-// generated files get canonical names.
+// The arguments of a selection: the run's number, its working directory, the program's stem, and whether generated
+// files get canonical names.
 #[derive(Clone, Copy)]
 struct Selection<'a> {
     run: usize,
@@ -21,7 +21,7 @@ struct Selection<'a> {
 }
 
 impl<'a> Selection<'a> {
-    // The commands that are selected. The run's variables are folded into `env_vars`.
+    // The selected commands. Adds the run's variables to `env_vars`.
     fn commands(
         &self,
         alloc: Global,
@@ -38,8 +38,8 @@ impl<'a> Selection<'a> {
     }
 }
 
-// The commands that are selected, or why there are none, as facts.
-fn shown(alloc: Global, commands: &Result<Commands, Fault>) -> Result<Answer, Stop> {
+// The selected commands or an error, as facts.
+fn shown(alloc: Global, commands: &Result<Commands, Fault>) -> Result<Answer, CaseError> {
     match commands {
         Err(fault) => refused_at(alloc, fault),
         Ok(commands) => {
@@ -55,20 +55,20 @@ fn add_variables(
     alloc: Global,
     answer: &mut Answer,
     env_vars: &[(String, String)],
-) -> Result<(), Stop> {
+) -> Result<(), CaseError> {
     for variable in env_vars {
         answer.add(alloc, &["env", variable.0.as_str(), variable.1.as_str()])?;
     }
     Ok(())
 }
 
-// What the call answers of the bytes of a dry run.
+// Selects from the bytes of a dry run.
 fn of_bytes(
     alloc: Global,
     selection: Selection<'_>,
     dry_run: &[u8],
     handed: &mut Handed,
-) -> Result<Answer, Stop> {
+) -> Result<Answer, CaseError> {
     let suffixes = handed.suffixes(alloc)?;
     let commands = selection.commands(alloc, dry_run, &mut handed.env_vars, &suffixes);
     let answer = shown(alloc, &commands);
@@ -78,34 +78,38 @@ fn of_bytes(
     Ok(answer)
 }
 
-// What the call answers of the one dry run that is handed in.
+// Selects from the one dry run in a case.
 fn of_handed<R: Files>(
     rt: &R,
     alloc: Global,
     selection: Selection<'_>,
     words: &[String],
     handed: &mut Handed,
-) -> Result<Answer, Stop> {
+) -> Result<Answer, CaseError> {
     let runs = handed.runs(rt, alloc, words)?;
     match runs.as_slice() {
         [run] => of_bytes(alloc, selection, run.as_slice(), handed),
-        _ => Err(Stop::Form("another number of dry runs")),
+        _ => Err(CaseError::Form("another number of dry runs")),
     }
 }
 
-// Whether a word says that generated files get canonical names.
-fn renames(word: &str) -> Result<bool, Stop> {
+// Whether generated files get canonical names: `renamed` or `kept`.
+fn renames(word: &str) -> Result<bool, CaseError> {
     match word {
         "renamed" => Ok(true),
         "kept" => Ok(false),
-        _ => Err(Stop::Form("neither renamed nor kept")),
+        _ => Err(CaseError::Form("neither renamed nor kept")),
     }
 }
 
-/// What the call that selects commands answers.
-pub fn answer<R: Files + AllocGlobal>(rt: &R, alloc: Global, row: &Row) -> Result<Answer, Stop> {
-    let [run, cwd, stem, names, settings @ ..] = row.settings.as_slice() else {
-        return Err(Stop::Form("no run, directory, stem and names"));
+/// Makes the call that selects commands.
+pub fn answer<R: Files + AllocGlobal>(
+    rt: &R,
+    alloc: Global,
+    case: &Case,
+) -> Result<Answer, CaseError> {
+    let [run, cwd, stem, names, settings @ ..] = case.settings.as_slice() else {
+        return Err(CaseError::Form("no run, directory, stem and names"));
     };
     let selection = Selection {
         run: number_of(run.as_str())?,
@@ -114,7 +118,7 @@ pub fn answer<R: Files + AllocGlobal>(rt: &R, alloc: Global, row: &Row) -> Resul
         remap: renames(names.as_str())?,
     };
     let mut handed = Handed::of(alloc, settings)?;
-    let answer = of_handed(rt, alloc, selection, row.words.as_slice(), &mut handed);
+    let answer = of_handed(rt, alloc, selection, case.words.as_slice(), &mut handed);
     drop(handed);
     answer
 }

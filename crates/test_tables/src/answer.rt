@@ -1,10 +1,10 @@
-//! What a call answers.
+//! What a call returns, as text.
 
-use crate::stop::Stop;
+use crate::case_error::CaseError;
 use crate::word::{push_text, show};
 use std::alloc::{AllocError, Global};
 
-/// An answer: facts, each a list of words, of which the first says what the others are.
+/// An answer is a list of facts. A fact is a list of words, and the first word names it.
 #[derive(PartialEq, Drop)]
 pub struct Answer {
     facts: Vec<Vec<String>>,
@@ -18,20 +18,20 @@ impl Answer {
         }
     }
 
-    /// The answer of one fact, which has these words.
-    pub fn of(alloc: Global, words: &[&str]) -> Result<Answer, Stop> {
+    /// An answer with one fact.
+    pub fn of(alloc: Global, words: &[&str]) -> Result<Answer, CaseError> {
         let mut answer = Answer::new(alloc);
         answer.add(alloc, words)?;
         Ok(answer)
     }
 
-    /// The answer of one fact: `yes` or `no`.
-    pub fn of_bool(alloc: Global, is_so: bool) -> Result<Answer, Stop> {
+    /// An answer with one fact: `yes` or `no`.
+    pub fn of_bool(alloc: Global, is_so: bool) -> Result<Answer, CaseError> {
         Answer::of(alloc, &[if is_so { "yes" } else { "no" }])
     }
 
-    /// The answer of one fact: `some` and a word, or `none`.
-    pub fn of_option(alloc: Global, word: Option<&str>) -> Result<Answer, Stop> {
+    /// An answer with one fact: `some` and a word, or `none`.
+    pub fn of_option(alloc: Global, word: Option<&str>) -> Result<Answer, CaseError> {
         match word {
             Some(word) => Answer::of(alloc, &["some", word]),
             None => Answer::of(alloc, &["none"]),
@@ -43,8 +43,8 @@ impl Answer {
         self.facts.is_empty()
     }
 
-    /// Adds the fact that has these words.
-    pub fn add(&mut self, alloc: Global, words: &[&str]) -> Result<(), Stop> {
+    /// Adds a fact.
+    pub fn add(&mut self, alloc: Global, words: &[&str]) -> Result<(), CaseError> {
         let mut fact = Vec::new(alloc);
         for word in words {
             fact.push(String::from_str(alloc, word)?)?;
@@ -53,13 +53,18 @@ impl Answer {
         Ok(())
     }
 
-    /// Adds the fact of this name and this word.
-    pub fn add_pair(&mut self, alloc: Global, name: &str, word: &str) -> Result<(), Stop> {
+    /// Adds a fact with a name and one word.
+    pub fn add_pair(&mut self, alloc: Global, name: &str, word: &str) -> Result<(), CaseError> {
         self.add(alloc, &[name, word])
     }
 
-    /// Adds the fact of this name and these words.
-    pub fn add_words(&mut self, alloc: Global, name: &str, words: &[String]) -> Result<(), Stop> {
+    /// Adds a fact with a name and words.
+    pub fn add_words(
+        &mut self,
+        alloc: Global,
+        name: &str,
+        words: &[String],
+    ) -> Result<(), CaseError> {
         let mut fact = Vec::new(alloc);
         fact.push(String::from_str(alloc, name)?)?;
         for word in words {
@@ -69,13 +74,13 @@ impl Answer {
         Ok(())
     }
 
-    /// Adds the fact of the words `heads` and then `words`.
+    /// Adds a fact with the words `heads`, then `words`.
     pub fn add_headed(
         &mut self,
         alloc: Global,
         heads: &[&str],
         words: &[String],
-    ) -> Result<(), Stop> {
+    ) -> Result<(), CaseError> {
         self.add(alloc, heads)?;
         match self.facts.last_mut() {
             Some(fact) => push_copies(alloc, words, fact),
@@ -83,16 +88,21 @@ impl Answer {
         }
     }
 
-    /// Adds the fact of this name and these words, unless there are none.
-    pub fn add_list(&mut self, alloc: Global, name: &str, words: &[String]) -> Result<(), Stop> {
+    /// Adds a fact with a name and words, unless there are no words.
+    pub fn add_list(
+        &mut self,
+        alloc: Global,
+        name: &str,
+        words: &[String],
+    ) -> Result<(), CaseError> {
         if words.is_empty() {
             return Ok(());
         }
         self.add_words(alloc, name, words)
     }
 
-    /// Adds the fact of this name and of what stands before, between and after the text's blanks.
-    pub fn add_text(&mut self, alloc: Global, name: &str, text: &str) -> Result<(), Stop> {
+    /// Adds a fact with a name and the parts of `text` between its blanks. Two blanks side by side give an empty part.
+    pub fn add_text(&mut self, alloc: Global, name: &str, text: &str) -> Result<(), CaseError> {
         let mut fact = Vec::new(alloc);
         fact.push(String::from_str(alloc, name)?)?;
         for part in text.split(' ') {
@@ -102,28 +112,28 @@ impl Answer {
         Ok(())
     }
 
-    /// Adds the facts that a row's text holds; ` ; ` stands between two.
-    pub fn read(&mut self, alloc: Global, text: &str) -> Result<(), Stop> {
+    /// Adds the facts in a case's text, separated by ` ; `. `number` is the repetition's number, for `%0` and `%1`.
+    pub fn read(&mut self, alloc: Global, text: &str, number: usize) -> Result<(), CaseError> {
         for part in text.split(" ; ") {
             let mut fact = Vec::new(alloc);
-            push_text(alloc, part, &mut fact)?;
+            push_text(alloc, part, number, &mut fact)?;
             if fact.is_empty() {
-                return Err(Stop::Form("a fact without words"));
+                return Err(CaseError::Form("a fact without words"));
             }
             self.facts.push(fact)?;
         }
         Ok(())
     }
 
-    /// Adds the words of a row's text to the last fact.
-    pub fn read_on(&mut self, alloc: Global, text: &str) -> Result<(), Stop> {
+    /// Adds the words of a case's text to the last fact.
+    pub fn read_on(&mut self, alloc: Global, text: &str, number: usize) -> Result<(), CaseError> {
         match self.facts.last_mut() {
-            Some(fact) => push_text(alloc, text, fact),
-            None => Err(Stop::Form("words before the first fact")),
+            Some(fact) => push_text(alloc, text, number, fact),
+            None => Err(CaseError::Form("words before the first fact")),
         }
     }
 
-    /// Puts the facts last in a text, as rows write them.
+    /// Appends the facts to `text`, written as in a case.
     pub fn show(&self, text: &mut String) -> Result<(), AllocError> {
         let mut is_first = true;
         for fact in self.facts.iter() {
@@ -137,15 +147,15 @@ impl Answer {
     }
 }
 
-// Puts copies of words last among a fact's.
-fn push_copies(alloc: Global, words: &[String], fact: &mut Vec<String>) -> Result<(), Stop> {
+// Appends copies of words to a fact.
+fn push_copies(alloc: Global, words: &[String], fact: &mut Vec<String>) -> Result<(), CaseError> {
     for word in words {
         fact.push(String::from_str(alloc, word.as_str())?)?;
     }
     Ok(())
 }
 
-// Puts a fact's words last in a text, with a blank between two.
+// Appends a fact's words to a text, separated by blanks.
 fn show_fact(fact: &[String], text: &mut String) -> Result<(), AllocError> {
     let mut is_first = true;
     for word in fact {

@@ -1,18 +1,18 @@
-//! Who answers what rows call.
+//! The calls that the cases of a program make.
 
 use crate::answer::Answer;
-use crate::row::Row;
-use crate::stop::Stop;
+use crate::case::Case;
+use crate::case_error::CaseError;
 use std::alloc::Global;
 use std::fs::Files;
 
-/// The calls that the rows of a program make.
+/// Makes the calls of a program's cases.
 pub trait Calls {
-    /// What a row's call answers. A file that a row names lies beside the rows.
+    /// Makes a case's call and returns what it gives. Files that a case names lie beside the cases.
     fn answer_of<R: Files + AllocGlobal>(
         &self,
         rt: &R,
         alloc: Global,
-        row: &Row,
-    ) -> Result<Answer, Stop>;
+        case: &Case,
+    ) -> Result<Answer, CaseError>;
 }

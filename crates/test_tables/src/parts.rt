@@ -1,10 +1,10 @@
-//! Lists of words that a row writes one behind the other.
+//! Lists of words that a case writes one after the other, separated by `||`.
 
-use crate::stop::Stop;
+use crate::case_error::CaseError;
 use std::alloc::Global;
 
-// Puts a word last in the last list; `||` begins a further list.
-fn take(alloc: Global, word: &str, parts: &mut Vec<Vec<String>>) -> Result<(), Stop> {
+// Appends a word to the last list; `||` starts a new list.
+fn take(alloc: Global, word: &str, parts: &mut Vec<Vec<String>>) -> Result<(), CaseError> {
     if word == "||" {
         parts.push(Vec::new(alloc))?;
         return Ok(());
@@ -15,8 +15,8 @@ fn take(alloc: Global, word: &str, parts: &mut Vec<Vec<String>>) -> Result<(), S
     Ok(())
 }
 
-/// The lists that words are, with `||` between two.
-pub fn parts_of(alloc: Global, words: &[String]) -> Result<Vec<Vec<String>>, Stop> {
+/// Splits words into lists at each `||`.
+pub fn parts_of(alloc: Global, words: &[String]) -> Result<Vec<Vec<String>>, CaseError> {
     let mut parts = Vec::new(alloc);
     parts.push(Vec::new(alloc))?;
     for word in words {

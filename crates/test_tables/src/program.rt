@@ -1,4 +1,4 @@
-//! The program that runs the rows of files.
+//! The program that runs files of cases.
 
 use crate::calls::Calls;
 use crate::files::run_files;
@@ -9,7 +9,7 @@ use std::fs::Files;
 use std::io::Write;
 use std::rt::Env;
 
-// The words after the program's name, or none where one of them isn't UTF-8.
+// The program's arguments, or none if one of them isn't UTF-8.
 fn call_words<R: Env + AllocGlobal>(rt: &R, alloc: Global) -> Vec<String> {
     let mut words = Vec::new(alloc);
     let Ok(args) = env::args(rt) else {
@@ -23,7 +23,7 @@ fn call_words<R: Env + AllocGlobal>(rt: &R, alloc: Global) -> Vec<String> {
     words
 }
 
-// Prints a report, and answers the status that the program ends with.
+// Prints a report and returns the exit status.
 fn print<W: Write>(alloc: Global, report: &mut Report, out: &mut W) -> u8 {
     let status = report.status;
     match report.finish(alloc) {
@@ -32,9 +32,8 @@ fn print<W: Write>(alloc: Global, report: &mut Report, out: &mut W) -> u8 {
     }
 }
 
-/// Runs the rows of the files that the program is called with, and prints a report on them. Answers the status that the
-/// program ends with: 0 where each row answers as it is meant to, 1 where one doesn't, 2 where a file or a row can't be
-/// run or no file is named.
+/// Runs the cases in the files that the program's arguments name, prints a report and returns the exit status: 0 if each
+/// case gives the expected answer, 1 if one doesn't, 2 if a file or a case can't be run or there are no arguments.
 pub fn run_program<R: Files + Env + AllocGlobal, C: Calls, W: Write>(
     rt: &R,
     calls: &C,

@@ -1,27 +1,27 @@
-//! What the program prints.
+//! The report that the program prints.
 
 use crate::answer::Answer;
-use crate::row::Row;
+use crate::case::Case;
 use std::alloc::{AllocError, Global};
 
-// How many rows of a call have run.
+// How many cases made this call.
 #[derive(Drop)]
 struct Count {
     call: String,
-    rows: usize,
+    cases: usize,
 }
 
-/// What is to be printed, and how the program ends.
+/// The text to print, and the program's exit status.
 #[derive(Drop)]
 pub struct Report {
     text: String,
     counts: Vec<Count>,
-    /// 0 where each row answers as it is meant to, 1 where one doesn't, 2 where one can't be run.
+    /// 0 if each case gives the expected answer, 1 if one doesn't, 2 if one can't be run.
     pub status: u8,
 }
 
 impl Report {
-    /// Nothing yet.
+    /// An empty report with status 0.
     pub fn new(alloc: Global) -> Report {
         Report {
             text: String::new(alloc),
@@ -30,39 +30,39 @@ impl Report {
         }
     }
 
-    /// Counts a row of a call.
+    /// Counts a case that makes this call.
     pub fn count(&mut self, alloc: Global, call: &str) -> Result<(), AllocError> {
         for count in self.counts.iter_mut() {
             if count.call.as_str() == call {
-                count.rows = count.rows.saturating_add(1);
+                count.cases = count.cases.saturating_add(1);
                 return Ok(());
             }
         }
         self.counts.push(Count {
             call: String::from_str(alloc, call)?,
-            rows: 1,
+            cases: 1,
         })?;
         Ok(())
     }
 
-    /// Says that a row is wrong.
+    /// Reports that a case gave another answer than the expected one.
     pub fn wrong(
         &mut self,
         alloc: Global,
         file: &str,
-        row: &Row,
+        case: &Case,
         got: &Answer,
     ) -> Result<(), AllocError> {
-        let number = row.number;
+        let number = case.number;
         let place = format!(in alloc; "{file}:{number}: expected ")?;
         self.text.push_str(place.as_str())?;
-        row.answer.show(&mut self.text)?;
+        case.answer.show(&mut self.text)?;
         self.text.push_str(", but got ")?;
         got.show(&mut self.text)?;
         self.text.push_str("\n")
     }
 
-    /// Says something of a line of a file.
+    /// Reports something about a line of a file.
     pub fn note(
         &mut self,
         alloc: Global,
@@ -74,17 +74,17 @@ impl Report {
         self.text.push_str(line.as_str())
     }
 
-    /// Says how many rows a file has.
-    pub fn file(&mut self, alloc: Global, file: &str, rows: usize) -> Result<(), AllocError> {
-        let line = format!(in alloc; "{file}: {rows} rows\n")?;
+    /// Reports how many cases a file has.
+    pub fn file(&mut self, alloc: Global, file: &str, cases: usize) -> Result<(), AllocError> {
+        let line = format!(in alloc; "{file}: {cases} cases\n")?;
         self.text.push_str(line.as_str())
     }
 
-    /// All that is to be printed: what was said, and for each call how many rows it ran.
+    /// The whole text: the lines so far, then for each call how many cases made it.
     pub fn finish(&mut self, alloc: Global) -> Result<&str, AllocError> {
         for count in self.counts.iter() {
-            let (call, rows) = (count.call.as_str(), count.rows);
-            let line = format!(in alloc; "{call}: {rows}\n")?;
+            let (call, cases) = (count.call.as_str(), count.cases);
+            let line = format!(in alloc; "{call}: {cases}\n")?;
             self.text.push_str(line.as_str())?;
         }
         Ok(self.text.as_str())

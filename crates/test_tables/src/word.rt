@@ -1,10 +1,22 @@
-//! Words as rows write them. data/README.md says how.
+//! Words as cases write them. The README of test_lines' data says how.
 
-use crate::stop::Stop;
+use crate::case_error::CaseError;
 use std::alloc::{AllocError, Global};
 
-// Puts the letter that an escape stands for last.
-fn push_escaped(word: &mut String, escape: char) -> Result<(), Stop> {
+// Appends a number in decimal digits.
+fn push_number(alloc: Global, word: &mut String, number: usize) -> Result<(), CaseError> {
+    let digits = format!(in alloc; "{number}")?;
+    word.push_str(digits.as_str())?;
+    Ok(())
+}
+
+// Appends what an escape means in the repetition with this number.
+fn push_escaped(
+    alloc: Global,
+    word: &mut String,
+    escape: char,
+    number: usize,
+) -> Result<(), CaseError> {
     let letter = match escape {
         's' => ' ',
         'n' => '\n',
@@ -13,19 +25,21 @@ fn push_escaped(word: &mut String, escape: char) -> Result<(), Stop> {
         '_' => '\u{a0}',
         '%' => '%',
         'e' => return Ok(()),
-        _ => return Err(Stop::Form("an unknown escape")),
+        '0' => return push_number(alloc, word, number),
+        '1' => return push_number(alloc, word, number.saturating_add(1)),
+        _ => return Err(CaseError::Form("an unknown escape")),
     };
     word.push(letter)?;
     Ok(())
 }
 
-// The word of a text without repetitions.
-fn unescaped(alloc: Global, text: &str) -> Result<String, Stop> {
+// The word that a text with escapes means.
+fn unescaped(alloc: Global, text: &str, number: usize) -> Result<String, CaseError> {
     let mut word = String::new(alloc);
     let mut is_escaped = false;
     for letter in text.chars() {
         if is_escaped {
-            push_escaped(&mut word, letter)?;
+            push_escaped(alloc, &mut word, letter, number)?;
             is_escaped = false;
         } else if letter == '%' {
             is_escaped = true;
@@ -34,72 +48,91 @@ fn unescaped(alloc: Global, text: &str) -> Result<String, Stop> {
         }
     }
     if is_escaped {
-        return Err(Stop::Form("a % at a word's end"));
+        return Err(CaseError::Form("a % at a word's end"));
     }
     Ok(word)
 }
 
-// A count, and the text that stands so often.
-fn repetition(text: &str, mark: char) -> Result<(usize, &str), Stop> {
+/// Splits a text at `mark` into a count and what is repeated.
+pub fn repetition(text: &str, mark: char) -> Result<(usize, &str), CaseError> {
     let Some((count, text)) = text.split_once(mark) else {
-        return Err(Stop::Form("a repetition without its second mark"));
+        return Err(CaseError::Form("a repetition without its second mark"));
     };
     match count.parse::<usize>() {
         Ok(count) => Ok((count, text)),
-        Err(_) => Err(Stop::Form("a repetition without its count")),
+        Err(_) => Err(CaseError::Form("a repetition without its count")),
     }
 }
 
-// Puts so many words last.
+// Appends `count` words. In the text that they all come from, `%0` and `%1` are a word's number.
 fn push_words(
     alloc: Global,
     count: usize,
-    word: &str,
+    text: &str,
     words: &mut Vec<String>,
-) -> Result<(), Stop> {
-    for _ in 0..count {
-        words.push(String::from_str(alloc, word)?)?;
+) -> Result<(), CaseError> {
+    for number in 0..count {
+        words.push(unescaped(alloc, text, number)?)?;
     }
     Ok(())
 }
 
-// So many equal texts, one after the other.
-fn chained(alloc: Global, count: usize, part: &str) -> Result<String, Stop> {
-    let mut word = String::new(alloc);
+// Appends a part `count` times.
+fn push_times(word: &mut String, count: usize, part: &str) -> Result<(), CaseError> {
     for _ in 0..count {
         word.push_str(part)?;
     }
-    Ok(word)
-}
-
-// Puts the words last that a text without blanks stands for.
-fn push_word(alloc: Global, text: &str, words: &mut Vec<String>) -> Result<(), Stop> {
-    if let Some(rest) = text.strip_prefix("%*") {
-        let (count, part) = repetition(rest, '*')?;
-        let word = unescaped(alloc, part)?;
-        return push_words(alloc, count, word.as_str(), words);
-    }
-    if let Some(rest) = text.strip_prefix("%+") {
-        let (count, part) = repetition(rest, '+')?;
-        let part = unescaped(alloc, part)?;
-        words.push(chained(alloc, count, part.as_str())?)?;
-        return Ok(());
-    }
-    words.push(unescaped(alloc, text)?)?;
     Ok(())
 }
 
-/// Puts the words of a text last among `words`: blanks part them, and escapes stand in them.
-pub fn push_text(alloc: Global, text: &str, words: &mut Vec<String>) -> Result<(), Stop> {
+// The word that `BEGINNING` and `N+PART` or `N+PART+END` mean: the beginning, PART N times, the end.
+fn joined(alloc: Global, beginning: &str, rest: &str, number: usize) -> Result<String, CaseError> {
+    let (count, rest) = repetition(rest, '+')?;
+    let (part, end) = rest.split_once('+').unwrap_or((rest, ""));
+    let part = unescaped(alloc, part, number)?;
+    let end = unescaped(alloc, end, number)?;
+    let mut word = unescaped(alloc, beginning, number)?;
+    push_times(&mut word, count, part.as_str())?;
+    word.push_str(end.as_str())?;
+    Ok(word)
+}
+
+// Appends the words that a text without blanks means.
+fn push_word(
+    alloc: Global,
+    text: &str,
+    number: usize,
+    words: &mut Vec<String>,
+) -> Result<(), CaseError> {
+    if let Some(rest) = text.strip_prefix("%*") {
+        let (count, part) = repetition(rest, '*')?;
+        return push_words(alloc, count, part, words);
+    }
+    let word = match text.split_once("%+") {
+        Some((beginning, rest)) => joined(alloc, beginning, rest, number)?,
+        None => unescaped(alloc, text, number)?,
+    };
+    words.push(word)?;
+    Ok(())
+}
+
+/// Appends the words of a text, which blanks separate, with their escapes replaced. `number` is the repetition's number,
+/// from 0, for the escapes `%0` and `%1`.
+pub fn push_text(
+    alloc: Global,
+    text: &str,
+    number: usize,
+    words: &mut Vec<String>,
+) -> Result<(), CaseError> {
     for part in text.split(' ') {
         if !part.is_empty() {
-            push_word(alloc, part, words)?;
+            push_word(alloc, part, number, words)?;
         }
     }
     Ok(())
 }
 
-// Puts a letter last as rows write it.
+// Appends a letter as cases write it.
 fn push_shown(text: &mut String, letter: char) -> Result<(), AllocError> {
     match letter {
         ' ' => text.push_str("%s"),
@@ -112,7 +145,7 @@ fn push_shown(text: &mut String, letter: char) -> Result<(), AllocError> {
     }
 }
 
-/// Puts a word last in a text, as rows write it.
+/// Appends a word to a text, written as in a case.
 pub fn show(word: &str, text: &mut String) -> Result<(), AllocError> {
     if word.is_empty() {
         return text.push_str("%e");

@@ -1,40 +1,40 @@
-//! Why the program stops.
+//! Errors of a run.
 
 use std::alloc::{AllocError, AllocFailed};
 use std::fmt;
 use texts::fault::Fault;
 
-/// Why nothing was run to its end.
+/// Why the cases weren't run to the end.
 #[derive(Drop)]
-pub enum Stop {
-    /// The call has another form.
+pub enum RunError {
+    /// Wrong usage.
     Usage,
-    /// Memory was refused.
+    /// An allocation failed.
     Memory,
 }
 
-impl From<AllocError> for Stop {
-    fn from(_error: AllocError) -> Stop {
-        Stop::Memory
+impl From<AllocError> for RunError {
+    fn from(_error: AllocError) -> RunError {
+        RunError::Memory
     }
 }
 
-impl<T: Drop> From<AllocFailed<T>> for Stop {
-    fn from(_error: AllocFailed<T>) -> Stop {
-        Stop::Memory
+impl<T: Drop> From<AllocFailed<T>> for RunError {
+    fn from(_error: AllocFailed<T>) -> RunError {
+        RunError::Memory
     }
 }
 
-impl fmt::Display for Stop {
+impl fmt::Display for RunError {
     fn fmt<W: fmt::Write>(&self, f: &mut fmt::Formatter<W>) -> fmt::Result {
         match self {
-            Stop::Usage => f.write_str("usage: test_fuzz SEED COUNT [FIRST]"),
-            Stop::Memory => f.write_str("test_fuzz: out of memory"),
+            RunError::Usage => f.write_str("usage: test_fuzz SEED COUNT [FIRST]"),
+            RunError::Memory => f.write_str("test_fuzz: out of memory"),
         }
     }
 }
 
-/// The name under which a refusal is counted.
+/// The name of the count of a fault.
 pub fn name_of(fault: &Fault) -> &'static str {
     match fault {
         Fault::NotUtf8 { .. } => "refused: not UTF-8",

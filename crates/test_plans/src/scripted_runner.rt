@@ -1,4 +1,4 @@
-//! A runner that is told its answers.
+//! A runner with prepared answers.
 
 ghost use Rattle.std.specs.Prelude.{◌≡◌, ◌++◌, ◌∷◌, [], map};
 ghost use Rattle.cuda_plans.specs.Schedule.{AccountEntry};
@@ -9,24 +9,24 @@ use std::alloc::{AllocError, Global};
 use texts::bytes::Bytes;
 use texts::status::{ExitStatus, Output};
 
-/// A command that the runner was handed, and its answer.
+/// A command that the runner received, and its answer.
 #[derive(Drop)]
-pub struct Entry {
-    /// Where the command stands.
+pub struct RunnerCall {
+    /// The place of the command in its plan.
     pub place: Place,
     command: NvccGeneratedSubcommand,
     answer: Answer,
 }
 
-/// A runner that is told its answers at some places, and answers with success elsewhere.
+/// A runner with prepared answers for some places. All other commands succeed and write nothing.
 #[derive(Drop)]
-pub struct ToldRunner {
+pub struct ScriptedRunner {
     answers: Vec<(Place, Answer)>,
-    /// What it was handed, in order.
-    pub account: Vec<Entry>,
+    /// The commands that it received, in order.
+    pub account: Vec<RunnerCall>,
 }
 
-/// What a process leaves that ends with a code and writes this to its standard output.
+/// The output of a process that exits with a code and writes this to its standard output.
 pub fn left(alloc: Global, code: i32, stdout: Bytes) -> Output {
     Output {
         status: ExitStatus::from_code(code),
@@ -35,17 +35,17 @@ pub fn left(alloc: Global, code: i32, stdout: Bytes) -> Output {
     }
 }
 
-impl ToldRunner {
-    /// A runner that was told and handed nothing yet.
-    pub fn new(alloc: Global) -> ToldRunner {
-        ToldRunner {
+impl ScriptedRunner {
+    /// A runner without prepared answers.
+    pub fn new(alloc: Global) -> ScriptedRunner {
+        ScriptedRunner {
             answers: Vec::new(alloc),
             account: Vec::new(alloc),
         }
     }
 
-    /// Tells it an answer. Of two at one place the first counts.
-    pub fn tell(&mut self, place: Place, answer: Answer) -> Result<(), AllocError> {
+    /// Adds an answer for a place. If a place has two, the first counts.
+    pub fn prepare(&mut self, place: Place, answer: Answer) -> Result<(), AllocError> {
         self.answers.push((place, answer))?;
         Ok(())
     }
@@ -61,7 +61,7 @@ impl ToldRunner {
     }
 }
 
-impl Runner for ToldRunner {
+impl Runner for ScriptedRunner {
     ghost log = { λ r. map (λ e. record { place = e.place; command = e.command; answer = e.answer }) r.account.items };
 
     fn run(
@@ -72,7 +72,7 @@ impl Runner for ToldRunner {
     ) -> Result<Answer, AllocError> {
         let answer = self.answer_at(alloc, place)?;
         let kept = answer.try_clone(alloc)?;
-        self.account.push(Entry {
+        self.account.push(RunnerCall {
             place,
             command,
             answer: kept,
