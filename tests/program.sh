@@ -471,6 +471,14 @@ forms_of_cudaplan() {
     alike plan /w /t -c "$data/one_kernel.dry1" "$data/one_kernel.dry2" .ii
 }
 
+# an nvcc line of ten thousand words
+long_nvcc_line() {
+    local words
+    words=$(printf ' -DA%.0s' {1..10000})
+    # shellcheck disable=SC2086
+    reads 'ten thousand words' '' "-x cu -o k.o$words -c k.cu" -c "''" "''" $words -c k.cu -o k.o
+}
+
 # odd words of an nvcc line, which a shell reads back
 odd_nvcc_words() {
     "$program" calls '/a b' "/t'" 'n v' "-DA=\"x'y\"" -c k.cu -o "é \$.o" > "$scratch/calls" 2> "$scratch/err"
@@ -597,6 +605,39 @@ statuses() {
     judge 'the status of a command that failed' 7 $'7\n' ''
 }
 
+# counts NAME NUMBER PATTERN WORD..: a call that succeeds, and prints text that matches the pattern so many times.
+counts() {
+    local name=$1 number=$2 pattern=$3
+    shift 3
+    "$program" "$@" > "$scratch/text" 2> "$scratch/err"
+    echo $? > "$scratch/status"
+    grep -o -e "$pattern" "$scratch/text" | wc -l > "$scratch/out"
+    judge "$name" 0 "$number"$'\n' ''
+}
+
+# long plans in every format: a thousand commands in one group, a hundred device groups, a thousand programs on disk
+long_exports() {
+    local group=("${KERNEL[2]}" "${KERNEL[3]}") groups=() programs=() number format dropped
+    for number in {1..1000}; do
+        group+=("#\$ ptxas k.ptx -o k$number.cubin")
+        programs+=("#\$ p$number x")
+    done
+    for number in {1..100}; do
+        groups+=("#\$ gcc -D__NVCC__ -E k.cu -o k$number.cpp1.ii" "#\$ cicc k$number.cpp1.ii -o k$number.ptx")
+    done
+    (cd "$scratch/bin" && touch p{1..1000} && chmod +x p{1..1000})
+    run_of group "${group[@]}"
+    run_of groups "${groups[@]}"
+    run_of programs "${programs[@]}"
+    for format in shell ninja json; do
+        counts "a group of a thousand commands as $format" 1000 'o[",]* *k[0-9]\+\.cubin' "$format" /w /t -c "$scratch/group" "$scratch/group"
+        counts "a hundred device groups as $format" 100 'o[",]* *k[0-9]\+\.ptx' "$format" /w /t -c "$scratch/groups" "$scratch/groups"
+        dropped=1000
+        [ "$format" != shell ] || dropped=0
+        counts "a thousand programs as $format" "$dropped" 'bin/p[0-9]\+' "$format" /w /t -c "$scratch/programs" "$scratch/programs"
+    done
+}
+
 # plans that aren't written
 refused_exports() {
     local unread=$'zigrunk: cannot read input\n' unheld=$'zigrunk: a text of the plan holds a byte that the form can\'t\n' format
@@ -674,6 +715,7 @@ nvcc_lines
 jobs_at_once
 directories
 forms_of_cudaplan
+long_nvcc_line
 odd_nvcc_words
 refused_nvcc_lines
 kernel_programs
@@ -681,6 +723,7 @@ plan_scripts
 plan_files
 whole_plans
 statuses
+long_exports
 refused_exports
 zigrunk_pages
 echo "$passed passed, $failed failed"
