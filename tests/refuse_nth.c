@@ -1,20 +1,22 @@
-// Preloaded into a program, refuses one growth: the one whose number the variable REFUSED gives, counted from 1. When the
-// program ends it writes to the file descriptor 9 whether one was refused, `refused` or `whole`, and how many were asked for.
+// Preloaded into a program, makes allocations fail. REFUSED=N fails the Nth one, counted from 1; REFUSED=N- fails the Nth
+// and all after it. When the program ends, writes `refused` or `whole` to file descriptor 9, whether one failed, and how
+// many allocations there were.
 #define _GNU_SOURCE
 #include <dlfcn.h>
 #include <errno.h>
 #include <stdio.h>
 #include <stdlib.h>
 
-static unsigned long number, refused;
+static unsigned long number, first, last;
 
 static int is_refused(void) {
-    if (refused == 0) {
-        const char *text = getenv("REFUSED");
-        refused = text ? strtoul(text, NULL, 10) : (unsigned long)-1;
+    if (first == 0) {
+        char *end = "", *text = getenv("REFUSED");
+        first = text ? strtoul(text, &end, 10) : (unsigned long)-1;
+        last = *end == '-' ? (unsigned long)-1 : first;
     }
     number += 1;
-    if (number != refused) {
+    if (number < first || number > last) {
         return 0;
     }
     errno = ENOMEM;
@@ -38,5 +40,5 @@ void *realloc(void *old, size_t size) {
 }
 
 __attribute__((destructor)) static void tell(void) {
-    dprintf(9, "%s %lu\n", number >= refused ? "refused" : "whole", number);
+    dprintf(9, "%s %lu\n", number >= first ? "refused" : "whole", number);
 }

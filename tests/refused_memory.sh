@@ -1,20 +1,24 @@
 #!/usr/bin/env bash
-# Refuses each growth of memory in turn: of each worked row, and of calls of the program. Every run with a refused
-# growth has to end in "out of memory", and never in another answer. (The library's lists may ask again for less room
-# than the first time; a run in which that is granted gives the same as with memory, and is counted apart.)
+# Makes allocations fail, one at a time: in each test case, and in calls of cudaplan and zigrunk that succeed and that fail.
+# Every run with a failed allocation has to end in "out of memory", never in another answer. Calls of the programs run a
+# second time for each allocation, with all later allocations failing too: the reason must still be printed. (A list of the
+# library may ask again for less room than the first time. A run that gets it gives the same as with memory, and is counted
+# apart.)
 #
-# Usage: tests/refused_memory.sh [FILE..], each a file of crates/test_lines/data or crates/test_plans/data; all that hold right
-# rows, unless named.
-# A row that asks for more than MOST growths (3000, if that isn't set) is left out: it would take minutes.
-# The built programs have to stand in the out/ of crates/test_lines, crates/test_plans and crates/cudaplan, as `make
-# refused-memory` builds them. Each run is a process of its own, into which refuse_nth.c is preloaded.
+# Usage: tests/refused_memory.sh [FILE..]     files of crates/test_lines/data or crates/test_plans/data; all files, and the
+#                                             calls of the programs, unless named
+#
+# Cases with more than MOST allocations (3000, if that isn't set) are left out, since they would take minutes.
+# `make refused-memory` builds the programs and leaves them in out/ of their crates. Each run is a process of its own, into
+# which refuse_nth.c is preloaded.
 set -u
-cd "$(dirname "$0")/.."
+cd "$(dirname "$0")/.." || exit 2
 root=$PWD
 test_lines=$root/crates/test_lines/out/test_lines
 test_plans=$root/crates/test_plans/out/test_plans
-program=$root/crates/cudaplan/out/cudaplan
-for built in "$test_lines" "$test_plans" "$program"; do
+cudaplan=$root/crates/cudaplan/out/cudaplan
+zigrunk=$root/crates/zigrunk/out/zigrunk
+for built in "$test_lines" "$test_plans" "$cudaplan" "$zigrunk"; do
     if [ ! -x "$built" ]; then
         echo "not built: $built"
         exit 2
@@ -40,19 +44,19 @@ wrong() {
     failed=$((failed + 1))
 }
 
-# run_refused N CMD..: runs a command with its Nth growth refused. Leaves its output, its status, and whether it met a
-# refusal.
+# run_refused N CMD..: runs a command whose Nth allocation fails, or from the Nth on all, if N ends in a minus. Leaves its
+# output, its status, and whether an allocation failed.
 run_refused() {
     local number=$1
     shift
-    printed=$(REFUSED=$number LD_PRELOAD=$work/hook.so "$@" 9>told 2>&1)
+    printed=$(REFUSED=$number LD_PRELOAD=$work/hook.so "$@" 9> told 2>&1)
     status=$?
-    read -r met growths <told
+    read -r met growths < told
 }
 
-# judge_row NAME N: judges a run of a row. A refusal in the call is its answer; one around it ends the program with status
-# 2, with no answer judged wrong.
-judge_row() {
+# judge_case NAME N: judges a run of a case. If the allocation is in the call, its answer is 'out of memory'. If it is around
+# the call, the program ends with status 2 and no answer is judged wrong.
+judge_case() {
     if [ "$status" -eq 1 ] && [[ $printed == *"but got fault out of memory"* ]]; then
         answered=$((answered + 1))
     elif [ "$status" -eq 2 ] && [[ $printed != *"but got"* ]]; then
@@ -62,34 +66,36 @@ judge_row() {
     fi
 }
 
-# judge_same NAME N: judges a run that ended as if no growth had been refused.
+# judge_same NAME N: judges a run that ended as if no allocation had failed.
 judge_same() {
-    if [ "$status" -eq 0 ] && [ "$printed" = "$expected" ]; then
+    if [ "$status" -eq "$expected_status" ] && [ "$printed" = "$expected" ]; then
         same=$((same + 1))
     else
-        wrong "$1, growth $2: status $status: $printed"
+        wrong "$1, allocation $2: status $status: $printed"
     fi
 }
 
-# judge_call NAME N: judges a run of the program. If its words can't be had, it takes the call for none.
+# judge_call NAME N: judges a run of a program. It says that it is out of memory, or why the call fails anyway. If it can't
+# read its own arguments, it prints its usage.
 judge_call() {
-    if [ "$status" -eq 1 ] && [ "$printed" = 'cudaplan: out of memory' ]; then
+    if [ "$status" -eq 1 ] && [[ $printed == 'cudaplan: out of memory' || $printed == 'zigrunk: out of memory' ]]; then
         answered=$((answered + 1))
-    elif [ "$status" -eq 2 ] && [[ $printed == "usage: cudaplan "* ]]; then
+    elif [ "$status" -eq 2 ] && [[ $printed == "usage: "* ]]; then
         :
     else
         judge_same "$1" "$2"
     fi
 }
 
-# count_up JUDGE NAME CMD..: runs a command with memory, and then with each growth refused in turn, until a run meets no
-# refusal.
+# count_up JUDGE NAME STATUS CMD..: runs a command with memory, which has to end with this status, and then with each
+# allocation failing in turn, until none fails.
 count_up() {
     local judge=$1 name=$2 number=1
-    shift 2
+    expected_status=$3
+    shift 3
     run_refused 1000000000 "$@"
     expected=$printed
-    if [ "$met" != whole ] || [ "$status" -ne 0 ]; then
+    if [ "$met" != whole ] || [ "$status" -ne "$expected_status" ]; then
         wrong "$name, with memory: status $status: $printed"
         return
     fi
@@ -104,30 +110,117 @@ count_up() {
         number=$((number + 1))
     done
     if [ "$met" != whole ]; then
-        wrong "$name, growth $number: status $status: it didn't end"
+        wrong "$name, allocation $number: status $status: it didn't end"
     fi
 }
 
-# run_file FILE: takes the rows of a file, each alone, by the program whose file it is.
+# call NAME STATUS CMD..: a call of a program: each allocation fails in turn, first alone, then with all after it.
+call() {
+    local name=$1 number=1
+    count_up judge_call "$@"
+    shift 2
+    while run_refused "$number-" "$@"; [ "$met" = refused ]; do
+        refused=$((refused + 1))
+        judge_call "$name" "$number and all after it"
+        number=$((number + 1))
+    done
+}
+
+# run_file FILE: runs the cases of a file, each alone, with the program whose file it is.
 run_file() {
-    local before=$refused file=$1 row rows=$test_lines
+    local before=$refused file=$1 case cases=$test_lines
     if [ -e "$root/crates/test_plans/data/$file" ]; then
-        rows=$test_plans
+        cases=$test_plans
     fi
     rm -rf parts
     mkdir parts
     awk '/^[^ #]/ { n = sprintf("parts/%05d", NR) } /^[^#]/ && n { print > n }' "$file"
-    for row in parts/*; do
-        cp "$row" row.txt
-        count_up judge_row "$file:$((10#${row#parts/}))" "$rows" row.txt
+    for case in parts/*; do
+        cp "$case" case.txt
+        count_up judge_case "$file:$((10#${case#parts/}))" 0 "$cases" case.txt
     done
-    echo "$file: refusals $((refused - before)), after $SECONDS s"
+    echo "$file: failed allocations $((refused - before)), after $SECONDS s"
+}
+
+# full_disk CMD..: runs a command with its standard output on a full disk.
+full_disk() {
+    "$@" > /dev/full
+}
+
+# calls of cudaplan that succeed
+good_cudaplan_calls() {
+    call 'a cicc line' 0 "$cudaplan" line cicc /w --device-c -arch compute_80 --module_id_file_name \
+        kernel.module_id kernel.cpp1.ii --simt-only -o kernel.ptx
+    call 'a ptxas line' 0 "$cudaplan" line ptxas /w -arch=sm_80 -m64 kernel.ptx -o kernel.cubin
+    call 'a cudafe++ line' 0 "$cudaplan" line cudafe++ /t --gen_c_file_name x_0.cudafe1.cpp --stub_file_name \
+        x_0.cudafe1.stub.c --gen_module_id_file --module_id_file_name kernel.module_id --simt-only x_0.cpp4.ii
+    call 'a plan' 0 "$cudaplan" plan /w /t -c dry_runs/one_kernel.dry1 dry_runs/one_kernel.dry2
+    call 'a plan with a further suffix' 0 "$cudaplan" plan /w /t -c dry_runs/one_kernel.dry1 \
+        dry_runs/one_kernel.dry2 .cudafe1.gpu
+}
+
+# calls of cudaplan that fail, each for another reason
+bad_cudaplan_calls() {
+    local good=dry_runs/one_kernel.dry1
+    call 'no compilation' 1 "$cudaplan" line cicc /w a b
+    call 'no output' 1 "$cudaplan" line cicc /w --device-c -arch compute_80 kernel.cpp1.ii
+    call 'a line to a full disk' 1 full_disk "$cudaplan" line cicc /w kernel.cpp1.ii -o kernel.ptx
+    call 'no file' 1 "$cudaplan" plan /w /t -c dry_runs/none "$good"
+    call 'bad suffixes' 1 "$cudaplan" plan /w /t -c "$good" "$good" .ii
+    call 'no UTF-8' 1 "$cudaplan" plan /w /t -c "$good" dry_runs/bad_last_line.dry1
+    call 'no PATH' 1 "$cudaplan" plan /w /t -c pathless "$good"
+    call 'no shell words' 1 "$cudaplan" plan /w /t -c "$good" quoted
+    call 'no command' 1 "$cudaplan" plan /w /t -c "$good" empty
+    call 'no program' 1 "$cudaplan" plan /w /t -c lost lost
+    call 'a plan to a full disk' 1 full_disk "$cudaplan" plan /w /t -c "$good" "$good"
+    call 'no call' 2 "$cudaplan" line
+}
+
+# calls of zigrunk that succeed
+good_zigrunk_calls() {
+    call 'an nvcc line' 0 "$zigrunk" calls /w /t nvcc --threads 4 -c k.cu -o k.o -MD -MF k.d
+    call 'a script' 0 "$zigrunk" shell /w /t -c found found
+    call 'a Ninja file' 0 "$zigrunk" ninja /w /t -c found found
+    call 'JSON' 0 "$zigrunk" json /w /t -c found found
+}
+
+# calls of zigrunk that fail, each for another reason
+bad_zigrunk_calls() {
+    call 'no compilation of nvcc' 3 "$zigrunk" calls /w /t nvcc --version
+    call 'an nvcc line that cannot be cached' 3 "$zigrunk" calls /w /t nvcc -c a.cu b.cu
+    call 'an output without a name' 1 "$zigrunk" calls /w /t nvcc -c k.cu -o ..
+    call 'no file for a script' 1 "$zigrunk" shell /w /t -c dry_runs/none found
+    call 'no program on disk' 1 "$zigrunk" shell /w /t -c lost lost
+    call 'bad suffixes for a script' 1 "$zigrunk" shell /w /t -c found found .ii
+    call 'a newline for Ninja' 1 "$zigrunk" ninja $'/w\n' /t -c found found
+    call 'JSON to a full disk' 1 full_disk "$zigrunk" json /w /t -c found found
+    call 'no call of zigrunk' 2 "$zigrunk" shell
+}
+
+# calls of the programs
+program_calls() {
+    local before=$refused
+    mkdir -p bin
+    : > bin/gcc
+    : > bin/cicc
+    chmod +x bin/gcc bin/cicc
+    printf '%s\n' "#\$ PATH=$work/bin" '#$ gcc -D__NVCC__ -E k.cu -o k.cpp1.ii' '#$ cicc k.cpp1.ii -o k.ptx' > found
+    printf '%s\n' '#$ PATH=' '#$ gcc -D__NVCC__ -E k.cu -o k.cpp1.ii' > lost
+    printf '%s\n' '#$ gcc' > pathless
+    printf '%s\n' '#$ gcc "a' > quoted
+    printf '%s\n' '#$ # note' > empty
+    good_cudaplan_calls
+    bad_cudaplan_calls
+    good_zigrunk_calls
+    bad_zigrunk_calls
+    echo "calls of the programs: failed allocations $((refused - before)), after $SECONDS s"
 }
 
 if [ $# -eq 0 ]; then
+    program_calls
     for file in *.txt; do
         case $file in
-            wrong_rows.txt) ;;
+            wrong_cases.txt | case.txt) ;;
             *) set -- "$@" "$file" ;;
         esac
     done
@@ -135,16 +228,5 @@ fi
 for file in "$@"; do
     run_file "$file"
 done
-
-before=$refused
-count_up judge_call 'a cicc line' "$program" line cicc /w --device-c -arch compute_80 --module_id_file_name \
-    kernel.module_id kernel.cpp1.ii --simt-only -o kernel.ptx
-count_up judge_call 'a ptxas line' "$program" line ptxas /w -arch=sm_80 -m64 kernel.ptx -o kernel.cubin
-count_up judge_call 'a cudafe++ line' "$program" line cudafe++ /t --gen_c_file_name x_0.cudafe1.cpp --stub_file_name \
-    x_0.cudafe1.stub.c --gen_module_id_file --module_id_file_name kernel.module_id --simt-only x_0.cpp4.ii
-count_up judge_call 'a plan' "$program" plan /w /t -c dry_runs/one_kernel.dry1 dry_runs/one_kernel.dry2
-count_up judge_call 'a plan with a further suffix' "$program" plan /w /t -c dry_runs/one_kernel.dry1 \
-    dry_runs/one_kernel.dry2 .cudafe1.gpu
-echo "calls of the program: refusals $((refused - before))"
-echo "rows and calls: $counted, left out: $left_out, refusals: $refused, answered by a call: $answered, asked again: $same, failed: $failed"
+echo "cases and calls: $counted, left out: $left_out, failed allocations: $refused, answered 'out of memory': $answered, asked again: $same, failed: $failed"
 [ "$failed" -eq 0 ]
