@@ -1,19 +1,19 @@
 #!/usr/bin/env python3
-"""Tries the wrong bodies, crates/NAME/must-fail/*.edit: the prover has to refuse each.
+"""Tries the wrong bodies, crates/NAME/must-fail/*.edit: the prover has to reject each.
 
 Usage: tests/must_fail.py [CRATE..]                   all crates, or those named; builds the libraries below them first
        tests/must_fail.py --gate FOLDER LOG           beside an `rt ci` that runs in FOLDER and writes to LOG
 
-`rt must-fail` tries the same files one after the other, each in a check of the whole crate. Here all of a crate are tried
-in one check, which takes a third of the time. That is exact, since a function is proved against the contracts of what it calls and never
-against their bodies: a wrong body can't make the proof of another function fail. Of a function that only calls a wrong one the
-check says so, and that isn't counted as a refusal. What is no body, a table or a definition, is tried alone.
+`rt must-fail` tries the same files one after the other, each in a check of the whole crate. This script tries all of a crate in
+one check, which takes a third of the time. The result is the same: a function is proved against the contracts of what it calls,
+never against their bodies, so a wrong body can't make another function's proof fail. The check names functions that call a wrong
+one, and that doesn't count as a rejection. An edit of a table or a definition is tried alone.
 
-Beside the lines 'file:', 'old:' and 'new:' an edit has a line 'refused:', the function whose goals have to stay open, by its
-path below the crate. A body that another function refuses, that can't be read, or that is refused only since a proof names
-what it took away, has failed.
+An edit has lines 'file:', 'old:' and 'new:', and a line 'refused:' with the function whose goals have to stay open, by its path
+in the crate. An edit fails if another function rejects it, if it can't be read, or if it is rejected only because a proof names
+something that it removed.
 
-RT_JOBS is how many crates are tried at a time: one on each processor, if it isn't set. The last line is 'N passed, M failed'.
+RT_JOBS is the number of crates to try at a time, by default the number of processors. The last line is 'N passed, M failed'.
 """
 
 import os
@@ -31,12 +31,12 @@ import rtlib  # the kit's own: what it passes to its prover for a crate
 
 TOP = os.path.realpath(f"{os.path.dirname(os.path.realpath(__file__))}/..")
 PARTS = ("src", "specs", "proofs")
-# What the check says of a proof that names what an edit took away.
+# The check's message for a proof that names something that an edit removed.
 NAMES_WHAT_WENT = re.compile(r"has no field|is not in scope|has no `|was not admitted|is not admitted")
 
 
 class WrongBody:
-    """An edit: the function that has to be refused, and the texts to replace, each with its file."""
+    """An edit: the function that the prover has to reject, and the texts to replace, each with its file."""
 
     def __init__(self, crate, file):
         self.name, self.function, self.pairs = f"{crate}/{os.path.basename(file)}", "", []
@@ -53,7 +53,7 @@ class WrongBody:
                     self.pairs.append((path, old, line.removeprefix("new:").removeprefix(" ")))
 
     def edited(self, texts):
-        """Returns the files' texts with this edit, or None where one of its places doesn't stand in them exactly once."""
+        """Returns the files' texts with this edit, or None if an 'old:' text isn't in its file exactly once."""
         texts = dict(texts)
         for path, old, new in self.pairs:
             if not old or texts.get(path, "").count(old) != 1:
@@ -62,8 +62,8 @@ class WrongBody:
         return texts
 
     def bodies(self, texts):
-        """Returns where the functions stand that it edits, each as a file, a first and a last line, or None where it edits
-        anything but a function of the refused one's name. (An edit keeps the lines' numbers: both of its texts are one line.)"""
+        """Returns where the edited functions are, each as a file, a first and a last line, or None if it edits anything but a
+        function with the rejected one's name. (An edit keeps line numbers: both of its texts are one line.)"""
         head, found = rf"^( *)(?:pub(?:\(\w+\))? )?fn {re.escape(self.function.split('::')[-1])}\b", []
         for path, old, _ in self.pairs:
             text = texts.get(path, "")
@@ -107,7 +107,7 @@ def tried_together(left, texts):
 
 
 def said_of(crate, texts, functions):
-    """Checks these functions of the crate with these texts. Returns what the check wrote before it offers proofs for what stayed open."""
+    """Checks these functions of the crate with these texts. Returns the check's output, up to its suggestions for open goals."""
     with tempfile.TemporaryDirectory(prefix="must-fail-") as room:
         for path, text in texts.items():
             os.makedirs(os.path.dirname(f"{room}/{path}"), exist_ok=True)
@@ -128,18 +128,18 @@ def said_of(crate, texts, functions):
 
 
 def judged(crate, body, texts, lines):
-    """Returns whether a wrong body is refused by a goal of its own function, and what to say of it."""
+    """Returns whether a goal of its own function rejects a wrong body, and the message to print."""
     named = f"fn {crate}::{body.function}: "
     status = next((it.removeprefix(named) for it in lines if it.startswith(named)), "")
     if re.search(r"`search` did not prove `", status):
         return True, f"refused by {body.function}: {status.partition('`search` did not prove ')[2].partition(';')[0]}"
-    # a goal that the edit brought, in a function whose proof is written down
+    # a new goal from the edit, in a function with a written proof
     for path, first, last in body.bodies(texts) or []:
         for it in lines:
             open_goal = re.match(rf"note: {re.escape(path)}:(\d+):\d+: it is not proved that .*\((`[^`]*`)\)", it)
             if status.startswith("not proved") and open_goal and first <= int(open_goal[1]) <= last:
                 return True, f"refused by {body.function}: {open_goal[2]}"
-    # a proof that is written down, and doesn't prove what the goal has become; of a definition, a row that it doesn't meet
+    # a written proof that doesn't prove the new goal; of a definition, an example that it doesn't meet
     places = [f"proofs/{body.function.replace('::', '/')}/"] + ["specs/"] * any(path.startswith("specs/") for path, _, _ in body.pairs)
     errors = [it for it in lines if re.match(rf"(\./)?({'|'.join(map(re.escape, places))})\S+: error", it)]
     if status.startswith("not proved") and any(not NAMES_WHAT_WENT.search(it) for it in errors):
@@ -150,13 +150,13 @@ def judged(crate, body, texts, lines):
 
 
 def try_crate(crate, say):
-    """Tries a crate's wrong bodies. Returns how many are refused and how many are not."""
+    """Tries a crate's wrong bodies. Returns how many are rejected and how many aren't."""
     texts, left, refused, failed = texts_of(crate.folder), wrong_bodies(crate.name), 0, 0
     while left:
         together, edited = tried_together(left, texts)
         lines = said_of(crate, edited, [it.function for it in together]) if together else []
         for it in together or left:
-            is_refused, why = judged(crate.name, it, texts, lines) if together else (False, "BAD EDIT: an 'old:' text doesn't stand in its file exactly once")
+            is_refused, why = judged(crate.name, it, texts, lines) if together else (False, "BAD EDIT: an 'old:' text isn't in its file exactly once")
             say(f"must-fail {it.name}: {why}")
             refused, failed = refused + is_refused, failed + (not is_refused)
         left = [it for it in left if it not in together] if together else []
@@ -164,7 +164,7 @@ def try_crate(crate, say):
 
 
 def is_proved(crate, log):
-    """Waits until `rt ci` has said of the crate that it is proved, or has ended without."""
+    """Waits until `rt ci` says that the crate is proved, or ends."""
     while True:
         with open(log, encoding="utf-8", errors="replace") as it:
             text = it.read()
