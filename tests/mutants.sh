@@ -1,0 +1,381 @@
+#!/usr/bin/env bash
+# Makes edits of bin/zigrunk-nvcc, one at a time, and counts those that tests/script.sh catches. Prints a line for each edit that
+# passes, and last 'N passed, M failed', where a caught edit has passed.
+#
+#   tests/mutants.sh [TEXT]    only the edits whose lines contain TEXT
+#
+# An edit is a line that names it, a line 'old: TEXT' and a line 'new: TEXT'. The old text stands in one place of the script.
+cd "$(dirname "$0")/.." || exit 1
+scratch=$(mktemp -d)
+trap 'rm -rf "$scratch"' EXIT
+text=$(cat bin/zigrunk-nvcc)
+only=${1-}
+passed=0 failed=0
+
+# try NAME OLD NEW: one edit.
+try() {
+    local file=$scratch/$((passed + failed))
+    if [ "${text/"$2"/}" = "$text" ]; then
+        echo "$1: the script has no '$2'"
+        failed=$((failed + 1))
+        return
+    fi
+    printf '%s\n' "${text/"$2"/$3}" > "$file"
+    if SHELLS=${SHELLS-dash} STOP_EARLY=1 tests/script.sh "$file" > "$scratch/said" 2>&1; then
+        echo "$1: no test fails"
+        failed=$((failed + 1))
+    else
+        passed=$((passed + 1))
+    fi
+}
+
+shopt -u patsub_replacement 2> /dev/null
+SHELLS=${SHELLS-dash} tests/script.sh || exit 1
+while IFS= read -r name && IFS= read -r old && IFS= read -r new; do
+    [[ $name$old$new != *"$only"* ]] || try "$name" "${old#old: }" "${new#new: }"
+done << 'END'
+zigrunk's path is ignored
+old: ${ZIGRUNK_PROGRAM:-zigrunk}
+new: zigrunk
+nvcc's path is ignored
+old: ${ZIGRUNK_NVCC:-nvcc}
+new: nvcc
+Ninja's path is ignored
+old: ${ZIGRUNK_NINJA:-ninja}
+new: ninja
+an option is taken for nvcc
+old: -*) ;;
+new: --x) ;;
+no launcher form by the name
+old: *nvcc | "$nvcc")
+new: "$nvcc")
+no launcher form by ZIGRUNK_NVCC
+old: *nvcc | "$nvcc")
+new: *nvcc)
+any first word is taken for nvcc
+old: *nvcc | "$nvcc")
+new: *)
+nvcc stays among the words
+old: nvcc=$1 && shift
+new: nvcc=$1
+TMPDIR is ignored
+old: ${TMPDIR:-/tmp}
+new: /tmp
+no standard for TMPDIR
+old: ${TMPDIR:-/tmp}
+new: $TMPDIR
+a relative TMPDIR stays so
+old: temporary=$PWD/$temporary
+new: :
+all users have one directory
+old: $temporary/zigrunk-$user
+new: $temporary/zigrunk-all
+Ninja runs on after a signal
+old: { kill "$!" && wait; }
+new: :
+the directory goes while Ninja ends
+old: kill "$!" && wait
+new: kill "$!"
+a message when nothing runs
+old: wait; } 2> /dev/null
+new: wait; }
+the call's directory stays
+old: rm -rf "$tmp"
+new: :
+the directory above stays
+old: rmdir "$base" 2> /dev/null
+new: :
+a message when the directory above stays
+old: rmdir "$base" 2> /dev/null
+new: rmdir "$base"
+an explanation that nobody asked for
+old: [ -z "${ZIGRUNK_EXPLAIN-}" ] ||
+new: :;
+no explanation
+old: [ -z "${ZIGRUNK_EXPLAIN-}" ] ||
+new: true ||
+the reason is a word of nvcc
+old:     shift
+new:     :
+nothing is removed before nvcc itself runs
+old:     clean
+new:     :
+nvcc itself runs as a child
+old: exec "$nvcc" "$@"
+new: "$nvcc" "$@"; exit
+words are split
+old: exec "$nvcc" "$@"
+new: exec "$nvcc" $*
+a second signal stops the cleaning
+old: 'trap "" HUP INT TERM; clean' EXIT
+new: clean EXIT
+nothing is cleaned
+old: trap 'trap "" HUP INT TERM; clean' EXIT
+new: :
+HUP is forgotten
+old: trap 'exit 129' HUP
+new: :
+INT is forgotten
+old: trap 'exit 130' INT
+new: :
+TERM is forgotten
+old: trap 'exit 143' TERM
+new: :
+INT has another status
+old: exit 130
+new: exit 1
+-optix-ir is taken for -o
+old: -optix-ir) ;;
+new: -optix) ;;
+a dry run is split
+old: -dryrun | --dryrun | -v
+new: -v
+a call that prints is split
+old:  -v | --verbose |
+new: 
+a program runs
+old: | -run | --run |
+new: |
+-o=FILE is split
+old: | -o?* |
+new: |
+words for a shell are split
+old:  | *['$`']*)
+new: )
+a stream is a file
+old: -) plain
+new: -x) plain
+a number of threads that is none
+old: --threads=*[!0-9]* | -t
+new: -t
+any number of threads goes to nvcc
+old: *=-t=*[!0-9]*)
+new: *=-t=*)
+the last word is forgotten
+old: last=$word seen
+new: seen
+words that came before are forgotten
+old: seen="$seen $word "
+new: seen=
+-o may come twice
+old: '-o '*' -o '* |
+new: 
+-MF may come twice
+old: '-MF '*' -MF '* |
+new: 
+-MT may come twice
+old: | '-MT '*' -MT '*)
+new: )
+no output is needed
+old: [ -n "$output" ] ||
+new: true ||
+--output-file is split
+old:  | --output-file*
+new: 
+NVCC_APPEND_FLAGS is split
+old: "${NVCC_PREPEND_FLAGS-}${NVCC_APPEND_FLAGS-}"
+new: "${NVCC_PREPEND_FLAGS-}"
+NVCC_PREPEND_FLAGS is split
+old: "${NVCC_PREPEND_FLAGS-}${NVCC_APPEND_FLAGS-}"
+new: "${NVCC_APPEND_FLAGS-}"
+a call that links is split
+old: [ -n "$flag" ] ||
+new: true ||
+commands of a fatbin run side by side
+old: jobs=1 ;;
+new: ;;
+--fatbin is forgotten
+old: -fatbin | --fatbin)
+new: -fatbin)
+the working directory is left out
+old: directory "$PWD" "$nvcc"
+new: directory / "$nvcc"
+a refusal of the name is ignored
+old: || plain "$name" "$@"
+new: || :
+one try alone
+old: for _ in 1 2 3
+new: for _ in 1
+others may read the directory
+old: mkdir -m 700 "$base"
+new: mkdir -m 755 "$base"
+a directory above is refused
+old: [ -n "$(find "$base" -prune -type d -user "$user" -perm 700 2> /dev/null)" ] || continue
+new: continue
+a directory above is never checked
+old: [ -n "$(find "$base" -prune -type d -user "$user" -perm 700 2> /dev/null)" ] || continue
+new: :
+another's directory passes
+old:  -user "$user"
+new: 
+any mode passes
+old:  -perm 700
+new: 
+all that is below the directory is looked at
+old:  -prune
+new: 
+a taken directory is used
+old: mkdir "$base/$name" 2> /dev/null && tmp=$base/$name
+new: mkdir -p "$base/$name" 2> /dev/null && tmp=$base/$name
+a message for a taken directory
+old: mkdir "$base/$name" 2> /dev/null
+new: mkdir "$base/$name"
+all three tries are made
+old: tmp=$base/$name && break
+new: tmp=$base/$name
+no random directory
+old: tmp=$(mktemp -d "$temporary/zigrunk.XXXXXX" 2> /dev/null) ||
+new: 
+the random directory is elsewhere
+old: mktemp -d "$temporary/zigrunk.XXXXXX"
+new: mktemp -d
+no directory is no matter
+old: || plain 'no temporary directory' "$@"
+new: || :
+there is no directory of the script's own
+old: mkdir "$own" 2> /dev/null || plain
+new: : plain
+jobs come from the environment
+old: flag='' jobs=''
+new: flag=''
+calls gets no directory
+old: calls "$PWD" "$tmp"
+new: calls "$PWD" "$PWD"
+calls that can't be split are split
+old: || plain "$calls" "$@"
+new: || :
+a missing keep directory is ignored
+old: [ -d "${keep_dir:-/}" ] ||
+new: true ||
+the first dry run may fail
+old: [ "$first $?" = '0 0' ]
+new: [ "0 $?" = '0 0' ]
+the second dry run may fail
+old: [ "$first $?" = '0 0' ]
+new: [ "$first 0" = '0 0' ]
+the second dry run isn't waited for
+old: first=$?
+new: first=$?; true &
+both dry runs are one
+old: eval "$second_dry_run" > /dev/null
+new: eval "$first_dry_run" > /dev/null
+a dry run's output is printed
+old: eval "$first_dry_run" > /dev/null 2>
+new: eval "$first_dry_run" 2>
+--keep is forgotten
+old: ${keep_dir:+--keep}
+new: 
+--keep is always there
+old: ${keep_dir:+--keep}
+new: --keep
+a plan may lack commands
+old:  --whole
+new: 
+the flag is forgotten
+old: "$tmp" "$flag"
+new: "$tmp" ""
+the dry runs are swapped
+old: "$own/dry1" "$own/dry2"
+new: "$own/dry2" "$own/dry1"
+any plan is run
+old: plain "$reason" "$@"
+new: :
+outputs stay in Ninja's log
+old: s/^  command = /&exec
+new: s/^  nothing = /&exec
+there is no dependency file
+old: build zigrunk.dependencies: dependencies
+new: 
+a dependency command of the environment
+old: ZIGRUNK_DEPENDENCIES=$dependencies "${
+new: "${
+Ninja's file may be cut
+old: "$own/ninja" || plain 'no room for temporary files' "$@"
+new: "$own/ninja"
+the script's own directory may be missing
+old: mkdir "$own" 2> /dev/null || plain 'no room for temporary files' "$@"
+new: mkdir "$own" 2> /dev/null
+the commands share TMPDIR
+old: TMPDIR=$own ZIG
+new: ZIG
+the number of jobs is ignored
+old: ${jobs:+-j "$jobs"}
+new: 
+Ninja's own output is printed
+old: > "$own/log" 2>&1 &
+new: &
+Ninja runs in front
+old: > "$own/log" 2>&1 &
+new: > "$own/log" 2>&1
+a failed build is no failure
+old: status=$?
+new: status=0
+Ninja's own failure counts as a command's
+old: [ "$status" = 0 ] ||
+new: true ||
+a command's failure counts as Ninja's
+old: [ -n "$(find "$tmp" -name 'zigrunk.*.status')" ] ||
+new: 
+nvcc's warnings are lost
+old: sed '/^#\$ /d' "$own/dry1" >&2
+new: :
+nvcc's warnings are output
+old: "$own/dry1" >&2
+new: "$own/dry1"
+commands are dry-run lines
+old: sed '/^#\$ /d'
+new: sed '/^$/d'
+groups in the order of texts
+old: -k 2,2n
+new: -k 2,2
+commands in the order of texts
+old: -k 3,3n
+new: -k 3,3
+the order of files
+old:  | sort -t . -k 2,2n -k 3,3n
+new: 
+outputs are lost
+old: cat "$stamp.out"
+new: :
+messages are lost
+old: cat "$stamp.err" >&2
+new: :
+messages are output
+old: cat "$stamp.err" >&2
+new: cat "$stamp.err"
+what follows a failure is printed
+old: status=$(cat "$stamp.status") && break
+new: status=$(cat "$stamp.status")
+Ninja's status
+old: status=$(cat "$stamp.status") && break
+new: break
+an empty status
+old: [ ! -s "$stamp.status" ]
+new: [ ! -e "$stamp.status" ]
+files are kept nowhere
+old: if [ -n "$keep_dir" ]
+new: if false
+files go to the root
+old: if [ -n "$keep_dir" ]
+new: if true
+stamps are kept
+old:  "$tmp"/zigrunk.[0-9]*.[0-9]*
+new: 
+Ninja's logs are kept
+old:  "$tmp"/.ninja_*
+new: 
+the script's own files are kept
+old: rm -rf "$own" "$tmp"
+new: rm -rf "$tmp"
+files of the source zigrunk.cu are lost
+old: zigrunk.[0-9]*.[0-9]*
+new: zigrunk.*
+the directory itself is kept
+old:  ! -name . -prune
+new: 
+always 0
+old: exit "$status"
+new: exit
+END
+echo "$passed passed, $failed failed"
+[ "$failed" -eq 0 ]

@@ -1,0 +1,526 @@
+#!/usr/bin/env bash
+# Runs bin/zigrunk-nvcc with stand-ins for nvcc, zigrunk and Ninja, by each of dash, bash and busybox sh that is installed.
+# Prints a line for each case that fails, and last 'N passed, M failed'; the status is 1 if one failed.
+#
+#   tests/script.sh [SCRIPT]    SCRIPT is bin/zigrunk-nvcc, unless given
+#
+# SHELLS, if set, names the shells instead, as SHELLS='dash bash'. STOP_EARLY, if set, ends the run at the first failure.
+# shellcheck disable=SC2016 # the stand-ins expand what cases give them
+cd "$(dirname "$0")/.." || exit 1
+script=$(realpath "${1:-bin/zigrunk-nvcc}")
+scratch=$(mktemp -d)
+trap 'rm -rf "$scratch"' EXIT
+unset NVCC_PREPEND_FLAGS NVCC_APPEND_FLAGS CDPATH MAKEFLAGS "${!ZIGRUNK@}"
+user=$(id -u)
+passed=0 failed=0
+
+# The stand-ins. Each logs what it gets, and does what a case says in a variable of its own.
+mkdir "$scratch/bin"
+cat > "$scratch/bin/nvcc" << 'END'
+#!/bin/sh
+line=nvcc
+for word; do line="$line [$word]"; done
+printf '%s\n' "$line" >> "$LOG"
+case " $* " in
+' --dryrun first ' | ' --dryrun second ')
+    echo 'an output of the dry run'
+    echo '#$ cicc k.cpp1.ii -o k.ptx' >&2
+    [ -z "${WARNING-}" ] || echo "$WARNING" >&2
+    case $* in *first*) exit "${FIRST-0}" ;; *) exit "${SECOND-0}" ;; esac
+    ;;
+esac
+echo "nvcc sees: $(cd "$TMPDIR" && find . ! -name . | sort | tr '\n' ' ')"
+echo 'nvcc says' >&2
+eval "${NVCC_DOES-}"
+exit "${NVCC_STATUS-0}"
+END
+cat > "$scratch/bin/zigrunk" << 'END'
+#!/bin/sh
+line=zigrunk
+for word; do line="$line [$word]"; done
+printf '%s\n' "$line" >> "$LOG"
+case $1 in
+directory)
+    eval "${DIRECTORY_DOES-}"
+    echo zigrunk-name
+    ;;
+calls)
+    [ -z "${REASON-}" ] || { echo "zigrunk: $REASON" >&2; exit 3; }
+    echo "first_dry_run='( nvcc --dryrun first )'"
+    echo "second_dry_run='( nvcc --dryrun second )'"
+    printf '%s\n' "flag=${FLAG--c}" "dependencies='${DEPENDENCIES-}'" "keep_dir='${KEEP_DIR-}'"
+    [ "${JOBS-none}" = none ] || echo "jobs=$JOBS"
+    ;;
+ninja)
+    eval "${PLAN_DOES-}"
+    [ -z "${UNUSABLE-}" ] || { echo "zigrunk: $UNUSABLE" >&2; exit 1; }
+    printf 'the plan\nrule run\n  command = ${line}\n'
+    ;;
+esac
+END
+cat > "$scratch/bin/ninja" << 'END'
+#!/bin/sh
+line=ninja
+for word; do line="$line [$word]"; done
+printf '%s\n' "$line" >> "$LOG"
+tmp=${2%/zigrunk.tmp/ninja}
+echo 'Ninja says'
+command=$(sed -n 's/^ command = //p' "$2" | sed 's/\$\$/$/g')
+eval "${NINJA_DOES-}"
+exit "${NINJA_STATUS_IS-0}"
+END
+chmod +x "$scratch"/bin/*
+export PATH=$scratch/bin:$PATH
+
+# begin NAME: a case of its own folder, from which the script runs.
+begin() {
+    name=$1
+    room=$scratch/room
+    rm -rf "$room"
+    mkdir -p "$room/work" "$room/tmp"
+    cd "$room/work" || exit 1
+    problems=''
+}
+
+# script [NAME=VALUE..] WORD..: runs the script with these variables and words.
+script() {
+    local settings=()
+    while [[ ${1-} == *=* ]]; do
+        settings+=("$1")
+        shift
+    done
+    rm -f "$room/log"
+    env LOG="$room/log" TMPDIR="$room/tmp" "${settings[@]}" "${shell[@]}" "$script" "$@" > "$room/out" 2> "$room/err"
+    status=$?
+}
+
+# same WHAT GOT WANTED: a problem, unless the texts are alike.
+same() {
+    [ "$2" = "$3" ] || problems+="  $1: '$2', not '$3'"$'\n'
+}
+
+# holds WHAT FILE LINE: a problem, unless the file has this line.
+holds() {
+    grep -qxF -e "$3" "$2" || problems+="  $1: no line '$3' in '$(cat "$2")'"$'\n'
+}
+
+# lacks WHAT FILE TEXT: a problem if the file has this text.
+lacks() {
+    ! grep -qF -e "$3" "$2" || problems+="  $1: '$3' is in '$(cat "$2")'"$'\n'
+}
+
+# leaves_nothing: a problem, unless the folder for temporary files is empty.
+leaves_nothing() {
+    same 'files left' "$(ls -A "$room/tmp")" ''
+}
+
+# by_nvcc REASON: a problem, unless nvcc itself made the call, with the status 5, for this reason.
+by_nvcc() {
+    same status "$status" 5
+    same output "$(cat "$room/out")" "nvcc sees: ${sees-}"
+    same messages "$(cat "$room/err")" "zigrunk-nvcc: nvcc itself: $1"$'\nnvcc says'
+    leaves_nothing
+}
+
+# end: counts the case.
+end() {
+    cd "$scratch" || exit 1
+    if [ -z "$problems" ]; then
+        passed=$((passed + 1))
+    else
+        failed=$((failed + 1))
+        printf '%s: %s:\n%s' "${shell[*]}" "$name" "$problems"
+        [ -z "${STOP_EARLY-}" ] || finish
+    fi
+}
+
+finish() {
+    echo "$passed passed, $failed failed"
+    [ "$failed" -eq 0 ]
+    exit
+}
+
+cases() {
+    local plain=(ZIGRUNK_EXPLAIN=1 NVCC_STATUS=5)
+    local split="$room/tmp/zigrunk-$user/zigrunk-name"
+
+    begin 'a call that is split'
+    script NINJA_DOES='touch "$tmp/k.ii"' -o k.o 'a b.cu' ''
+    same status "$status" 0
+    same output "$(cat "$room/out" "$room/err")" ''
+    sed "s,$room,ROOM,g" "$room/log" | sort > "$room/sorted"
+    cat > "$room/wanted" << END
+ninja [-f] [ROOM/tmp/zigrunk-$user/zigrunk-name/zigrunk.tmp/ninja]
+nvcc [--dryrun] [first]
+nvcc [--dryrun] [second]
+zigrunk [calls] [ROOM/work] [ROOM/tmp/zigrunk-$user/zigrunk-name] [nvcc] [-o] [k.o] [a b.cu] []
+zigrunk [directory] [ROOM/work] [nvcc] [-o] [k.o] [a b.cu] []
+zigrunk [ninja] [--whole] [ROOM/work] [ROOM/tmp/zigrunk-$user/zigrunk-name] [-c] [ROOM/tmp/zigrunk-$user/zigrunk-name/zigrunk.tmp/dry1] [ROOM/tmp/zigrunk-$user/zigrunk-name/zigrunk.tmp/dry2]
+END
+    same calls "$(diff "$room/sorted" "$room/wanted")" ''
+    leaves_nothing
+    end
+
+    begin 'the files that Ninja and zigrunk read'
+    script NINJA_DOES='cat "$tmp/zigrunk.tmp/ninja" > "$LOG.ninja"; cat "$tmp/zigrunk.tmp/dry1" "$tmp/zigrunk.tmp/dry2" > "$LOG.dry"' -c k.cu -o k.o
+    same 'the file' "$(grep -v '^rule dep\|^ command\|^build ' "$room/log.ninja")" $'the plan\nrule run\n  command = exec > ${out}.out 2> ${out}.err; ${line}'
+    same 'the dry runs' "$(cat "$room/log.dry")" $'#$ cicc k.cpp1.ii -o k.ptx\n#$ cicc k.cpp1.ii -o k.ptx'
+    end
+
+    begin 'directories'
+    script NINJA_DOES='stat -c %a "${tmp%/*}" > "$LOG.mode"; echo "$TMPDIR" > "$LOG.tmp"; echo x > "$TMPDIR/x"' -c k.cu -o k.o
+    same 'mode' "$(cat "$room/log.mode")" 700
+    same 'TMPDIR of commands' "$(cat "$room/log.tmp")" "$split/zigrunk.tmp"
+    leaves_nothing
+    end
+
+    begin 'no TMPDIR'
+    script TMPDIR= -c k.cu -o k.o
+    holds calls "$room/log" "ninja [-f] [/tmp/zigrunk-$user/zigrunk-name/zigrunk.tmp/ninja]"
+    end
+
+    begin 'a relative TMPDIR, and CDPATH'
+    mkdir tmp
+    script TMPDIR=tmp CDPATH="$room" -c k.cu -o k.o
+    same output "$(cat "$room/out" "$room/err")" ''
+    holds calls "$room/log" "ninja [-f] [$room/work/tmp/zigrunk-$user/zigrunk-name/zigrunk.tmp/ninja]"
+    same 'files left' "$(ls -A tmp)" ''
+    end
+
+    begin 'a TMPDIR that is missing'
+    script "${plain[@]}" TMPDIR="$room/missing" -c k.cu -o k.o
+    same status "$status" 5
+    holds messages "$room/err" 'zigrunk-nvcc: nvcc itself: no temporary directory'
+    same 'folders' "$(ls "$room")" "$(printf '%s\n' err log out tmp work)"
+    end
+
+    begin 'the directory is taken'
+    mkdir -m 700 "$room/tmp/zigrunk-$user"
+    mkdir "$split"
+    echo other > "$split/file"
+    script NINJA_DOES='[ -d "$tmp" ] && stat -c %a "$tmp" > "$LOG.mode"' -c k.cu -o k.o
+    same status "$status" 0
+    same 'where' "$(sed -n "s,^ninja \[-f\] \[\(.*\)/zigrunk.tmp.ninja\],\1,p" "$room/log" | grep -c "^$room/tmp/zigrunk\.......$")" 1
+    same 'mode' "$(cat "$room/log.mode")" 700
+    same output "$(cat "$room/out" "$room/err")" ''
+    same 'files left' "$(cd "$room/tmp" && find . -type f)" "./zigrunk-$user/zigrunk-name/file"
+    end
+
+    begin 'another call has a directory'
+    mkdir -m 700 "$room/tmp/zigrunk-$user"
+    mkdir "$room/tmp/zigrunk-$user/other"
+    script -c k.cu -o k.o
+    holds calls "$room/log" "ninja [-f] [$split/zigrunk.tmp/ninja]"
+    same 'files left' "$(cd "$room/tmp" && find . -mindepth 1)" "./zigrunk-$user"$'\n'"./zigrunk-$user/other"
+    end
+
+    for way in 'chmod 755 $base' 'chmod 770 $base' 'chmod 755 $base; mkdir -m 700 $base/sub' 'rmdir $base; mkdir -m 700 $base.x; ln -s $base.x $base' 'rmdir $base; : > $base' 'chown 12345 $base'; do
+        [[ $way != chown* || $user == 0 ]] || continue
+        begin "the directory above isn't the user's alone: $way"
+        base=$room/tmp/zigrunk-$user
+        mkdir -m 700 "$base"
+        eval "$way"
+        script -c k.cu -o k.o
+        same status "$status" 0
+        same 'where' "$(sed -n "s,^ninja \[-f\] \[\(.*\)/zigrunk.tmp.ninja\],\1,p" "$room/log" | grep -c "^$room/tmp/zigrunk\.......$")" 1
+        same 'random directories left' "$(cd "$room/tmp" && ls -d zigrunk.?????? 2> /dev/null)" ''
+        end
+    done
+
+    # busybox takes its own programs, whatever is on the path
+    if [ "${shell[0]}" != busybox ]; then
+        begin 'another call removes the directory above just now'
+        mkdir -m 700 "$room/tmp/zigrunk-$user"
+        mkdir "$room/bin"
+        printf '%s\n' '#!/bin/sh' 'rmdir "$1" 2> /dev/null' "exec $(command -v find) \"\$@\"" > "$room/bin/find"
+        chmod +x "$room/bin/find"
+        script PATH="$room/bin:$PATH" -c k.cu -o k.o
+        holds calls "$room/log" "ninja [-f] [$split/zigrunk.tmp/ninja]"
+        leaves_nothing
+        end
+        begin 'directories are made once'
+        mkdir "$room/bin"
+        printf '%s\n' '#!/bin/sh' 'echo mkdir >> "$LOG"' "exec $(command -v mkdir) \"\$@\"" > "$room/bin/mkdir"
+        chmod +x "$room/bin/mkdir"
+        script PATH="$room/bin:$PATH" -c k.cu -o k.o
+        same 'calls of mkdir' "$(grep -cx mkdir "$room/log")" 3
+        end
+        begin 'no room for a directory'
+        mkdir "$room/bin"
+        printf '%s\n' '#!/bin/sh' 'case $* in *zigrunk.tmp) exit 1 ;; esac' "exec $(command -v mkdir) \"\$@\"" > "$room/bin/mkdir"
+        chmod +x "$room/bin/mkdir"
+        script "${plain[@]}" PATH="$room/bin:$PATH" -c k.cu -o k.o
+        by_nvcc 'no room for temporary files'
+        end
+    fi
+
+    begin 'an nvcc as the first word'
+    script "$room/some/nvcc" -c k.cu -o k.o
+    holds calls "$room/log" "zigrunk [directory] [$room/work] [$room/some/nvcc] [-c] [k.cu] [-o] [k.o]"
+    end
+    begin 'the program of ZIGRUNK_NVCC as the first word'
+    script ZIGRUNK_NVCC=my-compiler my-compiler -c k.cu -o k.o
+    holds calls "$room/log" "zigrunk [directory] [$room/work] [my-compiler] [-c] [k.cu] [-o] [k.o]"
+    end
+    begin 'an option as the first word'
+    script -Invcc -c k.cu -o k.o
+    holds calls "$room/log" "zigrunk [directory] [$room/work] [nvcc] [-Invcc] [-c] [k.cu] [-o] [k.o]"
+    end
+    begin 'a source as the first word'
+    script k.cu -o k.o
+    holds calls "$room/log" "zigrunk [directory] [$room/work] [nvcc] [k.cu] [-o] [k.o]"
+    end
+    begin 'ZIGRUNK_NVCC'
+    cp "$scratch/bin/nvcc" "$room/other"
+    script ZIGRUNK_NVCC="$room/other" "${plain[@]}" REASON=why -c k.cu -o k.o
+    holds calls "$room/log" "zigrunk [calls] [$room/work] [$split] [$room/other] [-c] [k.cu] [-o] [k.o]"
+    by_nvcc 'zigrunk: why'
+    end
+    begin 'ZIGRUNK_PROGRAM'
+    script ZIGRUNK_PROGRAM="$room/missing" "${plain[@]}" -o 'a b' ''
+    same status "$status" 5
+    same messages "$(grep -c '^zigrunk-nvcc: nvcc itself: .*missing.*\(not found\|No such file\)' "$room/err")" 1
+    same calls "$(cat "$room/log")" 'nvcc [-o] [a b] []'
+    end
+    begin 'ZIGRUNK_NINJA'
+    script ZIGRUNK_NINJA="$room/missing" "${plain[@]}" -o 'a b' ''
+    same status "$status" 5
+    same messages "$(grep -c '^zigrunk-nvcc: nvcc itself: .*missing.*\(not found\|No such file\)' "$room/err")" 1
+    holds calls "$room/log" 'nvcc [-o] [a b] []'
+    leaves_nothing
+    end
+
+    begin 'no explanation'
+    script REASON=why NVCC_STATUS=5 -c k.cu -o k.o
+    same status "$status" 5
+    same messages "$(cat "$room/err")" 'nvcc says'
+    end
+    begin 'zigrunk refuses the directory'
+    script "${plain[@]}" DIRECTORY_DOES='echo "zigrunk: no" >&2; exit 2' -c k.cu -o k.o
+    by_nvcc 'zigrunk: no'
+    end
+    begin 'a call that zigrunk leaves to nvcc'
+    script "${plain[@]}" REASON='the call links' -o 'a b' ''
+    by_nvcc 'zigrunk: the call links'
+    holds calls "$room/log" 'nvcc [-o] [a b] []'
+    end
+    begin 'a call that links'
+    script "${plain[@]}" FLAG= -c k.cu -o k.o
+    by_nvcc 'the call links'
+    end
+    for word in -dryrun --dryrun -v --verbose -clean --clean-targets -run --run --output-file=k.o -o=k.o -odir=. -optf=x '-DA=$B' '-DA=`b`'; do
+        begin "the word $word"
+        script "${plain[@]}" -c k.cu -o k.o "$word"
+        by_nvcc "the word $word"
+        same calls "$(cat "$room/log")" "nvcc [-c] [k.cu] [-o] [k.o] [$word]"
+        end
+    done
+    for words in '--threads x' '-threads 2x' '-t x' --threads=x -t=2x; do
+        begin "the words $words"
+        # shellcheck disable=SC2086 # one or two words
+        script "${plain[@]}" -c k.cu -o k.o $words
+        by_nvcc "the word ${words##* }"
+        end
+    done
+    for words in '--threads 12' '-t 0' --threads=3 -t=4 -t4; do
+        begin "the words $words"
+        # shellcheck disable=SC2086 # one or two words
+        script "${plain[@]}" -c k.cu -o k.o $words
+        same status "$status" 0
+        end
+    done
+    for word in -o -MF -MT; do
+        begin "$word twice"
+        script "${plain[@]}" -c k.cu -o k.o -MD -MF one -MT one "$word" two
+        by_nvcc "$word twice"
+        end
+    done
+    begin 'the word -optix-ir'
+    script "${plain[@]}" -optix-ir k.cu -o k
+    same status "$status" 0
+    end
+    begin 'a stream'
+    script "${plain[@]}" -ptx k.cu -o -
+    by_nvcc 'it reads or writes a stream'
+    end
+    begin 'no output'
+    script "${plain[@]}" -c k.cu
+    by_nvcc 'no output is named'
+    end
+    for variable in NVCC_PREPEND_FLAGS NVCC_APPEND_FLAGS; do
+        begin "$variable"
+        script "${plain[@]}" "$variable=-DA" -c k.cu -o k.o
+        by_nvcc 'NVCC_PREPEND_FLAGS or NVCC_APPEND_FLAGS'
+        end
+    done
+    begin 'a keep directory that is missing'
+    script "${plain[@]}" KEEP_DIR="$room/missing" -c k.cu -o k.o
+    by_nvcc 'the keep directory is missing'
+    lacks calls "$room/log" 'dryrun'
+    end
+    begin 'the first dry run fails'
+    script "${plain[@]}" FIRST=1 -c k.cu -o k.o
+    by_nvcc 'a dry run fails'
+    end
+    begin 'the second dry run fails'
+    script "${plain[@]}" SECOND=1 WARNING='a warning' -c k.cu -o k.o
+    by_nvcc 'a dry run fails'
+    end
+    begin 'a plan that cannot be used'
+    script "${plain[@]}" UNUSABLE='a command is dropped' WARNING='a warning' -c k.cu -o k.o
+    by_nvcc 'zigrunk: a command is dropped'
+    lacks calls "$room/log" 'ninja [-f]'
+    end
+    begin 'Ninja fails, and no command'
+    script "${plain[@]}" NINJA_DOES='echo "ninja: fatal: no"' NINJA_STATUS_IS=1 WARNING='a warning' -c k.cu -o k.o
+    by_nvcc 'ninja: fatal: no'
+    end
+    begin 'no room for the file of Ninja'
+    script "${plain[@]}" PLAN_DOES="mkdir '$split/zigrunk.tmp/ninja'" -c k.cu -o k.o
+    by_nvcc 'no room for temporary files'
+    end
+
+    begin "nvcc's warnings"
+    script WARNING='nvcc warning : odd' NINJA_DOES='echo err > "$tmp/zigrunk.0.0.err"' -c k.cu -o k.o
+    same status "$status" 0
+    same output "$(cat "$room/out")" ''
+    same messages "$(cat "$room/err")" $'nvcc warning : odd\nerr'
+    end
+
+    begin 'what commands say, in order'
+    script NINJA_DOES='for at in 0.0 0.1 1.0 1.10 1.2 2.0 10.0; do echo "out $at" > "$tmp/zigrunk.$at.out"; echo "err $at" > "$tmp/zigrunk.$at.err"; done; : > "$tmp/zigrunk.0.1.out"; : > "$tmp/zigrunk.0.1.err"' -c k.cu -o k.o
+    same status "$status" 0
+    same output "$(cat "$room/out")" $'out 0.0\nout 1.0\nout 1.2\nout 1.10\nout 2.0\nout 10.0'
+    same messages "$(cat "$room/err")" $'err 0.0\nerr 1.0\nerr 1.2\nerr 1.10\nerr 2.0\nerr 10.0'
+    leaves_nothing
+    end
+
+    begin 'the first command that fails'
+    script NINJA_DOES='for at in 0.0 2.0 2.2 2.10 10.0; do echo "$at" > "$tmp/zigrunk.$at.err"; done; echo 9 > "$tmp/zigrunk.10.0.status"; echo 8 > "$tmp/zigrunk.2.10.status"; echo 7 > "$tmp/zigrunk.2.2.status"' NINJA_STATUS_IS=1 -c k.cu -o k.o
+    same status "$status" 7
+    same messages "$(cat "$room/err")" $'0.0\n2.0\n2.2'
+    leaves_nothing
+    end
+
+    begin 'a failure whose status is lost'
+    script NINJA_DOES=': > "$tmp/zigrunk.0.0.err"; : > "$tmp/zigrunk.0.0.status"' NINJA_STATUS_IS=1 -c k.cu -o k.o
+    same status "$status" 1
+    end
+
+    begin 'the number of commands'
+    script JOBS=3 -c k.cu -o k.o
+    holds calls "$room/log" "ninja [-f] [$split/zigrunk.tmp/ninja] [-j] [3]"
+    script JOBS= jobs=4 -c k.cu -o k.o
+    holds calls "$room/log" "ninja [-f] [$split/zigrunk.tmp/ninja]"
+    script jobs=4 -c k.cu -o k.o
+    holds 'calls by a variable' "$room/log" "ninja [-f] [$split/zigrunk.tmp/ninja]"
+    end
+
+    for flag in -fatbin --fatbin; do
+        begin "the flag $flag"
+        script FLAG="$flag" JOBS=3 -c k.cu -o k.o
+        holds calls "$room/log" "ninja [-f] [$split/zigrunk.tmp/ninja] [-j] [1]"
+        end
+    done
+
+    begin 'files that are kept'
+    mkdir "$room/a dir"
+    script KEEP_DIR="$room/a dir" NINJA_DOES='cd "$tmp" && touch "k 1.ii" .k zigrunk.ptx zigrunk.0.0 zigrunk.12.10.err .ninja_log zigrunk.tmp/x && mkdir sub' -c k.cu -o k.o
+    same status "$status" 0
+    same output "$(cat "$room/out" "$room/err")" ''
+    same 'files kept' "$(ls -A "$room/a dir")" $'.k\nk 1.ii\nsub\nzigrunk.ptx'
+    holds calls "$room/log" "zigrunk [ninja] [--keep] [--whole] [$room/work] [$split] [-c] [$split/zigrunk.tmp/dry1] [$split/zigrunk.tmp/dry2]"
+    leaves_nothing
+    end
+    begin 'files that are kept of a call that fails'
+    script KEEP_DIR="$room/work" NINJA_DOES='echo 3 > "$tmp/zigrunk.0.0.status"; touch "$tmp/k.ii" "$tmp/zigrunk.0.0.err"' NINJA_STATUS_IS=1 -c k.cu -o k.o
+    same status "$status" 3
+    same 'files kept' "$(ls -A)" 'k.ii'
+    end
+
+    begin 'a dependency file'
+    script DEPENDENCIES='( echo made > k.d; echo twice; echo twice >&2 )' NINJA_DOES='sh -c "$command" || exit 1' -c k.cu -o k.o
+    same status "$status" 0
+    same output "$(cat "$room/out" "$room/err")" ''
+    same 'the file' "$(cat k.d)" made
+    end
+    begin 'a dependency file that fails'
+    script "${plain[@]}" DEPENDENCIES='( exit 4 )' NINJA_DOES='sh -c "$command" || { echo "ninja: build stopped"; exit 1; }' -c k.cu -o k.o
+    by_nvcc 'ninja: build stopped'
+    end
+    begin 'no dependency file'
+    script NINJA_DOES='sh -c "$command" || exit 1; grep -c "^build zigrunk.dependencies: dependencies$" "$tmp/zigrunk.tmp/ninja" > "$LOG.count"' ZIGRUNK_DEPENDENCIES='touch wrong' -c k.cu -o k.o
+    same status "$status" 0
+    same 'files' "$(ls -A)" ''
+    same edges "$(cat "$room/log.count")" 1
+    end
+
+    for signal in HUP:129 INT:130 TERM:143; do
+        begin "the signal ${signal%:*}"
+        start NINJA_DOES='sleep 9 & trap "kill $!; sleep 0.3; echo stopped > $LOG.stopped; exit 2" TERM; : > "$LOG.runs"; wait' -c k.cu -o k.o
+        until_there "$room/log.runs"
+        kill -s "${signal%:*}" "$process"
+        sleep 0.1
+        kill -s "${signal%:*}" "$process" 2> /dev/null
+        ended "${signal#*:}"
+        same 'Ninja' "$(cat "$room/log.stopped" 2>&1)" stopped
+        leaves_nothing
+        end
+    done
+
+    begin 'a signal while nvcc itself runs'
+    start REASON=why NVCC_DOES='echo $$ > "$LOG.runs"; exec sleep 9' -c k.cu -o k.o
+    until_there "$room/log.runs"
+    same process "$(cat "$room/log.runs")" "$process"
+    kill "$process"
+    ended 143
+    leaves_nothing
+    end
+    begin 'signals are not ignored by nvcc itself'
+    { script REASON=why NVCC_DOES='kill -TERM $$; exit 0' -c k.cu -o k.o; } 2> /dev/null
+    same status "$status" 143
+    end
+}
+
+# start [NAME=VALUE..] WORD..: starts the script in the background, with the signals as a user's shell leaves them.
+start() {
+    local settings=()
+    while [[ ${1-} == *=* ]]; do
+        settings+=("$1")
+        shift
+    done
+    rm -f "$room/log"
+    env --default-signal=HUP,INT,TERM LOG="$room/log" TMPDIR="$room/tmp" "${settings[@]}" "${shell[@]}" "$script" "$@" > "$room/out" 2> "$room/err" &
+    process=$!
+    began=$SECONDS
+}
+
+# until_there FILE: waits until there is a file, at most five seconds.
+until_there() {
+    for _ in $(seq 100); do
+        [ ! -s "$1" ] && [ ! -e "$1" ] || return 0
+        sleep 0.05
+    done
+    problems+="  no file $1"$'\n'
+}
+
+# ended STATUS: a problem, unless the script ends within two seconds, and with this status.
+ended() {
+    { wait "$process"; } 2> /dev/null
+    same status "$?" "$1"
+    [ $((SECONDS - began)) -le 8 ] || problems+='  it ends late'$'\n'
+}
+
+room=$scratch/room
+for choice in ${SHELLS-dash bash busybox}; do
+    case $choice in
+    busybox) shell=(busybox sh) ;;
+    *) shell=("$choice") ;;
+    esac
+    if command -v "${shell[0]}" > /dev/null; then
+        cases
+    else
+        echo "${shell[*]}: skipped, it is not on the path"
+    fi
+done
+finish
