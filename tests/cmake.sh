@@ -1,0 +1,120 @@
+#!/usr/bin/env bash
+# Builds a CMake project by nvcc, with zigrunk-nvcc as its CUDA compiler, and with zigrunk-nvcc as the launcher of nvcc, for Ninja and
+# for make. The project has several sources, two architectures, separable compilation and dependency files. The objects have to
+# be those of nvcc, and touching a header has to rebuild the same files. The last line is 'N passed, M failed'.
+#
+#   tests/cmake.sh [PROGRAM]     PROGRAM is the zigrunk that `make build` leaves, unless given
+cd "$(dirname "$0")/.." || exit 1
+for tool in cmake nvcc "${ZIGRUNK_NINJA:-ninja}" make objcopy; do
+    if ! command -v "$tool" > /dev/null; then
+        echo "CMake projects: skipped, $tool is not on the path"
+        echo '0 passed, 0 failed'
+        exit 0
+    fi
+done
+wrapper=$PWD/bin/zigrunk-nvcc
+ZIGRUNK_PROGRAM=$(realpath "${1:-${ZIGRUNK_PROGRAM:-crates/zigrunk/out/zigrunk}}")
+export ZIGRUNK_PROGRAM
+scratch=$(mktemp -d)
+trap 'rm -rf "$scratch"' EXIT
+unset NVCC_PREPEND_FLAGS NVCC_APPEND_FLAGS MAKEFLAGS CUDAFLAGS CUDACXX
+mkdir "$scratch/launchers"
+
+# A launcher that logs which programs it runs.
+cat > "$scratch/launchers/log" << 'END'
+#!/bin/sh
+echo "${1##*/}" >> "$LAUNCHED"
+exec "$@"
+END
+chmod +x "$scratch/launchers/log"
+
+# make_sources FOLDER: the project.
+make_sources() {
+    mkdir -p "$1"
+    cat > "$1/CMakeLists.txt" << 'END'
+cmake_minimum_required(VERSION 3.18)
+project(Example LANGUAGES CXX CUDA)
+add_library(kernels STATIC first.cu second.cu)
+add_executable(program main.cu plain.cpp)
+target_link_libraries(program kernels)
+set_target_properties(kernels program PROPERTIES CUDA_SEPARABLE_COMPILATION ON CUDA_ARCHITECTURES "75;80" CUDA_STANDARD 17)
+target_compile_definitions(kernels PRIVATE "NAME=\"a name\"")
+END
+    echo '__device__ int twice(int value);' > "$1/device.h"
+    printf '%s\n' '#include "device.h"' '__device__ int twice(int value) { return 2 * value; }' > "$1/first.cu"
+    printf '%s\n' '#include "device.h"' 'const char* name() { return NAME; }' \
+        '__global__ void kernel(int* values) { values[threadIdx.x] = twice(threadIdx.x); }' \
+        'void run(int* values) { kernel<<<1, 32>>>(values); }' > "$1/second.cu"
+    printf '%s\n' 'void run(int*);' 'int plain();' 'int main() { run(nullptr); return plain(); }' > "$1/main.cu"
+    echo 'int plain() { return 0; }' > "$1/plain.cpp"
+}
+
+# build_by WAY GENERATOR FOLDER: builds the project at FOLDER/work, touches the header and builds again; leaves FOLDER/WAY.
+build_by() {
+    local way=$1 generator=$2 folder=$3 settings
+    case $way in
+    nvcc) settings=(-DCMAKE_CUDA_COMPILER="$(command -v nvcc)") ;;
+    compiler) settings=(-DCMAKE_CUDA_COMPILER="$wrapper") ;;
+    launcher) settings=(-DCMAKE_CUDA_COMPILER="$(command -v nvcc)" -DCMAKE_CUDA_COMPILER_LAUNCHER="$wrapper") ;;
+    esac
+    make_sources "$folder/work"
+    (
+        cd "$folder/work" || exit 1
+        export LAUNCHED=$folder/$way.launched ZIGRUNK_LAUNCHER=$scratch/launchers/log
+        cmake -G "$generator" -S . -B build "${settings[@]}" || exit 1
+        rm -f "$LAUNCHED"
+        cmake --build build -j 2 || exit 1
+        touch built
+        sleep 0.1
+        touch device.h
+        cmake --build build -j 2 || exit 1
+        cd build && find . \( -name '*.o' -o -name '*.a' -o -name program \) -newer ../built | sort > "$folder/$way.rebuilt"
+    ) > "$folder/$way.log" 2>&1
+    echo $? > "$folder/$way.status"
+    mv "$folder/work" "$folder/$way"
+}
+
+# differences FOLDER WAY: prints how a build differs from that of nvcc.
+differences() {
+    local folder=$1 way=$2 object cicc
+    [ "$(cat "$folder/$way.status")" = 0 ] || tail -n 20 "$folder/$way.log"
+    diff "$folder/nvcc.rebuilt" "$folder/$way.rebuilt"
+    [ "$(grep -c '\.cu\.o$' "$folder/$way.rebuilt")" = 2 ] || echo 'two objects need the header'
+    # three sources for two architectures, and two of them again
+    cicc=$(grep -cx cicc "$folder/$way.launched")
+    [ "$cicc" = 10 ] || echo "$cicc calls of cicc, not 10"
+    while IFS= read -r object; do
+        objcopy --strip-unneeded "$folder/nvcc/build/$object" "$folder/one"
+        objcopy --strip-unneeded "$folder/$way/build/$object" "$folder/other"
+        cmp "$folder/one" "$folder/other" || echo "$object differs"
+    done < <(cd "$folder/nvcc/build" && find . -name '*.cu.o')
+}
+
+# project GENERATOR: all three builds, one after the other, since their paths get into what they make.
+project() {
+    local folder="$scratch/$1" way
+    mkdir "$folder"
+    for way in nvcc compiler launcher; do
+        build_by "$way" "$1" "$folder"
+    done
+    for way in compiler launcher; do
+        differences "$folder" "$way" > "$folder/$way.differences" 2>&1
+    done
+}
+
+project Ninja &
+project 'Unix Makefiles' &
+wait
+passed=0 failed=0
+for generator in Ninja 'Unix Makefiles'; do
+    for way in compiler launcher; do
+        if [ -s "$scratch/$generator/$way.differences" ]; then
+            echo "CMake, $generator, zigrunk-nvcc as $way: $(cat "$scratch/$generator/$way.differences")"
+            failed=$((failed + 1))
+        else
+            passed=$((passed + 1))
+        fi
+    done
+done
+echo "$passed passed, $failed failed"
+[ "$failed" -eq 0 ]

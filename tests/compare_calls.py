@@ -1,0 +1,378 @@
+#!/usr/bin/env python3
+"""Makes calls by nvcc and by zigrunk-nvcc, and says what differs.
+
+    tests/compare_calls.py [OPTIONS] FILE..
+
+    --nvcc PATH --ours PATH     the two tools, if not nvcc and bin/zigrunk-nvcc
+    --only TEXT                 only the calls whose lines contain TEXT
+    --keep FOLDER               keep each call's files below FOLDER
+    --scratch FOLDER            make the calls below FOLDER
+    --jobs N                    N calls at once
+    --json FILE                 write a record of each call
+    --all                       print the calls that pass too
+
+A line of FILE is the words of a call, quoted as for bash; nothing is globbed. Words in front of them may be
+
+    @name=TEXT          the call's name
+    @env=NAME=VALUE     a variable for both tools; @WORK@ is the work folder, in words too
+    @unset=NAME         a variable that neither tool gets
+    @setup=SHELL        run by bash in the work folder before each tool
+    @after=SHELL        run by bash in the work folder after each tool; its output is compared
+    @cwd=FOLDER         the folder of the call, below the work folder
+    @tmp=FOLDER         TMPDIR, below the work folder; else an empty folder beside it
+    @ours=SHELL         run by bash instead of our tool, which is $TOOL; the words are "$@"
+    @how=split          the call is split; @how=nvcc: it goes to nvcc unchanged
+    @launched=TEXT      the commands that go through the launcher, as 'cicc:2 ptxas:2'
+    @differs=KIND,..    the kinds of differences that docs/DIFFERENCES.md lists
+
+Both tools work in the same path, one after the other, since paths get into what is made. These are compared: the status, the
+names of files that are made or changed, their bytes (of objects without the symbols that `strip` removes, since one of them
+names a temporary file), what is printed (without nvcc's names for temporary files), and what is left in TMPDIR. If
+something differs, nvcc makes the call once more: what differs between nvcc and nvcc doesn't count.
+
+The last line is 'N passed, M failed'.
+"""
+import argparse
+import concurrent.futures
+import hashlib
+import json
+import os
+import re
+import shutil
+import subprocess
+import sys
+import tempfile
+import time
+from pathlib import Path
+
+SOURCES = {
+    "kernel.cu": "#include <cstdio>\n__global__ void add(int*a,int*b){a[threadIdx.x]+=b[threadIdx.x];}\n"
+    "int main(){int*a=nullptr,*b=nullptr;add<<<1,32>>>(a,b);return 0;}\n",
+    "dev.cu": 'extern "C" __device__ int g(int x){return x*2;}\n',
+    "sub/k2.cu": "__global__ void mul(float*a){a[threadIdx.x]*=2.f;}\nvoid run(float*p){mul<<<1,1>>>(p);}\n",
+    "sp ace.cu": "__global__ void one(int*a){*a=1;}\n",
+    "host.cpp": "int host(){return 3;}\n",
+    "host.c": "int chost(void){return 4;}\n",
+    "kern.cpp": "__global__ void cppk(int*a){*a=2;}\nvoid call(int*a){cppk<<<1,1>>>(a);}\n",
+    "inc/a.h": '#define A 1\n#include "b.h"\n',
+    "inc/b.h": "#define B 2\nstatic __device__ int from_b;\n",
+    "useinc.cu": '#include "a.h"\n__global__ void inc(int*a){*a=A+B;from_b=1;}\nvoid i(int*a){inc<<<1,1>>>(a);}\n',
+    "syntax.cu": "__global__ void s(int*a){*a = ;}\nint x = ;\n",
+    "hosterr.cu": "void f(){ int x = missing; }\n",
+    "deverr.cu": "__global__ void k(){ missing(); }\n",
+    "asmerr.cu": '__global__ void k(){ asm("no such instruction;"); } void host(){}\n',
+    "warn.cu": "__global__ void k(int*p){int unused;p[0]=1;}\nint f(){int never;return 1;}\n",
+    "gccwarn.cu": "__global__ void k(int*p){p[0]=1;}\nint g(int a){ if(a=1) return 1; int u; return u; }\n",
+    "define.cu": '#ifndef NAME\n#define NAME "none"\n#endif\nconst char*name(){return NAME;}\n__global__ void k(char*p){p[0]=NAME[0];}\n',
+    "main.cu": 'extern "C" __device__ int g(int);\n__global__ void k(int*a){*a=g(*a);}\nint main(){k<<<1,1>>>(nullptr);return 0;}\n',
+    "printf.cu": '#include <cstdio>\n#include <cassert>\n__global__ void k(int*p){assert(p);printf("%d\\n",p[0]);}\n'
+    "void f(int*p){k<<<1,1>>>(p);}\n",
+    "lambda.cu": "#include <utility>\ntemplate<class F>__global__ void g(F f){f();}\nvoid h(int*p){g<<<1,1>>>([=]__device__(){p[0]=1;});}\n",
+    "static.cu": "namespace {__device__ int c;__global__ void anon(int*p){p[0]=c++;}}\nstatic __global__ void st(){}\n"
+    "void h(int*p){anon<<<1,1>>>(p);st<<<1,1>>>();}\n",
+    "archerr.cu": "#if defined(__CUDA_ARCH__) && __CUDA_ARCH__ >= 800\n#error too new\n#endif\n__global__ void k(int*p){*p=1;}\n",
+    "value.cu": "__global__ void k(int*p){*p=V;}\n",
+}
+LAUNCHER = '#!/bin/sh\nprintf "%s\\n" "${1##*/}" >> "$COMPARE_LOG"\nexec "$@"\n'
+FIELDS = {"name", "setup", "after", "cwd", "tmp", "ours", "how", "launched", "differs"}
+OLD = 1_600_000_000
+
+
+class Call:
+    """A line of a file of calls."""
+
+    def __init__(self, line, number):
+        self.line, self.number = line, number
+        self.env, self.unset = {}, []
+        for field in FIELDS:
+            setattr(self, field, "")
+        words = shell_words(line)
+        while words and words[0].startswith("@") and "=" in words[0]:
+            key, value = words.pop(0)[1:].split("=", 1)
+            if key == "env":
+                name, value = value.split("=", 1)
+                self.env[name] = value
+            elif key == "unset":
+                self.unset.append(value)
+            elif key in FIELDS:
+                setattr(self, key, value)
+            else:
+                sys.exit(f"{line}: no such field: {key}")
+        self.words = words
+        self.name = self.name or " ".join(words)
+
+
+def shell_words(line):
+    out = subprocess.run(["bash", "-c", "set -f; printf '%s\\0' " + line], capture_output=True, check=True).stdout
+    return [word.decode("utf-8", "surrogateescape") for word in out.split(b"\0")[:-1]]
+
+
+def write_sources(folder):
+    for name, text in SOURCES.items():
+        path = folder / name
+        path.parent.mkdir(parents=True, exist_ok=True)
+        path.write_text(text)
+        os.utime(path, (OLD, OLD))
+
+
+def state(path):
+    """What a path holds, as a text that changes if it does."""
+    try:
+        return "link " + os.readlink(path) if path.is_symlink() else hashlib.sha256(path.read_bytes()).hexdigest()
+    except OSError as error:
+        return f"unreadable {error.errno}"
+
+
+def tree(folder):
+    """The files and empty folders below a folder, and what they hold."""
+    found = {}
+    for root, folders, files in os.walk(folder):
+        for name in folders:
+            path = Path(root, name)
+            if not os.listdir(path):
+                found[f"{path.relative_to(folder)}/"] = "folder"
+        for name in files:
+            path = Path(root, name)
+            found[str(path.relative_to(folder))] = state(path)
+    return found
+
+
+def normal(text, base):
+    """A text without what differs between two calls of nvcc: names of temporary files, and times."""
+    text = text.replace(str(base), "BASE")
+    text = re.sub(r"(BASE/tmp|/tmp)/(zigrunk[-.]\w+(/zigrunk-\w+)?|tmpxft[^/ ]*?-\d+)[/_]?", "", text)
+    text = re.sub(r"(BASE/tmp/|/tmp/)?tmpxft_[0-9a-f]+_[0-9a-f]+-\d+_?", "", text)
+    text = re.sub(r"tmpxft_[0-9a-f]+_[0-9a-f]+", "TMPXFT", text)
+    text = re.sub(r"Compile time = [0-9.]+ ms", "Compile time = N ms", text)
+    return re.sub(r", [0-9.]+ , ms", ", N , ms", text)
+
+
+def environment(call, base, log):
+    env = {name: value for name, value in os.environ.items() if not name.startswith("NVCC_")}
+    env.update(TMPDIR=str(base / "work" / call.tmp if call.tmp else base / "tmp"), WORK=str(base / "work"))
+    env.update(ZIGRUNK_EXPLAIN="1", ZIGRUNK_LAUNCHER=str(base / "launcher"), COMPARE_LOG=str(log))
+    env.update({name: value.replace("@WORK@", str(base / "work")) for name, value in call.env.items()})
+    for name in call.unset:
+        env.pop(name, None)
+    return env
+
+
+def start(tool, call, base, env):
+    """The status of a call, what it printed, and the seconds that it took."""
+    words = [word.replace("@WORK@", str(base / "work")) for word in call.words]
+    argv = [tool, *words]
+    if call.ours and env.get("TOOL"):
+        argv = ["bash", "-c", call.ours, tool, *words]
+    began = time.time()
+    try:
+        ran = subprocess.run(argv, cwd=base / "work" / call.cwd, env=env, stdin=subprocess.DEVNULL, capture_output=True, timeout=500)
+        status, out, err = ran.returncode, ran.stdout, ran.stderr
+    except subprocess.TimeoutExpired as stopped:
+        status, out, err = "timeout", stopped.stdout or b"", stopped.stderr or b""
+    except OSError as error:
+        status, out, err = f"not started: {error}", b"", b""
+    return status, out.decode("utf-8", "replace"), err.decode("utf-8", "replace"), time.time() - began
+
+
+def content(path, what):
+    return what.encode() if what == "folder" or what.startswith(("link", "unreadable")) else path.read_bytes()
+
+
+def keep_files(keep, call, kind, work, out, err):
+    folder = keep / str(call.number)
+    shutil.rmtree(folder / kind, ignore_errors=True)
+    folder.mkdir(parents=True, exist_ok=True)
+    subprocess.run(["cp", "-a", str(work), str(folder / kind)], check=True)
+    (folder / f"{kind}.out").write_text(out)
+    (folder / f"{kind}.err").write_text(err)
+
+
+def run(tool, kind, call, base, keep):
+    """A call by one of the tools, as a record of what is compared."""
+    work, tmp, log = base / "work", base / "tmp", base / f"{kind}.log"
+    for folder in (work, tmp):
+        shutil.rmtree(folder, ignore_errors=True)
+        folder.mkdir(parents=True)
+    write_sources(work)
+    (base / "launcher").write_text(LAUNCHER)
+    (base / "launcher").chmod(0o755)
+    env = environment(call, base, log)
+    if kind == "ours":
+        env["TOOL"] = tool
+    if call.setup:
+        subprocess.run(["bash", "-c", call.setup], cwd=work, env={**os.environ, "WORK": str(work)}, check=True)
+    before = tree(work)
+    status, out, err, seconds = start(tool, call, base, env)
+    after = tree(work)
+    said_after = ""
+    if call.after:
+        ran = subprocess.run(["bash", "-c", call.after], cwd=work, env=env, capture_output=True, text=True, errors="replace")
+        said_after = normal(ran.stdout + ran.stderr, base)
+    reason = re.search(r"^zigrunk-nvcc: nvcc itself: (.*)\n", err, re.M)
+    if reason:
+        err = err[: reason.start()] + err[reason.end() :]
+    if keep:
+        keep_files(keep, call, kind, work, out, err)
+    launched = sorted(log.read_text().splitlines()) if log.exists() else []
+    return {
+        "status": status,
+        "out": normal(out, base),
+        "err": normal(err, base),
+        "made": {name: content(work / name, what) for name, what in after.items() if before.get(name) != what},
+        "gone": [name for name in before if name not in after],
+        "left": sorted(normal(str(path.relative_to(tmp)), base) for path in tmp.rglob("*")) if tmp.exists() else [],
+        "launched": " ".join(f"{name}:{launched.count(name)}" for name in sorted(set(launched))),
+        "reason": reason and reason.group(1),
+        "seconds": seconds,
+        "after": said_after,
+    }
+
+
+def stripped(data, base):
+    given, made = base / "given", base / "made"
+    given.write_bytes(data)
+    ran = subprocess.run(["objcopy", "--strip-unneeded", str(given), str(made)], capture_output=True)
+    return made.read_bytes() if ran.returncode == 0 else None
+
+
+def symbols(data, base):
+    path = base / "given"
+    path.write_bytes(data)
+    names = subprocess.run(["nm", "-S", str(path)], capture_output=True, text=True).stdout
+    sizes = subprocess.run(["size", "-A", str(path)], capture_output=True, text=True).stdout.split("\n", 2)[-1]
+    return re.sub(r"tmpxft\w+|x_0", "N", names + sizes)
+
+
+def likeness(one, other, base):
+    """How two files are alike: 'bytes', 'stripped', 'symbols' or 'text'; else ''."""
+    if one == other:
+        return "bytes"
+    if one[:4] == other[:4] == b"\x7fELF":
+        short = stripped(one, base)
+        if short is not None and short == stripped(other, base):
+            return "stripped"
+        return "symbols" if symbols(one, base) == symbols(other, base) else ""
+    try:
+        return "text" if normal(one.decode(), base) == normal(other.decode(), base) else ""
+    except UnicodeDecodeError:
+        return ""
+
+
+def file_differences(want, got, base):
+    for name in sorted(set(want) | set(got)):
+        if name not in got:
+            yield "FILE-LACKS", name
+        elif name not in want:
+            yield "FILE-EXTRA", name
+        elif (how := likeness(want[name], got[name], base)) == "symbols":
+            yield "symbols-only", name
+        elif not how:
+            yield "CONTENT", name
+
+
+def said_differences(want, got):
+    if (want["out"], want["err"]) == (got["out"], got["err"]):
+        return
+    wanted, given = (sorted((said["out"] + said["err"]).splitlines()) for said in (want, got))
+    if wanted == given:
+        yield "stream-order", ""
+    else:
+        lacks = [line for line in wanted if line not in given][:3]
+        extra = [line for line in given if line not in wanted][:3]
+        yield "SAID", f"lacks {lacks}, has {extra} ({len(wanted)} and {len(given)} lines)"
+
+
+def differences(want, got, base):
+    """What differs, as pairs of a kind and a text. A kind in capitals is a failure."""
+    found = []
+    if want["status"] != got["status"]:
+        found.append(("STATUS", f"{got['status']}, not {want['status']}"))
+    found += file_differences(want["made"], got["made"], base)
+    found += said_differences(want, got)
+    for field in ("gone", "left", "after"):
+        if want[field] != got[field]:
+            found.append((field.upper(), f"{got[field]}, not {want[field]}"[:300]))
+    return found
+
+
+def claims(call, got):
+    """What a line says of our call that isn't so."""
+    how = "nvcc" if got["reason"] else "split"
+    if call.how and call.how != how:
+        yield "HOW", f"{how}, not {call.how}: {got['reason']}"
+    if call.launched and call.launched != got["launched"]:
+        yield "LAUNCHED", f"'{got['launched']}', not '{call.launched}'"
+
+
+def compare(call, args):
+    """A call by both tools: the records, what differs, and what differs between nvcc and nvcc."""
+    base = Path(tempfile.mkdtemp(prefix="compare.", dir=args.scratch))
+    keep = Path(args.keep) if args.keep else None
+    try:
+        want = run(args.nvcc, "nvcc", call, base, keep)
+        got = run(args.ours, "ours", call, base, keep)
+        found = differences(want, got, base)
+        noise = []
+        if any(kind.isupper() for kind, _ in found):
+            noise = differences(want, run(args.nvcc, "noise", call, base, keep), base)
+            found = [one for one in found if one not in noise or one[0] == "STATUS"]
+        return call, want, got, found + list(claims(call, got)), noise
+    finally:
+        subprocess.run(["chmod", "-R", "u+rwx", str(base)], capture_output=True)
+        shutil.rmtree(base, ignore_errors=True)
+
+
+def show(verdict, call, want, got, found, noise):
+    how = f"nvcc: {got['reason'][:90]}" if got["reason"] else f"split: {got['launched']}"
+    print(f"{call.number:3} {verdict} {want['seconds']:.2f} s, {got['seconds']:.2f} s  {call.line[:150]}  [{how}]")
+    for kind, text in found:
+        print(f"      {kind}: {text}"[:700])
+    if noise:
+        print(f"      (nvcc and nvcc: {sorted({kind for kind, _ in noise})})")
+    sys.stdout.flush()
+
+
+def options():
+    parser = argparse.ArgumentParser(usage=__doc__)
+    parser.add_argument("files", nargs="+")
+    parser.add_argument("--nvcc", default=shutil.which("nvcc"))
+    parser.add_argument("--ours", default=str(Path(__file__).resolve().parent.parent / "bin/zigrunk-nvcc"))
+    parser.add_argument("--only", default="")
+    parser.add_argument("--keep")
+    parser.add_argument("--scratch")
+    parser.add_argument("--jobs", type=int, default=1)
+    parser.add_argument("--json")
+    parser.add_argument("--all", action="store_true")
+    return parser.parse_args()
+
+
+def read_calls(args):
+    lines = [line for name in args.files for line in Path(name).read_text().splitlines()]
+    calls = [Call(line, number) for number, line in enumerate((line for line in lines if line and line[0] != "#"), 1)]
+    return [call for call in calls if args.only in call.line]
+
+
+def main():
+    args = options()
+    calls = read_calls(args)
+    records, failed, split = [], 0, 0
+    with concurrent.futures.ThreadPoolExecutor(args.jobs) as pool:
+        for call, want, got, found, noise in pool.map(lambda one: compare(one, args), calls):
+            loud = {kind for kind, _ in found if kind.isupper()}
+            verdict = "same" if not loud else "documented" if loud <= set(call.differs.split(",")) else "DIFFERS"
+            failed += verdict == "DIFFERS"
+            split += not got["reason"]
+            if args.all or verdict == "DIFFERS":
+                show(verdict, call, want, got, found, noise)
+            records.append({"line": call.line, "verdict": verdict, "reason": got["reason"], "launched": got["launched"],
+                            "status": [want["status"], got["status"]], "differences": found, "noise": noise,
+                            "seconds": [want["seconds"], got["seconds"]]})
+    if args.json:
+        Path(args.json).write_text(json.dumps(records, indent=1))
+    print(f"{split} of {len(calls)} calls were split")
+    print(f"{len(calls) - failed} passed, {failed} failed")
+    return failed != 0
+
+
+if __name__ == "__main__":
+    sys.exit(main())
