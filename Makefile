@@ -3,7 +3,7 @@ PREFIX ?= /usr/local
 DESTDIR ?=
 target = $(DESTDIR)$(PREFIX)
 
-.PHONY: help demo build install uninstall dist bench fuzz must-fail refused-memory end-to-end test-install dist-test check-docs test
+.PHONY: help demo build install uninstall dist bench fuzz must-fail refused-memory end-to-end cache mutants test-install dist-test check-docs test
 
 help:
 	@echo 'make demo             run cudaplan, unproved, on two calls; a minute from a fresh clone'
@@ -15,6 +15,8 @@ help:
 	@echo 'make fuzz             run the library on 10,000 random cases of each kind; SEED=1 COUNT=10000 FIRST=0'
 	@echo 'make refused-memory   run the test cases again and again, each time with another allocation failing'
 	@echo 'make end-to-end       compare zigrunk-nvcc with nvcc; needs nvcc and ninja on the path'
+	@echo 'make cache            compare rebuilds through sccache with and without zigrunk-nvcc; needs sccache 0.9'
+	@echo 'make mutants          check that the tests catch wrong edits of zigrunk-nvcc'
 	@echo 'make check-docs       check links, quoted code and names in the pages, and the version number'
 	@echo 'make test-install     install into an empty directory, run the programs from there, uninstall'
 	@echo 'make dist             pack the built programs: a tarball, a Debian package and their checksums, in dist/'
@@ -72,9 +74,15 @@ refused-memory: build
 	cd crates/test_plans && rt check && { rt run > /dev/null 2>&1 || true; }
 	tests/refused_memory.sh
 
-# Calls of nvcc and of zigrunk-nvcc side by side: exit statuses, the files they make, and what is in them.
+# Calls of nvcc and of zigrunk-nvcc side by side: exit statuses, the files they make, and what is in them. The gate makes fewer.
 end-to-end:
-	@tests/end_to_end.sh
+	@tests/end_to_end.sh --all
+
+cache:
+	@tests/cache.sh
+
+mutants:
+	@tests/mutants.sh
 
 # The pages name files, definitions and calls; this finds names that aren't there.
 check-docs:
