@@ -71,13 +71,21 @@ abbrev pub alone : CallOf → List (List ℕ) → Option CallOf
 alone call [] = Some call
 alone call (word ∷ words) = None
 
+-- the call that a name and the words behind it are: a page, or a plan for another tool
+abbrev pub other_call : List ℕ → List (List ℕ) → Option CallOf
+other_call name words =
+    if bytes_eq name (codes "--help") then alone helps words else
+    if bytes_eq name (codes "--version") then alone tells_version words else option_map exports (export_named name words)
+
+-- the same, or a call that cudaplan has too
+abbrev pub text_call : List ℕ → List (List ℕ) → Option CallOf
+text_call name words =
+    if bytes_eq name (codes "line") then option_map rewrites (line_call_of words) else
+    if bytes_eq name (codes "plan") then option_map plans (plan_call_of words) else other_call name words
+
 -- the call that the words after the program's name are
 abbrev pub call_of : List (List ℕ) → Option CallOf
 call_of [] = None
 call_of (verb ∷ words) =
     if bytes_eq verb (codes "calls") then option_map reads (nvcc_call_of words) else
-    if bytes_eq verb (codes "directory") then option_map names (directory_call_of words) else
-    if bytes_eq verb (codes "line") then option_map rewrites (line_call_of words) else
-    if bytes_eq verb (codes "plan") then option_map plans (plan_call_of words) else
-    if bytes_eq verb (codes "--help") then alone helps words else
-    if bytes_eq verb (codes "--version") then alone tells_version words else option_map exports (export_named verb words)
+    if bytes_eq verb (codes "directory") then option_map names (directory_call_of words) else text_call verb words

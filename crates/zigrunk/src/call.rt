@@ -103,6 +103,20 @@ fn export_call<'a>(format: Format, words: &'a [String]) -> Option<ExportCall<'a>
     }
 }
 
+// Parses the words behind a name, if it is a format's.
+fn export_named<'a>(name: &str, words: &'a [String]) -> Option<ExportCall<'a>>
+    ensures { option_map spec.export_of result ≡ spec.export_named name.now (map string_bytes words.now) }
+{
+    export_call(format_named(name)?, words)
+}
+
+// The same, as a call of the program.
+fn exporting<'a>(name: &str, words: &'a [String]) -> Option<Call<'a>>
+    ensures { option_map spec.seen result ≡ option_map spec.exports (spec.export_named name.now (map string_bytes words.now)) }
+{
+    Some(Call::Export(export_named(name, words)?))
+}
+
 // The call, if no further words follow.
 fn alone<'a>(call: Call<'a>, words: &'a [String]) -> Option<Call<'a>>
     ensures { option_map spec.seen result ≡ spec.alone (spec.seen call.entry) (map string_bytes words.now) }
@@ -110,6 +124,28 @@ fn alone<'a>(call: Call<'a>, words: &'a [String]) -> Option<Call<'a>>
     match words {
         [] => Some(call),
         _ => None,
+    }
+}
+
+// Parses the calls of the pages and those that write a plan for another tool.
+fn other_call<'a>(name: &str, words: &'a [String]) -> Option<Call<'a>>
+    ensures { option_map spec.seen result ≡ spec.other_call name.now (map string_bytes words.now) }
+{
+    match name {
+        "--help" => alone(Call::Help, words),
+        "--version" => alone(Call::Version, words),
+        _ => exporting(name, words),
+    }
+}
+
+// Parses the calls that cudaplan has too, and all others but those of an nvcc line.
+fn text_call<'a>(name: &str, words: &'a [String]) -> Option<Call<'a>>
+    ensures { option_map spec.seen result ≡ spec.text_call name.now (map string_bytes words.now) }
+{
+    match name {
+        "line" => Some(Call::Line(line_call(words)?)),
+        "plan" => Some(Call::Plan(plan_call(words)?)),
+        _ => other_call(name, words),
     }
 }
 
@@ -130,10 +166,6 @@ pub fn call_of<'a>(words: &'a [String]) -> Option<Call<'a>>
     match verb.as_str() {
         "calls" => Some(Call::Nvcc(nvcc_call(rest)?)),
         "directory" => Some(Call::Directory(directory_call(rest)?)),
-        "line" => Some(Call::Line(line_call(rest)?)),
-        "plan" => Some(Call::Plan(plan_call(rest)?)),
-        "--help" => alone(Call::Help, rest),
-        "--version" => alone(Call::Version, rest),
-        name => Some(Call::Export(export_call(format_named(name)?, rest)?)),
+        name => text_call(name, rest),
     }
 }
