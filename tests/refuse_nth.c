@@ -9,12 +9,16 @@
 
 static unsigned long number, first, last;
 
-static int is_refused(void) {
+static void read_numbers(void) {
     if (first == 0) {
         char *end = "", *text = getenv("REFUSED");
         first = text ? strtoul(text, &end, 10) : (unsigned long)-1;
         last = *end == '-' ? (unsigned long)-1 : first;
     }
+}
+
+static int is_refused(void) {
+    read_numbers();
     number += 1;
     if (number < first || number > last) {
         return 0;
@@ -40,5 +44,6 @@ void *realloc(void *old, size_t size) {
 }
 
 __attribute__((destructor)) static void tell(void) {
+    read_numbers();
     dprintf(9, "%s %lu\n", number >= first ? "refused" : "whole", number);
 }
