@@ -8,7 +8,7 @@ target = $(DESTDIR)$(PREFIX)
 help:
 	@echo 'make demo             run cudaplan, unproved, on two calls; a minute from a fresh clone'
 	@echo 'make build            prove and build the programs: crates/cudaplan/out/cudaplan and crates/zigrunk/out/zigrunk'
-	@echo 'make install          install them, zigrunk-nvcc, the man page and completions; PREFIX=/usr/local, DESTDIR='
+	@echo 'make install          install them, zigrunk-nvcc, the man pages and completions; PREFIX=/usr/local, DESTDIR='
 	@echo 'make uninstall        remove what make install installed, with the same PREFIX and DESTDIR'
 	@echo 'make test             the whole gate; the last line is N passed, M failed'
 	@echo 'make must-fail        check that the prover rejects the wrong bodies of all crates, or of CRATES="texts dry_runs"'
@@ -41,7 +41,7 @@ install:
 	install -D -m 755 crates/zigrunk/out/zigrunk "$(target)/bin/zigrunk"
 	install -D -m 755 bin/zigrunk-nvcc "$(target)/bin/zigrunk-nvcc"
 	install -D -m 644 man/zigrunk.1 "$(target)/share/man/man1/zigrunk.1"
-	ln -sf zigrunk.1 "$(target)/share/man/man1/zigrunk-nvcc.1"
+	install -D -m 644 man/zigrunk-nvcc.1 "$(target)/share/man/man1/zigrunk-nvcc.1"
 	ln -sf zigrunk.1 "$(target)/share/man/man1/cudaplan.1"
 	install -D -m 644 completions/zigrunk.bash "$(target)/share/bash-completion/completions/zigrunk"
 	ln -sf zigrunk "$(target)/share/bash-completion/completions/cudaplan"

@@ -28,7 +28,7 @@ _zigrunk_plan() {
 _zigrunk() {
     local current=${COMP_WORDS[COMP_CWORD]} form=${COMP_WORDS[1]-} forms='line plan'
     COMPREPLY=()
-    [ "${1##*/}" = cudaplan ] || forms='shell ninja json calls line plan --help --version'
+    [ "${1##*/}" = cudaplan ] || forms='shell ninja json calls directory line plan --help --version'
     if [ "$COMP_CWORD" -eq 1 ]; then
         _zigrunk_words "$forms"
         return
@@ -40,13 +40,18 @@ _zigrunk() {
     local place=$((COMP_CWORD - 1))
     case $form in
     shell | ninja | json)
-        if [ "${COMP_WORDS[2]}" = --keep ] && [ "$place" -gt 1 ]; then
-            place=$((place - 1))
-        elif [ "$place" -eq 1 ] && [[ $current == -* ]]; then
-            _zigrunk_words --keep
-            return
+        local words=("${COMP_WORDS[@]:2}") options='--keep --whole'
+        if [ "${words[0]}" = --keep ] && [ "$place" -gt 1 ]; then
+            words=("${words[@]:1}") place=$((place - 1)) options=--whole
         fi
-        _zigrunk_plan "$place"
+        if [ "${words[0]}" = --whole ] && [ "$place" -gt 1 ]; then
+            place=$((place - 1)) options=''
+        fi
+        if [ "$place" -eq 1 ] && [[ $current == -* ]]; then
+            _zigrunk_words "$options"
+        else
+            _zigrunk_plan "$place"
+        fi
         ;;
     plan) _zigrunk_plan "$place" ;;
     line)
@@ -56,7 +61,8 @@ _zigrunk() {
         *) _zigrunk_files ;;
         esac
         ;;
-    calls)
+    calls | directory)
+        [ "$form" = calls ] || [ "$place" -eq 1 ] || place=$((place + 1))
         case $place in
         1 | 2) _zigrunk_directories ;;
         3) mapfile -t COMPREPLY < <(compgen -c -- "$current") ;;

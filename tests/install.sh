@@ -37,7 +37,9 @@ prints() {
 
 # VERSION is the one place for the version number; the programs, the man page and the changelog have to agree with it.
 version=$(cat VERSION)
-check 'the version of the man page' grep -qF "\"zigrunk $version\"" man/zigrunk.1
+for page in man/*; do
+    check "the version of $page" grep -qF "\"zigrunk $version\"" "$page"
+done
 check 'the version of the changelog' grep -qF "## [$version]" CHANGELOG.md
 check 'make install' make -s install DESTDIR="$root" PREFIX=/usr
 check 'a second make install proves nothing' make -s install DESTDIR="$root" PREFIX=/usr
@@ -61,7 +63,9 @@ if command -v zsh > /dev/null; then
     check 'the completion for zsh' zsh -n "$root/usr/share/zsh/site-functions/_zigrunk"
 fi
 if command -v man > /dev/null; then
-    check 'the man page' man --warnings -l "$root/usr/share/man/man1/zigrunk-nvcc.1"
+    for page in zigrunk zigrunk-nvcc cudaplan; do
+        check "the man page of $page" man --warnings -l "$root/usr/share/man/man1/$page.1"
+    done
 fi
 if command -v nvcc > /dev/null && command -v ninja > /dev/null; then
     echo '__global__ void none() {}' > k.cu
