@@ -1,0 +1,121 @@
+-- What a line asks nvcc for, item by item, as nvcc reads it.
+use Rattle.std.specs.Prelude.{ℕ, List, [], ◌∷◌, ◌++◌, Bool, if◌then◌else◌, Option, Some, None, fold, codes}
+use Rattle.std.specs.Option.{option_or}
+use Rattle.option_items.specs.Table.{Entry, longest_match}
+use Rattle.option_items.specs.Items.{Item, raw, unknown_flag, flag, with_value, faulty, items}
+use Rattle.nvcc_words.specs.declared.asked.Asked.{Asked}
+use Rattle.nvcc_words.specs.declared.options.Purpose.{Purpose}
+use Rattle.nvcc_words.specs.declared.options.Purpose.TheVariants.{Define, Dependencies, DependencyFile, DependencyPhonies, DependencyTarget, Include, KeepDirectory, Language, OptimizationInfo, Output, OutputDirectory, Passes, Phase, PreInclude, TargetDirectory, Threads, Undefine, Unquoted}
+use Rattle.nvcc_words.specs.declared.reason.Reason.{Reason}
+use Rattle.nvcc_words.specs.declared.reason.Reason.TheVariants.{UnknownOption, MissingValue, BadValue, ShellCharacter}
+use Rattle.nvcc_words.specs.Options.{nvcc_entries}
+use Rattle.nvcc_words.specs.Words.{has_no_operator, is_number, is_joinable, equals_word}
+
+-- a line that asks for nothing
+abbrev pub nothing_asked : Asked
+nothing_asked = record {
+  refusal = None;
+  phases = [];
+  inputs = [];
+  outputs = [];
+  directories = [];
+  languages = [];
+  threads = [];
+  keep_directories = [];
+  dependencies = [];
+  phonies = [];
+  dependency_files = [];
+  dependency_targets = [];
+  kept = [];
+}
+
+-- the words of a flag and of an option with its value in a normal form; phases, inputs and outputs have places of
+-- their own
+abbrev pub flag_words : List ℕ → Purpose → List (List ℕ)
+flag_words text Phase = []
+flag_words text DependencyPhonies = codes "-MP" ∷ []
+flag_words text _ = text ∷ []
+
+abbrev pub option_words : List ℕ → List ℕ → Purpose → List (List ℕ)
+option_words text value Output = []
+option_words text value Define = (codes "-D" ++ value) ∷ []
+option_words text value Undefine = (codes "-U" ++ value) ∷ []
+option_words text value Include = (codes "-I" ++ value) ∷ []
+option_words text value PreInclude = codes "-include" ∷ value ∷ []
+option_words text value OptimizationInfo = (codes "--optimization-info=" ++ value) ∷ []
+option_words text value TargetDirectory = (codes "--target-directory=" ++ value) ∷ []
+option_words text value OutputDirectory = (codes "--output-directory=" ++ value) ∷ []
+option_words text value DependencyFile = codes "-MF" ∷ value ∷ []
+option_words text value DependencyTarget = codes "-MT" ∷ value ∷ []
+option_words text value _ = equals_word text value ∷ []
+
+-- a reason, unless all is well
+abbrev pub reason_unless : Bool → Reason → Option Reason
+reason_unless is_well reason = if is_well then None else Some reason
+
+-- why a flag, and an option with its value, leaves the call to nvcc
+abbrev pub flag_refusal : Purpose → Option Reason
+flag_refusal (Passes reason) = Some reason
+flag_refusal _ = None
+
+abbrev pub value_refusal : List ℕ → Purpose → Option Reason
+value_refusal value (Passes reason) = Some reason
+value_refusal value Unquoted = reason_unless (has_no_operator value) ShellCharacter
+value_refusal value Define = reason_unless (is_joinable value) BadValue
+value_refusal value Undefine = reason_unless (is_joinable value) BadValue
+value_refusal value Include = reason_unless (is_joinable value) BadValue
+value_refusal value Threads = reason_unless (is_number value) BadValue
+value_refusal value _ = None
+
+-- what a flag says, and an option by its value, beside the words that stay of it
+abbrev pub with_flag_note : List ℕ → Purpose → Asked → Asked
+with_flag_note text Phase a = record a { phases = a.phases ++ text ∷ [] }
+with_flag_note text Dependencies a = record a { dependencies = a.dependencies ++ text ∷ [] }
+with_flag_note text DependencyPhonies a = record a { phonies = a.phonies ++ text ∷ [] }
+with_flag_note text _ a = a
+
+abbrev pub with_value_note : List ℕ → Purpose → Asked → Asked
+with_value_note value Output a = record a { outputs = a.outputs ++ value ∷ [] }
+with_value_note value OutputDirectory a = record a { directories = a.directories ++ value ∷ [] }
+with_value_note value Language a = record a { languages = a.languages ++ value ∷ [] }
+with_value_note value Threads a = record a { threads = a.threads ++ value ∷ [] }
+with_value_note value KeepDirectory a = record a { keep_directories = a.keep_directories ++ value ∷ [] }
+with_value_note value DependencyFile a = record a { dependency_files = a.dependency_files ++ value ∷ [] }
+with_value_note value DependencyTarget a = record a { dependency_targets = a.dependency_targets ++ value ∷ [] }
+with_value_note value _ a = a
+
+-- a refusal, unless there was one before
+abbrev pub with_refusal : Option Reason → Asked → Asked
+with_refusal reason a = record a { refusal = option_or a.refusal reason }
+
+-- words that stay
+abbrev pub with_words : List (List ℕ) → Asked → Asked
+with_words words a = record a { kept = a.kept ++ words }
+
+-- a flag, and an option with its value
+abbrev pub with_flag : Asked → List ℕ → Purpose → Asked
+with_flag a text purpose = with_words (flag_words text purpose) (with_refusal (flag_refusal purpose) (with_flag_note text purpose a))
+
+abbrev pub with_option : Asked → List ℕ → List ℕ → Purpose → Asked
+with_option a text value purpose =
+    with_words (option_words text value purpose) (with_refusal (value_refusal value purpose) (with_value_note value purpose a))
+
+-- one more item
+abbrev pub with_item : Asked → Item Purpose → Asked
+with_item a (raw word) = record a { inputs = a.inputs ++ word ∷ [] }
+with_item a (unknown_flag word) = with_refusal (Some UnknownOption) a
+with_item a (flag text purpose) = with_flag a text purpose
+with_item a (with_value text purpose value form) = with_option a text value purpose
+with_item a faulty = with_refusal (Some MissingValue) a
+
+-- the entry that a word chooses
+abbrev pub nvcc_entry : List ℕ → Option (Entry Purpose)
+nvcc_entry word = longest_match nvcc_entries word
+
+-- what words ask for, after what others asked for
+abbrev pub asked_after : Asked → List (List ℕ) → Asked
+asked_after a words = fold with_item a (items nvcc_entry words)
+
+-- what a line asks for
+abbrev pub asked_of : List (List ℕ) → Asked
+asked_of words = asked_after nothing_asked words

@@ -1,0 +1,7 @@
+pub mod Asked
+pub mod Laws
+pub mod NormalForm
+pub mod Options
+pub mod Reasons
+pub mod Verdict
+pub mod Words

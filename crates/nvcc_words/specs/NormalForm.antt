@@ -1,0 +1,163 @@
+-- The normal form of a line: nvcc's reading of it, and the words that say the same in fewer ways.
+use Rattle.std.specs.Prelude.{◌≡◌, ℕ, List, [], ◌∷◌, ◌++◌, Bool, true, false, not, ◌==◌, ◌&&◌, ◌||◌, length, if◌then◌else◌, Option, Some, None, Result, Ok, Err, refl, codes}
+use Rattle.std.specs.List.{list_any, list_all}
+use Rattle.std.specs.Option.{option_or, option_map_or}
+use Rattle.std.specs.Str.{bytes_eq}
+use Rattle.texts.specs.Path.{joined}
+use Rattle.texts.specs.Extension.{last_part, extension_of, with_extension}
+use Rattle.texts.specs.ObjectFlags.{makes_objects}
+use Rattle.texts.specs.Rows.{spaced}
+use Rattle.nvcc_words.specs.declared.asked.Asked.{Asked}
+use Rattle.nvcc_words.specs.declared.call.Call.{Call}
+use Rattle.nvcc_words.specs.declared.reason.Reason.{Reason}
+use Rattle.nvcc_words.specs.declared.reason.Reason.TheVariants.{Links, SeveralPhases, NoInput, SeveralInputs, NotSource, HostSource, StandardOutput, HiddenName, Repeated, DependencyWords, ShellCharacter}
+use Rattle.nvcc_words.specs.Words.{is_unexpanded}
+use Rattle.nvcc_words.specs.Asked.{asked_of, reason_unless}
+
+-- the first of some texts, and the empty text if there is none
+abbrev pub first_of : List (List ℕ) → List ℕ
+first_of [] = []
+first_of (t ∷ ts) = t
+
+-- whether texts differ
+abbrev pub differ : List (List ℕ) → Bool
+differ [] = false
+differ (t ∷ ts) = not (list_all (bytes_eq t) ts)
+
+abbrev pub are_several : List (List ℕ) → Bool
+are_several [] = false
+are_several (t ∷ []) = false
+are_several (t ∷ u ∷ ts) = true
+
+abbrev pub are_given : List (List ℕ) → Bool
+are_given [] = false
+are_given (t ∷ ts) = true
+
+-- whether the file name of a path is empty or begins with `.`: nvcc names what it makes of such a source, and the
+-- dependency file of such an output, in a way of its own
+abbrev pub begins_with_dot : List ℕ → Bool
+begins_with_dot [] = true
+begins_with_dot (c ∷ cs) = c == 46
+
+abbrev pub is_hidden : List ℕ → Bool
+is_hidden path = begins_with_dot (last_part path)
+
+-- the phase and the input
+abbrev pub phase_of : Asked → List ℕ
+phase_of a = first_of a.phases
+
+abbrev pub input_of : Asked → List ℕ
+input_of a = first_of a.inputs
+
+-- whether nvcc compiles an input as CUDA, and whether as C or C++: by the language that is named, else by the extension
+abbrev pub is_among : List (List ℕ) → List ℕ → Bool
+is_among texts text = list_any (bytes_eq text) texts
+
+abbrev pub is_host_extension : List ℕ → Bool
+is_host_extension = is_among (spaced "c cc cpp cxx")
+
+abbrev pub is_cuda : Asked → Bool
+is_cuda a =
+    if are_given a.languages then bytes_eq (first_of a.languages) (codes "cu")
+    else option_map_or (λ e. bytes_eq e (codes "cu")) (extension_of (input_of a)) false
+
+abbrev pub is_host : Asked → Bool
+is_host a =
+    if are_given a.languages then is_among (spaced "c c++") (first_of a.languages)
+    else option_map_or is_host_extension (extension_of (input_of a)) false
+
+-- the extension that nvcc gives to what a phase makes
+abbrev pub extension_of_phase : List ℕ → List ℕ
+extension_of_phase flag =
+    if makes_objects flag then codes "o"
+    else if is_among (spaced "-ptx --ptx") flag then codes "ptx"
+    else if is_among (spaced "-cubin --cubin") flag then codes "cubin"
+    else if is_among (spaced "-fatbin --fatbin") flag then codes "fatbin"
+    else codes "optixir"
+
+-- the output. One without a name has the input's file name with the phase's extension, in
+-- the folder for outputs or the working directory
+abbrev pub default_output : List ℕ → List ℕ → List ℕ → List ℕ
+default_output directory input flag = joined directory (with_extension (last_part input) (extension_of_phase flag))
+
+abbrev pub output_of : Asked → List ℕ
+output_of a = if are_given a.outputs then first_of a.outputs else default_output (first_of a.directories) (input_of a) (phase_of a)
+
+-- examples: the default outputs
+pub object_of_a_source : default_output [] (codes "sub/k.x.cu") (codes "-dc") ≡ codes "k.x.o"
+object_of_a_source = refl
+
+pub ptx_in_a_folder : default_output (codes "od") (codes "k.cu") (codes "-ptx") ≡ codes "od/k.ptx"
+ptx_in_a_folder = refl
+
+-- whether an option is given twice whose last value alone counts, and whose words don't reach nvcc again
+abbrev pub has_repeated : Asked → Bool
+has_repeated a =
+    are_several a.outputs || are_several a.directories || are_several a.languages || are_several a.threads
+    || are_several a.keep_directories || are_several a.dependency_files || are_several a.dependency_targets
+
+-- whether the output is no file: `-` or the empty text
+abbrev pub is_no_file : List ℕ → Bool
+is_no_file output = (length output == 0) || bytes_eq output (codes "-")
+
+-- whether a dependency file is asked for in a usual way: by one flag, with a name or a plain one beside the object, for
+-- the object
+abbrev pub names_usual_file : Asked → Bool
+names_usual_file a =
+    if are_given a.outputs then are_given a.dependency_files || not (is_hidden (first_of a.outputs)) else makes_objects (phase_of a)
+
+abbrev pub is_usual : Asked → Bool
+is_usual a = not (differ a.dependencies) && not (are_given a.directories) && names_usual_file a
+
+abbrev pub has_usual_dependencies : Asked → Bool
+has_usual_dependencies a =
+    if are_given a.dependencies then is_usual a
+    else not (are_given a.dependency_files) && not (are_given a.dependency_targets) && not (are_given a.phonies)
+
+-- why a line's call is left to nvcc, in order: what an item says; phases; inputs; options given twice; the input's
+-- language; the output; the dependency file
+abbrev pub phase_reason : Asked → Option Reason
+phase_reason a = option_or (reason_unless (are_given a.phases) Links) (reason_unless (not (differ a.phases)) SeveralPhases)
+
+abbrev pub input_reason : Asked → Option Reason
+input_reason a = option_or (reason_unless (are_given a.inputs) NoInput) (reason_unless (not (are_several a.inputs)) SeveralInputs)
+
+abbrev pub language_reason : Asked → Option Reason
+language_reason a =
+    if is_cuda a then None
+    else if is_host a then reason_unless (makes_objects (phase_of a)) HostSource
+    else Some NotSource
+
+abbrev pub output_reason : Asked → Option Reason
+output_reason a =
+    if are_given a.outputs then reason_unless (not (is_no_file (first_of a.outputs))) StandardOutput
+    else reason_unless (not (is_hidden (input_of a))) HiddenName
+
+abbrev pub reason_of : Asked → Option Reason
+reason_of a =
+    option_or a.refusal
+    (option_or (phase_reason a)
+    (option_or (input_reason a)
+    (option_or (reason_unless (not (has_repeated a)) Repeated)
+    (option_or (language_reason a)
+    (option_or (output_reason a)
+    (reason_unless (has_usual_dependencies a) DependencyWords))))))
+
+-- nvcc's reading of a line, with the line's normal form: the phase, `-o` and the output, the other options in their
+-- order, and the input
+abbrev pub normal_words : Asked → List ℕ → List (List ℕ)
+normal_words a output = (phase_of a ∷ codes "-o" ∷ output ∷ a.kept) ++ input_of a ∷ []
+
+abbrev pub call_of : Asked → Call
+call_of a = record { flag = phase_of a; input = input_of a; output = output_of a; words = normal_words a (output_of a) }
+
+abbrev pub unless_refused : Option Reason → Call → Result Call Reason
+unless_refused None call = Ok call
+unless_refused (Some reason) call = Err reason
+
+abbrev pub settled : Asked → Result Call Reason
+settled a = unless_refused (reason_of a) (call_of a)
+
+-- nvcc's reading of a line, or why its call is left to nvcc
+abbrev pub nvcc_call : List (List ℕ) → Result Call Reason
+nvcc_call words = if list_all is_unexpanded words then settled (asked_of words) else Err ShellCharacter

@@ -1,0 +1,283 @@
+//! What a line asks nvcc for, item by item.
+
+ghost use Rattle.std.specs.Prelude.{◌≡◌, ◌++◌, ◌∷◌, [], OnOk, IfOk, map, string_bytes};
+ghost use Rattle.std.specs.Option.{option_copied};
+ghost use Rattle.option_items.specs.Views.{item_seen, item_viewed};
+ghost use Rattle.nvcc_words.specs.Asked as spec;
+
+use crate::options::{Purpose, table};
+use crate::reason::Reason;
+use crate::word_tests::{equals_word, has_no_operator, is_joinable, is_number};
+use option_items::items::{ArgParseError, Line};
+use option_items::table::SearchableArgInfo;
+use option_items::views::{ArgumentView, view_item};
+use std::alloc::{AllocError, Global};
+use texts::words::Words;
+
+/// What the items of a line ask nvcc for. Each list has texts in the line's order.
+#[derive(Drop)]
+pub struct Asked {
+    /// Why an item leaves the call to nvcc: that of the first such item.
+    pub refusal: Option<Reason>,
+    /// The flags that name phases.
+    pub phases: Words,
+    /// The words that are no options.
+    pub inputs: Words,
+    /// The values of `-o`.
+    pub outputs: Words,
+    /// The values of `-odir`.
+    pub directories: Words,
+    /// The values of `-x`.
+    pub languages: Words,
+    /// The values of `-t`.
+    pub threads: Words,
+    /// The values of `-keep-dir`.
+    pub keep_directories: Words,
+    /// The flags `-MD` and `-MMD`.
+    pub dependencies: Words,
+    /// The flags `-MP`.
+    pub phonies: Words,
+    /// The values of `-MF`.
+    pub dependency_files: Words,
+    /// The values of `-MT`.
+    pub dependency_targets: Words,
+    /// The words of all options but phases and outputs, in a normal form.
+    pub kept: Words,
+}
+
+// Adds a word that is two texts.
+fn push_joined(
+    alloc: Global,
+    words: &mut Words,
+    first: &str,
+    second: &str,
+) -> Result<(), AllocError>
+    ensures { OnOk result (words.new ≡ words.old ++ (first.now ++ second.now) ∷ []) }
+{
+    let mut word = String::from_str(alloc, first)?;
+    word.push_str(second)?;
+    words.push(word)
+}
+
+// Adds the words that stay of a flag.
+fn push_flag(
+    alloc: Global,
+    words: &mut Words,
+    text: &str,
+    purpose: Purpose,
+) -> Result<(), AllocError>
+    ensures { OnOk result (words.new ≡ words.old ++ spec.flag_words text.now purpose) }
+{
+    match purpose {
+        Purpose::Phase => Ok(()),
+        Purpose::DependencyPhonies => words.push_str(alloc, "-MP"),
+        _ => words.push_str(alloc, text),
+    }
+}
+
+// Adds the words that stay of an option with its value.
+fn push_option(
+    alloc: Global,
+    words: &mut Words,
+    text: &str,
+    value: &str,
+    purpose: Purpose,
+) -> Result<(), AllocError>
+    ensures { OnOk result (words.new ≡ words.old ++ spec.option_words text.now value.now purpose) }
+{
+    match purpose {
+        Purpose::Output => Ok(()),
+        Purpose::Define => push_joined(alloc, words, "-D", value),
+        Purpose::Undefine => push_joined(alloc, words, "-U", value),
+        Purpose::Include => push_joined(alloc, words, "-I", value),
+        Purpose::PreInclude => words.push_pair(alloc, "-include", value),
+        Purpose::OptimizationInfo => push_joined(alloc, words, "--optimization-info=", value),
+        Purpose::TargetDirectory => push_joined(alloc, words, "--target-directory=", value),
+        Purpose::OutputDirectory => push_joined(alloc, words, "--output-directory=", value),
+        Purpose::DependencyFile => words.push_pair(alloc, "-MF", value),
+        Purpose::DependencyTarget => words.push_pair(alloc, "-MT", value),
+        _ => words.push(equals_word(alloc, text, value)?),
+    }
+}
+
+// Why a flag leaves the call to nvcc.
+fn flag_refusal(purpose: Purpose) -> Option<Reason>
+    ensures { result ≡ spec.flag_refusal purpose }
+{
+    match purpose {
+        Purpose::Passes(reason) => Some(reason),
+        _ => None,
+    }
+}
+
+// A reason, unless all is well.
+fn reason_unless(is_well: bool, reason: Reason) -> Option<Reason>
+    ensures { result ≡ spec.reason_unless is_well reason }
+{
+    if is_well { None } else { Some(reason) }
+}
+
+// Why an option with this value leaves the call to nvcc.
+fn value_refusal(value: &str, purpose: Purpose) -> Option<Reason>
+    ensures { result ≡ spec.value_refusal value.now purpose }
+{
+    match purpose {
+        Purpose::Passes(reason) => Some(reason),
+        Purpose::Unquoted => reason_unless(has_no_operator(value), Reason::ShellCharacter),
+        Purpose::Define | Purpose::Undefine | Purpose::Include => reason_unless(
+            is_joinable(value),
+            Reason::BadValue,
+        ),
+        Purpose::Threads => reason_unless(is_number(value), Reason::BadValue),
+        _ => None,
+    }
+}
+
+impl Asked {
+    ghost use Rattle.std.specs.Prelude.{None};
+
+    // Nothing is asked for.
+    fn new(alloc: Global) -> Asked
+        ensures { result ≡ spec.nothing_asked }
+    {
+        Asked {
+            refusal: None,
+            phases: Words::new(alloc),
+            inputs: Words::new(alloc),
+            outputs: Words::new(alloc),
+            directories: Words::new(alloc),
+            languages: Words::new(alloc),
+            threads: Words::new(alloc),
+            keep_directories: Words::new(alloc),
+            dependencies: Words::new(alloc),
+            phonies: Words::new(alloc),
+            dependency_files: Words::new(alloc),
+            dependency_targets: Words::new(alloc),
+            kept: Words::new(alloc),
+        }
+    }
+
+    // Notes why the call is left to nvcc, unless an earlier item says so.
+    fn refuse(&mut self, reason: Option<Reason>)
+        ensures { self.new ≡ spec.with_refusal reason self.old }
+    {
+        if self.refusal.is_none() {
+            self.refusal = reason;
+        }
+    }
+
+    // Notes what a flag says.
+    fn note_flag(&mut self, alloc: Global, text: &str, purpose: Purpose) -> Result<(), AllocError>
+        ensures { OnOk result (self.new ≡ spec.with_flag_note text.now purpose self.old) }
+    {
+        match purpose {
+            Purpose::Phase => self.phases.push_str(alloc, text),
+            Purpose::Dependencies => self.dependencies.push_str(alloc, text),
+            Purpose::DependencyPhonies => self.phonies.push_str(alloc, text),
+            _ => Ok(()),
+        }
+    }
+
+    // Notes what an option says by its value.
+    fn note_value(&mut self, alloc: Global, value: &str, purpose: Purpose) -> Result<(), AllocError>
+        ensures { OnOk result (self.new ≡ spec.with_value_note value.now purpose self.old) }
+    {
+        match purpose {
+            Purpose::Output => self.outputs.push_str(alloc, value),
+            Purpose::OutputDirectory => self.directories.push_str(alloc, value),
+            Purpose::Language => self.languages.push_str(alloc, value),
+            Purpose::Threads => self.threads.push_str(alloc, value),
+            Purpose::KeepDirectory => self.keep_directories.push_str(alloc, value),
+            Purpose::DependencyFile => self.dependency_files.push_str(alloc, value),
+            Purpose::DependencyTarget => self.dependency_targets.push_str(alloc, value),
+            _ => Ok(()),
+        }
+    }
+
+    // Takes a flag.
+    fn take_flag(&mut self, alloc: Global, text: &str, purpose: Purpose) -> Result<(), AllocError>
+        ensures { OnOk result (self.new ≡ spec.with_flag self.old text.now purpose) }
+    {
+        self.note_flag(alloc, text, purpose)?;
+        self.refuse(flag_refusal(purpose));
+        push_flag(alloc, &mut self.kept, text, purpose)
+    }
+
+    // Takes an option with its value.
+    fn take_option(
+        &mut self,
+        alloc: Global,
+        text: &str,
+        value: &str,
+        purpose: Purpose,
+    ) -> Result<(), AllocError>
+        ensures { OnOk result (self.new ≡ spec.with_option self.old text.now value.now purpose) }
+    {
+        self.note_value(alloc, value, purpose)?;
+        self.refuse(value_refusal(value, purpose));
+        push_option(alloc, &mut self.kept, text, value, purpose)
+    }
+
+    // Takes an item.
+    fn take(&mut self, alloc: Global, item: ArgumentView<'_, Purpose>) -> Result<(), AllocError>
+        ensures { OnOk result (self.new ≡ spec.with_item self.old (item_seen item.entry)) }
+    {
+        match item {
+            ArgumentView::Raw(word) => self.inputs.push_str(alloc, word),
+            ArgumentView::UnknownFlag(_) => {
+                self.refuse(Some(Reason::UnknownOption));
+                Ok(())
+            }
+            ArgumentView::Flag(text, purpose) => self.take_flag(alloc, text, purpose),
+            ArgumentView::WithValue(text, purpose, value, _) => {
+                self.take_option(alloc, text, value, purpose)
+            }
+        }
+    }
+
+    // Takes what a word says.
+    fn take_read(
+        &mut self,
+        alloc: Global,
+        read: Result<ArgumentView<'_, Purpose>, ArgParseError>,
+    ) -> Result<(), AllocError>
+        ensures { OnOk result (self.new ≡ spec.with_item self.old (item_viewed read.entry)) }
+    {
+        match read {
+            Ok(item) => self.take(alloc, item),
+            Err(_) => {
+                self.refuse(Some(Reason::MissingValue));
+                Ok(())
+            }
+        }
+    }
+
+    // Takes the items of a line.
+    fn take_line(&mut self, alloc: Global, words: &[String]) -> Result<(), AllocError>
+        ensures { OnOk result (self.new ≡ spec.asked_after self.old (map string_bytes words.now)) }
+    {
+        let options = table();
+        let mut line = Line::new(words);
+        while let Some(word) = line.next_word() {
+            let row = options.search(word);
+            let read = view_item(row, word, &mut line);
+            self.take_read(alloc, read)?;
+        }
+        Ok(())
+    }
+
+    /// What a line asks for.
+    pub fn of(alloc: Global, words: &[String]) -> Result<Asked, AllocError>
+        ensures { IfOk result (λ a. a ≡ spec.asked_of (map string_bytes words.now)) }
+    {
+        let mut asked = Asked::new(alloc);
+        match asked.take_line(alloc, words) {
+            Ok(()) => Ok(asked),
+            Err(refused) => {
+                // Dropped by a call: see "Explicit drops" in docs/ARCHITECTURE.md.
+                drop(asked);
+                Err(refused)
+            }
+        }
+    }
+}

@@ -1,0 +1,20 @@
+//! nvcc's own reading of its command line, and a normal form of it that the reader of `cuda_plans` reads as nvcc does.
+//!
+//! That reader takes a line apart as sccache 0.19.0 does, which isn't always as nvcc does: it takes `-odir=x` for an output,
+//! `-split-compile 4` for an option and an input. So a caller that has to do what nvcc does calls `normalize` first, and
+//! hands the words of the normal form to that reader. A call that has no such form goes to nvcc unchanged.
+#![tactic(auto)]
+
+mod asked;
+mod call;
+pub mod laws;
+mod options;
+mod reason;
+mod settling;
+mod verdict;
+mod word_tests;
+
+pub use call::Call;
+pub use options::{ARGS, Purpose, table};
+pub use reason::Reason;
+pub use verdict::{Verdict, normalize};

@@ -1,0 +1,159 @@
+//! The verdict on a line: its normal form, or why the call goes to nvcc unchanged.
+
+ghost use Rattle.std.specs.Prelude.{◌≡◌, ◌&&◌, [], map, IfOk, string_bytes};
+ghost use Rattle.texts.specs.Variables.{pair_of};
+ghost use Rattle.compilers.specs.Compiler.{reading_of};
+ghost use Rattle.nvcc_words.specs.NormalForm.{nvcc_call};
+ghost use Rattle.nvcc_words.specs.Verdict as spec;
+
+use crate::asked::Asked;
+use crate::call::Call;
+use crate::reason::Reason;
+use crate::word_tests::{are_unexpanded, is_cut_at_spaces};
+use compilers::arguments::{CompilerArguments, ParsedArguments};
+use compilers::compiler::CCompilerKind;
+use cuda_below::gcc;
+use host_lines::nvcc;
+use host_lines::nvcc::whole_line;
+use option_items::table::Pair;
+use std::alloc::{AllocError, Global};
+use texts::variables::first_value;
+
+/// What becomes of a call.
+#[derive(Drop)]
+pub enum Verdict {
+    /// The call compiles one source, and sccache's reader reads its normal form as nvcc reads the line.
+    Split(Call),
+    /// The call goes to nvcc unchanged.
+    Pass(Reason),
+}
+
+// What sccache's reader answers to words.
+fn read_by_sccache(
+    alloc: Global,
+    words: &[String],
+) -> Result<CompilerArguments<ParsedArguments>, AllocError>
+    ensures { IfOk result (λ r. reading_of r ≡ spec.sccache_reading [] (map string_bytes words.now)) }
+{
+    let tables = Pair {
+        first: gcc::table(),
+        second: nvcc::table(),
+    };
+    gcc::parse_arguments(alloc, words, "", tables, false, CCompilerKind::Nvcc)
+}
+
+// nvcc's reading of a line, or why its call is left to nvcc.
+fn read_by_nvcc(alloc: Global, words: &[String]) -> Result<Result<Call, Reason>, AllocError>
+    ensures { IfOk result (λ r. r ≡ nvcc_call (map string_bytes words.now)) }
+{
+    if !are_unexpanded(words) {
+        return Ok(Err(Reason::ShellCharacter));
+    }
+    let asked = Asked::of(alloc, words)?;
+    let settled = asked.settle(alloc);
+    // Dropped by a call: see "Explicit drops" in docs/ARCHITECTURE.md.
+    drop(asked);
+    settled
+}
+
+// Whether the output of arguments is a file of this path.
+fn makes(parsed: &ParsedArguments, path: &str) -> bool
+    ensures { result ≡ spec.makes parsed.now path.now }
+{
+    match parsed.outputs.get("obj") {
+        Some(file) => file.path.as_str() == path,
+        None => false,
+    }
+}
+
+// Whether sccache's reader read a call as nvcc does.
+fn agrees(reading: &CompilerArguments<ParsedArguments>, call: &Call) -> bool
+    ensures { result ≡ spec.agrees (reading_of reading.now) call.now }
+{
+    match reading {
+        CompilerArguments::Ok(parsed) => {
+            parsed.input == call.input
+                && parsed.compilation_flag == call.flag
+                && makes(parsed, call.output.as_str())
+        }
+        _ => false,
+    }
+}
+
+// Whether sccache's reader reads a call's words as nvcc does.
+fn is_read_alike(alloc: Global, call: &Call) -> Result<bool, AllocError>
+    ensures { IfOk result (λ b. b ≡ spec.agrees (spec.sccache_reading [] call.now.words) call.now) }
+{
+    let reading = read_by_sccache(alloc, call.words.as_slice())?;
+    let is_alike = agrees(&reading, call);
+    drop(reading);
+    Ok(is_alike)
+}
+
+// Whether nvcc reads a call's words as the call again.
+fn is_read_back(alloc: Global, call: &Call) -> Result<bool, AllocError>
+    ensures { IfOk result (λ b. b ≡ spec.is_call (nvcc_call call.now.words) call.now) }
+{
+    match read_by_nvcc(alloc, call.words.as_slice())? {
+        Ok(again) => Ok(again.is_same(call)),
+        Err(_) => Ok(false),
+    }
+}
+
+// Whether a call's words are a normal form.
+fn is_normal(alloc: Global, call: &Call) -> Result<bool, AllocError>
+    ensures { IfOk result (λ b. b ≡ spec.is_normal call.now) }
+{
+    let is_read_back = is_read_back(alloc, call)?;
+    let is_read_alike = is_read_alike(alloc, call)?;
+    Ok(is_read_back && is_read_alike)
+}
+
+// The verdict on a line that was read.
+fn judge(alloc: Global, read: Result<Call, Reason>) -> Result<Verdict, AllocError>
+    ensures { IfOk result (λ v. v ≡ spec.judged read) }
+{
+    match read {
+        Ok(call) => {
+            if is_normal(alloc, &call)? {
+                Ok(Verdict::Split(call))
+            } else {
+                Ok(Verdict::Pass(Reason::OtherReading))
+            }
+        }
+        Err(reason) => Ok(Verdict::Pass(reason)),
+    }
+}
+
+// Whether nvcc cuts the value of the first variable of a name as a shell does.
+fn is_plain(variables: &[(String, String)], name: &str) -> bool
+    ensures { result ≡ spec.is_plain name.now (map pair_of variables.now) }
+{
+    match first_value(variables, name) {
+        Some(value) => is_cut_at_spaces(value),
+        None => true,
+    }
+}
+
+/// The verdict on the words of an nvcc line, without the compiler's name, in an environment.
+///
+/// nvcc reads the words of `NVCC_PREPEND_FLAGS` before the line's, and those of `NVCC_APPEND_FLAGS` after them, and so does
+/// this. It cuts their values at spaces, and a value in which nvcc may see more than that leaves the call to nvcc.
+///
+/// `Pass` has the first reason that holds, looked for in this order: the variables' quotes; a character that nvcc's shell
+/// may expand; what an option says, in the line's order; the phase; the inputs; an option given twice; the input's
+/// language; the output; the dependency file; and at last that sccache's reader reads the normal form otherwise.
+pub fn normalize(
+    alloc: Global,
+    words: &[String],
+    variables: &[(String, String)],
+) -> Result<Verdict, AllocError>
+    ensures { IfOk result (λ v. v ≡ spec.verdict (map string_bytes words.now) (map pair_of variables.now)) }
+{
+    if !is_plain(variables, "NVCC_PREPEND_FLAGS") || !is_plain(variables, "NVCC_APPEND_FLAGS") {
+        return Ok(Verdict::Pass(Reason::VariableQuotes));
+    }
+    let line = whole_line(alloc, words, variables)?;
+    let read = read_by_nvcc(alloc, line.as_slice())?;
+    judge(alloc, read)
+}

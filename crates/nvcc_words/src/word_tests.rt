@@ -1,0 +1,148 @@
+//! Tests of words, and an option with its value in one word.
+
+ghost use Rattle.std.specs.Prelude.{◌≡◌, ◌∷◌, [], map, IfOk, string_bytes};
+ghost use Rattle.std.specs.List.{list_all};
+ghost use Rattle.nvcc_words.specs.Words as spec;
+
+use std::alloc::{AllocError, Global};
+
+// Whether nvcc's shell leaves a byte as it is in double quotes.
+fn is_left(byte: u8) -> bool
+    ensures { result ≡ spec.is_left byte }
+{
+    b' ' <= byte && byte != b'$' && byte != b'`' && byte != 127
+}
+
+fn is_unexpanded(word: &[u8]) -> bool
+    ensures { result ≡ spec.is_unexpanded word.now }
+{
+    word.iter().all(|byte| is_left(*byte))
+}
+
+/// Whether nvcc's shell reads no character of these words as its own inside double quotes: `$`, a backtick or a control
+/// character.
+pub fn are_unexpanded(words: &[String]) -> bool
+    ensures { result ≡ list_all spec.is_unexpanded (map string_bytes words.now) }
+{
+    for word in words {
+        if !is_unexpanded(word.as_str().as_bytes()) {
+            return false;
+        }
+    }
+    true
+}
+
+// Whether a shell leaves a byte as it is outside quotes.
+fn is_plain_byte(byte: u8) -> bool
+    ensures { result ≡ spec.is_plain_byte byte }
+{
+    !matches!(
+        byte,
+        b'!' | b'#'
+            | b'&'
+            | b'('
+            | b')'
+            | b'*'
+            | b';'
+            | b'<'
+            | b'>'
+            | b'?'
+            | b'['
+            | b']'
+            | b'{'
+            | b'|'
+            | b'}'
+            | b'~'
+    )
+}
+
+fn are_plain(bytes: &[u8]) -> bool
+    ensures { result ≡ spec.has_no_operator bytes.now }
+{
+    bytes.iter().all(|byte| is_plain_byte(*byte))
+}
+
+/// Whether a shell reads no character of a value as its own outside quotes.
+pub fn has_no_operator(value: &str) -> bool
+    ensures { result ≡ spec.has_no_operator value.now }
+{
+    are_plain(value.as_bytes())
+}
+
+// Whether nvcc cuts a variable's value at a byte as a shell does.
+fn is_cut_alike(byte: u8) -> bool
+    ensures { result ≡ spec.is_cut_alike byte }
+{
+    b' ' <= byte && byte != b'"' && byte != b'#' && byte != b'\'' && byte != b'\\' && byte != 127
+}
+
+fn are_cut_alike(bytes: &[u8]) -> bool
+    ensures { result ≡ spec.is_cut_at_spaces bytes.now }
+{
+    bytes.iter().all(|byte| is_cut_alike(*byte))
+}
+
+/// Whether nvcc cuts a variable's value at its spaces alone, as a shell does.
+pub fn is_cut_at_spaces(value: &str) -> bool
+    ensures { result ≡ spec.is_cut_at_spaces value.now }
+{
+    are_cut_alike(value.as_bytes())
+}
+
+fn is_digit(byte: u8) -> bool
+    ensures { result ≡ spec.is_digit byte }
+{
+    b'0' <= byte && byte <= b'9'
+}
+
+fn are_digits(bytes: &[u8]) -> bool
+    ensures { result ≡ list_all spec.is_digit bytes.now }
+{
+    bytes.iter().all(|byte| is_digit(*byte))
+}
+
+/// Whether a text is a number that nvcc and sccache's reader take alike: one to nine digits, without a leading 0.
+pub fn is_number(text: &str) -> bool
+    ensures { result ≡ spec.is_number text.now }
+{
+    match text.as_bytes() {
+        [] => false,
+        [first, others @ ..] => {
+            is_digit(*first)
+                && are_digits(others)
+                && others.len() < 9
+                && (*first != b'0' || others.is_empty())
+        }
+    }
+}
+
+/// Whether a value may be right behind `-D`.
+pub fn is_joinable(value: &str) -> bool
+    ensures { result ≡ spec.is_joinable value.now }
+{
+    match value.as_bytes() {
+        [] => false,
+        [first, ..] => *first != b'=',
+    }
+}
+
+// What is between an option and a value in its word.
+fn delimiter(text: &str) -> &'static str
+    ensures { result.now ≡ spec.delimiter_of text.now }
+{
+    if text.as_bytes().ends_with(b"=") {
+        ""
+    } else {
+        "="
+    }
+}
+
+/// An option and its value in one word: with `=` between them, unless the option's text ends in one.
+pub fn equals_word(alloc: Global, text: &str, value: &str) -> Result<String, AllocError>
+    ensures { IfOk result (λ word. string_bytes word ≡ spec.equals_word text.now value.now) }
+{
+    let mut word = String::from_str(alloc, text)?;
+    word.push_str(delimiter(text))?;
+    word.push_str(value)?;
+    Ok(word)
+}
