@@ -83,9 +83,13 @@ text_call name words =
     if bytes_eq name (codes "line") then option_map rewrites (line_call_of words) else
     if bytes_eq name (codes "plan") then option_map plans (plan_call_of words) else other_call name words
 
+-- the calls of an nvcc line, and all others, by their names
+abbrev pub named_call : List ℕ → List (List ℕ) → Option CallOf
+named_call name words =
+    if bytes_eq name (codes "calls") then option_map reads (nvcc_call_of words) else
+    if bytes_eq name (codes "directory") then option_map names (directory_call_of words) else text_call name words
+
 -- the call that the words after the program's name are
 abbrev pub call_of : List (List ℕ) → Option CallOf
 call_of [] = None
-call_of (verb ∷ words) =
-    if bytes_eq verb (codes "calls") then option_map reads (nvcc_call_of words) else
-    if bytes_eq verb (codes "directory") then option_map names (directory_call_of words) else text_call verb words
+call_of (verb ∷ words) = named_call verb words

@@ -149,6 +149,17 @@ fn text_call<'a>(name: &str, words: &'a [String]) -> Option<Call<'a>>
     }
 }
 
+// Parses the calls of an nvcc line, and all others.
+fn named_call<'a>(name: &str, words: &'a [String]) -> Option<Call<'a>>
+    ensures { option_map spec.seen result ≡ spec.named_call name.now (map string_bytes words.now) }
+{
+    match name {
+        "calls" => Some(Call::Nvcc(nvcc_call(words)?)),
+        "directory" => Some(Call::Directory(directory_call(words)?)),
+        _ => text_call(name, words),
+    }
+}
+
 /// Parses the words after the program's name:
 ///
 /// - `shell|ninja|json [--keep] [--whole] CWD TMP FLAG DRY1 DRY2 SUFFIX..`, with `--keep` if generated files keep nvcc's
@@ -163,9 +174,5 @@ pub fn call_of<'a>(words: &'a [String]) -> Option<Call<'a>>
     let [verb, rest @ ..] = words else {
         return None;
     };
-    match verb.as_str() {
-        "calls" => Some(Call::Nvcc(nvcc_call(rest)?)),
-        "directory" => Some(Call::Directory(directory_call(rest)?)),
-        name => text_call(name, rest),
-    }
+    named_call(verb.as_str(), rest)
 }
