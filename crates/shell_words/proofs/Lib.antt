@@ -1,3 +1,4 @@
+pub mod PosixLemmas
 pub mod ShellCompleteLemmas
 pub mod ShellLawLemmas
 pub mod ShellQuotingLemmas

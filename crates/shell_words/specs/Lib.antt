@@ -1,1 +1,3 @@
+pub mod Posix
+pub mod PosixExamples
 pub mod Shell

@@ -1,0 +1,155 @@
+-- Quoted words are read back by a POSIX shell.
+use Rattle.std.proofs.Common.{ℕ, List, [], ◌∷◌, ◌++◌, ◌≡◌, refl, sym, ap, ◌∙◌, append-nil, append_assoc, map, Option, Some, None, Bool, true, false, ◌==◌, ◌||◌, ◌&&◌, arith, ⊎_elim}
+use Rattle.std.specs.List.{list_all, flat_map}
+use Rattle.std.specs.Option.{option_map, option_and_then}
+use Rattle.std.proofs.lemmas.Bool.{cond_both, cond-false, cond-true, and_parts, or_cases, eqb-true}
+use Rattle.std.proofs.lemmas.Bool.Decides.{nat_tests}
+use Rattle.shell_words.specs.Shell.{newline, hash, backslash, single_quote, double_quote}
+use Rattle.shell_words.specs.Posix.{Token, Word, Role, Blank, Lone, Opening, Backslash, SingleQuote, DoubleQuote, Acting, Leading, Equals, Plain, role_of, is_opening, is_expanding, is_pattern_or_redirection, Place, Between, Inside, Escaped, SingleQuoted, Step, between, inside, step, after_token, with_step, tokens_from, tokens, is_apart, ends_a_word, words_of, is_program, as_command, command}
+use Rattle.shell_words.specs.Shell.Quoting.{is_safe, is_plain, quoted_char, quoted_word, further, quoted}
+
+-- the tokens after one more character in front
+reading : (place : Place) (c : ℕ) (cs : List ℕ) (s : Step) (ts : List Token) → step place c ≡ Some s → tokens_from s.0 cs ≡ Some ts → tokens_from place (c ∷ cs) ≡ Some (with_step s ts)
+reading place c cs s ts read found =
+    ap (λ (o : Option Step). option_and_then (λ s. option_map (with_step s) (tokens_from s.0 cs)) o) read
+    ∙ ap (λ (o : Option (List Token)). option_map (with_step s) o) found
+
+-- ---- a word in quotes
+
+quoted_char_reads : (c : ℕ) (rest word : List ℕ) (ts : List Token) → tokens_from (SingleQuoted false) rest ≡ Some (Word word ∷ ts) → tokens_from (SingleQuoted false) (quoted_char c ++ rest) ≡ Some (Word (c ∷ word) ∷ ts)
+quoted_char_reads c rest word ts found =
+    cond_both (c == single_quote) (single_quote ∷ backslash ∷ single_quote ∷ single_quote ∷ []) (c ∷ [])
+    (λ written. tokens_from (SingleQuoted false) (written ++ rest) ≡ Some (Word (c ∷ word) ∷ ts))
+    (λ is.
+    let opened = reading (Inside false) single_quote rest (SingleQuoted false, [], []) (Word word ∷ ts) refl found in
+    let after_backslash = reading (Escaped false) single_quote (single_quote ∷ rest) (Inside false, [], single_quote ∷ []) (Word word ∷ ts) refl opened in
+    let closed = reading (Inside false) backslash (single_quote ∷ single_quote ∷ rest) (Escaped false, [], []) (Word (single_quote ∷ word) ∷ ts) refl after_backslash in
+    reading (SingleQuoted false) single_quote (backslash ∷ single_quote ∷ single_quote ∷ rest) (Inside false, [], []) (Word (single_quote ∷ word) ∷ ts) refl closed
+    ∙ ap (λ x. Some (Word (x ∷ word) ∷ ts)) (sym (eqb-true c single_quote is)))
+    (λ is_not. reading (SingleQuoted false) c rest (SingleQuoted false, [], c ∷ []) (Word word ∷ ts) (cond-false _ _ _ is_not) found)
+
+quoted_chars_read : (word rest : List ℕ) (ts : List Token) → tokens_from (Inside false) rest ≡ Some (Word [] ∷ ts) → tokens_from (SingleQuoted false) (flat_map quoted_char word ++ single_quote ∷ rest) ≡ Some (Word word ∷ ts)
+quoted_chars_read [] rest ts found = reading (SingleQuoted false) single_quote rest (Inside false, [], []) (Word [] ∷ ts) refl found
+quoted_chars_read (c ∷ word) rest ts found =
+    ap (tokens_from (SingleQuoted false)) (append_assoc (quoted_char c) (flat_map quoted_char word) (single_quote ∷ rest))
+    ∙ quoted_char_reads c (flat_map quoted_char word ++ single_quote ∷ rest) word ts (quoted_chars_read word rest ts found)
+
+-- ---- a plain word
+
+-- a safe character is plain to a shell
+role_safe : (c : ℕ) → is_safe c ≡ true → role_of c ≡ Plain
+role_safe c safe =
+    let blank : ((c == 32) || (c == 9)) ≡ false = grind (arith, nat_tests) in
+    let lone : ((c == newline) || (c == 41)) ≡ false = grind (arith, nat_tests) in
+    let opening : is_opening c ≡ false = grind (arith, nat_tests) in
+    let escapes : (c == backslash) ≡ false = grind (arith, nat_tests) in
+    let single : (c == single_quote) ≡ false = grind (arith, nat_tests) in
+    let double : (c == double_quote) ≡ false = grind (arith, nat_tests) in
+    let expands : is_expanding c ≡ false = grind (arith, nat_tests) in
+    let acts : is_pattern_or_redirection c ≡ false = grind (arith, nat_tests) in
+    let leads : ((c == hash) || (c == 126)) ≡ false = grind (arith, nat_tests) in
+    let equals : (c == 61) ≡ false = grind (arith, nat_tests) in
+    cond-false _ _ _ blank
+    ∙ cond-false _ _ _ lone
+    ∙ cond-false _ _ _ opening
+    ∙ cond-false _ _ _ escapes
+    ∙ cond-false _ _ _ single
+    ∙ cond-false _ _ _ double
+    ∙ cond-false _ _ _ expands
+    ∙ cond-false _ _ _ acts
+    ∙ cond-false _ _ _ leads
+    ∙ cond-false _ _ _ equals
+
+plain_char_reads : (option : Bool) (c : ℕ) → (is_safe c || (option && (c == 61))) ≡ true → step (Inside option) c ≡ Some (Inside option, [], c ∷ [])
+plain_char_reads option c h =
+    ⊎_elim (λ safe. ap (inside option c) (role_safe c safe))
+    (λ equals.
+    let parts = and_parts option (c == 61) equals in
+    ap (λ d. step (Inside option) d) (eqb-true c 61 parts.1) ∙ cond-true option _ _ parts.0 ∙ ap (λ d. Some (Inside option, [], d ∷ [])) (sym (eqb-true c 61 parts.1)))
+    (or_cases (is_safe c) (option && (c == 61)) h)
+
+plain_chars_read : (option : Bool) (cs rest : List ℕ) (ts : List Token) → list_all (λ c. is_safe c || (option && (c == 61))) cs ≡ true → tokens_from (Inside option) rest ≡ Some (Word [] ∷ ts) → tokens_from (Inside option) (cs ++ rest) ≡ Some (Word cs ∷ ts)
+plain_chars_read option [] rest ts plain found = found
+plain_chars_read option (c ∷ cs) rest ts plain found =
+    let parts = and_parts (is_safe c || (option && (c == 61))) (list_all (λ c. is_safe c || (option && (c == 61))) cs) plain in
+    reading (Inside option) c (cs ++ rest) (Inside option, [], c ∷ []) (Word cs ∷ ts) (plain_char_reads option c parts.0) (plain_chars_read option cs rest ts parts.1 found)
+
+plain_word_reads : (word rest : List ℕ) (ts : List Token) → is_plain word ≡ true → ((option : Bool) → tokens_from (Inside option) rest ≡ Some (Word [] ∷ ts)) → tokens_from Between (word ++ rest) ≡ Some (Word word ∷ ts)
+plain_word_reads [] rest ts plain found = absurd cc
+plain_word_reads (c ∷ cs) rest ts plain found =
+    let parts = and_parts (is_safe c) (list_all (λ d. is_safe d || ((c == 45) && (d == 61))) cs) plain in
+    reading Between c (cs ++ rest) (Inside (c == 45), [], c ∷ []) (Word cs ∷ ts) (ap (between c) (role_safe c parts.0)) (plain_chars_read (c == 45) cs rest ts parts.1 (found (c == 45)))
+
+-- ---- words
+
+-- a word as it is written, before a text that ends it
+word_reads : (word rest : List ℕ) (ts : List Token) → ((option : Bool) → tokens_from (Inside option) rest ≡ Some (Word [] ∷ ts)) → tokens_from Between (quoted_word word ++ rest) ≡ Some (Word word ∷ ts)
+word_reads word rest ts found =
+    cond_both (is_plain word) word (single_quote ∷ (flat_map quoted_char word ++ single_quote ∷ []))
+    (λ written. tokens_from Between (written ++ rest) ≡ Some (Word word ∷ ts))
+    (λ plain. plain_word_reads word rest ts plain found)
+    (λ not_plain. reading Between single_quote ((flat_map quoted_char word ++ single_quote ∷ []) ++ rest) (SingleQuoted false, [], []) (Word word ∷ ts) refl
+    (ap (tokens_from (SingleQuoted false)) (append_assoc (flat_map quoted_char word) (single_quote ∷ []) rest) ∙ quoted_chars_read word rest ts (found false)))
+
+-- further words, before a text that ends the last one
+further_read : (words : List (List ℕ)) (rest : List ℕ) (ts : List Token) → ((option : Bool) → tokens_from (Inside option) rest ≡ Some (Word [] ∷ ts)) → (option : Bool) →
+    tokens_from (Inside option) (further words ++ rest) ≡ Some (Word [] ∷ (map Word words ++ ts))
+further_read [] rest ts found option = found option
+further_read (word ∷ words) rest ts found option =
+    reading (Inside option) 32 ((quoted_word word ++ further words) ++ rest) (Between, Word [] ∷ [], []) (Word word ∷ (map Word words ++ ts)) refl
+    (ap (tokens_from Between) (append_assoc (quoted_word word) (further words) rest)
+    ∙ word_reads word (further words ++ rest) (map Word words ++ ts) (further_read words rest ts found))
+
+-- a text that is apart ends a word and is then read by itself
+ending : (option : Bool) (c : ℕ) (role : Role) → ends_a_word role ≡ true → inside option c role ≡ option_map (after_token (Word [])) (between c role)
+ending option c Blank apart = refl
+ending option c Lone apart = refl
+ending option c Opening apart = refl
+ending option c Backslash apart = cc
+ending option c SingleQuote apart = cc
+ending option c DoubleQuote apart = cc
+ending option c Acting apart = cc
+ending option c Leading apart = cc
+ending option c Equals apart = cc
+ending option c Plain apart = cc
+
+after_word : (cs : List ℕ) (o : Option Step) (ts : List Token) → option_and_then (λ s. option_map (with_step s) (tokens_from s.0 cs)) o ≡ Some ts →
+    option_and_then (λ s. option_map (with_step s) (tokens_from s.0 cs)) (option_map (after_token (Word [])) o) ≡ Some (Word [] ∷ ts)
+after_word cs None ts found = cc
+after_word cs (Some s) ts found =
+    elim (tokens_from s.0 cs) as (λ o. option_map (with_step s) o ≡ Some ts → option_map (with_step (after_token (Word []) s)) o ≡ Some (Word [] ∷ ts))
+    [ None ↦ λ k. cc | Some more ↦ λ k. let same : with_step s more ≡ ts = cc in ap (λ us. Some (Word [] ∷ us)) same ] found
+
+apart_reads : (rest : List ℕ) (ts : List Token) → is_apart rest ≡ true → tokens rest ≡ Some ts → (option : Bool) → tokens_from (Inside option) rest ≡ Some (Word [] ∷ ts)
+apart_reads [] ts apart found option = cc
+apart_reads (c ∷ cs) ts apart found option =
+    ap (λ (o : Option Step). option_and_then (λ s. option_map (with_step s) (tokens_from s.0 cs)) o) (ending option c (role_of c) apart)
+    ∙ after_word cs (between c (role_of c)) ts found
+
+-- ---- the law
+
+pub quoted_before : (word : List ℕ) (words : List (List ℕ)) (rest : List ℕ) (more : List Token) → is_apart rest ≡ true → tokens rest ≡ Some more →
+    tokens (quoted (word ∷ words) ++ rest) ≡ Some (map Word (word ∷ words) ++ more)
+quoted_before word words rest more apart found =
+    ap tokens (append_assoc (quoted_word word) (further words) rest)
+    ∙ word_reads word (further words ++ rest) (map Word words ++ more) (further_read words rest more (apart_reads rest more apart found))
+
+pub quoted_tokens : (words : List (List ℕ)) → tokens (quoted words) ≡ Some (map Word words)
+quoted_tokens [] = refl
+quoted_tokens (word ∷ words) =
+    ap tokens (sym (append-nil (quoted (word ∷ words))))
+    ∙ quoted_before word words [] [] refl refl
+    ∙ ap (λ (ts : List Token). Some (Word word ∷ ts)) (append-nil (map Word words))
+
+pub one_token : (word : List ℕ) → tokens (quoted_word word) ≡ Some (Word word ∷ [])
+one_token word = ap tokens (sym (append-nil (quoted_word word))) ∙ quoted_tokens (word ∷ [])
+
+words-map : (words : List (List ℕ)) → words_of (map Word words) ≡ Some words
+words-map [] = refl
+words-map (word ∷ words) = ap (option_map (λ ws. word ∷ ws)) (words-map words)
+
+pub quoted_command : (program : List ℕ) (words : List (List ℕ)) → is_program program ≡ true → command (quoted (program ∷ words)) ≡ Some (program ∷ words)
+quoted_command program words is =
+    ap (option_and_then (λ ts. option_and_then as_command (words_of ts))) (quoted_tokens (program ∷ words))
+    ∙ ap (option_and_then as_command) (words-map (program ∷ words))
+    ∙ cond-true (is_program program) _ _ is
