@@ -1,7 +1,6 @@
 -- Renamings worked out by hand.
-use Rattle.std.specs.Prelude.{◌≡◌, ℕ, List, [], ◌∷◌, Ok, Err, refl, codes}
-use Rattle.dry_runs.specs.Computing.{dry_runs_compute}
-use Rattle.dry_runs.specs.DryRunRows.{Said, first_run}
+use Rattle.std.specs.Prelude.{◌≡◌, ℕ, List, [], ◌∷◌, Ok, Err, codes}
+use Rattle.dry_runs.specs.DryRunExamples.{Said, first_run}
 use Rattle.canonical_names.specs.Generated.{standard_suffixes}
 use Rattle.dry_runs.specs.OneKernel.{one_kernel, one_kernel_elsewhere, one_kernel_canonical}
 use Rattle.canonical_names.specs.Renaming.{renamed, renamed_words}
@@ -16,37 +15,22 @@ LongestReferenceFirst =
     renames (codes "longname.cudafe1.c" ∷ codes "x_0.cudafe1.c" ∷ codes "-I=longname.cudafe1.c" ∷ []) ≡
     codes "x_0.cudafe1.c" ∷ codes "x_1.cudafe1.c" ∷ codes "-I=x_1.cudafe1.c" ∷ []
 
-pub longest_reference_first : LongestReferenceFirst
-longest_reference_first = refl
-
 -- a reference before its name has appeared stays as it is
 abbrev pub EarlyReferenceStays : Type 0
 EarlyReferenceStays =
     renames (codes "-I=k.cudafe1.c" ∷ codes "k.cudafe1.c" ∷ []) ≡
     codes "-I=k.cudafe1.c" ∷ codes "x_0.cudafe1.c" ∷ []
 
-pub early_reference_stays : EarlyReferenceStays
-early_reference_stays = refl
-
 -- of several `-Fi` one is left
 abbrev pub OneMarkIsLeft : Type 0
 OneMarkIsLeft = renames (codes "-Fi-Fik.cpp1.ii" ∷ []) ≡ codes "-Fix_0.cpp1.ii" ∷ []
-
-pub one_mark_is_left : OneMarkIsLeft
-one_mark_is_left = refl
 
 -- a folder stays the same path, though its text may get shorter
 abbrev pub FolderStaysAsAPath : Type 0
 FolderStaysAsAPath = renames (codes "//k.cpp4.ii" ∷ []) ≡ codes "/x_0.cpp4.ii" ∷ []
 
-pub folder_stays_as_a_path : FolderStaysAsAPath
-folder_stays_as_a_path = refl
-
 abbrev pub FolderLosesItsDot : Type 0
 FolderLosesItsDot = renames (codes "a/./k.cpp4.ii" ∷ []) ≡ codes "a/x_0.cpp4.ii" ∷ []
-
-pub folder_loses_its_dot : FolderLosesItsDot
-folder_loses_its_dot = refl
 
 -- equal names become equal names, and different ones different ones
 abbrev pub FirstNameComesAgain : Type 0
@@ -54,16 +38,10 @@ FirstNameComesAgain =
     renames (codes "a.cudafe1.c" ∷ codes "b.cudafe1.c" ∷ codes "a.cudafe1.c" ∷ []) ≡
     codes "x_0.cudafe1.c" ∷ codes "x_1.cudafe1.c" ∷ codes "x_0.cudafe1.c" ∷ []
 
-pub first_name_comes_again : FirstNameComesAgain
-first_name_comes_again = refl
-
 abbrev pub SecondNameComesAgain : Type 0
 SecondNameComesAgain =
     renames (codes "a.cudafe1.c" ∷ codes "b.cudafe1.c" ∷ codes "b.cudafe1.c" ∷ []) ≡
     codes "x_0.cudafe1.c" ∷ codes "x_1.cudafe1.c" ∷ codes "x_1.cudafe1.c" ∷ []
-
-pub second_name_comes_again : SecondNameComesAgain
-second_name_comes_again = refl
 
 -- the commands of a dry run, renamed
 abbrev pub renamed_said : Said → Said
@@ -76,19 +54,11 @@ OneKernelIsRenamed =
     (renamed_said (first_run one_kernel) ≡ Ok (one_kernel_canonical, (codes "PATH", codes "/b") ∷ [])) ×
     (renamed_said (first_run one_kernel_elsewhere) ≡ Ok (one_kernel_canonical, (codes "PATH", codes "/b") ∷ []))
 
-pub one_kernel_is_renamed : OneKernelIsRenamed
-unfolding dry_runs_compute
-one_kernel_is_renamed = (refl, refl)
-
 -- a name counts whatever command it appears in
 abbrev pub EveryCommandCounts : Type 0
 EveryCommandCounts =
     renamed_said (first_run (codes "#$ PATH=/b\n#$ gcc a.cpp1.ii\n#$ cicc b.cpp1.ii\n")) ≡
     Ok ((1, codes "/b/gcc", codes "x_0.cpp1.ii" ∷ []) ∷ (2, codes "/b/cicc", codes "x_1.cpp1.ii" ∷ []) ∷ [], (codes "PATH", codes "/b") ∷ [])
-
-pub every_command_counts : EveryCommandCounts
-unfolding dry_runs_compute
-every_command_counts = refl
 
 -- a name of one suffix can be the beginning of a name of another: the word then counts as a reference to it
 abbrev pub BeginningIsTakenForTheName : Type 0
@@ -96,14 +66,8 @@ BeginningIsTakenForTheName =
     renames (codes "a.cudafe1.c" ∷ codes "k.cudafe1.c" ∷ codes "-I=k.cudafe1.cpp" ∷ codes "k.cudafe1.cpp" ∷ []) ≡
     codes "x_0.cudafe1.c" ∷ codes "x_1.cudafe1.c" ∷ codes "-I=x_1.cudafe1.cpp" ∷ codes "x_0.cudafe1.cpp" ∷ []
 
-pub beginning_is_taken_for_the_name : BeginningIsTakenForTheName
-beginning_is_taken_for_the_name = refl
-
 -- a suffix of the caller's own marks files too: that of the source file renames the source file
 abbrev pub SourceFileIsRenamed : Type 0
 SourceFileIsRenamed =
     renamed_words (codes ".cu" ∷ standard_suffixes) [] (codes "kernel.cu" ∷ codes "-o" ∷ codes "kernel.cpp1.ii" ∷ [])
     ≡ codes "x_0.cu" ∷ codes "-o" ∷ codes "x_0.cpp1.ii" ∷ []
-
-pub source_file_is_renamed : SourceFileIsRenamed
-source_file_is_renamed = refl

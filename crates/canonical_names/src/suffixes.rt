@@ -326,14 +326,11 @@ fn word_at(words: &[String], index: usize) -> Option<&str>
 }
 
 impl PartialEq for Suffixes {
-    ghost use Rattle.std.specs.Prelude.{nat_eq};
-    ghost use Rattle.std.specs.Cmp.Lexicographic.{pointwise};
-    ghost use Rattle.std.specs.Cmp.Rules.{comparing};
-    ghost use Rattle.std.proofs.Common.{rules};
+    ghost use Rattle.texts.specs.Equality.{words_eq, words_law};
 
-    ghost eq = { pointwise (pointwise nat_eq) };
+    ghost eq = { words_eq };
 
-    ghost laws = { Prim.search (comparing, rules) };
+    ghost laws = { words_law };
 
     fn eq(&self, other: &Suffixes) -> bool {
         if self.len() != other.len() {

@@ -2,17 +2,3 @@ pub mod Arguments
 pub mod Command
 pub mod Compiler
 pub mod Outputs
-pub use Rattle.texts.specs.DeviceFiles
-pub use Rattle.texts.specs.Endings
-pub use Rattle.texts.specs.Equality
-pub use Rattle.texts.specs.Extension
-pub use Rattle.texts.specs.Fault
-pub use Rattle.texts.specs.Language
-pub use Rattle.texts.specs.Lists
-pub use Rattle.texts.specs.Numeral
-pub use Rattle.texts.specs.ObjectFlags
-pub use Rattle.texts.specs.Path
-pub use Rattle.texts.specs.Results
-pub use Rattle.texts.specs.Rows
-pub use Rattle.texts.specs.Status
-pub use Rattle.texts.specs.Variables

@@ -8,7 +8,7 @@ use Rattle.option_items.specs.declared.table.ArgDisposition.{ArgDisposition}
 use Rattle.texts.specs.Path.{joined}
 use Rattle.option_items.specs.Table.{Entry}
 use Rattle.option_items.specs.Items.{Item, raw, unknown_flag, flag, with_value, faulty, Said, item, option, said_of, last_item, separate_item, joined_form, may_stand_last, Completes, normal_form, value_words}
-use Rattle.cuda_below.specs.GccItems.{Asked, is_double_dash, items_to_dashes, has_double_dash, first_refusal, refusal_of, words_to, to_inputs, to_common, to_preprocessor, to_unhashed, to_architectures, to_dependencies, hash_files, language_said, flag_said, output_said, dependency_file_said, target_said, needs_target_item, written_form}
+use Rattle.cuda_below.specs.GccItems.{Asked, is_double_dash, items_to_dashes, has_double_dash, first_refusal, refusal_of, words_to, inputs, common, preprocessor, unhashed, architectures, dependencies, hash_files, language_said, flag_said, output_said, dependency_file_said, target_said, needs_target_item, written_form}
 use Rattle.cuda_below.specs.GccSteps.{with_option, with_item}
 use Rattle.cuda_below.specs.Gcc.{unless_refused}
 use Rattle.option_items.proofs.ItemLemmas.{items-completed}
@@ -20,7 +20,7 @@ said_after say before is = fold (λ so_far i. option_or (say i) so_far) before i
 -- what a line asks for whose first items asked for this, of the items that are left
 abbrev pub added : List ℕ → Asked → Bool → List (Item ArgData) → Asked
 added cwd g dashes is = record {
-  inputs = g.inputs ++ words_to to_inputs is;
+  inputs = g.inputs ++ words_to inputs is;
   double_dash_input = g.double_dash_input || dashes;
   language = said_after language_said g.language is;
   compilation_flag = said_after flag_said g.compilation_flag is;
@@ -28,11 +28,11 @@ added cwd g dashes is = record {
   dependency_file = said_after dependency_file_said g.dependency_file is;
   target_needed = g.target_needed || list_any needs_target_item is;
   target = said_after target_said g.target is;
-  common_args = g.common_args ++ words_to to_common is;
-  preprocessor_args = g.preprocessor_args ++ words_to to_preprocessor is;
-  arch_args = g.arch_args ++ words_to to_architectures is;
-  unhashed_args = g.unhashed_args ++ words_to to_unhashed is;
-  dependency_args = g.dependency_args ++ words_to to_dependencies is;
+  common_args = g.common_args ++ words_to common is;
+  preprocessor_args = g.preprocessor_args ++ words_to preprocessor is;
+  arch_args = g.arch_args ++ words_to architectures is;
+  unhashed_args = g.unhashed_args ++ words_to unhashed is;
+  dependency_args = g.dependency_args ++ words_to dependencies is;
   extra_hash_files = g.extra_hash_files ++ hash_files cwd is;
 }
 
@@ -49,22 +49,22 @@ module _ (cwd : List ℕ) where
   flag-added : (g : Asked) (dashes : Bool) (text : List ℕ) (kind : ArgData) (is : List (Item ArgData)) → added cwd (with_option cwd g text [] (text ∷ []) kind) dashes is ≡ added cwd g dashes (flag text kind ∷ is)
   flag-added g dashes text TooHard is = refl
   flag-added g dashes text TooHardFlag is = refl
-  flag-added g dashes text PassThrough is = rw (append_assoc g.common_args (text ∷ []) (words_to to_common is)) refl
-  flag-added g dashes text PassThroughFlag is = rw (append_assoc g.common_args (text ∷ []) (words_to to_common is)) refl
-  flag-added g dashes text PreprocessorArgument is = rw (append_assoc g.preprocessor_args (text ∷ []) (words_to to_preprocessor is)) refl
-  flag-added g dashes text PreprocessorArgumentFlag is = rw (append_assoc g.preprocessor_args (text ∷ []) (words_to to_preprocessor is)) refl
-  flag-added g dashes text PreprocessorArgumentPath is = rw (append_assoc g.preprocessor_args (text ∷ []) (words_to to_preprocessor is)) refl
-  flag-added g dashes text DepArgumentPath is = rw (append_assoc g.dependency_args (text ∷ []) (words_to to_dependencies is)) refl
+  flag-added g dashes text PassThrough is = rw (append_assoc g.common_args (text ∷ []) (words_to common is)) refl
+  flag-added g dashes text PassThroughFlag is = rw (append_assoc g.common_args (text ∷ []) (words_to common is)) refl
+  flag-added g dashes text PreprocessorArgument is = rw (append_assoc g.preprocessor_args (text ∷ []) (words_to preprocessor is)) refl
+  flag-added g dashes text PreprocessorArgumentFlag is = rw (append_assoc g.preprocessor_args (text ∷ []) (words_to preprocessor is)) refl
+  flag-added g dashes text PreprocessorArgumentPath is = rw (append_assoc g.preprocessor_args (text ∷ []) (words_to preprocessor is)) refl
+  flag-added g dashes text DepArgumentPath is = rw (append_assoc g.dependency_args (text ∷ []) (words_to dependencies is)) refl
   flag-added g dashes text DepTarget is = refl
-  flag-added g dashes text NeedDepTarget is = rw (append_assoc g.dependency_args (text ∷ []) (words_to to_dependencies is), or-true g.target_needed) refl
+  flag-added g dashes text NeedDepTarget is = rw (append_assoc g.dependency_args (text ∷ []) (words_to dependencies is), or-true g.target_needed) refl
   flag-added g dashes text DoCompilation is = refl
   flag-added g dashes text Output is = refl
   flag-added g dashes text Language is = refl
-  flag-added g dashes text Arch is = rw (append_assoc g.arch_args (text ∷ []) (words_to to_architectures is)) refl
-  flag-added g dashes text Standard is = rw (append_assoc g.common_args (text ∷ []) (words_to to_common is)) refl
-  flag-added g dashes text ExtraHashFile is = rw (append_assoc g.common_args (text ∷ []) (words_to to_common is), append_assoc g.extra_hash_files (joined cwd [] ∷ []) (hash_files cwd is)) refl
-  flag-added g dashes text Unhashed is = rw (append_assoc g.unhashed_args (text ∷ []) (words_to to_unhashed is)) refl
-  flag-added g dashes text UnhashedFlag is = rw (append_assoc g.unhashed_args (text ∷ []) (words_to to_unhashed is)) refl
+  flag-added g dashes text Arch is = rw (append_assoc g.arch_args (text ∷ []) (words_to architectures is)) refl
+  flag-added g dashes text Standard is = rw (append_assoc g.common_args (text ∷ []) (words_to common is)) refl
+  flag-added g dashes text ExtraHashFile is = rw (append_assoc g.common_args (text ∷ []) (words_to common is), append_assoc g.extra_hash_files (joined cwd [] ∷ []) (hash_files cwd is)) refl
+  flag-added g dashes text Unhashed is = rw (append_assoc g.unhashed_args (text ∷ []) (words_to unhashed is)) refl
+  flag-added g dashes text UnhashedFlag is = rw (append_assoc g.unhashed_args (text ∷ []) (words_to unhashed is)) refl
 
   -- the words of an option as it is written
   abbrev option_words : List ℕ → List ℕ → ArgDisposition → List (List ℕ)
@@ -74,27 +74,27 @@ module _ (cwd : List ℕ) where
   value-added : (g : Asked) (dashes : Bool) (text value : List ℕ) (form : ArgDisposition) (kind : ArgData) (is : List (Item ArgData)) → added cwd (with_option cwd g text value (option_words text value form) kind) dashes is ≡ added cwd g dashes (with_value text kind value form ∷ is)
   value-added g dashes text value form TooHard is = refl
   value-added g dashes text value form TooHardFlag is = refl
-  value-added g dashes text value form PassThrough is = rw (append_assoc g.common_args (option_words text value form) (words_to to_common is)) refl
-  value-added g dashes text value form PassThroughFlag is = rw (append_assoc g.common_args (option_words text value form) (words_to to_common is)) refl
-  value-added g dashes text value form PreprocessorArgument is = rw (append_assoc g.preprocessor_args (option_words text value form) (words_to to_preprocessor is)) refl
-  value-added g dashes text value form PreprocessorArgumentFlag is = rw (append_assoc g.preprocessor_args (option_words text value form) (words_to to_preprocessor is)) refl
-  value-added g dashes text value form PreprocessorArgumentPath is = rw (append_assoc g.preprocessor_args (option_words text value form) (words_to to_preprocessor is)) refl
-  value-added g dashes text value form DepArgumentPath is = rw (append_assoc g.dependency_args (option_words text value form) (words_to to_dependencies is)) refl
+  value-added g dashes text value form PassThrough is = rw (append_assoc g.common_args (option_words text value form) (words_to common is)) refl
+  value-added g dashes text value form PassThroughFlag is = rw (append_assoc g.common_args (option_words text value form) (words_to common is)) refl
+  value-added g dashes text value form PreprocessorArgument is = rw (append_assoc g.preprocessor_args (option_words text value form) (words_to preprocessor is)) refl
+  value-added g dashes text value form PreprocessorArgumentFlag is = rw (append_assoc g.preprocessor_args (option_words text value form) (words_to preprocessor is)) refl
+  value-added g dashes text value form PreprocessorArgumentPath is = rw (append_assoc g.preprocessor_args (option_words text value form) (words_to preprocessor is)) refl
+  value-added g dashes text value form DepArgumentPath is = rw (append_assoc g.dependency_args (option_words text value form) (words_to dependencies is)) refl
   value-added g dashes text value form DepTarget is = refl
-  value-added g dashes text value form NeedDepTarget is = rw (append_assoc g.dependency_args (option_words text value form) (words_to to_dependencies is), or-true g.target_needed) refl
+  value-added g dashes text value form NeedDepTarget is = rw (append_assoc g.dependency_args (option_words text value form) (words_to dependencies is), or-true g.target_needed) refl
   value-added g dashes text value form DoCompilation is = refl
   value-added g dashes text value form Output is = refl
   value-added g dashes text value form Language is = refl
-  value-added g dashes text value form Arch is = rw (append_assoc g.arch_args (option_words text value form) (words_to to_architectures is)) refl
-  value-added g dashes text value form Standard is = rw (append_assoc g.common_args (option_words text value form) (words_to to_common is)) refl
-  value-added g dashes text value form ExtraHashFile is = rw (append_assoc g.common_args (option_words text value form) (words_to to_common is), append_assoc g.extra_hash_files (joined cwd value ∷ []) (hash_files cwd is)) refl
-  value-added g dashes text value form Unhashed is = rw (append_assoc g.unhashed_args (option_words text value form) (words_to to_unhashed is)) refl
-  value-added g dashes text value form UnhashedFlag is = rw (append_assoc g.unhashed_args (option_words text value form) (words_to to_unhashed is)) refl
+  value-added g dashes text value form Arch is = rw (append_assoc g.arch_args (option_words text value form) (words_to architectures is)) refl
+  value-added g dashes text value form Standard is = rw (append_assoc g.common_args (option_words text value form) (words_to common is)) refl
+  value-added g dashes text value form ExtraHashFile is = rw (append_assoc g.common_args (option_words text value form) (words_to common is), append_assoc g.extra_hash_files (joined cwd value ∷ []) (hash_files cwd is)) refl
+  value-added g dashes text value form Unhashed is = rw (append_assoc g.unhashed_args (option_words text value form) (words_to unhashed is)) refl
+  value-added g dashes text value form UnhashedFlag is = rw (append_assoc g.unhashed_args (option_words text value form) (words_to unhashed is)) refl
 
   -- one more item
   item-added : (g : Asked) (dashes : Bool) (i : Item ArgData) (is : List (Item ArgData)) → added cwd (with_item cwd g i) dashes is ≡ added cwd g dashes (i ∷ is)
-  item-added g dashes (raw word) is = rw (append_assoc g.inputs (word ∷ []) (words_to to_inputs is)) refl
-  item-added g dashes (unknown_flag word) is = rw (append_assoc g.common_args (word ∷ []) (words_to to_common is)) refl
+  item-added g dashes (raw word) is = rw (append_assoc g.inputs (word ∷ []) (words_to inputs is)) refl
+  item-added g dashes (unknown_flag word) is = rw (append_assoc g.common_args (word ∷ []) (words_to common is)) refl
   item-added g dashes (flag text kind) is = flag-added g dashes text kind is
   item-added g dashes (with_value text kind value form) is = value-added g dashes text value form kind is
   item-added g dashes faulty is = refl

@@ -124,29 +124,15 @@ destination_of (flag text kind) = destination_of_kind kind
 destination_of (with_value text kind value form) = destination_of_kind kind
 destination_of faulty = nowhere
 
-abbrev pub to_inputs : Destination → Bool
-to_inputs inputs = true
-to_inputs _ = false
-
-abbrev pub to_common : Destination → Bool
-to_common common = true
-to_common _ = false
-
-abbrev pub to_preprocessor : Destination → Bool
-to_preprocessor preprocessor = true
-to_preprocessor _ = false
-
-abbrev pub to_unhashed : Destination → Bool
-to_unhashed unhashed = true
-to_unhashed _ = false
-
-abbrev pub to_architectures : Destination → Bool
-to_architectures architectures = true
-to_architectures _ = false
-
-abbrev pub to_dependencies : Destination → Bool
-to_dependencies dependencies = true
-to_dependencies _ = false
+-- whether two lists are the same one; `nowhere` is none
+abbrev pub same_list : (list other : Destination) → Bool
+same_list inputs inputs = true
+same_list common common = true
+same_list preprocessor preprocessor = true
+same_list unhashed unhashed = true
+same_list architectures architectures = true
+same_list dependencies dependencies = true
+same_list _ _ = false
 
 -- how an item is written that may be written both ways: in one word if its option's text has two bytes
 abbrev pub written_form : Option (List ℕ) → NormalizedDisposition
@@ -157,45 +143,27 @@ abbrev pub written_item : Item ArgData → Item ArgData
 written_item i = normalized (written_form (text_of i)) i
 
 -- the words of the items that go to a list, in the order of the items
-abbrev pub words_to : (Destination → Bool) → List (Item ArgData) → List (List ℕ)
-words_to goes is = flat_map (λ i. words_of (written_item i)) (filter (λ i. goes (destination_of i)) is)
+abbrev pub words_to : Destination → List (Item ArgData) → List (List ℕ)
+words_to list is = flat_map (λ i. words_of (written_item i)) (filter (λ i. same_list list (destination_of i)) is)
 
--- the kinds whose items say something besides their words
-abbrev pub names_hash_file : ArgData → Bool
-names_hash_file ExtraHashFile = true
-names_hash_file _ = false
+-- whether a kind is this one, of the kinds whose items say something besides their words
+abbrev pub is_kind : ArgData → ArgData → Bool
+is_kind ExtraHashFile ExtraHashFile = true
+is_kind NeedDepTarget NeedDepTarget = true
+is_kind DepArgumentPath DepArgumentPath = true
+is_kind DepTarget DepTarget = true
+is_kind DoCompilation DoCompilation = true
+is_kind Output Output = true
+is_kind LanguageOption LanguageOption = true
+is_kind _ _ = false
 
-abbrev pub needs_target : ArgData → Bool
-needs_target NeedDepTarget = true
-needs_target _ = false
-
-abbrev pub names_dependency_file : ArgData → Bool
-names_dependency_file DepArgumentPath = true
-names_dependency_file _ = false
-
-abbrev pub names_target : ArgData → Bool
-names_target DepTarget = true
-names_target _ = false
-
-abbrev pub asks_compilation : ArgData → Bool
-asks_compilation DoCompilation = true
-asks_compilation _ = false
-
-abbrev pub names_output : ArgData → Bool
-names_output Output = true
-names_output _ = false
-
-abbrev pub names_language : ArgData → Bool
-names_language LanguageOption = true
-names_language _ = false
-
--- what an option of some kinds says, of its text and value, and nothing for any other item
-abbrev pub said_of_kind : {B : Type 0} → (ArgData → Bool) → (List ℕ → List ℕ → B) → Item ArgData → Option B
-said_of_kind test say (raw word) = None
-said_of_kind test say (unknown_flag word) = None
-said_of_kind test say (flag text kind) = if test kind then Some (say text []) else None
-said_of_kind test say (with_value text kind value form) = if test kind then Some (say text value) else None
-said_of_kind test say faulty = None
+-- what an option of such a kind says, of its text and value, and nothing for any other item
+abbrev pub said_of_kind : {B : Type 0} → ArgData → (List ℕ → List ℕ → B) → Item ArgData → Option B
+said_of_kind saying say (raw word) = None
+said_of_kind saying say (unknown_flag word) = None
+said_of_kind saying say (flag text kind) = if is_kind saying kind then Some (say text []) else None
+said_of_kind saying say (with_value text kind value form) = if is_kind saying kind then Some (say text value) else None
+said_of_kind saying say faulty = None
 
 -- what the last item says of those that say something
 abbrev pub last_said : {A B : Type 0} → (A → Option B) → List A → Option B
@@ -203,27 +171,27 @@ last_said say is = fold (λ before i. option_or (say i) before) None is
 
 -- the paths of files whose contents are part of a cache key, below the working directory
 abbrev pub hash_files : List ℕ → List (Item ArgData) → List (List ℕ)
-hash_files cwd is = flat_map (λ i. option_to_list (said_of_kind names_hash_file (λ text value. joined cwd value) i)) is
+hash_files cwd is = flat_map (λ i. option_to_list (said_of_kind ExtraHashFile (λ text value. joined cwd value) i)) is
 
 -- what an item says: the text of a flag that asks for a compilation, the language that an option names, the path of
 -- an output or a dependency file, the two words of a target, and that a target is needed
 abbrev pub flag_said : Item ArgData → Option (List ℕ)
-flag_said = said_of_kind asks_compilation (λ text value. text)
+flag_said = said_of_kind DoCompilation (λ text value. text)
 
 abbrev pub language_said : Item ArgData → Option Language
-language_said i = option_and_then language_named (said_of_kind names_language (λ text value. value) i)
+language_said i = option_and_then language_named (said_of_kind LanguageOption (λ text value. value) i)
 
 abbrev pub output_said : Item ArgData → Option (List ℕ)
-output_said = said_of_kind names_output (λ text value. value)
+output_said = said_of_kind Output (λ text value. value)
 
 abbrev pub dependency_file_said : Item ArgData → Option (List ℕ)
-dependency_file_said = said_of_kind names_dependency_file (λ text value. value)
+dependency_file_said = said_of_kind DepArgumentPath (λ text value. value)
 
 abbrev pub target_said : Item ArgData → Option (List (List ℕ))
-target_said = said_of_kind names_target (λ text value. text ∷ value ∷ [])
+target_said = said_of_kind DepTarget (λ text value. text ∷ value ∷ [])
 
 abbrev pub needs_target_item : Item ArgData → Bool
-needs_target_item i = is_some (said_of_kind needs_target (λ text value. text) i)
+needs_target_item i = is_some (said_of_kind NeedDepTarget (λ text value. text) i)
 
 -- what the items of a line ask for: the words that are no options, and whether `--` stood before some of them; the
 -- language that an option names; the flag that asks for a compilation; the paths of the file that is made and of the
@@ -247,7 +215,7 @@ pub record Asked : Type 0 where
 -- what the items of a line ask for, of the working directory, whether `--` stands there, and the items
 abbrev pub asked_of : List ℕ → Bool → List (Item ArgData) → Asked
 asked_of cwd dashes is = record {
-  inputs = words_to to_inputs is;
+  inputs = words_to inputs is;
   double_dash_input = dashes;
   language = last_said language_said is;
   compilation_flag = last_said flag_said is;
@@ -255,10 +223,10 @@ asked_of cwd dashes is = record {
   dependency_file = last_said dependency_file_said is;
   target_needed = list_any needs_target_item is;
   target = last_said target_said is;
-  common_args = words_to to_common is;
-  preprocessor_args = words_to to_preprocessor is;
-  arch_args = words_to to_architectures is;
-  unhashed_args = words_to to_unhashed is;
-  dependency_args = words_to to_dependencies is;
+  common_args = words_to common is;
+  preprocessor_args = words_to preprocessor is;
+  arch_args = words_to architectures is;
+  unhashed_args = words_to unhashed is;
+  dependency_args = words_to dependencies is;
   extra_hash_files = hash_files cwd is;
 }

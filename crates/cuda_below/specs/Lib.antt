@@ -2,7 +2,7 @@ pub mod Gcc
 pub mod GccItems
 pub mod GccLine
 pub mod GccOptions
-pub mod GccRows
+pub mod GccExamples
 pub mod GccSteps
 pub use Rattle.compilers.specs.Arguments
 pub use Rattle.compilers.specs.Command
@@ -14,17 +14,3 @@ pub use Rattle.option_items.specs.LongestMatch
 pub use Rattle.option_items.specs.Table
 pub use Rattle.option_items.specs.Views
 pub use Rattle.option_items.specs.WordsLaw
-pub use Rattle.texts.specs.DeviceFiles
-pub use Rattle.texts.specs.Endings
-pub use Rattle.texts.specs.Equality
-pub use Rattle.texts.specs.Extension
-pub use Rattle.texts.specs.Fault
-pub use Rattle.texts.specs.Language
-pub use Rattle.texts.specs.Lists
-pub use Rattle.texts.specs.Numeral
-pub use Rattle.texts.specs.ObjectFlags
-pub use Rattle.texts.specs.Path
-pub use Rattle.texts.specs.Results
-pub use Rattle.texts.specs.Rows
-pub use Rattle.texts.specs.Status
-pub use Rattle.texts.specs.Variables

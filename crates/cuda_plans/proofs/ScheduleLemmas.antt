@@ -229,8 +229,8 @@ plan-left {chunk} {before} {after} {all} {group} {groups} {others} {last} {joine
 pub plan-begins : (chunk : ℕ → ℕ) (before : List AccountEntry) (groups : List (List NvccGeneratedSubcommand)) → PlanSoFar chunk before before (steps groups) 0 groups 0 empty_success
 plan-begins chunk before groups = record {
   account = [];
-  gained = sym (append-nil before);
   passed = [];
+  gained = sym (append-nil before);
   parts = refl;
   due = refl;
   steps_before = tt;

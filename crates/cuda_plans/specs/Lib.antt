@@ -1,12 +1,12 @@
 pub mod Nvcc
 pub mod NvccCommand
 pub mod NvccPlan
-pub mod NvccRows
+pub mod NvccExamples
 pub mod Outcome
 pub mod OutcomeLaws
 pub mod Running
 pub mod Schedule
-pub mod ScheduleRows
+pub mod ScheduleExamples
 pub use Rattle.canonical_names.specs.Alike
 pub use Rattle.canonical_names.specs.AlikeExamples
 pub use Rattle.canonical_names.specs.CanonicalNames
@@ -22,11 +22,11 @@ pub use Rattle.command_groups.specs.Merge
 pub use Rattle.command_groups.specs.MergeLaws
 pub use Rattle.command_groups.specs.Plan
 pub use Rattle.command_groups.specs.PlanOfBytes
-pub use Rattle.command_groups.specs.PlanOfBytesRows
-pub use Rattle.command_groups.specs.PlanRows
+pub use Rattle.command_groups.specs.PlanOfBytesExamples
+pub use Rattle.command_groups.specs.PlanExamples
 pub use Rattle.command_groups.specs.Reasons
 pub use Rattle.command_groups.specs.Selection
-pub use Rattle.command_groups.specs.SelectionRows
+pub use Rattle.command_groups.specs.SelectionExamples
 pub use Rattle.command_groups.specs.Stage
 pub use Rattle.cuda_below.specs.Arguments
 pub use Rattle.cuda_below.specs.Command
@@ -35,7 +35,7 @@ pub use Rattle.cuda_below.specs.Gcc
 pub use Rattle.cuda_below.specs.GccItems
 pub use Rattle.cuda_below.specs.GccLine
 pub use Rattle.cuda_below.specs.GccOptions
-pub use Rattle.cuda_below.specs.GccRows
+pub use Rattle.cuda_below.specs.GccExamples
 pub use Rattle.cuda_below.specs.GccSteps
 pub use Rattle.cuda_below.specs.Outputs
 pub use Rattle.device_lines.specs.Cicc
@@ -52,7 +52,7 @@ pub use Rattle.dry_runs.specs.CommandLines
 pub use Rattle.dry_runs.specs.Computing
 pub use Rattle.dry_runs.specs.DryRun
 pub use Rattle.dry_runs.specs.DryRunLines
-pub use Rattle.dry_runs.specs.DryRunRows
+pub use Rattle.dry_runs.specs.DryRunExamples
 pub use Rattle.dry_runs.specs.Environment
 pub use Rattle.dry_runs.specs.FirstDir
 pub use Rattle.dry_runs.specs.OneKernel

@@ -4,7 +4,7 @@
 ghost use Rattle.texts.specs.Equality.{TellsEqual};
 ghost use Rattle.command_groups.specs.PlanLaws.{AlikeTextsHaveOnePlan, ReadableRunsArePlanned, PlannedRunsAreReadable, FirstRunIsRefused, SecondRunIsRefused, PlannedCommandsHaveOneFate};
 ghost use Rattle.cuda_plans.specs.OutcomeLaws.{AggregationIsAssociative, EmptySuccessIsNeutralFirst, EmptySuccessIsNeutralLast};
-ghost use Rattle.cuda_plans.specs.ScheduleRows as rows;
+ghost use Rattle.cuda_plans.specs.ScheduleExamples as examples;
 ghost use Rattle.device_lines.specs.Reread.{CiccLinesReread, PtxasLinesReread, CudaFELinesReread};
 
 use crate::runner::{Answer, Place};
@@ -67,14 +67,14 @@ pub fn joined_outputs()
 
 /// Which commands of three kernels run, and what comes of it, by the definitions.
 pub fn worked_schedules()
-    ensures three_kernels_are_planned { rows.ThreeKernelsPlan }
-    ensures chunks_of_two { rows.ChunksOfTwo }
-    ensures failure_ends_its_group { rows.FailureEndsItsGroup }
-    ensures chunk_is_finished { rows.ChunkIsFinished }
-    ensures one_at_a_time { rows.OneAtATime }
-    ensures none_at_a_time { rows.NoneAtATime }
-    ensures many_at_a_time { rows.ManyAtATime }
-    ensures first_failure_is_kept { rows.FirstFailureIsKept }
-    ensures all_succeed { rows.AllSucceed }
-    ensures failure_of_a_success { rows.FailureOfASuccess }
+    ensures three_kernels_are_planned { examples.ThreeKernelsPlan }
+    ensures chunks_of_two { examples.ChunksOfTwo }
+    ensures failure_ends_its_group { examples.FailureEndsItsGroup }
+    ensures chunk_is_finished { examples.ChunkIsFinished }
+    ensures one_at_a_time { examples.OneAtATime }
+    ensures none_at_a_time { examples.NoneAtATime }
+    ensures many_at_a_time { examples.ManyAtATime }
+    ensures first_failure_is_kept { examples.FirstFailureIsKept }
+    ensures all_succeed { examples.AllSucceed }
+    ensures failure_of_a_success { examples.FailureOfASuccess }
 {}

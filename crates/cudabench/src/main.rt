@@ -3,7 +3,7 @@
 #![tactic(auto)]
 
 use call::call_of;
-use programs::call_words;
+use programs::{Process, call_words};
 use report::{Stop, report};
 use std::fs::Files;
 use std::io;
@@ -25,7 +25,7 @@ fn mean_of_words<R: Clock + Files + AllocGlobal>(rt: &R, words: &[String]) -> Re
 }
 
 fn main(rt: HostRuntime) -> ExitCode {
-    let mean = match call_words(&rt) {
+    let mean = match call_words(rt.alloc(), &Process::new(&rt)) {
         Ok(words) => mean_of_words(&rt, words.as_slice()),
         Err(_) => Err(Stop::Fault(Fault::Memory)),
     };

@@ -11,7 +11,7 @@ use cuda_plans::plan::group_nvcc_subcommands_by_compilation_stage;
 use cuda_plans::ptxas::Ptxas;
 use cuda_plans::shell;
 use plan_texts::Tool;
-use programs::read_file;
+use programs::{Disk, Sources};
 use std::alloc::{AllocError, Global};
 use std::fs::Files;
 use std::time::{Clock, Instant};
@@ -172,8 +172,9 @@ fn mean_of_planned_files<R: Clock + Files + AllocGlobal>(
     setting: (&str, &str, &str),
     files: (&str, &str),
 ) -> Result<u128, Stop> {
-    let dry1 = read_file(rt, files.0)?;
-    let dry2 = read_file(rt, files.1)?;
+    let disk = Disk::new(rt);
+    let dry1 = disk.read_file(files.0)?;
+    let dry2 = disk.read_file(files.1)?;
     mean_of_plan(
         rt,
         alloc,
@@ -203,7 +204,7 @@ fn mean_of_split_file<R: Clock + Files + AllocGlobal>(
     count: u64,
     file: &str,
 ) -> Result<u128, Stop> {
-    let bytes = read_file(rt, file)?;
+    let bytes = Disk::new(rt).read_file(file)?;
     match str::from_utf8(bytes.as_slice()) {
         Ok(text) => mean_of_split(rt, alloc, count, text),
         Err(_) => Err(Stop::NoWords),
@@ -228,7 +229,7 @@ fn mean_of_read_file<R: Clock + Files + AllocGlobal>(
     count: u64,
     file: &str,
 ) -> Result<u128, Stop> {
-    let bytes = read_file(rt, file)?;
+    let bytes = Disk::new(rt).read_file(file)?;
     mean_of_read(rt, alloc, count, bytes.as_slice())
 }
 
@@ -286,7 +287,7 @@ fn mean_of_renamed_file<R: Clock + Files + AllocGlobal>(
     count: u64,
     file: &str,
 ) -> Result<u128, Stop> {
-    let bytes = read_file(rt, file)?;
+    let bytes = Disk::new(rt).read_file(file)?;
     mean_of_renamed_run(rt, alloc, count, bytes.as_slice())
 }
 

@@ -32,14 +32,14 @@ abbrev pub status_of : Result (Unit {0}) Stop → ℕ
 status_of (Ok _) = 0
 status_of (Err _) = 1
 
--- what the program writes for a call, given the engine's answer
-abbrev pub Serves : CallOf → Result (Unit {0}) Stop → Option (List ℕ) → Option (List ℕ) → Type 0
-Serves (reads c) answer before after = Delivers answer (shown_line c.tool c.cwd c.words) before after
-Serves (plans c) answer before after = PlansFiles c answer before after
+-- what the program writes for a call, given what files may hold, and the engine's answer
+abbrev pub Serves : (List ℕ → Option (List ℕ) → Type 0) → CallOf → Result (Unit {0}) Stop → Option (List ℕ) → Option (List ℕ) → Type 0
+Serves holds (reads c) answer before after = Delivers answer (shown_line c.tool c.cwd c.words) before after
+Serves holds (plans c) answer before after = PlansFiles holds c answer before after
 
 -- how a call ends: with status 2 and nothing written if the words are no call, else with the status of an engine's answer,
 -- and with what that engine writes
-abbrev pub Ends : ℕ → Option CallOf → Option (List ℕ) → Option (List ℕ) → Type 0
-Ends status call before after =
+abbrev pub Ends : (List ℕ → Option (List ℕ) → Type 0) → ℕ → Option CallOf → Option (List ℕ) → Option (List ℕ) → Type 0
+Ends holds status call before after =
     MatchOption call ((status ≡ 2) × Keeps before after)
-    (λ c. (answer : Result (Unit {0}) Stop) × (status ≡ status_of answer) × Serves c answer before after)
+    (λ c. (answer : Result (Unit {0}) Stop) × (status ≡ status_of answer) × Serves holds c answer before after)

@@ -2,7 +2,7 @@
 #![tactic(auto)]
 
 use program::{run_program, stopped};
-use programs::call_words;
+use programs::{Disk, Process, call_words};
 use std::io;
 use std::process::ExitCode;
 
@@ -11,8 +11,11 @@ mod program;
 
 fn main(rt: HostRuntime) -> ExitCode {
     let (mut out, mut err) = (rt.stdout(), rt.stderr());
-    ExitCode::from(match call_words(&rt) {
-        Ok(words) => run_program(&rt, words.as_slice(), &mut out, &mut err),
+    ExitCode::from(match call_words(rt.alloc(), &Process::new(&rt)) {
+        Ok(words) => {
+            let disk = Disk::new(&rt);
+            run_program(rt.alloc(), &disk, words.as_slice(), &mut out, &mut err)
+        }
         Err(stop) => stopped(&stop, &mut err),
     })
 }

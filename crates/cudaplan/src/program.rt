@@ -4,19 +4,24 @@ ghost use Rattle.std.specs.Prelude.{◌≡◌, map, string_bytes};
 ghost use Rattle.cudaplan.specs.Calls as spec;
 
 use crate::call::{Call, call_of};
-use programs::{Stop, complain, write_line, write_plan_of_files};
-use std::fs::Files;
+use programs::{Sources, Stop, complain, write_line, write_plan_of_files};
+use std::alloc::Global;
 use std::io::Write;
 
 const USAGE: &str = "usage: cudaplan line TOOL CWD WORD.. | plan CWD TMP FLAG DRY1 DRY2 SUFFIX..\n";
 
 // Runs the engine that a call asks for.
-fn serve<R: Files + AllocGlobal, W: Write>(rt: &R, call: &Call<'_>, out: &mut W) -> Result<(), Stop>
-    ensures { spec.Serves (spec.seen call.now) result (W.contents out.old) (W.contents out.new) }
+fn serve<S: Sources, W: Write>(
+    alloc: Global,
+    sources: &S,
+    call: &Call<'_>,
+    out: &mut W,
+) -> Result<(), Stop>
+    ensures { spec.Serves (S.holds sources.now) (spec.seen call.now) result (W.contents out.old) (W.contents out.new) }
 {
     match call {
-        Call::Line(line) => write_line(rt.alloc(), line.tool, line.cwd, line.words, out),
-        Call::Plan(plan) => write_plan_of_files(rt, plan, out),
+        Call::Line(line) => write_line(alloc, line.tool, line.cwd, line.words, out),
+        Call::Plan(plan) => write_plan_of_files(alloc, sources, plan, out),
     }
 }
 
@@ -38,20 +43,21 @@ fn ended<E: Write>(answer: &Result<(), Stop>, err: &mut E) -> u8
     }
 }
 
-/// Runs a call of the program, given the words after its name. The output goes to `out`, and the line that says why the
+/// Runs a call of the program, given the words after its name. The files come from `sources`. The output goes to `out`, and the line that says why the
 /// program stopped to `err`. Gives the exit status: 0 on success, 1 on a fault or if a write failed, 2 for wrong usage.
-pub fn run_program<R: Files + AllocGlobal, W: Write, E: Write>(
-    rt: &R,
+pub fn run_program<S: Sources, W: Write, E: Write>(
+    alloc: Global,
+    sources: &S,
     words: &[String],
     out: &mut W,
     err: &mut E,
 ) -> u8
-    ensures { spec.Ends result (spec.call_of (map string_bytes words.now)) (W.contents out.old) (W.contents out.new) }
+    ensures { spec.Ends (S.holds sources.now) result (spec.call_of (map string_bytes words.now)) (W.contents out.old) (W.contents out.new) }
 {
     let Some(call) = call_of(words) else {
         let _ = err.write_all(USAGE.as_bytes());
         return 2;
     };
-    let answer = serve(rt, &call, out);
+    let answer = serve(alloc, sources, &call, out);
     ended(&answer, err)
 }

@@ -1,7 +1,6 @@
 -- Lines that are read, written back and read again: the law, and its premises.
-use Rattle.std.specs.Prelude.{◌≡◌, ℕ, ◌≤◌, List, [], ◌++◌, Bool, true, not, ◌&&◌, Option, Some, Ok, IfSome, length, filter}
+use Rattle.std.specs.Prelude.{◌≡◌, ℕ, ◌≤◌, List, ◌++◌, Bool, true, Option, Some, Ok, IfSome, length, filter}
 use Rattle.std.specs.List.{AllByRecursion, flat_map, remove}
-use Rattle.std.specs.Str.{bytes_eq}
 use Rattle.texts.specs.declared.language.Language.{Language}
 use Rattle.texts.specs.declared.language.Language.TheVariants.{Ptx, CudaFE, Cubin}
 use Rattle.cuda_below.specs.declared.arguments.ParsedArguments.{ParsedArguments}
@@ -9,8 +8,8 @@ use Rattle.cuda_below.specs.declared.command.SingleCompileCommand.{SingleCompile
 use Rattle.cuda_below.specs.declared.command.Cacheable.{Cacheable}
 use Rattle.texts.specs.Path.{is_absolute_path}
 use Rattle.option_items.specs.Table.{Entry, longest_match}
-use Rattle.option_items.specs.Items.{Item, raw, unknown_flag, flag, with_value, faulty, items, words_of}
-use Rattle.option_items.specs.WordsLaw.{is_joined}
+use Rattle.option_items.specs.Items.{Item, faulty, items, words_of}
+use Rattle.option_items.specs.WordsLaw.{is_whole}
 use Rattle.device_lines.specs.declared.options.ArgData.{ArgData}
 use Rattle.device_lines.specs.Cicc.{cicc_options}
 use Rattle.device_lines.specs.CudaFE.{cudafe_options}
@@ -20,13 +19,10 @@ use Rattle.cuda_below.specs.Command.{written}
 use Rattle.device_lines.specs.DeviceWords.{cicc_words, cudafe_words}
 
 module _ {T : Type 0} where
-  -- whether an item lacks no value: none that it has is both joined to its option and empty
+  -- whether no value that an item has is both joined to its option and empty: it is faulty or whole
   abbrev pub is_filled : Item T → Bool
-  is_filled (raw word) = true
-  is_filled (unknown_flag word) = true
-  is_filled (flag text kind) = true
-  is_filled (with_value text kind value form) = not (is_joined form && bytes_eq value [])
   is_filled faulty = true
+  is_filled i = is_whole i
 
   -- no item of a list has a value that is both joined and empty
   abbrev pub AllFilled : List (Item T) → Type 0

@@ -14,16 +14,14 @@ pub use crate::input::{preprocess, read_bytes, read_file, read_input};
 pub use crate::options::ArgData;
 pub use crate::reader::parse_arguments;
 use crate::writer::option_words;
-use cuda_below::arguments::{CompilerArguments, ParsedArguments};
+use cuda_below::arguments::ParsedArguments;
 use cuda_below::command::{Cacheable, SingleCompileCommand};
-use cuda_below::compiler::{CCompilerImpl, CCompilerKind, Places};
 use option_items::table::{ArgInfo, SEPARATED, Table};
 use std::alloc::{AllocError, Global};
 pub use texts::device_files::{
     CICC_INPUT_SUFFIX, PTXAS_INPUT_SUFFIX, is_cicc_input, is_ptxas_input,
 };
 use texts::fault::Fault;
-use texts::language::Language;
 use texts::text::Text;
 use texts::words::Words;
 
@@ -86,68 +84,4 @@ pub fn generate_compile_commands(
 pub struct Cicc {
     /// The text of its version, if known.
     pub version: Option<Text>,
-}
-
-impl Cicc {
-    /// Copies the value into memory of its own.
-    pub fn try_clone(&self, alloc: Global) -> Result<Cicc, AllocError>
-        ensures { IfOk result (λ c. c ≡ self.now) }
-    {
-        let version = Text::clone_optional(alloc, &self.version)?;
-        Ok(Cicc { version })
-    }
-}
-
-impl CCompilerImpl for Cicc {
-    ghost use Rattle.std.specs.Prelude.{true};
-    ghost use Rattle.cuda_below.specs.declared.compiler.CCompilerKind.TheVariants as kinds;
-    ghost use Rattle.device_lines.specs.Cicc as spec;
-    ghost use Rattle.device_lines.specs.DeviceWords as words;
-    ghost use Rattle.cuda_below.specs.Command.{written};
-
-    type Command = SingleCompileCommand;
-
-    ghost kind = { λ _. kinds.Cicc };
-
-    ghost plusplus = { λ _. true };
-
-    ghost version = { λ c. c.version };
-
-    ghost reading = { λ _ line cwd _. spec.cicc_answer cwd line };
-
-    ghost writing = { λ _ executable p cwd env_vars _. written words.cicc_words executable p cwd env_vars };
-
-    fn kind(&self) -> CCompilerKind {
-        CCompilerKind::Cicc
-    }
-
-    fn plusplus(&self) -> bool {
-        true
-    }
-
-    fn version(&self, alloc: Global) -> Result<Option<String>, AllocError> {
-        Ok(Text::clone_optional(alloc, &self.version)?.map(Text::into_string))
-    }
-
-    fn parse_arguments(
-        &self,
-        alloc: Global,
-        arguments: &[String],
-        cwd: &str,
-        _env_vars: &[(String, String)],
-    ) -> Result<CompilerArguments<ParsedArguments>, AllocError> {
-        parse_arguments(alloc, arguments, cwd, Language::Ptx, table(), 3)
-    }
-
-    fn generate_compile_commands(
-        &self,
-        alloc: Global,
-        executable: &str,
-        parsed_args: &ParsedArguments,
-        cwd: &str,
-        env_vars: &[(String, String)],
-        _places: &Places,
-    ) -> Result<(SingleCompileCommand, Cacheable), Fault> {
-        generate_compile_commands(alloc, executable, parsed_args, cwd, env_vars)
-    }
 }

@@ -11,15 +11,12 @@ ghost use Rattle.device_lines.specs.CudaFE as spec;
 ghost use Rattle.device_lines.specs.DeviceWords as words;
 
 use crate::options::ArgData;
-use crate::reader::parse_arguments;
 use crate::writer::option_words;
-use cuda_below::arguments::{CompilerArguments, ParsedArguments};
+use cuda_below::arguments::ParsedArguments;
 use cuda_below::command::{Cacheable, SingleCompileCommand};
-use cuda_below::compiler::{CCompilerImpl, CCompilerKind, Places};
 use option_items::table::{ArgInfo, SEPARATED, Table};
 use std::alloc::{AllocError, Global};
 use texts::fault::Fault;
-use texts::language::Language;
 use texts::text::Text;
 use texts::words::Words;
 
@@ -75,68 +72,4 @@ pub fn generate_compile_commands(
 pub struct CudaFE {
     /// The text of its version, if known.
     pub version: Option<Text>,
-}
-
-impl CudaFE {
-    /// Copies the value into memory of its own.
-    pub fn try_clone(&self, alloc: Global) -> Result<CudaFE, AllocError>
-        ensures { IfOk result (λ c. c ≡ self.now) }
-    {
-        let version = Text::clone_optional(alloc, &self.version)?;
-        Ok(CudaFE { version })
-    }
-}
-
-impl CCompilerImpl for CudaFE {
-    ghost use Rattle.std.specs.Prelude.{true};
-    ghost use Rattle.cuda_below.specs.declared.compiler.CCompilerKind.TheVariants as kinds;
-    ghost use Rattle.device_lines.specs.CudaFE as spec;
-    ghost use Rattle.device_lines.specs.DeviceWords as words;
-    ghost use Rattle.cuda_below.specs.Command.{written};
-
-    type Command = SingleCompileCommand;
-
-    ghost kind = { λ _. kinds.CudaFE };
-
-    ghost plusplus = { λ _. true };
-
-    ghost version = { λ c. c.version };
-
-    ghost reading = { λ _ line cwd _. spec.cudafe_answer cwd line };
-
-    ghost writing = { λ _ executable p cwd env_vars _. written words.cudafe_words executable p cwd env_vars };
-
-    fn kind(&self) -> CCompilerKind {
-        CCompilerKind::CudaFE
-    }
-
-    fn plusplus(&self) -> bool {
-        true
-    }
-
-    fn version(&self, alloc: Global) -> Result<Option<String>, AllocError> {
-        Ok(Text::clone_optional(alloc, &self.version)?.map(Text::into_string))
-    }
-
-    fn parse_arguments(
-        &self,
-        alloc: Global,
-        arguments: &[String],
-        cwd: &str,
-        _env_vars: &[(String, String)],
-    ) -> Result<CompilerArguments<ParsedArguments>, AllocError> {
-        parse_arguments(alloc, arguments, cwd, Language::CudaFE, table(), 1)
-    }
-
-    fn generate_compile_commands(
-        &self,
-        alloc: Global,
-        executable: &str,
-        parsed_args: &ParsedArguments,
-        cwd: &str,
-        env_vars: &[(String, String)],
-        _places: &Places,
-    ) -> Result<(SingleCompileCommand, Cacheable), Fault> {
-        generate_compile_commands(alloc, executable, parsed_args, cwd, env_vars)
-    }
 }

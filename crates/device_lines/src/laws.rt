@@ -4,48 +4,14 @@ ghost use Rattle.std.specs.Prelude.{List, ℕ, Option};
 ghost use Rattle.texts.specs.Equality.{TellsEqual};
 ghost use Rattle.option_items.specs.Table.{Entry};
 ghost use Rattle.device_lines.specs.declared.options.ArgData as options;
-ghost use Rattle.device_lines.specs.DeviceExamples as lines;
+ghost use Rattle.device_lines.specs.DeviceExamples.{DeviceCodeLineIsRead, DeviceCodeLine, InputIsCutOutFirst, ShortLineIsNoCompilation, ThirdWordFromTheEndIsTheInput, FaultyItemIsDropped, HostLineIsRead};
 ghost use Rattle.device_lines.specs.Reread as spec;
-ghost use Rattle.device_lines.specs.RereadExamples as again;
+ghost use Rattle.device_lines.specs.RereadExamples.{DeviceCodeLineRereads, RenamedHostLineRereads, HostLineRereads, AssemblerLineRereads, EmptyValueIsLost, SecondInputComesFirst, RelativeFolderIsJoinedTwice};
 
 use crate::cicc::Cicc;
 use crate::cudafe::CudaFE;
 use crate::options::ArgData;
 use crate::ptxas::Ptxas;
-
-/// `==` on the compilers and on the kinds of options is true exactly for equal values.
-pub fn equality()
-    ensures cicc { TellsEqual ⟦<Cicc as PartialEq>⟧.eq }
-    ensures cudafe { TellsEqual ⟦<CudaFE as PartialEq>⟧.eq }
-    ensures ptxas { TellsEqual ⟦<Ptxas as PartialEq>⟧.eq }
-    ensures kind { TellsEqual ⟦<ArgData as PartialEq>⟧.eq }
-{}
-
-/// Examples: what lines are read as and written back as, by the definitions.
-pub fn worked_lines()
-    ensures device_code_line_is_read { lines.DeviceCodeLineIsRead }
-    ensures device_code_line { lines.DeviceCodeLine }
-    ensures input_is_cut_out_first { lines.InputIsCutOutFirst }
-    ensures short_line_is_no_compilation { lines.ShortLineIsNoCompilation }
-    ensures third_word_from_the_end_is_the_input { lines.ThirdWordFromTheEndIsTheInput }
-    ensures faulty_item_is_dropped { lines.FaultyItemIsDropped }
-    ensures host_line_is_read { lines.HostLineIsRead }
-{}
-
-/// Examples: lines that are written back and read again, by the definitions.
-///
-/// Four of them are read as the same arguments. The other three show why `reread` has its premises: an empty value
-/// (`empty_value_is_lost`), two words with the input's suffix (`second_input_comes_first`) and a relative working
-/// directory (`relative_folder_is_joined_twice`).
-pub fn worked_rereadings()
-    ensures device_code_line_rereads { again.DeviceCodeLineRereads }
-    ensures renamed_host_line_rereads { again.RenamedHostLineRereads }
-    ensures host_line_rereads { again.HostLineRereads }
-    ensures assembler_line_rereads { again.AssemblerLineRereads }
-    ensures empty_value_is_lost { again.EmptyValueIsLost }
-    ensures second_input_comes_first { again.SecondInputComesFirst }
-    ensures relative_folder_is_joined_twice { again.RelativeFolderIsJoinedTwice }
-{}
 
 /// A law over all lines: reading a cicc, ptxas or cudafe++ line, writing it back and reading that again, at the same
 /// working directory, gives the same arguments.
@@ -74,4 +40,38 @@ pub fn rereading_needs()
     ensures cicc_absolute_folder { spec.CiccLinesRereadAnywhere → ⊥ }
     ensures ptxas_absolute_folder { spec.PtxasLinesRereadAnywhere → ⊥ }
     ensures cudafe_absolute_folder { spec.CudaFELinesRereadAnywhere → ⊥ }
+{}
+
+/// Examples: what lines are read as and written back as, by the definitions.
+pub fn worked_lines()
+    ensures device_code_line_is_read { DeviceCodeLineIsRead }
+    ensures device_code_line { DeviceCodeLine }
+    ensures input_is_cut_out_first { InputIsCutOutFirst }
+    ensures short_line_is_no_compilation { ShortLineIsNoCompilation }
+    ensures third_word_from_the_end_is_the_input { ThirdWordFromTheEndIsTheInput }
+    ensures faulty_item_is_dropped { FaultyItemIsDropped }
+    ensures host_line_is_read { HostLineIsRead }
+{}
+
+/// Examples: lines that are written back and read again, by the definitions.
+///
+/// Four of them are read as the same arguments. The other three show why `reread` has its premises: an empty value
+/// (`empty_value_is_lost`), two words with the input's suffix (`second_input_comes_first`) and a relative working
+/// directory (`relative_folder_is_joined_twice`).
+pub fn worked_rereadings()
+    ensures device_code_line_rereads { DeviceCodeLineRereads }
+    ensures renamed_host_line_rereads { RenamedHostLineRereads }
+    ensures host_line_rereads { HostLineRereads }
+    ensures assembler_line_rereads { AssemblerLineRereads }
+    ensures empty_value_is_lost { EmptyValueIsLost }
+    ensures second_input_comes_first { SecondInputComesFirst }
+    ensures relative_folder_is_joined_twice { RelativeFolderIsJoinedTwice }
+{}
+
+/// `==` on the compilers and on the kinds of options is true exactly for equal values.
+pub fn equality()
+    ensures cicc { TellsEqual ⟦<Cicc as PartialEq>⟧.eq }
+    ensures cudafe { TellsEqual ⟦<CudaFE as PartialEq>⟧.eq }
+    ensures ptxas { TellsEqual ⟦<Ptxas as PartialEq>⟧.eq }
+    ensures kind { TellsEqual ⟦<ArgData as PartialEq>⟧.eq }
 {}

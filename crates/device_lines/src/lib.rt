@@ -8,4 +8,5 @@ pub mod laws;
 mod options;
 pub mod ptxas;
 mod reader;
+mod tools;
 mod writer;

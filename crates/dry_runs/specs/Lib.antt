@@ -2,7 +2,7 @@ pub mod CommandLines
 pub mod Computing
 pub mod DryRun
 pub mod DryRunLines
-pub mod DryRunRows
+pub mod DryRunExamples
 pub mod Environment
 pub mod FirstDir
 pub mod OneKernel

@@ -1,7 +1,7 @@
 //! Laws of dry runs, and runs worked out by hand, which the definitions compute.
 
 ghost use Rattle.texts.specs.Equality.{TellsEqual};
-ghost use Rattle.dry_runs.specs.DryRunRows.{OneKernelIsRead, LastLineNeedsNoNewline, NothingIsRead, UnmarkedLineIsNotText, QuoteIsOpen, CommentIsNoCommand, NoPathIsSet, DigitMakesACommand, PathIsEmpty, FirstBadLineDecides, ProgramsAreMissing, EmptyProgramIsLookedUp, ReferenceAtTheEndStays, OneReferenceExpandsAll, LetterFollowsAReference, FirstValueIsExpanded, ValuesAreExpandedInOrder, FirstPathCounts, OtherNamesAreRead, LastLineKeepsItsReturn, ByteOrderMarkUnmarks, ValuesAreKeptAsTheyStand, FirstFolderIsEmpty, FolderNeedsAPathToo, NameIsSetTwice, OtherCharactersEndAName, WordCharactersGoOn};
+ghost use Rattle.dry_runs.specs.DryRunExamples.{OneKernelIsRead, LastLineNeedsNoNewline, NothingIsRead, UnmarkedLineIsNotText, QuoteIsOpen, CommentIsNoCommand, NoPathIsSet, DigitMakesACommand, PathIsEmpty, FirstBadLineDecides, ProgramsAreMissing, EmptyProgramIsLookedUp, ReferenceAtTheEndStays, OneReferenceExpandsAll, LetterFollowsAReference, FirstValueIsExpanded, ValuesAreExpandedInOrder, FirstPathCounts, OtherNamesAreRead, LastLineKeepsItsReturn, ByteOrderMarkUnmarks, ValuesAreKeptAsTheyStand, FirstFolderIsEmpty, FolderNeedsAPathToo, NameIsSetTwice, OtherCharactersEndAName, WordCharactersGoOn};
 
 use crate::commands::{Commands, DryRun};
 

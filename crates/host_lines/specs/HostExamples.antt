@@ -4,75 +4,62 @@ use Rattle.texts.specs.declared.fault.Fault.{Fault}
 use Rattle.texts.specs.declared.fault.Fault.TheVariants.{KeepDirValue, ThreadsValue, NoPreprocess}
 use Rattle.texts.specs.declared.language.Language.{Language}
 use Rattle.texts.specs.declared.language.Language.TheVariants.{C, Cxx, Cuda, Ptx}
-use Rattle.texts.specs.Rows.{spaced}
+use Rattle.texts.specs.Rows.{spaced, Gives}
 use Rattle.cuda_below.specs.declared.arguments.ParsedArguments.{ParsedArguments}
 use Rattle.cuda_below.specs.declared.command.SingleCompileCommand.{SingleCompileCommand}
 use Rattle.cuda_below.specs.declared.compiler.NvccHostCompiler.TheVariants as host
 use Rattle.cuda_below.specs.Compiler.{Reading, accepted, not_compilation}
-use Rattle.cuda_below.specs.GccRows.{compiled}
+use Rattle.cuda_below.specs.GccExamples.{compiled}
 use Rattle.host_lines.specs.KeepThreads.{keep_of, threads_of}
 use Rattle.host_lines.specs.Nvhpc.{nvhpc_reading}
 use Rattle.host_lines.specs.Preprocess.{nvcc_dependency_words, nvcc_preprocess, nvhpc_preprocess}
 
 -- what the words for kept files say, at the working directory `/w`
-pub record KeepWordsTaken : Type 0 where
-  pub directory_is_joined : keep_of (codes "/w") (spaced "-keep -keep-dir out") ≡ Ok ([], Some (codes "/w/out"))
-  pub directory_alone_keeps_nothing : keep_of (codes "/w") (spaced "-keep-dir out") ≡ Ok ([], None)
-  pub keep_option_as_a_value : keep_of (codes "/w") (spaced "-keep-dir -keep") ≡ Ok ([], None)
-  pub keep_without_a_directory : keep_of (codes "/w") (spaced "-keep") ≡ Ok ([], Some (codes "/w"))
-  pub directory_is_missing : keep_of (codes "/w") (spaced "-keep-dir") ≡ Err KeepDirValue
-  pub directory_is_empty :
-      keep_of (codes "/w") (codes "-keep" ∷ codes "-keep-dir" ∷ [] ∷ []) ≡ Ok ([], Some (codes "/w/"))
-  pub directory_option_as_a_value :
-      keep_of (codes "/w") (spaced "-keep -keep-dir -keep-dir") ≡ Ok ([], Some (codes "/w/-keep-dir"))
-  pub last_directory_counts :
-      keep_of (codes "/w") (spaced "--keep-dir a -g --save-temps -keep-dir /b -c") ≡
-      Ok (spaced "-g -c", Some (codes "/b"))
-  pub threads_option_stays :
-      keep_of (codes "/w") (spaced "--threads -keep") ≡ Ok (spaced "--threads", Some (codes "/w"))
+abbrev pub KeepWordsTaken : Type 0
+KeepWordsTaken = Gives (keep_of (codes "/w")) (
+    -- the directory is joined to the working directory, and alone it keeps nothing
+    (spaced "-keep -keep-dir out", Ok ([], Some (codes "/w/out")))
+    ∷ (spaced "-keep-dir out", Ok ([], None))
+    -- the option that keeps files can be the directory
+    ∷ (spaced "-keep-dir -keep", Ok ([], None))
+    -- no directory, a missing one, and an empty one
+    ∷ (spaced "-keep", Ok ([], Some (codes "/w")))
+    ∷ (spaced "-keep-dir", Err KeepDirValue)
+    ∷ (codes "-keep" ∷ codes "-keep-dir" ∷ [] ∷ [], Ok ([], Some (codes "/w/")))
+    -- the directory's option can be the directory
+    ∷ (spaced "-keep -keep-dir -keep-dir", Ok ([], Some (codes "/w/-keep-dir")))
+    -- the last directory counts, and other words stay
+    ∷ (spaced "--keep-dir a -g --save-temps -keep-dir /b -c", Ok (spaced "-g -c", Some (codes "/b")))
+    ∷ (spaced "--threads -keep", Ok (spaced "--threads", Some (codes "/w")))
+    ∷ [])
 
 pub keep_words_taken : KeepWordsTaken
-keep_words_taken = record {
-  directory_is_joined = refl;
-  directory_alone_keeps_nothing = refl;
-  keep_option_as_a_value = refl;
-  keep_without_a_directory = refl;
-  directory_is_missing = refl;
-  directory_is_empty = refl;
-  directory_option_as_a_value = refl;
-  last_directory_counts = refl;
-  threads_option_stays = refl;
-}
+keep_words_taken = refl
 
 -- what the words for threads say
-pub record ThreadWordsTaken : Type 0 where
-  pub threads_option_that_stayed : threads_of (spaced "--threads") ≡ Err ThreadsValue
-  pub last_number_counts : threads_of (spaced "-t1 -t=2 -t3 --threads 1 --threads 2") ≡ Ok ([], 2)
-  pub joined_number_after_a_separate_one : threads_of (spaced "--threads 4 -t2") ≡ Ok ([], 2)
-  -- the word `-té=1`: the bytes 195 and 169 are `é`
-  pub cut_inside_a_character : threads_of ((45 ∷ 116 ∷ 195 ∷ 169 ∷ 61 ∷ 49 ∷ []) ∷ []) ≡ Ok ([], 1)
-  pub threads_option_as_a_value : threads_of (spaced "--threads --threads") ≡ Ok ([], 1)
-  pub number_with_a_plus : threads_of (spaced "-t+7") ≡ Ok ([], 7)
-  pub number_with_two_pluses : threads_of (spaced "-t++7") ≡ Ok ([], 1)
-  pub number_with_leading_zeros : threads_of (spaced "-t=007 -g") ≡ Ok (spaced "-g", 7)
-  pub greatest_number : threads_of (spaced "-t18446744073709551615") ≡ Ok ([], 18446744073709551615)
-  pub number_past_the_greatest : threads_of (spaced "-t18446744073709551616") ≡ Ok ([], 1)
-  pub equals_anywhere : threads_of (spaced "-t12= -t123 -t4=5") ≡ Ok ([], 123)
+abbrev pub ThreadWordsTaken : Type 0
+ThreadWordsTaken = Gives threads_of (
+    -- a missing number, and the last of several
+    (spaced "--threads", Err ThreadsValue)
+    ∷ (spaced "-t1 -t=2 -t3 --threads 1 --threads 2", Ok ([], 2))
+    ∷ (spaced "--threads 4 -t2", Ok ([], 2))
+    -- the word `-té=1`: the bytes 195 and 169 are `é`, and the number is read from the middle of it
+    ∷ ((45 ∷ 116 ∷ 195 ∷ 169 ∷ 61 ∷ 49 ∷ []) ∷ [], Ok ([], 1))
+    -- what isn't a number counts as 1
+    ∷ (spaced "--threads --threads", Ok ([], 1))
+    ∷ (spaced "-t++7", Ok ([], 1))
+    -- a number may begin with a plus or with zeros
+    ∷ (spaced "-t+7", Ok ([], 7))
+    ∷ (spaced "-t=007 -g", Ok (spaced "-g", 7))
+    -- the greatest number, and one more
+    ∷ (spaced "-t18446744073709551615", Ok ([], 18446744073709551615))
+    ∷ (spaced "-t18446744073709551616", Ok ([], 1))
+    -- `=` anywhere in a joined number
+    ∷ (spaced "-t12= -t123 -t4=5", Ok ([], 123))
+    ∷ [])
 
 pub thread_words_taken : ThreadWordsTaken
-thread_words_taken = record {
-  threads_option_that_stayed = refl;
-  last_number_counts = refl;
-  joined_number_after_a_separate_one = refl;
-  cut_inside_a_character = refl;
-  threads_option_as_a_value = refl;
-  number_with_a_plus = refl;
-  number_with_two_pluses = refl;
-  number_with_leading_zeros = refl;
-  greatest_number = refl;
-  number_past_the_greatest = refl;
-  equals_anywhere = refl;
-}
+thread_words_taken = refl
 
 -- the words of the commands that preprocess a line's input
 abbrev pub words_of_commands : Result (List SingleCompileCommand) Fault → Result (List (List (List ℕ))) Fault
@@ -127,37 +114,36 @@ abbrev pub read_by_nvhpc : List (List ℕ) → Reading
 read_by_nvhpc words = nvhpc_reading false (codes ".") words
 
 -- what lines of nvhpc are read as
-pub record NvhpcLinesRead : Type 0 where
-  -- options of gcc's table and of nvhpc's: a value in its option's word becomes a word of its own if the
-  -- option's text is long
-  pub reads_by_both_tables :
-      read_by_nvhpc
-      (spaced "-c foo.cpp -fabc -I include-file -o foo.o --include-path include-file"
-      ++ spaced "-isystem /system/include/file -gpu=ccnative -Werror an_error") ≡
+abbrev pub NvhpcLinesRead : Type 0
+NvhpcLinesRead = Gives read_by_nvhpc (
+    -- options of gcc's table and of nvhpc's: a value in its option's word becomes a word of its own if the
+    -- option's text is long
+    (
+      spaced "-c foo.cpp -fabc -I include-file -o foo.o --include-path include-file"
+          ++ spaced "-isystem /system/include/file -gpu=ccnative -Werror an_error",
       accepted (record (compiled (codes "foo.cpp") Cxx (codes "foo.o")) {
         preprocessor_args = spaced "-Iinclude-file --include-path include-file -isystem /system/include/file -Werror an_error";
         common_args = spaced "-fabc -gpu ccnative";
-      })
-  -- `=` is a part of a value whose option takes none
-  pub takes_an_equals_sign_as_value :
-      read_by_nvhpc (spaced "-c foo.c --include-path=inc") ≡
-      accepted (record (compiled (codes "foo.c") C (codes "foo.o")) { preprocessor_args = spaced "--include-path =inc" })
-  -- `-acc` takes the flag for the compilation as its value
-  pub takes_the_next_word : read_by_nvhpc (spaced "-acc -c foo.c") ≡ not_compilation
-  -- a flag takes no value: with one it is an unknown flag
-  pub knows_no_flag_with_a_value :
-      read_by_nvhpc (spaced "-c foo.c -save-temps=obj") ≡
-      accepted (record (compiled (codes "foo.c") C (codes "foo.o")) { common_args = spaced "-save-temps=obj" })
-  -- of two entries with the same text nvhpc's counts; its value may be joined
-  pub joins_by_the_second_table :
-      read_by_nvhpc (spaced "-x=c++ -c foo.c -Xlinker=-s") ≡
-      accepted (record (compiled (codes "foo.c") Cxx (codes "foo.o")) { common_args = spaced "-Xlinker -s" })
+      }),
+    )
+    -- `=` is a part of a value whose option takes none
+    ∷ (
+      spaced "-c foo.c --include-path=inc",
+      accepted (record (compiled (codes "foo.c") C (codes "foo.o")) { preprocessor_args = spaced "--include-path =inc" }),
+    )
+    -- `-acc` takes the flag for the compilation as its value
+    ∷ (spaced "-acc -c foo.c", not_compilation)
+    -- a flag takes no value: with one it is an unknown flag
+    ∷ (
+      spaced "-c foo.c -save-temps=obj",
+      accepted (record (compiled (codes "foo.c") C (codes "foo.o")) { common_args = spaced "-save-temps=obj" }),
+    )
+    -- of two entries with the same text nvhpc's counts; its value may be joined
+    ∷ (
+      spaced "-x=c++ -c foo.c -Xlinker=-s",
+      accepted (record (compiled (codes "foo.c") Cxx (codes "foo.o")) { common_args = spaced "-Xlinker -s" }),
+    )
+    ∷ [])
 
 pub nvhpc_lines_read : NvhpcLinesRead
-nvhpc_lines_read = record {
-  reads_by_both_tables = refl;
-  takes_an_equals_sign_as_value = refl;
-  takes_the_next_word = refl;
-  knows_no_flag_with_a_value = refl;
-  joins_by_the_second_table = refl;
-}
+nvhpc_lines_read = refl

@@ -4,7 +4,7 @@ use Rattle.std.specs.List.{flat_map}
 use Rattle.cuda_below.specs.declared.compiler.NvccHostCompiler.TheVariants.{Gcc}
 use Rattle.command_groups.specs.Plan.{plan_of}
 use Rattle.dry_runs.specs.OneKernel.{at, commands_of}
-use Rattle.command_groups.specs.PlanRows.{setting, plan_of_both, step_and_cicc_twice}
+use Rattle.command_groups.specs.PlanExamples.{setting, plan_of_both, step_and_cicc_twice}
 use Rattle.plan_texts.specs.ShownPlan.{show_plan}
 
 -- a text of lines

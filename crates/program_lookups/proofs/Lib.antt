@@ -1,6 +1,5 @@
 mod AskedLemmas
 mod FirstLemmas
 mod KnownLemmas
-mod PathLemmas
 mod ReadingLemmas
 mod SnapshotLemmas

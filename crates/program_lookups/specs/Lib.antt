@@ -1,5 +1,5 @@
 pub mod Asked
-pub mod AskedRows
+pub mod AskedExamples
 pub mod Candidates
 pub mod Laws
 pub mod Lookup

@@ -1,6 +1,6 @@
 //! Laws of asked look-ups and of snapshots.
 
-ghost use Rattle.program_lookups.specs.AskedRows.{AskedInOrder, AskedExpanded, AskedBeforeABadLine, AskedByBoth, AskedByAnotherPath};
+ghost use Rattle.program_lookups.specs.AskedExamples.{AskedInOrder, AskedExpanded, AskedBeforeABadLine, AskedByBoth, AskedByAnotherPath};
 ghost use Rattle.program_lookups.specs.Laws.{ReadsAlike, SnapshotReads, AskedOnce, FirstFolderIsFirst};
 
 /// What a dry run says depends on a look-up by its answers to what the dry run asks for, and by nothing else.

@@ -49,16 +49,9 @@ impl Lookup {
 fn holds(lookups: &[Lookup], lookup: &Lookup) -> bool
     ensures { result ≡ list_any (λ known. same_lookup known lookup.now) lookups.now }
 {
-    for known in lookups {
-        if known.is(
-            lookup.program.as_str(),
-            lookup.path.as_str(),
-            lookup.folder.as_str(),
-        ) {
-            return true;
-        }
-    }
-    false
+    let (program, path) = (lookup.program.as_str(), lookup.path.as_str());
+    let folder = lookup.folder.as_str();
+    lookups.iter().any(|known| known.is(program, path, folder))
 }
 
 // Puts a look-up last, unless the list has it.

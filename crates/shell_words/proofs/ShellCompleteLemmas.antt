@@ -15,27 +15,24 @@ data Follows : List ℕ → List (List ℕ) → Type 0 where
   follows_end : Follows [] []
   follows_text : (c : ℕ) (rest : List ℕ) (words : List (List ℕ)) → is_blank c ≡ true → IsText rest words → Follows (c ∷ rest) words
 
--- the rest of a text from inside a word, and its words, the first of which is the rest of that word
-record Tail (cs : List ℕ) (words : List (List ℕ)) : Type 0 where
-  pieces : List ℕ
+-- a text that is cut in two: what its first part and what the rest of it gives, and how its words are put together of both
+record Cut (First : List ℕ → List ℕ → Type 0) (Later : List ℕ → List (List ℕ) → Type 0) (put : List ℕ → List (List ℕ) → List (List ℕ)) (cs : List ℕ) (words : List (List ℕ)) : Type 0 where
+  first : List ℕ
   rest : List ℕ
   given : List ℕ
   later : List (List ℕ)
-  are_pieces : IsPieces pieces given
-  follows : Follows rest later
-  is_text : pieces ++ rest ≡ cs
-  are_words : given ∷ later ≡ words
+  is_first : First first given
+  is_rest : Later rest later
+  is_text : first ++ rest ≡ cs
+  are_words : put given later ≡ words
+
+-- the rest of a text from inside a word, and its words, the first of which is the rest of that word
+abbrev Tail : List ℕ → List (List ℕ) → Type 0
+Tail = Cut IsPieces Follows (λ given later. given ∷ later)
 
 -- a piece of a word, and then the rest of the text
-record Begins (cs : List ℕ) (words : List (List ℕ)) : Type 0 where
-  piece : List ℕ
-  rest : List ℕ
-  given : List ℕ
-  later : List (List ℕ)
-  is_piece : IsPiece piece given
-  tail : Tail rest later
-  is_text : piece ++ rest ≡ cs
-  are_words : prepend given later ≡ words
+abbrev Begins : List ℕ → List (List ℕ) → Type 0
+Begins = Cut IsPiece Tail prepend
 
 -- the rest of a text from between single quotes
 record InSingle (cs : List ℕ) (words : List (List ℕ)) : Type 0 where
@@ -80,30 +77,30 @@ prepend-prepend first second (w ∷ words) = ap (λ v. v ∷ words) (append_asso
 
 tail_of_begins : (cs : List ℕ) (words : List (List ℕ)) → Begins cs words → Tail cs words
 tail_of_begins cs words b = record {
-  pieces = b.piece ++ b.tail.pieces;
-  rest = b.tail.rest;
-  given = b.given ++ b.tail.given;
-  later = b.tail.later;
-  are_pieces = pieces_more b.piece b.tail.pieces b.given b.tail.given b.is_piece b.tail.are_pieces;
-  follows = b.tail.follows;
-  is_text = append_assoc b.piece b.tail.pieces b.tail.rest ∙ ap (λ t. b.piece ++ t) b.tail.is_text ∙ b.is_text;
-  are_words = ap (prepend b.given) b.tail.are_words ∙ b.are_words;
+  first = b.first ++ b.is_rest.first;
+  rest = b.is_rest.rest;
+  given = b.given ++ b.is_rest.given;
+  later = b.is_rest.later;
+  is_first = pieces_more b.first b.is_rest.first b.given b.is_rest.given b.is_first b.is_rest.is_first;
+  is_rest = b.is_rest.is_rest;
+  is_text = append_assoc b.first b.is_rest.first b.is_rest.rest ∙ ap (λ t. b.first ++ t) b.is_rest.is_text ∙ b.is_text;
+  are_words = ap (prepend b.given) b.is_rest.are_words ∙ b.are_words;
 }
 
 text_of_word : (written given rest : List ℕ) (later : List (List ℕ)) → IsWord written given → Follows rest later → IsText (written ++ rest) (given ∷ later)
 text_of_word written given rest later is follows_end = subst (λ t. IsText t (given ∷ [])) (sym (append-nil written)) (text_word written given is)
 text_of_word written given rest later is (follows_text c after words blank_is text) = text_words written given c after words is blank_is text
 
-text_of_begins : (cs : List ℕ) (words : List (List ℕ)) (b : Begins cs words) → b.piece ≢ hash ∷ [] → IsText cs words
+text_of_begins : (cs : List ℕ) (words : List (List ℕ)) (b : Begins cs words) → b.first ≢ hash ∷ [] → IsText cs words
 text_of_begins cs words b no_hash =
-    let is : IsWord (b.piece ++ b.tail.pieces) (b.given ++ b.tail.given) =
-    word b.piece b.tail.pieces b.given b.tail.given b.is_piece no_hash b.tail.are_pieces in
-    let text : IsText ((b.piece ++ b.tail.pieces) ++ b.tail.rest) ((b.given ++ b.tail.given) ∷ b.tail.later) =
-    text_of_word _ _ _ _ is b.tail.follows in
-    let is_text : (b.piece ++ b.tail.pieces) ++ b.tail.rest ≡ cs =
-    append_assoc b.piece b.tail.pieces b.tail.rest ∙ ap (λ t. b.piece ++ t) b.tail.is_text ∙ b.is_text in
-    let are_words : (b.given ++ b.tail.given) ∷ b.tail.later ≡ words = ap (prepend b.given) b.tail.are_words ∙ b.are_words in
-    subst (λ t. IsText t words) is_text (subst (IsText ((b.piece ++ b.tail.pieces) ++ b.tail.rest)) are_words text)
+    let is : IsWord (b.first ++ b.is_rest.first) (b.given ++ b.is_rest.given) =
+    word b.first b.is_rest.first b.given b.is_rest.given b.is_first no_hash b.is_rest.is_first in
+    let text : IsText ((b.first ++ b.is_rest.first) ++ b.is_rest.rest) ((b.given ++ b.is_rest.given) ∷ b.is_rest.later) =
+    text_of_word _ _ _ _ is b.is_rest.is_rest in
+    let is_text : (b.first ++ b.is_rest.first) ++ b.is_rest.rest ≡ cs =
+    append_assoc b.first b.is_rest.first b.is_rest.rest ∙ ap (λ t. b.first ++ t) b.is_rest.is_text ∙ b.is_text in
+    let are_words : (b.given ++ b.is_rest.given) ∷ b.is_rest.later ≡ words = ap (prepend b.given) b.is_rest.are_words ∙ b.are_words in
+    subst (λ t. IsText t words) is_text (subst (IsText ((b.first ++ b.is_rest.first) ++ b.is_rest.rest)) are_words text)
 
 -- one more inner piece
 more_inside : (piece given cs : List ℕ) (words : List (List ℕ)) → IsInnerPiece piece given → InDouble cs words → InDouble (piece ++ cs) (prepend given words)
@@ -120,36 +117,36 @@ more_inside piece given cs words is d = record {
 
 begins_single : (cs : List ℕ) (words : List (List ℕ)) → InSingle cs words → Begins (single_quote ∷ cs) words
 begins_single cs words s = record {
-  piece = single_quote ∷ s.inside ++ single_quote ∷ [];
+  first = single_quote ∷ s.inside ++ single_quote ∷ [];
   rest = s.rest;
   given = s.inside;
   later = s.later;
-  is_piece = single_quoted s.inside s.none;
-  tail = s.tail;
+  is_first = single_quoted s.inside s.none;
+  is_rest = s.tail;
   is_text = ap (λ t. single_quote ∷ t) (append_assoc s.inside (single_quote ∷ []) s.rest ∙ s.is_text);
   are_words = s.are_words;
 }
 
 begins_double : (cs : List ℕ) (words : List (List ℕ)) → InDouble cs words → Begins (double_quote ∷ cs) words
 begins_double cs words d = record {
-  piece = double_quote ∷ d.inside ++ double_quote ∷ [];
+  first = double_quote ∷ d.inside ++ double_quote ∷ [];
   rest = d.rest;
   given = d.given;
   later = d.later;
-  is_piece = double_quoted d.inside d.given d.is_inside;
-  tail = d.tail;
+  is_first = double_quoted d.inside d.given d.is_inside;
+  is_rest = d.tail;
   is_text = ap (λ t. double_quote ∷ t) (append_assoc d.inside (double_quote ∷ []) d.rest ∙ d.is_text);
   are_words = d.are_words;
 }
 
 begins_with : (piece given cs : List ℕ) (words : List (List ℕ)) → IsPiece piece given → Tail cs words → Begins (piece ++ cs) (prepend given words)
 begins_with piece given cs words is tail = record {
-  piece = piece;
+  first = piece;
   rest = cs;
   given = given;
   later = words;
-  is_piece = is;
-  tail = tail;
+  is_first = is;
+  is_rest = tail;
   is_text = refl;
   are_words = refl;
 }
@@ -184,7 +181,7 @@ piece_step c cs later =
     (bare c not_blank (eqb-false c single_quote not_single) (eqb-false c double_quote not_double) (eqb-false c backslash not_backslash)) tail)))
 
 -- a piece that begins with no `#` is no bare `#`
-no_bare_hash : (c : ℕ) (cs : List ℕ) (words : List (List ℕ)) (b : Begins (c ∷ cs) words) → c ≢ hash → b.piece ≢ hash ∷ []
+no_bare_hash : (c : ℕ) (cs : List ℕ) (words : List (List ℕ)) (b : Begins (c ∷ cs) words) → c ≢ hash → b.first ≢ hash ∷ []
 no_bare_hash c cs words b differs is =
     let same : hash ∷ b.rest ≡ c ∷ cs = ap (λ p. p ++ b.rest) (sym is) ∙ b.is_text in
     differs cc
@@ -212,12 +209,12 @@ word_step : (c : ℕ) (cs : List ℕ) (later : List (List ℕ)) → Reads Word c
 word_step c cs later =
     cond_both (is_blank c) _ _ (Reads Word c cs later)
     (λ is text. record {
-      pieces = [];
+      first = [];
       rest = c ∷ cs;
       given = [];
       later = later;
-      are_pieces = pieces_end;
-      follows = follows_text c cs later is text;
+      is_first = pieces_end;
+      is_rest = follows_text c cs later is text;
       is_text = refl;
       are_words = refl;
     })
@@ -293,12 +290,12 @@ at_end : (state : State) (words : List (List ℕ)) → words_at_end state ≡ So
 at_end Between words is = let e : [] ≡ words = cc in subst (IsText []) e text_end
 at_end Comment words is = let e : [] ≡ words = cc in subst (InComment []) e (comment_ends [] tt)
 at_end Word words is = record {
-  pieces = [];
+  first = [];
   rest = [];
   given = [];
   later = [];
-  are_pieces = pieces_end;
-  follows = follows_end;
+  is_first = pieces_end;
+  is_rest = follows_end;
   is_text = refl;
   are_words = cc;
 }

@@ -16,17 +16,17 @@ use cuda_plans::runner::{Answer, Place, Runner};
 use cuda_plans::status::{ExitStatus, Output};
 use std::alloc::{AllocError, Global};
 
+/// A runner that starts nothing. It records each command and reports success.
+#[derive(Drop)]
+pub struct Recorder {
+    pub started: Vec<Started>,
+}
+
 /// A command to start, and its place.
 #[derive(Drop)]
 pub struct Started {
     pub place: Place,
     pub command: NvccGeneratedSubcommand,
-}
-
-/// A runner that starts nothing. It records each command and reports success.
-#[derive(Drop)]
-pub struct Recorder {
-    pub started: Vec<Started>,
 }
 
 // The output of a process that succeeds and writes nothing.

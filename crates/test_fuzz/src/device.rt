@@ -247,7 +247,7 @@ fn check_refusal(stop: &Stop, out: &[u8], tally: &mut Tally) -> Result<(), Alloc
     match stop {
         Stop::Fault(fault) => tally.refused(fault),
         Stop::NotCompilation => tally.count("lines that are no compilation"),
-        Stop::CannotCache(_) | Stop::Unwritable(_) => {
+        Stop::ToNvcc(_) | Stop::Unwritable(_) => {
             tally.expect(false, "a device line stops for no reason of another call")
         }
         Stop::Write => tally.expect(false, "a writer that takes all fails nowhere"),

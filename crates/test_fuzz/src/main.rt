@@ -6,7 +6,7 @@
 
 use call::call_of;
 use cases::run;
-use programs::call_words;
+use programs::{Process, call_words};
 use report::report;
 use run_error::RunError;
 use std::alloc::Global;
@@ -44,7 +44,7 @@ fn run_words(alloc: Global, words: &[String]) -> Result<Tally, RunError> {
 }
 
 fn main(rt: HostRuntime) -> ExitCode {
-    let answer = match call_words(&rt) {
+    let answer = match call_words(rt.alloc(), &Process::new(&rt)) {
         Ok(words) => run_words(rt.alloc(), words.as_slice()),
         Err(_) => Err(RunError::Memory),
     };

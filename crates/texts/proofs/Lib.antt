@@ -1,3 +1,4 @@
+pub mod CutLemmas
 pub mod EqualityLemmas
 pub mod ExtensionLemmas
 pub mod ListLemmas

@@ -1,11 +1,12 @@
 -- The texts of the languages, and the languages of files.
-use Rattle.std.specs.Prelude.{◌≡◌, ℕ, List, [], ◌∷◌, Option, Some, None, refl, codes}
+use Rattle.std.specs.Prelude.{ℕ, List, [], ◌∷◌, Option, Some, None, refl, codes}
 use Rattle.std.specs.Option.{option_and_then}
 use Rattle.std.specs.Map.{lookup}
 use Rattle.std.specs.Str.{bytes_eq}
 use Rattle.texts.specs.declared.language.Language.{Language}
 use Rattle.texts.specs.declared.language.Language.TheVariants.{C, Cxx, ObjectiveC, ObjectiveCxx, Cuda, CudaFE, Ptx, Cubin}
 use Rattle.texts.specs.Extension.{extension_of}
+use Rattle.texts.specs.Rows.{Gives}
 
 -- a language's text in messages
 abbrev pub language_text : Language → List ℕ
@@ -28,18 +29,12 @@ language_extensions =
 abbrev pub language_of_file : List ℕ → Option Language
 language_of_file path = option_and_then (λ extension. lookup (bytes_eq extension) language_extensions) (extension_of path)
 
--- examples
-pub language_of_a_c_file : language_of_file (codes "a/foo.c") ≡ Some C
-language_of_a_c_file = refl
-
-pub language_of_a_capital_c_file : language_of_file (codes "foo.C") ≡ Some Cxx
-language_of_a_capital_c_file = refl
-
-pub language_of_a_cuda_file : language_of_file (codes "k.tar.cu") ≡ Some Cuda
-language_of_a_cuda_file = refl
-
-pub language_of_a_text_file : language_of_file (codes "a.txt") ≡ None
-language_of_a_text_file = refl
-
-pub language_of_a_hidden_file : language_of_file (codes "c.c/.c") ≡ None
-language_of_a_hidden_file = refl
+-- examples: the last extension counts, capitals differ from small letters, and a hidden file has no extension
+pub languages_of_files : Gives language_of_file (
+    (codes "a/foo.c", Some C)
+    ∷ (codes "foo.C", Some Cxx)
+    ∷ (codes "k.tar.cu", Some Cuda)
+    ∷ (codes "a.txt", None)
+    ∷ (codes "c.c/.c", None)
+    ∷ [])
+languages_of_files = refl

@@ -4,6 +4,7 @@ use Rattle.std.specs.List.{ends_with}
 use Rattle.std.specs.Option.{option_map}
 use Rattle.std.specs.Str.{bytes_eq}
 use Rattle.texts.specs.Extension.{last_part, stem_of}
+use Rattle.texts.specs.Rows.{Gives}
 
 -- a path is absolute if it begins with `/`
 abbrev pub is_absolute_path : List ℕ → Bool
@@ -19,20 +20,14 @@ abbrev pub joined : List ℕ → List ℕ → List ℕ
 joined base path = if is_absolute_path path then path else (base ++ separator_after base) ++ path
 
 -- examples: an absolute path stays, a relative one is put below the folder, and no second `/` is added
-pub joins_relative : joined (codes "/w") (codes "kernel.ptx") ≡ codes "/w/kernel.ptx"
-joins_relative = refl
-
-pub joins_below_a_dot : joined (codes ".") (codes "kernel.ptx") ≡ codes "./kernel.ptx"
-joins_below_a_dot = refl
-
-pub joins_below_the_root : joined (codes "/") (codes "w") ≡ codes "/w"
-joins_below_the_root = refl
-
-pub joins_nothing : joined (codes "/w") [] ≡ codes "/w/"
-joins_nothing = refl
-
-pub keeps_an_absolute_path : joined (codes "/w") (codes "/t/a.ptx") ≡ codes "/t/a.ptx"
-keeps_an_absolute_path = refl
+pub joined_paths : Gives (λ (paths : List ℕ × List ℕ). joined paths.0 paths.1) (
+    ((codes "/w", codes "kernel.ptx"), codes "/w/kernel.ptx")
+    ∷ ((codes ".", codes "kernel.ptx"), codes "./kernel.ptx")
+    ∷ ((codes "/", codes "w"), codes "/w")
+    ∷ ((codes "/w", []), codes "/w/")
+    ∷ ((codes "/w", codes "/t/a.ptx"), codes "/t/a.ptx")
+    ∷ [])
+joined_paths = refl
 
 -- whether a text lacks a byte
 abbrev pub lacks : ℕ → List ℕ → Bool
@@ -87,91 +82,49 @@ file_stem_of path = option_map stem_of (file_name_of path)
 
 -- examples of folders: a bare name has none; what ends a folder's text goes, but within it all stays; the root stays,
 -- and so do a `.` that begins the name, and `..`
-pub no_folder : folder_of (codes "k") ≡ []
-no_folder = refl
-
-pub plain_folder : folder_of (codes "a/b/k.ptx") ≡ codes "a/b"
-plain_folder = refl
-
-pub folder_after_a_dot : folder_of (codes "a/./k.cpp4.ii") ≡ codes "a"
-folder_after_a_dot = refl
-
-pub folder_within_keeps_its_text : folder_of (codes "a//./b/k") ≡ codes "a//./b"
-folder_within_keeps_its_text = refl
-
-pub folder_of_a_folder : folder_of (codes "a/b/") ≡ codes "a/b"
-folder_of_a_folder = refl
-
-pub folder_of_the_root : folder_of (codes "/") ≡ codes "/"
-folder_of_the_root = refl
-
-pub folder_at_the_root : folder_of (codes "//./k") ≡ codes "/"
-folder_at_the_root = refl
-
-pub folder_that_is_a_dot : folder_of (codes "./k") ≡ codes "."
-folder_that_is_a_dot = refl
-
-pub folder_above : folder_of (codes "a/../k") ≡ codes "a/.."
-folder_above = refl
+pub folders : Gives folder_of (
+    (codes "k", [])
+    ∷ (codes "a/b/k.ptx", codes "a/b")
+    ∷ (codes "a/./k.cpp4.ii", codes "a")
+    ∷ (codes "a//./b/k", codes "a//./b")
+    ∷ (codes "a/b/", codes "a/b")
+    ∷ (codes "/", codes "/")
+    ∷ (codes "//./k", codes "/")
+    ∷ (codes "./k", codes ".")
+    ∷ (codes "a/../k", codes "a/..")
+    ∷ [])
+folders = refl
 
 pub joined_to_its_folder : joined (folder_of (codes "//k.cpp4.ii")) (codes "x_0.cpp4.ii") ≡ codes "/x_0.cpp4.ii"
 joined_to_its_folder = refl
 
--- examples of file names
-pub file_name_before_a_slash : file_name_of (codes "k.cpp1.ii/") ≡ Some (codes "k.cpp1.ii")
-file_name_before_a_slash = refl
+-- examples of file names: slashes and dots at the end go, other dots stay; the last seven have none
+pub file_names : Gives file_name_of (
+    (codes "k.cpp1.ii/", Some (codes "k.cpp1.ii"))
+    ∷ (codes "b/a/.", Some (codes "a"))
+    ∷ (codes "a//./b", Some (codes "b"))
+    ∷ (codes "a/b.", Some (codes "b."))
+    ∷ (codes "...", Some (codes "..."))
+    ∷ ([], None)
+    ∷ (codes "/", None)
+    ∷ (codes ".", None)
+    ∷ (codes "./", None)
+    ∷ (codes "/./", None)
+    ∷ (codes "..", None)
+    ∷ (codes "a/..//.", None)
+    ∷ [])
+file_names = refl
 
-pub file_name_before_a_dot : file_name_of (codes "b/a/.") ≡ Some (codes "a")
-file_name_before_a_dot = refl
-
-pub file_name_past_slashes : file_name_of (codes "a//./b") ≡ Some (codes "b")
-file_name_past_slashes = refl
-
-pub file_name_that_ends_in_a_dot : file_name_of (codes "a/b.") ≡ Some (codes "b.")
-file_name_that_ends_in_a_dot = refl
-
-pub file_name_of_dots : file_name_of (codes "...") ≡ Some (codes "...")
-file_name_of_dots = refl
-
-pub no_file_name_of_nothing : file_name_of [] ≡ None
-no_file_name_of_nothing = refl
-
-pub no_file_name_of_the_root : file_name_of (codes "/") ≡ None
-no_file_name_of_the_root = refl
-
-pub no_file_name_of_a_dot : file_name_of (codes ".") ≡ None
-no_file_name_of_a_dot = refl
-
-pub no_file_name_of_a_dot_and_a_slash : file_name_of (codes "./") ≡ None
-no_file_name_of_a_dot_and_a_slash = refl
-
-pub no_file_name_of_a_dot_at_the_root : file_name_of (codes "/./") ≡ None
-no_file_name_of_a_dot_at_the_root = refl
-
-pub no_file_name_of_the_folder_above : file_name_of (codes "..") ≡ None
-no_file_name_of_the_folder_above = refl
-
-pub no_file_name_after_two_dots : file_name_of (codes "a/..//.") ≡ None
-no_file_name_after_two_dots = refl
-
--- examples of stems
-pub stem_without_a_dot : file_stem_of (codes "/usr/bin/ptxas") ≡ Some (codes "ptxas")
-stem_without_a_dot = refl
-
-pub stem_before_the_last_dot : file_stem_of (codes "a.tar.gz") ≡ Some (codes "a.tar")
-stem_before_the_last_dot = refl
-
-pub stem_that_begins_with_a_dot : file_stem_of (codes ".profile") ≡ Some (codes ".profile")
-stem_that_begins_with_a_dot = refl
-
-pub stem_of_two_dots : file_stem_of (codes "b/.a.b") ≡ Some (codes ".a")
-stem_of_two_dots = refl
-
-pub stem_before_a_dot_at_the_end : file_stem_of (codes "a.") ≡ Some (codes "a")
-stem_before_a_dot_at_the_end = refl
-
-pub no_stem : file_stem_of (codes "/") ≡ None
-no_stem = refl
+-- examples of stems: a `.` that begins the file name begins no extension, and the root has no file name
+pub file_stems : Gives file_stem_of (
+    (codes "/usr/bin/ptxas", Some (codes "ptxas"))
+    ∷ (codes "a.tar.gz", Some (codes "a.tar"))
+    ∷ (codes ".profile", Some (codes ".profile"))
+    ∷ (codes "b/.a.b", Some (codes ".a"))
+    ∷ (codes "a.", Some (codes "a"))
+    ∷ (codes "/", None)
+    ∷ [])
+file_stems = refl
 
 -- What is claimed of these functions, for all texts.
 

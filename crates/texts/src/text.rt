@@ -116,14 +116,12 @@ impl fmt::Display for Text {
 }
 
 impl PartialEq for Text {
-    ghost use Rattle.std.specs.Prelude.{nat_eq};
-    ghost use Rattle.std.specs.Cmp.Lexicographic.{pointwise};
-    ghost use Rattle.std.specs.Cmp.Rules.{comparing};
-    ghost use Rattle.std.proofs.Common.{rules};
+    ghost use Rattle.std.specs.Str.{bytes_eq};
+    ghost use Rattle.texts.specs.Equality.{bytes_law};
 
-    ghost eq = { pointwise nat_eq };
+    ghost eq = { bytes_eq };
 
-    ghost laws = { Prim.search (comparing, rules) };
+    ghost laws = { bytes_law };
 
     fn eq(&self, other: &Text) -> bool {
         self.as_str() == other.as_str()

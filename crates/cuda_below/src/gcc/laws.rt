@@ -1,6 +1,6 @@
 //! Lines worked out by hand, that the gcc reader's and writer's definitions compute.
 
-ghost use Rattle.cuda_below.specs.GccRows.{LinesRead, LinesWritten, LinesParted};
+ghost use Rattle.cuda_below.specs.GccExamples.{LinesRead, LinesWritten, LinesParted};
 
 /// What worked lines are read as (`read`), what worked arguments are written as (`written`), and which
 /// words each item of a line is read from (`parted`).

@@ -4,7 +4,8 @@ ghost use Rattle.std.specs.Prelude.{◌≡◌, true, map};
 ghost use Rattle.option_items.specs.Table.{entry_of};
 ghost use Rattle.cuda_below.specs.GccOptions.{gcc_entries, differ};
 
-use option_items::table::{ArgDisposition, ArgInfo, EITHER_WAY, JOINED, JOINED_BY_EQUALS, Table};
+use option_items::entries;
+use option_items::table::{ArgInfo, EITHER_WAY, JOINED, JOINED_BY_EQUALS, SEPARATED, Table};
 
 /// What an option of a gcc-like compiler is for.
 #[derive(Clone, Copy, Debug, PartialEq)]
@@ -48,70 +49,26 @@ pub enum ArgData {
 }
 
 /// The options of the profile. No two have one text.
-pub const ARGS: [ArgInfo<ArgData>; 47] = [
-    ArgInfo::Flag("-", ArgData::TooHardFlag),
-    ArgInfo::Flag("-E", ArgData::TooHardFlag),
-    ArgInfo::Flag("-M", ArgData::TooHardFlag),
-    ArgInfo::Flag("-MM", ArgData::TooHardFlag),
-    ArgInfo::Flag("-P", ArgData::TooHardFlag),
-    ArgInfo::Flag("--save-temps", ArgData::TooHardFlag),
-    ArgInfo::Flag("-save-temps", ArgData::TooHardFlag),
-    ArgInfo::Flag("-fsyntax-only", ArgData::TooHardFlag),
-    ArgInfo::TakeArg("@", ArgData::TooHard, JOINED),
-    ArgInfo::Flag("-MD", ArgData::NeedDepTarget),
-    ArgInfo::Flag("-MMD", ArgData::NeedDepTarget),
-    ArgInfo::Flag("-MP", ArgData::NeedDepTarget),
-    ArgInfo::TakeArg("-MF", ArgData::DepArgumentPath, ArgDisposition::Separated),
-    ArgInfo::TakeArg("-MQ", ArgData::DepTarget, ArgDisposition::Separated),
-    ArgInfo::TakeArg("-MT", ArgData::DepTarget, ArgDisposition::Separated),
-    ArgInfo::TakeArg("-D", ArgData::PreprocessorArgument, EITHER_WAY),
-    ArgInfo::TakeArg("-U", ArgData::PreprocessorArgument, EITHER_WAY),
-    ArgInfo::TakeArg("-I", ArgData::PreprocessorArgumentPath, EITHER_WAY),
-    ArgInfo::TakeArg("-idirafter", ArgData::PreprocessorArgumentPath, EITHER_WAY),
-    ArgInfo::TakeArg("-imacros", ArgData::PreprocessorArgumentPath, EITHER_WAY),
-    ArgInfo::TakeArg("-include", ArgData::PreprocessorArgumentPath, EITHER_WAY),
-    ArgInfo::TakeArg("-iprefix", ArgData::PreprocessorArgumentPath, EITHER_WAY),
-    ArgInfo::TakeArg("-iquote", ArgData::PreprocessorArgumentPath, EITHER_WAY),
-    ArgInfo::TakeArg("-isysroot", ArgData::PreprocessorArgumentPath, EITHER_WAY),
-    ArgInfo::TakeArg("-isystem", ArgData::PreprocessorArgumentPath, EITHER_WAY),
-    ArgInfo::TakeArg(
-        "-iwithprefix",
-        ArgData::PreprocessorArgumentPath,
-        EITHER_WAY,
-    ),
-    ArgInfo::TakeArg(
-        "-iwithprefixbefore",
-        ArgData::PreprocessorArgumentPath,
-        EITHER_WAY,
-    ),
-    ArgInfo::TakeArg(
-        "-Xpreprocessor",
-        ArgData::PreprocessorArgument,
-        ArgDisposition::Separated,
-    ),
-    ArgInfo::TakeArg("-stdlib", ArgData::PreprocessorArgument, JOINED_BY_EQUALS),
-    ArgInfo::Flag("-nostdinc", ArgData::PreprocessorArgumentFlag),
-    ArgInfo::Flag("-nostdinc++", ArgData::PreprocessorArgumentFlag),
-    ArgInfo::Flag("-trigraphs", ArgData::PreprocessorArgumentFlag),
-    ArgInfo::Flag("-remap", ArgData::PreprocessorArgumentFlag),
-    ArgInfo::TakeArg("--param", ArgData::PassThrough, ArgDisposition::Separated),
-    ArgInfo::TakeArg("--sysroot", ArgData::PassThrough, ArgDisposition::Separated),
-    ArgInfo::TakeArg(
-        "-Xassembler",
-        ArgData::PassThrough,
-        ArgDisposition::Separated,
-    ),
-    ArgInfo::TakeArg("-Xlinker", ArgData::PassThrough, ArgDisposition::Separated),
-    ArgInfo::TakeArg("-aux-info", ArgData::PassThrough, ArgDisposition::Separated),
-    ArgInfo::TakeArg("-B", ArgData::PassThrough, EITHER_WAY),
-    ArgInfo::TakeArg("-L", ArgData::PassThrough, EITHER_WAY),
-    ArgInfo::TakeArg("-u", ArgData::PassThrough, EITHER_WAY),
-    ArgInfo::TakeArg("-z", ArgData::PassThrough, EITHER_WAY),
-    ArgInfo::TakeArg("-std", ArgData::Standard, JOINED_BY_EQUALS),
-    ArgInfo::TakeArg("-arch", ArgData::Arch, ArgDisposition::Separated),
-    ArgInfo::Flag("-c", ArgData::DoCompilation),
-    ArgInfo::TakeArg("-o", ArgData::Output, EITHER_WAY),
-    ArgInfo::TakeArg("-x", ArgData::Language, EITHER_WAY),
+pub const ARGS: [ArgInfo<ArgData>; 47] = entries![
+    flag TooHardFlag: "-" "-E" "-M" "-MM" "-P" "--save-temps" "-save-temps" "-fsyntax-only";
+    JOINED TooHard: "@";
+    flag NeedDepTarget: "-MD" "-MMD" "-MP";
+    SEPARATED DepArgumentPath: "-MF";
+    SEPARATED DepTarget: "-MQ" "-MT";
+    EITHER_WAY PreprocessorArgument: "-D" "-U";
+    EITHER_WAY PreprocessorArgumentPath:
+        "-I" "-idirafter" "-imacros" "-include" "-iprefix" "-iquote" "-isysroot" "-isystem"
+        "-iwithprefix" "-iwithprefixbefore";
+    SEPARATED PreprocessorArgument: "-Xpreprocessor";
+    JOINED_BY_EQUALS PreprocessorArgument: "-stdlib";
+    flag PreprocessorArgumentFlag: "-nostdinc" "-nostdinc++" "-trigraphs" "-remap";
+    SEPARATED PassThrough: "--param" "--sysroot" "-Xassembler" "-Xlinker" "-aux-info";
+    EITHER_WAY PassThrough: "-B" "-L" "-u" "-z";
+    JOINED_BY_EQUALS Standard: "-std";
+    SEPARATED Arch: "-arch";
+    flag DoCompilation: "-c";
+    EITHER_WAY Output: "-o";
+    EITHER_WAY Language: "-x";
 ];
 
 /// The table of the profile's options.

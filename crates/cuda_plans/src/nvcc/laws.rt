@@ -1,7 +1,7 @@
 //! Laws of nvcc's records, and lines worked out by hand, which the definitions compute.
 
 ghost use Rattle.texts.specs.Equality.{TellsEqual};
-ghost use Rattle.cuda_plans.specs.NvccRows as rows;
+ghost use Rattle.cuda_plans.specs.NvccExamples as examples;
 
 use super::{Nvcc, NvccCompileCommand};
 
@@ -13,11 +13,11 @@ pub fn equality()
 
 /// What nvcc lines are read as and written back as, by the definitions.
 pub fn worked_lines()
-    ensures environment_adds_words { rows.EnvironmentAddsWords }
-    ensures flag_is_empty { rows.FlagIsEmpty }
-    ensures options_begin_words { rows.OptionsBeginWords }
-    ensures words_are_written { rows.WordsAreWritten }
-    ensures refusals_have_an_order { rows.RefusalsHaveAnOrder }
-    ensures lines_are_refused { rows.LinesAreRefused }
-    ensures versions_are_joined { rows.VersionsAreJoined }
+    ensures environment_adds_words { examples.EnvironmentAddsWords }
+    ensures flag_is_empty { examples.FlagIsEmpty }
+    ensures options_begin_words { examples.OptionsBeginWords }
+    ensures words_are_written { examples.WordsAreWritten }
+    ensures refusals_have_an_order { examples.RefusalsHaveAnOrder }
+    ensures lines_are_refused { examples.LinesAreRefused }
+    ensures versions_are_joined { examples.VersionsAreJoined }
 {}

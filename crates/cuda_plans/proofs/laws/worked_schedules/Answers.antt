@@ -1,4 +1,4 @@
-use Rattle.cuda_plans.specs.ScheduleRows.{three_kernels_are_planned, chunks_of_two, failure_ends_its_group, chunk_is_finished, one_at_a_time, none_at_a_time, many_at_a_time, first_failure_is_kept, all_succeed, failure_of_a_success}
+use Rattle.cuda_plans.specs.ScheduleExamples.{three_kernels_are_planned, chunks_of_two, failure_ends_its_group, chunk_is_finished, one_at_a_time, none_at_a_time, many_at_a_time, first_failure_is_kept, all_succeed, failure_of_a_success}
 use Rattle.cuda_plans.proofs.laws.worked_schedules.Goals as goal
 
 pub returns : goal.returns

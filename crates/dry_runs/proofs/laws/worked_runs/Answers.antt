@@ -1,33 +1,35 @@
-use Rattle.dry_runs.specs.DryRunRows.{one_kernel_is_read, last_line_needs_no_newline, nothing_is_read, unmarked_line_is_not_text, quote_is_open, comment_is_no_command, no_path_is_set, digit_makes_a_command, path_is_empty, first_bad_line_decides, programs_are_missing, empty_program_is_looked_up, reference_at_the_end_stays, one_reference_expands_all, letter_follows_a_reference, first_value_is_expanded, values_are_expanded_in_order, first_path_counts, other_names_are_read, last_line_keeps_its_return, byte_order_mark_unmarks, values_are_kept_as_they_stand, first_folder_is_empty, folder_needs_a_path_too, name_is_set_twice, other_characters_end_a_name, word_characters_go_on}
+use Rattle.std.proofs.Common.{refl}
+use Rattle.dry_runs.specs.Computing.{dry_runs_compute}
 use Rattle.dry_runs.proofs.laws.worked_runs.Goals as goal
 
 pub returns : goal.returns
+unfolding dry_runs_compute
 returns c = record {
-  one_kernel_is_read = one_kernel_is_read;
-  last_line_needs_no_newline = last_line_needs_no_newline;
-  nothing_is_read = nothing_is_read;
-  unmarked_line_is_not_text = unmarked_line_is_not_text;
-  quote_is_open = quote_is_open;
-  comment_is_no_command = comment_is_no_command;
-  no_path_is_set = no_path_is_set;
-  digit_makes_a_command = digit_makes_a_command;
-  path_is_empty = path_is_empty;
-  first_bad_line_decides = first_bad_line_decides;
-  programs_are_missing = programs_are_missing;
-  empty_program_is_looked_up = empty_program_is_looked_up;
-  reference_at_the_end_stays = reference_at_the_end_stays;
-  one_reference_expands_all = one_reference_expands_all;
-  letter_follows_a_reference = letter_follows_a_reference;
-  first_value_is_expanded = first_value_is_expanded;
-  values_are_expanded_in_order = values_are_expanded_in_order;
-  first_path_counts = first_path_counts;
-  other_names_are_read = other_names_are_read;
-  last_line_keeps_its_return = last_line_keeps_its_return;
-  byte_order_mark_unmarks = byte_order_mark_unmarks;
-  values_are_kept_as_they_stand = values_are_kept_as_they_stand;
-  first_folder_is_empty = first_folder_is_empty;
-  folder_needs_a_path_too = folder_needs_a_path_too;
-  name_is_set_twice = name_is_set_twice;
-  other_characters_end_a_name = other_characters_end_a_name;
-  word_characters_go_on = word_characters_go_on;
+  one_kernel_is_read = refl;
+  last_line_needs_no_newline = refl;
+  nothing_is_read = (refl, refl);
+  unmarked_line_is_not_text = refl;
+  quote_is_open = refl;
+  comment_is_no_command = (refl, refl);
+  no_path_is_set = (refl, refl, refl);
+  digit_makes_a_command = refl;
+  path_is_empty = refl;
+  first_bad_line_decides = (refl, refl, refl);
+  programs_are_missing = (refl, refl, refl, refl, refl);
+  empty_program_is_looked_up = (refl, refl);
+  reference_at_the_end_stays = refl;
+  one_reference_expands_all = refl;
+  letter_follows_a_reference = (refl, refl);
+  first_value_is_expanded = refl;
+  values_are_expanded_in_order = (refl, refl);
+  first_path_counts = refl;
+  other_names_are_read = (refl, refl);
+  last_line_keeps_its_return = refl;
+  byte_order_mark_unmarks = refl;
+  values_are_kept_as_they_stand = refl;
+  first_folder_is_empty = refl;
+  folder_needs_a_path_too = refl;
+  name_is_set_twice = refl;
+  other_characters_end_a_name = (refl, refl);
+  word_characters_go_on = (refl, refl, refl, refl, refl, refl);
 }

@@ -1,4 +1,4 @@
-use Rattle.program_lookups.specs.AskedRows.{asked_in_order, asked_expanded, asked_before_a_bad_line, asked_by_both, asked_by_another_path}
+use Rattle.program_lookups.specs.AskedExamples.{asked_in_order, asked_expanded, asked_before_a_bad_line, asked_by_both, asked_by_another_path}
 use Rattle.program_lookups.proofs.laws.worked_lookups.Goals as goal
 
 pub returns : goal.returns

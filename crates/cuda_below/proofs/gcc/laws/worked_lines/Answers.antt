@@ -1,4 +1,4 @@
-use Rattle.cuda_below.specs.GccRows.{lines_read, lines_written, lines_parted}
+use Rattle.cuda_below.specs.GccExamples.{lines_read, lines_written, lines_parted}
 use Rattle.cuda_below.proofs.gcc.laws.worked_lines.Goals as goal
 
 pub returns : goal.returns

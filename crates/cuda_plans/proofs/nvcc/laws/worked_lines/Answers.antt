@@ -1,4 +1,4 @@
-use Rattle.cuda_plans.specs.NvccRows.{environment_adds_words, flag_is_empty, options_begin_words, words_are_written, refusals_have_an_order, lines_are_refused, versions_are_joined}
+use Rattle.cuda_plans.specs.NvccExamples.{environment_adds_words, flag_is_empty, options_begin_words, words_are_written, refusals_have_an_order, lines_are_refused, versions_are_joined}
 use Rattle.cuda_plans.proofs.nvcc.laws.worked_lines.Goals as goal
 
 pub returns : goal.returns

@@ -9,7 +9,7 @@ use Rattle.texts.specs.declared.fault.Fault.{Fault}
 use Rattle.texts.specs.declared.fault.Fault.TheVariants.{MissingOutput, NoFileName, KeepDirValue, ThreadsValue}
 use Rattle.texts.specs.declared.language.Language.TheVariants.{C, Cuda}
 use Rattle.cuda_below.specs.Compiler.{Reading, accepted, cannot_cache, not_compilation}
-use Rattle.cuda_below.specs.GccRows.{compiled}
+use Rattle.cuda_below.specs.GccExamples.{compiled}
 use Rattle.cuda_plans.specs.declared.nvcc.Nvcc.{Nvcc}
 use Rattle.cuda_below.specs.declared.compiler.NvccHostCompiler.TheVariants.{Gcc}
 use Rattle.texts.specs.Rows.{spaced}

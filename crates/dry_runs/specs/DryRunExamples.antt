@@ -1,7 +1,6 @@
 -- Dry runs worked out by hand.
-use Rattle.std.specs.Prelude.{◌≡◌, ℕ, List, [], ◌∷◌, ◌++◌, None, Result, Ok, Err, encode_utf8_all, if◌then◌else◌, refl, codes}
+use Rattle.std.specs.Prelude.{◌≡◌, ℕ, List, [], ◌∷◌, ◌++◌, None, Result, Ok, Err, encode_utf8_all, if◌then◌else◌, codes}
 use Rattle.std.specs.Str.{bytes_eq}
-use Rattle.dry_runs.specs.Computing.{dry_runs_compute}
 use Rattle.texts.specs.declared.fault.Fault.{Fault}
 use Rattle.texts.specs.declared.fault.Fault.TheVariants.{NotUtf8, BadShell, EmptyCommand, NoPath, NotFound}
 use Rattle.dry_runs.specs.CommandLines.{CommandLine}
@@ -27,10 +26,6 @@ abbrev pub OneKernelIsRead : Type 0
 OneKernelIsRead =
     first_run one_kernel ≡ Ok (one_kernel_commands, (codes "PATH", codes "/b") ∷ [])
 
-pub one_kernel_is_read : OneKernelIsRead
-unfolding dry_runs_compute
-one_kernel_is_read = refl
-
 -- unmarked lines are passed over, but have their numbers; a carriage return before a newline goes, and the last line needs no newline
 abbrev pub LastLineNeedsNoNewline : Type 0
 LastLineNeedsNoNewline =
@@ -40,45 +35,25 @@ LastLineNeedsNoNewline =
       (codes "PATH", codes "/b") ∷ [],
     )
 
-pub last_line_needs_no_newline : LastLineNeedsNoNewline
-unfolding dry_runs_compute
-last_line_needs_no_newline = refl
-
 -- a run without lines, and one whose only line lacks the blank of the mark
 abbrev pub NothingIsRead : Type 0
 NothingIsRead =
     (first_run [] ≡ Ok ([], [])) × (first_run (codes "#$\n") ≡ Ok ([], []))
-
-pub nothing_is_read : NothingIsRead
-unfolding dry_runs_compute
-nothing_is_read = (refl, refl)
 
 -- a line that is no text refuses the run, also where it is unmarked
 abbrev pub UnmarkedLineIsNotText : Type 0
 UnmarkedLineIsNotText =
     first_run (codes "kernel" ++ 255 ∷ 10 ∷ []) ≡ Err (NotUtf8 1 0)
 
-pub unmarked_line_is_not_text : UnmarkedLineIsNotText
-unfolding dry_runs_compute
-unmarked_line_is_not_text = refl
-
 -- an open quote
 abbrev pub QuoteIsOpen : Type 0
 QuoteIsOpen =
     first_run (codes "#$ gcc \"a\n") ≡ Err (BadShell 1 0)
 
-pub quote_is_open : QuoteIsOpen
-unfolding dry_runs_compute
-quote_is_open = refl
-
 -- a comment, and nothing at all, hold no word
 abbrev pub CommentIsNoCommand : Type 0
 CommentIsNoCommand =
     (first_run (codes "#$ # note\n") ≡ Err (EmptyCommand 1 0)) × (first_run (codes "#$ \n") ≡ Err (EmptyCommand 1 0))
-
-pub comment_is_no_command : CommentIsNoCommand
-unfolding dry_runs_compute
-comment_is_no_command = (refl, refl)
 
 -- a command before any line that sets `PATH`, in the first run and in the second; two blanks make no environment line
 abbrev pub NoPathIsSet : Type 0
@@ -87,27 +62,15 @@ NoPathIsSet =
     × (dry_run_of 2 (codes "#$ gcc\n") (codes "/w") first_dir ≡ Err (NoPath 2 0))
     × (first_run (codes "#$  PATH=/b\n") ≡ Err (NoPath 1 0))
 
-pub no_path_is_set : NoPathIsSet
-unfolding dry_runs_compute
-no_path_is_set = (refl, refl, refl)
-
 -- a name with a digit assigns nothing, so its line is a command, which is looked up
 abbrev pub DigitMakesACommand : Type 0
 DigitMakesACommand =
     dry_run_of 1 (codes "#$ PATH=/b\n#$ A1=x\n") (codes "/w") (lacking (codes "A1=x")) ≡ Err (NotFound (codes "A1=x"))
 
-pub digit_makes_a_command : DigitMakesACommand
-unfolding dry_runs_compute
-digit_makes_a_command = refl
-
 -- an empty `PATH` is set, but holds no program
 abbrev pub PathIsEmpty : Type 0
 PathIsEmpty =
     first_run (codes "#$ PATH=\n#$ gcc\n") ≡ Err (NotFound (codes "gcc"))
-
-pub path_is_empty : PathIsEmpty
-unfolding dry_runs_compute
-path_is_empty = refl
 
 -- the first bad line decides, whatever is wrong with a later one; and it counts that the whole run is bad, not what stood before
 abbrev pub FirstBadLineDecides : Type 0
@@ -115,10 +78,6 @@ FirstBadLineDecides =
     (first_run (codes "#$ gcc\n" ++ 255 ∷ 10 ∷ []) ≡ Err (NoPath 1 0))
     × (first_run (255 ∷ 10 ∷ codes "#$ gcc\n") ≡ Err (NotUtf8 1 0))
     × (first_run (one_kernel ++ codes "#$ x" ++ 255 ∷ 10 ∷ []) ≡ Err (NotUtf8 1 8))
-
-pub first_bad_line_decides : FirstBadLineDecides
-unfolding dry_runs_compute
-first_bad_line_decides = (refl, refl, refl)
 
 -- the one-kernel dry run with a look-up that lacks one of its programs
 abbrev pub ProgramsAreMissing : Type 0
@@ -129,10 +88,6 @@ ProgramsAreMissing =
     × (dry_run_of 1 one_kernel (codes "/w") (lacking (codes "ptxas")) ≡ Err (NotFound (codes "ptxas")))
     × (dry_run_of 1 one_kernel (codes "/w") (lacking (codes "fatbinary")) ≡ Err (NotFound (codes "fatbinary")))
 
-pub programs_are_missing : ProgramsAreMissing
-unfolding dry_runs_compute
-programs_are_missing = (refl, refl, refl, refl, refl)
-
 -- an empty word is a program too
 abbrev pub EmptyProgramIsLookedUp : Type 0
 EmptyProgramIsLookedUp =
@@ -141,27 +96,15 @@ EmptyProgramIsLookedUp =
     × (first_run (codes "#$ PATH=/\n#$ \"\" x\n")
     ≡ Ok ((1, codes "/", codes "x" ∷ []) ∷ [], (codes "PATH", codes "/") ∷ []))
 
-pub empty_program_is_looked_up : EmptyProgramIsLookedUp
-unfolding dry_runs_compute
-empty_program_is_looked_up = (refl, refl)
-
 -- at the end of a text no character follows a reference, so it does not count
 abbrev pub ReferenceAtTheEndStays : Type 0
 ReferenceAtTheEndStays =
     expanded ((codes "TOP", codes "/u") ∷ []) (codes "gcc -L$TOP") ≡ codes "gcc -L$TOP"
 
-pub reference_at_the_end_stays : ReferenceAtTheEndStays
-unfolding dry_runs_compute
-reference_at_the_end_stays = refl
-
 -- where one reference counts, all are expanded, within longer names too
 abbrev pub OneReferenceExpandsAll : Type 0
 OneReferenceExpandsAll =
     expanded ((codes "TOP", codes "/u") ∷ []) (codes "$TOP/gcc -L$TOPX") ≡ codes "/u/gcc -L/uX"
-
-pub one_reference_expands_all : OneReferenceExpandsAll
-unfolding dry_runs_compute
-one_reference_expands_all = refl
 
 -- a letter of any script goes on with the name, and a hyphen ends it
 abbrev pub LetterFollowsAReference : Type 0
@@ -169,10 +112,6 @@ LetterFollowsAReference =
     (expanded ((codes "TOP", codes "/u") ∷ []) (encode_utf8_all (codes "gcc $TOPé"))
     ≡ encode_utf8_all (codes "gcc $TOPé"))
     × (expanded ((codes "TOP", codes "/u") ∷ []) (codes "gcc $TOP-") ≡ codes "gcc /u-")
-
-pub letter_follows_a_reference : LetterFollowsAReference
-unfolding dry_runs_compute
-letter_follows_a_reference = (refl, refl)
 
 -- of two values the first is expanded, and the environment keeps both
 abbrev pub FirstValueIsExpanded : Type 0
@@ -182,10 +121,6 @@ FirstValueIsExpanded =
       (3, codes "/b/gcc", codes "/u/x" ∷ []) ∷ [],
       (codes "PATH", codes "/b") ∷ (codes "TOP", codes "/u") ∷ (codes "TOP", codes "/v") ∷ [],
     )
-
-pub first_value_is_expanded : FirstValueIsExpanded
-unfolding dry_runs_compute
-first_value_is_expanded = refl
 
 -- a reference in a value is expanded only where its own line comes later
 abbrev pub ValuesAreExpandedInOrder : Type 0
@@ -201,10 +136,6 @@ ValuesAreExpandedInOrder =
       (codes "PATH", codes "/b") ∷ (codes "B", codes "/u") ∷ (codes "A", codes "$B/x") ∷ [],
     ))
 
-pub values_are_expanded_in_order : ValuesAreExpandedInOrder
-unfolding dry_runs_compute
-values_are_expanded_in_order = (refl, refl)
-
 -- the first `PATH` counts for every command, and a program with a folder counts from the working directory
 abbrev pub FirstPathCounts : Type 0
 FirstPathCounts =
@@ -214,19 +145,11 @@ FirstPathCounts =
       (codes "PATH", codes "/b") ∷ (codes "PATH", codes "/c") ∷ [],
     )
 
-pub first_path_counts : FirstPathCounts
-unfolding dry_runs_compute
-first_path_counts = refl
-
 -- the one-kernel dry run with other names of its generated files, and with these in the folder `/t`
 abbrev pub OtherNamesAreRead : Type 0
 OtherNamesAreRead =
     (first_run one_kernel_elsewhere ≡ Ok (one_kernel_elsewhere_commands, (codes "PATH", codes "/b") ∷ []))
     × (first_run one_kernel_in_temporary ≡ Ok (one_kernel_in_temporary_commands, (codes "PATH", codes "/b") ∷ []))
-
-pub other_names_are_read : OtherNamesAreRead
-unfolding dry_runs_compute
-other_names_are_read = (refl, refl)
 
 -- one carriage return right before a newline goes, and a last line without a newline keeps its own, which is no blank
 abbrev pub LastLineKeepsItsReturn : Type 0
@@ -234,18 +157,10 @@ LastLineKeepsItsReturn =
     first_run (codes "#$ PATH=/b\r\n#$ gcc x\r")
     ≡ Ok ((1, codes "/b/gcc", codes "x\r" ∷ []) ∷ [], (codes "PATH", codes "/b") ∷ [])
 
-pub last_line_keeps_its_return : LastLineKeepsItsReturn
-unfolding dry_runs_compute
-last_line_keeps_its_return = refl
-
 -- behind a byte order mark the first line is unmarked, so here `PATH` isn't set
 abbrev pub ByteOrderMarkUnmarks : Type 0
 ByteOrderMarkUnmarks =
     first_run (239 ∷ 187 ∷ 191 ∷ codes "#$ PATH=/b\n#$ gcc\n") ≡ Err (NoPath 1 1)
-
-pub byte_order_mark_unmarks : ByteOrderMarkUnmarks
-unfolding dry_runs_compute
-byte_order_mark_unmarks = refl
 
 -- the value of an environment line isn't expanded, and neither is `PATH` where it is searched
 abbrev pub ValuesAreKeptAsTheyStand : Type 0
@@ -256,27 +171,15 @@ ValuesAreKeptAsTheyStand =
       (codes "TOP", codes "/u") ∷ (codes "PATH", codes "$TOP/bin:/b") ∷ [],
     )
 
-pub values_are_kept_as_they_stand : ValuesAreKeptAsTheyStand
-unfolding dry_runs_compute
-values_are_kept_as_they_stand = refl
-
 -- a `PATH` whose first folder is empty holds no program
 abbrev pub FirstFolderIsEmpty : Type 0
 FirstFolderIsEmpty =
     first_run (codes "#$ PATH=:/b\n#$ gcc\n") ≡ Err (NotFound (codes "gcc"))
 
-pub first_folder_is_empty : FirstFolderIsEmpty
-unfolding dry_runs_compute
-first_folder_is_empty = refl
-
 -- a program with a folder needs a `PATH` before it too
 abbrev pub FolderNeedsAPathToo : Type 0
 FolderNeedsAPathToo =
     first_run (codes "#$ ./gcc\n#$ PATH=/b\n") ≡ Err (NoPath 1 0)
-
-pub folder_needs_a_path_too : FolderNeedsAPathToo
-unfolding dry_runs_compute
-folder_needs_a_path_too = refl
 
 -- a name that is set twice, as nvcc 13 does, stands twice in the environment, and its first value counts
 abbrev pub NameIsSetTwice : Type 0
@@ -287,10 +190,6 @@ NameIsSetTwice =
       (codes "_TARGET_DIR_", []) ∷ (codes "_TARGET_DIR_", codes "targets/x86_64-linux") ∷ (codes "PATH", codes "/b") ∷ [],
     )
 
-pub name_is_set_twice : NameIsSetTwice
-unfolding dry_runs_compute
-name_is_set_twice = refl
-
 -- what becomes of a reference right before a character
 abbrev pub before : ℕ → List ℕ
 before c = expanded ((codes "TOP", codes "/u") ∷ []) (codes "$TOP" ++ encode_utf8_all (c ∷ []))
@@ -299,10 +198,6 @@ before c = expanded ((codes "TOP", codes "/u") ∷ []) (codes "$TOP" ++ encode_u
 abbrev pub OtherCharactersEndAName : Type 0
 OtherCharactersEndAName =
     (before 178 ≡ codes "/u" ++ encode_utf8_all (178 ∷ [])) × (before 183 ≡ codes "/u" ++ encode_utf8_all (183 ∷ []))
-
-pub other_characters_end_a_name : OtherCharactersEndAName
-unfolding dry_runs_compute
-other_characters_end_a_name = (refl, refl)
 
 -- a name goes on with `ⓐ`, `Ⅷ`, `‿`, a combining accent, an enclosing circle, and the joiner U+200D
 abbrev pub WordCharactersGoOn : Type 0
@@ -313,7 +208,3 @@ WordCharactersGoOn =
     × (before 769 ≡ codes "$TOP" ++ encode_utf8_all (769 ∷ []))
     × (before 8413 ≡ codes "$TOP" ++ encode_utf8_all (8413 ∷ []))
     × (before 8205 ≡ codes "$TOP" ++ encode_utf8_all (8205 ∷ []))
-
-pub word_characters_go_on : WordCharactersGoOn
-unfolding dry_runs_compute
-word_characters_go_on = (refl, refl, refl, refl, refl, refl)

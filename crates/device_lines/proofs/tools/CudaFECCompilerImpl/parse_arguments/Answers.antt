@@ -5,7 +5,7 @@ use Rattle.cuda_below.specs.Compiler.{reading_of}
 use Rattle.option_items.specs.Table.{Entry}
 use Rattle.device_lines.specs.declared.options.ArgData.{ArgData}
 use Rattle.device_lines.specs.Reading.{tool_reading}
-use Rattle.device_lines.proofs.cudafe.CudaFECCompilerImpl.parse_arguments.Goals as goal
+use Rattle.device_lines.proofs.tools.CudaFECCompilerImpl.parse_arguments.Goals as goal
 
 pub returns : goal.returns
 returns c =

@@ -8,7 +8,7 @@ use Rattle.cuda_plans.specs.declared.runner.Answer.TheVariants.{Ran, Failed}
 use Rattle.dry_runs.specs.CommandLines.{CommandLine}
 use Rattle.cuda_plans.specs.Outcome.{output_with}
 use Rattle.dry_runs.specs.OneKernel.{at}
-use Rattle.command_groups.specs.PlanRows.{runs, compiles, plan_of_both, plan_with}
+use Rattle.command_groups.specs.PlanExamples.{runs, compiles, plan_of_both, plan_with}
 use Rattle.cuda_plans.specs.Schedule.{AccountEntry, IsWhole, outcome_of, chunk_of}
 
 -- three kernels: three preprocess steps, three runs of cicc, and host code
