@@ -1,30 +1,35 @@
 -- What becomes of an nvcc line.
-use Rattle.std.specs.Prelude.{◌≡◌, ℕ, List, [], ◌++◌, Option, Some, None, Result, Ok, codes, refl}
+use Rattle.std.specs.Prelude.{◌≡◌, ℕ, List, [], ◌∷◌, ◌++◌, Result, Ok, codes, refl}
 use Rattle.std.specs.Str.{chars}
 use Rattle.texts.specs.declared.fault.Fault.{Fault}
 use Rattle.texts.specs.Rows.{spaced}
 use Rattle.cuda_below.specs.Compiler.{Reading, accepted, cannot_cache, not_compilation}
 use Rattle.cuda_plans.specs.Nvcc.{nvcc_reading}
+use Rattle.nvcc_words.specs.declared.reason.Reason.TheVariants.{OtherReading}
+use Rattle.nvcc_words.specs.declared.verdict.Verdict.{Verdict}
+use Rattle.nvcc_words.specs.declared.verdict.Verdict.TheVariants as verdicts
+use Rattle.nvcc_words.specs.Reasons.{text_of}
+use Rattle.nvcc_words.specs.Verdict.{verdict}
 use Rattle.texts.specs.Results.{and_then}
 use Rattle.nvcc_calls.specs.declared.answer.Answer.{Answer}
-use Rattle.nvcc_calls.specs.declared.answer.Answer.TheVariants.{Split, NotCompilation, CannotCache}
+use Rattle.nvcc_calls.specs.declared.answer.Answer.TheVariants.{Split, Pass}
 use Rattle.nvcc_calls.specs.Calls.{NvccOf}
 use Rattle.nvcc_calls.specs.Outline.{outline_of, outline_text}
 
--- why no cache can serve a line: the option or the reason, and the word if there is one
-abbrev pub hindrance : List ℕ → Option (List ℕ) → List ℕ
-hindrance text None = text
-hindrance text (Some word) = text ++ (codes ": " ++ word)
-
--- the answer to a line that was read
+-- the answer to a normal form, by what sccache's reader made of it. It accepts each normal form
 abbrev pub answer_of : NvccOf → List (List ℕ × List ℕ) → Reading → Result Answer Fault
 answer_of call variables (accepted p) = and_then (outline_of call p variables) (λ outline. Ok (Split outline))
-answer_of call variables (cannot_cache text word) = Ok (CannotCache (hindrance text word))
-answer_of call variables not_compilation = Ok NotCompilation
+answer_of call variables (cannot_cache text word) = Ok (Pass (text_of OtherReading))
+answer_of call variables not_compilation = Ok (Pass (text_of OtherReading))
+
+-- the answer to a line with a verdict. A normal form has the words of both variables in it
+abbrev pub answer_to : NvccOf → List (List ℕ × List ℕ) → Verdict → Result Answer Fault
+answer_to call variables (verdicts.Split normal) = answer_of call variables (nvcc_reading normal.words call.cwd [])
+answer_to call variables (verdicts.Pass reason) = Ok (Pass (text_of reason))
 
 -- the answer to a line
 abbrev pub nvcc_answer : NvccOf → List (List ℕ × List ℕ) → Result Answer Fault
-nvcc_answer call variables = answer_of call variables (nvcc_reading call.words call.cwd variables)
+nvcc_answer call variables = answer_to call variables (verdict call.words variables)
 
 -- Worked examples, at the working directory `/w` with the temporary directory `/t`.
 abbrev pub line_at : List (List ℕ) → NvccOf
@@ -43,11 +48,20 @@ pub line_with_dependencies : split_text (nvcc_answer (line_at (spaced "-MD -MF k
 unfolding chars lib.Utf8.encode
 line_with_dependencies = refl
 
-pub preprocessor_call : nvcc_answer (line_at (spaced "-E k.cu")) [] ≡ Ok (CannotCache (codes "-E"))
+pub words_of_a_variable :
+    split_text (nvcc_answer (line_at (spaced "-c k.cu")) ((codes "NVCC_APPEND_FLAGS", codes "-o=j.o -Xptxas -v") ∷ [])) ≡
+    codes "dependencies=''\n" ++
+    (codes "first_dry_run='( unset NVCC_PREPEND_FLAGS NVCC_APPEND_FLAGS; cd /w && nvcc -x cu -o j.o -Xptxas -v -c k.cu --dryrun --keep )'\n" ++
+    (codes "second_dry_run='( unset NVCC_PREPEND_FLAGS NVCC_APPEND_FLAGS; cd /w && nvcc -x cu -o j.o -Xptxas -v -c k.cu --keep-dir /t --dryrun --keep )'\n" ++
+    codes "flag=-c\njobs=''\nkeep_dir=''\n"))
+unfolding chars lib.Utf8.encode
+words_of_a_variable = refl
+
+pub preprocessor_call : nvcc_answer (line_at (spaced "-E k.cu")) [] ≡ Ok (Pass (codes "its phase isn't split"))
 preprocessor_call = refl
 
-pub two_sources : nvcc_answer (line_at (spaced "-c a.cu b.cu")) [] ≡ Ok (CannotCache (codes "multiple input files"))
+pub two_sources : nvcc_answer (line_at (spaced "-c a.cu b.cu")) [] ≡ Ok (Pass (codes "it names several inputs"))
 two_sources = refl
 
-pub no_line : nvcc_answer (line_at []) [] ≡ Ok NotCompilation
+pub no_line : nvcc_answer (line_at []) [] ≡ Ok (Pass (codes "it links"))
 no_line = refl

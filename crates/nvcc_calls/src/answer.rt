@@ -1,9 +1,12 @@
 //! What becomes of an nvcc line.
 
-ghost use Rattle.std.specs.Prelude.{◌≡◌, IfOk, OnOk, map, string_bytes};
+ghost use Rattle.std.specs.Prelude.{◌≡◌, IfOk, [], map, string_bytes};
 ghost use Rattle.texts.specs.Fault.{UnlessMemory};
 ghost use Rattle.texts.specs.Variables.{pair_of};
-ghost use Rattle.cuda_below.specs.Compiler.{Reading, reading_of};
+ghost use Rattle.cuda_below.specs.Compiler.{reading_of};
+ghost use Rattle.cuda_plans.specs.Nvcc.{nvcc_reading};
+ghost use Rattle.nvcc_words.specs.Reasons.{text_of};
+ghost use Rattle.nvcc_calls.specs.declared.answer.Answer.TheVariants.{Pass};
 ghost use Rattle.nvcc_calls.specs.Answer as spec;
 ghost use Rattle.nvcc_calls.specs.Calls.{nvcc_of};
 
@@ -12,42 +15,28 @@ use crate::outline::{Outline, outline_of};
 use cuda_below::arguments::{CompilerArguments, ParsedArguments};
 use cuda_below::compiler::CCompilerImpl;
 use cuda_plans::nvcc::Nvcc;
+use nvcc_words::{Reason, Verdict, normalize};
 use std::alloc::{AllocError, Global};
 use texts::fault::Fault;
 use texts::text::Text;
 
 /// What becomes of an nvcc line.
-#[derive(Drop)]
+#[derive(Debug, Drop)]
 pub enum Answer {
     /// It compiles one source: what to run.
     Split(Outline),
-    /// It compiles nothing.
-    NotCompilation,
-    /// No cache can serve it: the option or the reason, and after `: ` the word if there is one.
-    CannotCache(Text),
+    /// It goes to nvcc unchanged: why.
+    Pass(Text),
 }
 
-// Adds the word that no cache can serve, if there is one.
-fn push_word(text: &mut String, word: &Option<Text>) -> Result<(), AllocError>
-    ensures { OnOk result (string_bytes text.new ≡ spec.hindrance (string_bytes text.old) word.now) }
+// The answer to a line that goes to nvcc.
+fn passed(alloc: Global, reason: Reason) -> Result<Answer, AllocError>
+    ensures { IfOk result (λ answer. answer ≡ Pass (text_of reason)) }
 {
-    if let Some(word) = word {
-        text.push_str(": ")?;
-        text.push_str(word.as_str())?;
-    }
-    Ok(())
+    Ok(Answer::Pass(Text::copy_of(alloc, reason.text())?))
 }
 
-// Why no cache can serve a line.
-fn hindrance(alloc: Global, what: &str, word: &Option<Text>) -> Result<Text, AllocError>
-    ensures { IfOk result (λ text. text ≡ spec.hindrance what.now word.now) }
-{
-    let mut text = String::from_str(alloc, what)?;
-    push_word(&mut text, word)?;
-    Ok(Text::new(text))
-}
-
-// The answer to a line that was read.
+// The answer to a normal form, by what sccache's reader made of it.
 fn answer_of(
     alloc: Global,
     call: &NvccCall<'_>,
@@ -56,17 +45,30 @@ fn answer_of(
 ) -> Result<Answer, Fault>
     ensures { UnlessMemory result (spec.answer_of (nvcc_of call.now) (map pair_of variables.now) (reading_of reading.now)) }
 {
-    Ok(match reading {
-        CompilerArguments::Ok(parsed) => Answer::Split(outline_of(alloc, call, parsed, variables)?),
-        CompilerArguments::CannotCache(what, word) => {
-            Answer::CannotCache(hindrance(alloc, what, word)?)
+    match reading {
+        CompilerArguments::Ok(parsed) => {
+            Ok(Answer::Split(outline_of(alloc, call, parsed, variables)?))
         }
-        CompilerArguments::NotCompilation => Answer::NotCompilation,
-    })
+        _ => Ok(passed(alloc, Reason::OtherReading)?),
+    }
 }
 
-/// Reads an nvcc line at the call's working directory, with `variables`, the environment's `NVCC_PREPEND_FLAGS` and
-/// `NVCC_APPEND_FLAGS`.
+// The answer to a line whose normal form is `words`.
+fn answer_to(
+    alloc: Global,
+    call: &NvccCall<'_>,
+    words: &[String],
+    variables: &[(String, String)],
+) -> Result<Answer, Fault>
+    ensures { UnlessMemory result (spec.answer_of (nvcc_of call.now) (map pair_of variables.now)
+        (nvcc_reading (map string_bytes words.now) (nvcc_of call.now).cwd [])) }
+{
+    let reading = Nvcc::gcc().parse_arguments(alloc, words, call.cwd, &[])?;
+    answer_of(alloc, call, &reading, variables)
+}
+
+/// Reads an nvcc line as nvcc does, at the call's working directory, with `variables`, those of the environment that nvcc and
+/// Ninja's jobs depend on. A call that compiles one source is split; any other goes to nvcc.
 ///
 /// Fails if `generate_compile_commands` or `preprocess` of nvcc does.
 pub fn read_call(
@@ -76,6 +78,8 @@ pub fn read_call(
 ) -> Result<Answer, Fault>
     ensures { UnlessMemory result (spec.nvcc_answer (nvcc_of call.now) (map pair_of variables.now)) }
 {
-    let reading = Nvcc::gcc().parse_arguments(alloc, call.words, call.cwd, variables)?;
-    answer_of(alloc, call, &reading, variables)
+    match normalize(alloc, call.words, variables)? {
+        Verdict::Split(normal) => answer_to(alloc, call, normal.words.as_slice(), variables),
+        Verdict::Pass(reason) => Ok(passed(alloc, reason)?),
+    }
 }

@@ -20,7 +20,7 @@ use texts::fault::Fault;
 use texts::text::{Text, join};
 
 /// What an nvcc line says. The commands are texts for a shell.
-#[derive(Drop)]
+#[derive(Debug, Drop)]
 pub struct Outline {
     /// The command that writes the dependency file, or empty if the line doesn't ask for one.
     pub dependencies: Text,

@@ -1,11 +1,14 @@
 -- What a line asks nvcc for, item by item, as nvcc reads it.
-use Rattle.std.specs.Prelude.{ℕ, List, [], ◌∷◌, ◌++◌, Bool, if◌then◌else◌, Option, Some, None, fold, codes}
+use Rattle.std.specs.Prelude.{◌≡◌, ℕ, List, [], ◌∷◌, ◌++◌, Bool, not, ◌&&◌, ◌==◌, length, is_some, if◌then◌else◌, Option, Some, None, fold, refl, codes}
 use Rattle.std.specs.Option.{option_or}
-use Rattle.option_items.specs.Table.{Entry, longest_match}
+use Rattle.std.specs.Str.{bytes_eq}
+use Rattle.cuda_below.specs.GccOptions.{gcc_entries}
+use Rattle.host_lines.specs.NvccOptions.{nvcc_options}
+use Rattle.option_items.specs.Table.{Entry, longest_match, longest_of_two}
 use Rattle.option_items.specs.Items.{Item, raw, unknown_flag, flag, with_value, faulty, items}
 use Rattle.nvcc_words.specs.declared.asked.Asked.{Asked}
 use Rattle.nvcc_words.specs.declared.options.Purpose.{Purpose}
-use Rattle.nvcc_words.specs.declared.options.Purpose.TheVariants.{Define, Dependencies, DependencyFile, DependencyPhonies, DependencyTarget, Include, KeepDirectory, Language, OptimizationInfo, Output, OutputDirectory, Passes, Phase, PreInclude, TargetDirectory, Threads, Undefine, Unquoted}
+use Rattle.nvcc_words.specs.declared.options.Purpose.TheVariants.{Define, Dependencies, DependencyFile, DependencyPhonies, DependencyTarget, Forward, Include, KeepDirectory, Language, OptimizationInfo, Output, OutputDirectory, Passes, Phase, PreInclude, Quoted, TargetDirectory, Threads, Undefine, Unquoted}
 use Rattle.nvcc_words.specs.declared.reason.Reason.{Reason}
 use Rattle.nvcc_words.specs.declared.reason.Reason.TheVariants.{UnknownOption, MissingValue, BadValue, ShellCharacter}
 use Rattle.nvcc_words.specs.Options.{nvcc_entries}
@@ -26,6 +29,8 @@ nothing_asked = record {
   phonies = [];
   dependency_files = [];
   dependency_targets = [];
+  forwards = [];
+  unknown = [];
   kept = [];
 }
 
@@ -58,9 +63,13 @@ abbrev pub flag_refusal : Purpose → Option Reason
 flag_refusal (Passes reason) = Some reason
 flag_refusal _ = None
 
+abbrev pub unless_empty : List ℕ → Option Reason
+unless_empty value = reason_unless (not (length value == 0)) BadValue
+
 abbrev pub value_refusal : List ℕ → Purpose → Option Reason
 value_refusal value (Passes reason) = Some reason
-value_refusal value Unquoted = reason_unless (has_no_operator value) ShellCharacter
+value_refusal value Unquoted = option_or (unless_empty value) (reason_unless (has_no_operator value) ShellCharacter)
+value_refusal value Quoted = unless_empty value
 value_refusal value Define = reason_unless (is_joinable value) BadValue
 value_refusal value Undefine = reason_unless (is_joinable value) BadValue
 value_refusal value Include = reason_unless (is_joinable value) BadValue
@@ -72,6 +81,7 @@ abbrev pub with_flag_note : List ℕ → Purpose → Asked → Asked
 with_flag_note text Phase a = record a { phases = a.phases ++ text ∷ [] }
 with_flag_note text Dependencies a = record a { dependencies = a.dependencies ++ text ∷ [] }
 with_flag_note text DependencyPhonies a = record a { phonies = a.phonies ++ text ∷ [] }
+with_flag_note text Forward a = record a { forwards = a.forwards ++ text ∷ [] }
 with_flag_note text _ a = a
 
 abbrev pub with_value_note : List ℕ → Purpose → Asked → Asked
@@ -100,10 +110,32 @@ abbrev pub with_option : Asked → List ℕ → List ℕ → Purpose → Asked
 with_option a text value purpose =
     with_words (option_words text value purpose) (with_refusal (value_refusal value purpose) (with_value_note value purpose a))
 
+-- whether sccache's reader has an option for a word
+pub is_known_to_sccache : List ℕ → Bool
+is_known_to_sccache word = is_some (longest_of_two gcc_entries nvcc_options word)
+
+pub known_entries : (word : List ℕ) → is_some (longest_of_two gcc_entries nvcc_options word) ≡ is_known_to_sccache word
+unfolding is_known_to_sccache
+known_entries word = refl
+
+-- whether a word that nvcc forwards may stay where it is: a shell reads it as one word, sccache's reader has no option for
+-- it, and doesn't take it for the end of the options
+abbrev pub is_forwardable : List ℕ → Bool
+is_forwardable word = has_no_operator word && not (is_known_to_sccache word) && not (bytes_eq word (codes "--"))
+
+-- why a word that nvcc doesn't know leaves the call to nvcc even if nvcc forwards it
+abbrev pub unknown_refusal : List ℕ → Option Reason
+unknown_refusal word = reason_unless (is_forwardable word) UnknownOption
+
+-- a word that looks like an option and that nvcc doesn't know
+abbrev pub with_unknown : Asked → List ℕ → Asked
+with_unknown a word =
+    with_words (word ∷ []) (with_refusal (unknown_refusal word) (record a { unknown = a.unknown ++ word ∷ [] }))
+
 -- one more item
 abbrev pub with_item : Asked → Item Purpose → Asked
 with_item a (raw word) = record a { inputs = a.inputs ++ word ∷ [] }
-with_item a (unknown_flag word) = with_refusal (Some UnknownOption) a
+with_item a (unknown_flag word) = with_unknown a word
 with_item a (flag text purpose) = with_flag a text purpose
 with_item a (with_value text purpose value form) = with_option a text value purpose
 with_item a faulty = with_refusal (Some MissingValue) a

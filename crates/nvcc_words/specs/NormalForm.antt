@@ -10,7 +10,7 @@ use Rattle.texts.specs.Rows.{spaced}
 use Rattle.nvcc_words.specs.declared.asked.Asked.{Asked}
 use Rattle.nvcc_words.specs.declared.call.Call.{Call}
 use Rattle.nvcc_words.specs.declared.reason.Reason.{Reason}
-use Rattle.nvcc_words.specs.declared.reason.Reason.TheVariants.{Links, SeveralPhases, NoInput, SeveralInputs, NotSource, HostSource, StandardOutput, HiddenName, Repeated, DependencyWords, ShellCharacter}
+use Rattle.nvcc_words.specs.declared.reason.Reason.TheVariants.{Links, SeveralPhases, NoInput, SeveralInputs, NotSource, HostSource, StandardOutput, HiddenName, UnknownOption, Repeated, DependencyWords, ShellCharacter}
 use Rattle.nvcc_words.specs.Words.{is_unexpanded}
 use Rattle.nvcc_words.specs.Asked.{asked_of, reason_unless}
 
@@ -90,11 +90,11 @@ object_of_a_source = refl
 pub ptx_in_a_folder : default_output (codes "od") (codes "k.cu") (codes "-ptx") ≡ codes "od/k.ptx"
 ptx_in_a_folder = refl
 
--- whether an option is given twice whose last value alone counts, and whose words don't reach nvcc again
-abbrev pub has_repeated : Asked → Bool
-has_repeated a =
-    are_several a.outputs || are_several a.directories || are_several a.languages || are_several a.threads
-    || are_several a.keep_directories || are_several a.dependency_files || are_several a.dependency_targets
+-- whether an option has two values, of which nvcc takes the last, and its words don't reach nvcc again
+abbrev pub has_two_values : Asked → Bool
+has_two_values a =
+    differ a.outputs || differ a.directories || differ a.languages || differ a.threads
+    || differ a.keep_directories || differ a.dependency_files || differ a.dependency_targets
 
 -- whether the output is no file: `-` or the empty text
 abbrev pub is_no_file : List ℕ → Bool
@@ -106,18 +106,48 @@ abbrev pub names_usual_file : Asked → Bool
 names_usual_file a =
     if are_given a.outputs then are_given a.dependency_files || not (is_hidden (first_of a.outputs)) else makes_objects (phase_of a)
 
+-- whether a name looks like one: it isn't empty and doesn't begin with `-`
+abbrev pub is_usual_name : List ℕ → Bool
+is_usual_name [] = false
+is_usual_name (c ∷ cs) = not (c == 45)
+
+abbrev pub has_extension : List ℕ → List ℕ → Bool
+has_extension extension path = option_map_or (bytes_eq extension) (extension_of path) false
+
+-- the target in a dependency file, if the line names it or the output
+abbrev pub names_target : Asked → Bool
+names_target a = are_given a.dependency_targets || are_given a.outputs
+
+abbrev pub target_of : Asked → List ℕ
+target_of a = if are_given a.dependency_targets then first_of a.dependency_targets else first_of a.outputs
+
+-- whether a dependency file has another name than its target. A target without a name is an object
+abbrev pub is_other_file : Asked → List ℕ → Bool
+is_other_file a file =
+    is_usual_name file && not (bytes_eq file (target_of a)) && (names_target a || not (has_extension (codes "o") file))
+
+-- whether the dependency file and its target have usual names, and not one name: sccache's reader drops a value that repeats
+-- another. A file without a name has the extension `d`
+abbrev pub names_two_files : Asked → Bool
+names_two_files a =
+    (not (names_target a) || is_usual_name (target_of a))
+    && (if are_given a.dependency_files then is_other_file a (first_of a.dependency_files) else not (has_extension (codes "d") (target_of a)))
+
 abbrev pub is_usual : Asked → Bool
-is_usual a = not (differ a.dependencies) && not (are_given a.directories) && names_usual_file a
+is_usual a = not (differ a.dependencies) && not (are_given a.directories) && names_usual_file a && names_two_files a
 
 abbrev pub has_usual_dependencies : Asked → Bool
 has_usual_dependencies a =
     if are_given a.dependencies then is_usual a
     else not (are_given a.dependency_files) && not (are_given a.dependency_targets) && not (are_given a.phonies)
 
--- why a line's call is left to nvcc, in order: what an item says; phases; inputs; options given twice; the input's
--- language; the output; the dependency file
+-- why a line's call is left to nvcc, in order: what an item says; unknown words that nvcc doesn't forward; phases; inputs;
+-- options with two values; the input's language; the output; the dependency file
 abbrev pub phase_reason : Asked → Option Reason
 phase_reason a = option_or (reason_unless (are_given a.phases) Links) (reason_unless (not (differ a.phases)) SeveralPhases)
+
+abbrev pub unknown_reason : Asked → Option Reason
+unknown_reason a = reason_unless (not (are_given a.unknown) || are_given a.forwards) UnknownOption
 
 abbrev pub input_reason : Asked → Option Reason
 input_reason a = option_or (reason_unless (are_given a.inputs) NoInput) (reason_unless (not (are_several a.inputs)) SeveralInputs)
@@ -136,12 +166,13 @@ output_reason a =
 abbrev pub reason_of : Asked → Option Reason
 reason_of a =
     option_or a.refusal
+    (option_or (unknown_reason a)
     (option_or (phase_reason a)
     (option_or (input_reason a)
-    (option_or (reason_unless (not (has_repeated a)) Repeated)
+    (option_or (reason_unless (not (has_two_values a)) Repeated)
     (option_or (language_reason a)
     (option_or (output_reason a)
-    (reason_unless (has_usual_dependencies a) DependencyWords))))))
+    (reason_unless (has_usual_dependencies a) DependencyWords)))))))
 
 -- nvcc's reading of a line, with the line's normal form: the phase, `-o` and the output, the other options in their
 -- order, and the input

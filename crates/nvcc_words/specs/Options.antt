@@ -1,7 +1,7 @@
 -- nvcc 13's options: every name that nvcc takes, and what it does with a value.
 use Rattle.std.specs.Prelude.{ℕ, List, [], ◌∷◌, ◌++◌, map, Some, None}
 use Rattle.nvcc_words.specs.declared.options.Purpose.{Purpose}
-use Rattle.nvcc_words.specs.declared.options.Purpose.TheVariants.{Define, Dependencies, DependencyFile, DependencyPhonies, DependencyTarget, Include, KeepDirectory, Language, OptimizationInfo, Output, OutputDirectory, Passes, Phase, Plain, PreInclude, Quoted, TargetDirectory, Threads, Undefine, Unquoted}
+use Rattle.nvcc_words.specs.declared.options.Purpose.TheVariants.{Define, Dependencies, DependencyFile, DependencyPhonies, DependencyTarget, Forward, Include, KeepDirectory, Language, OptimizationInfo, Output, OutputDirectory, Passes, Phase, Plain, PreInclude, Quoted, TargetDirectory, Threads, Undefine, Unquoted}
 use Rattle.nvcc_words.specs.declared.reason.Reason.TheVariants.{Cleans, DrivePrefix, Jobserver, Links, Measures, OptionsFile, OtherPhase, Prints, StandardInput, TemporaryFiles}
 use Rattle.texts.specs.Rows.{spaced}
 use Rattle.option_items.specs.declared.table.ArgDisposition.{ArgDisposition}
@@ -35,8 +35,6 @@ nvcc_entries =
     ++ spaced "--expt-relaxed-constexpr -expt-relaxed-constexpr --extended-lambda -extended-lambda"
     ++ spaced "--extensible-whole-program -ewp --extra-device-vectorization -extra-device-vectorization"
     ++ spaced "--fdevice-syntax-only -fdevice-syntax-only --force-cl-env-setup -force-cl-env-setup"
-    ++ spaced "--forward-unknown-opts -forward-unknown-opts --forward-unknown-to-host-compiler"
-    ++ spaced "-forward-unknown-to-host-compiler --forward-unknown-to-host-linker -forward-unknown-to-host-linker"
     ++ spaced "--gen-opt-lto -gen-opt-lto --generate-line-info -lineinfo --keep -keep --keep-device-functions"
     ++ spaced "-keep-device-functions --lto -lto --m64 -m64 --no-align-double --no-compress -no-compress"
     ++ spaced "--no-device-link -nodlink --no-display-error-number -no-err-no --no-exceptions -noeh"
@@ -47,6 +45,10 @@ nvcc_entries =
     ++ spaced "--Wext-lambda-captures-this -Wext-lambda-captures-this --Wmissing-launch-bounds"
     ++ spaced "-Wmissing-launch-bounds --Wno-deprecated-declarations -Wno-deprecated-declarations"
     ++ spaced "--Wno-deprecated-gpu-targets -Wno-deprecated-gpu-targets --Wreorder -Wreorder")
+    -- flags that have nvcc forward words that it doesn't know
+    ++ flags Forward
+    (spaced "--forward-unknown-opts -forward-unknown-opts --forward-unknown-to-host-compiler"
+    ++ spaced "-forward-unknown-to-host-compiler --forward-unknown-to-host-linker -forward-unknown-to-host-linker")
     -- options whose values nvcc passes on without quotes
     ++ valued Unquoted
     (spaced "--archive-options -Xarchive --archiver-binary -arbin --brief-diagnostics -brief-diag --cicc-options"

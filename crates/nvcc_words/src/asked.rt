@@ -1,6 +1,7 @@
 //! What a line asks nvcc for, item by item.
 
-ghost use Rattle.std.specs.Prelude.{◌≡◌, ◌++◌, ◌∷◌, [], OnOk, IfOk, map, string_bytes};
+ghost use Rattle.std.specs.Prelude.{◌≡◌, ◌++◌, ◌∷◌, [], OnOk, IfOk, codes, map, string_bytes};
+ghost use Rattle.std.specs.Str.{bytes_eq};
 ghost use Rattle.std.specs.Option.{option_copied};
 ghost use Rattle.option_items.specs.Views.{item_seen, item_viewed};
 ghost use Rattle.nvcc_words.specs.Asked as spec;
@@ -8,8 +9,10 @@ ghost use Rattle.nvcc_words.specs.Asked as spec;
 use crate::options::{Purpose, table};
 use crate::reason::Reason;
 use crate::word_tests::{equals_word, has_no_operator, is_joinable, is_number};
+use cuda_below::gcc;
+use host_lines::nvcc;
 use option_items::items::{ArgParseError, Line};
-use option_items::table::SearchableArgInfo;
+use option_items::table::{Pair, SearchableArgInfo};
 use option_items::views::{ArgumentView, view_item};
 use std::alloc::{AllocError, Global};
 use texts::words::Words;
@@ -41,6 +44,10 @@ pub struct Asked {
     pub dependency_files: Words,
     /// The values of `-MT`.
     pub dependency_targets: Words,
+    /// The flags that have nvcc forward words that it doesn't know.
+    pub forwards: Words,
+    /// The words that look like options and that nvcc doesn't know.
+    pub unknown: Words,
     /// The words of all options but phases and outputs, in a normal form.
     pub kept: Words,
 }
@@ -117,13 +124,24 @@ fn reason_unless(is_well: bool, reason: Reason) -> Option<Reason>
     if is_well { None } else { Some(reason) }
 }
 
+// Why an empty value leaves the call to nvcc: the last word may be an option without its value.
+fn unless_empty(value: &str) -> Option<Reason>
+    ensures { result ≡ spec.unless_empty value.now }
+{
+    reason_unless(!value.is_empty(), Reason::BadValue)
+}
+
 // Why an option with this value leaves the call to nvcc.
 fn value_refusal(value: &str, purpose: Purpose) -> Option<Reason>
     ensures { result ≡ spec.value_refusal value.now purpose }
 {
     match purpose {
         Purpose::Passes(reason) => Some(reason),
-        Purpose::Unquoted => reason_unless(has_no_operator(value), Reason::ShellCharacter),
+        Purpose::Unquoted => unless_empty(value).or(reason_unless(
+            has_no_operator(value),
+            Reason::ShellCharacter,
+        )),
+        Purpose::Quoted => unless_empty(value),
         Purpose::Define | Purpose::Undefine | Purpose::Include => reason_unless(
             is_joinable(value),
             Reason::BadValue,
@@ -131,6 +149,38 @@ fn value_refusal(value: &str, purpose: Purpose) -> Option<Reason>
         Purpose::Threads => reason_unless(is_number(value), Reason::BadValue),
         _ => None,
     }
+}
+
+// Whether sccache's reader has an option for a word.
+fn is_known_to_sccache(word: &str) -> bool
+    ensures { result ≡ spec.is_known_to_sccache word.now }
+{
+    let tables = Pair {
+        first: gcc::table(),
+        second: nvcc::table(),
+    };
+    tables.search(word).is_some()
+}
+
+// Whether a word ends the options.
+fn is_double_dash(word: &str) -> bool
+    ensures { result ≡ bytes_eq word.now (codes "--") }
+{
+    word == "--"
+}
+
+// Whether a word that nvcc forwards may stay where it is.
+fn is_forwardable(word: &str) -> bool
+    ensures { result ≡ spec.is_forwardable word.now }
+{
+    has_no_operator(word) && !is_known_to_sccache(word) && !is_double_dash(word)
+}
+
+// Why a word that nvcc doesn't know leaves the call to nvcc even if nvcc forwards it.
+fn unknown_refusal(word: &str) -> Option<Reason>
+    ensures { result ≡ spec.unknown_refusal word.now }
+{
+    reason_unless(is_forwardable(word), Reason::UnknownOption)
 }
 
 impl Asked {
@@ -153,6 +203,8 @@ impl Asked {
             phonies: Words::new(alloc),
             dependency_files: Words::new(alloc),
             dependency_targets: Words::new(alloc),
+            forwards: Words::new(alloc),
+            unknown: Words::new(alloc),
             kept: Words::new(alloc),
         }
     }
@@ -174,6 +226,7 @@ impl Asked {
             Purpose::Phase => self.phases.push_str(alloc, text),
             Purpose::Dependencies => self.dependencies.push_str(alloc, text),
             Purpose::DependencyPhonies => self.phonies.push_str(alloc, text),
+            Purpose::Forward => self.forwards.push_str(alloc, text),
             _ => Ok(()),
         }
     }
@@ -218,16 +271,22 @@ impl Asked {
         push_option(alloc, &mut self.kept, text, value, purpose)
     }
 
+    // Takes a word that looks like an option and that nvcc doesn't know.
+    fn take_unknown(&mut self, alloc: Global, word: &str) -> Result<(), AllocError>
+        ensures { OnOk result (self.new ≡ spec.with_unknown self.old word.now) }
+    {
+        self.unknown.push_str(alloc, word)?;
+        self.refuse(unknown_refusal(word));
+        self.kept.push_str(alloc, word)
+    }
+
     // Takes an item.
     fn take(&mut self, alloc: Global, item: ArgumentView<'_, Purpose>) -> Result<(), AllocError>
         ensures { OnOk result (self.new ≡ spec.with_item self.old (item_seen item.entry)) }
     {
         match item {
             ArgumentView::Raw(word) => self.inputs.push_str(alloc, word),
-            ArgumentView::UnknownFlag(_) => {
-                self.refuse(Some(Reason::UnknownOption));
-                Ok(())
-            }
+            ArgumentView::UnknownFlag(word) => self.take_unknown(alloc, word),
             ArgumentView::Flag(text, purpose) => self.take_flag(alloc, text, purpose),
             ArgumentView::WithValue(text, purpose, value, _) => {
                 self.take_option(alloc, text, value, purpose)

@@ -7,7 +7,7 @@ use texts::text::Text;
 use texts::words::Words;
 
 /// nvcc's reading of a call that compiles one source, and the line's normal form. Words and paths are UTF-8.
-#[derive(Drop)]
+#[derive(Debug, Drop)]
 pub struct Call {
     /// The flag for the phase that the call ends with, as the line spells it: `-c`, `--ptx`, ..
     pub flag: Text,

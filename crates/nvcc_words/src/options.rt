@@ -8,10 +8,12 @@ use crate::reason::Reason;
 use option_items::table::{ArgInfo, EITHER_WAY, EITHER_WAY_OR_EQUALS, JOINED, Table};
 
 /// What an option is for, as far as the normal form of a line depends on it.
-#[derive(Clone, Copy)]
+#[derive(Clone, Copy, Debug)]
 pub enum Purpose {
     /// A flag that stays as it is.
     Plain,
+    /// A flag that has nvcc forward words that it doesn't know to the host compiler, or to its linker.
+    Forward,
     /// An option whose value nvcc's shell sees without quotes.
     Unquoted,
     /// An option whose value nvcc puts in quotes, or reads itself.
@@ -88,12 +90,6 @@ pub const ARGS: [ArgInfo<Purpose>; 299] = [
     ArgInfo::Flag("-fdevice-syntax-only", Purpose::Plain),
     ArgInfo::Flag("--force-cl-env-setup", Purpose::Plain),
     ArgInfo::Flag("-force-cl-env-setup", Purpose::Plain),
-    ArgInfo::Flag("--forward-unknown-opts", Purpose::Plain),
-    ArgInfo::Flag("-forward-unknown-opts", Purpose::Plain),
-    ArgInfo::Flag("--forward-unknown-to-host-compiler", Purpose::Plain),
-    ArgInfo::Flag("-forward-unknown-to-host-compiler", Purpose::Plain),
-    ArgInfo::Flag("--forward-unknown-to-host-linker", Purpose::Plain),
-    ArgInfo::Flag("-forward-unknown-to-host-linker", Purpose::Plain),
     ArgInfo::Flag("--gen-opt-lto", Purpose::Plain),
     ArgInfo::Flag("-gen-opt-lto", Purpose::Plain),
     ArgInfo::Flag("--generate-line-info", Purpose::Plain),
@@ -149,6 +145,12 @@ pub const ARGS: [ArgInfo<Purpose>; 299] = [
     ArgInfo::Flag("-Wno-deprecated-gpu-targets", Purpose::Plain),
     ArgInfo::Flag("--Wreorder", Purpose::Plain),
     ArgInfo::Flag("-Wreorder", Purpose::Plain),
+    ArgInfo::Flag("--forward-unknown-opts", Purpose::Forward),
+    ArgInfo::Flag("-forward-unknown-opts", Purpose::Forward),
+    ArgInfo::Flag("--forward-unknown-to-host-compiler", Purpose::Forward),
+    ArgInfo::Flag("-forward-unknown-to-host-compiler", Purpose::Forward),
+    ArgInfo::Flag("--forward-unknown-to-host-linker", Purpose::Forward),
+    ArgInfo::Flag("-forward-unknown-to-host-linker", Purpose::Forward),
     ArgInfo::TakeArg("--archive-options", Purpose::Unquoted, EITHER_WAY_OR_EQUALS),
     ArgInfo::TakeArg("-Xarchive", Purpose::Unquoted, EITHER_WAY_OR_EQUALS),
     ArgInfo::TakeArg("--archiver-binary", Purpose::Unquoted, EITHER_WAY_OR_EQUALS),

@@ -3,7 +3,7 @@
 use std::fmt;
 
 /// Why a call goes to nvcc unchanged. Its text says so in a few words.
-#[derive(Clone, Copy)]
+#[derive(Clone, Copy, Debug)]
 pub enum Reason {
     /// The call links, makes a library or runs a program; so does a call that names no phase.
     Links,
@@ -39,15 +39,16 @@ pub enum Reason {
     StandardOutput,
     /// nvcc's rule for the output's name doesn't say which one: the source's name begins with a `.`.
     HiddenName,
-    /// A word looks like an option and isn't one of nvcc's.
+    /// A word looks like an option and isn't one of nvcc's, and nvcc doesn't forward it, or a normal form can't hold it.
     UnknownOption,
     /// An option lacks its value.
     MissingValue,
     /// A value that nvcc refuses, or that a normal form can't express.
     BadValue,
-    /// An option is given twice that takes one value.
+    /// An option that takes one value is given two, of which nvcc takes the last.
     Repeated,
-    /// It asks for a dependency file whose name or target isn't the usual one, or names one without asking for it.
+    /// It asks for a dependency file whose name or target isn't a usual one, or that has one name for both, or it names a
+    /// file without asking for it.
     DependencyWords,
     /// A character that nvcc's shell may read as its own: an expansion, an operator or a line's end.
     ShellCharacter,
@@ -57,6 +58,44 @@ pub enum Reason {
     OtherReading,
 }
 
+impl Reason {
+    ghost use Rattle.std.specs.Prelude.{◌≡◌};
+    ghost use Rattle.nvcc_words.specs.Reasons.{text_of};
+
+    /// What it says.
+    pub fn text(&self) -> &'static str
+        ensures { result.now ≡ text_of self.now }
+    {
+        match self {
+            Reason::Links => "it links",
+            Reason::OtherPhase => "its phase isn't split",
+            Reason::SeveralPhases => "it names several phases",
+            Reason::NoInput => "it names no input",
+            Reason::SeveralInputs => "it names several inputs",
+            Reason::NotSource => "its input is no CUDA, C or C++ source",
+            Reason::HostSource => "its input has no device code",
+            Reason::Prints => "it prints something",
+            Reason::Cleans => "it removes files",
+            Reason::Measures => "it measures times",
+            Reason::OptionsFile => "it reads options from a file",
+            Reason::TemporaryFiles => "its temporary files go beside the object",
+            Reason::Jobserver => "it uses make's jobserver",
+            Reason::DrivePrefix => "it names a prefix of drives",
+            Reason::StandardInput => "it reads standard input",
+            Reason::StandardOutput => "its output is no file",
+            Reason::HiddenName => "its output's name isn't certain",
+            Reason::UnknownOption => "an option is unknown",
+            Reason::MissingValue => "an option lacks its value",
+            Reason::BadValue => "an option has an odd value",
+            Reason::Repeated => "an option has two values",
+            Reason::DependencyWords => "its dependency file is an odd one",
+            Reason::ShellCharacter => "nvcc's shell may expand a word",
+            Reason::VariableQuotes => "NVCC_PREPEND_FLAGS or NVCC_APPEND_FLAGS has quotes",
+            Reason::OtherReading => "its words can be read in two ways",
+        }
+    }
+}
+
 impl fmt::Display for Reason {
     ghost use Rattle.std.specs.Prelude.{Some};
     ghost use Rattle.nvcc_words.specs.Reasons.{text_of};
@@ -64,32 +103,6 @@ impl fmt::Display for Reason {
     ghost output = { λ r. Some (text_of r) };
 
     fn fmt<W: fmt::Write>(&self, f: &mut fmt::Formatter<W>) -> fmt::Result {
-        f.write_str(match self {
-            Reason::Links => "the call links",
-            Reason::OtherPhase => "the phase isn't split",
-            Reason::SeveralPhases => "the call names several phases",
-            Reason::NoInput => "the call names no input",
-            Reason::SeveralInputs => "the call names several inputs",
-            Reason::NotSource => "the input is no CUDA, C or C++ source",
-            Reason::HostSource => "the input has no device code",
-            Reason::Prints => "nvcc prints something",
-            Reason::Cleans => "nvcc removes files",
-            Reason::Measures => "nvcc measures times",
-            Reason::OptionsFile => "options come from a file",
-            Reason::TemporaryFiles => "temporary files go beside the object",
-            Reason::Jobserver => "nvcc uses make's jobserver",
-            Reason::DrivePrefix => "a prefix of drives is named",
-            Reason::StandardInput => "the input is standard input",
-            Reason::StandardOutput => "the output is no file",
-            Reason::HiddenName => "the output's name isn't certain",
-            Reason::UnknownOption => "an option is unknown",
-            Reason::MissingValue => "an option lacks its value",
-            Reason::BadValue => "an option has an odd value",
-            Reason::Repeated => "an option is given twice",
-            Reason::DependencyWords => "the dependency file is an odd one",
-            Reason::ShellCharacter => "nvcc's shell may expand a word",
-            Reason::VariableQuotes => "NVCC_PREPEND_FLAGS or NVCC_APPEND_FLAGS has quotes",
-            Reason::OtherReading => "the words can be read in two ways",
-        })
+        f.write_str(self.text())
     }
 }

@@ -75,6 +75,26 @@ fn is_hidden(path: &str) -> bool
     }
 }
 
+// Whether a name isn't empty and doesn't begin with `-`.
+fn is_usual_name(name: &str) -> bool
+    ensures { result ≡ spec.is_usual_name name.now }
+{
+    match name.as_bytes() {
+        [] => false,
+        [first, ..] => *first != b'-',
+    }
+}
+
+// Whether a path has an extension.
+fn has_extension(wanted: &str, path: &str) -> bool
+    ensures { result ≡ spec.has_extension wanted.now path.now }
+{
+    match extension(path) {
+        Some(extension) => is_text(wanted, extension),
+        None => false,
+    }
+}
+
 fn is_host_extension(extension: &str) -> bool
     ensures { result ≡ spec.is_host_extension extension.now }
 {
@@ -173,24 +193,67 @@ impl Asked {
         }
     }
 
-    // Whether an option is given twice whose words don't reach nvcc again.
-    fn has_repeated(&self) -> bool
-        ensures { result ≡ spec.has_repeated self.now }
+    // Whether an option has two values and its words don't reach nvcc again.
+    fn has_two_values(&self) -> bool
+        ensures { result ≡ spec.has_two_values self.now }
     {
-        are_several(&self.outputs)
-            || are_several(&self.directories)
-            || are_several(&self.languages)
-            || are_several(&self.threads)
-            || are_several(&self.keep_directories)
-            || are_several(&self.dependency_files)
-            || are_several(&self.dependency_targets)
+        differ(&self.outputs)
+            || differ(&self.directories)
+            || differ(&self.languages)
+            || differ(&self.threads)
+            || differ(&self.keep_directories)
+            || differ(&self.dependency_files)
+            || differ(&self.dependency_targets)
     }
 
     // Whether the dependency file that is asked for is a usual one.
     fn is_usual(&self) -> bool
         ensures { result ≡ spec.is_usual self.now }
     {
-        !differ(&self.dependencies) && !are_given(&self.directories) && self.names_usual_file()
+        !differ(&self.dependencies)
+            && !are_given(&self.directories)
+            && self.names_usual_file()
+            && self.names_two_files()
+    }
+
+    fn names_target(&self) -> bool
+        ensures { result ≡ spec.names_target self.now }
+    {
+        are_given(&self.dependency_targets) || are_given(&self.outputs)
+    }
+
+    // The target in a dependency file, if the line names it or the output.
+    fn target(&self) -> &str
+        ensures { result.now ≡ spec.target_of self.now }
+    {
+        if are_given(&self.dependency_targets) {
+            first_of(&self.dependency_targets)
+        } else {
+            first_of(&self.outputs)
+        }
+    }
+
+    // Whether a dependency file has another name than its target.
+    fn is_other_file(&self, file: &str) -> bool
+        ensures { result ≡ spec.is_other_file self.now file.now }
+    {
+        is_usual_name(file)
+            && !is_text(file, self.target())
+            && (self.names_target() || !has_extension("o", file))
+    }
+
+    // Whether the dependency file and its target have usual names, and not one name.
+    fn names_two_files(&self) -> bool
+        ensures { result ≡ spec.names_two_files self.now }
+    {
+        if self.names_target() && !is_usual_name(self.target()) {
+            return false;
+        }
+        if are_given(&self.dependency_files) {
+            self.is_other_file(first_of(&self.dependency_files))
+        } else {
+            !has_extension("d", self.target())
+        }
     }
 
     // Whether the dependency file and its target have names that sccache's reader finds.
@@ -213,6 +276,16 @@ impl Asked {
         !are_given(&self.dependency_files)
             && !are_given(&self.dependency_targets)
             && !are_given(&self.phonies)
+    }
+
+    // Why words that nvcc doesn't know leave the call to nvcc.
+    fn unknown_reason(&self) -> Option<Reason>
+        ensures { result ≡ spec.unknown_reason self.now }
+    {
+        unless(
+            !are_given(&self.unknown) || are_given(&self.forwards),
+            Reason::UnknownOption,
+        )
     }
 
     fn phase_reason(&self) -> Option<Reason>
@@ -262,9 +335,10 @@ impl Asked {
         let dependencies = unless(self.has_usual_dependencies(), Reason::DependencyWords);
         let output = self.output_reason().or(dependencies);
         let language = self.language_reason().or(output);
-        let repeated = unless(!self.has_repeated(), Reason::Repeated).or(language);
+        let repeated = unless(!self.has_two_values(), Reason::Repeated).or(language);
         let input = self.input_reason().or(repeated);
-        self.refusal.or(self.phase_reason().or(input))
+        let phase = self.phase_reason().or(input);
+        self.refusal.or(self.unknown_reason().or(phase))
     }
 
     // The line in its normal form.

@@ -20,7 +20,7 @@ use std::alloc::{AllocError, Global};
 use texts::variables::first_value;
 
 /// What becomes of a call.
-#[derive(Drop)]
+#[derive(Debug, Drop)]
 pub enum Verdict {
     /// The call compiles one source, and sccache's reader reads its normal form as nvcc reads the line.
     Split(Call),
@@ -141,8 +141,9 @@ fn is_plain(variables: &[(String, String)], name: &str) -> bool
 /// this. It cuts their values at spaces, and a value in which nvcc may see more than that leaves the call to nvcc.
 ///
 /// `Pass` has the first reason that holds, looked for in this order: the variables' quotes; a character that nvcc's shell
-/// may expand; what an option says, in the line's order; the phase; the inputs; an option given twice; the input's
-/// language; the output; the dependency file; and at last that sccache's reader reads the normal form otherwise.
+/// may expand; what an option says, in the line's order; a word that nvcc neither knows nor forwards; the phase; the inputs;
+/// an option with two values; the input's language; the output; the dependency file; and at last that sccache's reader reads
+/// the normal form otherwise.
 pub fn normalize(
     alloc: Global,
     words: &[String],
