@@ -1,4 +1,7 @@
 pub mod NeedLemmas
 pub mod OrderLemmas
 pub mod OrderNeedLemmas
+pub mod NeededLemmas
 pub mod PartLemmas
+pub mod PlanOrderLemmas
+pub mod TouchedLemmas

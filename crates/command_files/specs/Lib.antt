@@ -2,3 +2,6 @@ pub mod CommandFiles
 pub mod Files
 pub mod Order
 pub mod OrderNeeds
+pub mod PlanNeeds
+pub mod PlanOrders
+pub mod Touched

@@ -56,8 +56,8 @@ fn tool_of_stem(stem: &str) -> Tool
     }
 }
 
-// The tool of a program, by its path.
-fn tool_of(program: &str) -> Tool
+/// The tool of a program, by its path.
+pub fn tool_of(program: &str) -> Tool
     ensures { result ≡ spec.tool_of_stem (file_stem_of program.now) }
 {
     match file_stem(program) {

@@ -3,5 +3,10 @@
 
 mod files;
 pub mod laws;
+mod needed;
+mod steps;
+mod touched;
 
 pub use files::{CommandFiles, files_of};
+pub use needed::{CommandNeeds, needs};
+pub use steps::files_of_plan;

@@ -25,25 +25,25 @@ use Rattle.command_groups.proofs.GroupingLemmas.{labels_are_fates, names_are_ope
 -- Lists of lists.
 
 -- two lists of lists, joined place by place
-abbrev zipped : {X : Type 0} → List (List X) → List (List X) → List (List X)
+abbrev pub zipped : {X : Type 0} → List (List X) → List (List X) → List (List X)
 zipped [] hs = []
 zipped (g ∷ gs) [] = []
 zipped (g ∷ gs) (h ∷ hs) = (g ++ h) ∷ zipped gs hs
 
 -- lists, of which the one at a place has one more element in front
-abbrev cons_at : {X : Type 0} → ℕ → X → List (List X) → List (List X)
+abbrev pub cons_at : {X : Type 0} → ℕ → X → List (List X) → List (List X)
 cons_at place x [] = []
 cons_at zero x (g ∷ gs) = (x ∷ g) ∷ gs
 cons_at (suc place) x (g ∷ gs) = g ∷ cons_at place x gs
 
-put_before : {X : Type 0} (place : ℕ) (x : X) (gs hs : List (List X)) → zipped (put_at place x gs) hs ≡ zipped gs (cons_at place x hs)
+pub put_before : {X : Type 0} (place : ℕ) (x : X) (gs hs : List (List X)) → zipped (put_at place x gs) hs ≡ zipped gs (cons_at place x hs)
 put_before place x [] hs = refl
 put_before zero x (g ∷ gs) [] = refl
 put_before zero x (g ∷ gs) (h ∷ hs) = ap (λ t. t ∷ zipped gs hs) (append_assoc g (x ∷ []) h)
 put_before (suc place) x (g ∷ gs) [] = refl
 put_before (suc place) x (g ∷ gs) (h ∷ hs) = ap (λ ts. (g ++ h) ∷ ts) (put_before place x gs hs)
 
-zipped_nothing : {X : Type 0} (n : ℕ) (hs : List (List X)) → length hs ≡ n → zipped (replicate n []) hs ≡ hs
+pub zipped_nothing : {X : Type 0} (n : ℕ) (hs : List (List X)) → length hs ≡ n → zipped (replicate n []) hs ≡ hs
 zipped_nothing zero [] e = refl
 zipped_nothing zero (h ∷ hs) e = absurd (omega arith)
 zipped_nothing (suc n) [] e = absurd (omega arith)
@@ -51,14 +51,14 @@ zipped_nothing (suc n) (h ∷ hs) e = ap (λ ts. h ∷ ts) (zipped_nothing n hs 
 
 module _ {X : Type 0} (x : X) (g : List ℕ → List X) where
   -- the groups, once a command joins the one of a name
-  abbrev joined_by : List ℕ → List ℕ → List X
+  abbrev pub joined_by : List ℕ → List ℕ → List X
   joined_by name n = cond (bytes_eq name n) (x ∷ g n) (g n)
 
   not_joined : (name : List ℕ) (names : List (List ℕ)) → list_any (bytes_eq name) names ≡ false → map (joined_by name) names ≡ map g names
   not_joined name [] e = refl
   not_joined name (n ∷ ns) e = λ i. cond (first_false (bytes_eq name n) (list_any (bytes_eq name) ns) e i) (x ∷ g n) (g n) ∷ not_joined name ns (second_false (bytes_eq name n) (list_any (bytes_eq name) ns) e) i
 
-  joined_at : (opened : Opened) (k : ℕ) (e : List ℕ × ℕ) (rest : List (List X)) → Distinct (names_of opened) → slice_get opened k ≡ Some e → map (joined_by e.0) (names_of opened) ++ rest ≡ cons_at k x (map g (names_of opened) ++ rest)
+  pub joined_at : (opened : Opened) (k : ℕ) (e : List ℕ × ℕ) (rest : List (List X)) → Distinct (names_of opened) → slice_get opened k ≡ Some e → map (joined_by e.0) (names_of opened) ++ rest ≡ cons_at k x (map g (names_of opened) ++ rest)
   joined_at [] k e rest d h = cc
   joined_at (y ∷ ys) zero e rest d h =
       let same : y ≡ e = cc in
@@ -75,15 +75,15 @@ module _ {X : Type 0} (x : X) (g : List ℕ → List X) where
           ]
           refl
 
-  last_joined : (opened : Opened) (last : List X) → map g (names_of opened) ++ (x ∷ last) ∷ [] ≡ cons_at (length opened) x (map g (names_of opened) ++ last ∷ [])
+  pub last_joined : (opened : Opened) (last : List X) → map g (names_of opened) ++ (x ∷ last) ∷ [] ≡ cons_at (length opened) x (map g (names_of opened) ++ last ∷ [])
   last_joined [] last = refl
   last_joined (y ∷ ys) last = ap (λ ts. g y.0 ∷ ts) (last_joined ys last)
 
-names_length : (opened : Opened) → length (names_of opened) ≡ length opened
+pub names_length : (opened : Opened) → length (names_of opened) ≡ length opened
 names_length [] = refl
 names_length (e ∷ es) = ap suc (names_length es)
 
-put_length : {X : Type 0} (place : ℕ) (x : X) (gs : List (List X)) → length (put_at place x gs) ≡ length gs
+pub put_length : {X : Type 0} (place : ℕ) (x : X) (gs : List (List X)) → length (put_at place x gs) ≡ length gs
 put_length place x [] = refl
 put_length zero x (g ∷ gs) = refl
 put_length (suc place) x (g ∷ gs) = ap suc (put_length place x gs)

@@ -7,6 +7,7 @@ pub mod GroupingLemmas
 pub mod MergeLemmas
 pub mod OpeningLemmas
 pub mod OpenerLemmas
+pub mod OriginLemmas
 pub mod PlanLemmas
 pub mod PlanNeedLemmas
 pub mod PutLemmas

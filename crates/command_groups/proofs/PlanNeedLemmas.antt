@@ -16,7 +16,7 @@ use Rattle.command_groups.specs.declared.plan.Plan.{Plan}
 use Rattle.command_groups.specs.Plan.{PlanSetting}
 use Rattle.command_groups.specs.PlanLaws.{AreCleanAndAlike}
 use Rattle.command_groups.specs.PlanNeeds.{PlansAgreeFirstUnclean, PlansAgreeSecondUnclean, PlansAgreeByAnyMap, PlansAgreeInOtherFolders, PlansAgreeWithKeepDirectory, PlansAgreeWithAnyVariables}
-use Rattle.command_groups.specs.PlanRows.{setting}
+use Rattle.command_groups.specs.PlanExamples.{setting}
 
 -- whether the words of a plan's dropped commands are these, and whether some command of a plan has variables
 abbrev drops_words : List (List (List ℕ)) → Plan → Bool

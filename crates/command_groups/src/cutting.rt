@@ -60,9 +60,9 @@ fn dropped(command: SelectedCommand, reason: Reason) -> Dropped
     }
 }
 
-// The place of a label's group among all groups, or why it has none: the front group is the first, the final group the
-// last, and a device group that was opened again has lost what it had.
-fn group_of(opened: &OpenedNames, label: Label) -> Result<usize, Reason>
+/// The place of a label's group among all groups, or why it has none: the front group is the first, the final group the
+/// last, and a device group that was opened again has lost what it had.
+pub fn group_of(opened: &OpenedNames, label: Label) -> Result<usize, Reason>
     ensures place { result ≡ spec.group_of_label opened.now label }
     ensures within { IfOk result (λ place. place < length opened.now + 2) }
 {

@@ -2,7 +2,10 @@
 
 ghost use Rattle.std.specs.Prelude.{◌≡◌, map, IfOk};
 ghost use Rattle.std.specs.Vec.Iter.{into_iter_items};
+ghost use Rattle.command_groups.specs.Grouping.{grouped};
+ghost use Rattle.command_groups.specs.GroupingView.{grouping_seen};
 ghost use Rattle.command_groups.specs.MergedView.{command_seen};
+ghost use Rattle.command_groups.specs.Origins.{origins_of_staged};
 ghost use Rattle.command_groups.specs.Plan.{plan_of_staged};
 ghost use Rattle.command_groups.specs.SettingView.{setting_seen};
 ghost use Rattle.command_groups.specs.Stage.{staged};
@@ -10,18 +13,18 @@ ghost use Rattle.command_groups.specs.Stage.{staged};
 use crate::cutting::plan_by_labels;
 use crate::grouping::Grouping;
 use crate::merge::SelectedCommand;
-use crate::plan::Plan;
+use crate::origins::{PlanWithOrigins, origins_by_labels};
 use crate::setting::Setting;
 use std::alloc::{AllocError, Global};
 use std::vec::IntoIter;
 
-/// The plan of merged commands.
-pub fn plan_of_commands(
+// The merged commands, each with its label.
+fn label_all(
     alloc: Global,
     setting: &Setting<'_>,
     commands: IntoIter<SelectedCommand>,
-) -> Result<Plan, AllocError>
-    ensures { IfOk result (λ plan. plan ≡ plan_of_staged (setting_seen setting.now) (map (staged setting.now.call.now.host_compiler (setting_seen setting.now).flag) (map command_seen (into_iter_items commands)))) }
+) -> Result<Grouping, AllocError>
+    ensures { IfOk result (λ grouping. grouping_seen grouping ≡ grouped (map (staged setting.now.call.now.host_compiler (setting_seen setting.now).flag) (map command_seen (into_iter_items commands)))) }
 {
     let mut grouping = Grouping::with_capacity(alloc, commands.len())?;
     for command in commands {
@@ -32,10 +35,25 @@ pub fn plan_of_commands(
             command,
         )?;
     }
+    Ok(grouping)
+}
+
+/// The plan of merged commands, with their origins.
+pub fn plan_of_commands(
+    alloc: Global,
+    setting: &Setting<'_>,
+    commands: IntoIter<SelectedCommand>,
+) -> Result<PlanWithOrigins, AllocError>
+    ensures plan { IfOk result (λ planned. planned.plan ≡ plan_of_staged (setting_seen setting.now) (map (staged setting.now.call.now.host_compiler (setting_seen setting.now).flag) (map command_seen (into_iter_items commands)))) }
+    ensures origins { IfOk result (λ planned. planned.origins ≡ origins_of_staged (map (staged setting.now.call.now.host_compiler (setting_seen setting.now).flag) (map command_seen (into_iter_items commands)))) }
+{
+    let grouping = label_all(alloc, setting, commands)?;
     let Grouping {
         opened,
         labelled,
         ..
     } = grouping;
-    plan_by_labels(alloc, setting, &opened, labelled)
+    let origins = origins_by_labels(alloc, &opened, labelled.as_slice())?;
+    let plan = plan_by_labels(alloc, setting, &opened, labelled)?;
+    Ok(PlanWithOrigins { plan, origins })
 }

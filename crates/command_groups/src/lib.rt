@@ -8,12 +8,14 @@ mod grouping;
 pub mod laws;
 mod merge;
 mod openings;
+mod origins;
 mod plan;
 mod planning;
 mod select;
 mod setting;
 mod stage;
 
+pub use origins::{Origin, Origins, PlanWithOrigins};
 pub use plan::{Dropped, DroppedCommands, Groups, NvccGeneratedSubcommand, Plan, Reason};
-pub use planning::group_nvcc_subcommands_by_compilation_stage;
+pub use planning::{group_nvcc_subcommands_by_compilation_stage, plan_with_origins};
 pub use select::select_nvcc_subcommands;

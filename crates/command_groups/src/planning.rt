@@ -1,13 +1,16 @@
 //! The plan of two dry runs.
 
-ghost use Rattle.std.specs.Prelude.{◌≡◌, map, IfOk};
+ghost use Rattle.std.specs.Prelude.{◌≡◌, map, IfOk, Result};
 ghost use Rattle.std.specs.Option.{option_copied};
+ghost use Rattle.texts.specs.declared.fault.Fault.{Fault};
 ghost use Rattle.texts.specs.Fault.{UnlessMemory};
 ghost use Rattle.texts.specs.Variables.{pair_of};
 ghost use Rattle.dry_runs.specs.CommandLines.{line_of};
 ghost use Rattle.dry_runs.specs.DryRun.{dry_run_of};
 ghost use Rattle.dry_runs.specs.Reading.{dry_run_seen};
+ghost use Rattle.command_groups.specs.declared.origins.PlanWithOrigins.{PlanWithOrigins};
 ghost use Rattle.command_groups.specs.MergeLaws.{Rises};
+ghost use Rattle.command_groups.specs.Origins as origins;
 ghost use Rattle.command_groups.specs.Plan.{staged_commands, plan_of, plan_of_staged};
 ghost use Rattle.command_groups.specs.PlanOfBytes as spec;
 ghost use Rattle.command_groups.specs.SettingView.{call_seen, setting_seen};
@@ -15,6 +18,7 @@ ghost use Rattle.command_groups.specs.SettingView.{call_seen, setting_seen};
 use crate::driver::plan_of_commands;
 use crate::environment::Environments;
 use crate::merge::merge;
+use crate::origins::PlanWithOrigins;
 use crate::plan::Plan;
 use crate::setting::{Call, Setting};
 use canonical_names::{Suffixes, remap_commands};
@@ -60,10 +64,11 @@ fn plan_of_runs(
     setting: &Setting<'_>,
     first: Commands,
     second: Commands,
-) -> Result<Plan, AllocError>
+) -> Result<PlanWithOrigins, AllocError>
     requires first_rises { Rises (map line_of first) }
     requires second_rises { Rises (map line_of second) }
-    ensures { IfOk result (λ plan. plan ≡ plan_of_staged (setting_seen setting.now) (staged_commands (setting_seen setting.now) (spec.named suffixes.now (option_copied keep_dir.entry) first) (spec.named suffixes.now (option_copied keep_dir.entry) second))) }
+    ensures plan { IfOk result (λ planned. planned.plan ≡ plan_of_staged (setting_seen setting.now) (staged_commands (setting_seen setting.now) (spec.named suffixes.now (option_copied keep_dir.entry) first) (spec.named suffixes.now (option_copied keep_dir.entry) second))) }
+    ensures origins { IfOk result (λ planned. planned.origins ≡ origins.origins_of_staged (staged_commands (setting_seen setting.now) (spec.named suffixes.now (option_copied keep_dir.entry) first) (spec.named suffixes.now (option_copied keep_dir.entry) second))) }
 {
     let first = named(alloc, suffixes, keep_dir, first)?;
     let second = named(alloc, suffixes, keep_dir, second)?;
@@ -78,10 +83,11 @@ fn plan_of_dry_runs(
     call: &Call<'_>,
     first: DryRun,
     second: DryRun,
-) -> Result<Plan, AllocError>
+) -> Result<PlanWithOrigins, AllocError>
     requires first_rises { Rises (map line_of first.commands) }
     requires second_rises { Rises (map line_of second.commands) }
-    ensures { IfOk result (λ plan. plan ≡ plan_of (call_seen call.now) first.env (spec.named suffixes.now (option_copied keep_dir.entry) first.commands) (spec.named suffixes.now (option_copied keep_dir.entry) second.commands)) }
+    ensures plan { IfOk result (λ planned. planned.plan ≡ plan_of (call_seen call.now) first.env (spec.named suffixes.now (option_copied keep_dir.entry) first.commands) (spec.named suffixes.now (option_copied keep_dir.entry) second.commands)) }
+    ensures origins { IfOk result (λ planned. planned.origins ≡ origins.origins_of_staged (staged_commands (call_seen call.now) (spec.named suffixes.now (option_copied keep_dir.entry) first.commands) (spec.named suffixes.now (option_copied keep_dir.entry) second.commands))) }
 {
     let setting = Setting {
         call,
@@ -89,6 +95,49 @@ fn plan_of_dry_runs(
     };
     let (first, second) = (first.commands, second.commands);
     plan_of_runs(alloc, suffixes, keep_dir, &setting, first, second)
+}
+
+/// Plans one nvcc call from two dry runs of it, as
+/// [`group_nvcc_subcommands_by_compilation_stage`](crate::group_nvcc_subcommands_by_compilation_stage) does, and says which
+/// line of which run each command of its groups comes from.
+///
+/// Fails as that call does.
+pub fn plan_with_origins<W: Which>(
+    alloc: Global,
+    dry1: &[u8],
+    dry2: &[u8],
+    compilation_flag: &str,
+    cwd: &str,
+    tmp: &str,
+    keep_dir: Option<&str>,
+    env_vars: &[(String, String)],
+    host_compiler: NvccHostCompiler,
+    which: &W,
+    suffixes: &Suffixes,
+) -> Result<PlanWithOrigins, Fault>
+    ensures { UnlessMemory result (origins.planning_with_origins suffixes.now (option_copied keep_dir.entry)
+        (record { cwd = cwd.now; tmp = tmp.now; flag = compilation_flag.now; host_compiler = host_compiler; env_vars = map pair_of env_vars.now })
+        (W.answer which.now) dry1.now dry2.now) }
+{
+    let first = read_run(alloc, dry1, 1, cwd, which)?;
+    let second = read_run(alloc, dry2, 2, cwd, which)?;
+    let call = Call {
+        cwd,
+        tmp,
+        compilation_flag,
+        host_compiler,
+        env_vars,
+    };
+    let planned = plan_of_dry_runs(alloc, suffixes, keep_dir, &call, first, second)?;
+    Ok(planned)
+}
+
+// The plan alone.
+fn without_origins(planned: Result<PlanWithOrigins, Fault>) -> Result<Plan, Fault>
+    ensures { (expected : Result PlanWithOrigins Fault) → UnlessMemory planned expected → UnlessMemory result (origins.plan_in expected) }
+{
+    let PlanWithOrigins { plan, .. } = planned?;
+    Ok(plan)
 }
 
 /// Plans one nvcc call from two dry runs of it: its commands in groups, and those that are in no group, each with the
@@ -147,15 +196,17 @@ pub fn group_nvcc_subcommands_by_compilation_stage<W: Which>(
         (record { cwd = cwd.now; tmp = tmp.now; flag = compilation_flag.now; host_compiler = host_compiler; env_vars = map pair_of env_vars.now })
         (W.answer which.now) dry1.now dry2.now) }
 {
-    let first = read_run(alloc, dry1, 1, cwd, which)?;
-    let second = read_run(alloc, dry2, 2, cwd, which)?;
-    let call = Call {
+    without_origins(plan_with_origins(
+        alloc,
+        dry1,
+        dry2,
+        compilation_flag,
         cwd,
         tmp,
-        compilation_flag,
-        host_compiler,
+        keep_dir,
         env_vars,
-    };
-    let plan = plan_of_dry_runs(alloc, suffixes, keep_dir, &call, first, second)?;
-    Ok(plan)
+        host_compiler,
+        which,
+        suffixes,
+    ))
 }

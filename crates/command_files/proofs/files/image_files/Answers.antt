@@ -1,4 +1,4 @@
-use Rattle.std.proofs.Common.{◌≡◌, suc, ◌+◌, List, ℕ, ◌∷◌, ◌++◌, ◌∙◌, ap, sym, map, drop, drop-cons, add-one, string_bytes}
+use Rattle.std.proofs.Common.{◌≡◌, suc, ◌+◌, ◌∷◌, ◌++◌, ◌∙◌, ap, sym, map, drop, drop-cons, add-one, string_bytes}
 use Rattle.std.specs.Option.{option_copied}
 use Rattle.command_files.specs.CommandFiles.{paths_by, image_file}
 use Rattle.command_files.proofs.PartLemmas.{paths-step}

@@ -1,4 +1,4 @@
-use Rattle.command_groups.specs.SelectionRows.{one_of_one_kernel, folded_behind_one_kernel, all_names_count, names_stay, nothing_is_selected, later_line_sets_too, bad_run_is_refused}
+use Rattle.command_groups.specs.SelectionExamples.{one_of_one_kernel, folded_behind_one_kernel, all_names_count, names_stay, nothing_is_selected, later_line_sets_too, bad_run_is_refused}
 use Rattle.command_groups.proofs.laws.worked_selections.Goals as goal
 
 pub returns : goal.returns

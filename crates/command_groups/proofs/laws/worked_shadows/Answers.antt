@@ -1,4 +1,4 @@
-use Rattle.command_groups.specs.ShadowRows.{one_kernel_stands_together, earlier_step_stands_together, earlier_step_feeds_cicc, later_step_stands_apart, two_steps_stand_apart, folder_stands_apart}
+use Rattle.command_groups.specs.ShadowExamples.{one_kernel_stands_together, earlier_step_stands_together, earlier_step_feeds_cicc, later_step_stands_apart, two_steps_stand_apart, folder_stands_apart}
 use Rattle.command_groups.proofs.laws.worked_shadows.Goals as goal
 
 pub returns : goal.returns

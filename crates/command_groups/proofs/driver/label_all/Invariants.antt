@@ -5,7 +5,7 @@ use Rattle.command_groups.specs.Grouping.{with_command, grouped}
 use Rattle.command_groups.specs.GroupingView.{grouping_seen}
 use Rattle.command_groups.specs.MergedView.{command_seen}
 use Rattle.command_groups.specs.Stage.{staged}
-use Rattle.command_groups.proofs.driver.plan_of_commands.Given as goal
+use Rattle.command_groups.proofs.driver.label_all.Given as goal
 
 -- the grouping so far and the commands that are left make up the grouping of all
 abbrev pub invariant-loop-command : goal.invariant-loop-command

@@ -15,7 +15,7 @@ use Rattle.command_groups.specs.declared.plan.Reason.TheVariants.{NoCiccGroup, S
 use Rattle.command_groups.specs.Fate.{Fate, front, device, final, ungrouped, fates}
 use Rattle.command_groups.specs.Plan.{PlanSetting, staged_commands}
 use Rattle.command_groups.specs.PlanOfBytes.{named}
-use Rattle.command_groups.specs.PlanRows.{setting}
+use Rattle.command_groups.specs.PlanExamples.{setting}
 use Rattle.command_groups.specs.ShadowLaws.{is_step_to, IsFedBy}
 
 abbrev pub shadow_setting : PlanSetting

@@ -1,5 +1,5 @@
 -- Plans worked out by hand, of commands whose words are renamed already.
-use Rattle.std.proofs.Common.{◌≡◌, ℕ, List, [], ◌∷◌, ◌++◌, codes, refl}
+use Rattle.std.proofs.Common.{◌≡◌, ℕ, List, [], ◌∷◌, ◌++◌, codes}
 use Rattle.texts.specs.Rows.{blank_separated}
 use Rattle.compilers.specs.declared.command.Cacheable.{Cacheable}
 use Rattle.compilers.specs.declared.command.Cacheable.TheVariants.{Yes, No}
@@ -16,13 +16,13 @@ use Rattle.command_groups.specs.Merge.{MergedCommand, merged}
 use Rattle.dry_runs.specs.Environment.{with_variables}
 use Rattle.command_groups.specs.Plan.{PlanSetting, plan_of}
 
--- How the rows are written: a line's words in one text, with blanks between them (`at`, `blank_separated`).
+-- How the examples are written: a line's words in one text, with blanks between them (`at`, `blank_separated`).
 
--- the setting of most rows, under a host compiler and a compilation flag
+-- the setting of most examples, under a host compiler and a compilation flag
 abbrev pub setting : NvccHostCompiler → List ℕ → PlanSetting
 setting compiler flag = record { cwd = codes "/w"; tmp = codes "/t"; flag = flag; host_compiler = compiler; env_vars = [] }
 
--- the environment line of most rows
+-- the environment line of most examples
 abbrev pub path_set : List (List ℕ × List ℕ)
 path_set = (codes "PATH", codes "/b") ∷ []
 
@@ -48,6 +48,14 @@ drops reason line run exe words = record { line = line; run = run; exe = exe; ar
 
 abbrev pub plan_with : List (List NvccGeneratedSubcommand) → List Dropped → Plan
 plan_with groups dropped = record { groups = groups; dropped = dropped }
+
+-- a step that preprocesses the source to an output
+abbrev pub step : List ℕ → NvccGeneratedSubcommand
+step output = runs No (codes "/w") (codes "/b/gcc") (codes "-D__NVCC__ -E k.cu -o " ++ output)
+
+-- the plan in which such a step is the only command of a group, and these commands are dropped
+abbrev pub plan_of_step : List ℕ → List Dropped → Plan
+plan_of_step output dropped = plan_with ([] ∷ (step output ∷ []) ∷ [] ∷ []) dropped
 
 -- the plan of the one-kernel dry run, the names of the first run's files made of one text and those of the second run's of another
 abbrev pub one_kernel_plan : List ℕ → List ℕ → Plan
@@ -80,41 +88,26 @@ abbrev pub OneKernelPlan : Type 0
 OneKernelPlan =
     plan_of_both (commands_of (codes "x_0")) ≡ one_kernel_plan (codes "x_0") (codes "x_0")
 
-pub one_kernel_is_planned : OneKernelPlan
-one_kernel_is_planned = refl
-
 -- the second run names its files in the folder of temporary files, and the device group is the same, since it has the file name
 abbrev pub NamesInAFolder : Type 0
 NamesInAFolder =
     plan_of (setting Gcc (codes "-c")) path_set (commands_of (codes "x_0")) (commands_of (codes "/t/x_0")) ≡ one_kernel_plan (codes "x_0") (codes "/t/x_0")
-
-pub names_in_a_folder : NamesInAFolder
-names_in_a_folder = refl
 
 -- no word is renamed
 abbrev pub NamesAsTheyAre : Type 0
 NamesAsTheyAre =
     plan_of_both (commands_of (codes "kernel")) ≡ one_kernel_plan (codes "kernel") (codes "kernel")
 
-pub names_as_they_are : NamesAsTheyAre
-names_as_they_are = refl
-
 -- runs without commands: the outer groups are there, and empty
 abbrev pub EmptyRuns : Type 0
 EmptyRuns =
     plan_of (setting Gcc (codes "-c")) [] [] [] ≡ plan_with ([] ∷ [] ∷ []) []
-
-pub empty_runs : EmptyRuns
-empty_runs = refl
 
 -- host code alone is in the final group, and its environment says that it is compiled for CUDA
 abbrev pub HostCodeAlone : Type 0
 HostCodeAlone =
     plan_of_both (at 2 (codes "/b/gcc") (codes "-D__NVCC__ -c x.cpp") ∷ []) ≡
     plan_with ([] ∷ (compiles (codes "/b/gcc") (codes "-D__NVCC__ -c x.cpp") ∷ []) ∷ []) []
-
-pub host_code_alone : HostCodeAlone
-host_code_alone = refl
 
 -- a preprocess step and cicc, twice over
 abbrev pub step_and_cicc_twice : List CommandLine
@@ -133,7 +126,7 @@ superseded_pair =
 
 abbrev pub step_and_cicc : List NvccGeneratedSubcommand
 step_and_cicc =
-    runs No (codes "/w") (codes "/b/gcc") (codes "-D__NVCC__ -E k.cu -o x_0.cpp1.ii") ∷
+    step (codes "x_0.cpp1.ii") ∷
     runs Yes (codes "/t") (codes "/b/cicc") (codes "x_0.cpp1.ii -o k.ptx") ∷
     []
 
@@ -141,9 +134,6 @@ step_and_cicc =
 abbrev pub ReopenedGroup : Type 0
 ReopenedGroup =
     plan_of_both step_and_cicc_twice ≡ plan_with ([] ∷ step_and_cicc ∷ [] ∷ []) superseded_pair
-
-pub reopened_group : ReopenedGroup
-reopened_group = refl
 
 -- both ptxas commands join the group whose cicc makes their input
 abbrev pub SecondPtxas : Type 0
@@ -159,9 +149,6 @@ SecondPtxas =
     [])
     superseded_pair
 
-pub second_ptxas : SecondPtxas
-second_ptxas = refl
-
 -- a cicc whose group was opened again makes nothing for ptxas
 abbrev pub SupersededCicc : Type 0
 SupersededCicc =
@@ -170,48 +157,37 @@ SupersededCicc =
     at 2 (codes "/b/cicc") (codes "x_0.cpp1.ii -o k.ptx") ∷
     at 3 (codes "/b/gcc") (codes "-D__NVCC__ -E k.cu -o x_0.cpp1.ii") ∷
     at 4 (codes "/b/ptxas") (codes "k.ptx -o a.cubin") ∷
-    []) ≡
-    plan_with
-    ([] ∷ (runs No (codes "/w") (codes "/b/gcc") (codes "-D__NVCC__ -E k.cu -o x_0.cpp1.ii") ∷ []) ∷ [] ∷ [])
-    (superseded_pair ++ drops NoPtxasGroup 4 1 (codes "/b/ptxas") (codes "k.ptx -o a.cubin") ∷ [])
-
-pub superseded_cicc : SupersededCicc
-superseded_cicc = refl
+    []) ≡ plan_of_step (codes "x_0.cpp1.ii") (superseded_pair ++ drops NoPtxasGroup 4 1 (codes "/b/ptxas") (codes "k.ptx -o a.cubin") ∷ [])
 
 -- nor does a step, though it is the group's last command and has ptxas's file as its last word
 abbrev pub StepMakesNoPtx : Type 0
 StepMakesNoPtx =
     plan_of_both
     (at 1 (codes "/b/gcc") (codes "-D__NVCC__ -E k.cu -o x_0.cpp1.ii k.ptx") ∷ at 2 (codes "/b/ptxas") (codes "k.ptx -o a.cubin") ∷ []) ≡
-    plan_with
-    ([] ∷ (runs No (codes "/w") (codes "/b/gcc") (codes "-D__NVCC__ -E k.cu -o x_0.cpp1.ii k.ptx") ∷ []) ∷ [] ∷ [])
-    (drops NoPtxasGroup 2 1 (codes "/b/ptxas") (codes "k.ptx -o a.cubin") ∷ [])
+    plan_of_step (codes "x_0.cpp1.ii k.ptx") (drops NoPtxasGroup 2 1 (codes "/b/ptxas") (codes "k.ptx -o a.cubin") ∷ [])
 
-pub step_makes_no_ptx : StepMakesNoPtx
-step_makes_no_ptx = refl
+-- two steps, which open two groups
+abbrev pub two_steps : List CommandLine
+two_steps =
+    at 1 (codes "/b/gcc") (codes "-D__NVCC__ -E k.cu -o x_0.cpp1.ii") ∷ at 2 (codes "/b/gcc") (codes "-D__NVCC__ -E k.cu -o x_1.cpp1.ii") ∷ []
 
 -- two groups whose cicc make one file share the later ptxas in the first of them
 abbrev pub SharedPtx : Type 0
 SharedPtx =
     plan_of_both
-    (at 1 (codes "/b/gcc") (codes "-D__NVCC__ -E k.cu -o x_0.cpp1.ii") ∷
-    at 2 (codes "/b/gcc") (codes "-D__NVCC__ -E k.cu -o x_1.cpp1.ii") ∷
-    at 3 (codes "/b/cicc") (codes "x_1.cpp1.ii -o k.ptx") ∷
+    (two_steps ++ (at 3 (codes "/b/cicc") (codes "x_1.cpp1.ii -o k.ptx") ∷
     at 4 (codes "/b/cicc") (codes "x_0.cpp1.ii -o k.ptx") ∷
     at 5 (codes "/b/ptxas") (codes "k.ptx -o a.cubin") ∷
-    []) ≡
+    [])) ≡
     plan_with
     ([] ∷
     (step_and_cicc ++ runs Yes (codes "/t") (codes "/b/ptxas") (codes "k.ptx -o a.cubin") ∷ []) ∷
-    (runs No (codes "/w") (codes "/b/gcc") (codes "-D__NVCC__ -E k.cu -o x_1.cpp1.ii") ∷
+    (step (codes "x_1.cpp1.ii") ∷
     runs Yes (codes "/t") (codes "/b/cicc") (codes "x_1.cpp1.ii -o k.ptx") ∷
     []) ∷
     [] ∷
     [])
     []
-
-pub shared_ptx : SharedPtx
-shared_ptx = refl
 
 -- cl preprocesses by `-P`, and gcc doesn't
 abbrev pub cl_step : List CommandLine
@@ -224,16 +200,10 @@ PreprocessesForMsvc =
     plan_with
     ([] ∷ (runs No (codes "/w") (codes "/b/cl") (codes "-D__NVCC__ -P k.cu -o x_0.cpp1.ii") ∷ []) ∷ [] ∷ []) []
 
-pub preprocesses_for_msvc : PreprocessesForMsvc
-preprocesses_for_msvc = refl
-
 -- under Gcc the same command compiles host code
 abbrev pub CompilesForGcc : Type 0
 CompilesForGcc =
     plan_of_both cl_step ≡ plan_with ([] ∷ (compiles (codes "/b/cl") (codes "-D__NVCC__ -P k.cu -o x_0.cpp1.ii") ∷ []) ∷ []) []
-
-pub compiles_for_gcc : CompilesForGcc
-compiles_for_gcc = refl
 
 -- a step and a cicc that says twice that the module id file is made
 abbrev pub step_and_generating_cicc : List CommandLine
@@ -243,7 +213,7 @@ step_and_generating_cicc =
     []
 
 abbrev pub step_and_cicc_with : List ℕ → List NvccGeneratedSubcommand
-step_and_cicc_with words = runs No (codes "/w") (codes "/b/gcc") (codes "-D__NVCC__ -E k.cu -o x_0.cpp1.ii") ∷
+step_and_cicc_with words = step (codes "x_0.cpp1.ii") ∷
     runs Yes (codes "/t") (codes "/b/cicc") words ∷ []
 
 -- where objects are made, cicc loses the first of the two words
@@ -251,25 +221,16 @@ abbrev pub CiccLosesOneWord : Type 0
 CiccLosesOneWord =
     plan_of_both step_and_generating_cicc ≡ plan_with ([] ∷ step_and_cicc_with (codes "--gen_module_id_file x_0.cpp1.ii -o k.ptx") ∷ [] ∷ []) []
 
-pub cicc_loses_one_word : CiccLosesOneWord
-cicc_loses_one_word = refl
-
 -- under another flag it keeps both
 abbrev pub CiccKeepsItsWords : Type 0
 CiccKeepsItsWords =
     plan_of (setting Gcc (codes "-ptx")) path_set step_and_generating_cicc step_and_generating_cicc ≡
     plan_with ([] ∷ step_and_cicc_with (codes "--gen_module_id_file --gen_module_id_file x_0.cpp1.ii -o k.ptx") ∷ [] ∷ []) []
 
-pub cicc_keeps_its_words : CiccKeepsItsWords
-cicc_keeps_its_words = refl
-
 -- a command that defines no macro of CUDA is dropped
 abbrev pub NotForCuda : Type 0
 NotForCuda =
     plan_of_both (at 1 (codes "/b/") (codes "x") ∷ []) ≡ plan_with ([] ∷ [] ∷ []) (drops NotCuda 1 2 (codes "/b/") (codes "x") ∷ [])
-
-pub not_for_cuda : NotForCuda
-not_for_cuda = refl
 
 -- a program without a stem is of neither run
 abbrev pub ProgramWithoutAStem : Type 0
@@ -278,62 +239,43 @@ ProgramWithoutAStem =
     (at 1 (codes "/") (codes "x") ∷ []) (at 1 (codes "/") (codes "x") ∷ []) ≡
     plan_with ([] ∷ [] ∷ []) []
 
-pub program_without_a_stem : ProgramWithoutAStem
-program_without_a_stem = refl
-
 -- a step without a word after its `-o` opens no group
 abbrev pub StepWithoutAnOutput : Type 0
 StepWithoutAnOutput =
     plan_of_both (at 1 (codes "/b/gcc") (codes "-D__NVCC__ -E k.cu -o") ∷ []) ≡
     plan_with ((runs No (codes "/w") (codes "/b/gcc") (codes "-D__NVCC__ -E k.cu -o") ∷ []) ∷ [] ∷ []) []
 
-pub step_without_an_output : StepWithoutAnOutput
-step_without_an_output = refl
-
 -- nor does one whose output has no file name
 abbrev pub StepWithoutAFileName : Type 0
 StepWithoutAFileName =
     plan_of_both (at 1 (codes "/b/gcc") (codes "-D__NVCC__ -E k.cu -o ..") ∷ []) ≡
-    plan_with ((runs No (codes "/w") (codes "/b/gcc") (codes "-D__NVCC__ -E k.cu -o ..") ∷ []) ∷ [] ∷ []) []
-
-pub step_without_a_file_name : StepWithoutAFileName
-step_without_a_file_name = refl
+    plan_with ((step (codes "..") ∷ []) ∷ [] ∷ []) []
 
 -- the output with a `/` at its end is no generated name, but its file name opens a group, which cicc with its canonical name misses
 abbrev pub OutputWithASlash : Type 0
 OutputWithASlash =
     plan_of_both (at 1 (codes "/b/gcc") (codes "-D__NVCC__ -E k.cu -o k.cpp1.ii/") ∷ at 2 (codes "/b/cicc") (codes "x_0.cpp1.ii -o k.ptx") ∷ []) ≡
-    plan_with
-    ([] ∷ (runs No (codes "/w") (codes "/b/gcc") (codes "-D__NVCC__ -E k.cu -o k.cpp1.ii/") ∷ []) ∷ [] ∷ [])
-    (drops NoCiccGroup 2 1 (codes "/b/cicc") (codes "x_0.cpp1.ii -o k.ptx") ∷ [])
-
-pub output_with_a_slash : OutputWithASlash
-output_with_a_slash = refl
+    plan_of_step (codes "k.cpp1.ii/") (drops NoCiccGroup 2 1 (codes "/b/cicc") (codes "x_0.cpp1.ii -o k.ptx") ∷ [])
 
 -- two groups: cicc and ptxas join the one that makes their input, which is the second; cicc and ptxas that name no input join none
 abbrev pub SecondGroupIsJoined : Type 0
 SecondGroupIsJoined =
     plan_of_both
-    (at 1 (codes "/b/gcc") (codes "-D__NVCC__ -E k.cu -o x_0.cpp1.ii") ∷
-    at 2 (codes "/b/gcc") (codes "-D__NVCC__ -E k.cu -o x_1.cpp1.ii") ∷
-    at 3 (codes "/b/cicc") (codes "x_1.cpp1.ii -o b.ptx") ∷
+    (two_steps ++ (at 3 (codes "/b/cicc") (codes "x_1.cpp1.ii -o b.ptx") ∷
     at 4 (codes "/b/ptxas") (codes "b.ptx -o b.cubin") ∷
     at 5 (codes "/b/cicc") (codes "-o b.ptx") ∷
     at 6 (codes "/b/ptxas") (codes "-o b.cubin") ∷
-    []) ≡
+    [])) ≡
     plan_with
     ([] ∷
-    (runs No (codes "/w") (codes "/b/gcc") (codes "-D__NVCC__ -E k.cu -o x_0.cpp1.ii") ∷ []) ∷
-    (runs No (codes "/w") (codes "/b/gcc") (codes "-D__NVCC__ -E k.cu -o x_1.cpp1.ii") ∷
+    (step (codes "x_0.cpp1.ii") ∷ []) ∷
+    (step (codes "x_1.cpp1.ii") ∷
     runs Yes (codes "/t") (codes "/b/cicc") (codes "x_1.cpp1.ii -o b.ptx") ∷
     runs Yes (codes "/t") (codes "/b/ptxas") (codes "b.ptx -o b.cubin") ∷
     []) ∷
     [] ∷
     [])
     (drops NoCiccGroup 5 1 (codes "/b/cicc") (codes "-o b.ptx") ∷ drops NoPtxasGroup 6 1 (codes "/b/ptxas") (codes "-o b.cubin") ∷ [])
-
-pub second_group_is_joined : SecondGroupIsJoined
-second_group_is_joined = refl
 
 -- a command as the merged list holds it
 abbrev pub planned : ℕ → ℕ → List ℕ → MergedCommand
@@ -346,18 +288,12 @@ MergedByLineAndRun =
     (at 0 (codes "/b/ptxas") [] ∷ at 2 (codes "/b/gcc") [] ∷ at 3 (codes "/b/cicc.sh.exe") [] ∷ []) ≡
     (planned 2 1 (codes "/b/nvlink") ∷ planned 2 2 (codes "/b/gcc") ∷ planned 3 2 (codes "/b/cicc.sh.exe") ∷ planned 4 1 (codes "/b/cicc") ∷ [])
 
-pub merged_by_line_and_run : MergedByLineAndRun
-merged_by_line_and_run = refl
-
 -- a known variable gets its value where it stands first, a new one comes last
 abbrev pub FoldedEnvironment : Type 0
 FoldedEnvironment =
     with_variables ((codes "PATH", codes "/x") ∷ (codes "Q", codes "1") ∷ (codes "PATH", codes "/y") ∷ [])
     ((codes "PATH", codes "/b") ∷ (codes "R", codes "2") ∷ []) ≡
     ((codes "PATH", codes "/b") ∷ (codes "Q", codes "1") ∷ (codes "PATH", codes "/y") ∷ (codes "R", codes "2") ∷ [])
-
-pub folded_environment : FoldedEnvironment
-folded_environment = refl
 
 -- a setting whose environment has the name of the pair that host compilers get
 abbrev pub marked_setting : PlanSetting
@@ -375,6 +311,3 @@ MarkedTwice =
     } ∷ []) ∷
     [])
     []
-
-pub marked_twice : MarkedTwice
-marked_twice = refl

@@ -21,7 +21,7 @@ read bytes = dry_run_of 1 bytes (codes "/w") first_dir
 abbrev pub ciccs : Bool → List ℕ → Result (List CommandLine) Fault
 ciccs remap bytes = selection_of standard_suffixes remap (λ stem. bytes_eq stem (codes "cicc")) (read bytes)
 
--- the environment of the rows, behind a run
+-- the environment of the examples, behind a run
 abbrev pub behind : List ℕ → Result (List Variable) Fault
 behind bytes = environment_behind ((codes "PATH", codes "/x") ∷ (codes "Q", codes "1") ∷ []) (read bytes)
 

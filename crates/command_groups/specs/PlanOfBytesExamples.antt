@@ -3,7 +3,7 @@ use Rattle.std.proofs.Common.{◌≡◌, ℕ, List, [], ◌∷◌, ◌++◌, Opt
 use Rattle.texts.specs.declared.fault.Fault.{Fault}
 use Rattle.texts.specs.declared.fault.Fault.TheVariants.{NoPath, BadShell}
 use Rattle.compilers.specs.declared.compiler.NvccHostCompiler.TheVariants.{Gcc}
-use Rattle.compilers.specs.declared.command.Cacheable.TheVariants.{Yes, No}
+use Rattle.compilers.specs.declared.command.Cacheable.TheVariants.{Yes}
 use Rattle.command_groups.specs.declared.plan.Plan.{Plan}
 use Rattle.command_groups.specs.declared.plan.Reason.TheVariants.{NotCuda, NoCiccGroup, NoPtxasGroup}
 use Rattle.dry_runs.specs.Computing.{dry_runs_compute}
@@ -13,9 +13,9 @@ use Rattle.canonical_names.specs.Generated.{standard_suffixes}
 use Rattle.dry_runs.specs.OneKernel as bytes
 use Rattle.command_groups.specs.PlanLaws.{AreAlikeTexts}
 use Rattle.command_groups.specs.PlanOfBytes.{planning_of}
-use Rattle.command_groups.specs.PlanRows.{setting, path_set, one_kernel_plan, plan_with, runs, compiles, drops, step_and_cicc, superseded_pair}
+use Rattle.command_groups.specs.PlanExamples.{setting, path_set, one_kernel_plan, plan_with, runs, compiles, drops, step_and_cicc, superseded_pair, plan_of_step}
 
--- two dry runs in the setting of the rows, with a keep directory or none
+-- two dry runs in the setting of the examples, with a keep directory or none
 abbrev pub planned_with : Option (List ℕ) → List ℕ → List ℕ → Result Plan Fault
 planned_with keep_dir first second = planning_of standard_suffixes keep_dir (setting Gcc (codes "-c")) first_dir first second
 
@@ -27,18 +27,10 @@ abbrev pub OneKernelFromBytes : Type 0
 OneKernelFromBytes =
     planned bytes.one_kernel bytes.one_kernel ≡ Ok (one_kernel_plan (codes "x_0") (codes "x_0"))
 
-pub one_kernel_from_bytes : OneKernelFromBytes
-unfolding dry_runs_compute
-one_kernel_from_bytes = refl
-
 -- with other names of the generated files the plan is the same
 abbrev pub OtherNamesFromBytes : Type 0
 OtherNamesFromBytes =
     planned bytes.one_kernel_elsewhere bytes.one_kernel_elsewhere ≡ Ok (one_kernel_plan (codes "x_0") (codes "x_0"))
-
-pub other_names_from_bytes : OtherNamesFromBytes
-unfolding dry_runs_compute
-other_names_from_bytes = refl
 
 -- both texts are alike, as the law of alike texts asks
 abbrev pub OtherNamesAreAlike : Type 0
@@ -59,27 +51,15 @@ abbrev pub TemporaryNamesFromBytes : Type 0
 TemporaryNamesFromBytes =
     planned bytes.one_kernel bytes.one_kernel_in_temporary ≡ Ok (one_kernel_plan (codes "x_0") (codes "/t/x_0"))
 
-pub temporary_names_from_bytes : TemporaryNamesFromBytes
-unfolding dry_runs_compute
-temporary_names_from_bytes = refl
-
 -- where files are kept, no word is renamed
 abbrev pub KeptNamesFromBytes : Type 0
 KeptNamesFromBytes =
     planned_with (Some (codes "/w/keep")) bytes.one_kernel bytes.one_kernel ≡ Ok (one_kernel_plan (codes "kernel") (codes "kernel"))
 
-pub kept_names_from_bytes : KeptNamesFromBytes
-unfolding dry_runs_compute
-kept_names_from_bytes = refl
-
 -- no bytes: the outer groups alone
 abbrev pub NothingFromBytes : Type 0
 NothingFromBytes =
     planned [] [] ≡ Ok (plan_with ([] ∷ [] ∷ []) [])
-
-pub nothing_from_bytes : NothingFromBytes
-unfolding dry_runs_compute
-nothing_from_bytes = refl
 
 -- a dry run of one host command, its lines ended in two ways
 abbrev pub host_code_run : List ℕ
@@ -90,27 +70,15 @@ abbrev pub HostCodeFromBytes : Type 0
 HostCodeFromBytes =
     planned host_code_run host_code_run ≡ Ok (plan_with ([] ∷ (compiles (codes "/b/gcc") (codes "-D__NVCC__ -c x.cpp") ∷ []) ∷ []) [])
 
-pub host_code_from_bytes : HostCodeFromBytes
-unfolding dry_runs_compute
-host_code_from_bytes = refl
-
 -- only the second run can't be read: its fault
 abbrev pub SecondRunIsBad : Type 0
 SecondRunIsBad =
     planned [] (codes "#$ gcc\n") ≡ Err (NoPath 2 0)
 
-pub second_run_is_bad : SecondRunIsBad
-unfolding dry_runs_compute
-second_run_is_bad = refl
-
 -- neither can be read: the fault of the first
 abbrev pub FirstRunIsBad : Type 0
 FirstRunIsBad =
     planned (codes "#$ gcc \"a\n") (codes "#$ gcc\n") ≡ Err (BadShell 1 0)
-
-pub first_run_is_bad : FirstRunIsBad
-unfolding dry_runs_compute
-first_run_is_bad = refl
 
 -- a dry run of a step and cicc, twice over, and of two ptxas commands
 abbrev pub step_and_cicc_twice_run : List ℕ
@@ -132,10 +100,6 @@ SecondPtxasFromBytes =
     [])
     superseded_pair)
 
-pub second_ptxas_from_bytes : SecondPtxasFromBytes
-unfolding dry_runs_compute
-second_ptxas_from_bytes = refl
-
 -- a dry run of a step, cicc and the same step again, and of a ptxas command
 abbrev pub superseded_cicc_run : List ℕ
 superseded_cicc_run =
@@ -145,14 +109,7 @@ superseded_cicc_run =
 abbrev pub SupersededCiccFromBytes : Type 0
 SupersededCiccFromBytes =
     planned superseded_cicc_run superseded_cicc_run ≡
-    Ok
-    (plan_with
-    ([] ∷ (runs No (codes "/w") (codes "/b/gcc") (codes "-D__NVCC__ -E k.cu -o x_0.cpp1.ii") ∷ []) ∷ [] ∷ [])
-    (superseded_pair ++ drops NoPtxasGroup 4 1 (codes "/b/ptxas") (codes "k.ptx -o a.cubin") ∷ []))
-
-pub superseded_cicc_from_bytes : SupersededCiccFromBytes
-unfolding dry_runs_compute
-superseded_cicc_from_bytes = refl
+    Ok (plan_of_step (codes "x_0.cpp1.ii") (superseded_pair ++ drops NoPtxasGroup 4 1 (codes "/b/ptxas") (codes "k.ptx -o a.cubin") ∷ []))
 
 -- a dry run of a step whose last word is ptxas's file, and of a ptxas command
 abbrev pub step_without_cicc_run : List ℕ
@@ -162,14 +119,7 @@ step_without_cicc_run = codes "#$ PATH=/b\n#$ gcc -D__NVCC__ -E k.cu -o k.cpp1.i
 abbrev pub StepWithoutCiccFromBytes : Type 0
 StepWithoutCiccFromBytes =
     planned step_without_cicc_run step_without_cicc_run ≡
-    Ok
-    (plan_with
-    ([] ∷ (runs No (codes "/w") (codes "/b/gcc") (codes "-D__NVCC__ -E k.cu -o x_0.cpp1.ii k.ptx") ∷ []) ∷ [] ∷ [])
-    (drops NoPtxasGroup 2 1 (codes "/b/ptxas") (codes "k.ptx -o a.cubin") ∷ []))
-
-pub step_without_cicc_from_bytes : StepWithoutCiccFromBytes
-unfolding dry_runs_compute
-step_without_cicc_from_bytes = refl
+    Ok (plan_of_step (codes "x_0.cpp1.ii k.ptx") (drops NoPtxasGroup 2 1 (codes "/b/ptxas") (codes "k.ptx -o a.cubin") ∷ []))
 
 -- a dry run whose step makes a file with a `/` at its end
 abbrev pub output_with_a_slash_run : List ℕ
@@ -179,14 +129,7 @@ output_with_a_slash_run = codes "#$ PATH=/b\n#$ gcc -D__NVCC__ -E k.cu -o k.cpp1
 abbrev pub OutputWithASlashFromBytes : Type 0
 OutputWithASlashFromBytes =
     planned output_with_a_slash_run output_with_a_slash_run ≡
-    Ok
-    (plan_with
-    ([] ∷ (runs No (codes "/w") (codes "/b/gcc") (codes "-D__NVCC__ -E k.cu -o k.cpp1.ii/") ∷ []) ∷ [] ∷ [])
-    (drops NoCiccGroup 2 1 (codes "/b/cicc") (codes "x_0.cpp1.ii -o k.ptx") ∷ []))
-
-pub output_with_a_slash_from_bytes : OutputWithASlashFromBytes
-unfolding dry_runs_compute
-output_with_a_slash_from_bytes = refl
+    Ok (plan_of_step (codes "k.cpp1.ii/") (drops NoCiccGroup 2 1 (codes "/b/cicc") (codes "x_0.cpp1.ii -o k.ptx") ∷ []))
 
 -- a dry run whose program has no name
 abbrev pub nameless_run : List ℕ
@@ -196,7 +139,3 @@ nameless_run = codes "#$ PATH=/b\n#$ \"\" x\n"
 abbrev pub NamelessFromBytes : Type 0
 NamelessFromBytes =
     planned nameless_run nameless_run ≡ Ok (plan_with ([] ∷ [] ∷ []) (drops NotCuda 1 2 (codes "/b/") (codes "x") ∷ []))
-
-pub nameless_from_bytes : NamelessFromBytes
-unfolding dry_runs_compute
-nameless_from_bytes = refl

@@ -1,0 +1,293 @@
+-- Which numbers the code gathers, and that numbers which rise are known by which they are.
+use Rattle.std.proofs.Common.{◌≡◌, ℕ, zero, suc, ◌+◌, ◌<◌, ◌≤◌, List, [], ◌∷◌, ◌++◌, Bool, true, false, cond, ◌&&◌, ◌||◌, ◌==◌, nat_lt, length, take, get_or, refl, sym, ap, subst, ◌∙◌, arith, append_assoc, add-one}
+use Rattle.std.specs.Bool.{one_answer}
+use Rattle.std.specs.List.{list_any, Contains}
+use Rattle.std.specs.List.Sorted.{IsStrictlyIncreasing}
+use Rattle.std.specs.Str.{bytes_eq}
+use Rattle.std.proofs.lemmas.Bool.{false≢true, eqb-true, eq-eqb, ltb-true, lt-ltb}
+use Rattle.std.proofs.lemmas.List.Elements.{Contains-append_right}
+use Rattle.std.proofs.lemmas.List.Folds.{list_any-append, list_any_at}
+use Rattle.std.proofs.lemmas.List.{get_or-take, length-take-le}
+use Rattle.std.proofs.lemmas.Slice.Eq.{bytes_eq-Decides}
+use Rattle.command_files.specs.declared.steps.Step.{Step}
+use Rattle.command_files.specs.Files.{is_among, share}
+use Rattle.command_files.specs.Order.{numbers_where, is_in}
+use Rattle.command_files.specs.Touched.{Numbers, with_number, with_numbers, numbers_from, below, touching}
+use Rattle.command_files.proofs.OrderLemmas.{in_either, in_first, in_second, fails}
+use Rattle.command_files.proofs.NeedLemmas.{passes, numbers_below}
+
+-- Tests.
+
+or_none : (a : Bool) → (a || false) ≡ a
+or_none true = refl
+or_none false = refl
+
+pub either_side : (a b c d : Bool) → ((a || (b && d)) || (c && d)) ≡ (a || ((b || c) && d))
+either_side true b c d = refl
+either_side false true c true = refl
+either_side false true true false = refl
+either_side false true false false = refl
+either_side false false c d = refl
+
+or_moved : (a b c : Bool) → ((a || b) || c) ≡ (a || (b || c))
+or_moved true b c = refl
+or_moved false b c = refl
+
+pub both_of_four : (t a b c d : Bool) → ((t && a) || ((t && b) || ((t && c) || (t && d)))) ≡ (t && ((a || (c || b)) || d))
+both_of_four false a b c d = refl
+both_of_four true true b c d = refl
+both_of_four true false true true d = refl
+both_of_four true false true false d = refl
+both_of_four true false false true d = refl
+both_of_four true false false false d = refl
+
+and_or : (t a b : Bool) → ((t && a) || (t && b)) ≡ (t && (a || b))
+and_or true a b = refl
+and_or false a b = refl
+
+and_false : (t : Bool) → (t && false) ≡ false
+and_false true = refl
+and_false false = refl
+
+same_answer : (a b : Bool) → (a ≡ true → b ≡ true) → (b ≡ true → a ≡ true) → a ≡ b
+same_answer a b f g = one_answer a b (f, g) (λ k. k, λ k. k)
+
+-- Lists share a file both ways.
+
+any_none : {X : Type 0} (xs : List X) → list_any (λ x. false) xs ≡ false
+any_none [] = refl
+any_none (x ∷ xs) = any_none xs
+
+any_or : {X : Type 0} (f g : X → Bool) (xs : List X) → list_any (λ x. f x || g x) xs ≡ (list_any f xs || list_any g xs)
+any_or f g [] = refl
+any_or f g (x ∷ xs) = ap (λ b. (f x || g x) || b) (any_or f g xs) ∙ crossed (f x) (g x) (list_any f xs) (list_any g xs)
+  where
+    crossed : (a b c d : Bool) → ((a || b) || (c || d)) ≡ ((a || c) || (b || d))
+    crossed true b c d = refl
+    crossed false true true d = refl
+    crossed false true false d = refl
+    crossed false false c d = refl
+
+any_exchanged : {X Y : Type 0} (r : X → Y → Bool) (xs : List X) (ys : List Y) → list_any (λ x. list_any (λ y. r x y) ys) xs ≡ list_any (λ y. list_any (λ x. r x y) xs) ys
+any_exchanged r [] ys = sym (any_none ys)
+any_exchanged r (x ∷ xs) ys =
+    ap (λ b. list_any (λ y. r x y) ys || b) (any_exchanged r xs ys)
+    ∙ sym (any_or (λ y. r x y) (λ y. list_any (λ z. r z y) xs) ys)
+
+bytes_eq_sym : (a b : List ℕ) → bytes_eq a b ≡ bytes_eq b a
+bytes_eq_sym a b =
+    same_answer (bytes_eq a b) (bytes_eq b a)
+    (λ e. (bytes_eq-Decides b a).1 (sym ((bytes_eq-Decides a b).0 e)))
+    (λ e. (bytes_eq-Decides a b).1 (sym ((bytes_eq-Decides b a).0 e)))
+
+pub share_sym : (some others : List (List ℕ)) → share some others ≡ share others some
+share_sym some others =
+    any_exchanged (λ x y. bytes_eq x y) some others
+    ∙ (λ i. list_any (λ y. list_any (λ x. bytes_eq_sym x y i) some) others)
+
+-- The numbers of a file.
+
+in_with_number : (numbers : Numbers) (path : List ℕ) (n : ℕ) (file : List ℕ) (m : ℕ) → is_in (with_number numbers path n file) m ≡ (is_in (numbers file) m || (bytes_eq file path && (n == m)))
+in_with_number numbers path n file m = by (bytes_eq file path)
+  where
+    by : (b : Bool) → is_in (cond b (numbers file ++ n ∷ []) (numbers file)) m ≡ (is_in (numbers file) m || (b && (n == m)))
+    by true = list_any-append (λ k. k == m) (numbers file) (n ∷ []) ∙ ap (λ b. is_in (numbers file) m || b) (or_none (n == m))
+    by false = sym (or_none (is_in (numbers file) m))
+
+in_with_numbers : (numbers : Numbers) (paths : List (List ℕ)) (n : ℕ) (file : List ℕ) (m : ℕ) → is_in (with_numbers numbers paths n file) m ≡ (is_in (numbers file) m || (is_among paths file && (n == m)))
+in_with_numbers numbers [] n file m = sym (or_none (is_in (numbers file) m))
+in_with_numbers numbers (path ∷ paths) n file m =
+    in_with_numbers (with_number numbers path n) paths n file m
+    ∙ ap (λ b. b || (is_among paths file && (n == m))) (in_with_number numbers path n file m)
+    ∙ either_side (is_in (numbers file) m) (bytes_eq file path) (is_among paths file) (n == m)
+
+in_one_or_none : (b : Bool) (n m : ℕ) → is_in (cond b (n ∷ []) []) m ≡ (b && (n == m))
+in_one_or_none true n m = or_none (n == m)
+in_one_or_none false n m = refl
+
+pub in_numbers_from : (files : Step → List (List ℕ)) (numbers : Numbers) (n : ℕ) (steps : List Step) (file : List ℕ) (m : ℕ) →
+    is_in (numbers_from files numbers n steps file) m ≡ (is_in (numbers file) m || is_in (numbers_where (λ s. is_among (files s) file) n steps) m)
+in_numbers_from files numbers n [] file m = sym (or_none (is_in (numbers file) m))
+in_numbers_from files numbers n (s ∷ steps) file m =
+    let here : Bool = is_among (files s) file in
+    let rest : List ℕ = numbers_where (λ t. is_among (files t) file) (n + 1) steps in
+    in_numbers_from files (with_numbers numbers (files s) n) (n + 1) steps file m
+    ∙ ap (λ b. b || is_in rest m) (in_with_numbers numbers (files s) n file m)
+    ∙ or_moved (is_in (numbers file) m) (here && (n == m)) (is_in rest m)
+    ∙ ap (λ b. is_in (numbers file) m || (b || is_in rest m)) (sym (in_one_or_none here n m))
+    ∙ ap (λ b. is_in (numbers file) m || b) (sym (list_any-append (λ k. k == m) (cond here (n ∷ []) []) rest))
+
+-- Numbers below a bound.
+
+below_found : (bound : ℕ) (x m : ℕ) (rest : List ℕ) (among : Bool) → is_in rest m ≡ (nat_lt m bound && among) → (x == m) ≡ true → is_in (cond (nat_lt x bound) (x ∷ rest) rest) m ≡ (nat_lt m bound && true)
+below_found bound x m rest among ih e =
+    subst (λ k. is_in (cond (nat_lt k bound) (x ∷ rest) rest) m ≡ (nat_lt m bound && true)) (sym (eqb-true x m e)) (at (nat_lt m bound) ih)
+  where
+    at : (b : Bool) → is_in rest m ≡ (b && among) → is_in (cond b (x ∷ rest) rest) m ≡ (b && true)
+    at true h = in_first (x == m) (is_in rest m) e
+    at false h = h
+
+below_other : (bound : ℕ) (x m : ℕ) (rest : List ℕ) (among : Bool) → is_in rest m ≡ (nat_lt m bound && among) → (x == m) ≡ false → (b : Bool) → is_in (cond b (x ∷ rest) rest) m ≡ (nat_lt m bound && among)
+below_other bound x m rest among ih e true = ap (λ b. b || is_in rest m) e ∙ ih
+below_other bound x m rest among ih e false = ih
+
+pub in_below : (bound : ℕ) (numbers : List ℕ) (m : ℕ) → is_in (below bound numbers) m ≡ (nat_lt m bound && is_in numbers m)
+in_below bound [] m = sym (and_false (nat_lt m bound))
+in_below bound (x ∷ xs) m =
+    let ih : is_in (below bound xs) m ≡ (nat_lt m bound && is_in xs m) = in_below bound xs m in
+    elim (x == m) as (λ b. (x == m) ≡ b → is_in (cond (nat_lt x bound) (x ∷ below bound xs) (below bound xs)) m ≡ (nat_lt m bound && (b || is_in xs m))) [
+      | true ↦ λ e. below_found bound x m (below bound xs) (is_in xs m) ih e
+      | false ↦ λ e. below_other bound x m (below bound xs) (is_in xs m) ih e (nat_lt x bound)
+    ]
+    refl
+
+pub in_touching : (bound : ℕ) (numbers : Numbers) (paths : List (List ℕ)) (m : ℕ) → is_in (touching bound numbers paths) m ≡ (nat_lt m bound && list_any (λ path. is_in (numbers path) m) paths)
+in_touching bound numbers [] m = sym (and_false (nat_lt m bound))
+in_touching bound numbers (path ∷ paths) m =
+    list_any-append (λ k. k == m) (below bound (numbers path)) (touching bound numbers paths)
+    ∙ (λ i. in_below bound (numbers path) m i || in_touching bound numbers paths m i)
+    ∙ and_or (nat_lt m bound) (is_in (numbers path) m) (list_any (λ p. is_in (numbers p) m) paths)
+
+-- touching files and further ones
+pub touching_both : (bound : ℕ) (numbers : Numbers) (some others : List (List ℕ)) → touching bound numbers some ++ touching bound numbers others ≡ touching bound numbers (some ++ others)
+touching_both bound numbers [] others = refl
+touching_both bound numbers (path ∷ paths) others =
+    append_assoc (below bound (numbers path)) (touching bound numbers paths) (touching bound numbers others)
+    ∙ ap (λ ns. below bound (numbers path) ++ ns) (touching_both bound numbers paths others)
+
+pub with_both : (numbers : Numbers) (some others : List (List ℕ)) (n : ℕ) → with_numbers (with_numbers numbers some n) others n ≡ with_numbers numbers (some ++ others) n
+with_both numbers [] others n = refl
+with_both numbers (path ∷ paths) others n = with_both (with_number numbers path n) paths others n
+
+-- The numbers of the items that pass.
+
+-- they begin with the first number
+numbers_from_first : {X : Type 0} (test : X → Bool) (n : ℕ) (xs : List X) (m : ℕ) → is_in (numbers_where test n xs) m ≡ true → n ≤ m
+numbers_from_first test n [] m e = absurd (false≢true e)
+numbers_from_first test n (x ∷ xs) m e =
+    in_either (is_in (cond (test x) (n ∷ []) []) m) (is_in (numbers_where test (n + 1) xs) m)
+    (λ k. one (test x) k)
+    (λ k. let ih : n + 1 ≤ m = numbers_from_first test (n + 1) xs m k in omega arith)
+    (sym (list_any-append (λ j. j == m) (cond (test x) (n ∷ []) []) (numbers_where test (n + 1) xs)) ∙ e)
+  where
+    one : (b : Bool) → is_in (cond b (n ∷ []) []) m ≡ true → n ≤ m
+    one true k = in_either (n == m) false (λ j. let same = eqb-true n m j in omega arith) (λ j. absurd (false≢true j)) k
+    one false k = absurd (false≢true k)
+
+holds_both : (a b : Bool) → (a && b) ≡ true → a ≡ true
+holds_both true b h = refl
+holds_both false b h = h
+
+not_later : (b : Bool) (n j : ℕ) → is_in (cond b (n ∷ []) []) (n + suc j) ≡ true → ⊥
+not_later true n j h = in_either (n == (n + suc j)) false (λ e. let same = eqb-true n (n + suc j) e in omega arith) (λ e. false≢true e) h
+not_later false n j h = false≢true h
+
+passed : {X : Type 0} (test : X → Bool) (d : X) (n : ℕ) (xs : List X) (i : ℕ) → is_in (numbers_where test n xs) (n + i) ≡ true → test (get_or xs i d) ≡ true
+passed test d n [] i e = absurd (false≢true e)
+passed test d n (x ∷ xs) zero e =
+    in_either (is_in (cond (test x) (n ∷ []) []) (n + 0)) (is_in (numbers_where test (n + 1) xs) (n + 0))
+    (λ k. holds_both (test x) (n == (n + 0)) (sym (in_one_or_none (test x) n (n + 0)) ∙ k))
+    (λ k. let least : n + 1 ≤ n + 0 = numbers_from_first test (n + 1) xs (n + 0) k in absurd (omega arith))
+    (sym (list_any-append (λ m. m == (n + 0)) (cond (test x) (n ∷ []) []) (numbers_where test (n + 1) xs)) ∙ e)
+passed test d n (x ∷ xs) (suc i) e =
+    let same : n + suc i ≡ (n + 1) + i = omega arith in
+    in_either (is_in (cond (test x) (n ∷ []) []) (n + suc i)) (is_in (numbers_where test (n + 1) xs) (n + suc i))
+    (λ k. absurd (not_later (test x) n i k))
+    (λ k. passed test d (n + 1) xs i (subst (λ m. is_in (numbers_where test (n + 1) xs) m ≡ true) same k))
+    (sym (list_any-append (λ m. m == (n + suc i)) (cond (test x) (n ∷ []) []) (numbers_where test (n + 1) xs)) ∙ e)
+
+-- a number of the list is among them if its item passes
+pub in_numbers : {X : Type 0} (test : X → Bool) (d : X) (xs : List X) (m : ℕ) → m < length xs → is_in (numbers_where test 0 xs) m ≡ test (get_or xs m d)
+in_numbers test d xs m h =
+    let none : 0 + m ≡ m = omega arith in
+    same_answer (is_in (numbers_where test 0 xs) m) (test (get_or xs m d))
+    (λ e. passed test d 0 xs m (subst (λ k. is_in (numbers_where test 0 xs) k ≡ true) (sym none) e))
+    (λ e. subst (λ k. is_in (numbers_where test 0 xs) k ≡ true) none (passes test d 0 xs m h e))
+
+-- and of the items before one, if it is before that one too
+pub in_earlier : {X : Type 0} (test : X → Bool) (d : X) (xs : List X) (j m : ℕ) → j ≤ length xs → is_in (numbers_where test 0 (take j xs)) m ≡ (nat_lt m j && test (get_or xs m d))
+in_earlier test d xs j m h =
+    elim (nat_lt m j) as (λ b. nat_lt m j ≡ b → is_in (numbers_where test 0 (take j xs)) m ≡ (b && test (get_or xs m d))) [
+      | true ↦ λ e.
+          let before : m < j = ltb-true m j e in
+          let size : length (take j xs) ≡ j = length-take-le j xs h in
+          in_numbers test d (take j xs) m (omega arith) ∙ ap test (get_or-take j xs m d before)
+      | false ↦ λ e. fails (is_in (numbers_where test 0 (take j xs)) m) (λ k.
+          let size : length (take j xs) ≡ j = length-take-le j xs h in
+          let within : m < 0 + length (take j xs) = numbers_below test 0 (take j xs) m k in
+          false≢true (sym e ∙ lt-ltb m j (omega arith)))
+    ]
+    refl
+
+-- Numbers that rise from a bound on.
+
+abbrev pub Rises : ℕ → List ℕ → Type 0
+Rises bound [] = Unit {0}
+Rises bound (x ∷ xs) = (bound ≤ x) × Rises (suc x) xs
+
+rises_higher : (a b : ℕ) (xs : List ℕ) → a ≤ b → Rises b xs → Rises a xs
+rises_higher a b [] h r = tt
+rises_higher a b (x ∷ xs) h r = let k : b ≤ x = r.0 in (omega arith, r.1)
+
+pub rises_behind : (x : ℕ) (xs : List ℕ) → IsStrictlyIncreasing (x ∷ xs) → Rises (suc x) xs
+rises_behind x [] h = tt
+rises_behind x (y ∷ ys) h =
+    let first : x < y = h 0 (omega arith) in
+    (omega arith, rises_behind y ys (λ k w. rw add-one (rw add-one at (h (suc k) (omega arith)))))
+
+pub rises : (xs : List ℕ) → IsStrictlyIncreasing xs → Rises 0 xs
+rises [] h = tt
+rises (x ∷ xs) h = (omega arith, rises_behind x xs h)
+
+rise_on : (b : Bool) (n : ℕ) (rest : List ℕ) → Rises (n + 1) rest → Rises n (cond b (n ∷ []) [] ++ rest)
+rise_on true n rest r = (omega arith, rises_higher (suc n) (n + 1) rest (omega arith) r)
+rise_on false n rest r = rises_higher n (n + 1) rest (omega arith) r
+
+pub numbers_rise : {X : Type 0} (test : X → Bool) (n : ℕ) (xs : List X) → Rises n (numbers_where test n xs)
+numbers_rise test n [] = tt
+numbers_rise test n (x ∷ xs) = rise_on (test x) n (numbers_where test (n + 1) xs) (numbers_rise test (n + 1) xs)
+
+at_least : (b : ℕ) (xs : List ℕ) (m : ℕ) → Rises b xs → is_in xs m ≡ true → b ≤ m
+at_least b [] m r e = absurd (false≢true e)
+at_least b (x ∷ xs) m r e =
+    let first : b ≤ x = r.0 in
+    in_either (x == m) (is_in xs m)
+    (λ k. let same = eqb-true x m k in omega arith)
+    (λ k. let ih : suc x ≤ m = at_least (suc x) xs m r.1 k in omega arith) e
+
+head_in : (x : ℕ) (xs : List ℕ) → is_in (x ∷ xs) x ≡ true
+head_in x xs = in_first (x == x) (is_in xs x) (eq-eqb x x refl)
+
+-- lists that rise and have the same numbers are the same
+pub same_numbers : (b : ℕ) (xs ys : List ℕ) → Rises b xs → Rises b ys → ((m : ℕ) → is_in xs m ≡ is_in ys m) → xs ≡ ys
+same_numbers b [] [] r s f = refl
+same_numbers b [] (y ∷ ys) r s f = absurd (false≢true (f y ∙ head_in y ys))
+same_numbers b (x ∷ xs) [] r s f = absurd (false≢true (sym (f x) ∙ head_in x xs))
+same_numbers b (x ∷ xs) (y ∷ ys) r s f =
+    let low : y ≤ x = at_least y (y ∷ ys) x (omega arith, s.1) (sym (f x) ∙ head_in x xs) in
+    let high : x ≤ y = at_least x (x ∷ xs) y (omega arith, r.1) (f y ∙ head_in y ys) in
+    let same : x ≡ y = omega arith in
+    let tails : xs ≡ ys = same_numbers (suc x) xs ys r.1 (subst (λ k. Rises (suc k) ys) (sym same) s.1) (λ m. rest same m) in
+    λ i. same i ∷ tails i
+  where
+    rest : x ≡ y → (m : ℕ) → is_in xs m ≡ is_in ys m
+    rest same m =
+        same_answer (is_in xs m) (is_in ys m)
+        (λ e.
+        let above : suc x ≤ m = at_least (suc x) xs m r.1 e in
+        in_either (y == m) (is_in ys m) (λ k. let other = eqb-true y m k in absurd (omega arith)) (λ k. k) (sym (f m) ∙ in_second (x == m) (is_in xs m) e))
+        (λ e.
+        let above : suc y ≤ m = at_least (suc y) ys m s.1 e in
+        in_either (x == m) (is_in xs m) (λ k. let other = eqb-true x m k in absurd (omega arith)) (λ k. k) (f m ∙ in_second (y == m) (is_in ys m) e))
+
+-- Elements of a list, by place and by test.
+
+pub contained : (xs : List ℕ) (m : ℕ) → is_in xs m ≡ true → Contains xs m
+contained [] m e = absurd (false≢true e)
+contained (x ∷ xs) m e =
+    in_either (x == m) (is_in xs m)
+    (λ k. (0, omega arith, eqb-true x m k))
+    (λ k. Contains-append_right (x ∷ []) xs m (contained xs m k)) e
+
+pub has_contained : (xs : List ℕ) (m : ℕ) → Contains xs m → is_in xs m ≡ true
+has_contained xs m c = list_any_at (λ k. k == m) xs c.0 m c.1 (eq-eqb (get_or xs c.0 m) m c.2)

@@ -1,0 +1,126 @@
+//! The commands of a plan, as what their needs depend on.
+
+ghost use Rattle.std.specs.Prelude.{◌≡◌, ◌++◌, IfOk, OnOk, length, map, vec_items};
+ghost use Rattle.texts.specs.Path.{file_stem_of};
+ghost use Rattle.command_files.specs.CommandFiles.{tool_of_stem};
+ghost use Rattle.command_files.specs.PlanNeeds as spec;
+
+use crate::files::{CommandFiles, Tool, files_of, tool_of};
+use command_groups::{NvccGeneratedSubcommand, Plan};
+use std::alloc::{AllocError, Global};
+
+/// What a command does in its plan, as far as others wait for it or it waits for others whatever the files.
+#[derive(Clone, Copy)]
+pub enum Role {
+    /// A preprocess step of the front group.
+    FrontStep,
+    /// A preprocess step of a device group.
+    DeviceStep,
+    /// A command of the final group.
+    Final,
+    /// Any other command.
+    Plain,
+}
+
+/// A command of a plan, as what its needs depend on.
+#[derive(Drop)]
+pub struct Step {
+    pub files: CommandFiles,
+    pub role: Role,
+}
+
+// Whether a tool is a host compiler.
+fn is_host_compiler(tool: Tool) -> bool
+    ensures { result ≡ spec.is_host_compiler tool }
+{
+    match tool {
+        Tool::Cicc | Tool::Cudafe | Tool::Ptxas | Tool::Fatbinary => false,
+        Tool::Other => true,
+    }
+}
+
+// The role of a command in a group with a number, of so many. `compiles`: whether its program is a host compiler.
+fn role_of(count: usize, group: usize, compiles: bool) -> Role
+    ensures { result ≡ spec.role_of count group compiles }
+{
+    if group == 0 {
+        if compiles {
+            Role::FrontStep
+        } else {
+            Role::Plain
+        }
+    } else if count.saturating_sub(group) == 1 {
+        Role::Final
+    } else if compiles {
+        Role::DeviceStep
+    } else {
+        Role::Plain
+    }
+}
+
+// A command in a group with a number, of so many.
+fn step_of(
+    alloc: Global,
+    count: usize,
+    group: usize,
+    command: &NvccGeneratedSubcommand,
+) -> Result<Step, AllocError>
+    ensures { IfOk result (λ step. step ≡ spec.step_of count group command.now) }
+{
+    Ok(Step {
+        files: files_of(alloc, command)?,
+        role: role_of(
+            count,
+            group,
+            is_host_compiler(tool_of(command.exe.as_str())),
+        ),
+    })
+}
+
+// Puts the commands of a group last.
+fn push_steps(
+    alloc: Global,
+    steps: &mut Vec<Step>,
+    count: usize,
+    group: usize,
+    commands: &[NvccGeneratedSubcommand],
+) -> Result<(), AllocError>
+    ensures { OnOk result (steps.new.items ≡ steps.old.items ++ map (spec.step_of count group) commands.now) }
+{
+    for command in commands {
+        steps.push(step_of(alloc, count, group, command)?)?;
+    }
+    Ok(())
+}
+
+// The commands of groups, in plan order.
+fn steps_of_groups(
+    alloc: Global,
+    groups: &[Vec<NvccGeneratedSubcommand>],
+) -> Result<Vec<Step>, AllocError>
+    ensures { IfOk result (λ steps. steps.items ≡ spec.steps_from (length groups.now) 0 (map vec_items groups.now)) }
+{
+    let mut steps = Vec::new(alloc);
+    for (group, commands) in groups.iter().enumerate() {
+        push_steps(alloc, &mut steps, groups.len(), group, commands.as_slice())?;
+    }
+    Ok(steps)
+}
+
+/// The commands of a plan, in plan order.
+pub fn steps_of(alloc: Global, plan: &Plan) -> Result<Vec<Step>, AllocError>
+    ensures { IfOk result (λ steps. steps.items ≡ spec.plan_steps plan.now) }
+{
+    steps_of_groups(alloc, plan.groups.as_slice())
+}
+
+/// The files that each command of a plan reads and writes, in plan order.
+pub fn files_of_plan(alloc: Global, plan: &Plan) -> Result<Vec<CommandFiles>, AllocError>
+    ensures { IfOk result (λ files. files.items ≡ spec.plan_files plan.now) }
+{
+    let mut files = Vec::new(alloc);
+    for step in steps_of(alloc, plan)? {
+        files.push(step.files)?;
+    }
+    Ok(files)
+}

@@ -1,0 +1,148 @@
+-- The origins that labels are cut into are those of the fates.
+use Rattle.std.proofs.Common.{◌≡◌, ℕ, suc, List, [], ◌∷◌, ◌++◌, true, false, cond, map, length, refl, sym, ap, ◌∙◌, arith, append_assoc, Option, Some, None, Result, Ok, Err}
+use Rattle.std.specs.Prelude.{◌==◌, slice_get, fold, if◌then◌else◌}
+use Rattle.std.specs.List.{flat_map}
+use Rattle.std.specs.Str.{bytes_eq}
+use Rattle.std.proofs.lemmas.List.{length-replicate}
+use Rattle.texts.specs.Lists.{is_some_and}
+use Rattle.texts.specs.declared.fault.Fault.{Fault}
+use Rattle.dry_runs.specs.CommandLines.{CommandLine}
+use Rattle.dry_runs.specs.Environment.{Variable}
+use Rattle.command_groups.specs.declared.openings.Opening.{Opening}
+use Rattle.command_groups.specs.declared.grouping.Label.{Label}
+use Rattle.command_groups.specs.declared.grouping.Label.TheVariants.{Front, Device, Final, Ungrouped}
+use Rattle.command_groups.specs.declared.origins.Origin.{Origin}
+use Rattle.command_groups.specs.declared.plan.Reason.{Reason}
+use Rattle.command_groups.specs.declared.plan.Reason.TheVariants.{Superseded}
+use Rattle.command_groups.specs.Stage.{StagedCommand}
+use Rattle.command_groups.specs.Fate.{Fate, device, ungrouped, PlacedCommand, is_device}
+use Rattle.command_groups.specs.Plan.{PlanSetting, is_front, is_final, of_fate}
+use Rattle.command_groups.specs.PlanOfBytes.{plan_or_fault}
+use Rattle.command_groups.specs.Openings.{Opened, names_of}
+use Rattle.command_groups.specs.Grouping.{Labelled, GroupingState, grouped}
+use Rattle.command_groups.specs.Cutting.{fate_at, fate_by, settled, group_of_label}
+use Rattle.command_groups.specs.Origins.{origin_of, origins_by, origins_of_placed, origins_of_staged, origins_or_fault, plan_in}
+use Rattle.command_groups.specs.OriginCutting.{with_grouped_origin, with_origin, no_origins, origin_groups}
+use Rattle.command_groups.proofs.CuttingLemmas.{zipped, cons_at, put_before, zipped_nothing, joined_by, joined_at, last_joined, put_length, names_length}
+use Rattle.command_groups.proofs.FateLemmas.{Distinct}
+use Rattle.command_groups.proofs.GroupingLemmas.{labels_are_fates, names_are_opened, names_are_distinct}
+
+module _ (opened : Opened) (d : Distinct (names_of opened)) where
+  abbrev device_groups : List PlacedCommand → List (List Origin)
+  device_groups ps = map (λ name. origins_by (is_device name) ps) (names_of opened)
+
+  abbrev all_groups : List PlacedCommand → List (List Origin)
+  all_groups ps = origins_by is_front ps ∷ (device_groups ps ++ origins_by is_final ps ∷ [])
+
+  abbrev groups_with : Result ℕ Reason → StagedCommand → List (List Origin) → List (List Origin)
+  groups_with (Ok place) c gs = cons_at place (origin_of c) gs
+  groups_with (Err reason) c gs = gs
+
+  abbrev Fits : StagedCommand → List PlacedCommand → Fate → Result ℕ Reason → Type 0
+  Fits c ps place r = all_groups (record { staged = c; fate = place } ∷ ps) ≡ groups_with r c (all_groups ps)
+
+  fits_device : (c : StagedCommand) (ps : List PlacedCommand) (o : Opening) (e : Option (List ℕ × ℕ)) → slice_get opened o.number ≡ e → Fits c ps (fate_at e o.step) (if is_some_and (λ q. q.1 == o.step) e then Ok (suc o.number) else Err Superseded)
+  fits_device c ps o None h = refl
+  fits_device c ps o (Some e) h =
+      elim (e.1 == o.step) as (λ b. Fits c ps (cond b (device e.0) (ungrouped Superseded)) (cond b (Ok (suc o.number)) (Err Superseded))) [
+        | true ↦ ap (λ gs. origins_by is_front ps ∷ gs) (joined_by_name e h)
+        | false ↦ refl
+      ]
+    where
+      joined_by_name : (e : List ℕ × ℕ) → slice_get opened o.number ≡ Some e →
+          map (λ name. origins_by (is_device name) (record { staged = c; fate = device e.0 } ∷ ps)) (names_of opened) ++ origins_by is_final ps ∷ [] ≡
+          cons_at o.number (origin_of c) (map (λ name. origins_by (is_device name) ps) (names_of opened) ++ origins_by is_final ps ∷ [])
+      joined_by_name e h =
+          ap (λ gs. gs ++ origins_by is_final ps ∷ []) (pointwise e (names_of opened))
+          ∙ joined_at (origin_of c) (λ name. origins_by (is_device name) ps) opened o.number e (origins_by is_final ps ∷ []) d h
+        where
+          one : (e : List ℕ × ℕ) (name : List ℕ) → origins_by (is_device name) (record { staged = c; fate = device e.0 } ∷ ps) ≡ joined_by (origin_of c) (λ n. origins_by (is_device n) ps) e.0 name
+          one e name =
+              elim (bytes_eq e.0 name)
+              as (λ b. map (λ p. origin_of p.staged) (cond b (record { staged = c; fate = device e.0 } ∷ of_fate (is_device name) ps) (of_fate (is_device name) ps)) ≡ cond b (origin_of c ∷ origins_by (is_device name) ps) (origins_by (is_device name) ps))
+              [ true ↦ refl | false ↦ refl ]
+
+          pointwise : (e : List ℕ × ℕ) (names : List (List ℕ)) →
+              map (λ name. origins_by (is_device name) (record { staged = c; fate = device e.0 } ∷ ps)) names ≡ map (joined_by (origin_of c) (λ name. origins_by (is_device name) ps) e.0) names
+          pointwise e [] = refl
+          pointwise e (n ∷ ns) = λ i. one e n i ∷ pointwise e ns i
+
+  fits : (c : StagedCommand) (ps : List PlacedCommand) (label : Label) → Fits c ps (fate_by opened label) (group_of_label opened label)
+  fits c ps Front = refl
+  fits c ps (Device o) = fits_device c ps o (slice_get opened o.number) refl
+  fits c ps Final = ap (λ gs. origins_by is_front ps ∷ gs) (last_joined (origin_of c) (λ name. origins_by (is_device name) ps) opened (origins_by is_final ps))
+  fits c ps (Ungrouped reason) = refl
+
+  by_result : (gs : List (List Origin)) (c : StagedCommand) (ps : List PlacedCommand) (place : Fate) (r : Result ℕ Reason) → Fits c ps place r → zipped (with_grouped_origin gs c r) (all_groups ps) ≡ zipped gs (all_groups (record { staged = c; fate = place } ∷ ps))
+  by_result gs c ps place (Ok k) f = put_before k (origin_of c) gs (all_groups ps) ∙ ap (zipped gs) (sym f)
+  by_result gs c ps place (Err reason) f = ap (zipped gs) (sym f)
+
+  groups_after : (gs : List (List Origin)) (ls : List Labelled) → length gs ≡ suc (suc (length opened)) → fold (with_origin opened) gs ls ≡ zipped gs (all_groups (map (settled opened) ls))
+  groups_after gs [] h = sym (kept_groups gs h)
+    where
+      nil_right : {X : Type 0} (xs : List X) → xs ≡ xs ++ []
+      nil_right [] = refl
+      nil_right (x ∷ xs) = ap (λ ys. x ∷ ys) (nil_right xs)
+
+      zipped_right : {X : Type 0} (names : List (List ℕ)) (gs : List (List X)) → length gs ≡ suc (length names) → zipped gs (map (λ name. []) names ++ [] ∷ []) ≡ gs
+      zipped_right names [] e = absurd (omega arith)
+      zipped_right [] (g ∷ []) e = ap (λ t. t ∷ []) (sym (nil_right g))
+      zipped_right [] (g ∷ h ∷ gs) e = absurd (omega arith)
+      zipped_right (n ∷ ns) (g ∷ gs) e = λ i. sym (nil_right g) i ∷ zipped_right ns gs (omega arith) i
+
+      kept_groups : (gs : List (List Origin)) → length gs ≡ suc (suc (length opened)) → zipped gs (all_groups []) ≡ gs
+      kept_groups [] e = absurd (omega arith)
+      kept_groups (g ∷ gs) e = λ i. sym (nil_right g) i ∷ zipped_right (names_of opened) gs (omega (arith, names_length opened)) i
+  groups_after gs (l ∷ ls) h =
+      groups_after (with_origin opened gs l) ls (long (group_of_label opened l.label))
+      ∙ by_result gs l.staged (map (settled opened) ls) (fate_by opened l.label) (group_of_label opened l.label) (fits l.staged (map (settled opened) ls) l.label)
+    where
+      long : (r : Result ℕ Reason) → length (with_grouped_origin gs l.staged r) ≡ suc (suc (length opened))
+      long (Ok place) = put_length place (origin_of l.staged) gs ∙ h
+      long (Err reason) = h
+
+  groups_long : (ps : List PlacedCommand) → length (all_groups ps) ≡ suc (suc (length opened))
+  groups_long ps = ap suc (one_more opened)
+    where
+      one_more : (es : Opened) → length (map (λ name. origins_by (is_device name) ps) (names_of es) ++ origins_by is_final ps ∷ []) ≡ suc (length es)
+      one_more [] = refl
+      one_more (e ∷ es) = ap suc (one_more es)
+
+  groups_are : (ls : List Labelled) → origin_groups opened ls ≡ all_groups (map (settled opened) ls)
+  groups_are ls =
+      groups_after (no_origins (length opened)) ls (length-replicate (suc (suc (length opened))) [])
+      ∙ zipped_nothing (suc (suc (length opened))) (all_groups (map (settled opened) ls)) (groups_long (map (settled opened) ls))
+
+-- groups, one after the other
+joined_groups : (names : List (List ℕ)) (ps : List PlacedCommand) →
+    flat_map (λ (group : List Origin). group) (origins_by is_front ps ∷ (map (λ name. origins_by (is_device name) ps) names ++ origins_by is_final ps ∷ [])) ≡ origins_of_placed names ps
+joined_groups names ps = ap (λ t. origins_by is_front ps ++ t) (behind names)
+  where
+    nil_right : {X : Type 0} (xs : List X) → xs ++ [] ≡ xs
+    nil_right [] = refl
+    nil_right (x ∷ xs) = ap (λ ys. x ∷ ys) (nil_right xs)
+
+    behind : (names : List (List ℕ)) →
+        flat_map (λ (group : List Origin). group) (map (λ name. origins_by (is_device name) ps) names ++ origins_by is_final ps ∷ []) ≡
+        flat_map (λ name. origins_by (is_device name) ps) names ++ origins_by is_final ps
+    behind [] = nil_right (origins_by is_final ps)
+    behind (n ∷ ns) =
+        ap (λ t. origins_by (is_device n) ps ++ t) (behind ns)
+        ∙ sym (append_assoc (origins_by (is_device n) ps) (flat_map (λ name. origins_by (is_device name) ps) ns) (origins_by is_final ps))
+
+-- the origins of labelled commands are those of the commands
+pub origins_are : (commands : List StagedCommand) → flat_map (λ (group : List Origin). group) (origin_groups (grouped commands).opened (grouped commands).labelled) ≡ origins_of_staged commands
+origins_are commands =
+    let g : GroupingState = grouped commands in
+    ap (flat_map (λ (group : List Origin). group)) (groups_are g.opened (names_are_distinct commands) g.labelled)
+    ∙ joined_groups (names_of g.opened) (map (settled g.opened) g.labelled)
+    ∙ (λ i. origins_of_placed (names_are_opened commands i) (labels_are_fates commands i))
+
+-- ---- A plan without its origins.
+
+-- a planning with origins has the plan of a planning
+pub plan_without : (suffixes : List (List ℕ)) (keep_dir : Option (List ℕ)) (s : PlanSetting) (one two : Result (List CommandLine × List Variable) Fault) →
+    plan_in (origins_or_fault suffixes keep_dir s one two) ≡ plan_or_fault suffixes keep_dir s one two
+plan_without suffixes keep_dir s (Err fault) two = refl
+plan_without suffixes keep_dir s (Ok one) (Err fault) = refl
+plan_without suffixes keep_dir s (Ok one) (Ok two) = refl

@@ -1,0 +1,56 @@
+-- The lines of the dry runs that the commands of a plan come from.
+use Rattle.std.specs.Prelude.{ℕ, List, ◌++◌, map, Bool, Option, Result, Ok, Err}
+use Rattle.std.specs.List.{flat_map}
+use Rattle.texts.specs.declared.fault.Fault.{Fault}
+use Rattle.dry_runs.specs.CommandLines.{CommandLine}
+use Rattle.dry_runs.specs.DryRun.{LookUp, dry_run_of}
+use Rattle.dry_runs.specs.Environment.{Variable}
+use Rattle.command_groups.specs.declared.origins.Origin.{Origin}
+use Rattle.command_groups.specs.declared.origins.PlanWithOrigins.{PlanWithOrigins}
+use Rattle.command_groups.specs.declared.plan.Plan.{Plan}
+use Rattle.command_groups.specs.Stage.{StagedCommand}
+use Rattle.command_groups.specs.Fate.{Fate, PlacedCommand, is_device, opened_names, fates}
+use Rattle.command_groups.specs.Plan.{PlanSetting, is_front, is_final, of_fate, staged_commands, plan_of}
+use Rattle.command_groups.specs.PlanOfBytes.{named}
+
+-- the line and the run of a command
+abbrev pub origin_of : StagedCommand → Origin
+origin_of c = record { line = c.command.line; run = c.command.run }
+
+-- those of the commands whose fate passes a test, in order
+abbrev pub origins_by : (Fate → Bool) → List PlacedCommand → List Origin
+origins_by test commands = map (λ p. origin_of p.staged) (of_fate test commands)
+
+-- those of a plan's commands, in plan order: the front group, the device groups, and the final group
+abbrev pub origins_of_placed : List (List ℕ) → List PlacedCommand → List Origin
+origins_of_placed names commands =
+    origins_by is_front commands ++ (flat_map (λ name. origins_by (is_device name) commands) names ++ origins_by is_final commands)
+
+abbrev pub origins_of_staged : List StagedCommand → List Origin
+origins_of_staged commands = origins_of_placed (opened_names commands) (fates commands)
+
+-- the plan of the commands of two runs, with the origins of its commands
+abbrev pub plan_with_origins : PlanSetting → List Variable → List CommandLine → List CommandLine → PlanWithOrigins
+plan_with_origins s variables first second = record {
+  plan = plan_of s variables first second;
+  origins = origins_of_staged (staged_commands s first second);
+}
+
+-- the same of two runs that can be read; else the fault of the first, or of the second if the first can be read
+abbrev pub origins_or_fault : List (List ℕ) → Option (List ℕ) → PlanSetting →
+    Result (List CommandLine × List Variable) Fault → Result (List CommandLine × List Variable) Fault →
+    Result PlanWithOrigins Fault
+origins_or_fault suffixes keep_dir s (Err fault) second = Err fault
+origins_or_fault suffixes keep_dir s (Ok first) (Err fault) = Err fault
+origins_or_fault suffixes keep_dir s (Ok first) (Ok second) =
+    Ok (plan_with_origins s first.1 (named suffixes keep_dir first.0) (named suffixes keep_dir second.0))
+
+-- the same of the bytes of two runs
+abbrev pub planning_with_origins : List (List ℕ) → Option (List ℕ) → PlanSetting → LookUp → List ℕ → List ℕ → Result PlanWithOrigins Fault
+planning_with_origins suffixes keep_dir s which first second =
+    origins_or_fault suffixes keep_dir s (dry_run_of 1 first s.cwd which) (dry_run_of 2 second s.cwd which)
+
+-- its plan alone
+abbrev pub plan_in : Result PlanWithOrigins Fault → Result Plan Fault
+plan_in (Ok planned) = Ok planned.plan
+plan_in (Err fault) = Err fault
