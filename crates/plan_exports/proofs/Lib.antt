@@ -1,6 +1,9 @@
+pub mod CompdbLemmas
+pub mod DotLemmas
 pub mod EscapedLemmas
 pub mod JsonLemmas
 pub mod JsonExamples
+pub mod OneToOneLemmas
 pub mod Pushing
 pub mod ReadBackLemmas
 pub mod ReadGraphLemmas

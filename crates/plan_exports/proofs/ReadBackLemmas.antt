@@ -1,198 +1,229 @@
--- A command's text, and a script, are read as their words.
-use Rattle.std.proofs.Common.{ℕ, List, [], ◌∷◌, ◌++◌, ◌≡◌, refl, sym, ap, ◌∙◌, append_assoc, append-nil, map, Some, None, Option, codes, encode_utf8_all}
+-- A POSIX shell reads a command's text, and a script, as the commands.
+use Rattle.std.proofs.Common.{ℕ, List, [], ◌∷◌, ◌++◌, ◌≡◌, refl, sym, ap, ◌∙◌, append_assoc, append-nil, map, Some, true, false, Option, codes}
 use Rattle.std.specs.List.{AllByRecursion, flat_map}
-use Rattle.std.specs.Option.{option_map}
+use Rattle.std.specs.Option.{option_map, option_and_then}
 use Rattle.std.specs.Str.{IsUtf8, chars}
-use Rattle.std.proofs.lemmas.List.{map-append}
-use Rattle.std.proofs.lemmas.Str.{encodes-chars, chars-nil}
-use Rattle.shell_words.specs.Shell.Splitting.{Gives, EndsWord, begins_piece, reads_between, words_from, split_chars, shell_words}
-use Rattle.shell_words.specs.Shell.Quoting.{quoted, written}
-use Rattle.shell_words.proofs.ShellSoundLemmas.{reading}
+use Rattle.std.proofs.lemmas.Str.{chars-nil}
+use Rattle.shell_words.specs.Posix.{Token, Word, Operator, Place, Between, After, Inside, Step, step, prepend, with_step, tokens_from, tokens, is_apart}
+use Rattle.shell_words.specs.Shell.Quoting.{written}
+use Rattle.shell_words.proofs.PosixLemmas.{quoted_before}
 use Rattle.command_groups.specs.declared.plan.NvccGeneratedSubcommand.{NvccGeneratedSubcommand}
 use Rattle.command_groups.specs.declared.plan.Plan.{Plan}
-use Rattle.plan_exports.specs.CommandText.{assignment, env_words, command_text, command_words}
+use Rattle.plan_exports.specs.CommandText.{assignment, env_words, command_text}
+use Rattle.plan_exports.specs.Graph.{stamp_path, touch}
 use Rattle.plan_exports.specs.Script.{command_line, group_lines, groups_lines, script}
-use Rattle.plan_exports.specs.ReadBack.{IsOfTexts}
-use Rattle.shell_words.proofs.ShellQuotingLemmas.{quoted_then}
-use Rattle.plan_exports.proofs.TextLemmas.{written_chars, plain_text, plain_chars, spelled_words, assignments_utf8}
-
--- The states of the splitter have no names here: between words it is `(reads_between 32).0`, in a word `(begins_piece 97).0`.
+use Rattle.plan_exports.specs.ReadBack.{IsOfTexts, shell_tokens, word_tokens, command_tokens, in_front, line_tokens}
+use Rattle.plan_exports.proofs.TextLemmas.{written_chars, plain_chars, assignments_utf8}
 
 -- ---- characters
 
--- a command's characters, before more of them
-abbrev line_chars : List ℕ → List (List ℕ) → List ℕ → List (List ℕ) → List ℕ → List ℕ
-line_chars cwd env exe args tail =
-    codes "( cd " ++ (quoted (cwd ∷ []) ++ (codes " && " ++ (quoted (codes "env" ∷ env) ++ (codes " " ++ (quoted (exe ∷ args) ++ (codes " )" ++ tail))))))
+prepend-nothing : (ts : List Token) → prepend [] ts ≡ ts
+prepend-nothing [] = refl
+prepend-nothing (Word word ∷ ts) = refl
+prepend-nothing (Operator operator ∷ ts) = refl
 
--- a command's words, before more words
-abbrev line_words : List ℕ → List (List ℕ) → List ℕ → List (List ℕ) → List (List ℕ) → List (List ℕ)
-line_words cwd env exe args more = codes "(" ∷ codes "cd" ∷ cwd ∷ codes "&&" ∷ codes "env" ∷ (env ++ (exe ∷ (args ++ codes ")" ∷ more)))
+-- a character that adds something, one that adds nothing, and one that ends a token
+reading : (place : Place) (c : ℕ) (cs : List ℕ) (s : Step) (ts : List Token) → step place c ≡ Some s → tokens_from s.0 cs ≡ Some ts → tokens_from place (c ∷ cs) ≡ Some (with_step s ts)
+reading place c cs s ts read found =
+    ap (λ (o : Option Step). option_and_then (λ s. option_map (with_step s) (tokens_from s.0 cs)) o) read
+    ∙ ap (λ (o : Option (List Token)). option_map (with_step s) o) found
 
--- " )" behind a word, and a text that ends the word
-reads_close : (tail : List ℕ) (more : List (List ℕ)) → words_from (begins_piece 97).0 tail ≡ Some ([] ∷ more) → words_from (begins_piece 97).0 (codes " )" ++ tail) ≡ Some ([] ∷ codes ")" ∷ more)
-reads_close tail more found =
-    reading (begins_piece 97).0 32 (41 ∷ tail) (reads_between 32).0 EndsWord (codes ")" ∷ more) refl (reading (reads_between 32).0 41 tail (begins_piece 97).0 (Gives (41 ∷ [])) ([] ∷ more) refl found)
+skipping : (place : Place) (c : ℕ) (cs : List ℕ) (next : Place) (ts : List Token) → step place c ≡ Some (next, [], []) → tokens_from next cs ≡ Some ts → tokens_from place (c ∷ cs) ≡ Some ts
+skipping place c cs next ts read found = reading place c cs (next, [], []) ts read found ∙ ap Some (prepend-nothing ts)
 
--- " " behind a word
-reads_blank : (rest : List ℕ) (words : List (List ℕ)) → words_from (reads_between 32).0 rest ≡ Some words → words_from (begins_piece 97).0 (codes " " ++ rest) ≡ Some ([] ∷ words)
-reads_blank rest words found = reading (begins_piece 97).0 32 rest (reads_between 32).0 EndsWord words refl found
+ending : (place : Place) (c : ℕ) (cs : List ℕ) (next : Place) (token : Token) (ts : List Token) → step place c ≡ Some (next, token ∷ [], []) → tokens_from next cs ≡ Some ts → tokens_from place (c ∷ cs) ≡ Some (token ∷ ts)
+ending place c cs next token ts read found = reading place c cs (next, token ∷ [], []) ts read found ∙ ap (λ us. Some (token ∷ us)) (prepend-nothing ts)
 
--- " && " behind a word
-reads_and : (rest : List ℕ) (words : List (List ℕ)) → words_from (reads_between 32).0 rest ≡ Some words → words_from (begins_piece 97).0 (codes " && " ++ rest) ≡ Some ([] ∷ codes "&&" ∷ words)
-reads_and rest words found =
-    reading (begins_piece 97).0 32 (codes "&& " ++ rest) (reads_between 32).0 EndsWord (codes "&&" ∷ words) refl
-    (reading (reads_between 32).0 38 (codes "& " ++ rest) (begins_piece 97).0 (Gives (38 ∷ [])) (codes "&" ∷ words) refl
-    (reading (begins_piece 97).0 38 (codes " " ++ rest) (begins_piece 97).0 (Gives (38 ∷ [])) ([] ∷ words) refl (reads_blank rest words found)))
+adding : (place : Place) (c : ℕ) (cs : List ℕ) (next : Place) (word : List ℕ) (ts : List Token) → step place c ≡ Some (next, [], c ∷ []) → tokens_from next cs ≡ Some (Word word ∷ ts) → tokens_from place (c ∷ cs) ≡ Some (Word (c ∷ word) ∷ ts)
+adding place c cs next word ts read found = reading place c cs (next, [], c ∷ []) (Word word ∷ ts) read found
 
--- "( cd " at the beginning
-reads_open : (rest : List ℕ) (words : List (List ℕ)) → words_from (reads_between 32).0 rest ≡ Some words → words_from (reads_between 32).0 (codes "( cd " ++ rest) ≡ Some (codes "(" ∷ codes "cd" ∷ words)
-reads_open rest words found =
-    reading (reads_between 32).0 40 (codes " cd " ++ rest) (begins_piece 97).0 (Gives (40 ∷ [])) ([] ∷ codes "cd" ∷ words) refl
-    (reading (begins_piece 97).0 32 (codes "cd " ++ rest) (reads_between 32).0 EndsWord (codes "cd" ∷ words) refl
-    (reading (reads_between 32).0 99 (codes "d " ++ rest) (begins_piece 97).0 (Gives (99 ∷ [])) (codes "d" ∷ words) refl
-    (reading (begins_piece 97).0 100 (codes " " ++ rest) (begins_piece 97).0 (Gives (100 ∷ [])) ([] ∷ words) refl (reads_blank rest words found))))
+reads_open : (rest : List ℕ) (ts : List Token) → tokens rest ≡ Some ts → tokens (codes "( cd " ++ rest) ≡ Some (Operator (codes "(") ∷ Word (codes "cd") ∷ ts)
+reads_open rest ts found =
+    skipping Between 40 (codes " cd " ++ rest) (After 40) (Operator (codes "(") ∷ Word (codes "cd") ∷ ts) refl
+    (ending (After 40) 32 (codes "cd " ++ rest) Between (Operator (codes "(")) (Word (codes "cd") ∷ ts) refl
+    (adding Between 99 (codes "d " ++ rest) (Inside false) (codes "d") ts refl
+    (adding (Inside false) 100 (codes " " ++ rest) (Inside false) [] ts refl (ending (Inside false) 32 rest Between (Word []) ts refl found))))
 
-reads_line : (cwd : List ℕ) (env : List (List ℕ)) (exe : List ℕ) (args : List (List ℕ)) (tail : List ℕ) (more : List (List ℕ)) → words_from (begins_piece 97).0 tail ≡ Some ([] ∷ more) →
-    words_from (reads_between 32).0 (line_chars cwd env exe args tail) ≡ Some (line_words cwd env exe args more)
-reads_line cwd env exe args tail more found =
-    let run_words = exe ∷ (args ++ codes ")" ∷ more) in
-    let run_text = quoted (exe ∷ args) ++ (codes " )" ++ tail) in
-    let env_text = quoted (codes "env" ∷ env) ++ (codes " " ++ run_text) in
-    let run : words_from (reads_between 32).0 run_text ≡ Some run_words = quoted_then exe args (codes " )" ++ tail) (codes ")" ∷ more) (reads_close tail more found) in
-    let behind : words_from (reads_between 32).0 env_text ≡ Some (codes "env" ∷ (env ++ run_words)) = quoted_then (codes "env") env (codes " " ++ run_text) run_words (reads_blank run_text run_words run) in
-    reads_open (quoted (cwd ∷ []) ++ (codes " && " ++ env_text)) (cwd ∷ codes "&&" ∷ codes "env" ∷ (env ++ run_words))
-    (quoted_then cwd [] (codes " && " ++ env_text) (codes "&&" ∷ codes "env" ∷ (env ++ run_words)) (reads_and env_text (codes "env" ∷ (env ++ run_words)) behind))
+reads_blank : (rest : List ℕ) (ts : List Token) → tokens rest ≡ Some ts → tokens (codes " " ++ rest) ≡ Some ts
+reads_blank rest ts found = skipping Between 32 rest Between ts refl found
+
+reads_and : (rest : List ℕ) (ts : List Token) → tokens rest ≡ Some ts → tokens (codes " && " ++ rest) ≡ Some (Operator (codes "&&") ∷ ts)
+reads_and rest ts found =
+    reads_blank (codes "&& " ++ rest) (Operator (codes "&&") ∷ ts)
+    (skipping Between 38 (codes "& " ++ rest) (After 38) (Operator (codes "&&") ∷ ts) refl
+    (ending (After 38) 38 (codes " " ++ rest) Between (Operator (codes "&&")) ts refl (reads_blank rest ts found)))
+
+reads_close : (rest : List ℕ) (ts : List Token) → tokens rest ≡ Some ts → tokens (codes " )" ++ rest) ≡ Some (Operator (codes ")") ∷ ts)
+reads_close rest ts found = reads_blank (codes ")" ++ rest) (Operator (codes ")") ∷ ts) (ending Between 41 rest Between (Operator (codes ")")) ts refl found)
+
+reads_touch : (rest : List ℕ) (ts : List Token) → tokens rest ≡ Some ts → tokens (codes " && touch " ++ rest) ≡ Some (Operator (codes "&&") ∷ Word (codes "touch") ∷ ts)
+reads_touch rest ts found =
+    reads_and (codes "touch " ++ rest) (Word (codes "touch") ∷ ts)
+    (adding Between 116 (codes "ouch " ++ rest) (Inside false) (codes "ouch") ts refl
+    (adding (Inside false) 111 (codes "uch " ++ rest) (Inside false) (codes "uch") ts refl
+    (adding (Inside false) 117 (codes "ch " ++ rest) (Inside false) (codes "ch") ts refl
+    (adding (Inside false) 99 (codes "h " ++ rest) (Inside false) (codes "h") ts refl
+    (adding (Inside false) 104 (codes " " ++ rest) (Inside false) [] ts refl (ending (Inside false) 32 rest Between (Word []) ts refl found))))))
+
+reads_newline : (rest : List ℕ) (ts : List Token) → tokens rest ≡ Some ts → tokens (codes "\n" ++ rest) ≡ Some (Operator (codes "\n") ∷ ts)
+reads_newline rest ts found = ending Between 10 rest Between (Operator (codes "\n")) ts refl found
+
+reads_set : (rest : List ℕ) (ts : List Token) → tokens rest ≡ Some ts → tokens (codes "set -e\n" ++ rest) ≡ Some (Word (codes "set") ∷ Word (codes "-e") ∷ Operator (codes "\n") ∷ ts)
+reads_set rest ts found =
+    let behind_set : List Token = Word (codes "-e") ∷ Operator (codes "\n") ∷ ts in
+    adding Between 115 (codes "et -e\n" ++ rest) (Inside false) (codes "et") behind_set refl
+    (adding (Inside false) 101 (codes "t -e\n" ++ rest) (Inside false) (codes "t") behind_set refl
+    (adding (Inside false) 116 (codes " -e\n" ++ rest) (Inside false) [] behind_set refl
+    (ending (Inside false) 32 (codes "-e\n" ++ rest) Between (Word []) behind_set refl
+    (adding Between 45 (codes "e\n" ++ rest) (Inside true) (codes "e") (Operator (codes "\n") ∷ ts) refl
+    (adding (Inside true) 101 (codes "\n" ++ rest) (Inside true) [] (Operator (codes "\n") ∷ ts) refl
+    (reading (Inside true) 10 rest (Between, Word [] ∷ Operator (codes "\n") ∷ [], []) ts refl found ∙ ap (λ us. Some (Word [] ∷ Operator (codes "\n") ∷ us)) (prepend-nothing ts)))))))
 
 -- ---- bytes
 
--- a command's text before more text, its parts one in the other
-abbrev line_bytes : NvccGeneratedSubcommand → List ℕ → List ℕ
-line_bytes c tail =
-    codes "( cd " ++ (written (c.cwd ∷ []) ++ (codes " && " ++ (written (env_words c) ++ (codes " " ++ (written (c.exe ∷ c.args) ++ (codes " )" ++ tail))))))
+word-tokens : (words : List (List ℕ)) → map Word (map chars words) ≡ word_tokens words
+word-tokens [] = refl
+word-tokens (word ∷ words) = ap (λ ts. Word (chars word) ∷ ts) (word-tokens words)
+
+-- written words, before a text that ends the last one
+written_then : (word : List ℕ) (words : List (List ℕ)) (rest : List ℕ) (ts : List Token) → AllByRecursion IsUtf8 (word ∷ words) → is_apart (chars rest) ≡ true → shell_tokens rest ≡ Some ts →
+    shell_tokens (written (word ∷ words) ++ rest) ≡ Some (word_tokens (word ∷ words) ++ ts)
+written_then word words rest ts are apart found =
+    ap tokens (written_chars (word ∷ words) rest are)
+    ∙ quoted_before (chars word) (map chars words) (chars rest) ts apart found
+    ∙ ap (λ us. Some (us ++ ts)) (word-tokens (word ∷ words))
+
+blank_then : (rest : List ℕ) (ts : List Token) → shell_tokens rest ≡ Some ts → shell_tokens (codes " " ++ rest) ≡ Some ts
+unfolding lib.Utf8.encode
+blank_then rest ts found = ap tokens (plain_chars (codes " ") rest refl refl) ∙ reads_blank (chars rest) ts found
+
+blank_apart : (rest : List ℕ) → is_apart (chars (codes " " ++ rest)) ≡ true
+unfolding lib.Utf8.encode
+blank_apart rest = ap is_apart (plain_chars (codes " ") rest refl refl)
+
+-- words that run a command, before its program
+runner_then : (words : List (List ℕ)) (rest : List ℕ) (ts : List Token) → AllByRecursion IsUtf8 words → shell_tokens rest ≡ Some ts →
+    shell_tokens (in_front words ++ rest) ≡ Some (word_tokens words ++ ts)
+runner_then [] rest ts are found = found
+runner_then (word ∷ words) rest ts are found =
+    let behind = in_front words ++ rest in
+    ap shell_tokens (append_assoc (written (word ∷ []) ++ 32 ∷ []) (in_front words) rest ∙ append_assoc (written (word ∷ [])) (32 ∷ []) behind)
+    ∙ written_then word [] (codes " " ++ behind) (word_tokens words ++ ts) (are.0, tt) (blank_apart behind) (blank_then behind (word_tokens words ++ ts) (runner_then words rest ts are.1 found))
 
 env_utf8 : (c : NvccGeneratedSubcommand) → IsOfTexts c → AllByRecursion IsUtf8 (env_words c)
 unfolding lib.Utf8.encode
 env_utf8 c are = ((codes "env", (refl, refl)), assignments_utf8 c.env_vars are.variables)
 
-chars_of_line : (c : NvccGeneratedSubcommand) (tail : List ℕ) → IsOfTexts c →
-    chars (line_bytes c tail) ≡ line_chars (chars c.cwd) (map chars (map assignment c.env_vars)) (chars c.exe) (map chars c.args) (chars tail)
-unfolding lib.Utf8.encode
-chars_of_line c tail are =
-    let close = codes " )" ++ tail in
-    let run = written (c.exe ∷ c.args) ++ close in
-    let env = written (env_words c) ++ (codes " " ++ run) in
-    let cwd = written (c.cwd ∷ []) ++ (codes " && " ++ env) in
-    let q_run = quoted (map chars (c.exe ∷ c.args)) in
-    let q_env = quoted (codes "env" ∷ map chars (map assignment c.env_vars)) in
-    let q_cwd = quoted (map chars (c.cwd ∷ [])) in
-    plain_chars (codes "( cd ") cwd refl refl
-    ∙ ap (λ t. codes "( cd " ++ t)
-    (written_chars (c.cwd ∷ []) (codes " && " ++ env) (are.cwd, tt)
-    ∙ ap (λ t. q_cwd ++ t)
-    (plain_chars (codes " && ") env refl refl
-    ∙ ap (λ t. codes " && " ++ t)
-    (written_chars (env_words c) (codes " " ++ run) (env_utf8 c are)
-    ∙ ap (λ w. quoted (w ∷ map chars (map assignment c.env_vars)) ++ chars (codes " " ++ run)) (plain_text (codes "env") refl refl)
-    ∙ ap (λ t. q_env ++ t)
-    (plain_chars (codes " ") run refl refl
-    ∙ ap (λ t. codes " " ++ t)
-    (written_chars (c.exe ∷ c.args) close (are.exe, are.args)
-    ∙ ap (λ t. q_run ++ t) (plain_chars (codes " )") tail refl refl))))))
+-- a command's text before more text, its parts one in the other
+abbrev run_bytes : NvccGeneratedSubcommand → List ℕ → List ℕ
+run_bytes c tail = written (c.exe ∷ c.args) ++ (codes " )" ++ tail)
 
--- words of a command that are spelled by their characters
-spelled_line : (c : NvccGeneratedSubcommand) (more : List (List ℕ)) → IsOfTexts c →
-    map encode_utf8_all (line_words (chars c.cwd) (map chars (map assignment c.env_vars)) (chars c.exe) (map chars c.args) more) ≡ command_words c ++ map encode_utf8_all more
-unfolding lib.Utf8.encode
-spelled_line c more are =
-    let env = map chars (map assignment c.env_vars) in
-    let args = map chars c.args in
-    let end = map encode_utf8_all more in
-    let spelled_args : map encode_utf8_all (args ++ codes ")" ∷ more) ≡ c.args ++ codes ")" ∷ end =
-    map-append encode_utf8_all args (codes ")" ∷ more) ∙ ap (λ ws. ws ++ codes ")" ∷ end) (spelled_words c.args are.args) in
-    let spelled_exe : map encode_utf8_all (chars c.exe ∷ (args ++ codes ")" ∷ more)) ≡ c.exe ∷ (c.args ++ codes ")" ∷ end) =
-    ap (λ w. w ∷ map encode_utf8_all (args ++ codes ")" ∷ more)) (encodes-chars c.exe are.exe) ∙ ap (λ ws. c.exe ∷ ws) spelled_args in
-    let spelled_env : map encode_utf8_all (env ++ (chars c.exe ∷ (args ++ codes ")" ∷ more))) ≡ map assignment c.env_vars ++ (c.exe ∷ (c.args ++ codes ")" ∷ end)) =
-    map-append encode_utf8_all env (chars c.exe ∷ (args ++ codes ")" ∷ more))
-    ∙ ap (λ ws. ws ++ map encode_utf8_all (chars c.exe ∷ (args ++ codes ")" ∷ more))) (spelled_words (map assignment c.env_vars) (assignments_utf8 c.env_vars are.variables))
-    ∙ ap (λ ws. map assignment c.env_vars ++ ws) spelled_exe in
-    let flat : map assignment c.env_vars ++ (c.exe ∷ (c.args ++ codes ")" ∷ end)) ≡ (map assignment c.env_vars ++ (c.exe ∷ (c.args ++ codes ")" ∷ []))) ++ end =
-    sym (append_assoc (map assignment c.env_vars) (c.exe ∷ (c.args ++ codes ")" ∷ [])) end
-    ∙ ap (λ ws. map assignment c.env_vars ++ (c.exe ∷ ws)) (append_assoc c.args (codes ")" ∷ []) end)) in
-    ap (λ w. codes "(" ∷ codes "cd" ∷ w ∷ codes "&&" ∷ codes "env" ∷ map encode_utf8_all (env ++ (chars c.exe ∷ (args ++ codes ")" ∷ more)))) (encodes-chars c.cwd are.cwd)
-    ∙ ap (λ ws. codes "(" ∷ codes "cd" ∷ c.cwd ∷ codes "&&" ∷ codes "env" ∷ ws) (spelled_env ∙ flat)
+abbrev env_bytes : List (List ℕ) → NvccGeneratedSubcommand → List ℕ → List ℕ
+env_bytes runner c tail = written (env_words c) ++ (codes " " ++ (in_front runner ++ run_bytes c tail))
 
--- the words of a command's text, and of more text that ends the last of them
-line_then : (c : NvccGeneratedSubcommand) (tail : List ℕ) (more : List (List ℕ)) → IsOfTexts c → words_from (begins_piece 97).0 (chars tail) ≡ Some ([] ∷ more) →
-    shell_words (line_bytes c tail) ≡ Some (command_words c ++ map encode_utf8_all more)
-line_then c tail more are found =
-    ap (λ cs. option_map (map encode_utf8_all) (split_chars cs)) (chars_of_line c tail are)
-    ∙ ap (option_map (map encode_utf8_all)) (reads_line (chars c.cwd) (map chars (map assignment c.env_vars)) (chars c.exe) (map chars c.args) (chars tail) more found)
-    ∙ ap Some (spelled_line c more are)
+abbrev line_bytes : List (List ℕ) → NvccGeneratedSubcommand → List ℕ → List ℕ
+line_bytes runner c tail = codes "( cd " ++ (written (c.cwd ∷ []) ++ (codes " && " ++ env_bytes runner c tail))
+
+run_then : (c : NvccGeneratedSubcommand) (tail : List ℕ) (ts : List Token) → IsOfTexts c → shell_tokens tail ≡ Some ts →
+    shell_tokens (run_bytes c tail) ≡ Some (word_tokens (c.exe ∷ c.args) ++ Operator (codes ")") ∷ ts)
+unfolding lib.Utf8.encode
+run_then c tail ts are found =
+    let close = plain_chars (codes " )") tail refl refl in
+    written_then c.exe c.args (codes " )" ++ tail) (Operator (codes ")") ∷ ts) (are.exe, are.args) (ap is_apart close) (ap tokens close ∙ reads_close (chars tail) ts found)
+
+env_then : (runner : List (List ℕ)) (c : NvccGeneratedSubcommand) (tail : List ℕ) (ts : List Token) → AllByRecursion IsUtf8 runner → IsOfTexts c → shell_tokens tail ≡ Some ts →
+    shell_tokens (env_bytes runner c tail) ≡ Some (word_tokens (env_words c) ++ (word_tokens runner ++ (word_tokens (c.exe ∷ c.args) ++ Operator (codes ")") ∷ ts)))
+env_then runner c tail ts words are found =
+    let run = run_bytes c tail in
+    let run_tokens : List Token = word_tokens (c.exe ∷ c.args) ++ Operator (codes ")") ∷ ts in
+    let behind = in_front runner ++ run in
+    written_then (codes "env") (map assignment c.env_vars) (codes " " ++ behind) (word_tokens runner ++ run_tokens) (env_utf8 c are) (blank_apart behind)
+    (blank_then behind (word_tokens runner ++ run_tokens) (runner_then runner run run_tokens words (run_then c tail ts are found)))
+
+-- the tokens of a command before more of them
+tokens-assoc : (runner : List (List ℕ)) (c : NvccGeneratedSubcommand) (ts : List Token) →
+    command_tokens runner c ++ ts ≡ Operator (codes "(") ∷ Word (codes "cd") ∷ Word (chars c.cwd) ∷ Operator (codes "&&")
+    ∷ (word_tokens (env_words c) ++ (word_tokens runner ++ (word_tokens (c.exe ∷ c.args) ++ Operator (codes ")") ∷ ts)))
+tokens-assoc runner c ts =
+    let env = word_tokens (env_words c) in
+    let ran = word_tokens runner in
+    let run = word_tokens (c.exe ∷ c.args) in
+    let close : List Token = Operator (codes ")") ∷ [] in
+    ap (λ us. Operator (codes "(") ∷ Word (codes "cd") ∷ Word (chars c.cwd) ∷ Operator (codes "&&") ∷ us)
+    (append_assoc env (ran ++ (run ++ close)) ts
+    ∙ ap (λ us. env ++ us) (append_assoc ran (run ++ close) ts ∙ ap (λ us. ran ++ us) (append_assoc run close ts)))
+
+line_then : (runner : List (List ℕ)) (c : NvccGeneratedSubcommand) (tail : List ℕ) (ts : List Token) → AllByRecursion IsUtf8 runner → IsOfTexts c → shell_tokens tail ≡ Some ts →
+    shell_tokens (line_bytes runner c tail) ≡ Some (command_tokens runner c ++ ts)
+unfolding lib.Utf8.encode
+line_then runner c tail ts words are found =
+    let env = env_bytes runner c tail in
+    let env_tokens : List Token = word_tokens (env_words c) ++ (word_tokens runner ++ (word_tokens (c.exe ∷ c.args) ++ Operator (codes ")") ∷ ts)) in
+    let folder = written (c.cwd ∷ []) ++ (codes " && " ++ env) in
+    let and = plain_chars (codes " && ") env refl refl in
+    let behind : shell_tokens folder ≡ Some (Word (chars c.cwd) ∷ Operator (codes "&&") ∷ env_tokens) =
+    written_then c.cwd [] (codes " && " ++ env) (Operator (codes "&&") ∷ env_tokens) (are.cwd, tt) (ap is_apart and) (ap tokens and ∙ reads_and (chars env) env_tokens (env_then runner c tail ts words are found)) in
+    ap tokens (plain_chars (codes "( cd ") folder refl refl)
+    ∙ reads_open (chars folder) (Word (chars c.cwd) ∷ Operator (codes "&&") ∷ env_tokens) behind
+    ∙ ap Some (sym (tokens-assoc runner c ts))
+
+-- a command's text before a text
+text_then : (runner : List (List ℕ)) (c : NvccGeneratedSubcommand) (tail : List ℕ) (ts : List Token) → AllByRecursion IsUtf8 runner → IsOfTexts c → shell_tokens tail ≡ Some ts →
+    shell_tokens (command_text (in_front runner) c ++ tail) ≡ Some (command_tokens runner c ++ ts)
+text_then runner c tail ts words are found =
+    let cwd = written (c.cwd ∷ []) in
+    let env = written (env_words c) in
+    let ran = in_front runner in
+    let run = written (c.exe ∷ c.args) in
+    let whole : command_text ran c ++ tail ≡ line_bytes runner c tail =
+    ap (λ t. codes "( cd " ++ t)
+    (append_assoc cwd (codes " && " ++ (env ++ (codes " " ++ (ran ++ (run ++ codes " )"))))) tail
+    ∙ ap (λ t. cwd ++ (codes " && " ++ t))
+    (append_assoc env (codes " " ++ (ran ++ (run ++ codes " )"))) tail
+    ∙ ap (λ t. env ++ (codes " " ++ t)) (append_assoc ran (run ++ codes " )") tail ∙ ap (λ t. ran ++ t) (append_assoc run (codes " )") tail)))) in
+    ap shell_tokens whole ∙ line_then runner c tail ts words are found
 
 -- ---- the laws
 
-pub command_reads_back : (c : NvccGeneratedSubcommand) → IsOfTexts c → shell_words (command_text [] c) ≡ Some (command_words c)
-command_reads_back c are = line_then c [] [] are (ap (words_from (begins_piece 97).0) chars-nil) ∙ ap Some (append-nil (command_words c))
+nothing_reads : shell_tokens [] ≡ Some []
+nothing_reads = ap tokens chars-nil
 
--- a line before a text
-before_text : (c : NvccGeneratedSubcommand) (rest : List ℕ) → command_line c ++ rest ≡ line_bytes c (10 ∷ rest)
-before_text c rest =
-    let tail = 10 ∷ rest in
-    let cwd = written (c.cwd ∷ []) in
-    let env = written (env_words c) in
-    let run = written (c.exe ∷ c.args) in
-    append_assoc (command_text [] c) (10 ∷ []) rest
-    ∙ ap (λ t. codes "( cd " ++ t)
-    (append_assoc cwd (codes " && " ++ (env ++ (codes " " ++ (run ++ codes " )")))) tail
-    ∙ ap (λ t. cwd ++ (codes " && " ++ t))
-    (append_assoc env (codes " " ++ (run ++ codes " )")) tail ∙ ap (λ t. env ++ (codes " " ++ t)) (append_assoc run (codes " )") tail)))
+pub command_reads_back : (runner : List (List ℕ)) (c : NvccGeneratedSubcommand) → AllByRecursion IsUtf8 runner → IsOfTexts c → shell_tokens (command_text (in_front runner) c) ≡ Some (command_tokens runner c)
+command_reads_back runner c words are =
+    ap shell_tokens (sym (append-nil (command_text (in_front runner) c))) ∙ text_then runner c [] [] words are nothing_reads ∙ ap Some (append-nil (command_tokens runner c))
 
-line_before : (c : NvccGeneratedSubcommand) (rest : List ℕ) (words : List (List ℕ)) → IsOfTexts c → shell_words rest ≡ Some words → shell_words (command_line c ++ rest) ≡ Some (command_words c ++ words)
+pub edge_reads_back : (runner : List (List ℕ)) (tmp : List ℕ) (group place : ℕ) (c : NvccGeneratedSubcommand) → AllByRecursion IsUtf8 runner → IsUtf8 (stamp_path tmp group place) → IsOfTexts c →
+    shell_tokens (command_text (in_front runner) c ++ touch tmp group place) ≡ Some (command_tokens runner c ++ Operator (codes "&&") ∷ Word (codes "touch") ∷ Word (chars (stamp_path tmp group place)) ∷ [])
 unfolding lib.Utf8.encode
-line_before c rest words are found = ap shell_words (before_text c rest) ∙ go (split_chars (chars rest)) refl
-  where
-    go : (o : Option (List (List ℕ))) → split_chars (chars rest) ≡ o → shell_words (line_bytes c (10 ∷ rest)) ≡ Some (command_words c ++ words)
-    go None none = let both : None ≡ Some words = sym (ap (option_map (map encode_utf8_all)) none) ∙ found in absurd cc
-    go (Some more) some =
-        let both : Some (map encode_utf8_all more) ≡ Some words = sym (ap (option_map (map encode_utf8_all)) some) ∙ found in
-        let same : map encode_utf8_all more ≡ words = cc in
-        line_then c (10 ∷ rest) more are
-        (ap (words_from (begins_piece 97).0) (plain_chars (10 ∷ []) rest refl refl) ∙ reading (begins_piece 97).0 10 (chars rest) (reads_between 32).0 EndsWord more refl some)
-        ∙ ap (λ ws. Some (command_words c ++ ws)) same
+edge_reads_back runner tmp group place c words path are =
+    let stamp_text = written (stamp_path tmp group place ∷ []) in
+    let stamp_tokens : List Token = Word (chars (stamp_path tmp group place)) ∷ [] in
+    let stamp_reads : shell_tokens stamp_text ≡ Some stamp_tokens =
+    ap shell_tokens (sym (append-nil stamp_text)) ∙ written_then (stamp_path tmp group place) [] [] [] (path, tt) (ap is_apart chars-nil) nothing_reads in
+    text_then runner c (touch tmp group place) (Operator (codes "&&") ∷ Word (codes "touch") ∷ stamp_tokens) words are
+    (ap tokens (plain_chars (codes " && touch ") stamp_text refl refl) ∙ reads_touch (chars stamp_text) stamp_tokens stamp_reads)
 
-group_before : (group : List NvccGeneratedSubcommand) (rest : List ℕ) (words : List (List ℕ)) → AllByRecursion IsOfTexts group → shell_words rest ≡ Some words → shell_words (group_lines group ++ rest) ≡ Some (flat_map command_words group ++ words)
-group_before [] rest words are found = found
-group_before (c ∷ group) rest words are found =
-    ap shell_words (append_assoc (command_line c) (group_lines group) rest)
-    ∙ line_before c (group_lines group ++ rest) (flat_map command_words group ++ words) are.0 (group_before group rest words are.1 found)
-    ∙ ap Some (sym (append_assoc (command_words c) (flat_map command_words group) words))
-
-groups_read : (groups : List (List NvccGeneratedSubcommand)) → AllByRecursion (AllByRecursion IsOfTexts) groups → shell_words (groups_lines groups) ≡ Some (flat_map (flat_map command_words) groups)
-groups_read [] are = ap (λ cs. option_map (map encode_utf8_all) (split_chars cs)) chars-nil
-groups_read (group ∷ groups) are = group_before group (groups_lines groups) (flat_map (flat_map command_words) groups) are.0 (groups_read groups are.1)
-
--- the first line
-reads_set : (rest : List ℕ) (words : List (List ℕ)) → words_from (reads_between 32).0 rest ≡ Some words → words_from (reads_between 32).0 (codes "set -e\n" ++ rest) ≡ Some (codes "set" ∷ codes "-e" ∷ words)
-reads_set rest words found =
-    reading (reads_between 32).0 115 (codes "et -e\n" ++ rest) (begins_piece 97).0 (Gives (115 ∷ [])) (codes "et" ∷ codes "-e" ∷ words) refl
-    (reading (begins_piece 97).0 101 (codes "t -e\n" ++ rest) (begins_piece 97).0 (Gives (101 ∷ [])) (codes "t" ∷ codes "-e" ∷ words) refl
-    (reading (begins_piece 97).0 116 (codes " -e\n" ++ rest) (begins_piece 97).0 (Gives (116 ∷ [])) ([] ∷ codes "-e" ∷ words) refl
-    (reading (begins_piece 97).0 32 (codes "-e\n" ++ rest) (reads_between 32).0 EndsWord (codes "-e" ∷ words) refl
-    (reading (reads_between 32).0 45 (codes "e\n" ++ rest) (begins_piece 97).0 (Gives (45 ∷ [])) (codes "e" ∷ words) refl
-    (reading (begins_piece 97).0 101 (codes "\n" ++ rest) (begins_piece 97).0 (Gives (101 ∷ [])) ([] ∷ words) refl
-    (reading (begins_piece 97).0 10 rest (reads_between 32).0 EndsWord words refl found))))))
-
-set_before : (rest : List ℕ) (words : List (List ℕ)) → shell_words rest ≡ Some words → shell_words (codes "set -e\n" ++ rest) ≡ Some (codes "set" ∷ codes "-e" ∷ words)
+line_before : (c : NvccGeneratedSubcommand) (rest : List ℕ) (ts : List Token) → IsOfTexts c → shell_tokens rest ≡ Some ts → shell_tokens (command_line c ++ rest) ≡ Some (line_tokens c ++ ts)
 unfolding lib.Utf8.encode
-set_before rest words found = ap (λ cs. option_map (map encode_utf8_all) (split_chars cs)) (plain_chars (codes "set -e\n") rest refl refl) ∙ go (split_chars (chars rest)) refl
-  where
-    go : (o : Option (List (List ℕ))) → split_chars (chars rest) ≡ o → option_map (map encode_utf8_all) (split_chars (codes "set -e\n" ++ chars rest)) ≡ Some (codes "set" ∷ codes "-e" ∷ words)
-    go None none = let both : None ≡ Some words = sym (ap (option_map (map encode_utf8_all)) none) ∙ found in absurd cc
-    go (Some more) some =
-        let both : Some (map encode_utf8_all more) ≡ Some words = sym (ap (option_map (map encode_utf8_all)) some) ∙ found in
-        let same : map encode_utf8_all more ≡ words = cc in
-        ap (option_map (map encode_utf8_all)) (reads_set (chars rest) more some) ∙ ap (λ ws. Some (codes "set" ∷ codes "-e" ∷ ws)) same
+line_before c rest ts are found =
+    ap shell_tokens (append_assoc (command_text [] c) (10 ∷ []) rest)
+    ∙ text_then [] c (10 ∷ rest) (Operator (codes "\n") ∷ ts) tt are (ap tokens (plain_chars (10 ∷ []) rest refl refl) ∙ reads_newline (chars rest) ts found)
+    ∙ ap Some (sym (append_assoc (command_tokens [] c) (Operator (codes "\n") ∷ []) ts))
 
-pub script_reads_back : (plan : Plan) → AllByRecursion (AllByRecursion IsOfTexts) plan.groups → shell_words (script plan) ≡ Some (codes "set" ∷ codes "-e" ∷ flat_map (flat_map command_words) plan.groups)
-script_reads_back plan are = set_before (groups_lines plan.groups) (flat_map (flat_map command_words) plan.groups) (groups_read plan.groups are)
+group_before : (group : List NvccGeneratedSubcommand) (rest : List ℕ) (ts : List Token) → AllByRecursion IsOfTexts group → shell_tokens rest ≡ Some ts → shell_tokens (group_lines group ++ rest) ≡ Some (flat_map line_tokens group ++ ts)
+group_before [] rest ts are found = found
+group_before (c ∷ group) rest ts are found =
+    ap shell_tokens (append_assoc (command_line c) (group_lines group) rest)
+    ∙ line_before c (group_lines group ++ rest) (flat_map line_tokens group ++ ts) are.0 (group_before group rest ts are.1 found)
+    ∙ ap Some (sym (append_assoc (line_tokens c) (flat_map line_tokens group) ts))
+
+groups_read : (groups : List (List NvccGeneratedSubcommand)) → AllByRecursion (AllByRecursion IsOfTexts) groups → shell_tokens (groups_lines groups) ≡ Some (flat_map (flat_map line_tokens) groups)
+groups_read [] are = nothing_reads
+groups_read (group ∷ groups) are = group_before group (groups_lines groups) (flat_map (flat_map line_tokens) groups) are.0 (groups_read groups are.1)
+
+pub script_reads_back : (plan : Plan) → AllByRecursion (AllByRecursion IsOfTexts) plan.groups →
+    shell_tokens (script plan) ≡ Some (Word (codes "set") ∷ Word (codes "-e") ∷ Operator (codes "\n") ∷ flat_map (flat_map line_tokens) plan.groups)
+unfolding lib.Utf8.encode
+script_reads_back plan are =
+    ap tokens (plain_chars (codes "set -e\n") (groups_lines plan.groups) refl refl)
+    ∙ reads_set (chars (groups_lines plan.groups)) (flat_map (flat_map line_tokens) plan.groups) (groups_read plan.groups are)

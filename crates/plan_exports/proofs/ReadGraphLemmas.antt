@@ -1,9 +1,10 @@
 -- What is written for Ninja is read as the edges of the plan.
-use Rattle.std.proofs.Common.{ℕ, ◌<◌, ◌+◌, ◌-◌, List, [], ◌∷◌, ◌++◌, ◌≡◌, refl, sym, ap, ◌∙◌, subst, append_assoc, append-nil, map, length, drop, Bool, true, false, cond, not, ◌&&◌, ◌==◌, eqb, eqb-true, eq-eqb, ne_eqb, ltb, Some, None, Result, Ok, Err, codes, encode_utf8_all, arith}
+use Rattle.std.proofs.Common.{ℕ, suc, ◌<◌, ◌+◌, List, [], ◌∷◌, ◌++◌, ◌≡◌, refl, sym, ap, ◌∙◌, subst, append_assoc, append-nil, map, length, drop, Bool, true, false, not, ◌&&◌, ◌==◌, eqb, eqb-true, eq-eqb, ne_eqb, Some, None, Result, Ok, Err, codes, encode_utf8_all, arith}
 use Rattle.std.specs.List.{AllByRecursion, flat_map, list_all}
 use Rattle.std.specs.Option.{option_map}
 use Rattle.std.specs.Str.{IsUtf8, IsAscii, chars}
 use Rattle.std.specs.Int.Digits.{digits_of}
+use Rattle.std.proofs.lemmas.List.{get_or_at, get_or-drop, drop-drop, length_push, length-append}
 use Rattle.std.proofs.lemmas.Bool.{false≢true, and_parts, and_from, not-true, cond_both, eqb-false}
 use Rattle.std.proofs.lemmas.Int.Digits.{all_below_base_digits_of}
 use Rattle.std.proofs.lemmas.Str.{encodes-chars, inside_one, encode_ascii, IsUtf8-append, IsUtf8-from_ascii}
@@ -28,9 +29,11 @@ use Rattle.plan_exports.specs.CommandText.{assignment, env_words, command_text}
 use Rattle.plan_exports.specs.Judging.{holds, holds_text, holds_variables, holds_command, judged_command, judged_group, judged_groups, and_then}
 use Rattle.plan_exports.specs.Script.{unless_refused}
 use Rattle.command_groups.specs.Reasons.{reason_name}
-use Rattle.plan_exports.specs.Graph.{escaped_char, escaped, stamp, stamp_below, stamp_path, launcher, touch, edge_command, edge_line, edge, needs_at, edges_from as written_edges, last_stamp, last_stamps, waits_for, group_needs, group_edges, comment, rule, head, graph, holds_dropped, judged_rest, ninja_answer}
+use Rattle.plan_exports.specs.Graph.{escaped_char, escaped, stamp, stamp_below, stamp_path, runner, touch, edge_command, edge_line, edge, places_in, places_from, plan_places, place_at, stamp_at, stamps_at, edges_from as written_edges, group_edges, comment, rule, head, graph, holds_dropped, judged_rest, ninja_answer}
 use Rattle.plan_exports.specs.ReadBack.{IsOfTexts}
-use Rattle.plan_exports.specs.ReadGraph.{parts_at, behind, Edge, path_of, head_parts, head_behind, with_edge, edges_from, edges_in, edges_of_lines, edges_of, last_place, last_places, waits_at, group_waits, edge_of, group_edges_of, plan_edges, IsDroppedText}
+use Rattle.plan_exports.specs.ReadGraph.{parts_at, behind, Edge, path_of, head_parts, head_behind, with_edge, edges_from, edges_in, edges_of_lines, edges_of, path_at, edge_at, edges_at, plan_edges, IsDroppedText}
+use Rattle.command_files.specs.Order.{needs_at}
+use Rattle.command_files.specs.PlanNeeds.{plan_needs}
 use Rattle.plan_exports.proofs.TextLemmas.{written_utf8}
 use Rattle.plan_exports.proofs.ValueLemmas.{value_reads_back}
 
@@ -166,6 +169,13 @@ stamp-no_blank group place = lacks-stamp 32 group place (λ d small. ne_eqb (48 
 stamp-no_colon : (group place : ℕ) → lacks 58 (stamp_text group place) ≡ true
 stamp-no_colon group place = lacks-stamp 58 group place (λ d small. ne_eqb (48 + d) 58 (λ e. omega arith)) refl refl refl
 
+pub utf8-path : (tmp : List ℕ) (group place : ℕ) → IsUtf8 tmp → IsUtf8 (stamp_path tmp group place)
+unfolding lib.Utf8.encode
+utf8-path tmp group place is =
+    IsUtf8-append tmp (codes "/" ++ stamp group place) is
+    (IsUtf8-append (codes "/zigrunk.") (numeral group ++ (codes "." ++ numeral place)) (codes "/zigrunk.", (refl, refl))
+    (IsUtf8-append (numeral group) (codes "." ++ numeral place) (utf8-numeral group) (IsUtf8-append (codes ".") (numeral place) (codes ".", (refl, refl)) (utf8-numeral place))))
+
 line-path : (tmp : List ℕ) (group place : ℕ) → IsLine tmp → IsLine (stamp_path tmp group place)
 unfolding lib.Utf8.encode
 line-path tmp group place is =
@@ -212,15 +222,15 @@ line-command front c is are h =
     let cd = line-append (written (c.cwd ∷ [])) (codes " && " ++ (written (env_words c) ++ (codes " " ++ (front ++ (written (c.exe ∷ c.args) ++ codes " )"))))) (line-written (c.cwd ∷ []) ((are.cwd, held-text c.cwd first.0), tt)) behind_cd in
     line-append (codes "( cd ") (written (c.cwd ∷ []) ++ (codes " && " ++ (written (env_words c) ++ (codes " " ++ (front ++ (written (c.exe ∷ c.args) ++ codes " )")))))) ((codes "( cd ", (refl, refl)), refl) cd
 
-line-launcher : (cacheable : Cacheable) → IsLine (launcher cacheable)
+line-runner : (cacheable : Cacheable) → IsLine (runner cacheable)
 unfolding lib.Utf8.encode
-line-launcher Yes = ((codes "${ZIGRUNK_LAUNCHER-} ", (refl, refl)), refl)
-line-launcher No = (([], (refl, refl)), refl)
+line-runner Yes = ((codes "${ZIGRUNK_RUNNER-} ${ZIGRUNK_LAUNCHER-} ", (refl, refl)), refl)
+line-runner No = ((codes "${ZIGRUNK_RUNNER-} ", (refl, refl)), refl)
 
 line-edge : (tmp : List ℕ) (group place : ℕ) (c : NvccGeneratedSubcommand) → IsLine tmp → IsOfTexts c → holds_command Ninja c ≡ true → IsLine (edge_command tmp group place c)
 unfolding lib.Utf8.encode
 line-edge tmp group place c is are h =
-    line-append (command_text (launcher c.cacheable) c) (touch tmp group place) (line-command (launcher c.cacheable) c (line-launcher c.cacheable) are h)
+    line-append (command_text (runner c.cacheable) c) (touch tmp group place) (line-command (runner c.cacheable) c (line-runner c.cacheable) are h)
     (line-append (codes " && touch ") (written (stamp_path tmp group place ∷ [])) ((codes " && touch ", (refl, refl)), refl) (line-written (stamp_path tmp group place ∷ []) (line-path tmp group place is, tt)))
 
 -- ---- parts of texts
@@ -241,47 +251,25 @@ parts-end byte part h = ap (parts_at byte) (sym (append-nil part)) ∙ parts-ont
 
 -- ---- needs
 
-abbrev below_all : List (ℕ × ℕ) → List ℕ
-below_all places = flat_map (λ p. stamp_below p.0 p.1) places
+-- the stamp of the command with a number, as it stands behind a blank
+abbrev text_at : List (ℕ × ℕ) → ℕ → List ℕ
+text_at places n = stamp_text (place_at places n).0 (place_at places n).1
 
-below-append : (xs ys : List (ℕ × ℕ)) → below_all (xs ++ ys) ≡ below_all xs ++ below_all ys
-below-append [] ys = refl
-below-append (p ∷ xs) ys = ap (λ t. stamp_below p.0 p.1 ++ t) (below-append xs ys) ∙ sym (append_assoc (stamp_below p.0 p.1) (below_all xs) (below_all ys))
+lacks-stamps : (byte : ℕ) (places : List (ℕ × ℕ)) (numbers : List ℕ) → ((group place : ℕ) → lacks byte (stamp_below group place) ≡ true) → lacks byte (stamps_at places numbers) ≡ true
+lacks-stamps byte places [] each = refl
+lacks-stamps byte places (n ∷ numbers) each =
+    lacks-append byte (stamp_at places n) (stamps_at places numbers) (each (place_at places n).0 (place_at places n).1) (lacks-stamps byte places numbers each)
 
-below-one : (b : Bool) (p : ℕ × ℕ) → cond b [] (stamp_below p.0 p.1) ≡ below_all (cond b [] (p ∷ []))
-below-one true p = refl
-below-one false p = sym (append-nil (stamp_below p.0 p.1))
-
-below-choice : (b : Bool) (xs : List (ℕ × ℕ)) (t : List ℕ) → t ≡ below_all xs → cond b t [] ≡ below_all (cond b xs [])
-below-choice true xs t e = e
-below-choice false xs t e = refl
-
-below-last : (below group : ℕ) (groups : List (List NvccGeneratedSubcommand)) → last_stamps below group groups ≡ below_all (last_places below group groups)
-below-last below group [] = refl
-below-last below group (commands ∷ groups) =
-    let here = below-choice (ltb group below) (last_place group commands) (last_stamp group commands) (below-one (eqb (length commands) 0) (group, length commands - 1)) in
-    ap (λ t. t ++ last_stamps below (group + 1) groups) here
-    ∙ ap (λ t. below_all (cond (ltb group below) (last_place group commands) []) ++ t) (below-last below (group + 1) groups)
-    ∙ sym (below-append (cond (ltb group below) (last_place group commands) []) (last_places below (group + 1) groups))
-
-below-needs : (group place : ℕ) (first : List (ℕ × ℕ)) (b : Bool) → eqb place 0 ≡ b → needs_at group place (below_all first) ≡ below_all (waits_at group place first)
-below-needs group place first true is = rw is refl
-below-needs group place first false is = rw is (sym (append-nil (stamp_below group (place - 1))))
-
-lacks-below : (byte : ℕ) (places : List (ℕ × ℕ)) → ((p : ℕ × ℕ) → lacks byte (stamp_below p.0 p.1) ≡ true) → lacks byte (below_all places) ≡ true
-lacks-below byte [] each = refl
-lacks-below byte (p ∷ places) each = lacks-append byte (stamp_below p.0 p.1) (below_all places) (each p) (lacks-below byte places each)
-
-parts-below : (places : List (ℕ × ℕ)) → parts_at 32 (below_all places) ≡ [] ∷ map (λ p. stamp_text p.0 p.1) places
-parts-below [] = refl
-parts-below (p ∷ places) =
+parts-stamps : (places : List (ℕ × ℕ)) (numbers : List ℕ) → parts_at 32 (stamps_at places numbers) ≡ [] ∷ map (text_at places) numbers
+parts-stamps places [] = refl
+parts-stamps places (n ∷ numbers) =
     ap (λ parts. [] ∷ parts)
-    (parts-onto 32 (stamp_text p.0 p.1) (below_all places) [] (map (λ q. stamp_text q.0 q.1) places) (stamp-no_blank p.0 p.1) (parts-below places)
-    ∙ ap (λ t. t ∷ map (λ q. stamp_text q.0 q.1) places) (append-nil (stamp_text p.0 p.1)))
+    (parts-onto 32 (text_at places n) (stamps_at places numbers) [] (map (text_at places) numbers) (stamp-no_blank (place_at places n).0 (place_at places n).1) (parts-stamps places numbers)
+    ∙ ap (λ t. t ∷ map (text_at places) numbers) (append-nil (text_at places n)))
 
-paths-below : (tmp : List ℕ) (places : List (ℕ × ℕ)) → map (path_of tmp) (map (λ p. stamp_text p.0 p.1) places) ≡ map (λ p. stamp_path tmp p.0 p.1) places
-paths-below tmp [] = refl
-paths-below tmp (p ∷ places) = ap (λ ps. stamp_path tmp p.0 p.1 ∷ ps) (paths-below tmp places)
+paths-stamps : (tmp : List ℕ) (places : List (ℕ × ℕ)) (numbers : List ℕ) → map (path_of tmp) (map (text_at places) numbers) ≡ map (path_at tmp places) numbers
+paths-stamps tmp places [] = refl
+paths-stamps tmp places (n ∷ numbers) = ap (λ ps. path_at tmp places n ∷ ps) (paths-stamps tmp places numbers)
 
 -- ---- edges
 
@@ -301,32 +289,39 @@ edge-lines tmp group place needs c rest =
     ∙ ap (λ t. stamp_below group place ++ (codes ": run" ++ t)) (append_assoc needs line rest ∙ ap (λ t. needs ++ (codes "\n  line = " ++ t)) (append_assoc value (10 ∷ []) rest))
     ∙ sym (append_assoc (stamp_below group place) (codes ": run" ++ needs) (10 ∷ (value_line (edge_command tmp group place c) ++ 10 ∷ rest))))
 
-head-read : (tmp : List ℕ) (group place : ℕ) (places : List (ℕ × ℕ)) →
-    head_behind tmp (behind (codes "build ") (build_line group place (below_all places))) ≡ Some (stamp_path tmp group place, map (λ p. stamp_path tmp p.0 p.1) places)
-head-read tmp group place places =
-    let needs = codes " run" ++ below_all places in
-    let paths = map (λ p. stamp_path tmp p.0 p.1) places in
-    let no_colon : lacks 58 needs ≡ true = lacks-append 58 (codes " run") (below_all places) refl (lacks-below 58 places (λ p. stamp-no_colon p.0 p.1)) in
+head-read : (tmp : List ℕ) (places : List (ℕ × ℕ)) (group place : ℕ) (numbers : List ℕ) →
+    head_behind tmp (behind (codes "build ") (build_line group place (stamps_at places numbers))) ≡ Some (stamp_path tmp group place, map (path_at tmp places) numbers)
+head-read tmp places group place numbers =
+    let needs = codes " run" ++ stamps_at places numbers in
+    let no_colon : lacks 58 needs ≡ true = lacks-append 58 (codes " run") (stamps_at places numbers) refl (lacks-stamps 58 places numbers stamp-no_colon) in
     ap (head_parts tmp) (parts-past 58 (stamp_text group place) needs (stamp-no_colon group place) ∙ ap (λ ps. stamp_text group place ∷ ps) (parts-end 58 needs no_colon))
-    ∙ ap (λ ps. option_map (λ n. (stamp_path tmp group place, n)) (Some (map (path_of tmp) (drop 1 ps)))) (parts-below places)
-    ∙ ap (λ n. Some (stamp_path tmp group place, n)) (paths-below tmp places)
+    ∙ ap (λ ps. option_map (λ n. (stamp_path tmp group place, n)) (Some (map (path_of tmp) (drop 1 ps)))) (parts-stamps places numbers)
+    ∙ ap (λ n. Some (stamp_path tmp group place, n)) (paths-stamps tmp places numbers)
+
+-- the edge of a command by its place
+abbrev edge_of : List ℕ → List (ℕ × ℕ) → ℕ → ℕ → List ℕ → NvccGeneratedSubcommand → Edge
+edge_of tmp places group place numbers c = record {
+  output = stamp_path tmp group place;
+  needs = map (path_at tmp places) numbers;
+  command = edge_command tmp group place c;
+}
 
 -- the edge of a command, before further lines
-edge-read : (tmp : List ℕ) (group place : ℕ) (places : List (ℕ × ℕ)) (c : NvccGeneratedSubcommand) (rest : List ℕ) (es : List Edge) →
+edge-read : (tmp : List ℕ) (places : List (ℕ × ℕ)) (group place : ℕ) (numbers : List ℕ) (c : NvccGeneratedSubcommand) (rest : List ℕ) (es : List Edge) →
     IsLine tmp → IsOfTexts c → holds_command Ninja c ≡ true → edges_from tmp None (parts_at 10 rest) ≡ Some es →
-    edges_from tmp None (parts_at 10 (edge tmp group place (below_all places) c ++ rest)) ≡ Some (edge_of tmp group place places c ∷ es)
-edge-read tmp group place places c rest es is are h found =
+    edges_from tmp None (parts_at 10 (edge tmp group place (stamps_at places numbers) c ++ rest)) ≡ Some (edge_of tmp places group place numbers c ∷ es)
+edge-read tmp places group place numbers c rest es is are h found =
     let text = edge_command tmp group place c in
     let line = line-edge tmp group place c is are h in
-    let needs = below_all places in
+    let needs = stamps_at places numbers in
     let no_newline : lacks 10 (build_line group place needs) ≡ true =
-    lacks-append 10 (stamp_text group place) (codes ": run" ++ needs) (stamp-no_newline group place) (lacks-append 10 (codes ": run") needs refl (lacks-below 10 places (λ p. stamp-no_newline p.0 p.1))) in
-    let head : List ℕ × List (List ℕ) = (stamp_path tmp group place, map (λ p. stamp_path tmp p.0 p.1) places) in
+    lacks-append 10 (stamp_text group place) (codes ": run" ++ needs) (stamp-no_newline group place) (lacks-append 10 (codes ": run") needs refl (lacks-stamps 10 places numbers stamp-no_newline)) in
+    let head : List ℕ × List (List ℕ) = (stamp_path tmp group place, map (path_at tmp places) numbers) in
     ap (λ t. edges_from tmp None (parts_at 10 t)) (edge-lines tmp group place needs c rest)
     ∙ ap (edges_from tmp None)
     (parts-past 10 (build_line group place needs) (value_line text ++ 10 ∷ rest) no_newline
     ∙ ap (λ ls. build_line group place needs ∷ ls) (parts-past 10 (value_line text) rest (lacks-append 10 (codes "  line = ") (escaped text) refl (line-escaped text line))))
-    ∙ ap (λ o. edges_from tmp o (value_line text ∷ parts_at 10 rest)) (head-read tmp group place places)
+    ∙ ap (λ o. edges_from tmp o (value_line text ∷ parts_at 10 rest)) (head-read tmp places group place numbers)
     ∙ ap (λ o. with_edge head o (edges_from tmp None (parts_at 10 rest))) (value_reads_back text line.0)
     ∙ ap (with_edge head (Some text)) found
 
@@ -341,33 +336,96 @@ then-both : (one next : Result (Unit {0}) Refusal) → and_then one next ≡ Ok 
 then-both (Ok tt) next h = (refl, h)
 then-both (Err refusal) next h = absurd cc
 
-group-read : (tmp : List ℕ) (group place : ℕ) (first : List (ℕ × ℕ)) (commands : List NvccGeneratedSubcommand) (rest : List ℕ) (es : List Edge) →
-    IsLine tmp → AllByRecursion IsOfTexts commands → judged_group Ninja commands ≡ Ok tt → edges_from tmp None (parts_at 10 rest) ≡ Some es →
-    edges_from tmp None (parts_at 10 (written_edges tmp group place (below_all first) commands ++ rest)) ≡ Some (group_edges_of tmp group place first commands ++ es)
-group-read tmp group place first [] rest es is are h found = found
-group-read tmp group place first (c ∷ commands) rest es is are h found =
-    let judged = then-both (judged_command Ninja c) (judged_group Ninja commands) h in
-    let waits = waits_at group place first in
-    let more = written_edges tmp group (place + 1) (below_all first) commands in
-    ap (λ t. edges_from tmp None (parts_at 10 t))
-    (append_assoc (edge tmp group place (needs_at group place (below_all first)) c) more rest
-    ∙ ap (λ n. edge tmp group place n c ++ (more ++ rest)) (below-needs group place first (eqb place 0) refl))
-    ∙ edge-read tmp group place waits c (more ++ rest) (group_edges_of tmp group (place + 1) first commands ++ es) is are.0 (held-command c (holds_command Ninja c) refl judged.0)
-    (group-read tmp group (place + 1) first commands rest es is are.1 judged.1 found)
+-- the edges of a group's commands, and of groups, by their places
+abbrev group_edges_of : List ℕ → List (ℕ × ℕ) → ℕ → ℕ → List (List ℕ) → List NvccGeneratedSubcommand → List Edge
+group_edges_of tmp places group place needs [] = []
+group_edges_of tmp places group place needs (c ∷ commands) =
+    edge_of tmp places group place (needs_at needs place) c ∷ group_edges_of tmp places group (place + 1) needs commands
 
-groups-read : (tmp : List ℕ) (all : List (List NvccGeneratedSubcommand)) (group : ℕ) (groups : List (List NvccGeneratedSubcommand)) (rest : List ℕ) (es : List Edge) →
+abbrev all_edges_of : List ℕ → List (ℕ × ℕ) → ℕ → List (List ℕ) → List (List NvccGeneratedSubcommand) → List Edge
+all_edges_of tmp places group needs [] = []
+all_edges_of tmp places group needs (commands ∷ groups) =
+    group_edges_of tmp places group 0 needs commands ++ all_edges_of tmp places (group + 1) (drop (length commands) needs) groups
+
+group-read : (tmp : List ℕ) (places : List (ℕ × ℕ)) (group place : ℕ) (needs : List (List ℕ)) (commands : List NvccGeneratedSubcommand) (rest : List ℕ) (es : List Edge) →
+    IsLine tmp → AllByRecursion IsOfTexts commands → judged_group Ninja commands ≡ Ok tt → edges_from tmp None (parts_at 10 rest) ≡ Some es →
+    edges_from tmp None (parts_at 10 (written_edges tmp places group place needs commands ++ rest)) ≡ Some (group_edges_of tmp places group place needs commands ++ es)
+group-read tmp places group place needs [] rest es is are h found = found
+group-read tmp places group place needs (c ∷ commands) rest es is are h found =
+    let judged = then-both (judged_command Ninja c) (judged_group Ninja commands) h in
+    let numbers = needs_at needs place in
+    let more = written_edges tmp places group (place + 1) needs commands in
+    ap (λ t. edges_from tmp None (parts_at 10 t)) (append_assoc (edge tmp group place (stamps_at places numbers) c) more rest)
+    ∙ edge-read tmp places group place numbers c (more ++ rest) (group_edges_of tmp places group (place + 1) needs commands ++ es) is are.0 (held-command c (holds_command Ninja c) refl judged.0)
+    (group-read tmp places group (place + 1) needs commands rest es is are.1 judged.1 found)
+
+groups-read : (tmp : List ℕ) (places : List (ℕ × ℕ)) (group : ℕ) (needs : List (List ℕ)) (groups : List (List NvccGeneratedSubcommand)) (rest : List ℕ) (es : List Edge) →
     IsLine tmp → AllByRecursion (AllByRecursion IsOfTexts) groups → judged_groups Ninja groups ≡ Ok tt → edges_from tmp None (parts_at 10 rest) ≡ Some es →
-    edges_from tmp None (parts_at 10 (group_edges tmp all group groups ++ rest)) ≡ Some (plan_edges tmp all group groups ++ es)
-groups-read tmp all group [] rest es is are h found = found
-groups-read tmp all group (commands ∷ groups) rest es is are h found =
+    edges_from tmp None (parts_at 10 (group_edges tmp places group needs groups ++ rest)) ≡ Some (all_edges_of tmp places group needs groups ++ es)
+groups-read tmp places group needs [] rest es is are h found = found
+groups-read tmp places group needs (commands ∷ groups) rest es is are h found =
     let judged = then-both (judged_group Ninja commands) (judged_groups Ninja groups) h in
-    let more = group_edges tmp all (group + 1) groups in
-    let edges = plan_edges tmp all (group + 1) groups in
-    ap (λ t. edges_from tmp None (parts_at 10 t))
-    (append_assoc (written_edges tmp group 0 (group_needs all group) commands) more rest
-    ∙ ap (λ n. written_edges tmp group 0 n commands ++ (more ++ rest)) (below-last (waits_for (length all) group) 0 all))
-    ∙ group-read tmp group 0 (group_waits all group) commands (more ++ rest) (edges ++ es) is are.0 judged.0 (groups-read tmp all (group + 1) groups rest es is are.1 judged.1 found)
-    ∙ ap Some (sym (append_assoc (group_edges_of tmp group 0 (group_waits all group) commands) edges es))
+    let behind_these = drop (length commands) needs in
+    let more = group_edges tmp places (group + 1) behind_these groups in
+    let edges = all_edges_of tmp places (group + 1) behind_these groups in
+    ap (λ t. edges_from tmp None (parts_at 10 t)) (append_assoc (written_edges tmp places group 0 needs commands) more rest)
+    ∙ group-read tmp places group 0 needs commands (more ++ rest) (edges ++ es) is are.0 judged.0 (groups-read tmp places (group + 1) behind_these groups rest es is are.1 judged.1 found)
+    ∙ ap Some (sym (append_assoc (group_edges_of tmp places group 0 needs commands) edges es))
+
+-- ---- the same edges by the numbers of commands
+
+-- an edge of a command whose place and needs are those of its number
+edge-numbered : (tmp : List ℕ) (places : List (ℕ × ℕ)) (needs : List (List ℕ)) (group place n : ℕ) (numbers : List ℕ) (c : NvccGeneratedSubcommand) →
+    place_at places n ≡ (group, place) → numbers ≡ needs_at needs n → edge_of tmp places group place numbers c ≡ edge_at tmp places needs n c
+edge-numbered tmp places needs group place n numbers c at same =
+    ap (λ ns. edge_of tmp places group place ns c) same ∙ ap (λ p. edge_of tmp places p.0 p.1 (needs_at needs n) c) (sym at)
+
+group-numbered : (tmp : List ℕ) (places : List (ℕ × ℕ)) (needs : List (List ℕ)) (group place n : ℕ) (commands : List NvccGeneratedSubcommand) (front more : List (ℕ × ℕ)) →
+    places ≡ front ++ (places_in group place commands ++ more) → length front ≡ n + place →
+    group_edges_of tmp places group place (drop n needs) commands ≡ edges_at tmp places needs (n + place) commands
+group-numbered tmp places needs group place n [] front more are long = refl
+group-numbered tmp places needs group place n (c ∷ commands) front more are long =
+    let later = places_in group (place + 1) commands ++ more in
+    let at : place_at places (n + place) ≡ (group, place) = ap (λ ps. place_at ps (n + place)) are ∙ get_or_at front (group, place) later (0, 0) (n + place) long in
+    let next : places ≡ (front ++ (group, place) ∷ []) ++ later = are ∙ sym (append_assoc front ((group, place) ∷ []) later) in
+    let longer : length (front ++ (group, place) ∷ []) ≡ n + (place + 1) = length_push front (group, place) ∙ omega (arith, long) in
+    let step : n + (place + 1) ≡ n + place + 1 = omega arith in
+    cc (
+      edge-numbered tmp places needs group place (n + place) (needs_at (drop n needs) place) c at (get_or-drop n needs place []),
+      group-numbered tmp places needs group (place + 1) n commands (front ++ (group, place) ∷ []) more next longer
+          ∙ ap (λ m. edges_at tmp places needs m commands) step,
+    )
+
+edges-append : (tmp : List ℕ) (places : List (ℕ × ℕ)) (needs : List (List ℕ)) (n : ℕ) (xs ys : List NvccGeneratedSubcommand) →
+    edges_at tmp places needs n (xs ++ ys) ≡ edges_at tmp places needs n xs ++ edges_at tmp places needs (n + length xs) ys
+edges-append tmp places needs n [] ys = ap (λ m. edges_at tmp places needs m ys) (omega arith)
+edges-append tmp places needs n (x ∷ xs) ys =
+    let step : n + 1 + length xs ≡ n + length (x ∷ xs) = omega arith in
+    ap (λ es. edge_at tmp places needs n x ∷ es)
+    (edges-append tmp places needs (n + 1) xs ys ∙ ap (λ m. edges_at tmp places needs (n + 1) xs ++ edges_at tmp places needs m ys) step)
+
+length-places : (group place : ℕ) (commands : List NvccGeneratedSubcommand) → length (places_in group place commands) ≡ length commands
+length-places group place [] = refl
+length-places group place (c ∷ commands) = ap suc (length-places group (place + 1) commands)
+
+all-numbered : (tmp : List ℕ) (places : List (ℕ × ℕ)) (needs : List (List ℕ)) (group n : ℕ) (groups : List (List NvccGeneratedSubcommand)) (front : List (ℕ × ℕ)) →
+    places ≡ front ++ places_from group groups → length front ≡ n →
+    all_edges_of tmp places group (drop n needs) groups ≡ edges_at tmp places needs n (flat_map (λ commands. commands) groups)
+all-numbered tmp places needs group n [] front are long = refl
+all-numbered tmp places needs group n (commands ∷ groups) front are long =
+    let here = places_in group 0 commands in
+    let later = places_from (group + 1) groups in
+    let none : n + 0 ≡ n = omega arith in
+    let first : group_edges_of tmp places group 0 (drop n needs) commands ≡ edges_at tmp places needs n commands =
+    group-numbered tmp places needs group 0 n commands front later are (long ∙ sym none) ∙ ap (λ m. edges_at tmp places needs m commands) none in
+    let next : places ≡ (front ++ here) ++ later = are ∙ sym (append_assoc front here later) in
+    let longer : length (front ++ here) ≡ n + length commands = length-append front here ∙ omega (arith, long, length-places group 0 commands) in
+    let rest : all_edges_of tmp places (group + 1) (drop (length commands) (drop n needs)) groups ≡ edges_at tmp places needs (n + length commands) (flat_map (λ cs. cs) groups) =
+    ap (λ ns. all_edges_of tmp places (group + 1) ns groups) (drop-drop (length commands) n needs)
+    ∙ all-numbered tmp places needs (group + 1) (n + length commands) groups (front ++ here) next longer in
+    ap (λ es. es ++ all_edges_of tmp places (group + 1) (drop (length commands) (drop n needs)) groups) first
+    ∙ ap (λ es. edges_at tmp places needs n commands ++ es) rest
+    ∙ sym (edges-append tmp places needs n commands (flat_map (λ cs. cs) groups))
 
 -- ---- comments
 
@@ -410,13 +468,15 @@ head-lines tmp rest is =
     ∙ parts-past 10 (codes "tmp = " ++ escaped tmp) (codes "builddir = ${tmp}\nrule run\n  command = ${line} || { code=$$?; echo $$code > ${out}.status; exit $$code; }\n" ++ rest) (lacks-append 10 (codes "tmp = ") (escaped tmp) refl (line-escaped tmp is))
 
 graph-reads : (tmp : List ℕ) (plan : Plan) → IsLine tmp → AllByRecursion (AllByRecursion IsOfTexts) plan.groups → AllByRecursion IsDroppedText plan.dropped →
-    judged_groups Ninja plan.groups ≡ Ok tt → list_all holds_dropped plan.dropped ≡ true → edges_of (graph tmp plan) ≡ Some (plan_edges tmp plan.groups 0 plan.groups)
+    judged_groups Ninja plan.groups ≡ Ok tt → list_all holds_dropped plan.dropped ≡ true → edges_of (graph tmp plan) ≡ Some (plan_edges tmp plan)
 graph-reads tmp plan is groups dropped judged held =
-    let rest = group_edges tmp plan.groups 0 plan.groups ++ flat_map comment plan.dropped in
+    let places = plan_places plan in
+    let needs = plan_needs plan in
+    let rest = group_edges tmp places 0 needs plan.groups ++ flat_map comment plan.dropped in
     ap edges_of_lines (head-lines tmp rest is)
     ∙ ap (λ o. edges_in o (codes "builddir = ${tmp}" ∷ codes "rule run" ∷ codes "  command = ${line} || { code=$$?; echo $$code > ${out}.status; exit $$code; }" ∷ parts_at 10 rest)) (value_reads_back tmp is.0)
-    ∙ groups-read tmp plan.groups 0 plan.groups (flat_map comment plan.dropped) [] is groups judged (comments-read tmp plan.dropped dropped held)
-    ∙ ap Some (append-nil (plan_edges tmp plan.groups 0 plan.groups))
+    ∙ groups-read tmp places 0 needs plan.groups (flat_map comment plan.dropped) [] is groups judged (comments-read tmp plan.dropped dropped held)
+    ∙ ap Some (append-nil (all_edges_of tmp places 0 needs plan.groups) ∙ all-numbered tmp places needs 0 0 plan.groups [] refl refl)
 
 held-rest : (tmp : List ℕ) (dropped : List Dropped) (b : Bool) → (holds_text Ninja tmp && list_all holds_dropped dropped) ≡ b → judged_rest tmp dropped ≡ Ok tt → (holds_text Ninja tmp && list_all holds_dropped dropped) ≡ true
 held-rest tmp dropped true e h = e
@@ -430,7 +490,7 @@ unrefused (Ok tt) made text h = (refl, cc)
 unrefused (Err refusal) made text h = absurd cc
 
 pub graph_reads_back : (tmp : List ℕ) (plan : Plan) (text : List ℕ) → IsUtf8 tmp → AllByRecursion (AllByRecursion IsOfTexts) plan.groups → AllByRecursion IsDroppedText plan.dropped →
-    ninja_answer tmp plan ≡ Ok text → edges_of text ≡ Some (plan_edges tmp plan.groups 0 plan.groups)
+    ninja_answer tmp plan ≡ Ok text → edges_of text ≡ Some (plan_edges tmp plan)
 graph_reads_back tmp plan text is groups dropped h =
     let answer = unrefused (and_then (judged_rest tmp plan.dropped) (judged_groups Ninja plan.groups)) (graph tmp plan) text h in
     let judged = then-both (judged_rest tmp plan.dropped) (judged_groups Ninja plan.groups) answer.0 in

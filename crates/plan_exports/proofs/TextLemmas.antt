@@ -4,7 +4,7 @@ use Rattle.std.specs.List.{AllByRecursion, flat_map}
 use Rattle.std.specs.Str.{IsUtf8, chars}
 use Rattle.std.proofs.Math.Utf8.{scalars}
 use Rattle.std.proofs.lemmas.Bool.{cond_both, and_parts}
-use Rattle.std.proofs.lemmas.Str.{chars-append, chars-encodes, encodes-chars, scalars-chars, IsUtf8-append}
+use Rattle.std.proofs.lemmas.Str.{chars-append, chars-encodes, scalars-chars, IsUtf8-append}
 use Rattle.shell_words.specs.Shell.{backslash, single_quote}
 use Rattle.shell_words.specs.Shell.Quoting.{is_plain, quoted_char, quoted_word, further, quoted, written}
 use Rattle.plan_exports.specs.CommandText.{assignment}
@@ -50,18 +50,13 @@ written_chars words rest are =
     chars-append (written words) rest (written_utf8 words are) ∙ ap (λ t. t ++ chars rest) (chars-encodes (quoted (map chars words)) (scalars_words words are))
 
 -- the characters of a text of ASCII
-pub plain_text : (cs : List ℕ) → scalars cs ≡ true → encode_utf8_all cs ≡ cs → chars cs ≡ cs
+plain_text : (cs : List ℕ) → scalars cs ≡ true → encode_utf8_all cs ≡ cs → chars cs ≡ cs
 plain_text cs are same = ap chars (sym same) ∙ chars-encodes cs are
 
 -- the characters of a text of ASCII before a text
 pub plain_chars : (cs rest : List ℕ) → scalars cs ≡ true → encode_utf8_all cs ≡ cs → chars (cs ++ rest) ≡ cs ++ chars rest
 plain_chars cs rest are same =
     chars-append cs rest (cs, (are, same)) ∙ ap (λ t. t ++ chars rest) (plain_text cs are same)
-
--- words are spelled by their characters
-pub spelled_words : (words : List (List ℕ)) → AllByRecursion IsUtf8 words → map encode_utf8_all (map chars words) ≡ words
-spelled_words [] are = refl
-spelled_words (word ∷ words) are = cc (encodes-chars word are.0, spelled_words words are.1)
 
 -- assignments of UTF-8 are UTF-8
 pub assignments_utf8 : (variables : List (List ℕ × List ℕ)) → AllByRecursion (λ p. IsUtf8 p.0 × IsUtf8 p.1) variables → AllByRecursion IsUtf8 (map assignment variables)

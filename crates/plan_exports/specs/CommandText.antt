@@ -18,8 +18,3 @@ abbrev pub command_text : List ℕ → NvccGeneratedSubcommand → List ℕ
 command_text launcher c =
     codes "( cd " ++ (written (c.cwd ∷ []) ++ (codes " && " ++ (written (env_words c)
     ++ (codes " " ++ (launcher ++ (written (c.exe ∷ c.args) ++ codes " )"))))))
-
--- the words that a shell reads in a command's text without a launcher
-abbrev pub command_words : NvccGeneratedSubcommand → List (List ℕ)
-command_words c =
-    codes "(" ∷ codes "cd" ∷ c.cwd ∷ codes "&&" ∷ (env_words c ++ (c.exe ∷ (c.args ++ codes ")" ∷ [])))

@@ -1,5 +1,5 @@
 -- The texts of a small plan, worked out by hand.
-use Rattle.std.specs.Prelude.{◌≡◌, ℕ, List, [], ◌∷◌, codes, Ok, Err, refl}
+use Rattle.std.specs.Prelude.{◌≡◌, ℕ, List, [], ◌∷◌, map, codes, Some, None, Ok, Err, refl}
 use Rattle.std.specs.Str.{chars, is_utf8}
 use Rattle.cuda_below.specs.declared.command.Cacheable.TheVariants.{Yes}
 use Rattle.command_groups.specs.declared.plan.NvccGeneratedSubcommand.{NvccGeneratedSubcommand}
@@ -7,8 +7,12 @@ use Rattle.plan_exports.specs.declared.refusal.Refusal.TheVariants.{Unheld, Vari
 use Rattle.plan_exports.specs.declared.refusal.Form.TheVariants.{Shell, Ninja}
 use Rattle.plan_exports.specs.Judging.{judged_command, judged_groups}
 use Rattle.plan_exports.specs.Script.{command_line}
-use Rattle.plan_exports.specs.Graph.{group_needs, edge}
-use Rattle.plan_exports.specs.Json.{command_data}
+use Rattle.command_files.specs.PlanNeeds.{fatbin_plan}
+use Rattle.plan_exports.specs.Graph.{edge}
+use Rattle.shell_words.specs.Posix.{Word, Operator}
+use Rattle.plan_exports.specs.ReadBack.{shell_tokens}
+use Rattle.plan_exports.specs.ReadGraph.{Edge, plan_edges}
+use Rattle.plan_exports.specs.Json.{command_at}
 use Rattle.serde_json.specs.Written.{compact_text}
 
 -- a cacheable command with one variable
@@ -18,10 +22,6 @@ cicc_with name word = record { exe = codes "/b/cicc"; args = word ∷ []; cwd = 
 abbrev pub cicc : NvccGeneratedSubcommand
 cicc = cicc_with (codes "K") (codes "a$b")
 
--- a front group of two commands, a device group of one, an empty one, and the final group
-abbrev pub four_groups : List (List NvccGeneratedSubcommand)
-four_groups = (cicc ∷ cicc ∷ []) ∷ (cicc ∷ []) ∷ [] ∷ (cicc ∷ []) ∷ []
-
 abbrev pub LineOfCicc : Type 0
 LineOfCicc = command_line cicc ≡ codes "( cd /t && env 'K=v w' /b/cicc 'a$b' )\n"
 
@@ -29,33 +29,48 @@ pub line_of_cicc : LineOfCicc
 unfolding chars is_utf8 lib.Utf8.encode
 line_of_cicc = refl
 
+-- without the quotes, a shell would end the command at a `;`, and act on a `$`
+abbrev pub BareCharacters : Type 0
+BareCharacters =
+    (shell_tokens (codes "( cd /t && env /b/cicc a;b )")
+    ≡ Some (Operator (codes "(") ∷ Word (codes "cd") ∷ Word (codes "/t") ∷ Operator (codes "&&") ∷ Word (codes "env") ∷ Word (codes "/b/cicc")
+    ∷ Word (codes "a") ∷ Operator (codes ";") ∷ Word (codes "b") ∷ Operator (codes ")") ∷ []))
+    × (shell_tokens (codes "( cd /t && env /b/cicc a$b )") ≡ None)
+
+pub bare_characters : BareCharacters
+unfolding chars
+bare_characters = (refl, refl)
+
 abbrev pub EdgeOfCicc : Type 0
 EdgeOfCicc =
     edge (codes "/t") 1 0 (codes " ${tmp}/zigrunk.0.1") cicc
-    ≡ codes "build ${tmp}/zigrunk.1.0: run ${tmp}/zigrunk.0.1\n  line = ( cd /t && env 'K=v w' $${ZIGRUNK_LAUNCHER-} /b/cicc 'a$$b' ) && touch /t/zigrunk.1.0\n"
+    ≡ codes "build ${tmp}/zigrunk.1.0: run ${tmp}/zigrunk.0.1\n  line = ( cd /t && env 'K=v w' $${ZIGRUNK_RUNNER-} $${ZIGRUNK_LAUNCHER-} /b/cicc 'a$$b' ) && touch /t/zigrunk.1.0\n"
 
 pub edge_of_cicc : EdgeOfCicc
 unfolding chars is_utf8 lib.Utf8.encode
 edge_of_cicc = refl
 
--- the front group needs nothing, a device group the front group's last, and the final group the last of each before it
-abbrev pub FrontNeeds : Type 0
-FrontNeeds = group_needs four_groups 0 ≡ []
+-- the edges of a real fatbin: its second cicc needs the preprocessed source, and the first cicc, which writes the module id
+abbrev pub ends_of : Edge → List ℕ × List (List ℕ)
+ends_of e = (e.output, e.needs)
 
-pub front_needs : FrontNeeds
-front_needs = refl
+abbrev pub EdgesOfFatbin : Type 0
+EdgesOfFatbin =
+    map ends_of (plan_edges (codes "/t") fatbin_plan)
+    ≡ (codes "/t/zigrunk.1.0", [])
+    ∷ (codes "/t/zigrunk.1.1", codes "/t/zigrunk.1.0" ∷ [])
+    ∷ (codes "/t/zigrunk.1.2", codes "/t/zigrunk.1.1" ∷ [])
+    ∷ (codes "/t/zigrunk.2.0", [])
+    ∷ (codes "/t/zigrunk.2.1", codes "/t/zigrunk.1.1" ∷ codes "/t/zigrunk.2.0" ∷ [])
+    ∷ (codes "/t/zigrunk.2.2", codes "/t/zigrunk.2.1" ∷ [])
+    ∷ (
+      codes "/t/zigrunk.3.0",
+      codes "/t/zigrunk.1.0" ∷ codes "/t/zigrunk.1.1" ∷ codes "/t/zigrunk.1.2" ∷ codes "/t/zigrunk.2.0" ∷ codes "/t/zigrunk.2.1" ∷ codes "/t/zigrunk.2.2" ∷ [],
+    )
+    ∷ []
 
-abbrev pub DeviceNeeds : Type 0
-DeviceNeeds = group_needs four_groups 1 ≡ codes " ${tmp}/zigrunk.0.1"
-
-pub device_needs : DeviceNeeds
-device_needs = refl
-
-abbrev pub FinalNeeds : Type 0
-FinalNeeds = group_needs four_groups 3 ≡ codes " ${tmp}/zigrunk.0.1 ${tmp}/zigrunk.1.0"
-
-pub final_needs : FinalNeeds
-final_needs = refl
+pub edges_of_fatbin : EdgesOfFatbin
+edges_of_fatbin = refl
 
 -- a name that begins with `-`, and a newline, which a shell script can represent and a Ninja file can't
 abbrev pub DashRefused : Type 0
@@ -76,8 +91,8 @@ NewlineRefused = judged_groups Ninja ((cicc_with (codes "K") (codes "a\nb") ∷ 
 pub newline_refused : NewlineRefused
 newline_refused = refl
 
--- the same command as JSON
+-- The same command as JSON, in the second group. cicc needs more words than that to be read, so its files are unknown
 abbrev pub JsonOfCicc : Type 0
 JsonOfCicc =
-    compact_text (command_data cicc)
-    ≡ codes "{\"args\":[\"a$b\"],\"cacheable\":true,\"cwd\":\"/t\",\"env\":[[\"K\",\"v w\"]],\"exe\":\"/b/cicc\"}"
+    compact_text (command_at (record { origins = record { line = 6; run = 1 } ∷ []; needs = (1 ∷ 2 ∷ []) ∷ [] }) 0 1 cicc)
+    ≡ codes "{\"args\":[\"a$b\"],\"cacheable\":true,\"complete\":false,\"cwd\":\"/t\",\"env\":[[\"K\",\"v w\"]],\"exe\":\"/b/cicc\",\"group\":1,\"id\":0,\"line\":7,\"may_write\":[],\"needs\":[1,2],\"reads\":[],\"run\":1,\"writes\":[]}"

@@ -1,5 +1,5 @@
 -- A plan as a Ninja file.
-use Rattle.std.specs.Prelude.{ℕ, Bool, ◌+◌, ◌-◌, List, [], ◌∷◌, ◌++◌, length, nat_lt, ◌==◌, ◌&&◌, if◌then◌else◌, codes, encode_utf8_all, Result, Ok, Err}
+use Rattle.std.specs.Prelude.{ℕ, Bool, ◌+◌, List, [], ◌∷◌, ◌++◌, length, drop, get_or, ◌==◌, ◌&&◌, if◌then◌else◌, codes, encode_utf8_all, Result, Ok, Err}
 use Rattle.std.specs.List.{flat_map, list_all}
 use Rattle.std.specs.Str.{chars}
 use Rattle.cuda_below.specs.declared.command.Cacheable.{Cacheable}
@@ -10,6 +10,8 @@ use Rattle.command_groups.specs.declared.plan.NvccGeneratedSubcommand.{NvccGener
 use Rattle.command_groups.specs.declared.plan.Dropped.{Dropped}
 use Rattle.command_groups.specs.declared.plan.Plan.{Plan}
 use Rattle.command_groups.specs.Reasons.{reason_name}
+use Rattle.command_files.specs.Order.{needs_at}
+use Rattle.command_files.specs.PlanNeeds.{plan_needs}
 use Rattle.plan_exports.specs.declared.refusal.Refusal.{Refusal}
 use Rattle.plan_exports.specs.declared.refusal.Refusal.TheVariants.{Unheld}
 use Rattle.plan_exports.specs.declared.refusal.Form.TheVariants.{Ninja}
@@ -36,10 +38,11 @@ stamp_below group place = codes " ${tmp}/" ++ stamp group place
 abbrev pub stamp_path : List ℕ → ℕ → ℕ → List ℕ
 stamp_path tmp group place = tmp ++ (codes "/" ++ stamp group place)
 
--- what runs a program: if a cache may serve its outputs, whatever the variable names at that time
-abbrev pub launcher : Cacheable → List ℕ
-launcher Yes = codes "${ZIGRUNK_LAUNCHER-} "
-launcher No = []
+-- what runs a program: whatever one variable names at that time, and for a program whose outputs a cache may serve what
+-- another one names
+abbrev pub runner : Cacheable → List ℕ
+runner Yes = codes "${ZIGRUNK_RUNNER-} ${ZIGRUNK_LAUNCHER-} "
+runner No = codes "${ZIGRUNK_RUNNER-} "
 
 -- the command that touches a stamp
 abbrev pub touch : List ℕ → ℕ → ℕ → List ℕ
@@ -47,7 +50,7 @@ touch tmp group place = codes " && touch " ++ written (stamp_path tmp group plac
 
 -- what an edge runs: a command, and then `touch`
 abbrev pub edge_command : List ℕ → ℕ → ℕ → NvccGeneratedSubcommand → List ℕ
-edge_command tmp group place c = command_text (launcher c.cacheable) c ++ touch tmp group place
+edge_command tmp group place c = command_text (runner c.cacheable) c ++ touch tmp group place
 
 -- the line that says what an edge runs
 abbrev pub edge_line : List ℕ → List ℕ
@@ -58,43 +61,40 @@ abbrev pub edge : List ℕ → ℕ → ℕ → List ℕ → NvccGeneratedSubcomm
 edge tmp group place needs c =
     codes "build" ++ (stamp_below group place ++ (codes ": run" ++ (needs ++ edge_line (edge_command tmp group place c))))
 
--- what a command needs: the one before it in its group, or what the group needs if it is the first
-abbrev pub needs_at : ℕ → ℕ → List ℕ → List ℕ
-needs_at group place first = if place == 0 then first else stamp_below group (place - 1)
+-- where each command is, in plan order: the number of its group, and its place there
+abbrev pub places_in : ℕ → ℕ → List NvccGeneratedSubcommand → List (ℕ × ℕ)
+places_in group place [] = []
+places_in group place (c ∷ commands) = (group, place) ∷ places_in group (place + 1) commands
 
--- the edges of a group's commands from a place on
-abbrev pub edges_from : List ℕ → ℕ → ℕ → List ℕ → List NvccGeneratedSubcommand → List ℕ
-edges_from tmp group place first [] = []
-edges_from tmp group place first (c ∷ commands) =
-    edge tmp group place (needs_at group place first) c ++ edges_from tmp group (place + 1) first commands
+abbrev pub places_from : ℕ → List (List NvccGeneratedSubcommand) → List (ℕ × ℕ)
+places_from group [] = []
+places_from group (commands ∷ groups) = places_in group 0 commands ++ places_from (group + 1) groups
 
--- the stamp of a group's last command, if it has one
-abbrev pub last_stamp : ℕ → List NvccGeneratedSubcommand → List ℕ
-last_stamp group commands = if length commands == 0 then [] else stamp_below group (length commands - 1)
+abbrev pub plan_places : Plan → List (ℕ × ℕ)
+plan_places plan = places_from 0 plan.groups
 
--- the same if the group's number is below another
-abbrev pub last_below : ℕ → ℕ → List NvccGeneratedSubcommand → List ℕ
-last_below below group commands = if nat_lt group below then last_stamp group commands else []
+-- where the command with a number is. Each command has a place
+abbrev pub place_at : List (ℕ × ℕ) → ℕ → ℕ × ℕ
+place_at places n = get_or places n (0, 0)
 
--- the last stamps of the groups below a number, of groups from a number on
-abbrev pub last_stamps : ℕ → ℕ → List (List NvccGeneratedSubcommand) → List ℕ
-last_stamps below group [] = []
-last_stamps below group (commands ∷ groups) = last_below below group commands ++ last_stamps below (group + 1) groups
+-- the stamps of the commands with these numbers
+abbrev pub stamp_at : List (ℕ × ℕ) → ℕ → List ℕ
+stamp_at places n = stamp_below (place_at places n).0 (place_at places n).1
 
--- How many groups, from the front group on, the first command of a group waits for: none for the front group, the front group
--- for a device group, and all groups before it for the final one.
-abbrev pub waits_for : ℕ → ℕ → ℕ
-waits_for count group = if group == 0 then 0 else if count - group == 1 then group else 1
+abbrev pub stamps_at : List (ℕ × ℕ) → List ℕ → List ℕ
+stamps_at places numbers = flat_map (stamp_at places) numbers
 
--- what a group needs
-abbrev pub group_needs : List (List NvccGeneratedSubcommand) → ℕ → List ℕ
-group_needs all group = last_stamps (waits_for (length all) group) 0 all
+-- the edges of a group's commands from a place on, given what the group's commands need
+abbrev pub edges_from : List ℕ → List (ℕ × ℕ) → ℕ → ℕ → List (List ℕ) → List NvccGeneratedSubcommand → List ℕ
+edges_from tmp places group place needs [] = []
+edges_from tmp places group place needs (c ∷ commands) =
+    edge tmp group place (stamps_at places (needs_at needs place)) c ++ edges_from tmp places group (place + 1) needs commands
 
--- the edges of groups from a number on
-abbrev pub group_edges : List ℕ → List (List NvccGeneratedSubcommand) → ℕ → List (List NvccGeneratedSubcommand) → List ℕ
-group_edges tmp all group [] = []
-group_edges tmp all group (commands ∷ groups) =
-    edges_from tmp group 0 (group_needs all group) commands ++ group_edges tmp all (group + 1) groups
+-- the edges of groups from a number on, given what their commands need
+abbrev pub group_edges : List ℕ → List (ℕ × ℕ) → ℕ → List (List ℕ) → List (List NvccGeneratedSubcommand) → List ℕ
+group_edges tmp places group needs [] = []
+group_edges tmp places group needs (commands ∷ groups) =
+    edges_from tmp places group 0 needs commands ++ group_edges tmp places (group + 1) (drop (length commands) needs) groups
 
 -- the reason and the words of a dropped command
 abbrev pub comment_words : Dropped → List ℕ
@@ -115,7 +115,7 @@ head tmp = codes "tmp = " ++ (escaped tmp ++ rule)
 
 -- the Ninja file of a plan
 abbrev pub graph : List ℕ → Plan → List ℕ
-graph tmp plan = head tmp ++ (group_edges tmp plan.groups 0 plan.groups ++ flat_map comment plan.dropped)
+graph tmp plan = head tmp ++ (group_edges tmp (plan_places plan) 0 (plan_needs plan) plan.groups ++ flat_map comment plan.dropped)
 
 -- ---- what a Ninja file can't represent
 

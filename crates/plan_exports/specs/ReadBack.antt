@@ -1,11 +1,14 @@
--- A shell that reads a command's text gets the command's words, and one that reads a script gets those of all commands.
-use Rattle.std.specs.Prelude.{◌≡◌, [], ◌∷◌, Some, codes}
+-- What a POSIX shell reads in a command's text, and in a script. Its grammar (`Posix` of `shell_words`) has no reading for a text on
+-- which a shell would act.
+use Rattle.std.specs.Prelude.{◌≡◌, ℕ, List, [], ◌∷◌, ◌++◌, map, Option, Some, codes}
 use Rattle.std.specs.List.{AllByRecursion, flat_map}
-use Rattle.std.specs.Str.{IsUtf8}
-use Rattle.shell_words.specs.Shell.Splitting.{shell_words}
+use Rattle.std.specs.Str.{IsUtf8, chars}
+use Rattle.shell_words.specs.Posix.{Token, Word, Operator, tokens}
+use Rattle.shell_words.specs.Shell.Quoting.{written}
 use Rattle.command_groups.specs.declared.plan.NvccGeneratedSubcommand.{NvccGeneratedSubcommand}
 use Rattle.command_groups.specs.declared.plan.Plan.{Plan}
-use Rattle.plan_exports.specs.CommandText.{command_text, command_words}
+use Rattle.plan_exports.specs.CommandText.{command_text, env_words}
+use Rattle.plan_exports.specs.Graph.{stamp_path, touch}
 use Rattle.plan_exports.specs.Script.{script}
 
 -- all texts of a command are UTF-8, as in every record of the program
@@ -15,12 +18,42 @@ pub record IsOfTexts (c : NvccGeneratedSubcommand) : Type 0 where
   pub exe : IsUtf8 c.exe
   pub args : AllByRecursion IsUtf8 c.args
 
--- a command's text has the command's words
-abbrev pub CommandsReadBack : Type 0
-CommandsReadBack = (c : NvccGeneratedSubcommand) → IsOfTexts c → shell_words (command_text [] c) ≡ Some (command_words c)
+-- the words and operators of a text, if it has a reading
+abbrev pub shell_tokens : List ℕ → Option (List Token)
+shell_tokens text = tokens (chars text)
 
--- a script has the words of `set -e` and then of each command, in order
+abbrev pub word_tokens : List (List ℕ) → List Token
+word_tokens words = map (λ word. Word (chars word)) words
+
+-- a command in a shell of its own: its directory, its variables, the words of what runs it, its program and its words
+abbrev pub command_tokens : List (List ℕ) → NvccGeneratedSubcommand → List Token
+command_tokens runner c =
+    Operator (codes "(") ∷ Word (codes "cd") ∷ Word (chars c.cwd) ∷ Operator (codes "&&")
+    ∷ (word_tokens (env_words c) ++ (word_tokens runner ++ (word_tokens (c.exe ∷ c.args) ++ Operator (codes ")") ∷ [])))
+
+-- words in the place of what runs a command
+abbrev pub in_front : List (List ℕ) → List ℕ
+in_front words = flat_map (λ word. written (word ∷ []) ++ 32 ∷ []) words
+
+-- a shell reads a command's text as the command, whatever words run it
+abbrev pub CommandsReadBack : Type 0
+CommandsReadBack =
+    (runner : List (List ℕ)) (c : NvccGeneratedSubcommand) → AllByRecursion IsUtf8 runner → IsOfTexts c →
+    shell_tokens (command_text (in_front runner) c) ≡ Some (command_tokens runner c)
+
+-- what an edge of a Ninja file runs, with words in the place of both expansions: the command, and then `touch` with the stamp
+abbrev pub EdgesReadBack : Type 0
+EdgesReadBack =
+    (runner : List (List ℕ)) (tmp : List ℕ) (group place : ℕ) (c : NvccGeneratedSubcommand) → AllByRecursion IsUtf8 runner → IsUtf8 tmp → IsOfTexts c →
+    shell_tokens (command_text (in_front runner) c ++ touch tmp group place)
+    ≡ Some (command_tokens runner c ++ Operator (codes "&&") ∷ Word (codes "touch") ∷ Word (chars (stamp_path tmp group place)) ∷ [])
+
+-- a script's line
+abbrev pub line_tokens : NvccGeneratedSubcommand → List Token
+line_tokens c = command_tokens [] c ++ Operator (codes "\n") ∷ []
+
+-- a script is `set -e` and then each command, in order
 abbrev pub ScriptsReadBack : Type 0
 ScriptsReadBack =
     (plan : Plan) → AllByRecursion (AllByRecursion IsOfTexts) plan.groups →
-    shell_words (script plan) ≡ Some (codes "set" ∷ codes "-e" ∷ flat_map (flat_map command_words) plan.groups)
+    shell_tokens (script plan) ≡ Some (Word (codes "set") ∷ Word (codes "-e") ∷ Operator (codes "\n") ∷ flat_map (flat_map line_tokens) plan.groups)

@@ -1,12 +1,14 @@
 -- What Ninja reads in a written file: its edges.
-use Rattle.std.specs.Prelude.{◌≡◌, ℕ, ◌+◌, ◌-◌, List, [], ◌∷◌, ◌++◌, map, length, drop, nat_lt, ◌==◌, if◌then◌else◌, Option, Some, None, Ok, codes, refl}
-use Rattle.std.specs.List.{AllByRecursion}
+use Rattle.std.specs.Prelude.{◌≡◌, ℕ, ◌+◌, List, [], ◌∷◌, ◌++◌, map, drop, ◌==◌, if◌then◌else◌, Option, Some, None, Ok, codes, refl}
+use Rattle.std.specs.List.{AllByRecursion, flat_map}
 use Rattle.std.specs.Option.{option_map}
 use Rattle.std.specs.Str.{IsUtf8, chars}
 use Rattle.command_groups.specs.declared.plan.NvccGeneratedSubcommand.{NvccGeneratedSubcommand}
 use Rattle.command_groups.specs.declared.plan.Dropped.{Dropped}
 use Rattle.command_groups.specs.declared.plan.Plan.{Plan}
-use Rattle.plan_exports.specs.Graph.{stamp_path, edge_command, waits_for, ninja_answer}
+use Rattle.command_files.specs.Order.{needs_at}
+use Rattle.command_files.specs.PlanNeeds.{plan_needs}
+use Rattle.plan_exports.specs.Graph.{stamp_path, edge_command, plan_places, place_at, ninja_answer}
 use Rattle.plan_exports.specs.ReadBack.{IsOfTexts}
 use Rattle.plan_exports.specs.ReadValue.{value_of}
 
@@ -86,53 +88,42 @@ edges_of text = edges_of_lines (parts_at 10 text)
 
 -- ---- the edges of a plan
 
--- the last command of a group, if it has one, as its group's number and its place there
-abbrev pub last_place : ℕ → List NvccGeneratedSubcommand → List (ℕ × ℕ)
-last_place group commands = if length commands == 0 then [] else (group, length commands - 1) ∷ []
+-- the stamp of the command with a number
+abbrev pub path_at : List ℕ → List (ℕ × ℕ) → ℕ → List ℕ
+path_at tmp places n = stamp_path tmp (place_at places n).0 (place_at places n).1
 
--- the last commands of the groups below a number, of groups from a number on
-abbrev pub last_places : ℕ → ℕ → List (List NvccGeneratedSubcommand) → List (ℕ × ℕ)
-last_places below group [] = []
-last_places below group (commands ∷ groups) =
-    (if nat_lt group below then last_place group commands else []) ++ last_places below (group + 1) groups
-
--- the commands that a command waits for: the one before it in its group, or those that the group waits for
-abbrev pub waits_at : ℕ → ℕ → List (ℕ × ℕ) → List (ℕ × ℕ)
-waits_at group place first = if place == 0 then first else (group, place - 1) ∷ []
-
-abbrev pub group_waits : List (List NvccGeneratedSubcommand) → ℕ → List (ℕ × ℕ)
-group_waits all group = last_places (waits_for (length all) group) 0 all
-
--- the edge of a command
-abbrev pub edge_of : List ℕ → ℕ → ℕ → List (ℕ × ℕ) → NvccGeneratedSubcommand → Edge
-edge_of tmp group place waits c = record {
-  output = stamp_path tmp group place;
-  needs = map (λ p. stamp_path tmp p.0 p.1) waits;
-  command = edge_command tmp group place c;
+-- The edge of the command with a number: it makes the command's stamp, and it needs the stamps of the commands that the
+-- command needs.
+abbrev pub edge_at : List ℕ → List (ℕ × ℕ) → List (List ℕ) → ℕ → NvccGeneratedSubcommand → Edge
+edge_at tmp places needs n c = record {
+  output = path_at tmp places n;
+  needs = map (path_at tmp places) (needs_at needs n);
+  command = edge_command tmp (place_at places n).0 (place_at places n).1 c;
 }
 
--- the edges of a group's commands from a place on, and of groups from a number on
-abbrev pub group_edges_of : List ℕ → ℕ → ℕ → List (ℕ × ℕ) → List NvccGeneratedSubcommand → List Edge
-group_edges_of tmp group place first [] = []
-group_edges_of tmp group place first (c ∷ commands) =
-    edge_of tmp group place (waits_at group place first) c ∷ group_edges_of tmp group (place + 1) first commands
+-- the edges of commands from a number on
+abbrev pub edges_at : List ℕ → List (ℕ × ℕ) → List (List ℕ) → ℕ → List NvccGeneratedSubcommand → List Edge
+edges_at tmp places needs n [] = []
+edges_at tmp places needs n (c ∷ commands) = edge_at tmp places needs n c ∷ edges_at tmp places needs (n + 1) commands
 
-abbrev pub plan_edges : List ℕ → List (List NvccGeneratedSubcommand) → ℕ → List (List NvccGeneratedSubcommand) → List Edge
-plan_edges tmp all group [] = []
-plan_edges tmp all group (commands ∷ groups) =
-    group_edges_of tmp group 0 (group_waits all group) commands ++ plan_edges tmp all (group + 1) groups
+-- the commands of a plan in plan order, and their edges
+abbrev pub plan_commands : Plan → List NvccGeneratedSubcommand
+plan_commands plan = flat_map (λ group. group) plan.groups
+
+abbrev pub plan_edges : List ℕ → Plan → List Edge
+plan_edges tmp plan = edges_at tmp (plan_places plan) (plan_needs plan) 0 (plan_commands plan)
 
 -- all texts of a dropped command are UTF-8
 pub record IsDroppedText (d : Dropped) : Type 0 where
   pub exe : IsUtf8 d.exe
   pub args : AllByRecursion IsUtf8 d.args
 
--- Ninja reads a written file as an edge for each command of the plan, and no others
+-- Ninja reads a written file as an edge for each command of the plan, and no others. An edge needs exactly what its command needs
 abbrev pub GraphsReadBack : Type 0
 GraphsReadBack =
     (tmp : List ℕ) (plan : Plan) (text : List ℕ) →
     IsUtf8 tmp → AllByRecursion (AllByRecursion IsOfTexts) plan.groups → AllByRecursion IsDroppedText plan.dropped →
-    ninja_answer tmp plan ≡ Ok text → edges_of text ≡ Some (plan_edges tmp plan.groups 0 plan.groups)
+    ninja_answer tmp plan ≡ Ok text → edges_of text ≡ Some (plan_edges tmp plan)
 
 -- ---- Worked examples.
 

@@ -1,14 +1,19 @@
 //! Laws on written plans, and worked examples.
 
-ghost use Rattle.plan_exports.specs.ExportExamples.{LineOfCicc, EdgeOfCicc, FrontNeeds, DeviceNeeds, FinalNeeds, DashRefused, NewlineHeld, NewlineRefused, JsonOfCicc};
-ghost use Rattle.plan_exports.specs.ReadBack.{CommandsReadBack, ScriptsReadBack};
+ghost use Rattle.plan_exports.specs.ExportExamples.{LineOfCicc, BareCharacters, EdgeOfCicc, EdgesOfFatbin, DashRefused, NewlineHeld, NewlineRefused, JsonOfCicc};
+ghost use Rattle.plan_exports.specs.OneToOne.{DataIsOneToOne};
+ghost use Rattle.plan_exports.specs.ReadBack.{CommandsReadBack, EdgesReadBack, ScriptsReadBack};
 ghost use Rattle.plan_exports.specs.ReadGraph.{GraphsReadBack};
 ghost use Rattle.plan_exports.specs.ReadValue.{ValuesReadBack};
 
-/// A shell that reads a command's text gets the command's words, and one that reads a script gets those of every command.
-/// So a script leaves out no command, no word and no variable.
+/// A POSIX shell reads a command's text as the command, and nothing else: its directory, its variables, the words that run it,
+/// its program and its words (`commands`). It reads what an edge of a Ninja file runs as the command and then `touch`, with any
+/// words in the place of the expansions of `ZIGRUNK_RUNNER` and `ZIGRUNK_LAUNCHER` (`edges`), and a script as `set -e` and then
+/// each command of the plan, in order (`scripts`). The grammar is `Posix` of `shell_words`, in which a `;` outside of quotes ends
+/// a command, and text that a shell would act on has no reading.
 pub fn read_back()
     ensures commands { CommandsReadBack }
+    ensures edges { EdgesReadBack }
     ensures scripts { ScriptsReadBack }
 {}
 
@@ -17,19 +22,24 @@ pub fn values_read_back()
     ensures { ValuesReadBack }
 {}
 
-/// Ninja reads a written file as one edge for each command of the plan, in order, with its stamp, the stamps that it needs
-/// and what it runs.
+/// Ninja reads a written file as one edge for each command of the plan, in order. The edge makes the command's stamp, needs
+/// exactly the stamps of the commands that the command needs (`command_files::needs`), and runs the command.
 pub fn graphs_read_back()
     ensures { GraphsReadBack }
 {}
 
-/// The definitions give these texts for a small plan.
+/// Two plans with the same JSON are the same: so JSON says all of a plan, what it was made for and where its commands come from.
+/// This is for plans with an origin for each command, and with lines below the greatest number that there is.
+pub fn data_is_one_to_one()
+    ensures { DataIsOneToOne }
+{}
+
+/// The definitions give these texts for a small plan, and these edges for a real one.
 pub fn worked_exports()
     ensures line_of_cicc { LineOfCicc }
+    ensures bare_characters { BareCharacters }
     ensures edge_of_cicc { EdgeOfCicc }
-    ensures front_needs { FrontNeeds }
-    ensures device_needs { DeviceNeeds }
-    ensures final_needs { FinalNeeds }
+    ensures edges_of_fatbin { EdgesOfFatbin }
     ensures dash_refused { DashRefused }
     ensures newline_held { NewlineHeld }
     ensures newline_refused { NewlineRefused }

@@ -1,13 +1,16 @@
 //! A plan as a Ninja file.
 
-ghost use Rattle.std.specs.Prelude.{◌≡◌, ◌++◌, IfOk, OnOk, codes, map, encode_utf8_all, string_bytes, vec_items};
+ghost use Rattle.std.specs.Prelude.{◌≡◌, ◌++◌, IfOk, OnOk, codes, map, drop, encode_utf8_all, string_bytes, vec_items};
 ghost use Rattle.std.specs.List.{flat_map, list_all};
+ghost use Rattle.command_files.specs.Order.{needs_at};
+ghost use Rattle.command_files.specs.PlanNeeds.{plan_needs};
 ghost use Rattle.plan_exports.specs.Answers.{Answers};
 ghost use Rattle.plan_exports.specs.Graph as spec;
 
 use crate::command::push_command;
 use crate::judging::{holds_text, holds_words, judge_groups};
 use crate::refusal::{Form, Refusal};
+use command_files::needs;
 use command_groups::{Dropped, NvccGeneratedSubcommand, Plan};
 use cuda_below::command::Cacheable;
 use shell_words::push_quoted;
@@ -73,13 +76,13 @@ fn stamp_path(alloc: Global, tmp: &str, group: usize, place: usize) -> Result<St
     Ok(path)
 }
 
-// What runs a program: a launcher, if a cache may serve the program's outputs.
-fn launcher(cacheable: Cacheable) -> &'static str
-    ensures { result.now ≡ spec.launcher cacheable }
+// What runs a program: a runner, and a launcher if a cache may serve the program's outputs.
+fn runner(cacheable: Cacheable) -> &'static str
+    ensures { result.now ≡ spec.runner cacheable }
 {
     match cacheable {
-        Cacheable::Yes => "${ZIGRUNK_LAUNCHER-} ",
-        Cacheable::No => "",
+        Cacheable::Yes => "${ZIGRUNK_RUNNER-} ${ZIGRUNK_LAUNCHER-} ",
+        Cacheable::No => "${ZIGRUNK_RUNNER-} ",
     }
 }
 
@@ -109,7 +112,7 @@ fn edge_command(
     ensures { IfOk result (λ text. string_bytes text ≡ spec.edge_command tmp.now group place command.now) }
 {
     let mut text = String::new(alloc);
-    push_command(alloc, &mut text, launcher(command.cacheable), command)?;
+    push_command(alloc, &mut text, runner(command.cacheable), command)?;
     push_touch(alloc, &mut text, tmp, group, place)?;
     Ok(text)
 }
@@ -123,161 +126,184 @@ fn push_edge_line(text: &mut String, command: &str) -> Result<(), AllocError>
     text.push_str("\n")
 }
 
-// Adds what a command needs: the one before it in its group, or what the group needs if it is the first.
-fn push_needs(
-    alloc: Global,
-    text: &mut String,
-    group: usize,
-    place: usize,
-    first: &str,
-) -> Result<(), AllocError>
-    ensures { OnOk result (string_bytes text.new ≡ string_bytes text.old ++ spec.needs_at group place first.now) }
-{
-    if place == 0 {
-        text.push_str(first)
-    } else {
-        push_stamp_below(alloc, text, group, place - 1)
-    }
-}
-
 // Adds an edge that runs a text.
 fn push_edge_text(
     alloc: Global,
     text: &mut String,
     group: usize,
     place: usize,
-    first: &str,
+    needs: &str,
     line: &str,
 ) -> Result<(), AllocError>
     ensures { OnOk result (string_bytes text.new ≡ string_bytes text.old
-        ++ (codes "build" ++ (spec.stamp_below group place ++ (codes ": run" ++ (spec.needs_at group place first.now ++ spec.edge_line line.now))))) }
+        ++ (codes "build" ++ (spec.stamp_below group place ++ (codes ": run" ++ (needs.now ++ spec.edge_line line.now))))) }
 {
     text.push_str("build")?;
     push_stamp_below(alloc, text, group, place)?;
     text.push_str(": run")?;
-    push_needs(alloc, text, group, place, first)?;
+    text.push_str(needs)?;
     push_edge_line(text, line)
 }
 
-// Adds the edge of a command.
+// Adds the edge of a command, given the text of what it needs.
 fn push_edge(
     alloc: Global,
     text: &mut String,
     tmp: &str,
     group: usize,
     place: usize,
-    first: &str,
+    needs: &str,
     command: &NvccGeneratedSubcommand,
 ) -> Result<(), AllocError>
-    ensures { OnOk result (string_bytes text.new ≡ string_bytes text.old ++ spec.edge tmp.now group place (spec.needs_at group place first.now) command.now) }
+    ensures { OnOk result (string_bytes text.new ≡ string_bytes text.old ++ spec.edge tmp.now group place needs.now command.now) }
 {
     let line = edge_command(alloc, tmp, group, place, command)?;
-    push_edge_text(alloc, text, group, place, first, line.as_str())
+    push_edge_text(alloc, text, group, place, needs, line.as_str())
 }
 
-// Adds the edges of a group's commands.
-fn push_edges(
-    alloc: Global,
-    text: &mut String,
-    tmp: &str,
+// Adds the places of a group's commands.
+fn push_places(
+    places: &mut Vec<(usize, usize)>,
     group: usize,
-    first: &str,
     commands: &[NvccGeneratedSubcommand],
 ) -> Result<(), AllocError>
-    ensures { OnOk result (string_bytes text.new ≡ string_bytes text.old ++ spec.edges_from tmp.now group 0 first.now commands.now) }
+    ensures { OnOk result (places.new.items ≡ places.old.items ++ spec.places_in group 0 commands.now) }
 {
-    for (place, command) in commands.iter().enumerate() {
-        push_edge(alloc, text, tmp, group, place, first, command)?;
+    for (place, _command) in commands.iter().enumerate() {
+        places.push((group, place))?;
     }
     Ok(())
 }
 
-// Adds the stamp of a group's last command, if it has one.
-fn push_last_stamp(
+// Where each command of groups is, in plan order.
+fn places_of(
     alloc: Global,
-    text: &mut String,
-    group: usize,
-    commands: &[NvccGeneratedSubcommand],
-) -> Result<(), AllocError>
-    ensures { OnOk result (string_bytes text.new ≡ string_bytes text.old ++ spec.last_stamp group commands.now) }
-{
-    if commands.len() == 0 {
-        return Ok(());
-    }
-    push_stamp_below(alloc, text, group, commands.len() - 1)
-}
-
-// Adds the same if the group's number is below another.
-fn push_last_below(
-    alloc: Global,
-    text: &mut String,
-    below: usize,
-    group: usize,
-    commands: &[NvccGeneratedSubcommand],
-) -> Result<(), AllocError>
-    ensures { OnOk result (string_bytes text.new ≡ string_bytes text.old ++ spec.last_below below group commands.now) }
-{
-    if group < below {
-        push_last_stamp(alloc, text, group, commands)
-    } else {
-        Ok(())
-    }
-}
-
-// The last stamps of the groups below a number.
-fn last_stamps(
-    alloc: Global,
-    below: usize,
     groups: &[Vec<NvccGeneratedSubcommand>],
+) -> Result<Vec<(usize, usize)>, AllocError>
+    ensures { IfOk result (λ places. places.items ≡ spec.places_from 0 (map vec_items groups.now)) }
+{
+    let mut places = Vec::new(alloc);
+    for (group, commands) in groups.iter().enumerate() {
+        push_places(&mut places, group, commands.as_slice())?;
+    }
+    Ok(places)
+}
+
+// Where the command with a number is. Each command has a place.
+fn place_at(places: &[(usize, usize)], number: usize) -> (usize, usize)
+    ensures { result ≡ spec.place_at places.now number }
+{
+    match places.get(number) {
+        Some(at) => *at,
+        None => (0, 0),
+    }
+}
+
+// Adds a space and the path of the stamp of the command with a number.
+fn push_stamp_at(
+    alloc: Global,
+    text: &mut String,
+    places: &[(usize, usize)],
+    number: usize,
+) -> Result<(), AllocError>
+    ensures { OnOk result (string_bytes text.new ≡ string_bytes text.old ++ spec.stamp_at places.now number) }
+{
+    let at = place_at(places, number);
+    push_stamp_below(alloc, text, at.0, at.1)
+}
+
+// The stamps of the commands with these numbers.
+fn stamps_at(
+    alloc: Global,
+    places: &[(usize, usize)],
+    numbers: &[usize],
 ) -> Result<String, AllocError>
-    ensures { IfOk result (λ text. string_bytes text ≡ spec.last_stamps below 0 (map vec_items groups.now)) }
+    ensures { IfOk result (λ text. string_bytes text ≡ spec.stamps_at places.now numbers.now) }
 {
     let mut text = String::new(alloc);
-    for (group, commands) in groups.iter().enumerate() {
-        push_last_below(alloc, &mut text, below, group, commands.as_slice())?;
+    for number in numbers {
+        push_stamp_at(alloc, &mut text, places, *number)?;
     }
     Ok(text)
 }
 
-// How many groups, from the front group on, the first command of a group waits for.
-fn waits_for(count: usize, group: usize) -> usize
-    ensures { result ≡ spec.waits_for count group }
+// What the command at a place needs, in a list of what commands need. Each command has its needs there.
+fn needs_at(needs: &[Vec<usize>], place: usize) -> &[usize]
+    ensures { result.now ≡ needs_at (map vec_items needs.now) place }
 {
-    if group == 0 {
-        0
-    } else if count.saturating_sub(group) == 1 {
-        group
-    } else {
-        1
+    match needs.get(place) {
+        Some(numbers) => numbers.as_slice(),
+        None => &[],
     }
 }
 
-// What a group needs.
-fn group_needs(
+// Adds the edges of a group's commands, given what they need.
+fn push_edges(
     alloc: Global,
-    groups: &[Vec<NvccGeneratedSubcommand>],
+    text: &mut String,
+    tmp: &str,
+    places: &[(usize, usize)],
     group: usize,
-) -> Result<String, AllocError>
-    ensures { IfOk result (λ text. string_bytes text ≡ spec.group_needs (map vec_items groups.now) group) }
+    needs: &[Vec<usize>],
+    commands: &[NvccGeneratedSubcommand],
+) -> Result<(), AllocError>
+    ensures { OnOk result (string_bytes text.new ≡ string_bytes text.old
+        ++ spec.edges_from tmp.now places.now group 0 (map vec_items needs.now) commands.now) }
 {
-    last_stamps(alloc, waits_for(groups.len(), group), groups)
+    for (place, command) in commands.iter().enumerate() {
+        let stamps = stamps_at(alloc, places, needs_at(needs, place))?;
+        push_edge(alloc, text, tmp, group, place, stamps.as_str(), command)?;
+    }
+    Ok(())
 }
 
-// Adds the edges of groups.
+// What is behind so many of a list of what commands need.
+fn needs_behind(needs: &[Vec<usize>], count: usize) -> &[Vec<usize>]
+    ensures { map vec_items result.now ≡ drop count (map vec_items needs.now) }
+{
+    if count < needs.len() {
+        &needs[count..]
+    } else {
+        &[]
+    }
+}
+
+// Adds the edges of groups, given what their commands need.
 fn push_groups(
     alloc: Global,
     text: &mut String,
     tmp: &str,
+    places: &[(usize, usize)],
+    needs: &[Vec<usize>],
     groups: &[Vec<NvccGeneratedSubcommand>],
 ) -> Result<(), AllocError>
     ensures { OnOk result (string_bytes text.new ≡ string_bytes text.old
-        ++ spec.group_edges tmp.now (map vec_items groups.now) 0 (map vec_items groups.now)) }
+        ++ spec.group_edges tmp.now places.now 0 (map vec_items needs.now) (map vec_items groups.now)) }
 {
+    let mut rest = needs;
     for (group, commands) in groups.iter().enumerate() {
-        let first = group_needs(alloc, groups, group)?;
-        push_edges(alloc, text, tmp, group, first.as_str(), commands.as_slice())?;
+        push_edges(alloc, text, tmp, places, group, rest, commands.as_slice())?;
+        rest = needs_behind(rest, commands.len());
     }
     Ok(())
+}
+
+// Adds the edges of a plan's commands.
+fn push_plan(alloc: Global, text: &mut String, tmp: &str, plan: &Plan) -> Result<(), AllocError>
+    ensures { OnOk result (string_bytes text.new ≡ string_bytes text.old
+        ++ spec.group_edges tmp.now (spec.plan_places plan.now) 0 (plan_needs plan.now) plan.now.groups) }
+{
+    let needs = needs(alloc, plan)?;
+    let groups = plan.groups.as_slice();
+    let places = places_of(alloc, groups)?;
+    push_groups(
+        alloc,
+        text,
+        tmp,
+        places.as_slice(),
+        needs.as_slice(),
+        groups,
+    )
 }
 
 // Adds the reason and the words of a dropped command.
@@ -334,7 +360,7 @@ fn graph(alloc: Global, tmp: &str, plan: &Plan) -> Result<String, AllocError>
 {
     let mut text = String::new(alloc);
     push_head(&mut text, tmp)?;
-    push_groups(alloc, &mut text, tmp, plan.groups.as_slice())?;
+    push_plan(alloc, &mut text, tmp, plan)?;
     push_comments(alloc, &mut text, plan.dropped.as_slice())?;
     Ok(text)
 }
@@ -372,10 +398,9 @@ fn judge_rest(tmp: &str, dropped: &[Dropped]) -> Result<(), Refusal>
 
 /// A plan as a Ninja file. Each command has an edge that runs it and then touches its stamp, the file `zigrunk.GROUP.PLACE`
 /// in the temporary directory `tmp`. If the command fails, its exit status goes to the file `zigrunk.GROUP.PLACE.status` in
-/// decimal. A command needs the one before it in its group. The first command of a device group needs the front group's
-/// last, and the first of the final group needs the last of each group before it. Nothing needs a group without commands.
-/// The program that the variable `ZIGRUNK_LAUNCHER` names runs each command whose outputs a cache may serve; the variable may
-/// be unset. Dropped commands follow the edges as comments. `tmp` has to be an absolute path. Ninja's own files go there too.
+/// decimal. An edge needs the stamps of the commands that its command needs, and no others (`command_files::needs`). The
+/// program that the variable `ZIGRUNK_RUNNER` names runs each command, and the one that `ZIGRUNK_LAUNCHER` names runs, below
+/// it, each command whose outputs a cache may serve; both variables may be unset. Dropped commands follow the edges as comments. `tmp` has to be an absolute path. Ninja's own files go there too.
 ///
 /// Fails if a text has a NUL, a newline or a carriage return, which no line of a Ninja file can represent
 /// (`Refusal::Unheld`): first `tmp` and the dropped commands, then each command. Fails also if

@@ -1,16 +1,23 @@
-use Rattle.std.proofs.Common.{◌+◌, ◌++◌, string_bytes, drop, sym, ap, ◌∙◌}
-use Rattle.plan_exports.specs.Graph.{edge, needs_at, edges_from}
+use Rattle.std.proofs.Common.{◌≡◌, ◌+◌, ◌++◌, string_bytes, vec_items, map, drop, sym, ap, ◌∙◌}
+use Rattle.command_files.specs.Order.{needs_at}
+use Rattle.plan_exports.specs.Graph.{edge, stamps_at, edges_from}
 use Rattle.plan_exports.proofs.Pushing.{pushed, next-left}
 use Rattle.plan_exports.proofs.ninja.push_edges.Goals as goal
 
 pub loop-place-preserved : goal.loop-place-preserved
 loop-place-preserved c =
     let commands = c.args.commands.now in
+    let command = c.index-commands-place.result in
     let tmp = c.args.tmp.now in
+    let places = c.args.places.now in
+    let needs = map vec_items c.args.needs.now in
     let group = c.args.group in
-    let first = c.args.first.now in
     let i = c.loop-place.place in
     let before = string_bytes c.loop-place.text in
-    pushed before (edge tmp group i (needs_at group i first) c.index-commands-place.result) (string_bytes c.push_edge.new.text) (edges_from tmp group (i + 1) first (drop (i + 1) commands)) c.in_ok-push_edge.ensures
-    ∙ ap (λ cs. before ++ edges_from tmp group i first cs) (sym (next-left commands i c.index-commands-place.result c.loop-place-test.true c.index-commands-place.is))
+    let after = string_bytes c.push_edge.new.text in
+    let text = edge tmp group i (stamps_at places (needs_at needs i)) command in
+    let stamps : c.as_str.result.now ≡ stamps_at places (needs_at needs i) = c.as_str.ensures.value ∙ c.in_ok-stamps.ensures ∙ ap (stamps_at places) c.needs_at.ensures in
+    let pushed_edge : after ≡ before ++ text = c.in_ok-push_edge.ensures ∙ ap (λ s. before ++ edge tmp group i s command) stamps in
+    pushed before text after (edges_from tmp places group (i + 1) needs (drop (i + 1) commands)) pushed_edge
+    ∙ ap (λ cs. before ++ edges_from tmp places group i needs cs) (sym (next-left commands i command c.loop-place-test.true c.index-commands-place.is))
     ∙ c.loop-place.invariant

@@ -1,0 +1,164 @@
+#!/usr/bin/env python3
+"""Validates the JSON of the plans of real nvcc calls by docs/plan.schema.json.
+
+The dry runs are those of crates/test_plans/data. Beyond the schema it checks that ids count from 0, that a command needs only
+earlier ones, that lines have the program that the command runs, and that the plan's commands can run in threads.
+
+Prints a line for each finding, and last 'N passed, M failed'; the status is 1 if one failed. Without python3-jsonschema it prints
+one line that says so, and the status is 0.
+
+    tests/schema.py [ZIGRUNK]       the program is the one that `make build` and the gate leave, unless given
+"""
+
+import concurrent.futures
+import json
+import os
+import subprocess
+import sys
+import tempfile
+
+try:
+    import jsonschema
+except ImportError:
+    print("schema: skipped, since python3-jsonschema isn't installed")
+    sys.exit(0)
+
+TOP = os.path.realpath(f"{os.path.dirname(os.path.realpath(__file__))}/..")
+DATA = f"{TOP}/crates/test_plans/data/dry_runs"
+
+
+def pairs():
+    """Returns the names of the real pairs: those with a flag."""
+    return sorted(name.removesuffix(".flag") for name in os.listdir(DATA) if name.endswith(".flag"))
+
+
+def program_words(lines):
+    """Returns the first words of a run's commands."""
+    words = (line[3:].split()[0].strip('"') for line in lines if line.startswith("#$ ") and len(line) > 3)
+    return {word for word in words if "=" not in word}
+
+
+def with_programs(name, room):
+    """Copies a pair and lets its PATH name a folder that has its programs. Returns the paths of the copies."""
+    folder = f"{room}/bin"
+    os.makedirs(folder, exist_ok=True)
+    copies = []
+    for run in ("dry1", "dry2"):
+        with open(f"{DATA}/{name}.{run}", encoding="utf-8") as file:
+            lines = file.read().splitlines()
+        for word in program_words(lines):
+            path = f"{folder}/{os.path.basename(word)}"
+            open(path, "w", encoding="utf-8").close()
+            os.chmod(path, 0o755)
+        lines = [f"#$ PATH={folder}" if line.startswith("#$ PATH=") else line for line in lines]
+        lines = [on_disk(line, folder) for line in lines]
+        copies.append(f"{room}/{name}.{run}")
+        with open(copies[-1], "w", encoding="utf-8") as file:
+            file.write("\n".join(lines) + "\n")
+    return copies
+
+
+def on_disk(line, folder):
+    """A command's line, with its program taken from a folder."""
+    if not line.startswith("#$ "):
+        return line
+    first, _, rest = line[3:].partition(" ")
+    if "=" in first:
+        return line
+    return f"#$ {folder}/{os.path.basename(first.strip(chr(34)))} {rest}"
+
+
+def findings(plan, runs):
+    """Returns what is wrong beyond the schema."""
+    found = []
+    for place, command in enumerate(plan["commands"]):
+        if command["id"] != place:
+            found.append(f"command {place} has the id {command['id']}")
+        if any(need >= place for need in command["needs"]):
+            found.append(f"command {place} needs a later one")
+        if command["group"] >= plan["groups"]:
+            found.append(f"command {place} is in no group")
+    for command in plan["commands"] + plan["dropped"]:
+        line = runs[command["run"] - 1][command["line"] - 1]
+        if os.path.basename(command["exe"]) not in line:
+            found.append(f"line {command['line']} of run {command['run']} doesn't run {command['exe']}")
+    return found
+
+
+def ran_in_threads(plan):
+    """Runs a stand-in for each command, as the example of README does. Returns the ids in the order in which they ended."""
+    ended = []
+    jobs = []
+
+    def run(command):
+        for need in command["needs"]:
+            jobs[need].result()
+        ended.append(command["id"])
+
+    with concurrent.futures.ThreadPoolExecutor(4) as pool:
+        for command in plan["commands"]:
+            jobs.append(pool.submit(run, command))
+    return ended
+
+
+def check(name, zigrunk, validator, room):
+    """Returns what is wrong with the JSON of a pair."""
+    dry1, dry2 = with_programs(name, room)
+    with open(f"{DATA}/{name}.flag", encoding="utf-8") as file:
+        flag = file.read().strip()
+    ran = subprocess.run([zigrunk, "json", "/w", "/t", flag, dry1, dry2], capture_output=True, text=True, check=False)
+    if ran.returncode != 0:
+        return [f"status {ran.returncode}: {ran.stderr.strip()}"]
+    plan = json.loads(ran.stdout)
+    found = [error.message for error in validator.iter_errors(plan)]
+    if json.dumps(plan, separators=(",", ":"), sort_keys=True, ensure_ascii=False) + "\n" != ran.stdout:
+        found.append("the members aren't in order, or there are spaces")
+    runs = []
+    for path in (dry1, dry2):
+        with open(path, encoding="utf-8") as file:
+            runs.append(file.read().splitlines())
+    found += findings(plan, runs)
+    if sorted(ran_in_threads(plan)) != list(range(len(plan["commands"]))):
+        found.append("not every command ran")
+    return found
+
+
+def refused(validator):
+    """Returns the names of wrong plans that the schema accepts."""
+    command = {
+        "args": [], "cacheable": True, "complete": True, "cwd": "/t", "env": [["A", "b"]], "exe": "/b/cicc", "group": 0, "id": 0,
+        "line": 1, "may_write": [], "needs": [], "reads": [], "run": 1, "writes": [],
+    }
+    plan = {"commands": [command], "cwd": "/w", "dropped": [], "flag": "-c", "groups": 2, "tmp": "/t", "version": 1}
+    wrong = {
+        "another version": {**plan, "version": 2},
+        "a line 0": {**plan, "commands": [{**command, "line": 0}]},
+        "a run 0": {**plan, "commands": [{**command, "run": 0}]},
+        "a variable without a value": {**plan, "commands": [{**command, "env": [["A"]]}]},
+        "a member too many": {**plan, "commands": [{**command, "more": 1}]},
+        "a member too few": {key: value for key, value in plan.items() if key != "flag"},
+    }
+    accepted = [name for name, value in wrong.items() if validator.is_valid(value)]
+    return accepted if validator.is_valid(plan) else accepted + ["no plan at all"]
+
+
+def main():
+    zigrunk = os.path.realpath(sys.argv[1] if len(sys.argv) > 1 else f"{TOP}/crates/zigrunk/out/zigrunk")
+    with open(f"{TOP}/docs/plan.schema.json", encoding="utf-8") as file:
+        schema = json.load(file)
+    jsonschema.Draft202012Validator.check_schema(schema)
+    validator = jsonschema.Draft202012Validator(schema)
+    passed = failed = 0
+    with tempfile.TemporaryDirectory() as room:
+        results = [(name, check(name, zigrunk, validator, room)) for name in pairs()]
+    results.append(("the schema", [f"it accepts {name}" for name in refused(validator)]))
+    for name, found in results:
+        for finding in found:
+            print(f"{name}: {finding}")
+        passed += not found
+        failed += bool(found)
+    print(f"{passed} passed, {failed} failed")
+    sys.exit(1 if failed else 0)
+
+
+main()
