@@ -1,0 +1,6 @@
+pub mod Laws
+pub mod Memory
+pub mod Outcomes
+pub mod Shell
+pub mod Statuses
+pub mod Version

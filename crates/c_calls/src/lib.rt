@@ -1,0 +1,20 @@
+//! The library's calls over memory that a C program owns.
+//!
+//! Each call reads texts of the caller, and writes its answer into buffers of the caller: all of it, or nothing if a
+//! buffer is too small. Either way it returns the sizes of the answer, so a call with empty buffers asks for the sizes.
+//! No call keeps anything: there is no state and nothing to free.
+//!
+//! The crate `zigrunk_c` exports these calls to C, one function for each.
+#![tactic(auto)]
+
+pub mod laws;
+mod memory;
+mod outcome;
+mod shell;
+mod status;
+mod versions;
+
+pub use memory::{InputText, ListAnswer, Range, TextAnswer};
+pub use shell::{quote, split};
+pub use status::{Status, message};
+pub use versions::{abi_version, version};

@@ -1,0 +1,160 @@
+//! What calls end with, and how they tell the caller.
+
+ghost use Rattle.std.specs.Prelude.{◌≡◌, ◌++◌, [], ◌∷◌, map, IfOk, OnOk, length, string_bytes};
+ghost use Rattle.std.specs.List.{concat};
+ghost use Rattle.c_calls.specs.Memory as memory;
+ghost use Rattle.c_calls.specs.Outcomes as spec;
+
+use crate::memory::{ListAnswer, Range, TextAnswer};
+use crate::status::Status;
+use std::alloc::{AllocError, Global};
+use std::marker::Model;
+
+/// A status, and texts one behind the other.
+#[derive(Drop)]
+pub(crate) struct Outcome {
+    status: i32,
+    ranges: Vec<Range>,
+    text: String,
+}
+
+impl Model for Outcome {
+    ghost use Rattle.std.specs.Prelude.{string_bytes};
+    ghost use Rattle.c_calls.specs.Outcomes.{Outcome};
+
+    ghost Value = { Outcome };
+
+    ghost view = { λ o. (o.status, (o.ranges.items, string_bytes o.text)) };
+}
+
+impl Outcome {
+    /// Success, so far without a text.
+    pub(crate) fn new(alloc: Global) -> Outcome
+        ensures { result ≡ spec.of_texts [] }
+    {
+        Outcome {
+            status: 0,
+            ranges: Vec::new(alloc),
+            text: String::new(alloc),
+        }
+    }
+
+    /// Success, with one text that no range names.
+    pub(crate) fn of_text(text: String, alloc: Global) -> Outcome
+        ensures { result ≡ spec.of_text (string_bytes text) }
+    {
+        Outcome {
+            status: 0,
+            ranges: Vec::new(alloc),
+            text,
+        }
+    }
+
+    /// Adds a text.
+    pub(crate) fn push(&mut self, text: &str) -> Result<(), AllocError>
+        ensures { OnOk result (self.new ≡ spec.with_texts self.old (text.now ∷ [])) }
+    {
+        let range = Range {
+            offset: self.text.len(),
+            length: text.len(),
+        };
+        self.text.push_str(text)?;
+        self.ranges.push(range)?;
+        Ok(())
+    }
+
+    /// Adds texts.
+    pub(crate) fn push_all(&mut self, texts: &[String]) -> Result<(), AllocError>
+        ensures { OnOk result (self.new ≡ spec.with_texts self.old (map string_bytes texts.now)) }
+    {
+        for text in texts {
+            self.push(text.as_str())?;
+        }
+        Ok(())
+    }
+}
+
+/// A refusal, with its text.
+pub(crate) fn refused(alloc: Global, status: Status) -> Result<Outcome, AllocError>
+    ensures { IfOk result (λ outcome. outcome ≡ spec.refused status) }
+{
+    Ok(Outcome {
+        status: status.number(),
+        ranges: Vec::new(alloc),
+        text: String::from_str(alloc, status.text())?,
+    })
+}
+
+/// Writes one text into memory of the caller, if it fits.
+pub(crate) fn tell_text(status: i32, text: &str, out: &mut [u8]) -> TextAnswer
+    ensures { spec.TellsText (status, ([], text.now)) result out.old out.new }
+{
+    let text = text.as_bytes();
+    if text.len() <= out.len() {
+        out[..text.len()].copy_from_slice(text);
+    }
+    TextAnswer {
+        status,
+        length: text.len(),
+    }
+}
+
+// Writes ranges and bytes into memory of the caller, if both fit.
+fn tell_list(
+    status: i32,
+    places: &[Range],
+    text: &str,
+    ranges: &mut [Range],
+    out: &mut [u8],
+) -> ListAnswer
+    ensures { spec.TellsList (status, (places.now, text.now)) result ranges.old ranges.new out.old out.new }
+{
+    let text = text.as_bytes();
+    if places.len() <= ranges.len() && text.len() <= out.len() {
+        ranges[..places.len()].copy_from_slice(places);
+        out[..text.len()].copy_from_slice(text);
+    }
+    ListAnswer {
+        status,
+        count: places.len(),
+        length: text.len(),
+    }
+}
+
+/// Tells the caller an outcome with one text, or that an allocation failed.
+pub(crate) fn give_text(outcome: Result<Outcome, AllocError>, out: &mut [u8]) -> TextAnswer
+    ensures { (expected : spec.Outcome) → IfOk outcome (λ o. o ≡ expected)
+        → spec.GivesText expected result out.old out.new }
+{
+    match outcome {
+        Ok(outcome) => tell_text(outcome.status, outcome.text.as_str(), out),
+        Err(_) => tell_text(Status::Memory.number(), Status::Memory.text(), out),
+    }
+}
+
+/// Tells the caller an outcome, or that an allocation failed.
+pub(crate) fn give_list(
+    outcome: Result<Outcome, AllocError>,
+    ranges: &mut [Range],
+    out: &mut [u8],
+) -> ListAnswer
+    ensures { (expected : spec.Outcome) → IfOk outcome (λ o. o ≡ expected)
+        → spec.GivesList expected result ranges.old ranges.new out.old out.new }
+{
+    match outcome {
+        Ok(outcome) => tell_list(
+            outcome.status,
+            outcome.ranges.as_slice(),
+            outcome.text.as_str(),
+            ranges,
+            out,
+        ),
+        Err(_) => tell_list(
+            Status::Memory.number(),
+            &[],
+            Status::Memory.text(),
+            ranges,
+            out,
+        ),
+    }
+}

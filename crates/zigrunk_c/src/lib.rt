@@ -1,0 +1,61 @@
+//! The exports of libzigrunk: for each call of `c_calls`, one C function. The header is `bindings/c/zigrunk.h`.
+#![tactic(auto)]
+
+ghost use Rattle.std.specs.Prelude.{◌≡◌, map};
+ghost use Rattle.c_calls.specs.Memory.{bytes_of};
+ghost use Rattle.c_calls.specs.Outcomes.{GivesList, GivesText, TellsText, described, of_text};
+ghost use Rattle.c_calls.specs.Shell.{quote_outcome, split_outcome};
+ghost use Rattle.c_calls.specs.Statuses.{with_number};
+ghost use Rattle.c_calls.specs.Version as version;
+
+use c_calls::{InputText, ListAnswer, Range, TextAnswer};
+use std::alloc::Global;
+
+/// The number of the binary interface.
+#[unsafe(no_mangle)]
+pub extern "C" fn zigrunk_abi_version() -> u32
+    ensures { result ≡ version.abi_version }
+{
+    c_calls::abi_version()
+}
+
+/// Writes the library's version.
+#[unsafe(no_mangle)]
+pub extern "C" fn zigrunk_version(out: &mut [u8]) -> TextAnswer
+    ensures { TellsText (of_text version.version_text) result out.old out.new }
+{
+    c_calls::version(out)
+}
+
+/// Writes the text of a status.
+#[unsafe(no_mangle)]
+pub extern "C" fn zigrunk_message(alloc: Global, status: i32, out: &mut [u8]) -> TextAnswer
+    ensures { GivesText (described (with_number status)) result out.old out.new }
+{
+    c_calls::message(alloc, status, out)
+}
+
+/// Splits a text into the words that a shell reads.
+#[unsafe(no_mangle)]
+pub extern "C" fn zigrunk_split(
+    alloc: Global,
+    text: &[u8],
+    ranges: &mut [Range],
+    out: &mut [u8],
+) -> ListAnswer
+    ensures { GivesList (split_outcome text.now) result ranges.old ranges.new out.old out.new }
+{
+    c_calls::split(alloc, text, ranges, out)
+}
+
+/// Quotes words for a shell.
+#[unsafe(no_mangle)]
+pub extern "C" fn zigrunk_quote(
+    alloc: Global,
+    words: &[InputText<'_>],
+    out: &mut [u8],
+) -> TextAnswer
+    ensures { GivesText (quote_outcome (map bytes_of words.now)) result out.old out.new }
+{
+    c_calls::quote(alloc, words, out)
+}

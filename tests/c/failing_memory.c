@@ -1,0 +1,105 @@
+/* Each allocation of a call fails in turn, in one process. Link with --wrap for malloc, realloc and free. */
+#include "checks.h"
+
+void *__real_malloc(size_t size);
+void *__real_realloc(void *at, size_t size);
+void __real_free(void *at);
+
+static int is_counting;       /* whether a call of the library runs */
+static long asked, held;      /* allocations of that call so far; blocks that it holds */
+static long failing = -1;     /* which of them fails */
+
+void *__wrap_malloc(size_t size) {
+    if (is_counting && asked++ == failing) {
+        return NULL;
+    }
+    void *at = __real_malloc(size);
+    held += is_counting && at;
+    return at;
+}
+
+void *__wrap_realloc(void *at, size_t size) {
+    if (is_counting && asked++ == failing) {
+        return NULL;
+    }
+    void *moved = __real_realloc(at, size);
+    held += is_counting && !at && moved;
+    return moved;
+}
+
+void __wrap_free(void *at) {
+    held -= is_counting && at;
+    __real_free(at);
+}
+
+/* A call that is tried: it fills the buffers and answers as a list. */
+typedef struct buffers {
+    zigrunk_range ranges[4096];
+    uint8_t out[1 << 16];
+} buffers;
+
+typedef zigrunk_list_answer tried(buffers *into);
+
+static buffers whole, part;
+
+/* Tries a call with the first allocation failing, then the second, and so on until none fails. */
+static void try_all(const char *name, tried *call) {
+    long nth = 0, told = 0, done = 0;
+    memset(&whole, UNWRITTEN, sizeof whole);
+    zigrunk_list_answer right = call(&whole);
+    for (;; nth++) {
+        memset(&part, UNWRITTEN, sizeof part);
+        failing = nth;
+        asked = held = 0;
+        is_counting = 1;
+        zigrunk_list_answer a = call(&part);
+        is_counting = 0;
+        CHECK(held == 0);
+        if (asked <= nth) {
+            break;
+        }
+        if (a.status == ZIGRUNK_OUT_OF_MEMORY) {
+            told++;
+            CHECK(a.count == 0 && a.length == 13 && memcmp(part.out, "out of memory", 13) == 0);
+            CHECK(is_unwritten(part.ranges, sizeof part.ranges) && is_unwritten(part.out + 13, sizeof part.out - 13));
+        } else {
+            done++;
+            CHECK(a.status == right.status && a.count == right.count && a.length == right.length);
+            CHECK(memcmp(&part, &whole, sizeof part) == 0);
+        }
+    }
+    CHECK(told > 0);
+    CHECK(memcmp(&part, &whole, sizeof part) == 0);
+    printf("%s: %ld allocations failed in turn, %ld told, %ld done without\n", name, nth, told, done);
+}
+
+static zigrunk_list_answer as_list(zigrunk_text_answer a) {
+    zigrunk_list_answer list = {a.status, 0, a.length};
+    return list;
+}
+
+static zigrunk_list_answer try_split(buffers *into) {
+    static const char text[] = "nvcc -c 'a b' \"c $d\" e\\ f --some-longer-word-than-the-others=\"x y z\" g h i j k l m n o p q";
+    return zigrunk_split((const uint8_t *)text, sizeof text - 1, into->ranges, 4096, into->out, sizeof into->out);
+}
+
+static zigrunk_list_answer try_refused_split(buffers *into) {
+    return zigrunk_split((const uint8_t *)"a b 'c", 6, into->ranges, 4096, into->out, sizeof into->out);
+}
+
+static zigrunk_list_answer try_quote(buffers *into) {
+    zigrunk_text words[] = {text_of("nvcc"), text_of("a b"), text_of("it's"), text_of("-DX=\"1\""), text_of("")};
+    return as_list(zigrunk_quote(words, 5, into->out, sizeof into->out));
+}
+
+static zigrunk_list_answer try_message(buffers *into) {
+    return as_list(zigrunk_message(ZIGRUNK_OPEN_QUOTE, into->out, sizeof into->out));
+}
+
+int main(void) {
+    try_all("split", try_split);
+    try_all("refused split", try_refused_split);
+    try_all("quote", try_quote);
+    try_all("message", try_message);
+    return report();
+}

@@ -1,0 +1,48 @@
+/* Eight threads call at the same time, with input of their own and with input that they share. */
+#include "checks.h"
+
+#include <pthread.h>
+
+#define THREADS 8
+
+static const char shared[] = "nvcc -c 'a b' \"c d\" e\\ f";
+
+typedef struct work {
+    pthread_t thread;
+    int number;
+    int rounds;
+    int wrong;
+} work;
+
+static void *run(void *argument) {
+    work *mine = argument;
+    for (int i = 0; i < mine->rounds; i++) {
+        zigrunk_range ranges[8];
+        uint8_t out[64];
+        zigrunk_list_answer a = zigrunk_split((const uint8_t *)shared, sizeof shared - 1, ranges, 8, out, sizeof out);
+        mine->wrong += a.status != ZIGRUNK_OK || a.count != 5 || memcmp(out, "nvcc-ca bc de f", 15) != 0;
+        char own[32];
+        int length = snprintf(own, sizeof own, "%d '%d", mine->number, i);
+        a = zigrunk_split((const uint8_t *)own, (size_t)length, ranges, 8, out, sizeof out);
+        mine->wrong += a.status != ZIGRUNK_OPEN_QUOTE;
+        length = snprintf(own, sizeof own, "thread %d", mine->number);
+        zigrunk_text word = {(const uint8_t *)own, (size_t)length};
+        zigrunk_text_answer q = zigrunk_quote(&word, 1, out, sizeof out);
+        mine->wrong += q.status != ZIGRUNK_OK || q.length != (size_t)length + 2 || memcmp(out + 1, own, (size_t)length) != 0;
+    }
+    return NULL;
+}
+
+int main(int count, char **arguments) {
+    static work works[THREADS];
+    for (int i = 0; i < THREADS; i++) {
+        works[i].number = i;
+        works[i].rounds = count > 1 ? atoi(arguments[1]) : 1000;
+        CHECK(pthread_create(&works[i].thread, NULL, run, &works[i]) == 0);
+    }
+    for (int i = 0; i < THREADS; i++) {
+        CHECK(pthread_join(works[i].thread, NULL) == 0);
+        CHECK(works[i].wrong == 0);
+    }
+    return report();
+}

@@ -1,0 +1,161 @@
+#!/usr/bin/env bash
+# Tests libzigrunk: its symbols, its header, and its calls from C, as both compilers build it. Prints a line for each failure, and
+# last 'N passed, M failed'; the status is 1 if one failed.
+#
+#   tests/c_library.sh [FOLDER]           FOLDER: this repository, or a copy that `rt ci` has proved
+#   tests/c_library.sh --built ARCHIVE    tests this one archive, of `rt lib`
+#
+# A tool that isn't installed is named on a line, and what it would test is left out.
+set -u
+cd "$(dirname "$0")/.." || exit 1
+scratch=$(mktemp -d)
+trap 'rm -rf "$scratch"' EXIT
+passed=0
+failed=0
+
+# check NAME COMMAND..: counts a command that has to succeed, and shows what it printed if it fails.
+check() {
+    local name=$1
+    shift
+    if "$@" > "$scratch/said" 2>&1; then
+        passed=$((passed + 1))
+    else
+        failed=$((failed + 1))
+        echo "failed: $name"
+        tail -n 30 "$scratch/said"
+    fi
+}
+
+# prints TEXT COMMAND..: whether a command prints exactly this text.
+prints() {
+    local text=$1
+    shift
+    diff <(echo "$text") <("$@")
+}
+
+# has TOOL..: whether all of these are installed. Says so if not, once for each.
+has() {
+    local tool all=0
+    for tool in "$@"; do
+        if ! command -v "$tool" > /dev/null; then
+            all=1
+            grep -qsx "$tool" "$scratch/missing" || echo "skipped: what needs $tool, which isn't installed"
+            echo "$tool" >> "$scratch/missing"
+        fi
+    done
+    return "$all"
+}
+
+version=$(cat VERSION)
+flags=(-Wall -Wextra -pedantic -Werror -g -O1 -Itests/c -DVERSION="\"$version\"")
+c_flags=(-std=c99 -D_POSIX_C_SOURCE=200809L "${flags[@]}")
+memory_functions=("-Wl,--wrap=malloc,--wrap=realloc,--wrap=free")
+
+# symbols: only the exports are global, and only these functions of the C library are needed.
+symbols() {
+    local lib=$1 name
+    diff <(sed -n 's/^ *\(zigrunk_[a-z_0-9]*\);$/\1/p' bindings/c/zigrunk.map) <(nm -g --defined-only "$lib/libzigrunk.a" | awk 'NF == 3 { print $3 }' | LC_ALL=C sort) || return 1
+    diff <(sed -n 's/^ *\(zigrunk_[a-z_0-9]*\);$/\1@@ZIGRUNK_1/p' bindings/c/zigrunk.map) \
+        <(nm -D --with-symbol-versions --defined-only "$lib/libzigrunk.so.1" | awk '$2 == "T" { print $3 }' | LC_ALL=C sort) || return 1
+    for name in $(nm -u "$lib/libzigrunk.a" | awk 'NF == 2 { print $2 }'); do
+        case $name in
+        malloc | realloc | free | memcpy | memmove | memset) ;;
+        *) echo "it needs $name" && return 1 ;;
+        esac
+    done
+}
+
+# declared: the header declares the exports, and nothing else.
+declared() {
+    diff <(sed -n 's/^ *\(zigrunk_[a-z_0-9]*\);$/\1/p' bindings/c/zigrunk.map) <(grep -o '\bzigrunk_[a-z_0-9]*(' bindings/c/zigrunk.h | tr -d '(' | LC_ALL=C sort -u)
+}
+
+# headers: the header alone, as C99 and as C++17.
+headers() {
+    local compiler
+    printf '#include "zigrunk.h"\n' | tee "$scratch/header.c" > "$scratch/header.cc"
+    for compiler in gcc clang; do
+        has "$compiler" && check "the header by $compiler" "$compiler" "${c_flags[@]}" -I"$1" -c "$scratch/header.c" -o "$scratch/header.o"
+    done
+    for compiler in g++ clang++; do
+        has "$compiler" && check "the header by $compiler" "$compiler" -std=c++17 "${flags[@]}" -I"$1" -c "$scratch/header.cc" -o "$scratch/header.o"
+    done
+}
+
+# compiled COMPILER SOURCE PROGRAM LIBRARY FLAGS..
+compiled() {
+    local compiler=$1 source=$2 program=$3 library=$4
+    shift 4
+    "$compiler" "${c_flags[@]}" -I"$library/include" "$source" "$library/lib/libzigrunk.a" -o "$program" "$@"
+}
+
+# calls LIBRARY: the tests in C, of one build of the library.
+calls() {
+    local library=$1 programs=$1/programs
+    mkdir "$programs"
+    has gcc || return
+    check "calls.c" compiled gcc tests/c/calls.c "$programs/calls" "$library"
+    check 'the calls' "$programs/calls" 1000
+    cp "$scratch/said" "$programs/answers"
+    check 'failing_memory.c' compiled gcc tests/c/failing_memory.c "$programs/failing_memory" "$library" "${memory_functions[@]}"
+    check 'each allocation failing in turn' "$programs/failing_memory"
+    check 'threads.c' compiled gcc tests/c/threads.c "$programs/threads" "$library" -pthread
+    check 'the calls of eight threads' "$programs/threads" 2000
+}
+
+# watched LIBRARY: the same under tools that watch memory and threads.
+watched() {
+    local library=$1 programs=$1/programs
+    if has gcc valgrind; then
+        check 'the calls under memcheck' valgrind -q --error-exitcode=9 --leak-check=full "$programs/calls" 100
+        check 'the threads under helgrind' valgrind -q --tool=helgrind --error-exitcode=9 "$programs/threads" 20
+    fi
+    if has clang; then
+        check 'calls.c with sanitizers' compiled clang tests/c/calls.c "$programs/sanitized" "$library" -fsanitize=address,undefined -fno-sanitize-recover=all
+        check 'the calls under ASan and UBSan' "$programs/sanitized" 1000
+    fi
+}
+
+# shared LIBRARY: a program that uses the shared object, by pkg-config, and the example.
+shared() {
+    local library=$1 words
+    has gcc pkg-config || return
+    words=$(PKG_CONFIG_PATH=$library/lib/pkgconfig pkg-config --cflags --libs zigrunk)
+    check 'the version of zigrunk.pc' test "$(PKG_CONFIG_PATH=$library/lib/pkgconfig pkg-config --modversion zigrunk)" = "$version"
+    # shellcheck disable=SC2086 # words
+    check 'calls.c with the shared object' gcc "${c_flags[@]}" tests/c/calls.c -o "$library/programs/shared" $words
+    # shellcheck disable=SC2086 # words
+    check 'the example in C' gcc "${c_flags[@]}" bindings/c/example.c -o "$library/programs/example" $words
+    check 'what the example prints' prints $'0: nvcc\n1: -c\n2: \'my kernel.cu\'\n3: \'-DNAME="x"\'' env LD_LIBRARY_PATH="$library/lib" "$library/programs/example"
+    check 'the calls of the shared object' env LD_LIBRARY_PATH="$library/lib" "$library/programs/shared" 100
+}
+
+# same: both builds give the same answers, byte for byte.
+same() {
+    cmp "$scratch/llvm/programs/answers" "$scratch/rattle/programs/answers"
+}
+
+check 'the declared calls' declared
+mkdir "$scratch/archives"
+if [ "${1-}" = --built ]; then
+    cp "$2" "$scratch/archives/built.a"
+elif ! tests/static_library.py "${1:-.}" "$scratch/archives"; then
+    echo 'the archives cannot be built'
+    echo "$passed passed, $((failed + 1)) failed"
+    exit 1
+fi
+headers bindings/c
+for archive in "$scratch"/archives/*.a; do
+    library=$scratch/$(basename "$archive" .a)
+    check "the library of $(basename "$archive")" bindings/c/library.sh "$archive" "$library"
+    check 'its symbols' symbols "$library/lib"
+    calls "$library"
+done
+library=$scratch/llvm
+[ -d "$library" ] || library=$scratch/built
+[ ! -d "$scratch/rattle" ] || check 'both builds give the same answers' same
+watched "$library"
+shared "$library"
+
+echo "$passed passed, $failed failed"
+[ "$failed" -eq 0 ]
