@@ -1,4 +1,4 @@
-# Completion for zigrunk, cudaplan and zigrunk-nvcc in bash.
+# Completion for zigrunk, cudaplan, zigrunk-nvcc and zigrunk-batch in bash.
 
 # Offers the words of $1 that begin like the current one.
 _zigrunk_words() {
@@ -28,7 +28,7 @@ _zigrunk_plan() {
 _zigrunk() {
     local current=${COMP_WORDS[COMP_CWORD]} form=${COMP_WORDS[1]-} forms='line plan'
     COMPREPLY=()
-    [ "${1##*/}" = cudaplan ] || forms='shell ninja json calls directory line plan --help --version'
+    [ "${1##*/}" = cudaplan ] || forms='shell ninja json dot compdb calls directory line plan --help --version'
     if [ "$COMP_CWORD" -eq 1 ]; then
         _zigrunk_words "$forms"
         return
@@ -39,7 +39,7 @@ _zigrunk() {
     esac
     local place=$((COMP_CWORD - 1))
     case $form in
-    shell | ninja | json)
+    shell | ninja | json | dot | compdb)
         local words=("${COMP_WORDS[@]:2}") options='--keep --whole'
         if [ "${words[0]}" = --keep ] && [ "$place" -gt 1 ]; then
             words=("${words[@]:1}") place=$((place - 1)) options=--whole
@@ -73,4 +73,4 @@ _zigrunk() {
 }
 
 complete -F _zigrunk zigrunk cudaplan
-complete -o default zigrunk-nvcc
+complete -o default zigrunk-nvcc zigrunk-batch

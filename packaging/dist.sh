@@ -1,7 +1,8 @@
 #!/usr/bin/env bash
 # Packs the built programs: dist/zigrunk-VERSION-x86_64-linux.tar.gz, dist/zigrunk_VERSION_amd64.deb and dist/SHA256SUMS.
-# Proves and builds nothing. Two runs from one commit give the same bytes: files have the time SOURCE_DATE_EPOCH, which is
-# that of the commit unless it is set.
+# Proves and compiles nothing. It links the proved programs' object files once more, statically: the kit's linker asks for symbols
+# of glibc 2.34, and a static program runs on every Linux. Two runs from one commit give the same bytes: files have the time
+# SOURCE_DATE_EPOCH, which is that of the commit unless it is set.
 set -eu
 cd "$(dirname "$0")/.."
 if ! .ci/built check; then
@@ -17,8 +18,15 @@ trap 'rm -rf "$scratch"' EXIT
 rm -rf dist
 mkdir dist
 
-# The oldest glibc with all versions of symbols that the programs need.
-glibc=$(objdump -T crates/cudaplan/out/cudaplan crates/zigrunk/out/zigrunk | grep -o 'GLIBC_[0-9.]*' | sed 's/GLIBC_//' | sort -V | tail -n 1)
+kit=$(dirname "$(dirname "$(readlink -f "$(command -v rt)")")")
+
+# link FOLDER: puts static programs in place of those in a folder.
+link() {
+    local name
+    for name in cudaplan zigrunk; do
+        cc -static -s -o "$1/$name" "crates/$name/out/$name.o" "$kit/c/libos_c.a" "$kit/c/liblibc_c.a"
+    done
+}
 
 # date_all FOLDER: gives everything in a folder the one time.
 date_all() {
@@ -27,7 +35,7 @@ date_all() {
 
 name=zigrunk-$version-x86_64-linux
 make -s install DESTDIR="$scratch/" PREFIX="$name"
-strip "$scratch/$name/bin/cudaplan" "$scratch/$name/bin/zigrunk"
+link "$scratch/$name/bin"
 install -m 644 packaging/README LICENSE NOTICE CHANGELOG.md "$scratch/$name"
 date_all "$scratch/$name"
 tar -c -C "$scratch" --sort=name --format=ustar --owner=0 --group=0 --numeric-owner "$name" | gzip -n -9 > "dist/$name.tar.gz"
@@ -35,8 +43,9 @@ tar -c -C "$scratch" --sort=name --format=ustar --owner=0 --group=0 --numeric-ow
 root=$scratch/root
 doc=$root/usr/share/doc/zigrunk
 make -s install DESTDIR="$root" PREFIX=/usr
-strip "$root/usr/bin/cudaplan" "$root/usr/bin/zigrunk"
-mkdir -p "$root/usr/share/zsh/vendor-completions" "$doc" "$root/DEBIAN"
+link "$root/usr/bin"
+mkdir -p "$root/usr/share/zsh/vendor-completions" "$root/usr/share/lintian/overrides" "$doc" "$root/DEBIAN"
+printf 'zigrunk: statically-linked-binary [usr/bin/%s]\n' cudaplan zigrunk > "$root/usr/share/lintian/overrides/zigrunk"
 mv "$root/usr/share/zsh/site-functions/_zigrunk" "$root/usr/share/zsh/vendor-completions"
 rmdir "$root/usr/share/zsh/site-functions"
 for page in "$root"/usr/share/man/man1/*.1; do
@@ -58,7 +67,7 @@ Version: $version
 Architecture: amd64
 Maintainer: Zigrunk maintainers <maintainers@users.noreply.zigrunk.example>
 Installed-Size: $(find "$root/usr" -type f -printf '%s\n' | awk '{ size += $1 } END { print int(size / 1024) + 1 }')
-Depends: libc6 (>= $glibc), libgcc-s1, ninja-build
+Depends: ninja-build
 Suggests: sccache, slurm-client
 Section: devel
 Priority: optional
@@ -75,5 +84,4 @@ END
 date_all "$root"
 dpkg-deb --root-owner-group -Zxz --build "$root" "dist/zigrunk_${version}_amd64.deb" > /dev/null
 (cd dist && sha256sum -- *.tar.gz *.deb > SHA256SUMS)
-echo "The programs need glibc $glibc."
 ls -l dist

@@ -40,7 +40,7 @@ says() {
     [ "$("$@")" = "$text" ]
 }
 
-for release in bookworm trixie; do
+for release in bullseye bookworm trixie; do
     root=$scratch/$release
     if ! debootstrap --variant=minbase "$release" "$root" > "$scratch/said" 2>&1; then
         echo "$release is skipped: $(tail -n 1 "$scratch/said")"

@@ -101,11 +101,11 @@ nothing is removed before nvcc itself runs
 old:     clean
 new:     :
 nvcc itself runs as a child
-old: exec "$nvcc" "$@"
+old: exec ${ZIGRUNK_RUNNER-} "$nvcc" "$@"
 new: "$nvcc" "$@"; exit
 words are split
-old: exec "$nvcc" "$@"
-new: exec "$nvcc" $*
+old: exec ${ZIGRUNK_RUNNER-} "$nvcc" "$@"
+new: exec ${ZIGRUNK_RUNNER-} "$nvcc" $*
 a second signal stops the cleaning
 old: 'trap "" HUP INT TERM; clean' EXIT
 new: clean EXIT
@@ -124,69 +124,12 @@ new: :
 INT has another status
 old: exit 130
 new: exit 1
--optix-ir is taken for -o
-old: -optix-ir) ;;
-new: -optix) ;;
-a dry run is split
-old: -dryrun | --dryrun | -v
-new: -v
-a call that prints is split
-old:  -v | --verbose |
-new: 
-a program runs
-old: | -run | --run |
-new: |
--o=FILE is split
-old: | -o?* |
-new: |
-words for a shell are split
-old:  | *['$`']*)
-new: )
-a stream is a file
-old: -) plain
-new: -x) plain
-a number of threads that is none
-old: --threads=*[!0-9]* | -t
-new: -t
-any number of threads goes to nvcc
-old: *=-t=*[!0-9]*)
-new: *=-t=*)
-the last word is forgotten
-old: last=$word seen
-new: seen
-words that came before are forgotten
-old: seen="$seen $word "
-new: seen=
--o may come twice
-old: '-o '*' -o '* |
-new: 
--MF may come twice
-old: '-MF '*' -MF '* |
-new: 
--MT may come twice
-old: | '-MT '*' -MT '*)
-new: )
-no output is needed
-old: [ -n "$output" ] ||
-new: true ||
---output-file is split
-old:  | --output-file*
-new: 
-NVCC_APPEND_FLAGS is split
-old: "${NVCC_PREPEND_FLAGS-}${NVCC_APPEND_FLAGS-}"
-new: "${NVCC_PREPEND_FLAGS-}"
-NVCC_PREPEND_FLAGS is split
-old: "${NVCC_PREPEND_FLAGS-}${NVCC_APPEND_FLAGS-}"
-new: "${NVCC_APPEND_FLAGS-}"
-a call that links is split
-old: [ -n "$flag" ] ||
-new: true ||
-commands of a fatbin run side by side
-old: jobs=1 ;;
-new: ;;
---fatbin is forgotten
-old: -fatbin | --fatbin)
-new: -fatbin)
+commands of a fatbin run one at a time
+old: eval "$calls"
+new: eval "$calls" && [ "$flag" != -fatbin ] || jobs=1
+those of --fatbin do
+old: eval "$calls"
+new: eval "$calls" && [ "$flag" != --fatbin ] || jobs=1
 the working directory is left out
 old: directory "$PWD" "$nvcc"
 new: directory / "$nvcc"
@@ -242,7 +185,7 @@ calls gets no directory
 old: calls "$PWD" "$tmp"
 new: calls "$PWD" "$PWD"
 calls that can't be split are split
-old: || plain "$calls" "$@"
+old: || plain "${calls#zigrunk: goes to nvcc: }" "$@"
 new: || :
 a missing keep directory is ignored
 old: [ -d "${keep_dir:-/}" ] ||
@@ -281,14 +224,44 @@ any plan is run
 old: plain "$reason" "$@"
 new: :
 outputs stay in Ninja's log
-old: s/^  command = /&exec
-new: s/^  nothing = /&exec
+old: s/^  command =
+new: s/^  nothing =
 there is no dependency file
-old: build zigrunk.dependencies: dependencies
+old: build ${tmp}/zigrunk.tmp/depended: dependencies ${tmp}/zigrunk.tmp/dependencies
 new: 
-a dependency command of the environment
-old: ZIGRUNK_DEPENDENCIES=$dependencies "${
-new: "${
+an empty command for the dependency file
+old: printf '%s\n' "$dependencies"
+new: printf '%s\n' ''
+the stamp of the dependency file is missing
+old:  && touch ${out}
+new: 
+ZIGRUNK_TMP is ignored
+old: ${ZIGRUNK_TMP:-${TMPDIR:-/tmp}}
+new: ${TMPDIR:-/tmp}
+tools share ZIGRUNK_TMP
+old: ${ZIGRUNK_TMP:+${TMPDIR:-/tmp}}
+new: 
+nvcc runs here
+old: exec ${ZIGRUNK_RUNNER-} "$nvcc"
+new: exec "$nvcc"
+the first step runs Ninja
+old: "$ZIGRUNK_PLAN" && tmp='' && exit
+new: "$ZIGRUNK_PLAN"
+the first step removes the plan
+old: && tmp='' && exit
+new: && exit
+the first step runs nvcc
+old: > "$ZIGRUNK_PLAN" && exit; }
+new: > "$ZIGRUNK_PLAN"; }
+the second step plans again
+old: if [ -s "${ZIGRUNK_PLAN-}" ]
+new: if false
+the second step forgets the reason
+old: plain "$keep_dir" "$@"; }
+new: plain '' "$@"; }
+a missing stamp is no failure
+old: || finish 1 "$@"
+new: || finish 0 "$@"
 Ninja's file may be cut
 old: "$own/ninja" || plain 'no room for temporary files' "$@"
 new: "$own/ninja"
@@ -296,8 +269,8 @@ the script's own directory may be missing
 old: mkdir "$own" 2> /dev/null || plain 'no room for temporary files' "$@"
 new: mkdir "$own" 2> /dev/null
 the commands share TMPDIR
-old: TMPDIR=$own ZIG
-new: ZIG
+old: TMPDIR=${scratch:-$own}
+new: TMPDIR=${scratch:-$TMPDIR}
 the number of jobs is ignored
 old: ${jobs:+-j "$jobs"}
 new: 
@@ -308,8 +281,8 @@ Ninja runs in front
 old: > "$own/log" 2>&1 &
 new: > "$own/log" 2>&1
 a failed build is no failure
-old: status=$?
-new: status=0
+old: finish "$?"
+new: finish 0
 Ninja's own failure counts as a command's
 old: [ "$status" = 0 ] ||
 new: true ||

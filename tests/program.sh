@@ -418,9 +418,11 @@ nvcc_lines() {
     reads 'files kept in a folder' '' '-x cu -o k.o -c k.cu' -c "''" /w/out --keep --keep-dir out -c k.cu -o k.o
     reads 'PTX' '' '-x cu -o /w/k.ptx -ptx k.cu' -ptx "''" "''" -ptx k.cu -o k.ptx
     reads 'lines of the source' '' '-x cu -o k.o -lineinfo -c /w/k.cu' -c "''" "''" -lineinfo -c k.cu -o k.o
-    reads 'a call that links' '' '-x cu -o /w/k k.cu' "''" "''" "''" k.cu -o k
+    reads 'no output' '' '-x cu -o k.o -c s/k.cu' -c "''" "''" -c s/k.cu
+    reads 'words as nvcc reads them' '' '-x cu -o k.o -DA=1 -Xptxas -v -split-compile=4 --output-directory=d -dc k.cu' -dc 4 "''" \
+        k.cu -D A=1 -Xptxas -v -split-compile 4 -odir d -t 4 -dc --output-file k.o
     reads 'a source by its whole path' '' '-x cu -o k.o -c /s/k.cu' -c "''" "''" -c /s/k.cu -o k.o
-    NVCC_PREPEND_FLAGS='-O1 -g' NVCC_APPEND_FLAGS=-O2 reads 'words of the environment' '' '-x cu -o k.o -O1 -g -O2 -c k.cu' -c "''" "''" \
+    NVCC_PREPEND_FLAGS='-O1 -g' NVCC_APPEND_FLAGS=-O2 reads 'words of the environment' '' '-x cu -o k.o -O=1 -g -O=2 -c k.cu' -c "''" "''" \
         -c k.cu -o k.o
 }
 
@@ -471,24 +473,35 @@ forms_of_cudaplan() {
     alike plan /w /t -c "$data/one_kernel.dry1" "$data/one_kernel.dry2" .ii
 }
 
-# an nvcc line of ten thousand words
-long_nvcc_line() {
-    local words
+# nvcc lines of ten thousand words: all kept, all from a variable, all one phase and one output, all forwarded; and their directory
+long_nvcc_lines() {
+    local words few forward=--forward-unknown-to-host-compiler sized
     words=$(printf ' -DA%.0s' {1..10000})
+    few=$(printf ' -c -o k.o%.0s' {1..5000})
+    sized=$(printf '3:-DA%.0s' {1..10000})
     # shellcheck disable=SC2086
     reads 'ten thousand words' '' "-x cu -o k.o$words -c k.cu" -c "''" "''" $words -c k.cu -o k.o
+    NVCC_APPEND_FLAGS=$words reads 'ten thousand words of a variable' '' "-x cu -o k.o$words -c k.cu" -c "''" "''" -c k.cu -o k.o
+    # shellcheck disable=SC2086
+    reads 'a phase and an output five thousand times' '' '-x cu -o k.o -c k.cu' -c "''" "''" $few k.cu
+    # shellcheck disable=SC2086
+    reads 'ten thousand forwarded words' '' "-x cu -o k.o $forward${words//-DA/-fa} -c k.cu" -c "''" "''" $forward ${words//-DA/-fa} -c k.cu -o k.o
+    # shellcheck disable=SC2086
+    named 'the directory of ten thousand words' "2:/w4:nvcc0:0:$sized" /w nvcc $words
+    words=-DA=$(printf '%0100000d' 0)
+    reads 'a word of a hundred thousand bytes' '' "-x cu -o k.o $words -c k.cu" -c "''" "''" "$words" -c k.cu -o k.o
 }
 
 # odd words of an nvcc line, which a shell reads back
 odd_nvcc_words() {
-    "$program" calls '/a b' "/t'" 'n v' "-DA=\"x'y\"" -c k.cu -o "é \$.o" > "$scratch/calls" 2> "$scratch/err"
+    "$program" calls '/a b' "/t'" 'n v' "-DA=\"x'y\"" -c k.cu -o "é *.o" > "$scratch/calls" 2> "$scratch/err"
     echo $? > "$scratch/status"
     sh -c '. "$1"; eval "set -- $second_dry_run"; printf "%s\n" "$@"' sh <(sed 's/=.( unset .* && /=\x27/; s/ ).$/\x27/' "$scratch/calls") > "$scratch/out"
     judge 'odd words' 0 "n v
 -x
 cu
 -o
-é \$.o
+é *.o
 -DA=\"x'y\"
 -c
 k.cu
@@ -499,22 +512,35 @@ k.cu
 " ''
 }
 
+# passes NAME REASON WORD..: a line that goes to nvcc.
+passes() {
+    local name=$1 reason=$2
+    shift 2
+    check "$name" 3 '' "zigrunk: goes to nvcc: $reason"$'\n' calls /w /t nvcc "$@"
+}
+
 # nvcc lines that no plan is made of
 refused_nvcc_lines() {
-    check 'no words of nvcc' 3 '' $'zigrunk: not a compilation\n' calls /w /t nvcc
-    check 'a version is no compilation' 3 '' $'zigrunk: not a compilation\n' calls /w /t nvcc --version
-    check 'two sources' 3 '' $'zigrunk: cannot cache: multiple input files\n' calls /w /t nvcc -c a.cu b.cu
-    check 'a preprocessor call' 3 '' $'zigrunk: cannot cache: -E\n' calls /w /t nvcc -E k.cu
-    check 'words in a file' 3 '' $'zigrunk: cannot cache: @\n' calls /w /t nvcc -c k.cu @words
-    check 'an option without its value' 3 '' $'zigrunk: cannot cache: argument parse\n' calls /w /t nvcc -c k.cu --threads
+    passes 'no words of nvcc' 'it links'
+    passes 'a call that links' 'it links' k.cu -o k
+    passes 'a version' 'it prints something' --version
+    passes 'two sources' 'it names several inputs' -c a.cu b.cu
+    passes 'a preprocessor call' "its phase isn't split" -E k.cu
+    passes 'words in a file' 'it reads options from a file' -c k.cu -optf=words
+    passes 'an option without its value' 'an option lacks its value' -c k.cu --threads
+    passes 'a variable of the shell' "nvcc's shell may expand a word" -c k.cu '-DA=$B'
+    NVCC_APPEND_FLAGS=--dryrun passes 'a dry run' 'it prints something' -c k.cu
+    NVCC_PREPEND_FLAGS="-DA='1'" passes 'quotes in a variable' 'NVCC_PREPEND_FLAGS or NVCC_APPEND_FLAGS has quotes' -c k.cu
     check 'an output without a name' 1 '' $'zigrunk: output has no file name\n' calls /w /t nvcc -c k.cu -o ..
 }
 
-# run_of FILE LINE..: a dry run with these lines behind one that sets PATH, where the programs of a kernel's run are.
+# run_of FILE LINE..: a dry run with these lines behind one that sets PATH, where the programs of a kernel's run are, in two files:
+# FILE and FILE.2.
 run_of() {
     local file=$1
     shift
     lines_of "$file" "#\$ PATH=$scratch/none:$scratch/bin" "$@"
+    cp "$scratch/$file" "$scratch/$file.2"
 }
 
 readonly KERNEL=('#$ gcc -D__CUDACC__ -E k.cu -o k.cpp4.ii' '#$ cudafe++ --module_id_file_name k.id k.cpp4.ii'
@@ -542,12 +568,12 @@ plan_scripts() {
         "( cd /w && $env $bin/gcc -D__NVCC__ -E k.cu -o x_0.cpp1.ii )" "( cd /t && $env $bin/cicc x_0.cpp1.ii -o k.ptx )" \
         "( cd /t && $env $bin/ptxas k.ptx -o 'k \$x.cubin' )" "( cd /t && $env $bin/fatbinary k.cubin )" \
         "( cd /w && $last $bin/gcc -D__NVCC__ '-DA=it'\\''s' x_0.cudafe1.cpp -o k.o )")
-    check 'a plan as a script' 0 "${text%.}" '' shell /w /t -c "$scratch/kernel" "$scratch/kernel"
+    check 'a plan as a script' 0 "${text%.}" '' shell /w /t -c "$scratch/kernel" "$scratch/kernel.2"
     text=${text//x_0/k}
-    check 'a plan as a script, with names kept' 0 "${text%.}" '' shell --keep /w /t -c "$scratch/kernel" "$scratch/kernel"
+    check 'a plan as a script, with names kept' 0 "${text%.}" '' shell --keep /w /t -c "$scratch/kernel" "$scratch/kernel.2"
     run_of suffixed '#$ gcc -D__NVCC__ -E k.cu -o k.odd'
     text=$(lines 'set -e' "( cd /w && $env $bin/gcc -D__NVCC__ -E k.cu -o x_0.odd )")
-    check 'a further suffix' 0 "${text%.}" '' shell /w /t -c "$scratch/suffixed" "$scratch/suffixed" .odd
+    check 'a further suffix' 0 "${text%.}" '' shell /w /t -c "$scratch/suffixed" "$scratch/suffixed.2" .odd
 }
 
 # edge GROUP.PLACE NEEDS COMMAND: an edge of a file for Ninja.
@@ -558,36 +584,76 @@ edge() {
 
 # plans for Ninja and as JSON
 plan_files() {
-    local bin=$scratch/bin text env cached
+    local bin=$scratch/bin text env run cached before
     env="env 'PATH=$scratch/none:$bin'"
-    cached="$env \$\${ZIGRUNK_LAUNCHER-} $bin"
+    run="$env \$\${ZIGRUNK_RUNNER-} $bin"
+    cached="$env \$\${ZIGRUNK_RUNNER-} \$\${ZIGRUNK_LAUNCHER-} $bin"
+    before=$(printf " \${tmp}/zigrunk.%s" 0.0 0.1 1.0 1.1 1.2)
     text=$(lines 'tmp = /t' "builddir = \${tmp}" 'rule run' '  command = ${line} || { code=$$?; echo $$code > ${out}.status; exit $$code; }')
     text=${text%.}$(
-        edge 0.0 '' "/w && $env $bin/gcc -D__CUDACC__ -E k.cu -o x_0.cpp4.ii"
+        edge 0.0 '' "/t && $run/gcc -D__CUDACC__ -E k.cu -o x_0.cpp4.ii"
         edge 0.1 " \${tmp}/zigrunk.0.0" "/t && $cached/cudafe++ --gen_module_id_file --module_id_file_name k.id x_0.cpp4.ii"
-        edge 1.0 " \${tmp}/zigrunk.0.1" "/w && $env $bin/gcc -D__NVCC__ -E k.cu -o x_0.cpp1.ii"
+        edge 1.0 " \${tmp}/zigrunk.0.0" "/t && $run/gcc -D__NVCC__ -E k.cu -o x_0.cpp1.ii"
         edge 1.1 " \${tmp}/zigrunk.1.0" "/t && $cached/cicc x_0.cpp1.ii -o k.ptx"
         edge 1.2 " \${tmp}/zigrunk.1.1" "/t && $cached/ptxas k.ptx -o 'k \$\$x.cubin'"
-        edge 2.0 " \${tmp}/zigrunk.0.1 \${tmp}/zigrunk.1.2" "/t && $env $bin/fatbinary k.cubin"
-        edge 2.1 " \${tmp}/zigrunk.2.0" "/w && ${cached/ \$/ \'__SCCACHE_THIS_IS_A_CUDA_COMPILATION__=\' \$}/gcc -D__NVCC__ '-DA=it'\\''s' x_0.cudafe1.cpp -o k.o"
+        edge 2.0 "$before" "/t && $run/fatbinary k.cubin"
+        edge 2.1 "$before \${tmp}/zigrunk.2.0" "/t && ${cached/ \$/ \'__SCCACHE_THIS_IS_A_CUDA_COMPILATION__=\' \$}/gcc -D__NVCC__ '-DA=it'\\''s' x_0.cudafe1.cpp -o k.o"
     )$'\n'"# dropped line 8 run 2 NotCuda $bin/g++ k.o"$'\n'
-    check 'a plan for Ninja' 0 "$text" '' ninja /w /t -c "$scratch/kernel" "$scratch/kernel"
-    run_of short '#$ g++ "a b"'
-    check 'a plan as JSON' 0 "{\"dropped\":[{\"args\":[\"a b\"],\"exe\":\"$bin/g++\",\"line\":1,\"reason\":\"NotCuda\",\"run\":2}],\"groups\":[[],[]]}"$'\n' '' \
-        json /w /t -c "$scratch/short" "$scratch/short"
+    check 'a plan for Ninja' 0 "$text" '' ninja /t /t -c "$scratch/kernel" "$scratch/kernel.2"
+    run_of short '#$ gcc -D__NVCC__ -E k.cu -o k.cpp1.ii' '' '#$ cicc k.cpp1.ii -o k.ptx' '#$ g++ "a b"'
+    env="[[\"PATH\",\"$scratch/none:$bin\"]]"
+    text="{\"commands\":[{\"args\":[\"-D__NVCC__\",\"-E\",\"k.cu\",\"-o\",\"x_0.cpp1.ii\"],\"cacheable\":false,\"complete\":false,\"cwd\":\"/w\""
+    text+=",\"env\":$env,\"exe\":\"$bin/gcc\",\"group\":1,\"id\":0,\"line\":2,\"may_write\":[],\"needs\":[],\"reads\":[\"/w/k.cu\"],\"run\":2"
+    text+=",\"writes\":[\"/w/x_0.cpp1.ii\"]},{\"args\":[\"x_0.cpp1.ii\",\"-o\",\"k.ptx\"],\"cacheable\":true,\"complete\":true,\"cwd\":\"/t\",\"env\":$env"
+    text+=",\"exe\":\"$bin/cicc\",\"group\":1,\"id\":1,\"line\":4,\"may_write\":[],\"needs\":[],\"reads\":[\"/t/x_0.cpp1.ii\"],\"run\":1"
+    text+=",\"writes\":[\"/t/k.ptx\"]}],\"cwd\":\"/w\",\"dropped\":[{\"args\":[\"a b\"],\"exe\":\"$bin/g++\",\"line\":5,\"reason\":\"NotCuda\",\"run\":2}]"
+    text+=",\"flag\":\"-c\",\"groups\":3,\"tmp\":\"/t\",\"version\":1}"$'\n'
+    check 'a plan as JSON' 0 "$text" '' json /w /t -c "$scratch/short" "$scratch/short.2"
+}
+
+# plans as graphs and as compilation databases
+plan_views() {
+    local bin=$scratch/bin text
+    run_of views '#$ gcc -D__CUDACC__ -E k.cu -o k.cpp4.ii' '#$ cudafe++ --gen_c_file_name k.cudafe1.cpp --module_id_file_name k.id k.cpp4.ii' \
+        '#$ gcc -D__NVCC__ -E k.cu -o k.cpp1.ii' '#$ cicc --gen_module_id_file --module_id_file_name k.id k.cpp1.ii -o "a&\"k.ptx"' \
+        '#$ gcc -D__NVCC__ k.cudafe1.cpp -o k.o' '#$ g++ "a b"'
+    sed -i 's# k\.\(cpp[14]\.ii\|cudafe1\.cpp\)# /t/k.\1#' "$scratch/views.2"
+    text=$(lines 'digraph plan {' '  node [shape=box]' \
+        '  subgraph cluster_0 { label="front group" 0 [label="gcc\nx_0.cpp4.ii"] }' \
+        '  subgraph cluster_0 { label="front group" 1 [label="cudafe++\nx_0.cudafe1.cpp\nk.id"] }' \
+        '  subgraph cluster_1 { label="device group 1" 2 [label="gcc\nx_0.cpp1.ii"] }' \
+        '  subgraph cluster_1 { label="device group 1" 3 [label="cicc\na&amp;\"k.ptx"] }' \
+        '  subgraph cluster_2 { label="final group" 4 [label="gcc\nk.o"] }' \
+        '  0 -> 1' '  0 -> 2' '  1 -> 3' '  2 -> 3' '  0 -> 4' '  1 -> 4' '  2 -> 4' '  3 -> 4' '  d0 [label="g++\nNotCuda" style=dashed]' '}')
+    check 'a plan as a graph' 0 "${text%.}" '' dot /w /t -c "$scratch/views" "$scratch/views.2"
+    text="[{\"arguments\":[\"$bin/gcc\",\"-D__CUDACC__\",\"-E\",\"k.cu\",\"-o\",\"/t/x_0.cpp4.ii\"],\"directory\":\"/w\",\"file\":\"/w/k.cu\"}"
+    text+=",{\"arguments\":[\"$bin/gcc\",\"-D__NVCC__\",\"-E\",\"k.cu\",\"-o\",\"/t/x_0.cpp1.ii\"],\"directory\":\"/w\",\"file\":\"/w/k.cu\"}]"$'\n'
+    check 'a plan as a compilation database' 0 "$text" '' compdb /w /t -c "$scratch/views" "$scratch/views.2"
+}
+
+# the JSON of real plans, by its schema
+plan_schema() {
+    if tests/schema.py "$program" > "$scratch/schema"; then
+        grep skipped "$scratch/schema"
+        passed=$((passed + 1))
+    else
+        cat "$scratch/schema"
+        failed=$((failed + 1))
+    fi
 }
 
 # plans that have to be whole
 whole_plans() {
     run_of whole "${KERNEL[@]:0:7}"
-    "$program" ninja /w /t -c "$scratch/whole" "$scratch/whole" > "$scratch/want"
-    check 'a whole plan' 0 "$(cat "$scratch/want")"$'\n' '' ninja --whole /w /t -c "$scratch/whole" "$scratch/whole"
-    "$program" ninja --keep /w /t -c "$scratch/whole" "$scratch/whole" > "$scratch/want"
-    check 'a whole plan with names kept' 0 "$(cat "$scratch/want")"$'\n' '' ninja --keep --whole /w /t -c "$scratch/whole" "$scratch/whole"
-    check 'a plan that dropped a command' 1 '' $'zigrunk: the plan dropped a command\n' ninja --whole /w /t -c "$scratch/kernel" "$scratch/kernel"
+    "$program" ninja /w /t -c "$scratch/whole" "$scratch/whole.2" > "$scratch/want"
+    check 'a whole plan' 0 "$(cat "$scratch/want")"$'\n' '' ninja --whole /w /t -c "$scratch/whole" "$scratch/whole.2"
+    "$program" ninja --keep /w /t -c "$scratch/whole" "$scratch/whole.2" > "$scratch/want"
+    check 'a whole plan with names kept' 0 "$(cat "$scratch/want")"$'\n' '' ninja --keep --whole /w /t -c "$scratch/whole" "$scratch/whole.2"
+    check 'a plan that dropped a command' 1 '' $'zigrunk: the plan dropped a command\n' ninja --whole /w /t -c "$scratch/kernel" "$scratch/kernel.2"
     run_of nothing
-    check 'a plan without commands' 1 '' $'zigrunk: the plan has no command\n' ninja --whole /w /t -c "$scratch/nothing" "$scratch/nothing"
-    check 'a plan of one run' 1 '' $'zigrunk: the plan has no command\n' json --whole /w /t -c "$scratch/short" "$scratch/short"
+    run_of dropped '#$ g++ k.o'
+    check 'a plan without commands, of those that have to be whole' 1 '' $'zigrunk: the plan has no command\n' \
+        ninja --whole /w /t -c "$scratch/nothing" "$scratch/nothing.2"
 }
 
 # a command that fails leaves its status beside its stamp
@@ -596,7 +662,7 @@ statuses() {
     mkdir -p "$tmp"
     run_of status_run '#$ gcc -D__NVCC__ -E k.cu -o k.cpp1.ii'
     printf '#!/bin/sh\nexit 7\n' > "$scratch/bin/gcc"
-    "$program" ninja "$scratch" "$tmp" -c "$scratch/status_run" "$scratch/status_run" > "$scratch/graph"
+    "$program" ninja "$scratch" "$tmp" -c "$scratch/status_run" "$scratch/status_run.2" > "$scratch/graph"
     line=$(sed -n 's/^  line = //p' "$scratch/graph" | sed 's/\$\$/$/g')
     line=$line out=$tmp/zigrunk.1.0 sh -c "$(sed -n 's/^  command = //p' "$scratch/graph" | sed -e 's/\$\$/$/g' -e "s/\${line}/eval \"\$line\"/")"
     echo $? > "$scratch/status"
@@ -628,41 +694,68 @@ long_exports() {
     (cd "$scratch/bin" && touch p{1..1000} && chmod +x p{1..1000})
     run_of group "${group[@]}"
     run_of groups "${groups[@]}"
-    run_of programs "${programs[@]}"
+    run_of programs "${KERNEL[2]}" "${programs[@]}"
     for format in shell ninja json; do
-        counts "a group of a thousand commands as $format" 1000 'o[",]* *k[0-9]\+\.cubin' "$format" /w /t -c "$scratch/group" "$scratch/group"
-        counts "a hundred device groups as $format" 100 'o[",]* *k[0-9]\+\.ptx' "$format" /w /t -c "$scratch/groups" "$scratch/groups"
+        counts "a group of a thousand commands as $format" 1000 'o[",]* *k[0-9]\+\.cubin' "$format" /w /t -c "$scratch/group" "$scratch/group.2"
+        counts "a hundred device groups as $format" 100 'o[",]* *k[0-9]\+\.ptx' "$format" /w /t -c "$scratch/groups" "$scratch/groups.2"
         dropped=1000
         [ "$format" != shell ] || dropped=0
-        counts "a thousand programs as $format" "$dropped" 'bin/p[0-9]\+' "$format" /w /t -c "$scratch/programs" "$scratch/programs"
+        counts "a thousand programs as $format" "$dropped" 'bin/p[0-9]\+' "$format" /w /t -c "$scratch/programs" "$scratch/programs.2"
     done
+    counts 'a group of a thousand commands as a graph' 1000 'ptxas.nk[0-9]\+\.cubin' dot /w /t -c "$scratch/group" "$scratch/group.2"
+    counts 'a hundred device groups as a graph' 100 'cicc.nk[0-9]\+\.ptx' dot /w /t -c "$scratch/groups" "$scratch/groups.2"
+    counts 'a thousand dropped programs as a graph' 1000 'd[0-9]\+ \[label="p[0-9]\+.nNotCuda" style=dashed' \
+        dot /w /t -c "$scratch/programs" "$scratch/programs.2"
+    counts 'a hundred device groups as a compilation database' 100 'x_[0-9]\+\.cpp1\.ii' compdb /w /t -c "$scratch/groups" "$scratch/groups.2"
+}
+
+# files that aren't the dry runs of a call, and plans without commands, in every format
+unfit_files() {
+    local format behind=$'no line begins with "#$ "\n'
+    : > "$scratch/empty"
+    printf '#$\n #$ gcc\n$# gcc\n' > "$scratch/prose"
+    for format in shell ninja json dot compdb; do
+        check "one file twice as $format" 1 '' $'zigrunk: both dry runs are the same file\n' "$format" /w /t -c "$scratch/kernel" "$scratch/kernel"
+        check "a first file that is no dry run as $format" 1 '' "zigrunk: the first file is no dry run: $behind" \
+            "$format" /w /t -c "$scratch/prose" "$scratch/kernel"
+        check "a second file that is no dry run as $format" 1 '' "zigrunk: the second file is no dry run: $behind" \
+            "$format" /w /t -c "$scratch/kernel" "$scratch/empty"
+        check "a plan without commands as $format" 1 '' $'zigrunk: the plan has no command\n' \
+            "$format" /w /t -c "$scratch/nothing" "$scratch/nothing.2"
+    done
+    check 'one file twice that is no dry run' 1 '' $'zigrunk: both dry runs are the same file\n' json /w /t -c "$scratch/empty" "$scratch/empty"
+    check 'no dry run, and a bad suffix' 1 '' "zigrunk: the first file is no dry run: $behind" json /w /t -c "$scratch/empty" "$scratch/kernel" .ii
+    check 'a plan of commands that are all dropped' 1 '' $'zigrunk: the plan has no command\n' \
+        json /w /t -c "$scratch/dropped" "$scratch/dropped.2"
+    check 'the text of one file twice' 0 $'group 0\ngroup 1\n' '' plan /w /t -c "$scratch/empty" "$scratch/empty"
 }
 
 # plans that aren't written
 refused_exports() {
     local unread=$'zigrunk: cannot read input\n' unheld=$'zigrunk: a text of the plan holds a byte that the form can\'t\n' format
-    for format in shell ninja json; do
+    for format in shell ninja json dot compdb; do
         check "no first file for $format" 1 '' "$unread" "$format" /w /t -c "$scratch/missing" "$scratch/kernel"
         check "no second file for $format" 1 '' "$unread" "$format" /w /t -c "$scratch/kernel" "$scratch/missing"
     done
-    check 'a bad suffix' 1 '' $'zigrunk: bad generated suffixes\n' json /w /t -c "$scratch/kernel" "$scratch/kernel" .ii
+    check 'a bad suffix' 1 '' $'zigrunk: bad generated suffixes\n' json /w /t -c "$scratch/kernel" "$scratch/kernel.2" .ii
     lines_of pathless '#$ gcc'
+    check 'no first file, and its name twice' 1 '' "$unread" json /w /t -c "$scratch/missing" "$scratch/missing"
     check 'no PATH' 1 '' $'zigrunk: run 1 line 0: no PATH\n' json /w /t -c "$scratch/pathless" "$scratch/kernel"
     check 'no PATH in the second run' 1 '' $'zigrunk: run 2 line 0: no PATH\n' json /w /t -c "$scratch/kernel" "$scratch/pathless"
     run_of lost '#$ nowhere'
     check 'a program that is not on disk' 1 '' $'zigrunk: nowhere: not found\n' json /w /t -c "$scratch/lost" "$scratch/kernel"
-    check 'a folder with a newline for Ninja' 1 '' "$unheld" ninja /w $'/t\n' -c "$scratch/kernel" "$scratch/kernel"
+    check 'a folder with a newline for Ninja' 1 '' "$unheld" ninja /w $'/t\n' -c "$scratch/kernel" "$scratch/kernel.2"
     mkdir -p "$scratch/h=re"
     : > "$scratch/h=re/gcc"
     chmod +x "$scratch/h=re/gcc"
     run_of equals '#$ ./gcc -D__NVCC__ x.cpp'
     check 'a program whose path has an equals sign' 1 '' $'zigrunk: a program of the plan has a path that env takes for something else\n' \
-        shell "$scratch/h=re" /t -c "$scratch/equals" "$scratch/equals"
+        shell "$scratch/h=re" /t -c "$scratch/equals" "$scratch/equals.2"
     : > "$scratch/out"
     "$program" --version > /dev/full 2> "$scratch/err"
     echo $? > "$scratch/status"
     judge 'a version to a full disk' 1 '' $'zigrunk: cannot write\n'
-    "$program" json /w /t -c "$scratch/kernel" "$scratch/kernel" > /dev/full 2> "$scratch/err"
+    "$program" json /w /t -c "$scratch/kernel" "$scratch/kernel.2" > /dev/full 2> "$scratch/err"
     echo $? > "$scratch/status"
     judge 'a plan as JSON to a full disk' 1 '' $'zigrunk: cannot write\n'
 }
@@ -673,11 +766,11 @@ zigrunk_pages() {
     "$program" --help > "$scratch/help" 2> "$scratch/err"
     echo $? > "$scratch/status"
     head -n 3 "$scratch/help" > "$scratch/out"
-    judge 'the help' 0 "usage: zigrunk shell|ninja|json [--keep] [--whole] CWD TMP FLAG DRY1 DRY2 SUFFIX..
+    judge 'the help' 0 "usage: zigrunk FORMAT [--keep] [--whole] CWD TMP FLAG DRY1 DRY2 SUFFIX..
        zigrunk calls CWD TMP NVCC WORD..
        zigrunk directory CWD NVCC WORD..
 " ''
-    local usage=$'usage: zigrunk shell|ninja|json [--keep] [--whole] CWD TMP FLAG DRY1 DRY2 SUFFIX.. | calls CWD TMP NVCC WORD.. | directory CWD NVCC WORD.. | line TOOL CWD WORD.. | plan CWD TMP FLAG DRY1 DRY2 SUFFIX.. | --help | --version\n' format
+    local usage=$'usage: zigrunk shell|ninja|json|dot|compdb [--keep] [--whole] CWD TMP FLAG DRY1 DRY2 SUFFIX.. | calls CWD TMP NVCC WORD.. | directory CWD NVCC WORD.. | line TOOL CWD WORD.. | plan CWD TMP FLAG DRY1 DRY2 SUFFIX.. | --help | --version\n' format
     check 'no words for zigrunk' 2 '' "$usage"
     check 'a directory without nvcc' 2 '' "$usage" directory /w
     check 'a line of another tool' 2 '' "$usage" line nvcc /w -c k.cu
@@ -685,7 +778,7 @@ zigrunk_pages() {
     check 'help and a word' 2 '' "$usage" --help me
     check 'version and a word' 2 '' "$usage" --version 1
     check 'calls without nvcc' 2 '' "$usage" calls /w /t
-    for format in shell ninja json; do
+    for format in shell ninja json dot compdb; do
         check "$format alone" 2 '' "$usage" "$format"
         check "$format with one file" 2 '' "$usage" "$format" /w /t -c "$scratch/kernel"
         check "$format with names kept and one file" 2 '' "$usage" "$format" --keep /w /t -c "$scratch/kernel"
@@ -715,13 +808,16 @@ nvcc_lines
 jobs_at_once
 directories
 forms_of_cudaplan
-long_nvcc_line
+long_nvcc_lines
 odd_nvcc_words
 refused_nvcc_lines
 kernel_programs
 plan_scripts
 plan_files
+plan_views
+plan_schema
 whole_plans
+unfit_files
 statuses
 long_exports
 refused_exports

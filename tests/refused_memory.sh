@@ -179,9 +179,11 @@ bad_cudaplan_calls() {
 # calls of zigrunk that succeed
 good_zigrunk_calls() {
     call 'an nvcc line' 0 "$zigrunk" calls /w /t nvcc --threads 4 -c k.cu -o k.o -MD -MF k.d
-    call 'a script' 0 "$zigrunk" shell /w /t -c found found
-    call 'a Ninja file' 0 "$zigrunk" ninja /w /t -c found found
-    call 'JSON' 0 "$zigrunk" json /w /t -c found found
+    call 'a script' 0 "$zigrunk" shell /w /t -c found found2
+    call 'a Ninja file' 0 "$zigrunk" ninja /w /t -c found found2
+    call 'JSON' 0 "$zigrunk" json /w /t -c found found2
+    call 'a graph' 0 "$zigrunk" dot /w /t -c found found2
+    call 'a compilation database' 0 "$zigrunk" compdb /w /t -c found found2
 }
 
 # calls of zigrunk that fail, each for another reason
@@ -190,10 +192,12 @@ bad_zigrunk_calls() {
     call 'an nvcc line that cannot be cached' 3 "$zigrunk" calls /w /t nvcc -c a.cu b.cu
     call 'an output without a name' 1 "$zigrunk" calls /w /t nvcc -c k.cu -o ..
     call 'no file for a script' 1 "$zigrunk" shell /w /t -c dry_runs/none found
-    call 'no program on disk' 1 "$zigrunk" shell /w /t -c lost lost
-    call 'bad suffixes for a script' 1 "$zigrunk" shell /w /t -c found found .ii
-    call 'a newline for Ninja' 1 "$zigrunk" ninja $'/w\n' /t -c found found
-    call 'JSON to a full disk' 1 full_disk "$zigrunk" json /w /t -c found found
+    call 'no program on disk' 1 "$zigrunk" shell /w /t -c lost lost2
+    call 'bad suffixes for a script' 1 "$zigrunk" shell /w /t -c found found2 .ii
+    call 'a newline for Ninja' 1 "$zigrunk" ninja $'/w\n' /t -c found found2
+    call 'one file twice' 1 "$zigrunk" json /w /t -c found found
+    call 'no dry run' 1 "$zigrunk" json /w /t -c dry_runs/one_kernel.plan found
+    call 'JSON to a full disk' 1 full_disk "$zigrunk" json /w /t -c found found2
     call 'no call of zigrunk' 2 "$zigrunk" shell
 }
 
@@ -205,7 +209,9 @@ program_calls() {
     : > bin/cicc
     chmod +x bin/gcc bin/cicc
     printf '%s\n' "#\$ PATH=$work/bin" '#$ gcc -D__NVCC__ -E k.cu -o k.cpp1.ii' '#$ cicc k.cpp1.ii -o k.ptx' > found
+    cp found found2
     printf '%s\n' '#$ PATH=' '#$ gcc -D__NVCC__ -E k.cu -o k.cpp1.ii' > lost
+    cp lost lost2
     printf '%s\n' '#$ gcc' > pathless
     printf '%s\n' '#$ gcc "a' > quoted
     printf '%s\n' '#$ # note' > empty

@@ -45,6 +45,7 @@ directory)
     echo zigrunk-name
     ;;
 calls)
+    eval "${CALLS_DO-}"
     [ -z "${REASON-}" ] || { echo "zigrunk: $REASON" >&2; exit 3; }
     echo "first_dry_run='( nvcc --dryrun first )'"
     echo "second_dry_run='( nvcc --dryrun second )'"
@@ -65,7 +66,8 @@ for word; do line="$line [$word]"; done
 printf '%s\n' "$line" >> "$LOG"
 tmp=${2%/zigrunk.tmp/ninja}
 echo 'Ninja says'
-command=$(sed -n 's/^ command = //p' "$2" | sed 's/\$\$/$/g')
+command=$(sed -n 's/^  command = \(sh .*\)/\1/p' "$2")
+export in="$tmp/zigrunk.tmp/dependencies" out="$tmp/zigrunk.tmp/depended"
 eval "${NINJA_DOES-}"
 exit "${NINJA_STATUS_IS-0}"
 END
@@ -163,7 +165,7 @@ END
 
     begin 'the files that Ninja and zigrunk read'
     script NINJA_DOES='cat "$tmp/zigrunk.tmp/ninja" > "$LOG.ninja"; cat "$tmp/zigrunk.tmp/dry1" "$tmp/zigrunk.tmp/dry2" > "$LOG.dry"' -c k.cu -o k.o
-    same 'the file' "$(grep -v '^rule dep\|^ command\|^build ' "$room/log.ninja")" $'the plan\nrule run\n  command = exec > ${out}.out 2> ${out}.err; ${line}'
+    same 'the file' "$(grep -v '^rule dep\|^  command = sh\|^build ' "$room/log.ninja")" $'the plan\nthe plan\nrule run\n  command = trap : HUP INT TERM; { ${line}; } > ${out}.out 2> ${out}.err'
     same 'the dry runs' "$(cat "$room/log.dry")" $'#$ cicc k.cpp1.ii -o k.ptx\n#$ cicc k.cpp1.ii -o k.ptx'
     end
 
@@ -172,6 +174,59 @@ END
     same 'mode' "$(cat "$room/log.mode")" 700
     same 'TMPDIR of commands' "$(cat "$room/log.tmp")" "$split/zigrunk.tmp"
     leaves_nothing
+    end
+
+    begin 'ZIGRUNK_TMP'
+    mkdir "$room/shared"
+    script ZIGRUNK_TMP="$room/shared" NINJA_DOES='echo "$TMPDIR" > "$LOG.tmp"' -c k.cu -o k.o
+    same 'TMPDIR of commands' "$(cat "$room/log.tmp")" "$room/tmp"
+    holds calls "$room/log" "ninja [-f] [$room/shared/zigrunk-$user/zigrunk-name/zigrunk.tmp/ninja]"
+    same 'files left' "$(ls -A "$room/shared")" ''
+    script ZIGRUNK_TMP="$room/shared" TMPDIR= NINJA_DOES='echo "$TMPDIR" > "$LOG.tmp"' -c k.cu -o k.o
+    same 'TMPDIR of commands' "$(cat "$room/log.tmp")" /tmp
+    leaves_nothing
+    end
+
+    begin 'the runner runs nvcc too'
+    script "${plain[@]}" REASON=why ZIGRUNK_RUNNER='env RAN=yes' NVCC_DOES='echo "$RAN"' -c k.cu
+    same output "$(tail -n 1 "$room/out")" yes
+    end
+
+    begin 'a call in two steps'
+    script ZIGRUNK_PLAN="$room/plan" NINJA_DOES='echo no' WARNING='nvcc warns' -o k.o 'a b.cu'
+    same 'status and output' "$status$(cat "$room/out" "$room/err")" 0
+    same plan "$(cat "$room/plan")" "$split"
+    same Ninja "$(grep -c '^ninja' "$room/log")" 0
+    printf '%s\n' 'build ${tmp}/zigrunk.0.0: run' 'build ${tmp}/zigrunk.1.2: run' >> "$split/zigrunk.tmp/ninja"
+    touch "$split/zigrunk.0.0" "$split/zigrunk.1.2" "$split/zigrunk.tmp/depended"
+    echo said > "$split/zigrunk.0.0.out" && : > "$split/zigrunk.0.0.err"
+    script ZIGRUNK_PLAN="$room/plan" -o k.o 'a b.cu'
+    same 'status and output' "$status $(cat "$room/out" "$room/err")" $'0 said\nnvcc warns'
+    same 'no call' "$(cat "$room/log" 2> /dev/null)" ''
+    leaves_nothing
+    end
+    begin 'a call in two steps whose command fails'
+    script ZIGRUNK_PLAN="$room/plan" -c k.cu -o k.o
+    echo 'build ${tmp}/zigrunk.0.0: run' >> "$split/zigrunk.tmp/ninja"
+    touch "$split/zigrunk.tmp/depended" "$split/zigrunk.0.0.err" && echo 6 > "$split/zigrunk.0.0.status"
+    script "${plain[@]}" ZIGRUNK_PLAN="$room/plan" -c k.cu -o k.o
+    same 'status and output' "$status$(cat "$room/out" "$room/err")" 6
+    leaves_nothing
+    end
+    begin 'a call in two steps, and Ninja fails between them'
+    script ZIGRUNK_PLAN="$room/plan" -c k.cu -o k.o
+    echo 'build ${tmp}/zigrunk.0.0: run' >> "$split/zigrunk.tmp/ninja"
+    touch "$split/zigrunk.tmp/depended"
+    script "${plain[@]}" ZIGRUNK_PLAN="$room/plan" -c k.cu -o k.o
+    by_nvcc 'Ninja fails'
+    end
+    begin 'a call in two steps that nvcc makes'
+    script "${plain[@]}" ZIGRUNK_PLAN="$room/plan" REASON=why -c k.cu -o k.o
+    same 'status and output' "$status$(cat "$room/out" "$room/err")" 0
+    same plan "$(cat "$room/plan")" $'nvcc\nzigrunk: why'
+    script "${plain[@]}" ZIGRUNK_PLAN="$room/plan" REASON=other -o 'a b' ''
+    by_nvcc 'zigrunk: why'
+    same calls "$(cat "$room/log")" 'nvcc [-o] [a b] []'
     end
 
     begin 'no TMPDIR'
@@ -304,53 +359,24 @@ END
     by_nvcc 'zigrunk: the call links'
     holds calls "$room/log" 'nvcc [-o] [a b] []'
     end
-    begin 'a call that links'
-    script "${plain[@]}" FLAG= -c k.cu -o k.o
-    by_nvcc 'the call links'
-    end
-    for word in -dryrun --dryrun -v --verbose -clean --clean-targets -run --run --output-file=k.o -o=k.o -odir=. -optf=x '-DA=$B' '-DA=`b`'; do
-        begin "the word $word"
-        script "${plain[@]}" -c k.cu -o k.o "$word"
-        by_nvcc "the word $word"
-        same calls "$(cat "$room/log")" "nvcc [-c] [k.cu] [-o] [k.o] [$word]"
-        end
-    done
-    for words in '--threads x' '-threads 2x' '-t x' --threads=x -t=2x; do
-        begin "the words $words"
-        # shellcheck disable=SC2086 # one or two words
-        script "${plain[@]}" -c k.cu -o k.o $words
-        by_nvcc "the word ${words##* }"
-        end
-    done
-    for words in '--threads 12' '-t 0' --threads=3 -t=4 -t4; do
-        begin "the words $words"
-        # shellcheck disable=SC2086 # one or two words
-        script "${plain[@]}" -c k.cu -o k.o $words
+    for words in --dryrun -v '-clean -run' -o=j.o '-odir d' -optf=x '-o j.o -o -' '--threads x' '-DA=$B' '-MF d -MF e' -; do
+        begin "the words $words, which zigrunk takes"
+        # shellcheck disable=SC2086 # one or several words
+        script -c k.cu $words
         same status "$status" 0
+        holds calls "$room/log" "zigrunk [calls] [$room/work] [$split] [nvcc] [-c] [k.cu] [${words// /] [}]"
         end
     done
-    for word in -o -MF -MT; do
-        begin "$word twice"
-        script "${plain[@]}" -c k.cu -o k.o -MD -MF one -MT one "$word" two
-        by_nvcc "$word twice"
-        end
-    done
-    begin 'the word -optix-ir'
-    script "${plain[@]}" -optix-ir k.cu -o k
-    same status "$status" 0
-    end
-    begin 'a stream'
-    script "${plain[@]}" -ptx k.cu -o -
-    by_nvcc 'it reads or writes a stream'
-    end
-    begin 'no output'
-    script "${plain[@]}" -c k.cu
-    by_nvcc 'no output is named'
+    begin 'no word'
+    script "${plain[@]}" REASON='the call links'
+    by_nvcc 'zigrunk: the call links'
+    holds calls "$room/log" "zigrunk [calls] [$room/work] [$split] [nvcc]"
     end
     for variable in NVCC_PREPEND_FLAGS NVCC_APPEND_FLAGS; do
         begin "$variable"
-        script "${plain[@]}" "$variable=-DA" -c k.cu -o k.o
-        by_nvcc 'NVCC_PREPEND_FLAGS or NVCC_APPEND_FLAGS'
+        script "$variable=-DA" DIRECTORY_DOES="echo \"directory \$$variable\" >> \$LOG.flags" CALLS_DO="echo \"calls \$$variable\" >> \$LOG.flags" -c k.cu
+        same status "$status" 0
+        same "what zigrunk sees" "$(sort "$room/log.flags")" $'calls -DA\ndirectory -DA'
         end
     done
     begin 'a keep directory that is missing'
@@ -419,7 +445,9 @@ END
     for flag in -fatbin --fatbin; do
         begin "the flag $flag"
         script FLAG="$flag" JOBS=3 -c k.cu -o k.o
-        holds calls "$room/log" "ninja [-f] [$split/zigrunk.tmp/ninja] [-j] [1]"
+        holds calls "$room/log" "ninja [-f] [$split/zigrunk.tmp/ninja] [-j] [3]"
+        script FLAG="$flag" ZIGRUNK_PLAN="$room/plan" -c k.cu -o k.o
+        same plan "$(cat "$room/plan")" "$split"
         end
     done
 
@@ -449,7 +477,7 @@ END
     by_nvcc 'ninja: build stopped'
     end
     begin 'no dependency file'
-    script NINJA_DOES='sh -c "$command" || exit 1; grep -c "^build zigrunk.dependencies: dependencies$" "$tmp/zigrunk.tmp/ninja" > "$LOG.count"' ZIGRUNK_DEPENDENCIES='touch wrong' -c k.cu -o k.o
+    script NINJA_DOES='sh -c "$command" || exit 1; ls "$out" || exit 1; grep -c "^build \${tmp}/zigrunk.tmp/depended: dependencies \${tmp}/zigrunk.tmp/dependencies$" "$tmp/zigrunk.tmp/ninja" > "$LOG.count"' -c k.cu -o k.o
     same status "$status" 0
     same 'files' "$(ls -A)" ''
     same edges "$(cat "$room/log.count")" 1

@@ -3,3 +3,4 @@ pub mod Complaint
 pub mod Delivery
 pub mod LineText
 pub mod PlanText
+pub mod Start

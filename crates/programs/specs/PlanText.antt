@@ -1,8 +1,8 @@
 -- The text that a program writes for two dry runs.
-use Rattle.std.specs.Prelude.{ℕ, List, [], ◌++◌, if◌then◌else◌, ◌⊎◌, Option, None, Result, Ok, Err}
+use Rattle.std.specs.Prelude.{ℕ, List, [], ◌++◌, if◌then◌else◌, ◌⊎◌, Option, Some, None, Result, Ok, Err}
 use Rattle.cuda_below.specs.declared.compiler.NvccHostCompiler.TheVariants.{Gcc}
 use Rattle.texts.specs.declared.fault.Fault.{Fault}
-use Rattle.texts.specs.declared.fault.Fault.TheVariants.{BadSuffixes, Read}
+use Rattle.texts.specs.declared.fault.Fault.TheVariants.{BadSuffixes, Memory, Read}
 use Rattle.canonical_names.specs.Generated.{standard_suffixes}
 use Rattle.canonical_names.specs.SuffixRule.{are_suffixes}
 use Rattle.command_groups.specs.declared.plan.Plan.{Plan}
@@ -46,9 +46,25 @@ shown_plan cwd tmp flag first second further = show_planning (planned cwd tmp fl
 abbrev pub unread : Result (List ℕ) Stop
 unread = Err (stops.Fault Read)
 
--- what a program writes for a call that plans, given the engine's answer: nothing if a file can't be read, else the text for
--- the bytes of both files, whatever they are
-abbrev pub PlansFiles : PlanOf → Result (Unit {0}) Stop → Option (List ℕ) → Option (List ℕ) → Type 0
-PlansFiles c answer before after =
-    Delivers answer unread before after ⊎
-    ((first : List ℕ) × (second : List ℕ) × Delivers answer (shown_plan c.cwd c.tmp c.flag first second c.suffixes) before after)
+-- the answer if memory runs out before there is a text
+abbrev pub out_of_memory : Result (List ℕ) Stop
+out_of_memory = Err (stops.Fault Memory)
+
+-- What a program writes once it has read a file, given what the file may hold and what follows from its bytes: nothing if
+-- memory runs out or the file can't be read.
+abbrev pub ReadsFirst :
+    (Option (List ℕ) → Type 0) → (List ℕ → Type 0) → Result (Unit {0}) Stop → Option (List ℕ) → Option (List ℕ) → Type 0
+ReadsFirst holds Follows answer before after =
+    Delivers answer out_of_memory before after
+    ⊎ ((holds None × Delivers answer unread before after) ⊎ ((bytes : List ℕ) × holds (Some bytes) × Follows bytes))
+
+-- what a program writes for a call that plans, given what files may hold, the bytes of the first file and the engine's answer
+abbrev pub PlansSecond :
+    (List ℕ → Option (List ℕ) → Type 0) → PlanOf → List ℕ → Result (Unit {0}) Stop → Option (List ℕ) → Option (List ℕ) → Type 0
+PlansSecond holds c first answer before after =
+    ReadsFirst (holds c.dry2) (λ second. Delivers answer (shown_plan c.cwd c.tmp c.flag first second c.suffixes) before after) answer before after
+
+-- the same, given only what files may hold and the engine's answer: the text of the plan of these two files
+abbrev pub PlansFiles :
+    (List ℕ → Option (List ℕ) → Type 0) → PlanOf → Result (Unit {0}) Stop → Option (List ℕ) → Option (List ℕ) → Type 0
+PlansFiles holds c answer before after = ReadsFirst (holds c.dry1) (λ first. PlansSecond holds c first answer before after) answer before after

@@ -4,24 +4,7 @@ ghost use Rattle.std.specs.Prelude.{◌≡◌, map, string_bytes};
 ghost use Rattle.std.specs.Option.{option_map};
 ghost use Rattle.programs.specs.Calls as spec;
 
-use crate::stop::Stop;
 use plan_texts::Tool;
-use std::env;
-use std::io::ErrorKind;
-use std::rt::Env;
-use texts::fault::Fault;
-
-/// The words after the program's name, or none if one isn't UTF-8, so that a program never takes part of a call for
-/// another call.
-///
-/// Fails if memory runs out.
-pub fn call_words<R: Env + AllocGlobal>(rt: &R) -> Result<Vec<String>, Stop> {
-    match env::args(rt) {
-        Ok(args) => Ok(args.skip(1).collect(rt.alloc())?),
-        Err(error) if error.kind() == ErrorKind::OutOfMemory => Err(Stop::Fault(Fault::Memory)),
-        Err(_) => Ok(Vec::new(rt.alloc())),
-    }
-}
 
 /// A call that reads a tool's line and writes it back.
 #[derive(Debug, Drop)]

@@ -10,14 +10,13 @@ ghost use Rattle.programs.specs.PlanText as spec;
 
 use crate::call::PlanCall;
 use crate::delivery::deliver;
-use crate::file::read_file;
+use crate::file::Sources;
 use crate::planning::plan_dry_runs;
 use crate::stop::Stop;
 use cuda_below::compiler::NvccHostCompiler;
 use dry_runs::FirstDir;
 use plan_texts::{Tool, show_line, show_plan};
 use std::alloc::Global;
-use std::fs::Files;
 use std::io::Write;
 use texts::fault::Fault;
 use texts::text::Text;
@@ -102,20 +101,18 @@ pub fn write_plan<W: Write>(
 }
 
 // Reads the file of the second dry run, plans both, and writes the plan.
-fn write_with_second<R: Files + AllocGlobal, W: Write>(
-    rt: &R,
+fn write_with_second<S: Sources, W: Write>(
+    alloc: Global,
+    sources: &S,
     call: &PlanCall<'_>,
     dry1: &[u8],
     w: &mut W,
 ) -> Result<(), Stop>
-    ensures { Delivers result spec.unread (W.contents w.old) (W.contents w.new)
-        ⊎ ((second : List ℕ) × Delivers result
-        (spec.shown_plan call.now.cwd.now call.now.tmp.now call.now.flag.now dry1.now second (map string_bytes call.now.suffixes.now))
-        (W.contents w.old) (W.contents w.new)) }
+    ensures { spec.PlansSecond (S.holds sources.now) (plan_of call.now) dry1.now result (W.contents w.old) (W.contents w.new) }
 {
-    let dry2 = read_file(rt, call.dry2)?;
+    let dry2 = sources.read_file(call.dry2)?;
     write_plan(
-        rt.alloc(),
+        alloc,
         call.cwd,
         call.tmp,
         call.flag,
@@ -126,16 +123,18 @@ fn write_with_second<R: Files + AllocGlobal, W: Write>(
     )
 }
 
-/// Reads the two files of a call, plans their dry runs as [`write_plan`] does, and writes the plan's text to `w`.
+/// Reads the two files of a call from `sources`, plans their dry runs as [`write_plan`] does, and writes the plan's text
+/// to `w`.
 ///
 /// Fails as [`write_plan`] does, and before that if a file can't be read (`Fault::Read`).
-pub fn write_plan_of_files<R: Files + AllocGlobal, W: Write>(
-    rt: &R,
+pub fn write_plan_of_files<S: Sources, W: Write>(
+    alloc: Global,
+    sources: &S,
     call: &PlanCall<'_>,
     w: &mut W,
 ) -> Result<(), Stop>
-    ensures { spec.PlansFiles (plan_of call.now) result (W.contents w.old) (W.contents w.new) }
+    ensures { spec.PlansFiles (S.holds sources.now) (plan_of call.now) result (W.contents w.old) (W.contents w.new) }
 {
-    let dry1 = read_file(rt, call.dry1)?;
-    write_with_second(rt, call, dry1.as_slice(), w)
+    let dry1 = sources.read_file(call.dry1)?;
+    write_with_second(alloc, sources, call, dry1.as_slice(), w)
 }

@@ -8,12 +8,14 @@ mod delivery;
 mod engine;
 mod file;
 mod planning;
+mod start;
 mod stop;
 
-pub use call::{LineCall, PlanCall, call_words, line_call, plan_call};
+pub use call::{LineCall, PlanCall, line_call, plan_call};
 pub use complaint::complain;
 pub use delivery::deliver;
 pub use engine::{write_line, write_plan, write_plan_of_files};
-pub use file::read_file;
+pub use file::{Disk, Sources};
 pub use planning::{all_suffixes, plan_dry_runs};
+pub use start::{Process, Start, call_words, push_variables};
 pub use stop::Stop;

@@ -12,8 +12,8 @@ pub enum Stop {
     Fault(Fault),
     /// The line compiles nothing.
     NotCompilation,
-    /// No cache can serve the line: the option or the reason.
-    CannotCache(Text),
+    /// The nvcc call goes to nvcc unchanged: why.
+    ToNvcc(Text),
     /// The plan can't be written in this form: why.
     Unwritable(Text),
     /// Writing the output failed.
@@ -30,7 +30,7 @@ impl fmt::Display for Stop {
         match self {
             Stop::Fault(fault) => write!(f, "{fault}"),
             Stop::NotCompilation => f.write_str("not a compilation"),
-            Stop::CannotCache(what) => write!(f, "cannot cache: {what}"),
+            Stop::ToNvcc(why) => write!(f, "goes to nvcc: {why}"),
             Stop::Unwritable(why) => f.write_str(why.as_str()),
             Stop::Write => f.write_str("cannot write"),
         }

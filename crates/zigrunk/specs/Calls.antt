@@ -9,9 +9,9 @@ use Rattle.zigrunk.specs.declared.call.Call.{Call}
 use Rattle.zigrunk.specs.declared.call.Call.TheVariants as calls
 use Rattle.zigrunk.specs.declared.call.ExportCall.{ExportCall}
 use Rattle.zigrunk.specs.declared.call.Format.{Format}
-use Rattle.zigrunk.specs.declared.call.Format.TheVariants.{Shell, Ninja, Json}
+use Rattle.zigrunk.specs.declared.call.Format.TheVariants.{Shell, Ninja, Json, Dot, Compdb}
 
--- a call that writes a plan: the format, whether generated files keep nvcc's names, whether a plan that lacks commands is an
+-- a call that writes a plan: the format, whether generated files keep nvcc's names, whether a plan that dropped a command is an
 -- error, and what to plan
 pub record ExportOf : Type 0 where
   pub format : Format
@@ -42,11 +42,14 @@ seen calls.Help = helps
 seen calls.Version = tells_version
 
 -- the format of a name
+abbrev pub view_of_name : List ℕ → Option Format
+view_of_name name = if bytes_eq name (codes "dot") then Some Dot else if bytes_eq name (codes "compdb") then Some Compdb else None
+
 abbrev pub format_of_name : List ℕ → Option Format
 format_of_name name =
     if bytes_eq name (codes "shell") then Some Shell else
     if bytes_eq name (codes "ninja") then Some Ninja else
-    if bytes_eq name (codes "json") then Some Json else None
+    if bytes_eq name (codes "json") then Some Json else view_of_name name
 
 -- the call that the words behind a format's name are: `--keep` and `--whole`, which may be left out, and what to plan
 abbrev pub export_with : Format → Bool → Bool → List (List ℕ) → Option ExportOf

@@ -6,19 +6,19 @@ use Rattle.program_lookups.specs.declared.snapshot.Entry.{Entry}
 use Rattle.program_lookups.specs.Asked.{asked_of_both}
 use Rattle.program_lookups.specs.Snapshot.{answer_in, IsSnapshotOf}
 use Rattle.programs.specs.declared.stop.Stop.{Stop}
-use Rattle.programs.specs.declared.stop.Stop.TheVariants.{Fault, NotCompilation, CannotCache, Unwritable, Write}
+use Rattle.programs.specs.declared.stop.Stop.TheVariants.{Fault, NotCompilation, ToNvcc, Unwritable, Write}
 use Rattle.programs.specs.Delivery.{Delivers}
 use Rattle.programs.specs.LineText.{shown_line}
-use Rattle.programs.specs.PlanText.{PlansFiles, unread}
+use Rattle.programs.specs.PlanText.{PlansFiles, ReadsFirst, out_of_memory}
 use Rattle.zigrunk.specs.Calls.{CallOf, ExportOf, exports, reads, names, rewrites, plans, helps, tells_version}
 use Rattle.zigrunk.specs.Exports.{exported}
 use Rattle.zigrunk.specs.NvccText.{nvcc_text}
 use Rattle.zigrunk.specs.Pages.{help_text, version_text}
 
--- the exit status of a call that reads an nvcc line, if it stops: 3 if the line compiles nothing or no cache can serve it
+-- the exit status of a call that reads an nvcc line, if it stops: 3 if its call goes to nvcc unchanged
 abbrev pub nvcc_status : Stop → ℕ
 nvcc_status NotCompilation = 3
-nvcc_status (CannotCache what) = 3
+nvcc_status (ToNvcc why) = 3
 nvcc_status (Fault fault) = 1
 nvcc_status (Unwritable why) = 1
 nvcc_status Write = 1
@@ -46,25 +46,42 @@ ExportsBytes c first second answer before after =
     × IsSnapshotOf (asked_of_both first second c.plan.cwd) programs
     × Delivers answer (exported c (answer_in programs) first second) before after
 
--- the same, given only the engine's answer: nothing if a file can't be read, else the plan of the bytes of both files,
--- whatever they are
-abbrev pub ExportsFiles : ExportOf → Result (Unit {0}) Stop → Option (List ℕ) → Option (List ℕ) → Type 0
-ExportsFiles c answer before after =
-    Delivers answer unread before after ⊎ ((first : List ℕ) × (second : List ℕ) × ExportsBytes c first second answer before after)
+-- the same, unless memory runs out before
+abbrev pub ExportsOrRunsOut : ExportOf → List ℕ → List ℕ → Result (Unit {0}) Stop → Option (List ℕ) → Option (List ℕ) → Type 0
+ExportsOrRunsOut c first second answer before after = Delivers answer out_of_memory before after ⊎ ExportsBytes c first second answer before after
 
--- what the program writes for a call, given the engine's answer and the variables that nvcc takes words from
-abbrev pub Serves : CallOf → List (List ℕ × List ℕ) → Result (Unit {0}) Stop → Option (List ℕ) → Option (List ℕ) → Type 0
-Serves (exports c) variables answer before after = ExportsFiles c answer before after
-Serves (reads c) variables answer before after = Delivers answer (nvcc_text c variables) before after
-Serves (names c) variables answer before after = Delivers answer (Ok (directory_name c variables ++ 10 ∷ [])) before after
-Serves (rewrites c) variables answer before after = Delivers answer (shown_line c.tool c.cwd c.words) before after
-Serves (plans c) variables answer before after = PlansFiles c answer before after
-Serves helps variables answer before after = Delivers answer (Ok help_text) before after
-Serves tells_version variables answer before after = Delivers answer (Ok version_text) before after
+-- the same, given what files may hold, the bytes of the first file and the engine's answer
+abbrev pub ExportsSecond :
+    (List ℕ → Option (List ℕ) → Type 0) → ExportOf → List ℕ → Result (Unit {0}) Stop → Option (List ℕ) → Option (List ℕ) → Type 0
+ExportsSecond holds c first answer before after =
+    ReadsFirst (holds c.plan.dry2) (λ second. ExportsOrRunsOut c first second answer before after) answer before after
+
+-- the same, given only what files may hold and the engine's answer: the plan of these two files
+abbrev pub ExportsFiles :
+    (List ℕ → Option (List ℕ) → Type 0) → ExportOf → Result (Unit {0}) Stop → Option (List ℕ) → Option (List ℕ) → Type 0
+ExportsFiles holds c answer before after = ReadsFirst (holds c.plan.dry1) (λ first. ExportsSecond holds c first answer before after) answer before after
+
+-- what the program writes for a call, given what files may hold, the engine's answer and the variables that nvcc takes words from
+abbrev pub Serves :
+    (List ℕ → Option (List ℕ) → Type 0)
+    → CallOf
+    → List (List ℕ × List ℕ)
+    → Result (Unit {0}) Stop
+    → Option (List ℕ)
+    → Option (List ℕ)
+    → Type 0
+Serves holds (exports c) variables answer before after = ExportsFiles holds c answer before after
+Serves holds (reads c) variables answer before after = Delivers answer (nvcc_text c variables) before after
+Serves holds (names c) variables answer before after = Delivers answer (Ok (directory_name c variables ++ 10 ∷ [])) before after
+Serves holds (rewrites c) variables answer before after = Delivers answer (shown_line c.tool c.cwd c.words) before after
+Serves holds (plans c) variables answer before after = PlansFiles holds c answer before after
+Serves holds helps variables answer before after = Delivers answer (Ok help_text) before after
+Serves holds tells_version variables answer before after = Delivers answer (Ok version_text) before after
 
 -- how a call ends: with status 2 and nothing written if the words are no call, else with the status of an engine's answer,
 -- and with what that engine writes
-abbrev pub Ends : ℕ → Option CallOf → List (List ℕ × List ℕ) → Option (List ℕ) → Option (List ℕ) → Type 0
-Ends status call variables before after =
+abbrev pub Ends :
+    (List ℕ → Option (List ℕ) → Type 0) → ℕ → Option CallOf → List (List ℕ × List ℕ) → Option (List ℕ) → Option (List ℕ) → Type 0
+Ends holds status call variables before after =
     MatchOption call ((status ≡ 2) × Keeps before after)
-    (λ c. (answer : Result (Unit {0}) Stop) × (status ≡ status_of c answer) × Serves c variables answer before after)
+    (λ c. (answer : Result (Unit {0}) Stop) × (status ≡ status_of c answer) × Serves holds c variables answer before after)

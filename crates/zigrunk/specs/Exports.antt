@@ -1,20 +1,28 @@
 -- What the program writes for a plan.
-use Rattle.std.specs.Prelude.{ℕ, List, [], ◌∷◌, ◌++◌, length, ◌==◌, Bool, true, false, if◌then◌else◌, codes, Option, Some, None, Result, Ok, Err}
-use Rattle.std.specs.List.{list_all}
+use Rattle.std.specs.Prelude.{ℕ, List, [], ◌∷◌, ◌++◌, length, ◌==◌, Bool, true, false, not, nat_eq, if◌then◌else◌, codes, Option, Some, None, Result, Ok, Err}
+use Rattle.std.specs.List.{list_all, list_any, starts_with}
+use Rattle.std.specs.Str.{bytes_eq}
+use Rattle.std.specs.Str.Lines.{lines}
 use Rattle.serde_json.specs.Written.{compact_text}
 use Rattle.texts.specs.declared.fault.Fault.{Fault}
 use Rattle.dry_runs.specs.DryRun.{LookUp}
+use Rattle.command_groups.specs.declared.origins.PlanWithOrigins.{PlanWithOrigins}
 use Rattle.command_groups.specs.declared.plan.Plan.{Plan}
+use Rattle.command_groups.specs.Origins.{planning_with_origins}
+use Rattle.command_groups.specs.Plan.{PlanSetting}
 use Rattle.plan_exports.specs.declared.refusal.Refusal.{Refusal}
+use Rattle.plan_exports.specs.Compdb.{database}
+use Rattle.plan_exports.specs.Dot.{picture}
 use Rattle.plan_exports.specs.Graph.{ninja_answer}
-use Rattle.plan_exports.specs.Json.{data_of}
+use Rattle.plan_exports.specs.Json.{Described, data_of}
 use Rattle.plan_exports.specs.Message.{message_of}
 use Rattle.plan_exports.specs.Script.{shell_answer}
 use Rattle.programs.specs.declared.stop.Stop.{Stop}
 use Rattle.programs.specs.declared.stop.Stop.TheVariants as stops
-use Rattle.programs.specs.PlanText.{planned}
+use Rattle.programs.specs.Calls.{PlanOf}
+use Rattle.programs.specs.PlanText.{program_setting, all_suffixes}
 use Rattle.zigrunk.specs.declared.call.Format.{Format}
-use Rattle.zigrunk.specs.declared.call.Format.TheVariants.{Shell, Ninja, Json}
+use Rattle.zigrunk.specs.declared.call.Format.TheVariants.{Shell, Ninja, Json, Dot, Compdb}
 use Rattle.zigrunk.specs.Calls.{ExportOf}
 
 -- a writer's answer, with a refusal as text
@@ -22,41 +30,62 @@ abbrev pub written : Result (List ℕ) Refusal → Result (List ℕ) Stop
 written (Ok text) = Ok text
 written (Err refusal) = Err (stops.Unwritable (message_of refusal))
 
--- a plan in a format. JSON ends in a newline
-abbrev pub plan_in : Format → List ℕ → Plan → Result (List ℕ) Stop
-plan_in Shell tmp plan = written (shell_answer plan)
-plan_in Ninja tmp plan = written (ninja_answer tmp plan)
-plan_in Json tmp plan = Ok (compact_text (data_of plan) ++ 10 ∷ [])
+-- what the plan of a call's dry runs is made for
+abbrev pub described : PlanOf → PlanWithOrigins → Described
+described call planned = record { cwd = call.cwd; tmp = call.tmp; flag = call.flag; planned = planned }
 
--- why a plan lacks commands, if it does: it has none, or it dropped one
-abbrev pub lacking : Plan → Option (List ℕ)
-lacking plan =
+-- a plan in a format. JSON and a compilation database end in a newline
+abbrev pub plan_in : Format → PlanOf → PlanWithOrigins → Result (List ℕ) Stop
+plan_in Shell call planned = written (shell_answer planned.plan)
+plan_in Ninja call planned = written (ninja_answer call.tmp planned.plan)
+plan_in Json call planned = Ok (compact_text (data_of (described call planned)) ++ 10 ∷ [])
+plan_in Dot call planned = Ok (picture planned.plan)
+plan_in Compdb call planned = Ok (compact_text (database planned.plan) ++ 10 ∷ [])
+
+-- why a plan lacks commands, if it does: it has none, or it has to be whole and dropped one
+abbrev pub lacking : Bool → Plan → Option (List ℕ)
+lacking whole plan =
     if list_all (λ group. length group == 0) plan.groups then Some (codes "the plan has no command") else
+    if not whole then None else
     if length plan.dropped == 0 then None else Some (codes "the plan dropped a command")
 
--- a plan in a format, unless something stops the program
-abbrev pub unless_lacking : Option (List ℕ) → Result (List ℕ) Stop → Result (List ℕ) Stop
-unless_lacking None text = text
-unless_lacking (Some why) text = Err (stops.Unwritable why)
+-- a text, unless something stops the program
+abbrev pub unless_stopped : Option (List ℕ) → Result (List ℕ) Stop → Result (List ℕ) Stop
+unless_stopped None text = text
+unless_stopped (Some why) text = Err (stops.Unwritable why)
 
-abbrev pub judged_in : Format → Bool → List ℕ → Plan → Result (List ℕ) Stop
-judged_in format whole tmp plan = unless_lacking (if whole then lacking plan else None) (plan_in format tmp plan)
-
--- the same, or why there is no plan
-abbrev pub planned_in : Format → Bool → List ℕ → Result Plan Fault → Result (List ℕ) Stop
-planned_in format whole tmp (Ok plan) = judged_in format whole tmp plan
-planned_in format whole tmp (Err fault) = Err (stops.Fault fault)
+-- the plan of a call in its format, or why there is none
+abbrev pub planned_in : ExportOf → Result PlanWithOrigins Fault → Result (List ℕ) Stop
+planned_in call (Ok planned) = unless_stopped (lacking call.whole planned.plan) (plan_in call.format call.plan planned)
+planned_in call (Err fault) = Err (stops.Fault fault)
 
 -- the directory that keeps generated files: the temporary one, if they keep nvcc's names
 abbrev pub keep_dir_of : Bool → List ℕ → Option (List ℕ)
 keep_dir_of true tmp = Some tmp
 keep_dir_of false tmp = None
 
+-- the plan of two dry runs with these suffixes, unless the suffixes are at fault
+abbrev pub planned_with : Option (List ℕ) → PlanSetting → LookUp → List ℕ → List ℕ → Result (List (List ℕ)) Fault → Result PlanWithOrigins Fault
+planned_with keep_dir setting which first second (Ok suffixes) = planning_with_origins suffixes keep_dir setting which first second
+planned_with keep_dir setting which first second (Err fault) = Err fault
+
 -- the plan of a call, given a look-up of programs and the bytes of its two dry runs
-abbrev pub plan_of_call : ExportOf → LookUp → List ℕ → List ℕ → Result Plan Fault
+abbrev pub plan_of_call : ExportOf → LookUp → List ℕ → List ℕ → Result PlanWithOrigins Fault
 plan_of_call call which first second =
-    planned call.plan.cwd call.plan.tmp call.plan.flag (keep_dir_of call.keeps call.plan.tmp) which first second call.plan.suffixes
+    planned_with (keep_dir_of call.keeps call.plan.tmp) (program_setting call.plan.cwd call.plan.tmp call.plan.flag) which first second
+    (all_suffixes call.plan.suffixes)
+
+-- whether a text has a line of a dry run, that is one with nvcc's mark
+abbrev pub is_dry_run : List ℕ → Bool
+is_dry_run bytes = list_any (λ line. starts_with nat_eq line (codes "#$ ")) (lines bytes)
+
+-- why two files can't be the dry runs of a call, if they can't: the call names one file twice, or one has no line of a dry run
+abbrev pub unfit : PlanOf → List ℕ → List ℕ → Option (List ℕ)
+unfit call first second =
+    if bytes_eq call.dry1 call.dry2 then Some (codes "both dry runs are the same file") else
+    if not (is_dry_run first) then Some (codes "the first file is no dry run: no line begins with \"#$ \"") else
+    if is_dry_run second then None else Some (codes "the second file is no dry run: no line begins with \"#$ \"")
 
 -- what the program writes for a call
 abbrev pub exported : ExportOf → LookUp → List ℕ → List ℕ → Result (List ℕ) Stop
-exported call which first second = planned_in call.format call.whole call.plan.tmp (plan_of_call call which first second)
+exported call which first second = unless_stopped (unfit call.plan first second) (planned_in call (plan_of_call call which first second))

@@ -1,5 +1,6 @@
 pub mod Calls
 pub mod Endings
+pub mod Environment
 pub mod Exports
 pub mod NvccText
 pub mod Pages

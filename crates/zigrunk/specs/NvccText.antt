@@ -12,8 +12,7 @@ use Rattle.programs.specs.declared.stop.Stop.TheVariants as stops
 -- the text of an answer, or why the program stops
 abbrev pub answer_text : Result Answer Fault → Result (List ℕ) Stop
 answer_text (Ok (answers.Split outline)) = Ok (outline_text outline)
-answer_text (Ok answers.NotCompilation) = Err stops.NotCompilation
-answer_text (Ok (answers.CannotCache what)) = Err (stops.CannotCache what)
+answer_text (Ok (answers.Pass why)) = Err (stops.ToNvcc why)
 answer_text (Err fault) = Err (stops.Fault fault)
 
 -- the text of an nvcc line, or why there is none

@@ -10,18 +10,19 @@ lines_of lines = flat_map (λ line. line ++ 10 ∷ []) lines
 abbrev pub help_text : List ℕ
 help_text =
     lines_of
-    (codes "usage: zigrunk shell|ninja|json [--keep] [--whole] CWD TMP FLAG DRY1 DRY2 SUFFIX.." ∷
+    (codes "usage: zigrunk FORMAT [--keep] [--whole] CWD TMP FLAG DRY1 DRY2 SUFFIX.." ∷
     codes "       zigrunk calls CWD TMP NVCC WORD.." ∷
     codes "       zigrunk directory CWD NVCC WORD.." ∷
     codes "       zigrunk line TOOL CWD WORD.." ∷
     codes "       zigrunk plan CWD TMP FLAG DRY1 DRY2 SUFFIX.." ∷
     codes "       zigrunk --help | --version" ∷
     [] ∷
-    codes "shell, ninja, json  Plan the two dry runs of an nvcc call, in the files DRY1 and" ∷
-    codes "                    DRY2, and write the plan as a shell script, as a Ninja file" ∷
-    codes "                    or as JSON. With --keep, generated files keep nvcc's names." ∷
-    codes "                    With --whole, it is an error if the plan has no command or" ∷
-    codes "                    dropped one." ∷
+    codes "FORMAT              Plan the two dry runs of an nvcc call, in the files DRY1 and" ∷
+    codes "                    DRY2, and write the plan as a shell script (shell), a Ninja" ∷
+    codes "                    file (ninja), JSON (json), a graph for Graphviz (dot) or a" ∷
+    codes "                    compilation database for clang's tools (compdb). With --keep," ∷
+    codes "                    generated files keep nvcc's names. With --whole, it is an" ∷
+    codes "                    error if the plan dropped a command." ∷
     codes "calls               Read the words of an nvcc line and write, for a shell's eval," ∷
     codes "                    the commands that make its two dry runs and what else the" ∷
     codes "                    line says." ∷
@@ -37,7 +38,7 @@ help_text =
     codes "MAKEFLAGS, and says how many commands run at once." ∷
     [] ∷
     codes "The exit status is 0 on success, 1 on a fault, 2 for wrong usage, and 3 if calls" ∷
-    codes "reads a line that compiles nothing or that no cache can serve." ∷
+    codes "reads a line that goes to nvcc unchanged." ∷
     codes "See zigrunk(1). zigrunk-nvcc runs calls, ninja and Ninja for you." ∷
     [])
 

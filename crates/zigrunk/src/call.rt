@@ -15,6 +15,10 @@ pub enum Format {
     /// A Ninja file.
     Ninja,
     Json,
+    /// A graph that Graphviz draws.
+    Dot,
+    /// A compilation database.
+    Compdb,
 }
 
 /// A call that writes the plan of two dry runs for another tool.
@@ -23,7 +27,7 @@ pub struct ExportCall<'a> {
     pub format: Format,
     /// Whether generated files keep nvcc's names.
     pub keeps: bool,
-    /// Whether a plan that lacks commands is an error.
+    /// Whether a plan that dropped a command is an error.
     pub whole: bool,
     pub plan: PlanCall<'a>,
 }
@@ -44,6 +48,17 @@ pub enum Call<'a> {
     Version,
 }
 
+// The format of a name, if it is one that shows a plan.
+fn view_named(name: &str) -> Option<Format>
+    ensures { result ≡ spec.view_of_name name.now }
+{
+    match name {
+        "dot" => Some(Format::Dot),
+        "compdb" => Some(Format::Compdb),
+        _ => None,
+    }
+}
+
 // The format of a name.
 fn format_named(name: &str) -> Option<Format>
     ensures { result ≡ spec.format_of_name name.now }
@@ -52,7 +67,7 @@ fn format_named(name: &str) -> Option<Format>
         "shell" => Some(Format::Shell),
         "ninja" => Some(Format::Ninja),
         "json" => Some(Format::Json),
-        _ => None,
+        _ => view_named(name),
     }
 }
 
@@ -162,8 +177,8 @@ fn named_call<'a>(name: &str, words: &'a [String]) -> Option<Call<'a>>
 
 /// Parses the words after the program's name:
 ///
-/// - `shell|ninja|json [--keep] [--whole] CWD TMP FLAG DRY1 DRY2 SUFFIX..`, with `--keep` if generated files keep nvcc's
-///   names, and `--whole` if a plan that lacks commands is an error;
+/// - `shell|ninja|json|dot|compdb [--keep] [--whole] CWD TMP FLAG DRY1 DRY2 SUFFIX..`, with `--keep` if generated files keep
+///   nvcc's names, and `--whole` if a plan that dropped a command is an error;
 /// - `calls CWD TMP NVCC WORD..`;
 /// - `directory CWD NVCC WORD..`;
 /// - `line TOOL CWD WORD..` or `plan CWD TMP FLAG DRY1 DRY2 SUFFIX..`, as `cudaplan`;

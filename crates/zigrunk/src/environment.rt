@@ -1,31 +1,27 @@
 //! The variables of the environment that the program reads.
 
-use programs::Stop;
-use std::alloc::AllocError;
-use std::env::{self, VarError};
-use std::rt::Env;
+ghost use Rattle.std.specs.Prelude.{MatchResult};
+ghost use Rattle.zigrunk.specs.Environment as spec;
+
+use programs::{Start, Stop, push_variables};
+use std::alloc::{AllocError, Global};
+use std::env::VarError;
 use texts::variables::Variables;
 
-// Adds a variable, if the environment has it.
-fn push_variable<R: Env + AllocGlobal>(
-    rt: &R,
-    name: &str,
-    variables: &mut Variables,
-) -> Result<(), VarError> {
-    match env::var(rt, name) {
-        Ok(value) => Ok(variables.push(String::from_str(rt.alloc(), name)?, value)?),
-        Err(VarError::NotPresent) => Ok(()),
-        Err(error) => Err(error),
-    }
-}
-
 // The variables that the environment has.
-fn variables_of<R: Env + AllocGlobal>(rt: &R) -> Result<Variables, VarError> {
-    let mut variables = Variables::new(rt.alloc());
-    push_variable(rt, "NVCC_PREPEND_FLAGS", &mut variables)?;
-    push_variable(rt, "NVCC_APPEND_FLAGS", &mut variables)?;
-    push_variable(rt, "ZIGRUNK_JOBS", &mut variables)?;
-    push_variable(rt, "MAKEFLAGS", &mut variables)?;
+fn variables_of<S: Start>(alloc: Global, start: &S) -> Result<Variables, VarError>
+    ensures { MatchResult result (λ variables. spec.AreVariables (S.variable start.now) variables)
+        (λ error. spec.IsWhy (S.variable start.now) error) }
+{
+    let mut variables = Variables::new(alloc);
+    push_variables(
+        alloc,
+        start,
+        "NVCC_PREPEND_FLAGS",
+        "NVCC_APPEND_FLAGS",
+        &mut variables,
+    )?;
+    push_variables(alloc, start, "ZIGRUNK_JOBS", "MAKEFLAGS", &mut variables)?;
     Ok(variables)
 }
 
@@ -33,10 +29,14 @@ fn variables_of<R: Env + AllocGlobal>(rt: &R) -> Result<Variables, VarError> {
 /// one isn't UTF-8.
 ///
 /// Fails if memory runs out.
-pub fn call_variables<R: Env + AllocGlobal>(rt: &R) -> Result<Option<Variables>, Stop> {
-    match variables_of(rt) {
+pub fn call_variables<S: Start>(alloc: Global, start: &S) -> Result<Option<Variables>, Stop>
+    ensures { spec.AreCallVariables (S.variable start.now) result }
+{
+    match variables_of(alloc, start) {
         Ok(variables) => Ok(Some(variables)),
         Err(VarError::OutOfMemory) => Err(Stop::from(AllocError)),
-        Err(_) => Ok(None),
+        Err(VarError::NotUnicode) => Ok(None),
+        // no look-up ends with this
+        Err(VarError::NotPresent) => Ok(None),
     }
 }

@@ -1,24 +1,27 @@
 //! The engine that plans two dry runs and writes the plan for another tool.
 
-ghost use Rattle.std.specs.Prelude.{◌≡◌, ◌==◌, List, ℕ, [], length, map, vec_items, Result, Err};
-ghost use Rattle.std.specs.List.{list_all};
+ghost use Rattle.std.specs.Prelude.{◌≡◌, ◌==◌, ◌++◌, ◌∷◌, [], List, ℕ, codes, length, map, nat_eq, vec_items, Result, Ok, Err};
+ghost use Rattle.std.specs.List.{list_all, starts_with};
 ghost use Rattle.std.specs.Option.{option_copied};
+ghost use Rattle.serde_json.specs.Written.{compact_text};
 ghost use Rattle.texts.specs.Fault.{UnlessMemory};
 ghost use Rattle.plan_exports.specs.declared.refusal.Refusal.{Refusal};
 ghost use Rattle.plan_exports.specs.Answers as exports;
+ghost use Rattle.plan_exports.specs.Compdb.{database};
 ghost use Rattle.plan_exports.specs.Message.{message_of};
 ghost use Rattle.programs.specs.declared.stop.Stop.TheVariants as stops;
 ghost use Rattle.programs.specs.Delivery.{Answers, Delivers, text_of};
 ghost use Rattle.zigrunk.specs.declared.call.Format.TheVariants as formats;
+ghost use Rattle.programs.specs.Calls.{plan_of as plan_seen};
 ghost use Rattle.zigrunk.specs.Calls.{export_of};
 ghost use Rattle.zigrunk.specs.Exports as spec;
 
 use crate::call::{ExportCall, Format};
-use command_groups::{NvccGeneratedSubcommand, Plan};
+use command_groups::{NvccGeneratedSubcommand, Plan, PlanWithOrigins, plan_with_origins};
 use cuda_below::compiler::NvccHostCompiler;
-use dry_runs::Which;
-use plan_exports::{Refusal, json_text, ninja_file, shell_script};
-use programs::{Stop, deliver, plan_dry_runs};
+use dry_runs::{Which, first_line};
+use plan_exports::{Refusal, compdb_text, dot_text, json_text, ninja_file, shell_script};
+use programs::{PlanCall, Stop, all_suffixes, deliver};
 use std::alloc::Global;
 use std::io::Write;
 use texts::fault::Fault;
@@ -46,22 +49,38 @@ fn written(alloc: Global, answer: Result<String, Refusal>) -> Result<String, Sto
 }
 
 // A plan as JSON and a newline.
-fn json_line(alloc: Global, plan: &Plan) -> Result<String, Stop>
-    ensures { Answers (text_of result) (spec.plan_in formats.Json [] plan.now) }
+fn json_line(alloc: Global, call: &PlanCall<'_>, planned: &PlanWithOrigins) -> Result<String, Stop>
+    ensures { Answers (text_of result) (spec.plan_in formats.Json (plan_seen call.now) planned.now) }
 {
-    let mut text = json_text(alloc, plan)?;
+    let mut text = json_text(alloc, call.cwd, call.tmp, call.flag, planned)?;
+    text.push_str("\n")?;
+    Ok(text)
+}
+
+// A plan's compilation database and a newline.
+fn compdb_line(alloc: Global, plan: &Plan) -> Result<String, Stop>
+    ensures { Answers (text_of result) (Ok (compact_text (database plan.now) ++ 10 ∷ [])) }
+{
+    let mut text = compdb_text(alloc, plan)?;
     text.push_str("\n")?;
     Ok(text)
 }
 
 // A plan in a format.
-fn plan_in(alloc: Global, format: Format, tmp: &str, plan: &Plan) -> Result<String, Stop>
-    ensures { Answers (text_of result) (spec.plan_in format tmp.now plan.now) }
+fn plan_in(
+    alloc: Global,
+    format: Format,
+    call: &PlanCall<'_>,
+    planned: &PlanWithOrigins,
+) -> Result<String, Stop>
+    ensures { Answers (text_of result) (spec.plan_in format (plan_seen call.now) planned.now) }
 {
     match format {
-        Format::Shell => written(alloc, shell_script(alloc, plan)),
-        Format::Ninja => written(alloc, ninja_file(alloc, tmp, plan)),
-        Format::Json => json_line(alloc, plan),
+        Format::Shell => written(alloc, shell_script(alloc, &planned.plan)),
+        Format::Ninja => written(alloc, ninja_file(alloc, call.tmp, &planned.plan)),
+        Format::Json => json_line(alloc, call, planned),
+        Format::Dot => Ok(dot_text(alloc, &planned.plan)?),
+        Format::Compdb => compdb_line(alloc, &planned.plan),
     }
 }
 
@@ -78,12 +97,12 @@ fn are_empty(groups: &[Vec<NvccGeneratedSubcommand>]) -> bool
 }
 
 // Why a plan lacks commands, if it does.
-fn lacking(plan: &Plan) -> Option<&'static str>
-    ensures { option_copied result ≡ spec.lacking plan.now }
+fn lacking(whole: bool, plan: &Plan) -> Option<&'static str>
+    ensures { option_copied result ≡ spec.lacking whole plan.now }
 {
     if are_empty(plan.groups.as_slice()) {
         Some("the plan has no command")
-    } else if plan.dropped.as_slice().is_empty() {
+    } else if !whole || plan.dropped.as_slice().is_empty() {
         None
     } else {
         Some("the plan dropped a command")
@@ -97,22 +116,18 @@ fn refused(alloc: Global, why: &str) -> Result<String, Stop>
     Err(Stop::Unwritable(Text::copy_of(alloc, why)?))
 }
 
-// A plan in a format. If it has to be whole, it may not lack commands.
+// A plan in a call's format, unless it lacks commands.
 fn judged_in(
     alloc: Global,
-    format: Format,
-    whole: bool,
-    tmp: &str,
-    plan: &Plan,
+    call: &ExportCall<'_>,
+    planned: &PlanWithOrigins,
 ) -> Result<String, Stop>
-    ensures { Answers (text_of result) (spec.judged_in format whole tmp.now plan.now) }
+    ensures { Answers (text_of result) (spec.unless_stopped (spec.lacking call.now.whole planned.now.plan)
+        (spec.plan_in call.now.format (plan_seen call.now.plan) planned.now)) }
 {
-    if !whole {
-        return plan_in(alloc, format, tmp, plan);
-    }
-    match lacking(plan) {
+    match lacking(call.whole, &planned.plan) {
         Some(why) => refused(alloc, why),
-        None => plan_in(alloc, format, tmp, plan),
+        None => plan_in(alloc, call.format, &call.plan, planned),
     }
 }
 
@@ -130,24 +145,75 @@ fn plan_of<L: Which>(
     dry1: &[u8],
     dry2: &[u8],
     which: &L,
-) -> Result<Plan, Fault>
+) -> Result<PlanWithOrigins, Fault>
     ensures { UnlessMemory result (spec.plan_of_call (export_of call.now) (L.answer which.now) dry1.now dry2.now) }
 {
     let plan = &call.plan;
-    let keep_dir = keep_dir_of(call.keeps, plan.tmp);
-    plan_dry_runs(
+    let suffixes = all_suffixes(alloc, plan.suffixes)?;
+    plan_with_origins(
         alloc,
-        plan.cwd,
-        plan.tmp,
-        plan.flag,
-        keep_dir,
         dry1,
         dry2,
-        plan.suffixes,
+        plan.flag,
+        plan.cwd,
+        plan.tmp,
+        keep_dir_of(call.keeps, plan.tmp),
         &[],
         NvccHostCompiler::Gcc,
         which,
+        &suffixes,
     )
+}
+
+// Whether a line is one of a dry run.
+fn is_marked(line: &[u8]) -> bool
+    ensures { result ≡ starts_with nat_eq line.now (codes "#$ ") }
+{
+    line.starts_with(b"#$ ")
+}
+
+// Whether a text has a line of a dry run.
+fn is_dry_run(bytes: &[u8]) -> bool
+    ensures { result ≡ spec.is_dry_run bytes.now }
+{
+    let mut rest = bytes;
+    while let Some((line, behind)) = first_line(rest) {
+        if is_marked(line) {
+            return true;
+        }
+        rest = behind;
+    }
+    false
+}
+
+// Why two files can't be the dry runs of a call, if they can't.
+fn unfit(call: &PlanCall<'_>, dry1: &[u8], dry2: &[u8]) -> Option<&'static str>
+    ensures { option_copied result ≡ spec.unfit (plan_seen call.now) dry1.now dry2.now }
+{
+    if call.dry1 == call.dry2 {
+        Some("both dry runs are the same file")
+    } else if !is_dry_run(dry1) {
+        Some("the first file is no dry run: no line begins with \"#$ \"")
+    } else if is_dry_run(dry2) {
+        None
+    } else {
+        Some("the second file is no dry run: no line begins with \"#$ \"")
+    }
+}
+
+// The text of the plan of a call's dry runs.
+fn planned_text<L: Which>(
+    alloc: Global,
+    call: &ExportCall<'_>,
+    dry1: &[u8],
+    dry2: &[u8],
+    which: &L,
+) -> Result<String, Stop>
+    ensures { Answers (text_of result) (spec.planned_in (export_of call.now)
+        (spec.plan_of_call (export_of call.now) (L.answer which.now) dry1.now dry2.now)) }
+{
+    let planned = plan_of(alloc, call, dry1, dry2, which)?;
+    judged_in(alloc, call, &planned)
 }
 
 // The text of a call's plan.
@@ -160,15 +226,18 @@ fn export_text<L: Which>(
 ) -> Result<String, Stop>
     ensures { Answers (text_of result) (spec.exported (export_of call.now) (L.answer which.now) dry1.now dry2.now) }
 {
-    let plan = plan_of(alloc, call, dry1, dry2, which)?;
-    judged_in(alloc, call.format, call.whole, call.plan.tmp, &plan)
+    match unfit(&call.plan, dry1, dry2) {
+        Some(why) => refused(alloc, why),
+        None => planned_text(alloc, call, dry1, dry2, which),
+    }
 }
 
 /// Plans the two dry runs of a call and writes the plan to `w` in one piece, in the call's format. `which` looks up every
 /// program.
 ///
-/// Fails, with nothing written, if `plan_dry_runs` does, if the plan has to be whole and has no command or dropped one, and
-/// if the format can't represent the plan (both `Stop::Unwritable`).
+/// Fails, with nothing written, in this order: if the call names one file twice or if a file has no line of a dry run
+/// (`Stop::Unwritable`); if `plan_with_origins` or `all_suffixes` does; if the plan has no command, or has to be whole and dropped
+/// one, and if the format can't represent the plan (all `Stop::Unwritable`).
 /// Fails if `w` fails (`Stop::Write`).
 pub fn write_export<L: Which, W: Write>(
     alloc: Global,

@@ -3,7 +3,7 @@
 
 use environment::call_variables;
 use program::run_program;
-use programs::{Stop, call_words, complain};
+use programs::{Disk, Process, Stop, call_words, complain};
 use std::fs::Files;
 use std::io::{self, Write};
 use std::process::ExitCode;
@@ -23,10 +23,11 @@ fn run<R: Env + Files + AllocGlobal, W: Write, E: Write>(
     out: &mut W,
     err: &mut E,
 ) -> Result<u8, Stop> {
-    let words = call_words(rt)?;
-    Ok(match call_variables(rt)? {
-        Some(variables) => run_program(rt, words.as_slice(), variables.as_slice(), out, err),
-        None => run_program(rt, &[], &[], out, err),
+    let (process, disk) = (Process::new(rt), Disk::new(rt));
+    let words = call_words(rt.alloc(), &process)?;
+    Ok(match call_variables(rt.alloc(), &process)? {
+        Some(variables) => run_program(rt, &disk, words.as_slice(), variables.as_slice(), out, err),
+        None => run_program(rt, &disk, &[], &[], out, err),
     })
 }
 

@@ -21,17 +21,16 @@ fn answer_text(alloc: Global, answer: Result<Answer, Fault>) -> Result<String, S
 {
     match answer? {
         Answer::Split(outline) => Ok(shell_text(alloc, &outline)?),
-        Answer::NotCompilation => Err(Stop::NotCompilation),
-        Answer::CannotCache(what) => Err(Stop::CannotCache(what)),
+        Answer::Pass(why) => Err(Stop::ToNvcc(why)),
     }
 }
 
-/// Reads an nvcc line, with the words of `variables`, and writes to `w`, for a shell's `eval`, the command that writes its
-/// dependency file, its two dry runs, the compilation flag, the number of threads and the directory that keeps generated
-/// files.
+/// Reads an nvcc line as nvcc does, with the words of `variables`, and writes to `w`, for a shell's `eval`, the command that
+/// writes its dependency file, its two dry runs, the compilation flag, the number of threads and the directory that keeps
+/// generated files.
 ///
-/// Fails, with nothing written, if the line compiles nothing (`Stop::NotCompilation`), if no cache can serve it
-/// (`Stop::CannotCache`), and if `read_call` does. Fails if `w` fails (`Stop::Write`).
+/// Fails, with nothing written, if the call goes to nvcc unchanged (`Stop::ToNvcc`, with the reason), and if `read_call`
+/// does. Fails if `w` fails (`Stop::Write`).
 pub fn write_nvcc_text<W: Write>(
     alloc: Global,
     call: &NvccCall<'_>,

@@ -5,7 +5,7 @@ ghost use Rattle.zigrunk.specs.Pages as spec;
 
 /// What the program writes to standard error for wrong usage.
 pub const USAGE: &str =
-    "usage: zigrunk shell|ninja|json [--keep] [--whole] CWD TMP FLAG DRY1 DRY2 SUFFIX.. \
+    "usage: zigrunk shell|ninja|json|dot|compdb [--keep] [--whole] CWD TMP FLAG DRY1 DRY2 SUFFIX.. \
 | calls CWD TMP NVCC WORD.. | directory CWD NVCC WORD.. | line TOOL CWD WORD.. | plan CWD TMP FLAG DRY1 DRY2 SUFFIX.. \
 | --help | --version\n";
 
@@ -13,18 +13,19 @@ pub const USAGE: &str =
 pub fn help() -> &'static str
     ensures { result.now ≡ spec.help_text }
 {
-    "usage: zigrunk shell|ninja|json [--keep] [--whole] CWD TMP FLAG DRY1 DRY2 SUFFIX..
+    "usage: zigrunk FORMAT [--keep] [--whole] CWD TMP FLAG DRY1 DRY2 SUFFIX..
        zigrunk calls CWD TMP NVCC WORD..
        zigrunk directory CWD NVCC WORD..
        zigrunk line TOOL CWD WORD..
        zigrunk plan CWD TMP FLAG DRY1 DRY2 SUFFIX..
        zigrunk --help | --version
 
-shell, ninja, json  Plan the two dry runs of an nvcc call, in the files DRY1 and
-                    DRY2, and write the plan as a shell script, as a Ninja file
-                    or as JSON. With --keep, generated files keep nvcc's names.
-                    With --whole, it is an error if the plan has no command or
-                    dropped one.
+FORMAT              Plan the two dry runs of an nvcc call, in the files DRY1 and
+                    DRY2, and write the plan as a shell script (shell), a Ninja
+                    file (ninja), JSON (json), a graph for Graphviz (dot) or a
+                    compilation database for clang's tools (compdb). With --keep,
+                    generated files keep nvcc's names. With --whole, it is an
+                    error if the plan dropped a command.
 calls               Read the words of an nvcc line and write, for a shell's eval,
                     the commands that make its two dry runs and what else the
                     line says.
@@ -40,7 +41,7 @@ NVCC_PREPEND_FLAGS and NVCC_APPEND_FLAGS. calls also reads ZIGRUNK_JOBS and
 MAKEFLAGS, and says how many commands run at once.
 
 The exit status is 0 on success, 1 on a fault, 2 for wrong usage, and 3 if calls
-reads a line that compiles nothing or that no cache can serve.
+reads a line that goes to nvcc unchanged.
 See zigrunk(1). zigrunk-nvcc runs calls, ninja and Ninja for you.
 "
 }

@@ -1,10 +1,10 @@
 //! The program's calls.
 
-ghost use Rattle.std.specs.Prelude.{◌≡◌, ◌⊎◌, List, ℕ, [], ◌∷◌, ◌++◌, map, Ok, string_bytes};
+ghost use Rattle.std.specs.Prelude.{◌≡◌, ◌⊎◌, [], ◌∷◌, ◌++◌, map, Ok, string_bytes};
 ghost use Rattle.texts.specs.Variables.{pair_of};
 ghost use Rattle.nvcc_calls.specs.Directory as directories;
 ghost use Rattle.programs.specs.Delivery.{Delivers};
-ghost use Rattle.programs.specs.PlanText.{unread};
+ghost use Rattle.programs.specs.PlanText.{out_of_memory};
 ghost use Rattle.zigrunk.specs.Calls as forms;
 ghost use Rattle.zigrunk.specs.Endings as spec;
 
@@ -14,7 +14,7 @@ use crate::nvcc_text::write_nvcc_text;
 use crate::page::{USAGE, help, version};
 use nvcc_calls::{DirectoryCall, directory_name};
 use program_lookups::snapshot_of;
-use programs::{Stop, complain, deliver, read_file, write_line, write_plan_of_files};
+use programs::{Sources, Stop, complain, deliver, write_line, write_plan_of_files};
 use std::alloc::Global;
 use std::fs::Files;
 use std::io::Write;
@@ -27,7 +27,7 @@ fn export_bytes<R: Files + AllocGlobal, W: Write>(
     dry2: &[u8],
     out: &mut W,
 ) -> Result<(), Stop>
-    ensures { Delivers result unread (W.contents out.old) (W.contents out.new)
+    ensures { Delivers result out_of_memory (W.contents out.old) (W.contents out.new)
         ⊎ spec.ExportsBytes (forms.export_of call.now) dry1.now dry2.now result (W.contents out.old) (W.contents out.new) }
 {
     let programs = snapshot_of(rt, dry1, dry2, call.plan.cwd)?;
@@ -35,29 +35,30 @@ fn export_bytes<R: Files + AllocGlobal, W: Write>(
 }
 
 // Reads the file of the second dry run, plans both, and writes the plan.
-fn export_second<R: Files + AllocGlobal, W: Write>(
+fn export_second<R: Files + AllocGlobal, S: Sources, W: Write>(
     rt: &R,
+    sources: &S,
     call: &ExportCall<'_>,
     dry1: &[u8],
     out: &mut W,
 ) -> Result<(), Stop>
-    ensures { Delivers result unread (W.contents out.old) (W.contents out.new)
-        ⊎ ((second : List ℕ) × spec.ExportsBytes (forms.export_of call.now) dry1.now second result (W.contents out.old) (W.contents out.new)) }
+    ensures { spec.ExportsSecond (S.holds sources.now) (forms.export_of call.now) dry1.now result (W.contents out.old) (W.contents out.new) }
 {
-    let dry2 = read_file(rt, call.plan.dry2)?;
+    let dry2 = sources.read_file(call.plan.dry2)?;
     export_bytes(rt, call, dry1, dry2.as_slice(), out)
 }
 
 // Reads the files of two dry runs, plans them, and writes the plan.
-fn export_files<R: Files + AllocGlobal, W: Write>(
+fn export_files<R: Files + AllocGlobal, S: Sources, W: Write>(
     rt: &R,
+    sources: &S,
     call: &ExportCall<'_>,
     out: &mut W,
 ) -> Result<(), Stop>
-    ensures { spec.ExportsFiles (forms.export_of call.now) result (W.contents out.old) (W.contents out.new) }
+    ensures { spec.ExportsFiles (S.holds sources.now) (forms.export_of call.now) result (W.contents out.old) (W.contents out.new) }
 {
-    let dry1 = read_file(rt, call.plan.dry1)?;
-    export_second(rt, call, dry1.as_slice(), out)
+    let dry1 = sources.read_file(call.plan.dry1)?;
+    export_second(rt, sources, call, dry1.as_slice(), out)
 }
 
 // Writes a page.
@@ -84,20 +85,21 @@ fn show_directory<W: Write>(
 }
 
 // Runs the engine that a call asks for.
-fn serve<R: Files + AllocGlobal, W: Write>(
+fn serve<R: Files + AllocGlobal, S: Sources, W: Write>(
     rt: &R,
+    sources: &S,
     call: &Call<'_>,
     variables: &[(String, String)],
     out: &mut W,
 ) -> Result<(), Stop>
-    ensures { spec.Serves (forms.seen call.now) (map pair_of variables.now) result (W.contents out.old) (W.contents out.new) }
+    ensures { spec.Serves (S.holds sources.now) (forms.seen call.now) (map pair_of variables.now) result (W.contents out.old) (W.contents out.new) }
 {
     match call {
-        Call::Export(export) => export_files(rt, export, out),
+        Call::Export(export) => export_files(rt, sources, export, out),
         Call::Nvcc(line) => write_nvcc_text(rt.alloc(), line, variables, out),
         Call::Directory(call) => show_directory(rt.alloc(), call, variables, out),
         Call::Line(line) => write_line(rt.alloc(), line.tool, line.cwd, line.words, out),
-        Call::Plan(plan) => write_plan_of_files(rt, plan, out),
+        Call::Plan(plan) => write_plan_of_files(rt.alloc(), sources, plan, out),
         Call::Help => show(rt.alloc(), help(), out),
         Call::Version => show(rt.alloc(), version(), out),
     }
@@ -108,7 +110,7 @@ fn nvcc_status(stop: &Stop) -> u8
     ensures { result ≡ spec.nvcc_status stop.now }
 {
     match stop {
-        Stop::NotCompilation | Stop::CannotCache(_) => 3,
+        Stop::NotCompilation | Stop::ToNvcc(_) => 3,
         Stop::Fault(_) | Stop::Unwritable(_) | Stop::Write => 1,
     }
 }
@@ -137,21 +139,22 @@ fn ended<E: Write>(call: &Call<'_>, answer: &Result<(), Stop>, err: &mut E) -> u
 }
 
 /// Runs a call of the program, given the words after its name and `variables`, those of the environment that nvcc takes
-/// words from. The output goes to `out`, and the line that says why the program stopped to `err`. Gives the exit status: 0 on
-/// success, 1 on a fault or if a write failed, 2 for wrong usage, 3 if an nvcc line compiles nothing or no cache can serve it.
-pub fn run_program<R: Files + AllocGlobal, W: Write, E: Write>(
+/// words from. The dry runs' files come from `sources`. The output goes to `out`, and the line that says why the program stopped to `err`. Gives the exit status: 0 on
+/// success, 1 on a fault or if a write failed, 2 for wrong usage, 3 if an nvcc call goes to nvcc unchanged.
+pub fn run_program<R: Files + AllocGlobal, S: Sources, W: Write, E: Write>(
     rt: &R,
+    sources: &S,
     words: &[String],
     variables: &[(String, String)],
     out: &mut W,
     err: &mut E,
 ) -> u8
-    ensures { spec.Ends result (forms.call_of (map string_bytes words.now)) (map pair_of variables.now) (W.contents out.old) (W.contents out.new) }
+    ensures { spec.Ends (S.holds sources.now) result (forms.call_of (map string_bytes words.now)) (map pair_of variables.now) (W.contents out.old) (W.contents out.new) }
 {
     let Some(call) = call_of(words) else {
         let _ = err.write_all(USAGE.as_bytes());
         return 2;
     };
-    let answer = serve(rt, &call, variables, out);
+    let answer = serve(rt, sources, &call, variables, out);
     ended(&call, &answer, err)
 }

@@ -1,0 +1,429 @@
+#!/usr/bin/env bash
+# Runs bin/zigrunk-batch with Ninja and with stand-ins for nvcc and zigrunk, by each of dash, bash and busybox sh that is installed.
+# Prints a line for each case that fails, and last 'N passed, M failed'; the status is 1 if one failed.
+#
+#   tests/batch.sh [SCRIPT]    SCRIPT is bin/zigrunk-batch, unless given
+#
+# SHELLS, if set, names the shells instead, as SHELLS='dash bash'. STOP_EARLY, if set, ends the run at the first failure.
+# shellcheck disable=SC2016 # the stand-ins expand what cases give them
+cd "$(dirname "$0")/.." || exit 1
+script=$(realpath "${1:-bin/zigrunk-batch}")
+scratch=$(mktemp -d)
+trap 'rm -rf "$scratch"' EXIT
+unset NVCC_PREPEND_FLAGS NVCC_APPEND_FLAGS CDPATH MAKEFLAGS "${!ZIGRUNK@}"
+user=$(id -u)
+passed=0 failed=0
+if ! command -v ninja > /dev/null; then
+    echo 'zigrunk-batch: skipped, ninja is not on the path'
+    echo '0 passed, 0 failed'
+    exit 0
+fi
+
+# The stand-ins. Each line of a source is a command of its plan: the first in a group of its own, the others side by side after it.
+# A source whose name begins with 'whole' can't be split.
+mkdir "$scratch/bin"
+cat > "$scratch/bin/zigrunk" << 'END'
+#!/bin/sh
+line=zigrunk
+for word; do line="$line [$word]"; done
+printf '%s\n' "$line" >> "$LOG"
+case $1 in
+directory) shift && printf 'call-%s\n' "$(printf '%s\n' "$@" | cksum | tr ' ' -)" ;;
+calls)
+    tmp=$3 keep=''
+    shift 4
+    for word; do
+        case $word in
+        *whole*) echo "zigrunk: $word is whole" >&2 && exit 3 ;;
+        *.cu) cp "$word" "$tmp/source" || exit 1 ;;
+        --keep) keep=$PWD ;;
+        esac
+    done
+    printf '%s\n' "first_dry_run='nvcc --dryrun'" "second_dry_run='nvcc --dryrun'" flag=-c "dependencies='${DEPENDENCIES-}'" "keep_dir='$keep'"
+    ;;
+ninja)
+    while [ "$1" != "${1#-}" ] || [ "$1" = ninja ]; do shift; done
+    folder=$1 tmp=$2 number=0
+    echo "tmp = $(printf '%s\n' "$tmp" | sed 's/[$ :]/$&/g')"
+    printf '%s\n' 'builddir = ${tmp}' 'rule run' '  command = ${line} || { code=$$?; echo $$code > ${out}.status; exit $$code; }'
+    while read -r line; do
+        printf '%s\n' "$line" > "$tmp/command.$number"
+        echo "build \${tmp}/zigrunk.$((number > 0)).$number: run$([ "$number" = 0 ] || echo ' ${tmp}/zigrunk.0.0')"
+        echo "  line = ( cd '$folder' && \$\${ZIGRUNK_RUNNER-} sh '$tmp/command.$number' ) && touch '$tmp/zigrunk.$((number > 0)).$number'"
+        number=$((number + 1))
+    done < "$tmp/source"
+    ;;
+esac
+END
+cat > "$scratch/bin/nvcc" << 'END'
+#!/bin/sh
+case $* in *--dryrun*) echo '#$ cicc' >&2 && exit ;; esac
+line=nvcc
+for word; do line="$line [$word]"; done
+printf '%s\n' "$line" >> "$LOG"
+for word; do
+    case $word in *.cu) . "./$word" ;; esac
+done
+END
+cat > "$scratch/bin/ninja" << END
+#!/bin/sh
+printf '%s\n' "ninja \$*" >> "\$LOG"
+exec $(command -v ninja) "\$@"
+END
+printf '%s\n' '#!/bin/sh' 'printf "%s\n" "runner $*" >> "$LOG"' 'exec "$@"' > "$scratch/bin/runner"
+chmod +x "$scratch"/bin/*
+export PATH=$scratch/bin:$PATH
+
+# begin NAME: a case of its own folder, from which the script runs.
+begin() {
+    name=$1
+    room=$scratch/room
+    rm -rf "$room"
+    mkdir -p "$room/work" "$room/tmp"
+    cd "$room/work" || exit 1
+    problems=''
+}
+
+# write NAME LINE..: a source with these lines.
+write() {
+    printf '%s\n' "${@:2}" > "$1"
+}
+
+# batch [NAME=VALUE..] WORD..: runs the script with these variables and words. The list is $list, if no word names one.
+batch() {
+    local settings=()
+    while [[ ${1-} == *=* ]]; do
+        settings+=("$1")
+        shift
+    done
+    rm -f "$room/log"
+    env LOG="$room/log" TMPDIR="$room/tmp" "${settings[@]}" "${shell[@]}" "$script" "$@" > "$room/out" 2> "$room/err" <<< "${list-}"
+    status=$?
+}
+
+# same WHAT GOT WANTED: a problem, unless the texts are alike.
+same() {
+    [ "$2" = "$3" ] || problems+="  $1: '$2', not '$3'"$'\n'
+}
+
+# logged PATTERN: how many lines of the log match.
+logged() {
+    grep -c -e "$1" "$room/log"
+}
+
+# leaves_nothing: a problem, unless the folder for temporary files is empty.
+leaves_nothing() {
+    same 'files left' "$(cd "$room/tmp" && find . -mindepth 1)" ''
+}
+
+# end: counts the case.
+end() {
+    leaves_nothing
+    cd "$scratch" || exit 1
+    list=''
+    if [ -z "$problems" ]; then
+        passed=$((passed + 1))
+    else
+        failed=$((failed + 1))
+        printf '%s: %s:\n%s' "${shell[*]}" "$name" "$problems"
+        [ -z "${STOP_EARLY-}" ] || finish
+    fi
+}
+
+finish() {
+    echo "$passed passed, $failed failed"
+    [ "$failed" -eq 0 ]
+    exit
+}
+
+lists() {
+    begin 'one graph of all calls'
+    write a.cu 'echo a >> made' 'echo a >> made'
+    write b.cu 'echo b >> made' 'echo b >> made' 'echo b >> made'
+    write whole.cu 'echo whole >> made'
+    list=$'nvcc -c a.cu -o a.o\nnvcc -c b.cu -o b.o\nnvcc -c whole.cu -o w.o'
+    batch
+    same status "$status" 0
+    same output "$(cat "$room/out" "$room/err")" ''
+    same made "$(sort made | uniq -c | tr -s ' \n' ' ')" ' 2 a 3 b 1 whole '
+    same 'runs of Ninja' "$(logged '^ninja ')" 2
+    same 'calls of nvcc' "$(grep '^nvcc ' "$room/log")" 'nvcc [-c] [whole.cu] [-o] [w.o]'
+    end
+
+    begin 'words of a line'
+    write 'a b.cu' ':'
+    list=$'# nvcc -c no.cu\n\n   \n-c \'a b.cu\' "-DX=$HOME y" -o a.o # nvcc -c no.cu\n  zigrunk-nvcc -c a\\ b.cu -o b.o\n/opt/nvcc -c "a b.cu" -o c.o\nzigrunk-nvcc /opt/nvcc -c "a b.cu" -o d.o'
+    batch
+    same status "$status" 0
+    same calls "$(grep calls "$room/log" | sed "s,\[/[^]]*/call-[^]]*\],TMP,; s,$room,ROOM," | sort)" \
+        "$(printf '%s\n' "zigrunk [calls] [ROOM/work] TMP [/opt/nvcc] [-c] [a b.cu] [-o] [c.o]" "zigrunk [calls] [ROOM/work] TMP [/opt/nvcc] [-c] [a b.cu] [-o] [d.o]" \
+            "zigrunk [calls] [ROOM/work] TMP [nvcc] [-c] [a b.cu] [-DX=$HOME y] [-o] [a.o]" "zigrunk [calls] [ROOM/work] TMP [nvcc] [-c] [a b.cu] [-o] [b.o]" | sort)"
+    end
+
+    begin 'a list as a file, whose last line has no end'
+    write a.cu 'echo a'
+    write b.cu 'echo b'
+    printf '%s\n%s' '-c a.cu -o a.o' '-c b.cu -o b.o' > 'a list'
+    batch 'a list'
+    same status "$status" 0
+    same output "$(cat "$room/out")" $'a\nb'
+    end
+
+    begin 'an empty list'
+    list=$'\n# nothing'
+    batch
+    same "status and output" "$status$(cat "$room/out" "$room/err")" 0
+    end
+
+    begin 'the same call twice'
+    write a.cu 'echo a' 'sleep 0.2'
+    list=$'-c a.cu -o a.o\n-c a.cu -o a.o'
+    batch
+    same status "$status" 0
+    same output "$(cat "$room/out" "$room/err")" $'a\na'
+    end
+
+    begin 'forty calls'
+    for number in $(seq 40); do
+        write "$number.cu" "echo $number" "echo $number >> made"
+        list+="-c $number.cu -o $number.o"$'\n'
+    done
+    batch
+    same status "$status" 0
+    same output "$(cat "$room/out" "$room/err")" "$(seq 40)"
+    same made "$(sort -n made)" "$(seq 40)"
+    end
+
+    begin 'calls of other programs'
+    list=$'sh -c "echo out; echo err >&2; exit 4"\ntrue'
+    batch ZIGRUNK_RUNNER=runner
+    same status "$status" 4
+    same output "$(cat "$room/out")" out
+    same messages "$(cat "$room/err")" $'err\nzigrunk-batch: line 1: exit status 4: sh -c "echo out; echo err >&2; exit 4"'
+    same 'by the runner' "$(logged '^runner')" 2
+    same calls "$(grep -v '^runner\|^ninja' "$room/log")" ''
+    end
+}
+
+failures() {
+    begin 'statuses and messages in the order of the list'
+    write one.cu 'echo "one says" >&2' 'sleep 0.3; echo "one also"'
+    write two.cu ':' 'echo "two fails" >&2; exit 7' 'sleep 0.1; echo two >> made'
+    write three.cu 'echo "three fails"; exit 5' 'echo never'
+    write whole.cu 'echo "nvcc fails" >&2; exit 9'
+    write four.cu 'echo four' 'echo four >> made'
+    for at in one two three whole four; do list+="nvcc -c $at.cu -o $at.o"$'\n'; done
+    batch
+    same status "$status" 7
+    same output "$(cat "$room/out")" $'one also\nthree fails\nfour'
+    same messages "$(cat "$room/err")" "$(printf '%s\n' 'one says' 'two fails' 'zigrunk-batch: line 2: exit status 7: nvcc -c two.cu -o two.o' \
+        'zigrunk-batch: line 3: exit status 5: nvcc -c three.cu -o three.o' 'nvcc fails' 'zigrunk-batch: line 4: exit status 9: nvcc -c whole.cu -o whole.o')"
+    same made "$(sort made)" $'four\ntwo'
+    end
+
+    begin 'a line that no shell can read'
+    write a.cu 'echo a'
+    list=$'-c \'a.cu -o a.o\n-c a.cu -o a.o'
+    batch
+    same status "$status" 2
+    same output "$(cat "$room/out")" a
+    same messages "$(grep -c 'nterminated\|unexpected EOF\|^zigrunk-batch: line 1: exit status 2: -c' "$room/err")" 2
+    end
+
+    begin 'a program that is missing'
+    list=$'missing-program -c'
+    batch
+    same status "$status" 127
+    end
+
+    begin 'the dependency file fails'
+    write a.cu 'echo a'
+    list='-c a.cu -o a.o'
+    batch DEPENDENCIES='exit 3' ZIGRUNK_EXPLAIN=1
+    same status "$status" 0
+    same messages "$(cat "$room/err")" 'zigrunk-nvcc: nvcc itself: Ninja fails'
+    same 'calls of nvcc' "$(grep '^nvcc ' "$room/log")" 'nvcc [-c] [a.cu] [-o] [a.o]'
+    end
+
+    begin 'Ninja is missing'
+    list='-c a.cu -o a.o'
+    batch ZIGRUNK_NINJA="$room/none"
+    same 'status and messages' "$status $(cat "$room/err")" "1 zigrunk-batch: cannot find $room/none in PATH"
+    end
+
+    begin 'Ninja itself fails'
+    write a.cu 'echo a'
+    printf '%s\n' '#!/bin/sh' 'case $* in *planning*) exec ninja "$@" ;; esac' 'echo "ninja: fatal: no"; exit 1' > "$room/broken"
+    chmod +x "$room/broken"
+    list='-c a.cu -o a.o'
+    batch ZIGRUNK_NINJA="$room/broken"
+    same 'status and messages' "$status $(cat "$room/err")" '1 zigrunk-batch: ninja: fatal: no'
+    end
+
+    begin 'wrong usage'
+    batch one two
+    same 'status and messages' "$status $(cat "$room/err")" '2 usage: zigrunk-batch [FILE]'
+    batch -x
+    same 'status and messages' "$status $(cat "$room/err")" '2 usage: zigrunk-batch [FILE]'
+    batch --help
+    same 'status and output' "$status $(cat "$room/out")" '0 usage: zigrunk-batch [FILE]'
+    batch missing
+    same 'status and messages' "$status $(cat "$room/err")" '1 zigrunk-batch: cannot read missing'
+    batch TMPDIR="$room/missing" /dev/null
+    same status "$status" 1
+    end
+}
+
+databases() {
+    begin 'a compile_commands.json'
+    mkdir sub 'o dd'
+    write 'o dd/a b.cu' 'echo "a in $(pwd)"'
+    write sub/b.cu 'echo "b in $(pwd)"' 'exit 6'
+    cat > "$room/work/compile_commands.json" << END
+[ {"directory": "o dd", "file": "a b.cu", "command": "/opt/nvcc -c \\"a b.cu\\" '-DQ=*;x' -o a.o", "output": "a.o"},
+  {"directory": "$room/work/sub", "file": "b.cu", "arguments": ["nvcc", "-c", "b.cu", "-DT=two\\nlines", "-o", "b.o"]},
+  {"directory": ".", "file": "m.c", "arguments": ["echo", "other", "*"]} ]
+END
+    batch compile_commands.json
+    same status "$status" 6
+    same output "$(cat "$room/out")" "a in $room/work/o dd"$'\n'"b in $room/work/sub"$'\nother *'
+    same messages "$(cat "$room/err")" 'zigrunk-batch: entry 2: exit status 6: b.cu'
+    same words "$(logged '\[a b.cu\] \[-DQ=\*;x\] \[-o\]')$(logged '\[-DT=two$')" 22
+    end
+
+    begin 'a compile_commands.json on standard input'
+    write a.cu 'echo a'
+    list='[{"directory": "'$room/work'", "file": "a.cu", "command": "nvcc -c a.cu -o a.o"}]'
+    batch
+    same 'status and output' "$status $(cat "$room/out" "$room/err")" '0 a'
+    end
+
+    for text in '[' '[1]' '[{}]' '[{"directory": "/", "file": "x"}]' '[{"directory": "/", "file": "x", "command": "nvcc '\''"}]' '[{"directory": "/", "file": "x", "arguments": [1]}]'; do
+        begin "no compile_commands.json: $text"
+        list=$text
+        batch
+        same status "$status" 1
+        same 'lines of messages' "$(grep -c '^zigrunk-batch: .* is no compile_commands.json: ' "$room/err") $(wc -l < "$room/err")" '1 1'
+        end
+    done
+
+    begin 'python3 is missing'
+    mkdir "$room/bin"
+    for tool in "${shell[0]}" ninja sh cat mktemp rm tr head sed find sort id dirname mkdir rmdir env; do ln -s "$(command -v "$tool")" "$room/bin/$tool"; done
+    list='[]'
+    batch PATH="$room/bin"
+    same 'status and messages' "$status $(cat "$room/err")" '1 zigrunk-batch: reading a compile_commands.json takes python3'
+    end
+}
+
+places() {
+    begin "the commands' own temporary files"
+    write a.cu 'echo "$TMPDIR"; echo x > "$TMPDIR/x"'
+    write whole.cu 'echo "$TMPDIR"; echo y > "$TMPDIR/y"'
+    list=$'-c a.cu -o a.o\n-c whole.cu -o w.o'
+    batch
+    same status "$status" 0
+    same folders "$(grep -c "^$room/tmp/zigrunk-batch\.[A-Za-z0-9]*/tmp\$" "$room/out")" 2
+    end
+
+    begin 'ZIGRUNK_TMP'
+    mkdir 'shared files'
+    write a.cu 'echo "$TMPDIR"' 'ls -d "shared files"/*/* >&2; echo x > "shared files/x"'
+    list='-c a.cu -o a.o'
+    batch ZIGRUNK_TMP='shared files'
+    same 'status and output' "$status $(cat "$room/out")" "0 $room/tmp"
+    same directories "$(sed 's/\(call\|batch\)[-.].*/\1/' "$room/err" | sort -u)" "shared files/zigrunk-$user/call"$'\n''shared files/zigrunk-batch'
+    same 'files left' "$(ls 'shared files')" x
+    end
+
+    begin 'the runner'
+    write a.cu ':' ':'
+    write whole.cu ':'
+    list=$'-c a.cu -o a.o\n-c whole.cu -o w.o'
+    batch ZIGRUNK_RUNNER='runner env'
+    same status "$status" 0
+    same commands "$(grep '^runner' "$room/log" | sed 's, [^ ]*/command, command,' | sort)" "$(printf '%s\n' 'runner env nvcc -c whole.cu -o w.o' 'runner env sh command.0' 'runner env sh command.1')"
+    end
+
+    for jobs in 1 3 '' 0 x; do
+        begin "ZIGRUNK_JOBS='$jobs'"
+        write a.cu ':'
+        list='-c a.cu -o a.o'
+        batch ZIGRUNK_JOBS="$jobs"
+        same status "$status" 0
+        case $jobs in
+        1 | 3) same Ninja "$(logged "^ninja .* -j $jobs\$")" 2 ;;
+        *) same Ninja "$(logged '^ninja .*-j')" 0 ;;
+        esac
+        batch ZIGRUNK_JOBS="$jobs" ZIGRUNK_RUNNER=runner
+        case $jobs in
+        1 | 3) same Ninja "$(grep '^ninja' "$room/log" | tr '\n' ,)" "ninja -k 0 -f planning,ninja -k 0 -f graph -j $jobs," ;;
+        *) same Ninja "$(logged '^ninja .*-j')" 0 ;;
+        esac
+        end
+    done
+
+    begin 'kept files'
+    write a.cu 'echo x > "${0%/*}/k.ptx"' ':'
+    list='-c a.cu --keep -o a.o'
+    batch
+    same status "$status" 0
+    same 'files kept' "$(find . -type f ! -name a.cu | sort | tr '\n' ' ')" './command.0 ./command.1 ./k.ptx ./source '
+    end
+
+    begin 'calls have the directories of single calls'
+    write a.cu ':'
+    list='-c a.cu -o a.o'
+    batch
+    same directory "$(sed -n 's/^zigrunk \[calls\] \[[^]]*\] \[\([^]]*\)\].*/\1/p' "$room/log")" \
+        "$room/tmp/zigrunk-$user/call-$(printf '%s\n' "$room/work" nvcc -c a.cu -o a.o | cksum | tr ' ' -)"
+    end
+}
+
+# stops SIGNAL STATUS PHASE: a signal to the script while it plans or builds.
+stops() {
+    begin "the signal $1 while it $3"
+    write a.cu 'echo started >> started; sleep 30; echo a >> made'
+    write whole.cu 'echo started >> started; sleep 30; echo whole >> made'
+    printf '%s\n' '-c a.cu -o a.o' '-c whole.cu -o w.o' > list
+    if [ "$3" = plans ]; then
+        mkdir "$room/bin"
+        printf '%s\n' '#!/bin/sh' 'echo started >> "$STARTED"' 'sleep 30' > "$room/bin/nvcc"
+        chmod +x "$room/bin/nvcc"
+        rm whole.cu && cp a.cu b.cu && printf '%s\n' '-c a.cu -o a.o' > list
+    fi
+    env --default-signal=HUP,INT,TERM LOG="$room/log" TMPDIR="$room/tmp" STARTED="$room/work/started" PATH="$room/bin:$PATH" "${shell[@]}" "$script" list > "$room/out" 2>&1 &
+    local process=$! begun
+    for _ in $(seq 200); do
+        [ "$(wc -l 2> /dev/null < started)" != 2 ] || break
+        sleep 0.05
+    done
+    begun=$EPOCHREALTIME
+    kill -s "$1" "$process"
+    { wait "$process"; } 2> /dev/null
+    same status "$?" "$2"
+    [ $((${EPOCHREALTIME/./} - ${begun/./})) -lt 3000000 ] || problems+='  it takes three seconds'$'\n'
+    same processes "$(pgrep -f "$room")" ''
+    [ ! -e made ] || problems+='  a command goes on'$'\n'
+    end
+}
+
+cases() {
+    lists
+    failures
+    databases
+    places
+    stops TERM 143 builds
+    stops INT 130 builds
+    stops HUP 129 builds
+    stops TERM 143 plans
+}
+
+read -ra shells <<< "${SHELLS-dash bash busybox}"
+for one in "${shells[@]}"; do
+    command -v "$one" > /dev/null || continue
+    shell=("$one")
+    [ "$one" != busybox ] || shell=(busybox sh)
+    cases
+done
+finish
