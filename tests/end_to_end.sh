@@ -1,30 +1,41 @@
 #!/usr/bin/env bash
-# Tests zigrunk-nvcc: by stand-ins (tests/script.sh), by calls that nvcc makes too (tests/compare_calls.py), and by signals in the
-# middle of a build. Prints a line for each failure, and last 'N passed, M failed'; the status is 1 if one failed.
+# Tests zigrunk-nvcc: by stand-ins (tests/script.sh, and tests/batch.sh for zigrunk-batch), by calls that nvcc makes too
+# (tests/compare_calls.py), by the installed nvcc's list of options (tests/nvcc_options.sh), and by signals in the middle of a build.
+# Prints a line for each failure, and last 'N passed, M failed'; the status is 1 if one failed. The parts run side by side.
 #
 #   tests/end_to_end.sh [--all] [PROGRAM]
 #
 # PROGRAM is the zigrunk that `make build` and the gate leave, unless given. With --all it makes all calls, and builds CMake projects
-# (tests/cmake.sh); the gate leaves these out.
+# (tests/cmake.sh) and fatbins (tests/needs.sh); the gate leaves these out.
 cd "$(dirname "$0")/.." || exit 1
 all=''
 [ "${1-}" != --all ] || { all=yes && shift; }
 program=$(realpath -m "${1:-crates/zigrunk/out/zigrunk}")
 scratch=$(mktemp -d)
-trap 'rm -rf "$scratch"' EXIT
+trap 'kill $(jobs -p) 2> /dev/null; rm -rf "$scratch"' EXIT
 passed=0 failed=0
+declare -A parts
 
-# part COMMAND..: runs a part, shows what it prints, and adds the counts of its last line.
-part() {
-    "$@" > "$scratch/part" 2>&1
-    local status=$?
-    if [[ $(tail -n 1 "$scratch/part") =~ ^([0-9]+)\ passed,\ ([0-9]+)\ failed$ ]] && [ $((BASH_REMATCH[2] > 0)) = $((status > 0)) ]; then
+# start PART COMMAND..: runs a part in the background.
+start() {
+    local part=$1
+    shift
+    "$@" > "$scratch/$part.said" 2>&1 &
+    parts[$part]=$!
+}
+
+# finish PART: waits for a part, shows what it printed, and adds the counts of its last line.
+finish() {
+    local said=$scratch/$1.said status
+    wait "${parts[$1]}"
+    status=$?
+    if [[ $(tail -n 1 "$said") =~ ^([0-9]+)\ passed,\ ([0-9]+)\ failed$ ]] && [ $((BASH_REMATCH[2] > 0)) = $((status > 0)) ]; then
         passed=$((passed + BASH_REMATCH[1]))
         failed=$((failed + BASH_REMATCH[2]))
-        sed '$d' "$scratch/part"
+        sed '$d' "$said"
     else
         failed=$((failed + 1))
-        cat "$scratch/part"
+        cat "$said"
     fi
 }
 
@@ -52,26 +63,23 @@ interrupt() {
     [ -z "$problems" ]
 }
 
-# interrupts: the signals.
+# interrupts: the signals, side by side.
 interrupts() {
-    local good=0 bad=0 signal
+    local good=0 bad=0 signal processes=''
     for signal in TERM INT HUP; do
-        if interrupt "$signal" $((128 + $(kill -l "$signal"))); then
-            good=$((good + 1))
-        else
-            bad=$((bad + 1))
-        fi
+        interrupt "$signal" $((128 + $(kill -l "$signal"))) &
+        processes+=" $!"
+    done
+    for signal in $processes; do
+        if wait "$signal"; then good=$((good + 1)); else bad=$((bad + 1)); fi
     done
     echo "$good passed, $bad failed"
     [ "$bad" = 0 ]
 }
 
-# projects: waits for the CMake projects, and shows what their test printed.
-projects() {
-    wait "$cmake"
-    local status=$?
-    cat "$scratch/cmake"
-    return "$status"
+# options: the table of nvcc's options against `nvcc --help`, as one test.
+options() {
+    if tests/nvcc_options.sh; then echo '1 passed, 0 failed'; else echo '0 passed, 1 failed' && return 1; fi
 }
 
 # missing: the first program that calls of nvcc need and the path lacks.
@@ -82,7 +90,9 @@ missing() {
     done
 }
 
-part tests/script.sh
+start script tests/script.sh
+start batch tests/batch.sh
+start options options
 lacking=$(missing)
 if [ -n "$lacking" ]; then
     echo "calls of nvcc: skipped, $lacking is not on the path"
@@ -92,13 +102,24 @@ else
     wrapper=$PWD/bin/zigrunk-nvcc
     calls=(tests/calls_quick.txt)
     if [ -n "$all" ]; then
-        calls+=(tests/calls.txt tests/calls_words.txt)
-        tests/cmake.sh "$program" > "$scratch/cmake" 2>&1 &
-        cmake=$!
+        calls+=(tests/calls.txt tests/calls_words.txt tests/calls_odd.txt)
+        start cmake tests/cmake.sh "$program"
     fi
-    part tests/compare_calls.py --scratch "$scratch" --jobs "$(nproc)" "${calls[@]}"
-    [ -z "$all" ] || part projects
-    part interrupts
+    start calls tests/compare_calls.py --scratch "$scratch" --jobs "$(nproc)" "${calls[@]}"
+    finish calls
+    if [ -n "$all" ]; then
+        finish cmake
+        start needs tests/needs.sh "$program"
+        finish needs
+    fi
+fi
+finish script
+finish batch
+finish options
+# Alone, since a signal has to end a build within two seconds.
+if [ -z "$lacking" ]; then
+    start signals interrupts
+    finish signals
 fi
 echo "$passed passed, $failed failed"
 [ "$failed" -eq 0 ]

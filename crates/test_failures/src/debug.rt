@@ -1,5 +1,6 @@
 //! `Debug` prints the fields of the records that no case prints.
 
+use c_calls::{InputText, ListAnswer, Range, Status, TextAnswer};
 use cuda_plans::cicc::Cicc;
 use cuda_plans::compiler::Places;
 use cuda_plans::cudafe::CudaFE;
@@ -10,6 +11,9 @@ use cuda_plans::nvhpc::Nvhpc;
 use cuda_plans::ptxas::Ptxas;
 use cuda_plans::runner::{Answer, Place};
 use cuda_plans::table::{ArgDisposition, ArgInfo, Match, Table};
+use nvcc_calls::{DirectoryCall, NvccCall, Outline};
+use plan_texts::Tool;
+use programs::{LineCall, PlanCall, Stop};
 use std::alloc::Global;
 use std::fmt::Debug;
 use texts::bytes::Bytes;
@@ -100,4 +104,106 @@ fn runs_and_plans_print_their_fields(rt: HostRuntime) {
     assert!(rt; prints(alloc, &finished(alloc), FINISHED_TEXT));
     assert!(rt; prints(alloc, &Suffixes::standard(), "Suffixes { handed: None }"));
     assert!(rt; prints(alloc, &FirstDir, "FirstDir"));
+}
+
+const LINE_CALL_TEXT: &str = r#"LineCall { tool: Cicc, cwd: "/w", words: [] }"#;
+
+const PLAN_CALL_TEXT: &str =
+    r#"PlanCall { cwd: "/w", tmp: "/t", flag: "-c", dry1: "a", dry2: "b", suffixes: [] }"#;
+
+#[test]
+fn calls_of_programs_print_their_fields(rt: HostRuntime) {
+    let alloc = rt.alloc();
+    let line = LineCall {
+        tool: Tool::Cicc,
+        cwd: "/w",
+        words: &[],
+    };
+    assert!(rt; prints(alloc, &line, LINE_CALL_TEXT));
+    let plan = PlanCall {
+        cwd: "/w",
+        tmp: "/t",
+        flag: "-c",
+        dry1: "a",
+        dry2: "b",
+        suffixes: &[],
+    };
+    assert!(rt; prints(alloc, &plan, PLAN_CALL_TEXT));
+    assert!(rt; prints(alloc, &Stop::Write, "Write"));
+}
+
+const NVCC_CALL_TEXT: &str = r#"NvccCall { cwd: "/w", tmp: "/t", nvcc: "n", words: [] }"#;
+
+const DIRECTORY_CALL_TEXT: &str = r#"DirectoryCall { cwd: "/w", nvcc: "n", words: [] }"#;
+
+// What an nvcc line says, with no text in it.
+fn outline(alloc: Global) -> Outline {
+    Outline {
+        dependencies: no_text(alloc),
+        first: no_text(alloc),
+        second: no_text(alloc),
+        flag: no_text(alloc),
+        jobs: no_text(alloc),
+        keep_dir: no_text(alloc),
+    }
+}
+
+const OUTLINE_TEXT: &str =
+    r#"Split(Outline { dependencies: Text { string: "" }, first: Text { string: "" }, second: Text { string: "" }, flag: Text { string: "" }, jobs: Text { string: "" }, keep_dir: Text { string: "" } })"#;
+
+#[test]
+fn calls_of_nvcc_print_their_fields(rt: HostRuntime) {
+    let alloc = rt.alloc();
+    let call = NvccCall {
+        cwd: "/w",
+        tmp: "/t",
+        nvcc: "n",
+        words: &[],
+    };
+    assert!(rt; prints(alloc, &call, NVCC_CALL_TEXT));
+    let directory = DirectoryCall {
+        cwd: "/w",
+        nvcc: "n",
+        words: &[],
+    };
+    assert!(rt; prints(alloc, &directory, DIRECTORY_CALL_TEXT));
+    let split = nvcc_calls::Answer::Split(outline(alloc));
+    assert!(rt; prints(alloc, &split, OUTLINE_TEXT));
+    let pass = nvcc_calls::Answer::Pass(no_text(alloc));
+    assert!(rt; prints(alloc, &pass, r#"Pass(Text { string: "" })"#));
+}
+
+#[test]
+fn records_of_c_programs_print_their_fields(rt: HostRuntime) {
+    let alloc = rt.alloc();
+    assert!(rt;
+        prints(
+            alloc,
+            &InputText { bytes: b"a" },
+            "InputText { bytes: [97] }"
+        )
+    );
+    let range = Range {
+        offset: 1,
+        length: 2,
+    };
+    assert!(rt; prints(alloc, &range, "Range { offset: 1, length: 2 }"));
+    let text = TextAnswer {
+        status: 2,
+        length: 19,
+    };
+    assert!(rt; prints(alloc, &text, "TextAnswer { status: 2, length: 19 }"));
+    let list = ListAnswer {
+        status: 0,
+        count: 1,
+        length: 2,
+    };
+    assert!(rt;
+        prints(
+            alloc,
+            &list,
+            "ListAnswer { status: 0, count: 1, length: 2 }"
+        )
+    );
+    assert!(rt; prints(alloc, &Status::NotUtf8, "NotUtf8"));
 }

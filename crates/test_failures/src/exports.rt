@@ -1,14 +1,14 @@
 //! Plans as shell scripts, Ninja files and JSON.
 
 use cuda_plans::compiler::NvccHostCompiler;
-use cuda_plans::dry_run::FirstDir;
-use cuda_plans::plan::Plan;
+use cuda_plans::dry_run::{FirstDir, Suffixes};
+use cuda_plans::plan::{Plan, PlanWithOrigins, plan_with_origins};
 use plan_exports::{Refusal, json_text, ninja_file, shell_script};
-use programs::plan_dry_runs;
 use std::alloc::Global;
 use texts::fault::Fault;
 
-// A device group of two commands between two empty groups, and a dropped command.
+// A device group of two commands between two empty groups, and a dropped command. Their words share no file: the preprocess step
+// writes one in /w, and cicc reads one in /t.
 const DRY_RUN: &[u8] = b"#$ PATH=/b
 #$ gcc -D__NVCC__ -E k.cu -o k.cpp1.ii
 #$ cicc 'a b$' k.cpp1.ii -o k.ptx
@@ -31,46 +31,47 @@ builddir = ${tmp}
 rule run
   command = ${line} || { code=$$?; echo $$code > ${out}.status; exit $$code; }
 build ${tmp}/zigrunk.1.0: run
-  line = ( cd /w && env 'PATH=/b' /b/gcc -D__NVCC__ -E k.cu -o x_0.cpp1.ii ) && touch /t/zigrunk.1.0
-build ${tmp}/zigrunk.1.1: run ${tmp}/zigrunk.1.0
-  line = ( cd /t && env 'PATH=/b' $${ZIGRUNK_LAUNCHER-} /b/cicc 'a b$$' x_0.cpp1.ii -o k.ptx ) && touch /t/zigrunk.1.1
+  line = ( cd /w && env 'PATH=/b' $${ZIGRUNK_RUNNER-} /b/gcc -D__NVCC__ -E k.cu -o x_0.cpp1.ii ) && touch /t/zigrunk.1.0
+build ${tmp}/zigrunk.1.1: run
+  line = ( cd /t && env 'PATH=/b' $${ZIGRUNK_RUNNER-} $${ZIGRUNK_LAUNCHER-} /b/cicc 'a b$$' x_0.cpp1.ii -o k.ptx ) && touch /t/zigrunk.1.1
 # dropped line 3 run 2 NotCuda /b/ar x
 ";
 
 const JSON: &str =
-    r#"{"dropped":[{"args":["x"],"exe":"/b/ar","line":3,"reason":"NotCuda","run":2}],"groups":[[],[{"args":["-D__NVCC__","-E","k.cu","-o","x_0.cpp1.ii"],"cacheable":false,"cwd":"/w","env":[["PATH","/b"]],"exe":"/b/gcc"},{"args":["a b$","x_0.cpp1.ii","-o","k.ptx"],"cacheable":true,"cwd":"/t","env":[["PATH","/b"]],"exe":"/b/cicc"}],[]]}"#;
+    r#"{"commands":[{"args":["-D__NVCC__","-E","k.cu","-o","x_0.cpp1.ii"],"cacheable":false,"complete":false,"cwd":"/w","env":[["PATH","/b"]],"exe":"/b/gcc","group":1,"id":0,"line":2,"may_write":[],"needs":[],"reads":["/w/k.cu"],"run":2,"writes":["/w/x_0.cpp1.ii"]},{"args":["a b$","x_0.cpp1.ii","-o","k.ptx"],"cacheable":true,"complete":true,"cwd":"/t","env":[["PATH","/b"]],"exe":"/b/cicc","group":1,"id":1,"line":3,"may_write":[],"needs":[],"reads":["/t/x_0.cpp1.ii"],"run":1,"writes":["/t/k.ptx"]}],"cwd":"/w","dropped":[{"args":["x"],"exe":"/b/ar","line":4,"reason":"NotCuda","run":2}],"flag":"-c","groups":3,"tmp":"/t","version":1}"#;
 
 // The plan of the dry run in a working directory.
-fn plan(alloc: Global, cwd: &str) -> Result<Plan, Fault> {
-    plan_dry_runs(
+fn plan(alloc: Global, cwd: &str) -> Result<PlanWithOrigins, Fault> {
+    plan_with_origins(
         alloc,
+        DRY_RUN,
+        DRY_RUN,
+        "-c",
         cwd,
         "/t",
-        "-c",
         None,
-        DRY_RUN,
-        DRY_RUN,
-        &[],
         &[],
         NvccHostCompiler::Gcc,
         &FirstDir,
+        &Suffixes::standard(),
     )
 }
 
 // Whether a plan gives these texts.
-fn is_written(alloc: Global, plan: &Plan) -> bool {
+fn is_written(alloc: Global, planned: &PlanWithOrigins) -> bool {
+    let plan = &planned.plan;
     let script = shell_script(alloc, plan);
     let is_script = matches!(&script, Ok(text) if text.as_str() == SCRIPT);
     let graph = ninja_file(alloc, "/t", plan);
     let is_graph = matches!(&graph, Ok(text) if text.as_str() == NINJA);
-    let value = json_text(alloc, plan);
+    let value = json_text(alloc, "/w", "/t", "-c", planned);
     is_script && is_graph && matches!(&value, Ok(text) if text.as_str() == JSON)
 }
 
 #[test]
 fn plans_are_written_for_other_tools(rt: HostRuntime) {
     let planned = plan(rt.alloc(), "/w");
-    assert!(rt; matches!(&planned, Ok(plan) if is_written(rt.alloc(), plan)));
+    assert!(rt; matches!(&planned, Ok(planned) if is_written(rt.alloc(), planned)));
 }
 
 // Whether a plan with a newline has a script and no Ninja file.
@@ -83,5 +84,5 @@ fn is_script_alone(alloc: Global, plan: &Plan) -> bool {
 #[test]
 fn newline_is_held_by_a_script_alone(rt: HostRuntime) {
     let planned = plan(rt.alloc(), "/a\nb");
-    assert!(rt; matches!(&planned, Ok(plan) if is_script_alone(rt.alloc(), plan)));
+    assert!(rt; matches!(&planned, Ok(planned) if is_script_alone(rt.alloc(), &planned.plan)));
 }

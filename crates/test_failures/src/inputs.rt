@@ -65,3 +65,29 @@ fn failed_reads_are_errors(rt: HostRuntime) {
         assert!(rt; matches!(&answer, Err(Fault::Read)));
     }
 }
+
+// A reader whose first read fails. A second one would give a byte, and a third one the end.
+#[derive(Drop)]
+struct FailsOnce {
+    reads: u32,
+}
+
+impl Read for FailsOnce {
+    fn read(&mut self, buf: &mut [u8]) -> io::Result<usize> {
+        self.reads = self.reads.saturating_add(1);
+        match (self.reads, buf.first_mut()) {
+            (1, _) => Err(io::Error::from(io::ErrorKind::BrokenPipe)),
+            (2, Some(place)) => {
+                *place = b'x';
+                Ok(1)
+            }
+            _ => Ok(0),
+        }
+    }
+}
+
+#[test]
+fn failed_reads_are_not_tried_again(rt: HostRuntime) {
+    let answer = cicc::read_input(rt.alloc(), FailsOnce { reads: 0 });
+    assert!(rt; matches!(&answer, Err(Fault::Read)));
+}

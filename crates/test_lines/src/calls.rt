@@ -1,6 +1,8 @@
 //! The calls that cases make, by name.
 
-use crate::{faults, inputs, languages, lines, paths, shell_texts, tables, taken};
+use crate::{
+    c_texts, faults, inputs, languages, lines, normal_forms, paths, shell_texts, tables, taken,
+};
 use std::alloc::Global;
 use std::fs::Files;
 use test_tables::{Answer, Calls, Case, CaseError};
@@ -21,7 +23,9 @@ impl Calls for LineCalls {
             name if inputs::is_call(name) => inputs::answer(rt, alloc, case),
             name if tables::is_call(name) => tables::answer(alloc, case),
             name if taken::is_call(name) => taken::answer(alloc, case),
+            name if normal_forms::is_call(name) => normal_forms::answer(alloc, case),
             name if shell_texts::is_call(name) => shell_texts::answer(alloc, case),
+            name if c_texts::is_call(name) => c_texts::answer(alloc, case),
             name if languages::is_call(name) => languages::answer(alloc, case),
             name if faults::is_call(name) => faults::answer(alloc, case),
             name if paths::is_call(name) => paths::answer(alloc, case),

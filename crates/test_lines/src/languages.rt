@@ -36,12 +36,13 @@ fn about<C: CCompilerImpl>(alloc: Global, compiler: &C) -> Result<Answer, CaseEr
 
 // The value of the setting `name`, which ends in `=`.
 fn value_of(alloc: Global, settings: &[String], name: &str) -> Result<Option<Text>, CaseError> {
-    for setting in settings {
-        if let Some(value) = setting.as_str().strip_prefix(name) {
-            return Ok(Some(Text::copy_of(alloc, value)?));
-        }
+    match settings
+        .iter()
+        .find_map(|setting| setting.as_str().strip_prefix(name))
+    {
+        Some(value) => Ok(Some(Text::copy_of(alloc, value)?)),
+        None => Ok(None),
     }
-    Ok(None)
 }
 
 // The same of a device tool with this version.

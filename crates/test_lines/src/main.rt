@@ -7,12 +7,14 @@ use std::io;
 use std::process::ExitCode;
 use test_tables::run_program;
 
+mod c_texts;
 mod calls;
 mod faults;
 mod inputs;
 mod languages;
 mod lines;
 mod names;
+mod normal_forms;
 mod paths;
 mod reading;
 mod settings;

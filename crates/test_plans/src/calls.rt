@@ -1,6 +1,6 @@
 //! The calls that cases make, by name.
 
-use crate::{plan_runs, plans, renaming, runs, selection};
+use crate::{lookups, plan_runs, plans, renaming, runs, selection};
 use std::alloc::Global;
 use std::fs::Files;
 use test_tables::{Answer, Calls, Case, CaseError};
@@ -26,7 +26,17 @@ impl Calls for PlanCalls {
             | "is_step_shadow" => { runs::answer(rt, alloc, case) }
             "rename" | "suffixes" | "standard_suffixes" => renaming::answer(alloc, case),
             "select" => selection::answer(rt, alloc, case),
-            "plan" | "plan_whole" | "plan_debug" | "plan_text" => plans::answer(rt, alloc, case),
+            "plan"
+            | "plan_whole"
+            | "plan_debug"
+            | "plan_text"
+            | "files"
+            | "files_debug"
+            | "needs"
+            | "needs_debug" => plans::answer(rt, alloc, case),
+            "candidates" | "lookups" | "lookups_debug" | "read_found" => {
+                lookups::answer(rt, alloc, case)
+            }
             "run" => plan_runs::answer(rt, alloc, case),
             _ => Err(CaseError::Form("an unknown call")),
         }

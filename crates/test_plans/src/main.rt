@@ -8,7 +8,9 @@ use std::process::ExitCode;
 use test_tables::run_program;
 
 mod calls;
+mod command_needs;
 mod handed;
+mod lookups;
 mod plan_runs;
 mod plan_settings;
 mod plans;

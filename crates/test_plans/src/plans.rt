@@ -1,24 +1,16 @@
 //! Calls on plans of two dry runs.
 
+use crate::command_needs;
 use crate::handed::bytes_of_file;
 use crate::plan_settings::PlanSettings;
 use crate::runs::refused_at;
-use command_groups::{Dropped, NvccGeneratedSubcommand, Plan, Reason};
+use command_groups::{Dropped, NvccGeneratedSubcommand, Plan};
 use cuda_below::command::Cacheable;
 use programs::Stop as PlanStop;
 use std::alloc::{AllocError, Global};
 use std::fs::Files;
 use test_tables::{Answer, Case, CaseError, debugged};
 use texts::fault::Fault;
-
-fn reason_name(reason: Reason) -> &'static str {
-    match reason {
-        Reason::NotCuda => "NotCuda",
-        Reason::NoCiccGroup => "NoCiccGroup",
-        Reason::NoPtxasGroup => "NoPtxasGroup",
-        Reason::Superseded => "Superseded",
-    }
-}
 
 fn is_cloned(alloc: Global, command: &NvccGeneratedSubcommand) -> Result<bool, AllocError> {
     let clone = command.try_clone(alloc)?;
@@ -95,7 +87,7 @@ fn add_dropped(alloc: Global, answer: &mut Answer, dropped: &Dropped) -> Result<
         answer,
         line.as_str(),
         run.as_str(),
-        reason_name(dropped.reason),
+        dropped.reason.name(),
         dropped.exe.as_str(),
         dropped.args.as_slice(),
     )
@@ -119,12 +111,21 @@ fn shown(alloc: Global, plan: &Plan, is_whole: bool) -> Result<Answer, CaseError
     Ok(answer)
 }
 
-// A plan or an error, as facts.
+// Makes a call on a plan.
+fn of_good_plan(alloc: Global, call: &str, plan: &Plan) -> Result<Answer, CaseError> {
+    match call {
+        "plan" => shown(alloc, plan, false),
+        "plan_whole" => shown(alloc, plan, true),
+        "plan_debug" => debugged(alloc, plan),
+        _ => command_needs::answer(alloc, call, plan),
+    }
+}
+
+// Makes a call on a plan, unless it is an error.
 fn of_plan(alloc: Global, call: &str, plan: &Result<Plan, Fault>) -> Result<Answer, CaseError> {
     match plan {
         Err(fault) => refused_at(alloc, fault),
-        Ok(plan) if call == "plan_debug" => debugged(alloc, plan),
-        Ok(plan) => shown(alloc, plan, call == "plan_whole"),
+        Ok(plan) => of_good_plan(alloc, call, plan),
     }
 }
 

@@ -1,6 +1,7 @@
 //! The settings of a run of a plan.
 
 use crate::plan_settings::PlanSettings;
+use crate::runs::number_of;
 use crate::scripted_runner::{ScriptedRunner, left};
 use cuda_plans::runner::{Answer, Place};
 use std::alloc::Global;
@@ -18,13 +19,6 @@ pub struct RunSettings<'a> {
     pub runner: ScriptedRunner,
 }
 
-fn number(word: &str) -> Result<usize, CaseError> {
-    match word.parse::<usize>() {
-        Ok(number) => Ok(number),
-        Err(_) => Err(CaseError::Form("no number")),
-    }
-}
-
 fn code(word: &str) -> Result<i32, CaseError> {
     match word.parse::<i32>() {
         Ok(code) => Ok(code),
@@ -37,8 +31,8 @@ fn place(word: &str) -> Result<Place, CaseError> {
     match word.split_once(',') {
         Some((group, index)) => {
             Ok(Place {
-                group: number(group)?,
-                index: number(index)?,
+                group: number_of(group)?,
+                index: number_of(index)?,
             })
         }
         None => Err(CaseError::Form("no place")),
@@ -110,7 +104,7 @@ impl<'a> RunSettings<'a> {
     // Takes a setting.
     fn take(&mut self, alloc: Global, setting: &str) -> Result<(), CaseError> {
         match setting.split_once('=') {
-            Some(("parallel", value)) => self.num_parallel = number(value)?,
+            Some(("parallel", value)) => self.num_parallel = number_of(value)?,
             Some((name @ ("fail" | "print" | "signal" | "failed" | "refuse"), told)) => {
                 self.prepare(alloc, name, told)?;
             }

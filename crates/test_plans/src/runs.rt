@@ -70,8 +70,8 @@ fn add_variables(alloc: Global, answer: &mut Answer, run: &DryRun) -> Result<(),
     Ok(())
 }
 
-// All commands and variables of a run, as facts.
-fn whole(alloc: Global, run: &DryRun) -> Result<Answer, CaseError> {
+/// All commands and variables of a run, as facts.
+pub fn whole(alloc: Global, run: &DryRun) -> Result<Answer, CaseError> {
     let mut answer = Answer::new(alloc);
     add_commands(alloc, &mut answer, &run.commands)?;
     add_variables(alloc, &mut answer, run)?;
@@ -176,11 +176,11 @@ fn of_two(
     }
 }
 
-/// The number of a run, in decimal digits.
+/// A number in decimal digits.
 pub fn number_of(word: &str) -> Result<usize, CaseError> {
     match word.parse::<usize>() {
         Ok(number) => Ok(number),
-        Err(_) => Err(CaseError::Form("no number of a run")),
+        Err(_) => Err(CaseError::Form("no number")),
     }
 }
 

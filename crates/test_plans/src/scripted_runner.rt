@@ -52,12 +52,10 @@ impl ScriptedRunner {
 
     // Its answer at a place.
     fn answer_at(&self, alloc: Global, place: Place) -> Result<Answer, AllocError> {
-        for (told, answer) in &self.answers {
-            if *told == place {
-                return answer.try_clone(alloc);
-            }
+        match self.answers.iter().find(|told| told.0 == place) {
+            Some((_, answer)) => answer.try_clone(alloc),
+            None => Ok(Answer::Ran(left(alloc, 0, Bytes::new(alloc)))),
         }
-        Ok(Answer::Ran(left(alloc, 0, Bytes::new(alloc))))
     }
 }
 

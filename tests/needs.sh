@@ -1,0 +1,56 @@
+#!/usr/bin/env bash
+# Tests that the edges of a Ninja file are enough: zigrunk-nvcc builds a fatbin for six targets twenty times with eight commands at once,
+# and each product has to be nvcc's. The last line is 'N passed, M failed'; the status is 1 if one failed.
+#
+#   tests/needs.sh [PROGRAM]    PROGRAM is the zigrunk that `make build` leaves, unless given
+cd "$(dirname "$0")/.." || exit 1
+for tool in nvcc "${ZIGRUNK_NINJA:-ninja}"; do
+    if ! command -v "$tool" > /dev/null; then
+        echo "needs of commands: skipped, $tool is not on the path"
+        echo '0 passed, 0 failed'
+        exit 0
+    fi
+done
+wrapper=$PWD/bin/zigrunk-nvcc
+ZIGRUNK_PROGRAM=$(realpath "${1:-${ZIGRUNK_PROGRAM:-crates/zigrunk/out/zigrunk}}")
+export ZIGRUNK_PROGRAM ZIGRUNK_EXPLAIN=1 ZIGRUNK_JOBS=8
+scratch=$(mktemp -d)
+trap 'rm -rf "$scratch"' EXIT
+unset NVCC_PREPEND_FLAGS NVCC_APPEND_FLAGS MAKEFLAGS ZIGRUNK_RUNNER ZIGRUNK_LAUNCHER ZIGRUNK_TMP ZIGRUNK_PLAN
+passed=0 failed=0
+
+# judge NAME PROBLEM: counts a case, which has passed if there is no problem.
+judge() {
+    if [ -z "$2" ]; then
+        passed=$((passed + 1))
+    else
+        failed=$((failed + 1))
+        echo "$1: $2"
+    fi
+}
+
+cd "$scratch" || exit 1
+mkdir tmp
+export TMPDIR=$scratch/tmp
+cat > k.cu << 'END_OF_SOURCE'
+#include <cstdio>
+template <int N> __global__ void scale(float* values) { values[threadIdx.x] *= N; }
+__global__ void say(const char* text) { printf("%s %d\n", text, threadIdx.x); }
+__device__ int table[64];
+void run(float* values) { scale<2><<<1, 32>>>(values); scale<3><<<1, 32>>>(values); say<<<1, 1>>>("text"); }
+END_OF_SOURCE
+targets=()
+for number in 75 80 86 89 90 100; do
+    targets+=(-gencode "arch=compute_$number,code=sm_$number")
+done
+
+nvcc -fatbin "${targets[@]}" k.cu -o wanted.fatbin || exit 1
+for run in {1..20}; do
+    rm -f k.fatbin
+    problem=$("$wrapper" -fatbin "${targets[@]}" k.cu -o k.fatbin 2>&1) || problem+=" status $?"
+    cmp -s k.fatbin wanted.fatbin || problem+=' the fatbin differs from that of nvcc'
+    judge "a fatbin for six targets, build $run" "$problem"
+done
+
+echo "$passed passed, $failed failed"
+[ "$failed" -eq 0 ]
