@@ -3,11 +3,12 @@ PREFIX ?= /usr/local
 DESTDIR ?=
 target = $(DESTDIR)$(PREFIX)
 
-.PHONY: help demo build install uninstall dist bench fuzz must-fail refused-memory end-to-end cache mutants test-install dist-test check-docs test
+.PHONY: help demo build lib install uninstall dist bench fuzz must-fail refused-memory end-to-end cache mutants test-install dist-test check-docs test
 
 help:
 	@echo 'make demo             run cudaplan, unproved, on two calls; a minute from a fresh clone'
 	@echo 'make build            prove and build the programs: crates/cudaplan/out/cudaplan and crates/zigrunk/out/zigrunk'
+	@echo 'make lib              prove and build libzigrunk for C, Rust and Python: out/lib and out/include'
 	@echo 'make install          install them, zigrunk-nvcc, the man pages and completions; PREFIX=/usr/local, DESTDIR='
 	@echo 'make uninstall        remove what make install installed, with the same PREFIX and DESTDIR'
 	@echo 'make test             the whole gate; the last line is N passed, M failed'
@@ -34,25 +35,35 @@ build:
 	cd crates/zigrunk && rt check && rt run -- --version > /dev/null
 	@.ci/built record
 
+# The planner for programs in C, Rust and Python (docs/EMBEDDING.md).
+lib:
+	cd crates/zigrunk_c && rt lib
+	bindings/c/library.sh crates/zigrunk_c/out/libzigrunk_c.a "$(CURDIR)/out"
+
 # Nothing is proved again if out/ holds the programs that these sources make.
 install:
 	@.ci/built check || $(MAKE) build
 	install -D -m 755 crates/cudaplan/out/cudaplan "$(target)/bin/cudaplan"
 	install -D -m 755 crates/zigrunk/out/zigrunk "$(target)/bin/zigrunk"
 	install -D -m 755 bin/zigrunk-nvcc "$(target)/bin/zigrunk-nvcc"
+	install -D -m 755 bin/zigrunk-batch "$(target)/bin/zigrunk-batch"
 	install -D -m 644 man/zigrunk.1 "$(target)/share/man/man1/zigrunk.1"
 	install -D -m 644 man/zigrunk-nvcc.1 "$(target)/share/man/man1/zigrunk-nvcc.1"
+	install -D -m 644 man/zigrunk-batch.1 "$(target)/share/man/man1/zigrunk-batch.1"
 	ln -sf zigrunk.1 "$(target)/share/man/man1/cudaplan.1"
 	install -D -m 644 completions/zigrunk.bash "$(target)/share/bash-completion/completions/zigrunk"
 	ln -sf zigrunk "$(target)/share/bash-completion/completions/cudaplan"
 	ln -sf zigrunk "$(target)/share/bash-completion/completions/zigrunk-nvcc"
+	ln -sf zigrunk "$(target)/share/bash-completion/completions/zigrunk-batch"
 	install -D -m 644 completions/_zigrunk "$(target)/share/zsh/site-functions/_zigrunk"
 
 uninstall:
-	rm -f "$(target)/bin/cudaplan" "$(target)/bin/zigrunk" "$(target)/bin/zigrunk-nvcc"
+	rm -f "$(target)/bin/cudaplan" "$(target)/bin/zigrunk" "$(target)/bin/zigrunk-nvcc" "$(target)/bin/zigrunk-batch"
 	rm -f "$(target)/share/man/man1/zigrunk.1" "$(target)/share/man/man1/zigrunk-nvcc.1" "$(target)/share/man/man1/cudaplan.1"
+	rm -f "$(target)/share/man/man1/zigrunk-batch.1"
 	rm -f "$(target)/share/bash-completion/completions/zigrunk" "$(target)/share/bash-completion/completions/cudaplan"
-	rm -f "$(target)/share/bash-completion/completions/zigrunk-nvcc" "$(target)/share/zsh/site-functions/_zigrunk"
+	rm -f "$(target)/share/bash-completion/completions/zigrunk-nvcc" "$(target)/share/bash-completion/completions/zigrunk-batch"
+	rm -f "$(target)/share/zsh/site-functions/_zigrunk"
 
 bench:
 	cd crates/cudabench && rt run -- line 100000 cicc /w --device-c -arch compute_80 --module_id_file_name kernel.module_id kernel.cpp1.ii --simt-only -o kernel.ptx
@@ -102,4 +113,4 @@ test-install:
 
 # Every proof from nothing, the wrong bodies, the tests and the programs, then calls of the built programs and of nvcc.
 test:
-	@before=$$(.ci/built sources) && .ci/gate && .ci/built record "$$before"
+	@.ci/gate
