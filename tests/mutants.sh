@@ -298,6 +298,9 @@ new: "$own/dry1"
 commands are dry-run lines
 old: sed '/^#\$ /d'
 new: sed '/^$/d'
+the first failure ends all
+old:  -k 0
+new: 
 groups in the order of texts
 old: -k 2,2n
 new: -k 2,2
