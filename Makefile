@@ -3,7 +3,7 @@ PREFIX ?= /usr/local
 DESTDIR ?=
 target = $(DESTDIR)$(PREFIX)
 
-.PHONY: help demo build lib install uninstall dist bench fuzz must-fail refused-memory end-to-end cache mutants test-install dist-test check-docs test
+.PHONY: help demo build lib install uninstall dist bench fuzz must-fail refused-memory end-to-end odd-calls cache mutants test-install dist-test check-docs test
 
 help:
 	@echo 'make demo             run cudaplan, unproved, on two calls; a minute from a fresh clone'
@@ -16,6 +16,7 @@ help:
 	@echo 'make fuzz             run the library on 10,000 random cases of each kind; SEED=1 COUNT=10000 FIRST=0'
 	@echo 'make refused-memory   run the test cases again and again, each time with another allocation failing'
 	@echo 'make end-to-end       compare zigrunk-nvcc with nvcc; needs nvcc and ninja on the path'
+	@echo 'make odd-calls        the same for 131 calls with odd words'
 	@echo 'make cache            compare rebuilds through sccache with and without zigrunk-nvcc; needs sccache 0.9'
 	@echo 'make mutants          check that the tests catch wrong edits of zigrunk-nvcc'
 	@echo 'make check-docs       check links, quoted code and names in the pages, and the version number'
@@ -88,6 +89,11 @@ refused-memory: build
 # Calls of nvcc and of zigrunk-nvcc side by side: exit statuses, the files they make, and what is in them. The gate makes fewer.
 end-to-end:
 	@tests/end_to_end.sh --all
+
+# More such calls, with words that few people write.
+odd-calls:
+	@.ci/built check || $(MAKE) build
+	@ZIGRUNK_PROGRAM="$(CURDIR)/crates/zigrunk/out/zigrunk" tests/compare_calls.py --jobs "$$(nproc)" tests/calls_odd.txt
 
 cache:
 	@tests/cache.sh

@@ -5,8 +5,8 @@
 #
 #   tests/end_to_end.sh [--all] [PROGRAM]
 #
-# PROGRAM is the zigrunk that `make build` and the gate leave, unless given. With --all it makes all calls, and builds CMake projects
-# (tests/cmake.sh) and fatbins (tests/needs.sh); the gate leaves these out.
+# PROGRAM is the zigrunk that `make build` and the gate leave, unless given. With --all it makes all calls but the odd ones, which
+# `make odd-calls` makes, and builds CMake projects (tests/cmake.sh) and fatbins (tests/needs.sh); the gate leaves these out.
 cd "$(dirname "$0")/.." || exit 1
 all=''
 [ "${1-}" != --all ] || { all=yes && shift; }
@@ -102,7 +102,7 @@ else
     wrapper=$PWD/bin/zigrunk-nvcc
     calls=(tests/calls_quick.txt)
     if [ -n "$all" ]; then
-        calls+=(tests/calls.txt tests/calls_words.txt tests/calls_odd.txt)
+        calls+=(tests/calls.txt tests/calls_words.txt)
         start cmake tests/cmake.sh "$program"
     fi
     start calls tests/compare_calls.py --scratch "$scratch" --jobs "$(nproc)" "${calls[@]}"
