@@ -1,12 +1,14 @@
 #!/usr/bin/env bash
 # Tests zigrunk-nvcc: by stand-ins (tests/script.sh, and tests/batch.sh for zigrunk-batch), by calls that nvcc makes too
-# (tests/compare_calls.py), by the installed nvcc's list of options (tests/nvcc_options.sh), and by signals in the middle of a build.
+# (tests/compare_calls.py), by the installed nvcc's list of options (tests/nvcc_options.sh), by commands that have only their own
+# files (tests/isolated.py), and by signals in the middle of a build.
 # Prints a line for each failure, and last 'N passed, M failed'; the status is 1 if one failed. The parts run side by side.
 #
 #   tests/end_to_end.sh [--all] [PROGRAM]
 #
 # PROGRAM is the zigrunk that `make build` and the gate leave, unless given. With --all it makes all calls but the odd ones, which
-# `make odd-calls` makes, and builds CMake projects (tests/cmake.sh) and fatbins (tests/needs.sh); the gate leaves these out.
+# `make odd-calls` makes, builds CMake projects (tests/cmake.sh) and fatbins (tests/needs.sh), and isolates the commands of five calls;
+# the gate isolates those of one call.
 cd "$(dirname "$0")/.." || exit 1
 all=''
 [ "${1-}" != --all ] || { all=yes && shift; }
@@ -101,12 +103,16 @@ else
     export ZIGRUNK_PROGRAM=$program
     wrapper=$PWD/bin/zigrunk-nvcc
     calls=(tests/calls_quick.txt)
+    alone=(--only=-dc)
     if [ -n "$all" ]; then
         calls+=(tests/calls.txt tests/calls_words.txt)
+        alone=(--leave-out)
         start cmake tests/cmake.sh "$program"
     fi
+    start isolated tests/isolated.py "${alone[@]}" "$program"
     start calls tests/compare_calls.py --scratch "$scratch" --jobs "$(nproc)" "${calls[@]}"
     finish calls
+    finish isolated
     if [ -n "$all" ]; then
         finish cmake
         start needs tests/needs.sh "$program"

@@ -1,0 +1,268 @@
+#!/usr/bin/env python3
+"""Runs each command of five nvcc calls where only the files of its record are, and compares what it makes.
+
+The JSON of `zigrunk json` names the files that each command reads and writes. A command runs here below a root folder of its own,
+in a mount namespace. That root has the system, the CUDA toolkit, and of the call's files only those that the command reads by its
+record. It may make only files that the record names, and they have to be, byte for byte, those of the ordinary run, where all
+commands work in the call's own folders.
+
+Where a record isn't complete, the command gets exactly what it is known to lack:
+
+- A preprocess step also reads headers. It gets the header beside its source; those of system and toolkit are there anyway.
+- The last host compiler reads what its generated source includes. It gets the stub that cudafe++ names and the fatbin as C.
+
+With --leave-out, each command also runs without one of its files, once for each file. Then it has to fail or make something else:
+so a record that lacked a file would be noticed, and no record names a file in vain.
+
+Prints a line for each finding, and last 'N passed, M failed'; the status is 1 if one failed. Where nvcc or mount namespaces are
+missing, it prints one line that says so, and the status is 0.
+
+    tests/isolated.py [--leave-out] [--only TEXT] [ZIGRUNK]     ZIGRUNK is the program that `make build` leaves, unless given
+"""
+
+import argparse
+import concurrent.futures
+import json
+import os
+import shutil
+import subprocess
+import sys
+import tempfile
+
+TOP = os.path.realpath(f"{os.path.dirname(os.path.realpath(__file__))}/..")
+TWO_TARGETS = "-gencode arch=compute_80,code=sm_80 -gencode arch=compute_90,code=sm_90"
+CALLS = (
+    "-c k.cu -o k.o",
+    f"-fatbin {TWO_TARGETS} k.cu -o k.fatbin",
+    "-ptx k.cu -o k.ptx",
+    f"-dc {TWO_TARGETS} k.cu -o k.o",
+    "-arch=all-major -c k.cu -o k.o",
+)
+SOURCES = {
+    "k.cu": '#include "k.h"\n__device__ int table[SIZE];\n__global__ void add(int* values) { values[0] += table[0]; }\n'
+    "void run(int* values) { add<<<1, 1>>>(values); }\n",
+    "k.h": "#define SIZE 6\n",
+}
+SYSTEM = ("bin", "etc", "lib", "lib32", "lib64", "libx32", "sbin", "usr")
+# The words: the new root, the folder to work in, the folders to mount, an empty word, the command.
+ISOLATE = """root=$1 folder=$2; shift 2
+while [ -n "$1" ]; do mount --rbind "$1" "$root$1" || exit 125; shift; done
+shift
+exec chroot "$root" env -C "$folder" "$@"
+"""
+
+
+def with_value(args, option):
+    """Returns the values of an option, as the next word or behind `=`."""
+    values = [args[place + 1] for place, word in enumerate(args[:-1]) if word == option]
+    return values + [word[len(option) + 1 :] for word in args if word.startswith(f"{option}=")]
+
+
+def lacking(command, plan, work):
+    """Returns the files that an incomplete record is known to lack."""
+    if command["complete"]:
+        return []
+    if "-E" in command["args"]:
+        return [f"{work}/{name}" for name in SOURCES if name.endswith(".h")]
+    found = []
+    for other in plan["commands"]:
+        option = {"cudafe++": "--stub_file_name", "fatbinary": "--embedded-fatbin"}.get(os.path.basename(other["exe"]))
+        found += [os.path.join(other["cwd"], name) for name in with_value(other["args"], option or "-")]
+    return found
+
+
+def plan_of(zigrunk, words, base):
+    """Plans a call of nvcc as zigrunk-nvcc does. Returns the plan, or None and why there is none."""
+    script = """calls=$("$0" calls "$PWD" "$1" nvcc $2) && eval "$calls" && eval "$first_dry_run" > /dev/null 2> "$3/dry1" &&
+eval "$second_dry_run" > /dev/null 2> "$3/dry2" && "$0" json --whole "$PWD" "$1" "$flag" "$3/dry1" "$3/dry2"
+"""
+    ran = subprocess.run(
+        ["sh", "-c", script, zigrunk, f"{base}/tmp", words, base], cwd=f"{base}/work", capture_output=True, text=True, check=False
+    )
+    return (json.loads(ran.stdout), "") if ran.returncode == 0 else (None, f"no plan: {ran.stderr.strip()}")
+
+
+def in_threads(plan, run):
+    """Runs a function for each command, each after those that the command needs. Returns the results in plan order."""
+    jobs = []
+
+    def wait_and_run(command):
+        for need in command["needs"]:
+            jobs[need].result()
+        return run(command)
+
+    with concurrent.futures.ThreadPoolExecutor(os.cpu_count()) as pool:
+        for command in plan["commands"]:
+            jobs.append(pool.submit(wait_and_run, command))
+    return [job.result() for job in jobs]
+
+
+def started(words, command, base, folder):
+    """Runs words with a command's variables and nothing else. Returns the status and what is printed on standard error."""
+    env = dict(command["env"]) | {"TMPDIR": f"{base}/scratch"}
+    ran = subprocess.run(words, cwd=folder, env=env, stdin=subprocess.DEVNULL, capture_output=True, check=False)
+    return ran.returncode, ran.stderr.decode("utf-8", "replace").strip()
+
+
+def mounted(command):
+    """Returns the folders that a command's root has: the system, and the toolkit and the program if they are elsewhere."""
+    folders = [f"/{name}" for name in SYSTEM if os.path.isdir(f"/{name}") and not os.path.islink(f"/{name}")]
+    for path in (dict(command["env"]).get("TOP", "/usr"), f"{os.path.dirname(command['exe'])}/.."):
+        path = os.path.realpath(path)
+        if not any(f"{path}/".startswith(f"{folder}/") for folder in folders):
+            folders.append(path)
+    return folders
+
+
+def make_root(root, command, base, files):
+    """Makes a root folder with these files of the call, and empty folders for what is written."""
+    for name in SYSTEM:
+        if os.path.islink(f"/{name}"):
+            os.symlink(os.readlink(f"/{name}"), f"{root}/{name}")
+    for folder in (*mounted(command), command["cwd"], f"{base}/work", f"{base}/tmp", f"{base}/scratch"):
+        os.makedirs(f"{root}{folder}", exist_ok=True)
+    os.makedirs(f"{root}/dev")
+    open(f"{root}/dev/null", "w", encoding="utf-8").close()
+    for path, content in files.items():
+        os.makedirs(os.path.dirname(f"{root}{path}"), exist_ok=True)
+        with open(f"{root}{path}", "wb") as file:
+            file.write(content)
+
+
+def isolated(command, base, files):
+    """Runs a command where only these files are. Returns the status, what it says, and the files that it makes or changes."""
+    with tempfile.TemporaryDirectory(dir=base) as root:
+        make_root(root, command, base, files)
+        words = ["unshare", "-rm", "sh", "-c", ISOLATE, "sh", root, command["cwd"], *mounted(command), "/dev/null", ""]
+        status, said = started([*words, command["exe"], *command["args"]], command, base, base)
+        made = {path: content for path, content in files_below(root, base).items() if files.get(path) != content}
+        return status, said, made
+
+
+def files_below(root, base):
+    """Returns the files of the call's two folders below a root: their contents by their paths."""
+    found = {}
+    for folder in ("work", "tmp"):
+        for at, _, names in os.walk(f"{root}{base}/{folder}"):
+            for name in names:
+                with open(f"{at}/{name}", "rb") as file:
+                    found[f"{at}/{name}"[len(root) :]] = file.read()
+    return found
+
+
+def differences(command, ran, wanted):
+    """Returns what is wrong with a command that ran alone: by its record, and by the files of the ordinary run."""
+    status, said, made = ran
+    found = [f"status {status}: {said[:300]}"] if status else []
+    found += [f"doesn't write {path}" for path in command["writes"] if path not in made]
+    allowed = command["writes"] + command["may_write"]
+    for path, content in made.items():
+        if path not in allowed:
+            found.append(f"writes {path}, which its record doesn't name")
+        if wanted.get(path) != content:
+            found.append(f"{path} differs from that of the ordinary run")
+    return found
+
+
+def normal(plan):
+    """Writes the paths of a plan's records without `..`."""
+    for command in plan["commands"]:
+        for field in ("reads", "writes", "may_write"):
+            command[field] = [os.path.normpath(path) for path in command[field]]
+
+
+def without_one(inputs, base, wanted):
+    """Runs each command without one of its files, for each file. Returns how many runs there were, and what changes nothing."""
+    cases = [(command, files, path) for command, files in inputs for path in files]
+
+    def run(case):
+        command, files, left_out = case
+        ran = isolated(command, base, {path: content for path, content in files.items() if path != left_out})
+        same = not differences(command, ran, wanted)
+        return [f"{label(command)} makes the same without {left_out}"] if same else []
+
+    with concurrent.futures.ThreadPoolExecutor(os.cpu_count()) as pool:
+        return len(cases), [one for found in pool.map(run, cases) for one in found]
+
+
+def label(command):
+    return f"command {command['id']} ({os.path.basename(command['exe'])})"
+
+
+def each_alone(plan, base, store, wanted):
+    """Runs each command alone, and puts what it makes into the store. Returns the findings, and each command's files."""
+    inputs = []
+
+    def run(command):
+        paths = [*command["reads"], *lacking(command, plan, f"{base}/work")]
+        files = {path: store[path] for path in paths if path in store}
+        ran = isolated(command, base, files)
+        inputs.append((command, files))
+        store.update(ran[2])
+        found = [f"is to read {path}, which nobody made" for path in paths if path not in files]
+        return [f"{label(command)}: {one}" for one in found + differences(command, ran, wanted)]
+
+    return [one for found in in_threads(plan, run) for one in found], inputs
+
+
+def check(words, zigrunk, leave_out, base):
+    """Returns what is wrong with a call, and how many commands ran without one of their files."""
+    for folder in ("work", "tmp", "scratch"):
+        os.mkdir(f"{base}/{folder}")
+    for name, text in SOURCES.items():
+        with open(f"{base}/work/{name}", "w", encoding="utf-8") as file:
+            file.write(text)
+    plan, why = plan_of(zigrunk, words, base)
+    if plan is None:
+        return [why], 0
+    normal(plan)
+    store = files_below("", base)
+    ordinary = in_threads(plan, lambda command: started([command["exe"], *command["args"]], command, base, command["cwd"]))
+    wanted = files_below("", base)
+    if bad := [f"{label(command)}: {said[:300]}" for command, (status, said) in zip(plan["commands"], ordinary) if status]:
+        return bad, 0
+    found, inputs = each_alone(plan, base, store, wanted)
+    found += [f"{path}: only the ordinary run makes it" for path in wanted if path not in store]
+    if found or not leave_out:
+        return found, 0
+    runs, found = without_one(inputs, base, wanted)
+    return found, runs
+
+
+def unavailable():
+    """Says why nothing can be tested here; empty if it can."""
+    if not shutil.which("nvcc"):
+        return "nvcc is not on the path"
+    words = ["unshare", "-rm", "sh", "-c", "mount --rbind /usr /usr && chroot / true"]
+    if not shutil.which("unshare") or subprocess.run(words, capture_output=True, check=False).returncode:
+        return "mount namespaces aren't available"
+    return ""
+
+
+def main():
+    parser = argparse.ArgumentParser(usage=__doc__, allow_abbrev=False)
+    parser.add_argument("--leave-out", action="store_true")
+    parser.add_argument("--only", default="")
+    parser.add_argument("zigrunk", nargs="?", default=f"{TOP}/crates/zigrunk/out/zigrunk")
+    args = parser.parse_args()
+    if why := unavailable():
+        print(f"isolated commands: skipped, {why}\n0 passed, 0 failed")
+        return 0
+    for name in ("NVCC_PREPEND_FLAGS", "NVCC_APPEND_FLAGS"):
+        os.environ.pop(name, None)
+    passed = failed = 0
+    for words in CALLS:
+        if args.only in words:
+            with tempfile.TemporaryDirectory() as base:
+                found, runs = check(words, os.path.realpath(args.zigrunk), args.leave_out, os.path.realpath(base))
+            for finding in found:
+                print(f"nvcc {words}: {finding}")
+            if args.leave_out and not found:
+                print(f"nvcc {words}: each of {runs} files is needed")
+            passed, failed = passed + (not found), failed + bool(found)
+    print(f"{passed} passed, {failed} failed")
+    return 1 if failed else 0
+
+
+if __name__ == "__main__":
+    sys.exit(main())
