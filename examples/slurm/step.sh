@@ -1,0 +1,32 @@
+#!/bin/sh
+# step.sh COMMAND WORD..    runs a command as a step of this Slurm allocation, and again if its node dies
+#
+#     salloc -Q --no-kill -N3 -n12 env ZIGRUNK_RUNNER="$PWD/step.sh" ZIGRUNK_JOBS=15 ZIGRUNK_TMP=/shared/tmp zigrunk-batch LIST
+#
+# Without --no-kill, Slurm ends the whole allocation with its first dead node. Set ZIGRUNK_JOBS to a little more than the processors.
+# STEP_WRAPPER, if set, is a program that runs the command on the node, such as the path of attempts.bash.
+#
+# What srun says of the command's status stays hidden: the caller sees the status. The script repeats a step at most five times, and only
+# if Slurm says that it lost the node or couldn't start the step.
+said=$(mktemp "${TMPDIR:-/tmp}/step.XXXXXX") || exit 1
+trap 'rm -f "$said"' EXIT
+trap 'exit 129' HUP
+trap 'exit 130' INT
+trap 'exit 143' TERM
+lost='^srun: error: (Node failure|.*[Cc]ommunication|Aborting|.*Unable to (confirm|create)|Task launch|.*NODE FAIL|.*[Nn]ode .*(down|fail))'
+lost="$lost|^slurmstepd: .*NODE FAIL"
+tries=0
+while :; do
+    # shellcheck disable=SC2086 # a wrapper is a program and its words
+    srun -Q -N1 -n1 --exact ${STEP_WRAPPER-} "$@" 2> "$said"
+    status=$?
+    [ "$status" != 0 ] && [ "$tries" -lt 5 ] && grep -qE "$lost" "$said" || break
+    tries=$((tries + 1))
+    [ -z "${STEP_LOG-}" ] || echo "$tries $*" >> "$STEP_LOG"
+done
+if grep -qE "$lost" "$said"; then
+    cat "$said" >&2
+else
+    grep -vE '^srun: (error: [^ ]+: task |launch/slurm: )' "$said" >&2
+fi
+exit "$status"
