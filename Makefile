@@ -3,7 +3,7 @@ PREFIX ?= /usr/local
 DESTDIR ?=
 target = $(DESTDIR)$(PREFIX)
 
-.PHONY: help demo build lib install uninstall dist bench fuzz must-fail refused-memory end-to-end odd-calls cache mutants test-install dist-test check-docs test
+.PHONY: help demo build lib install uninstall dist bench fuzz must-fail refused-memory end-to-end odd-calls cache cluster mutants test-install dist-test check-docs test
 
 help:
 	@echo 'make demo             run cudaplan, unproved, on two calls; a minute from a fresh clone'
@@ -18,6 +18,7 @@ help:
 	@echo 'make end-to-end       compare zigrunk-nvcc with nvcc; needs nvcc and ninja on the path'
 	@echo 'make odd-calls        the same for 131 calls with odd words'
 	@echo 'make cache            compare rebuilds through sccache with and without zigrunk-nvcc; needs sccache 0.9'
+	@echo 'make cluster          build on a Slurm of three nodes that it starts on this machine; needs nvcc, slurm-wlm and munge; root'
 	@echo 'make mutants          check that the tests catch wrong edits of zigrunk-nvcc'
 	@echo 'make check-docs       check links, quoted code and names in the pages, and the version number'
 	@echo 'make test-install     install into an empty directory, run the programs from there, uninstall'
@@ -97,6 +98,11 @@ odd-calls:
 
 cache:
 	@tests/cache.sh
+
+# Packages are in docs/CLUSTER.md.
+cluster:
+	@tests/cluster/attempts.sh
+	@tests/cluster.sh
 
 mutants:
 	@tests/mutants.sh

@@ -6,7 +6,7 @@
 #     ZIGRUNK_RUNNER='my-runner attempts.bash' zigrunk-nvcc -c k.cu -o k.o
 #
 # The command writes its files into a new directory beside each product, .attempt.XXXXXX, under the products' own names. If it
-# succeeds, the script renames them. So no reader sees half a file, and a command that fails or dies leaves the old files unchanged.
+# succeeds, the script renames them. So no reader sees half a file, and a command that fails or dies leaves the old files.
 #
 #   cicc              -o, --gen_c_file_name, --gen_device_file_name, --stub_file_name, and the module id if it makes one
 #   cudafe++          --gen_c_file_name, and the module id if it makes one. It only cites --stub_file_name

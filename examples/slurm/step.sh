@@ -3,18 +3,19 @@
 #
 #     salloc -Q --no-kill -N3 -n12 env ZIGRUNK_RUNNER="$PWD/step.sh" ZIGRUNK_JOBS=15 ZIGRUNK_TMP=/shared/tmp zigrunk-batch LIST
 #
-# Without --no-kill, Slurm ends the whole allocation with its first dead node. Set ZIGRUNK_JOBS to a little more than the processors.
+# Without --no-kill, Slurm ends the whole allocation with its first dead node. Set ZIGRUNK_JOBS to a little more than the
+# processors.
 # STEP_WRAPPER, if set, is a program that runs the command on the node, such as the path of attempts.bash.
 #
-# What srun says of the command's status stays hidden: the caller sees the status. The script repeats a step at most five times, and only
-# if Slurm says that it lost the node or couldn't start the step.
+# What srun says of the command's status stays hidden: the caller sees the status. The script repeats a step at most five times,
+# and only if Slurm says that it lost the node or couldn't start the step.
 said=$(mktemp "${TMPDIR:-/tmp}/step.XXXXXX") || exit 1
 trap 'rm -f "$said"' EXIT
 trap 'exit 129' HUP
 trap 'exit 130' INT
 trap 'exit 143' TERM
-lost='^srun: error: (Node failure|.*[Cc]ommunication|Aborting|.*Unable to (confirm|create)|Task launch|.*NODE FAIL|.*[Nn]ode .*(down|fail))'
-lost="$lost|^slurmstepd: .*NODE FAIL"
+lost='^srun: error: (Aborting|Task launch|.*[Cc]ommunication|.*Unable to (confirm|create)|.*[Nn]ode .*(down|fail))'
+lost="$lost|^(srun|slurmstepd): .*NODE FAIL"
 tries=0
 while :; do
     # shellcheck disable=SC2086 # a wrapper is a program and its words

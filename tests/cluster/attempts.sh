@@ -43,12 +43,14 @@ tools() {
     printf '%s\n' '__global__ void scale(float *x) { x[threadIdx.x] *= 2; }' 'void call(float *x) { scale<<<1, 32>>>(x); }' > k.cu
     for words in '' -G -lineinfo -rdc=true '-Xcompiler -g'; do
         # shellcheck disable=SC2086 # several words
-        nvcc --dryrun --keep --keep-dir kept $words -c -gencode=arch=compute_80,code=sm_80 '-gencode=arch=compute_90,code=[sm_90,compute_90]' \
+        nvcc --dryrun --keep --keep-dir kept $words -c -gencode=arch=compute_80,code=sm_80 \
+            '-gencode=arch=compute_90,code=[sm_90,compute_90]' \
             k.cu -o made/k.o 2>&1 | sed -n 's/^#\$ //p' > lines
         same "commands, $words" "$(run_plan plain '')" ''
         same "commands through the script, $words" "$(run_plan tried "$attempts")" ''
         same "files, $words" "$(diff -r plain tried)" ''
-        same "products, $words" "$(cd tried && ls kept/*.ptx kept/*.cubin kept/*.fatbin.c kept/*.cpp made/*.o | wc -l)" 7
+        same "products, $words" "$(cd tried &&
+            printf '%s\n' kept/*.ptx kept/*.cubin kept/*.fatbin.c kept/*.cpp made/*.o | wc -l)" 7
     done
 }
 

@@ -7,7 +7,7 @@ start_node() {
 }
 
 start_slurm() {
-    local host node
+    local host node port=$((20000 + $$ % 2000 * 5))
     host=$(hostname -s)
     mkdir -p "$run/munge" "$run/state"
     chmod 755 "$run" "$run/munge"
@@ -22,7 +22,7 @@ start_slurm() {
 AuthInfo=socket=$run/munge/socket,cred_expire=15
 ClusterName=zigrunk
 SlurmctldHost=$host(127.0.0.1)
-SlurmctldPort=26817
+SlurmctldPort=$port
 SlurmUser=root
 SlurmdUser=root
 StateSaveLocation=$run/state
@@ -39,24 +39,26 @@ MpiDefault=none
 SlurmdParameters=config_overrides
 END
         for node in 1 2 3; do
-            echo "NodeName=n$node NodeHostname=$host NodeAddr=127.0.0.1 Port=$((26820 + node)) CPUs=1 RealMemory=2000 State=UNKNOWN"
+            printf 'NodeName=n%s NodeHostname=%s NodeAddr=127.0.0.1 Port=%s CPUs=1 RealMemory=2000 State=UNKNOWN\n' \
+                "$node" "$host" "$((port + node))"
         done
         for node in 1 2 3; do
-            echo "PartitionName=p$node Nodes=n[1-$node] Default=$([ "$node" = 3 ] && echo YES || echo NO) MaxTime=INFINITE State=UP"
+            printf 'PartitionName=p%s Nodes=n[1-%s] MaxTime=INFINITE State=UP\n' "$node" "$node"
         done
+        echo 'PartitionName=all Nodes=n[1-3] Default=YES MaxTime=INFINITE State=UP'
     } > "$SLURM_CONF"
-    slurmctld -c -f "$SLURM_CONF" || return
+    slurmctld -c -f "$SLURM_CONF" && sleep 1 && kill -0 "$(cat "$run/slurmctld.pid")" || return
     for node in 1 2 3; do start_node "$node" || return; done
     wait_idle
 }
 
 # wait_idle: until all three nodes take jobs.
 wait_idle() {
-    for _ in $(seq 150); do
-        [ "$(sinfo -h -p p3 -N -t idle -o %N 2> /dev/null | wc -l)" = 3 ] && return
-        sleep 0.2
+    for _ in $(seq 60); do
+        [ "$(timeout 5 sinfo -h -p p3 -N -t idle -o %N 2> /dev/null | wc -l)" = 3 ] && return
+        sleep 0.5
     done
-    sinfo -N
+    timeout 5 sinfo -N
     return 1
 }
 

@@ -1,0 +1,174 @@
+#!/usr/bin/env bash
+# Builds on a Slurm of three nodes, which it starts on this machine and stops again. Prints a line for each check that fails,
+# the times of builds, and last 'N passed, M failed'; the status is 1 if one failed. docs/CLUSTER.md names the packages.
+#
+#   tests/cluster.sh [PROGRAM]    PROGRAM is the zigrunk that `make build` leaves, unless given
+cd "$(dirname "$0")/.." || exit 1
+skip() {
+    echo "cluster: skipped, $1"
+    echo '0 passed, 0 failed'
+    exit 0
+}
+for tool in slurmctld slurmd munged sbatch salloc nvcc ninja objcopy; do
+    command -v "$tool" > /dev/null || skip "$tool is not on the path"
+done
+[ "$(id -u)" = 0 ] || skip 'starting a Slurm of its own takes root'
+[ "$(nproc)" -ge 3 ] || skip 'three nodes take three cores'
+ZIGRUNK_PROGRAM=$(realpath "${1:-${ZIGRUNK_PROGRAM:-crates/zigrunk/out/zigrunk}}")
+[ -x "$ZIGRUNK_PROGRAM" ] || skip 'make build makes zigrunk first'
+unset NVCC_PREPEND_FLAGS NVCC_APPEND_FLAGS MAKEFLAGS "${!SLURM@}" "${!SBATCH@}"
+unset ZIGRUNK_RUNNER ZIGRUNK_LAUNCHER ZIGRUNK_PLAN ZIGRUNK_JOBS
+examples=$PWD/examples
+scratch=$(mktemp -d) && chmod 755 "$scratch"
+run=$scratch/run
+mkdir "$run" "$scratch/work" "$scratch/tmp"
+export ZIGRUNK_PROGRAM ZIGRUNK_TMP=$scratch/tmp PATH=$PWD/bin:$PATH
+. tests/cluster/slurm.bash
+trap 'stop_slurm; rm -rf "$scratch"' EXIT
+trap 'exit 130' HUP INT TERM
+passed=0 failed=0
+
+# same WHAT GOT WANTED
+same() {
+    if [ "$2" = "$3" ]; then
+        passed=$((passed + 1))
+    else
+        failed=$((failed + 1))
+        printf "cluster: %s: '%s', not '%s'\n" "$@"
+    fi
+}
+
+# timed COMMAND WORD..: runs it; its seconds are $seconds, in tenths.
+timed() {
+    local start
+    start=$(date +%s%N)
+    "$@"
+    status=$?
+    seconds=$(printf '%s\n' $((($(date +%s%N) - start) / 100000000)) | sed 's/.$/.&/')
+}
+
+targets='-gencode=arch=compute_80,code=sm_80 -gencode=arch=compute_86,code=sm_86 -gencode=arch=compute_90,code=sm_90'
+
+# calls PROGRAM SUFFIX COUNT: a list of calls, each of another source.
+calls() {
+    for number in $(seq "$3"); do echo "$1 $targets -c k$number.cu -o k$number.$2"; done
+}
+
+# batch NODES LIST [NAME=VALUE..]: the batch form in an allocation, each command as a step.
+batch() {
+    salloc -Q --no-kill -p "p$1" -N"$1" -n"$1" env STEP_WRAPPER="$examples/attempts.bash" \
+        ZIGRUNK_RUNNER="$examples/slurm/step.sh" ZIGRUNK_JOBS=$(($1 + 2)) "${@:3}" zigrunk-batch "$2" 2> err > out
+}
+
+array() {
+    sbatch -Q --wait --requeue -n1 --array=1-"$(wc -l < "$1")" -o calls.%a.log "${@:2}" "$examples/slurm/array.sh" "$1"
+}
+
+# objects SUFFIX: a line for each object that isn't nvcc's. Symbols that strip removes hold nvcc's random file names.
+objects() {
+    for number in $(seq 20); do
+        objcopy --strip-unneeded "k$number.nvcc" one && objcopy --strip-unneeded "k$number.$1" two && cmp one two
+    done 2>&1
+    rm -f one two
+}
+
+# left: processes of this test's calls, and directories of calls.
+left() {
+    local id
+    sleep 4
+    for id in $(grep -lzF "ZIGRUNK_TMP=$scratch" /proc/[0-9]*/environ 2> /dev/null | tr -dc '0-9\n'); do
+        case $({ tr "\0" " " < "/proc/$id/cmdline"; } 2> /dev/null) in
+        '' | munged* | slurm* | *tests/cluster.sh*) ;;
+        *) { tr "\0" " " < "/proc/$id/cmdline"; } 2> /dev/null | cut -c 1-80 ;;
+        esac
+    done
+    ls -A "$scratch/tmp"
+}
+
+sources() {
+    for number in $(seq 30); do
+        cat > "k$number.cu" << END
+__global__ void k$number(float *x) { x[threadIdx.x] *= $number; }
+void c$number(float *x) { k$number<<<1, 32>>>(x); }
+END
+    done
+    calls nvcc nvcc 20 > by_nvcc
+}
+
+equal() {
+    timed taskset -c 1 sh by_nvcc
+    whole=$seconds
+    echo "20 calls for 3 targets by nvcc on one core: $whole s"
+    calls zigrunk-nvcc array 20 > by_array
+    timed array by_array
+    same 'status of the array' "$status" 0
+    same 'objects of the array' "$(objects array)" ''
+    echo "the same by an array job on three nodes: $seconds s, ideal $(echo "$whole" | awk '{printf "%.1f", $1 / 3}') s"
+    for nodes in 1 2 3; do
+        calls nvcc "batch$nodes" 20 > by_batch
+        timed batch "$nodes" by_batch
+        same "status of the batch form, nodes $nodes" "$status$(cat out err)" 0
+        same "objects of the batch form, nodes $nodes" "$(objects "batch$nodes")" ''
+        echo "the same by the batch form on $nodes: $seconds s, ideal $(echo "$whole $nodes" | awk '{printf "%.1f", $1 / $2}') s"
+    done
+}
+
+compile_error() {
+    echo '__global__ void k(float *x) { x[0] = missing; }' > bad.cu
+    echo 'nvcc -c bad.cu -o bad.o' > by_batch
+    local code
+    nvcc -c bad.cu -o bad.o 2> wanted
+    code=$?
+    batch 3 by_batch
+    same 'status of a compile error' $? "$code"
+    same 'text of a compile error' "$(grep -v '^zigrunk-batch: ' err)" "$(cat wanted)"
+}
+
+killed_node() {
+    local repeats=$PWD/repeats id
+    [ -e k20.nvcc ] || sh by_nvcc
+    calls nvcc killed 20 > by_batch
+    : > "$repeats"
+    batch 3 by_batch STEP_LOG="$repeats" &
+    id=$!
+    sleep 8
+    kill_node n2
+    wait "$id"
+    same 'status after a node died' "$?$(cat out) $(grep -v '^salloc: error: Node failure' err)" '0 '
+    same 'objects after a node died' "$(objects killed)" ''
+    echo "a node killed in mid-build: steps repeated: $(wc -l < "$repeats")"
+    same 'a repeated step' "$([ -s "$repeats" ] && echo some)" some
+    start_node 2
+    wait_idle
+}
+
+cancelled() {
+    local id
+    calls nvcc cancelled 20 > by_batch
+    id=$(ZIGRUNK_RUNNER="$examples/slurm/step.sh" ZIGRUNK_JOBS=5 \
+        sbatch --parsable --no-kill -N3 -n3 -o /dev/null --wrap 'exec zigrunk-batch by_batch')
+    sleep 8
+    same 'directories before the job is cancelled' "$(find "$scratch/tmp" -mindepth 1 -maxdepth 1 | grep -c .)" 2
+    scancel --full "$id"
+    same 'what a cancelled job leaves' "$(left)" ''
+}
+
+# Commands that only sleep show what Slurm costs.
+sleeping() {
+    printf '%s\n' '#!/bin/sh' 'exec sleep 0.3' > nap
+    chmod +x nap
+    calls nvcc nap 30 > by_batch
+    timed batch 3 by_batch STEP_WRAPPER="$PWD/nap" ZIGRUNK_JOBS="${NAP_JOBS:-12}"
+    same 'status of sleeping commands' "$status" 0
+    echo "390 commands of 0.3 s by the batch form on three nodes: $seconds s, ideal 39 s"
+    calls zigrunk-nvcc nap 30 > by_array
+    ZIGRUNK_RUNNER="$PWD/nap" timed array by_array
+    same 'status of sleeping tasks' "$status" 0
+    echo "390 commands of 0.3 s by an array job on three nodes: $seconds s, ideal 39 s"
+}
+
+start_slurm || skip 'Slurm does not start'
+cd "$scratch/work" && sources || exit 1
+for part in ${PARTS:-equal compile_error killed_node cancelled sleeping}; do "$part"; done
+echo "$passed passed, $failed failed"
+[ "$failed" = 0 ]
