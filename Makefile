@@ -3,13 +3,14 @@ PREFIX ?= /usr/local
 DESTDIR ?=
 target = $(DESTDIR)$(PREFIX)
 
-.PHONY: help demo build lib install uninstall dist bench fuzz must-fail refused-memory end-to-end odd-calls cache cluster mutants test-install dist-test check-docs test
+.PHONY: help demo build lib install install-programs install-library uninstall dist bench fuzz must-fail refused-memory end-to-end odd-calls cache cluster mutants test-install dist-test check-docs test
 
 help:
 	@echo 'make demo             run cudaplan, unproved, on two calls; a minute from a fresh clone'
 	@echo 'make build            prove and build the programs: crates/cudaplan/out/cudaplan and crates/zigrunk/out/zigrunk'
 	@echo 'make lib              prove and build libzigrunk for C, Rust and Python: out/lib and out/include'
-	@echo 'make install          install them, zigrunk-nvcc, the man pages and completions; PREFIX=/usr/local, DESTDIR='
+	@echo 'make install          install both, the scripts, the man pages and completions; PREFIX=/usr/local, DESTDIR='
+	@echo '                      make install-programs and make install-library install, and build, one of them'
 	@echo 'make uninstall        remove what make install installed, with the same PREFIX and DESTDIR'
 	@echo 'make test             the whole gate; the last line is N passed, M failed'
 	@echo 'make must-fail        check that the prover rejects the wrong bodies of all crates, or of CRATES="texts dry_runs"'
@@ -35,16 +36,20 @@ demo:
 build:
 	cd crates/cudaplan && rt check && rt run -- line cicc /w x.cpp1.ii -o x.ptx > /dev/null
 	cd crates/zigrunk && rt check && rt run -- --version > /dev/null
-	@.ci/built record
+	@.ci/built record programs
 
 # The planner for programs in C, Rust and Python (docs/EMBEDDING.md).
 lib:
 	cd crates/zigrunk_c && rt lib
+	@.ci/built record library
 	bindings/c/library.sh crates/zigrunk_c/out/libzigrunk_c.a "$(CURDIR)/out"
 
-# Nothing is proved again if out/ holds the programs that these sources make.
-install:
-	@.ci/built check || $(MAKE) build
+# Nothing is proved again if out/ holds what these sources make. Otherwise each part builds what it installs, so that those who
+# want one part don't wait for the other.
+install: install-programs install-library
+
+install-programs:
+	@.ci/built check programs || $(MAKE) build
 	install -D -m 755 crates/cudaplan/out/cudaplan "$(target)/bin/cudaplan"
 	install -D -m 755 crates/zigrunk/out/zigrunk "$(target)/bin/zigrunk"
 	install -D -m 755 bin/zigrunk-nvcc "$(target)/bin/zigrunk-nvcc"
@@ -59,13 +64,24 @@ install:
 	ln -sf zigrunk "$(target)/share/bash-completion/completions/zigrunk-batch"
 	install -D -m 644 completions/_zigrunk "$(target)/share/zsh/site-functions/_zigrunk"
 
+# The library is linked here, from the archive: the header and the version are always those of this folder.
+install-library:
+	@.ci/built check library || $(MAKE) lib
+	umask 022 && bindings/c/library.sh crates/zigrunk_c/out/libzigrunk_c.a "$(target)"
+	install -D -m 644 man/zigrunk.h.3 "$(target)/share/man/man3/zigrunk.h.3"
+	find bindings -type f ! -path '*/c/library.sh' ! -path '*/c/zigrunk.*' ! -path '*/target/*' ! -path '*/__pycache__/*' -printf '%P\n' | \
+		while read -r file; do install -D -m 644 "bindings/$$file" "$(target)/share/zigrunk/$$file" || exit 1; done
+
 uninstall:
 	rm -f "$(target)/bin/cudaplan" "$(target)/bin/zigrunk" "$(target)/bin/zigrunk-nvcc" "$(target)/bin/zigrunk-batch"
 	rm -f "$(target)/share/man/man1/zigrunk.1" "$(target)/share/man/man1/zigrunk-nvcc.1" "$(target)/share/man/man1/cudaplan.1"
-	rm -f "$(target)/share/man/man1/zigrunk-batch.1"
+	rm -f "$(target)/share/man/man1/zigrunk-batch.1" "$(target)/share/man/man3/zigrunk.h.3"
 	rm -f "$(target)/share/bash-completion/completions/zigrunk" "$(target)/share/bash-completion/completions/cudaplan"
 	rm -f "$(target)/share/bash-completion/completions/zigrunk-nvcc" "$(target)/share/bash-completion/completions/zigrunk-batch"
 	rm -f "$(target)/share/zsh/site-functions/_zigrunk"
+	rm -f "$(target)/lib/libzigrunk.a" "$(target)/lib/libzigrunk.so" "$(target)/lib/libzigrunk.so.1"
+	rm -f "$(target)/lib/pkgconfig/zigrunk.pc" "$(target)/include/zigrunk.h"
+	rm -rf "$(target)/share/zigrunk"
 
 bench:
 	cd crates/cudabench && rt run -- line 100000 cicc /w --device-c -arch compute_80 --module_id_file_name kernel.module_id kernel.cpp1.ii --simt-only -o kernel.ptx
@@ -93,7 +109,7 @@ end-to-end:
 
 # More such calls, with words that few people write.
 odd-calls:
-	@.ci/built check || $(MAKE) build
+	@.ci/built check programs || $(MAKE) build
 	@ZIGRUNK_PROGRAM="$(CURDIR)/crates/zigrunk/out/zigrunk" tests/compare_calls.py --jobs "$$(nproc)" tests/calls_odd.txt
 
 cache:
@@ -113,14 +129,16 @@ check-docs:
 
 # Proves nothing. Two runs from one commit give the same bytes.
 dist:
-	@.ci/built check || $(MAKE) build
+	@.ci/built check programs || $(MAKE) build
+	@.ci/built check library || $(MAKE) lib
 	@packaging/dist.sh
 
 dist-test:
 	@packaging/test.sh
 
 test-install:
-	@.ci/built check || $(MAKE) build
+	@.ci/built check programs || $(MAKE) build
+	@.ci/built check library || $(MAKE) lib
 	@tests/install.sh
 
 # Every proof from nothing, the wrong bodies, the tests and the programs, then calls of the built programs and of nvcc.

@@ -1,12 +1,13 @@
 #!/usr/bin/env bash
-# Packs the built programs: dist/zigrunk-VERSION-x86_64-linux.tar.gz, dist/zigrunk_VERSION_amd64.deb and dist/SHA256SUMS.
+# Packs what is built, programs and libzigrunk: dist/zigrunk-VERSION-x86_64-linux.tar.gz, dist/zigrunk_VERSION_amd64.deb and
+# dist/SHA256SUMS.
 # Proves and compiles nothing. It links the proved programs' object files once more, statically: the kit's linker asks for symbols
 # of glibc 2.34, and a static program runs on every Linux. Two runs from one commit give the same bytes: files have the time
 # SOURCE_DATE_EPOCH, which is that of the commit unless it is set.
 set -eu
 cd "$(dirname "$0")/.."
-if ! .ci/built check; then
-    echo 'crates/*/out lack the programs that these sources make; make build proves and builds them' >&2
+if ! .ci/built check programs || ! .ci/built check library; then
+    echo 'crates/*/out lack what these sources make; make build and make lib prove and build it' >&2
     exit 1
 fi
 umask 022
@@ -48,7 +49,9 @@ mkdir -p "$root/usr/share/zsh/vendor-completions" "$root/usr/share/lintian/overr
 printf 'zigrunk: statically-linked-binary [usr/bin/%s]\n' cudaplan zigrunk > "$root/usr/share/lintian/overrides/zigrunk"
 mv "$root/usr/share/zsh/site-functions/_zigrunk" "$root/usr/share/zsh/vendor-completions"
 rmdir "$root/usr/share/zsh/site-functions"
-for page in "$root"/usr/share/man/man1/*.1; do
+# as Debian has shared libraries
+chmod 644 "$root/usr/lib/libzigrunk.so.1"
+for page in "$root"/usr/share/man/man[13]/*; do
     if [ -h "$page" ]; then
         ln -s "$(readlink "$page").gz" "$page.gz" && rm "$page"
     else
@@ -61,13 +64,22 @@ install -m 644 packaging/copyright NOTICE "$doc"
     printf ' -- Zigrunk maintainers <maintainers@users.noreply.zigrunk.example>  %s\n' "$(date -u -R -d "@$SOURCE_DATE_EPOCH")"
 } | gzip -n -9 > "$doc/changelog.gz"
 gzip -n -9 < CHANGELOG.md > "$doc/CHANGELOG.md.gz"
+# the programs need no library, and libzigrunk.so.1 only libc
+needs=$(objdump -p "$root/usr/lib/libzigrunk.so.1" | awk '$1 == "NEEDED" { print $2 }')
+if [ "$needs" != libc.so.6 ]; then
+    echo "Depends names libc6, but libzigrunk.so.1 needs: $needs" >&2
+    exit 1
+fi
+glibc=$(objdump -p "$root/usr/lib/libzigrunk.so.1" | sed -n 's/.* GLIBC_\([0-9.]*\)$/\1/p' | sort -V | tail -n 1)
+echo "libzigrunk 1 zigrunk (>= $version)" > "$root/DEBIAN/shlibs"
+echo 'activate-noawait ldconfig' > "$root/DEBIAN/triggers"
 cat > "$root/DEBIAN/control" << END
 Package: zigrunk
 Version: $version
 Architecture: amd64
 Maintainer: Zigrunk maintainers <maintainers@users.noreply.zigrunk.example>
 Installed-Size: $(find "$root/usr" -type f -printf '%s\n' | awk '{ size += $1 } END { print int(size / 1024) + 1 }')
-Depends: ninja-build
+Depends: libc6 (>= $glibc), ninja-build
 Suggests: sccache, slurm-client
 Section: devel
 Priority: optional
@@ -78,7 +90,7 @@ Description: split nvcc calls into their commands
  in parallel and cacheable ones go through a compiler cache.
  .
  zigrunk-nvcc does so in place of nvcc; zigrunk writes Ninja files, shell
- scripts and JSON.
+ scripts and JSON. libzigrunk is for programs in C.
 END
 (cd "$root" && find usr -type f -print0 | sort -z | xargs -0 md5sum > DEBIAN/md5sums)
 date_all "$root"

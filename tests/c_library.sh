@@ -2,7 +2,8 @@
 # Tests libzigrunk: its symbols, its header, and its calls from C, as both compilers build it. Prints a line for each failure, and
 # last 'N passed, M failed'; the status is 1 if one failed.
 #
-#   tests/c_library.sh [FOLDER]           FOLDER: this repository, or a copy that `rt ci` has proved
+#   tests/c_library.sh [FOLDER [ARCHIVE]] FOLDER: this repository, or a copy that `rt ci` has proved
+#                                         ARCHIVE: where to leave the archive as `rt lib` builds it
 #   tests/c_library.sh --built ARCHIVE    tests this one archive, of `rt lib`
 #
 # A tool that isn't installed is named on a line, and what it would test is left out.
@@ -143,6 +144,8 @@ elif ! tests/static_library.py "${1:-.}" "$scratch/archives"; then
     echo 'the archives cannot be built'
     echo "$passed passed, $((failed + 1)) failed"
     exit 1
+elif [ -n "${2-}" ]; then
+    check 'the archive for an installation' install -D -m 644 "$scratch/archives/llvm.a" "$2"
 fi
 headers bindings/c
 for archive in "$scratch"/archives/*.a; do

@@ -1,10 +1,11 @@
 #!/usr/bin/env bash
 # Installs into an empty directory whose name has a space, runs each program from there, uninstalls, and sees that nothing stays.
-# Needs the programs that `make build` and the gate leave, and proves nothing. The last line is "N passed, M failed".
+# Needs the programs and the library that `make build`, `make lib` and the gate leave, and proves nothing. The last line is "N passed,
+# M failed".
 set -u
 cd "$(dirname "$0")/.." || exit 1
-if ! .ci/built check; then
-    echo 'crates/*/out lack the programs that these sources make; make build proves and builds them'
+if ! .ci/built check programs || ! .ci/built check library; then
+    echo 'crates/*/out lack what these sources make; make build and make lib prove and build it'
     echo '0 passed, 1 failed'
     exit 1
 fi
@@ -35,7 +36,35 @@ prints() {
     [ "$("$@")" = "$text" ]
 }
 
-# VERSION is the one place for the version number; the programs, the man page and the changelog have to agree with it.
+# exports: the calls that the library exports, each on a line.
+exports() {
+    sed -n 's/^ *\(zigrunk_[a-z_0-9]*\);$/\1/p' "$top/bindings/c/zigrunk.map" | LC_ALL=C sort
+}
+
+# page_calls: the calls that the man page of the library declares, and those that it describes, each on a line.
+page_calls() {
+    sed -n '/^\.SH SYNOPSIS/,/^\.SH DESCRIPTION/s/.*\<\(zigrunk_[a-z_0-9]*\)(.*/\1/p' "$top/man/zigrunk.h.3" | LC_ALL=C sort
+    sed -n '/^\.SH CALLS/,/^\.SH ERRORS/s/^\.B \(zigrunk_[a-z_0-9]*\)$/\1/p' "$top/man/zigrunk.h.3" | LC_ALL=C sort -u
+}
+
+# page_statuses: the statuses that the man page of the library lists, as the header orders them.
+page_statuses() {
+    echo ZIGRUNK_OK
+    sed -n '/^\.SH ERRORS/,/^\.SH VERSIONS/s/^\.B \(ZIGRUNK_[A-Z_0-9]*\)$/\1/p' "$top/man/zigrunk.h.3"
+}
+
+# same COMMAND OTHER: whether two functions print the same.
+same() {
+    diff <("$1") <("$2")
+}
+
+twice() { exports && exports; }
+# a comment may follow the number
+statuses() { sed -n '/^\/\* Statuses/,/^#if/s/^#define \(ZIGRUNK_[A-Z_0-9]*\) [0-9].*/\1/p' "$top/bindings/c/zigrunk.h"; }
+
+check 'the man page declares and describes the calls of the library' same page_calls twice
+check 'the man page lists the statuses of the header' same page_statuses statuses
+# VERSION is the one place for the version number. The packages take it from there; here are the pages and what is installed.
 version=$(cat VERSION)
 for page in man/*; do
     check "the version of $page" grep -qF "\"zigrunk $version\"" "$page"
@@ -62,10 +91,41 @@ check 'the completion for bash' bash -c 'source "$1" && complete -p zigrunk cuda
 if command -v zsh > /dev/null; then
     check 'the completion for zsh' zsh -n "$root/usr/share/zsh/site-functions/_zigrunk"
 fi
+library_flags() {
+    PKG_CONFIG_PATH="$root/usr/lib/pkgconfig" pkg-config "$@" zigrunk
+}
 if command -v man > /dev/null; then
-    for page in zigrunk zigrunk-nvcc cudaplan; do
-        check "the man page of $page" man --warnings -l "$root/usr/share/man/man1/$page.1"
+    for page in man1/zigrunk.1 man1/zigrunk-nvcc.1 man1/zigrunk-batch.1 man1/cudaplan.1 man3/zigrunk.h.3; do
+        man --warnings -l "$root/usr/share/man/$page" > shown 2> warnings
+        # shellcheck disable=SC2016 # for sh
+        check "the man page $page" sh -c '[ -s shown ] && ! grep . warnings'
     done
+    LC_ALL=C MANWIDTH=130 man -l "$root/usr/share/man/man3/zigrunk.h.3" | sed -n '/#include <stdio.h>/,/^ *}$/p' > words.c
+else
+    echo 'skipped: the man pages, without man'
+fi
+if command -v cc > /dev/null && command -v pkg-config > /dev/null; then
+    check 'the version of zigrunk.pc' prints "$version" library_flags --modversion
+    words=()
+    # pkg-config puts a backslash before a space
+    eval "words=($(library_flags --cflags --libs))"
+    check 'the example in C' cc -o example "$root/usr/share/zigrunk/c/example.c" "${words[@]}"
+    export LD_LIBRARY_PATH=$root/usr/lib
+    check 'what it prints' prints $'0: a\n1: \'b c\'' ./example 'a "b c"'
+    if [ -s words.c ]; then
+        check "the man page's example" cc -std=c99 -Wall -Wextra -pedantic -Werror -o words words.c "${words[@]}"
+        check 'what that prints' prints 3 ./words
+    fi
+    printf '%s\n' '#include <stdio.h>' '#include <zigrunk.h>' 'int main(void) { uint8_t text[99]; zigrunk_text_answer answer =' \
+        'zigrunk_version(text, sizeof text); printf("%.*s\n", (int)answer.length, (char *)text);' \
+        'return zigrunk_abi_version() != ZIGRUNK_ABI_VERSION; }' > version.c
+    check 'the versions by the shared object' cc -o by_shared version.c "${words[@]}"
+    check 'the version that it has' prints "$version" ./by_shared
+    check 'the versions by the archive' cc -o by_archive version.c -I"$root/usr/include" "$root/usr/lib/libzigrunk.a"
+    check 'the version that it has' prints "$version" env -u LD_LIBRARY_PATH ./by_archive
+    unset LD_LIBRARY_PATH
+else
+    echo 'skipped: calls of the library, without cc or pkg-config'
 fi
 if command -v nvcc > /dev/null && command -v ninja > /dev/null; then
     echo '__global__ void none() {}' > k.cu
@@ -75,7 +135,10 @@ else
     echo 'left out, without nvcc or ninja on the path: zigrunk-nvcc'
 fi
 cd "$top" || exit 1
+check 'make install-library, alone' make -s install-library DESTDIR="$scratch/" PREFIX='a library'
+check 'it installs no program' test ! -e "$scratch/a library/bin"
 check 'make uninstall' make -s uninstall DESTDIR="$root" PREFIX=/usr
-check 'nothing stays' prints '' find "$root" ! -type d
+check 'make uninstall of the library' make -s uninstall DESTDIR="$scratch/" PREFIX='a library'
+check 'nothing stays' prints '' find "$root" "$scratch/a library" ! -type d
 echo "$passed passed, $failed failed"
 [ "$failed" -eq 0 ]
