@@ -3,4 +3,6 @@ pub mod Complaint
 pub mod Delivery
 pub mod LineText
 pub mod PlanText
+pub mod Shown
 pub mod Start
+pub mod Unread

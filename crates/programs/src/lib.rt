@@ -8,8 +8,10 @@ mod delivery;
 mod engine;
 mod file;
 mod planning;
+mod shown;
 mod start;
 mod stop;
+mod unread;
 
 pub use call::{LineCall, PlanCall, line_call, plan_call};
 pub use complaint::complain;
@@ -17,5 +19,7 @@ pub use delivery::deliver;
 pub use engine::{write_line, write_plan, write_plan_of_files};
 pub use file::{Disk, Sources};
 pub use planning::{all_suffixes, plan_dry_runs};
+pub use shown::push_shown;
 pub use start::{Process, Start, call_words, push_variables};
 pub use stop::Stop;
+pub use unread::{Unread, unread_of};
