@@ -28,7 +28,7 @@ _zigrunk_plan() {
 _zigrunk() {
     local current=${COMP_WORDS[COMP_CWORD]} form=${COMP_WORDS[1]-} forms='line plan'
     COMPREPLY=()
-    [ "${1##*/}" = cudaplan ] || forms='shell ninja json dot compdb calls directory line plan --help --version'
+    [ "${1##*/}" = cudaplan ] || forms='shell ninja json dot compdb calls directory line plan -h --help --version'
     if [ "$COMP_CWORD" -eq 1 ]; then
         _zigrunk_words "$forms"
         return

@@ -454,13 +454,13 @@ directories() {
     NVCC_PREPEND_FLAGS=-O1 NVCC_APPEND_FLAGS='-g x' named 'the directory of a call with both variables' '2:/w4:nvcc3:-O14:-g x4:k.cu' /w nvcc k.cu
 }
 
-# alike WORD..: a call that both programs take, and answer alike.
+# alike WORD..: a call that both programs take, and answer alike. ERR is zigrunk's message if it differs.
 alike() {
     local out err status
     out=$("$cudaplan" "$@" 2> "$scratch/cudaplan.err"; status=$?; printf .; exit "$status")
     status=$?
     err=$(sed 's/^cudaplan: /zigrunk: /' "$scratch/cudaplan.err"; printf .)
-    check "zigrunk $1 as cudaplan" "$status" "${out%.}" "${err%.}" "$@"
+    check "zigrunk $1 as cudaplan" "$status" "${out%.}" "${ERR-${err%.}}" "$@"
 }
 
 forms_of_cudaplan() {
@@ -468,8 +468,8 @@ forms_of_cudaplan() {
     alike line ptxas /w a b
     alike line cicc /w k.cpp1.ii
     alike plan /w /t -c "$data/one_kernel.dry1" "$data/one_kernel.dry2"
-    alike plan /w /t -c "$data/one_kernel.dry1" "$scratch/missing"
-    alike plan /w /t -c "$data/bad_last_line.dry1" "$data/one_kernel.dry1"
+    ERR="zigrunk: cannot read $scratch/missing: No such file or directory"$'\n' alike plan /w /t -c "$data/one_kernel.dry1" "$scratch/missing"
+    ERR="zigrunk: $data/bad_last_line.dry1:9: the line isn't UTF-8"$'\n    #$ x\\xff\n' alike plan /w /t -c "$data/bad_last_line.dry1" "$data/one_kernel.dry1"
     alike plan /w /t -c "$data/one_kernel.dry1" "$data/one_kernel.dry2" .ii
 }
 
@@ -715,24 +715,92 @@ unfit_files() {
     : > "$scratch/empty"
     printf '#$\n #$ gcc\n$# gcc\n' > "$scratch/prose"
     for format in shell ninja json dot compdb; do
-        check "one file twice as $format" 1 '' $'zigrunk: both dry runs are the same file\n' "$format" /w /t -c "$scratch/kernel" "$scratch/kernel"
-        check "a first file that is no dry run as $format" 1 '' "zigrunk: the first file is no dry run: $behind" \
+        check "one file twice as $format" 1 '' "zigrunk: $scratch/kernel: both dry runs are the same file"$'\n' \
+            "$format" /w /t -c "$scratch/kernel" "$scratch/kernel"
+        check "a first file that is no dry run as $format" 1 '' "zigrunk: $scratch/prose: the first file is no dry run: $behind" \
             "$format" /w /t -c "$scratch/prose" "$scratch/kernel"
-        check "a second file that is no dry run as $format" 1 '' "zigrunk: the second file is no dry run: $behind" \
+        check "a second file that is no dry run as $format" 1 '' "zigrunk: $scratch/empty: the second file is no dry run: $behind" \
             "$format" /w /t -c "$scratch/kernel" "$scratch/empty"
         check "a plan without commands as $format" 1 '' $'zigrunk: the plan has no command\n' \
             "$format" /w /t -c "$scratch/nothing" "$scratch/nothing.2"
     done
-    check 'one file twice that is no dry run' 1 '' $'zigrunk: both dry runs are the same file\n' json /w /t -c "$scratch/empty" "$scratch/empty"
-    check 'no dry run, and a bad suffix' 1 '' "zigrunk: the first file is no dry run: $behind" json /w /t -c "$scratch/empty" "$scratch/kernel" .ii
+    check 'one file twice that is no dry run' 1 '' "zigrunk: $scratch/empty: both dry runs are the same file"$'\n' \
+        json /w /t -c "$scratch/empty" "$scratch/empty"
+    check 'no dry run, and a bad suffix' 1 '' "zigrunk: $scratch/empty: the first file is no dry run: $behind" \
+        json /w /t -c "$scratch/empty" "$scratch/kernel" .ii
     check 'a plan of commands that are all dropped' 1 '' $'zigrunk: the plan has no command\n' \
         json /w /t -c "$scratch/dropped" "$scratch/dropped.2"
     check 'the text of one file twice' 0 $'group 0\ngroup 1\n' '' plan /w /t -c "$scratch/empty" "$scratch/empty"
 }
 
+# bad NAME LINE CAUSE [SHOWN]: a second dry run with this line behind the one that sets PATH. The message says what CAUSE does and
+# shows the line, or SHOWN.
+bad() {
+    run_of bad "$2"
+    check "$1" 1 '' "zigrunk: $scratch/bad:2: $3"$'\n'"    ${4-$2}"$'\n' json /w /t -c "$scratch/kernel" "$scratch/bad"
+    check "$1, as text" 1 '' "zigrunk: $scratch/bad:2: ${5-$3}"$'\n'"    ${4-$2}"$'\n' plan /w /t -c "$scratch/kernel" "$scratch/bad"
+}
+
+# messages: which file, which line, why, and what to do
+messages() {
+    local nowhere="in PATH ($scratch/none:$scratch/bin)" long folder=$scratch
+    lines_of pathless '#$ gcc'
+    check 'no PATH in the second run' 1 '' "zigrunk: $scratch/pathless:1: no line before this one sets PATH"$'\n    #$ gcc\n' \
+        json /w /t -c "$scratch/kernel" "$scratch/pathless"
+    check 'a folder in place of a file' 1 '' "zigrunk: cannot read $folder: Is a directory"$'\n' json /w /t -c "$scratch/kernel" "$folder"
+    check 'a file in place of a folder' 1 '' "zigrunk: cannot read $scratch/kernel/x: Not a directory"$'\n' json /w /t -c "$scratch/kernel/x" x
+    check 'a file with a newline' 1 '' 'zigrunk: cannot read a\nb: No such file or directory'$'\n' json /w /t -c $'a\nb' x
+    bad 'an open quote' "#\$ gcc 'x" 'the command has an open quote or ends in a backslash'
+    bad 'a backslash at the end' '#$ gcc \' 'the command has an open quote or ends in a backslash'
+    bad 'a command without words' '#$  ' 'the command has no words'
+    bad 'a line that is not UTF-8' $'#$ gcc \xff\x80\x9b\x1b' "the line isn't UTF-8" '#$ gcc \xff\x80\x9b\u{1b}'
+    bad 'a line for dependencies' "#\$ -- Filter Dependencies -- > 'k.d" \
+        'this line filters dependencies: make the dry runs without dependency options, such as -MD'
+    run_of bad '#$ nowhere -c'
+    check 'a program that only the second run misses' 1 '' "zigrunk: $scratch/bad.2:2: cannot find nowhere $nowhere"$'\n    #$ nowhere -c\n' \
+        json /w /t -c "$scratch/kernel" "$scratch/bad.2"
+    run_of bad '#$ ./nowhere/gcc -c'
+    check 'a program by its path' 1 '' "zigrunk: $scratch/bad:2: cannot find ./nowhere/gcc: no such program"$'\n    #$ ./nowhere/gcc -c\n' \
+        json /w /t -c "$scratch/bad" "$scratch/kernel"
+    lines_of bad '#$ PATH=' '#$ gcc'
+    check 'a program with an empty PATH, as text' 1 '' "zigrunk: $scratch/bad:2: cannot find gcc in PATH ()"$'\n    #$ gcc\n' \
+        plan /w /t -c "$scratch/bad" "$scratch/kernel"
+    long=$(printf 'é%.0s' {1..116})
+    bad 'a line of 120 characters' "#\$ '$long" 'the command has an open quote or ends in a backslash'
+    bad 'a line of 121 characters' "#\$ '${long}x" 'the command has an open quote or ends in a backslash' "#\$ '$long.."
+    check 'a bad suffix behind a good one' 1 '' $'zigrunk: bad generated suffixes\n' json /w /t -c "$scratch/kernel" "$scratch/kernel.2" .ptx .ii
+}
+
+# No byte of a dry run reaches the terminal if it isn't printable ASCII: each byte alone, and each control character of two bytes.
+escapes() {
+    local code bytes name
+    for code in {1..9} {11..255} {384..415}; do
+        printf -v bytes '\\x%x' "$((code % 256))"
+        [ "$code" -lt 256 ] || bytes="\\xc2$bytes"
+        printf "#\$ 'x$bytes\n" > "$scratch/byte"
+        "$program" json /w /t -c "$scratch/byte" "$scratch/kernel" > "$scratch/out" 2> "$scratch/err"
+        echo $? > "$scratch/status"
+        name=ok
+        [ "$(wc -l < "$scratch/err")" -eq 2 ] || name='other lines'
+        tr -d '\n' < "$scratch/err" | LC_ALL=C grep -q '[^ -~]' && name='a byte that does not print'
+        printf '%s' "$name" > "$scratch/err"
+        judge "the message of a line with the byte $bytes" 1 '' ok
+    done
+}
+
+# standard input in place of a file
+standard_input() {
+    local plan
+    plan=$("$program" json /w /t -c "$scratch/kernel" "$scratch/kernel.2"; printf .)
+    check 'the first run from standard input' 0 "${plan%.}" '' json /w /t -c - "$scratch/kernel.2" < "$scratch/kernel"
+    check 'the second run from standard input' 0 "${plan%.}" '' json /w /t -c "$scratch/kernel" - < <(cat "$scratch/kernel.2")
+    check 'both runs from standard input' 1 '' $'zigrunk: -: both dry runs are the same file\n' json /w /t -c - - < "$scratch/kernel"
+    check 'a closed standard input' 1 '' $'zigrunk: cannot read -: Input/output error\n' json /w /t -c "$scratch/kernel" - <&-
+}
+
 # plans that aren't written
 refused_exports() {
-    local unread=$'zigrunk: cannot read input\n' unheld=$'zigrunk: a text of the plan holds a byte that the form can\'t\n' format
+    local unread="zigrunk: cannot read $scratch/missing: No such file or directory"$'\n' unheld=$'zigrunk: a text of the plan holds a byte that the form can\'t\n' format
     for format in shell ninja json dot compdb; do
         check "no first file for $format" 1 '' "$unread" "$format" /w /t -c "$scratch/missing" "$scratch/kernel"
         check "no second file for $format" 1 '' "$unread" "$format" /w /t -c "$scratch/kernel" "$scratch/missing"
@@ -740,10 +808,10 @@ refused_exports() {
     check 'a bad suffix' 1 '' $'zigrunk: bad generated suffixes\n' json /w /t -c "$scratch/kernel" "$scratch/kernel.2" .ii
     lines_of pathless '#$ gcc'
     check 'no first file, and its name twice' 1 '' "$unread" json /w /t -c "$scratch/missing" "$scratch/missing"
-    check 'no PATH' 1 '' $'zigrunk: run 1 line 0: no PATH\n' json /w /t -c "$scratch/pathless" "$scratch/kernel"
-    check 'no PATH in the second run' 1 '' $'zigrunk: run 2 line 0: no PATH\n' json /w /t -c "$scratch/kernel" "$scratch/pathless"
+    check 'no PATH' 1 '' "zigrunk: $scratch/pathless:1: no line before this one sets PATH"$'\n    #$ gcc\n' json /w /t -c "$scratch/pathless" "$scratch/kernel"
     run_of lost '#$ nowhere'
-    check 'a program that is not on disk' 1 '' $'zigrunk: nowhere: not found\n' json /w /t -c "$scratch/lost" "$scratch/kernel"
+    check 'a program that is not on disk' 1 '' "zigrunk: $scratch/lost:2: cannot find nowhere in PATH ($scratch/none:$scratch/bin)"$'\n    #$ nowhere\n' \
+        json /w /t -c "$scratch/lost" "$scratch/kernel"
     check 'a folder with a newline for Ninja' 1 '' "$unheld" ninja /w $'/t\n' -c "$scratch/kernel" "$scratch/kernel.2"
     mkdir -p "$scratch/h=re"
     : > "$scratch/h=re/gcc"
@@ -762,6 +830,7 @@ refused_exports() {
 
 # the pages, and words that are no call
 zigrunk_pages() {
+    local out
     check 'the version' 0 $'zigrunk 0.1.0\n' '' --version
     "$program" --help > "$scratch/help" 2> "$scratch/err"
     echo $? > "$scratch/status"
@@ -770,12 +839,15 @@ zigrunk_pages() {
        zigrunk calls CWD TMP NVCC WORD..
        zigrunk directory CWD NVCC WORD..
 " ''
-    local usage=$'usage: zigrunk shell|ninja|json|dot|compdb [--keep] [--whole] CWD TMP FLAG DRY1 DRY2 SUFFIX.. | calls CWD TMP NVCC WORD.. | directory CWD NVCC WORD.. | line TOOL CWD WORD.. | plan CWD TMP FLAG DRY1 DRY2 SUFFIX.. | --help | --version\n' format
+    out=$("$program" --help; printf .)
+    check 'the help by one letter' 0 "${out%.}" '' -h
+    local usage=$'usage: zigrunk shell|ninja|json|dot|compdb [--keep] [--whole] CWD TMP FLAG DRY1 DRY2 SUFFIX.. | calls CWD TMP NVCC WORD.. | directory CWD NVCC WORD.. | line TOOL CWD WORD.. | plan CWD TMP FLAG DRY1 DRY2 SUFFIX.. | -h | --help | --version\n' format
     check 'no words for zigrunk' 2 '' "$usage"
     check 'a directory without nvcc' 2 '' "$usage" directory /w
     check 'a line of another tool' 2 '' "$usage" line nvcc /w -c k.cu
     check 'a plan with one file' 2 '' "$usage" plan /w /t -c "$scratch/kernel"
     check 'help and a word' 2 '' "$usage" --help me
+    check 'help by one letter and a word' 2 '' "$usage" -h me
     check 'version and a word' 2 '' "$usage" --version 1
     check 'calls without nvcc' 2 '' "$usage" calls /w /t
     for format in shell ninja json dot compdb; do
@@ -821,6 +893,9 @@ unfit_files
 statuses
 long_exports
 refused_exports
+messages
+escapes
+standard_input
 zigrunk_pages
 echo "$passed passed, $failed failed"
 [ "$failed" -eq 0 ]

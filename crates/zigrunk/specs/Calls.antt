@@ -78,6 +78,7 @@ alone call (word ∷ words) = None
 abbrev pub other_call : List ℕ → List (List ℕ) → Option CallOf
 other_call name words =
     if bytes_eq name (codes "--help") then alone helps words else
+    if bytes_eq name (codes "-h") then alone helps words else
     if bytes_eq name (codes "--version") then alone tells_version words else option_map exports (export_named name words)
 
 -- the same, or a call that cudaplan has too

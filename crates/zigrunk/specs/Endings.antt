@@ -7,9 +7,10 @@ use Rattle.program_lookups.specs.Asked.{asked_of_both}
 use Rattle.program_lookups.specs.Snapshot.{answer_in, IsSnapshotOf}
 use Rattle.programs.specs.declared.stop.Stop.{Stop}
 use Rattle.programs.specs.declared.stop.Stop.TheVariants.{Fault, NotCompilation, ToNvcc, Unwritable, Write}
+use Rattle.programs.specs.Calls.{PlanOf}
 use Rattle.programs.specs.Delivery.{Delivers}
 use Rattle.programs.specs.LineText.{shown_line}
-use Rattle.programs.specs.PlanText.{PlansFiles, ReadsFirst, out_of_memory}
+use Rattle.programs.specs.PlanText.{PlansFiles, ReadsFirst, out_of_memory, shown_plan}
 use Rattle.zigrunk.specs.Calls.{CallOf, ExportOf, exports, reads, names, rewrites, plans, helps, tells_version}
 use Rattle.zigrunk.specs.Exports.{exported}
 use Rattle.zigrunk.specs.NvccText.{nvcc_text}
@@ -37,6 +38,10 @@ stopped_status tells_version stop = 1
 abbrev pub status_of : CallOf → Result (Unit {0}) Stop → ℕ
 status_of call (Ok _) = 0
 status_of call (Err stop) = stopped_status call stop
+
+-- what the program writes for a call that plans, given the bytes of its two files and the engine's answer
+abbrev pub ShowsBytes : PlanOf → List ℕ → List ℕ → Result (Unit {0}) Stop → Option (List ℕ) → Option (List ℕ) → Type 0
+ShowsBytes c first second answer before after = Delivers answer (shown_plan c.cwd c.tmp c.flag first second c.suffixes) before after
 
 -- what the program writes for a call that exports a plan, given the bytes of its two files and the engine's answer. The disk
 -- may say anything of the programs that the dry runs look up

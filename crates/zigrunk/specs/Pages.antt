@@ -15,7 +15,7 @@ help_text =
     codes "       zigrunk directory CWD NVCC WORD.." ∷
     codes "       zigrunk line TOOL CWD WORD.." ∷
     codes "       zigrunk plan CWD TMP FLAG DRY1 DRY2 SUFFIX.." ∷
-    codes "       zigrunk --help | --version" ∷
+    codes "       zigrunk -h | --help | --version" ∷
     [] ∷
     codes "FORMAT              Plan the two dry runs of an nvcc call, in the files DRY1 and" ∷
     codes "                    DRY2, and write the plan as a shell script (shell), a Ninja" ∷
@@ -33,9 +33,10 @@ help_text =
     codes "plan                Write the plan of two dry runs as text." ∷
     [] ∷
     codes "CWD is the working directory, TMP the temporary directory, FLAG the compilation" ∷
-    codes "flag, as -c. Each SUFFIX names further generated files. calls and directory read" ∷
-    codes "NVCC_PREPEND_FLAGS and NVCC_APPEND_FLAGS. calls also reads ZIGRUNK_JOBS and" ∷
-    codes "MAKEFLAGS, and says how many commands run at once." ∷
+    codes "flag, as -c. DRY1 or DRY2 may be -, which is standard input. Each SUFFIX names" ∷
+    codes "further generated files. calls and directory read NVCC_PREPEND_FLAGS and" ∷
+    codes "NVCC_APPEND_FLAGS. calls also reads ZIGRUNK_JOBS and MAKEFLAGS, and says how many" ∷
+    codes "commands run at once." ∷
     [] ∷
     codes "The exit status is 0 on success, 1 on a fault, 2 for wrong usage, and 3 if calls" ∷
     codes "reads a line that goes to nvcc unchanged." ∷

@@ -148,6 +148,7 @@ fn other_call<'a>(name: &str, words: &'a [String]) -> Option<Call<'a>>
 {
     match name {
         "--help" => alone(Call::Help, words),
+        "-h" => alone(Call::Help, words),
         "--version" => alone(Call::Version, words),
         _ => exporting(name, words),
     }
@@ -182,7 +183,7 @@ fn named_call<'a>(name: &str, words: &'a [String]) -> Option<Call<'a>>
 /// - `calls CWD TMP NVCC WORD..`;
 /// - `directory CWD NVCC WORD..`;
 /// - `line TOOL CWD WORD..` or `plan CWD TMP FLAG DRY1 DRY2 SUFFIX..`, as `cudaplan`;
-/// - `--help` or `--version`.
+/// - `--help`, `-h` or `--version`.
 pub fn call_of<'a>(words: &'a [String]) -> Option<Call<'a>>
     ensures { option_map spec.seen result ≡ spec.call_of (map string_bytes words.now) }
 {

@@ -172,8 +172,8 @@ fn is_marked(line: &[u8]) -> bool
     line.starts_with(b"#$ ")
 }
 
-// Whether a text has a line of a dry run.
-fn is_dry_run(bytes: &[u8]) -> bool
+/// Whether a text has a line of a dry run.
+pub fn is_dry_run(bytes: &[u8]) -> bool
     ensures { result ≡ spec.is_dry_run bytes.now }
 {
     let mut rest = bytes;

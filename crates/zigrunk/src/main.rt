@@ -2,38 +2,51 @@
 #![tactic(auto)]
 
 use environment::call_variables;
+use input::Input;
 use program::run_program;
-use programs::{Disk, Process, Stop, call_words, complain};
+use programs::{Process, Stop, call_words, complain};
 use std::fs::Files;
-use std::io::{self, Write};
+use std::io::{self, Stdin, Write};
 use std::process::ExitCode;
 use std::rt::Env;
 
 mod call;
+mod complaint;
 mod environment;
 mod export;
+mod input;
+mod message;
 mod nvcc_text;
 mod page;
+mod place;
 mod program;
 
 // Runs the call that the program was started with. If a variable that it reads isn't UTF-8, the call is
 // wrong usage.
 fn run<R: Env + Files + AllocGlobal, W: Write, E: Write>(
     rt: &R,
+    stdin: Stdin,
     out: &mut W,
     err: &mut E,
 ) -> Result<u8, Stop> {
-    let (process, disk) = (Process::new(rt), Disk::new(rt));
+    let (process, files) = (Process::new(rt), Input::new(rt, stdin));
     let words = call_words(rt.alloc(), &process)?;
     Ok(match call_variables(rt.alloc(), &process)? {
-        Some(variables) => run_program(rt, &disk, words.as_slice(), variables.as_slice(), out, err),
-        None => run_program(rt, &disk, &[], &[], out, err),
+        Some(variables) => run_program(
+            rt,
+            &files,
+            words.as_slice(),
+            variables.as_slice(),
+            out,
+            err,
+        ),
+        None => run_program(rt, &files, &[], &[], out, err),
     })
 }
 
 fn main(rt: HostRuntime) -> ExitCode {
     let (mut out, mut err) = (rt.stdout(), rt.stderr());
-    ExitCode::from(match run(&rt, &mut out, &mut err) {
+    ExitCode::from(match run(&rt, rt.stdin(), &mut out, &mut err) {
         Ok(status) => status,
         Err(stop) => {
             let _ = complain("zigrunk", &stop, &mut err);

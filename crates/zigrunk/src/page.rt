@@ -7,7 +7,7 @@ ghost use Rattle.zigrunk.specs.Pages as spec;
 pub const USAGE: &str =
     "usage: zigrunk shell|ninja|json|dot|compdb [--keep] [--whole] CWD TMP FLAG DRY1 DRY2 SUFFIX.. \
 | calls CWD TMP NVCC WORD.. | directory CWD NVCC WORD.. | line TOOL CWD WORD.. | plan CWD TMP FLAG DRY1 DRY2 SUFFIX.. \
-| --help | --version\n";
+| -h | --help | --version\n";
 
 /// What `--help` writes.
 pub fn help() -> &'static str
@@ -18,7 +18,7 @@ pub fn help() -> &'static str
        zigrunk directory CWD NVCC WORD..
        zigrunk line TOOL CWD WORD..
        zigrunk plan CWD TMP FLAG DRY1 DRY2 SUFFIX..
-       zigrunk --help | --version
+       zigrunk -h | --help | --version
 
 FORMAT              Plan the two dry runs of an nvcc call, in the files DRY1 and
                     DRY2, and write the plan as a shell script (shell), a Ninja
@@ -36,9 +36,10 @@ line                Read a line of cicc, ptxas or cudafe++ and write it back, on
 plan                Write the plan of two dry runs as text.
 
 CWD is the working directory, TMP the temporary directory, FLAG the compilation
-flag, as -c. Each SUFFIX names further generated files. calls and directory read
-NVCC_PREPEND_FLAGS and NVCC_APPEND_FLAGS. calls also reads ZIGRUNK_JOBS and
-MAKEFLAGS, and says how many commands run at once.
+flag, as -c. DRY1 or DRY2 may be -, which is standard input. Each SUFFIX names
+further generated files. calls and directory read NVCC_PREPEND_FLAGS and
+NVCC_APPEND_FLAGS. calls also reads ZIGRUNK_JOBS and MAKEFLAGS, and says how many
+commands run at once.
 
 The exit status is 0 on success, 1 on a fault, 2 for wrong usage, and 3 if calls
 reads a line that goes to nvcc unchanged.

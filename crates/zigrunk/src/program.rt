@@ -1,64 +1,193 @@
 //! The program's calls.
 
-ghost use Rattle.std.specs.Prelude.{◌≡◌, ◌⊎◌, [], ◌∷◌, ◌++◌, map, Ok, string_bytes};
+ghost use Rattle.std.specs.Prelude.{◌≡◌, ◌⊎◌, [], ◌∷◌, ◌++◌, map, Ok, Some, None, string_bytes, IfOk, MatchResult};
+ghost use Rattle.texts.specs.declared.fault.Fault.TheVariants.{Read};
+ghost use Rattle.texts.specs.Fault.{UnlessMemoryIs};
 ghost use Rattle.texts.specs.Variables.{pair_of};
+ghost use Rattle.program_lookups.specs.Asked.{asked_of_both};
+ghost use Rattle.program_lookups.specs.Snapshot.{IsSnapshotOf};
+ghost use Rattle.programs.specs.Calls.{plan_of};
 ghost use Rattle.nvcc_calls.specs.Directory as directories;
 ghost use Rattle.programs.specs.Delivery.{Delivers};
-ghost use Rattle.programs.specs.PlanText.{out_of_memory};
+ghost use Rattle.programs.specs.PlanText.{PlansFiles, PlansSecond, out_of_memory};
 ghost use Rattle.zigrunk.specs.Calls as forms;
 ghost use Rattle.zigrunk.specs.Endings as spec;
 
 use crate::call::{Call, ExportCall, call_of};
+use crate::complaint::{complain_of, complain_of_file, complain_of_plan};
 use crate::export::write_export;
 use crate::nvcc_text::write_nvcc_text;
 use crate::page::{USAGE, help, version};
+use dry_runs::{FirstDir, Which};
 use nvcc_calls::{DirectoryCall, directory_name};
-use program_lookups::snapshot_of;
-use programs::{Sources, Stop, complain, deliver, write_line, write_plan_of_files};
-use std::alloc::Global;
+use program_lookups::{Snapshot, snapshot_of};
+use programs::{PlanCall, Sources, Stop, deliver, write_line, write_plan};
+use std::alloc::{AllocError, Global};
 use std::fs::Files;
 use std::io::Write;
+use texts::fault::Fault;
+
+// The bytes of a file. If it can't be read, it first says why.
+fn read<S: Sources, E: Write>(
+    alloc: Global,
+    sources: &S,
+    path: &str,
+    err: &mut E,
+) -> Result<Vec<u8>, Fault>
+    ensures { MatchResult result (λ bytes. S.holds sources.now path.now (Some bytes.items))
+        (λ fault. UnlessMemoryIs fault ((fault ≡ Read) × S.holds sources.now path.now None)) }
+{
+    match sources.read(path) {
+        Ok(bytes) => Ok(bytes),
+        Err(why) => {
+            let _ = complain_of_file(alloc, path, why, err);
+            Err(why.fault())
+        }
+    }
+}
+
+// An answer. If it is a stop, it first says why.
+fn told<E: Write>(alloc: Global, answer: Result<(), Stop>, err: &mut E) -> Result<(), Stop>
+    ensures { result ≡ answer }
+{
+    if let Err(stop) = &answer {
+        let _ = complain_of(alloc, stop, err);
+    }
+    answer
+}
+
+// The same for the answer of a call that plans two dry runs.
+fn plan_told<L: Which, E: Write>(
+    alloc: Global,
+    which: &L,
+    call: &PlanCall<'_>,
+    dry1: &[u8],
+    dry2: &[u8],
+    answer: Result<(), Stop>,
+    err: &mut E,
+) -> Result<(), Stop>
+    ensures { result ≡ answer }
+{
+    if let Err(stop) = &answer {
+        let _ = complain_of_plan(alloc, which, call, dry1, dry2, stop, err);
+    }
+    answer
+}
+
+// The programs that the disk has for two dry runs. If memory runs out, it first says so.
+fn programs_for<R: Files + AllocGlobal, E: Write>(
+    rt: &R,
+    dry1: &[u8],
+    dry2: &[u8],
+    cwd: &str,
+    err: &mut E,
+) -> Result<Snapshot, AllocError>
+    ensures { IfOk result (λ snapshot. IsSnapshotOf (asked_of_both dry1.now dry2.now cwd.now) snapshot) }
+{
+    let answer = snapshot_of(rt, dry1, dry2, cwd);
+    if answer.is_err() {
+        let _ = complain_of(rt.alloc(), &Stop::Fault(Fault::Memory), err);
+    }
+    answer
+}
 
 // Plans two dry runs, with the programs that the disk has, and writes the plan.
-fn export_bytes<R: Files + AllocGlobal, W: Write>(
+fn export_bytes<R: Files + AllocGlobal, W: Write, E: Write>(
     rt: &R,
     call: &ExportCall<'_>,
     dry1: &[u8],
     dry2: &[u8],
     out: &mut W,
+    err: &mut E,
 ) -> Result<(), Stop>
     ensures { Delivers result out_of_memory (W.contents out.old) (W.contents out.new)
         ⊎ spec.ExportsBytes (forms.export_of call.now) dry1.now dry2.now result (W.contents out.old) (W.contents out.new) }
 {
-    let programs = snapshot_of(rt, dry1, dry2, call.plan.cwd)?;
-    write_export(rt.alloc(), call, dry1, dry2, &programs, out)
+    let programs = programs_for(rt, dry1, dry2, call.plan.cwd, err)?;
+    let answer = write_export(rt.alloc(), call, dry1, dry2, &programs, out);
+    plan_told(rt.alloc(), &programs, &call.plan, dry1, dry2, answer, err)
 }
 
 // Reads the file of the second dry run, plans both, and writes the plan.
-fn export_second<R: Files + AllocGlobal, S: Sources, W: Write>(
+fn export_second<R: Files + AllocGlobal, S: Sources, W: Write, E: Write>(
     rt: &R,
     sources: &S,
     call: &ExportCall<'_>,
     dry1: &[u8],
     out: &mut W,
+    err: &mut E,
 ) -> Result<(), Stop>
     ensures { spec.ExportsSecond (S.holds sources.now) (forms.export_of call.now) dry1.now result (W.contents out.old) (W.contents out.new) }
 {
-    let dry2 = sources.read_file(call.plan.dry2)?;
-    export_bytes(rt, call, dry1, dry2.as_slice(), out)
+    let dry2 = read(rt.alloc(), sources, call.plan.dry2, err)?;
+    export_bytes(rt, call, dry1, dry2.as_slice(), out, err)
 }
 
 // Reads the files of two dry runs, plans them, and writes the plan.
-fn export_files<R: Files + AllocGlobal, S: Sources, W: Write>(
+fn export_files<R: Files + AllocGlobal, S: Sources, W: Write, E: Write>(
     rt: &R,
     sources: &S,
     call: &ExportCall<'_>,
     out: &mut W,
+    err: &mut E,
 ) -> Result<(), Stop>
     ensures { spec.ExportsFiles (S.holds sources.now) (forms.export_of call.now) result (W.contents out.old) (W.contents out.new) }
 {
-    let dry1 = sources.read_file(call.plan.dry1)?;
-    export_second(rt, sources, call, dry1.as_slice(), out)
+    let dry1 = read(rt.alloc(), sources, call.plan.dry1, err)?;
+    export_second(rt, sources, call, dry1.as_slice(), out, err)
+}
+
+// Plans two dry runs, and writes the plan as text.
+fn show_bytes<W: Write, E: Write>(
+    alloc: Global,
+    call: &PlanCall<'_>,
+    dry1: &[u8],
+    dry2: &[u8],
+    out: &mut W,
+    err: &mut E,
+) -> Result<(), Stop>
+    ensures { spec.ShowsBytes (plan_of call.now) dry1.now dry2.now result (W.contents out.old) (W.contents out.new) }
+{
+    let answer = write_plan(
+        alloc,
+        call.cwd,
+        call.tmp,
+        call.flag,
+        dry1,
+        dry2,
+        call.suffixes,
+        out,
+    );
+    plan_told(alloc, &FirstDir, call, dry1, dry2, answer, err)
+}
+
+// Reads the file of the second dry run, plans both, and writes the plan as text.
+fn show_second<S: Sources, W: Write, E: Write>(
+    alloc: Global,
+    sources: &S,
+    call: &PlanCall<'_>,
+    dry1: &[u8],
+    out: &mut W,
+    err: &mut E,
+) -> Result<(), Stop>
+    ensures { PlansSecond (S.holds sources.now) (plan_of call.now) dry1.now result (W.contents out.old) (W.contents out.new) }
+{
+    let dry2 = read(alloc, sources, call.dry2, err)?;
+    show_bytes(alloc, call, dry1, dry2.as_slice(), out, err)
+}
+
+// Reads the files of two dry runs, plans them, and writes the plan as text.
+fn show_files<S: Sources, W: Write, E: Write>(
+    alloc: Global,
+    sources: &S,
+    call: &PlanCall<'_>,
+    out: &mut W,
+    err: &mut E,
+) -> Result<(), Stop>
+    ensures { PlansFiles (S.holds sources.now) (plan_of call.now) result (W.contents out.old) (W.contents out.new) }
+{
+    let dry1 = read(alloc, sources, call.dry1, err)?;
+    show_second(alloc, sources, call, dry1.as_slice(), out, err)
 }
 
 // Writes a page.
@@ -84,24 +213,30 @@ fn show_directory<W: Write>(
     deliver(Ok(name), out)
 }
 
-// Runs the engine that a call asks for.
-fn serve<R: Files + AllocGlobal, S: Sources, W: Write>(
+// Runs the engine that a call asks for. If it stops, it first says why.
+fn serve<R: Files + AllocGlobal, S: Sources, W: Write, E: Write>(
     rt: &R,
     sources: &S,
     call: &Call<'_>,
     variables: &[(String, String)],
     out: &mut W,
+    err: &mut E,
 ) -> Result<(), Stop>
     ensures { spec.Serves (S.holds sources.now) (forms.seen call.now) (map pair_of variables.now) result (W.contents out.old) (W.contents out.new) }
 {
+    let alloc = rt.alloc();
     match call {
-        Call::Export(export) => export_files(rt, sources, export, out),
-        Call::Nvcc(line) => write_nvcc_text(rt.alloc(), line, variables, out),
-        Call::Directory(call) => show_directory(rt.alloc(), call, variables, out),
-        Call::Line(line) => write_line(rt.alloc(), line.tool, line.cwd, line.words, out),
-        Call::Plan(plan) => write_plan_of_files(rt.alloc(), sources, plan, out),
-        Call::Help => show(rt.alloc(), help(), out),
-        Call::Version => show(rt.alloc(), version(), out),
+        Call::Export(export) => export_files(rt, sources, export, out, err),
+        Call::Plan(plan) => show_files(alloc, sources, plan, out, err),
+        Call::Nvcc(line) => told(alloc, write_nvcc_text(alloc, line, variables, out), err),
+        Call::Directory(call) => told(alloc, show_directory(alloc, call, variables, out), err),
+        Call::Line(line) => told(
+            alloc,
+            write_line(alloc, line.tool, line.cwd, line.words, out),
+            err,
+        ),
+        Call::Help => told(alloc, show(alloc, help(), out), err),
+        Call::Version => told(alloc, show(alloc, version(), out), err),
     }
 }
 
@@ -125,16 +260,13 @@ fn stopped_status(call: &Call<'_>, stop: &Stop) -> u8
     }
 }
 
-// The exit status of an engine's answer. If the engine stopped, it first says why.
-fn ended<E: Write>(call: &Call<'_>, answer: &Result<(), Stop>, err: &mut E) -> u8
+// The exit status of an engine's answer.
+fn ended(call: &Call<'_>, answer: &Result<(), Stop>) -> u8
     ensures { result ≡ spec.status_of (forms.seen call.now) answer.now }
 {
     match answer {
         Ok(()) => 0,
-        Err(stop) => {
-            let _ = complain("zigrunk", stop, err);
-            stopped_status(call, stop)
-        }
+        Err(stop) => stopped_status(call, stop),
     }
 }
 
@@ -155,6 +287,6 @@ pub fn run_program<R: Files + AllocGlobal, S: Sources, W: Write, E: Write>(
         let _ = err.write_all(USAGE.as_bytes());
         return 2;
     };
-    let answer = serve(rt, sources, &call, variables, out);
-    ended(&call, &answer, err)
+    let answer = serve(rt, sources, &call, variables, out, err);
+    ended(&call, &answer)
 }
