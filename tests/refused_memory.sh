@@ -78,7 +78,8 @@ judge_same() {
 # judge_call NAME N: judges a run of a program. It says that it is out of memory, or why the call fails anyway. If there is no
 # memory for zigrunk's message, that is shorter. If a program can't read its own arguments, it prints its usage.
 judge_call() {
-    if [ "$status" -eq 1 ] && [[ $printed == 'cudaplan: out of memory' || $printed == 'zigrunk: out of memory' ]]; then
+    if [ "$status" -eq 1 ] &&
+        [[ $printed == 'cudaplan: out of memory' || $printed == 'zigrunk: out of memory' || $printed == 'zigrunk: cannot read '*': out of memory' ]]; then
         answered=$((answered + 1))
     elif [ "$status" -eq 2 ] && [[ $printed == "usage: "* ]]; then
         :
