@@ -50,6 +50,11 @@ has() {
 version=$(cat VERSION)
 flags=(-Wall -Wextra -pedantic -Werror -g -O1 -Itests/c -DVERSION="\"$version\"")
 c_flags=(-std=c99 -D_POSIX_C_SOURCE=200809L "${flags[@]}")
+# the dry runs of real calls, each with the plan that the program cudaplan prints
+data=crates/test_plans/data/dry_runs
+real_calls=("$data"/*.flag)
+real_calls=("${real_calls[@]##*/}")
+real_calls=("${real_calls[@]%.flag}")
 memory_functions=("-Wl,--wrap=malloc,--wrap=realloc,--wrap=free")
 
 # symbols: only the exports are global, and only these functions of the C library are needed.
@@ -98,6 +103,9 @@ calls() {
     check "calls.c" compiled gcc tests/c/calls.c "$programs/calls" "$library"
     check 'the calls' "$programs/calls" 1000
     cp "$scratch/said" "$programs/answers"
+    check "plans.c" compiled gcc tests/c/plans.c "$programs/plans" "$library"
+    check 'the plans' "$programs/plans" "$data" "${real_calls[@]}"
+    cat "$scratch/said" >> "$programs/answers"
     check 'failing_memory.c' compiled gcc tests/c/failing_memory.c "$programs/failing_memory" "$library" "${memory_functions[@]}"
     check 'each allocation failing in turn' "$programs/failing_memory"
     check 'threads.c' compiled gcc tests/c/threads.c "$programs/threads" "$library" -pthread
@@ -109,12 +117,25 @@ watched() {
     local library=$1 programs=$1/programs
     if has gcc valgrind; then
         check 'the calls under memcheck' valgrind -q --error-exitcode=9 --leak-check=full "$programs/calls" 100
+        check 'the plans under memcheck' valgrind -q --error-exitcode=9 --leak-check=full "$programs/plans" "$data" "${real_calls[0]}"
         check 'the threads under helgrind' valgrind -q --tool=helgrind --error-exitcode=9 "$programs/threads" 20
     fi
     if has clang; then
         check 'calls.c with sanitizers' compiled clang tests/c/calls.c "$programs/sanitized" "$library" -fsanitize=address,undefined -fno-sanitize-recover=all
         check 'the calls under ASan and UBSan' "$programs/sanitized" 1000
+        check 'plans.c with sanitizers' compiled clang tests/c/plans.c "$programs/sanitized_plans" "$library" -fsanitize=address,undefined -fno-sanitize-recover=all
+        check 'the plans under ASan and UBSan' "$programs/sanitized_plans" "$data" "${real_calls[@]}"
     fi
+}
+
+# script LIBRARY: the example that plans writes a script that a shell can read, with a line for each command of each plan.
+script() {
+    local library=$1 name
+    for name in "${real_calls[@]}"; do
+        LD_LIBRARY_PATH=$library/lib "$library/programs/plan" /w /t "$(cat "$data/$name.flag")" "$data/$name.dry1" "$data/$name.dry2" > "$scratch/script" || return 1
+        sh -n "$scratch/script" || return 1
+        diff <(grep -cE '^(yes|no) cd ' "$data/$name.plan") <(grep -c '^( cd ' "$scratch/script") || return 1
+    done
 }
 
 # shared LIBRARY: a program that uses the shared object, by pkg-config, and the example.
@@ -128,7 +149,19 @@ shared() {
     # shellcheck disable=SC2086 # words
     check 'the example in C' gcc "${c_flags[@]}" bindings/c/example.c -o "$library/programs/example" $words
     check 'what the example prints' prints $'0: nvcc\n1: -c\n2: \'my kernel.cu\'\n3: \'-DNAME="x"\'' env LD_LIBRARY_PATH="$library/lib" "$library/programs/example"
+    # shellcheck disable=SC2086 # words
+    check 'the plan in C' gcc "${c_flags[@]}" bindings/c/plan.c -o "$library/programs/plan" $words
+    check 'the script that it writes' script "$library"
     check 'the calls of the shared object' env LD_LIBRARY_PATH="$library/lib" "$library/programs/shared" 100
+}
+
+# python LIBRARY: the binding for Python, and its example.
+python() {
+    local library=$1
+    has python3 || return
+    export ZIGRUNK_LIBRARY=$library/lib/libzigrunk.so.1 PYTHONPATH=bindings/python PYTHONDONTWRITEBYTECODE=1
+    check 'the binding for Python' python3 tests/python_binding.py "$data" "${real_calls[@]}"
+    unset ZIGRUNK_LIBRARY PYTHONPATH
 }
 
 # same: both builds give the same answers, byte for byte.
@@ -159,6 +192,7 @@ library=$scratch/llvm
 [ ! -d "$scratch/rattle" ] || check 'both builds give the same answers' same
 watched "$library"
 shared "$library"
+python "$library"
 
 echo "$passed passed, $failed failed"
 [ "$failed" -eq 0 ]

@@ -42,6 +42,22 @@ extern "C" {
 #define ZIGRUNK_NOT_UTF8 2   /* a text that you passed */
 #define ZIGRUNK_BAD_NUMBER 3 /* a number that you passed has no meaning */
 #define ZIGRUNK_OPEN_QUOTE 4 /* a text ends inside quotes or in a backslash */
+#define ZIGRUNK_BAD_DRY_RUN 5  /* a line of a dry run can't be read */
+#define ZIGRUNK_NOT_FOUND 6    /* your table doesn't have a program, or says that there is none */
+#define ZIGRUNK_BAD_SUFFIXES 7 /* your suffixes and the standard ones break the rule of such a list */
+#define ZIGRUNK_UNWRITABLE 8   /* the form can't represent the plan */
+#define ZIGRUNK_BAD_LINE 9     /* a line of a tool can't be read */
+
+/* Forms of a plan. */
+#define ZIGRUNK_JSON 0u  /* all there is to know, for programs: zigrunk(1) describes it */
+#define ZIGRUNK_NINJA 1u /* a Ninja file */
+#define ZIGRUNK_SHELL 2u /* a script for a POSIX shell */
+#define ZIGRUNK_TEXT 3u  /* a few lines for people, without quotes */
+
+/* Host compilers. */
+#define ZIGRUNK_GCC 0u /* clang too */
+#define ZIGRUNK_MSVC 1u
+#define ZIGRUNK_NVHPC 2u
 
 #if defined(__GNUC__) || defined(__clang__)
 #define ZIGRUNK_CHECK_RESULT __attribute__((warn_unused_result))
@@ -54,6 +70,41 @@ typedef struct zigrunk_text {
     const uint8_t *bytes;
     size_t length;
 } zigrunk_text;
+
+/* An environment variable. */
+typedef struct zigrunk_variable {
+    zigrunk_text name;
+    zigrunk_text value;
+} zigrunk_variable;
+
+/* A row of the table that answers look-ups: what you found for a program and a value of PATH. */
+typedef struct zigrunk_found_program {
+    zigrunk_text program;
+    zigrunk_text path;
+    zigrunk_text found; /* the program's path, if is_found is 1; else any text, as "" */
+    uint32_t is_found;  /* 1 if there is such a program, else 0 */
+    uint32_t reserved;  /* 0 */
+} zigrunk_found_program;
+
+/* One nvcc call, by what its two dry runs print. Set all of it to zero first, so that what is reserved is zero; then give
+ * each text and each list a pointer that isn't NULL, also where it is empty. */
+typedef struct zigrunk_plan_call {
+    zigrunk_text dry1;     /* standard error of the call with --dryrun --keep; any bytes */
+    zigrunk_text dry2;     /* the same with --keep-dir TMP --dryrun --keep */
+    zigrunk_text cwd;      /* the working directory, an absolute path */
+    zigrunk_text tmp;      /* TMP, the temporary directory, an absolute path */
+    zigrunk_text flag;     /* the option that says what nvcc makes, as "-c"; empty if it links */
+    zigrunk_text keep_dir; /* the directory that keeps generated files, if keeps is 1; else any text, as "" */
+    const zigrunk_variable *variables; /* the call's environment */
+    size_t variables_count;
+    const zigrunk_text *suffixes; /* suffixes of generated files, behind the standard ones */
+    size_t suffixes_count;
+    const zigrunk_found_program *programs; /* answers each look-up; the first row of a look-up counts */
+    size_t programs_count;
+    uint32_t keeps;         /* 1 if generated files keep nvcc's names, else 0 */
+    uint32_t host_compiler; /* ZIGRUNK_GCC .. */
+    uint64_t reserved;      /* 0 */
+} zigrunk_plan_call;
 
 /* A part of an answer: `length` bytes of its text, or elements of a list, from `offset` on. */
 typedef struct zigrunk_range {
@@ -90,6 +141,23 @@ ZIGRUNK_CHECK_RESULT zigrunk_list_answer zigrunk_split(const uint8_t *text, size
 
 /* Writes words as one text that a POSIX shell, and zigrunk_split, read as these words. */
 ZIGRUNK_CHECK_RESULT zigrunk_text_answer zigrunk_quote(const zigrunk_text *words, size_t words_count,
+    uint8_t *out, size_t out_size);
+
+/* Lists the look-ups of programs that a plan of two dry runs needs, none twice: two texts for each, the program and the
+ * value of PATH. Find each program (zigrunk_candidates lists the paths to try) and make a row of your table of it. */
+ZIGRUNK_CHECK_RESULT zigrunk_list_answer zigrunk_lookups(const uint8_t *dry1, size_t dry1_length,
+    const uint8_t *dry2, size_t dry2_length, const uint8_t *cwd, size_t cwd_length,
+    zigrunk_range *ranges, size_t ranges_size, uint8_t *out, size_t out_size);
+
+/* Lists the paths that a look-up of a program tries, in order: the first that is an executable file is the program. */
+ZIGRUNK_CHECK_RESULT zigrunk_list_answer zigrunk_candidates(const uint8_t *program, size_t program_length,
+    const uint8_t *path, size_t path_length, const uint8_t *cwd, size_t cwd_length,
+    zigrunk_range *ranges, size_t ranges_size, uint8_t *out, size_t out_size);
+
+/* Plans the commands of one nvcc call, and writes the plan in a form (ZIGRUNK_JSON ..). A number without a meaning is the
+ * first thing that it refuses, then a text that isn't UTF-8, then the suffixes, then the first bad line of the first run and
+ * of the second, and last a plan that the form can't represent. */
+ZIGRUNK_CHECK_RESULT zigrunk_text_answer zigrunk_plan(const zigrunk_plan_call *call, uint32_t form,
     uint8_t *out, size_t out_size);
 
 #ifdef __cplusplus

@@ -40,6 +40,11 @@ static void check_messages(void) {
         {ZIGRUNK_NOT_UTF8, "a text is not UTF-8"},
         {ZIGRUNK_BAD_NUMBER, "a number has no meaning"},
         {ZIGRUNK_OPEN_QUOTE, "open quote or backslash at the end"},
+        {ZIGRUNK_BAD_DRY_RUN, "a line of a dry run cannot be read"},
+        {ZIGRUNK_NOT_FOUND, "a program is not found"},
+        {ZIGRUNK_BAD_SUFFIXES, "bad generated suffixes"},
+        {ZIGRUNK_UNWRITABLE, "the form cannot represent the plan"},
+        {ZIGRUNK_BAD_LINE, "a line of a tool cannot be read"},
     };
     for (size_t i = 0; i < sizeof known / sizeof *known; i++) {
         answer told = ask_text(call_message, &known[i].status);

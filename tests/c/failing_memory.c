@@ -1,5 +1,5 @@
 /* Each allocation of a call fails in turn, in one process. Link with --wrap for malloc, realloc and free. */
-#include "checks.h"
+#include "plans.h"
 
 void *__real_malloc(size_t size);
 void *__real_realloc(void *at, size_t size);
@@ -96,10 +96,54 @@ static zigrunk_list_answer try_message(buffers *into) {
     return as_list(zigrunk_message(ZIGRUNK_OPEN_QUOTE, into->out, sizeof into->out));
 }
 
+static const char run[] = "#$ PATH=/b\n#$ gcc -D__NVCC__ -E k.cu -o k.cpp1.ii\n#$ cicc k.cpp1.ii -o k.ptx\n"
+                          "#$ ptxas k.ptx -o k.cubin\n";
+
+static zigrunk_list_answer try_plan(uint32_t form, size_t programs, buffers *into) {
+    zigrunk_found_program rows[] = {row("gcc", "/b", "/b/gcc"), row("cicc", "/b", "/b/cicc"), row("ptxas", "/b", "/b/ptxas")};
+    zigrunk_variable variable = {text_of("A"), text_of("B C")};
+    zigrunk_text suffix = text_of(".cudafe1.gpu");
+    zigrunk_plan_call call = call_of(text_of(run), text_of(run), "-c");
+    call.variables = &variable;
+    call.variables_count = 1;
+    call.suffixes = &suffix;
+    call.suffixes_count = 1;
+    call.programs = rows;
+    call.programs_count = programs;
+    return as_list(zigrunk_plan(&call, form, into->out, sizeof into->out));
+}
+
+static zigrunk_list_answer try_json(buffers *into) {
+    return try_plan(ZIGRUNK_JSON, 3, into);
+}
+
+static zigrunk_list_answer try_ninja(buffers *into) {
+    return try_plan(ZIGRUNK_NINJA, 3, into);
+}
+
+static zigrunk_list_answer try_refused_plan(buffers *into) {
+    return try_plan(ZIGRUNK_SHELL, 2, into);
+}
+
+static zigrunk_list_answer try_lookups(buffers *into) {
+    three more = {{text_of(run), text_of(run), text_of("/w")}};
+    return call_lookups(&more, into->ranges, 4096, into->out, sizeof into->out);
+}
+
+static zigrunk_list_answer try_candidates(buffers *into) {
+    three more = {{text_of("gcc"), text_of("/b:/c::d"), text_of("/w")}};
+    return call_candidates(&more, into->ranges, 4096, into->out, sizeof into->out);
+}
+
 int main(void) {
     try_all("split", try_split);
     try_all("refused split", try_refused_split);
     try_all("quote", try_quote);
     try_all("message", try_message);
+    try_all("JSON", try_json);
+    try_all("Ninja", try_ninja);
+    try_all("refused plan", try_refused_plan);
+    try_all("look-ups", try_lookups);
+    try_all("candidates", try_candidates);
     return report();
 }

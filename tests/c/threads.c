@@ -1,5 +1,5 @@
 /* Eight threads call at the same time, with input of their own and with input that they share. */
-#include "checks.h"
+#include "plans.h"
 
 #include <pthread.h>
 
@@ -7,11 +7,23 @@
 
 static const char shared[] = "nvcc -c 'a b' \"c d\" e\\ f";
 
+static const char dry_run[] = "#$ PATH=/b\n#$ gcc -D__NVCC__ -E k.cu -o k.cpp1.ii\n#$ cicc k.cpp1.ii -o k.ptx\n";
+
+/* Plans with one table for all threads. Whether the plan is wrong. */
+static int plans_wrong(const zigrunk_plan_call *call) {
+    static const char plan[] = "group 0\ngroup 1\nno cd /w && /b/gcc -D__NVCC__ -E k.cu -o x_0.cpp1.ii\n"
+                               "yes cd /t && /b/cicc x_0.cpp1.ii -o k.ptx\ngroup 2\n";
+    uint8_t out[256];
+    zigrunk_text_answer a = zigrunk_plan(call, ZIGRUNK_TEXT, out, sizeof out);
+    return a.status != ZIGRUNK_OK || a.length != sizeof plan - 1 || memcmp(out, plan, a.length) != 0;
+}
+
 typedef struct work {
     pthread_t thread;
     int number;
     int rounds;
     int wrong;
+    const zigrunk_plan_call *call;
 } work;
 
 static void *run(void *argument) {
@@ -28,6 +40,7 @@ static void *run(void *argument) {
         length = snprintf(own, sizeof own, "thread %d", mine->number);
         zigrunk_text word = {(const uint8_t *)own, (size_t)length};
         zigrunk_text_answer q = zigrunk_quote(&word, 1, out, sizeof out);
+        mine->wrong += i % 8 == 0 && plans_wrong(mine->call);
         mine->wrong += q.status != ZIGRUNK_OK || q.length != (size_t)length + 2 || memcmp(out + 1, own, (size_t)length) != 0;
     }
     return NULL;
@@ -35,8 +48,13 @@ static void *run(void *argument) {
 
 int main(int count, char **arguments) {
     static work works[THREADS];
+    zigrunk_found_program rows[] = {row("gcc", "/b", "/b/gcc"), row("cicc", "/b", "/b/cicc")};
+    zigrunk_plan_call call = call_of(text_of(dry_run), text_of(dry_run), "-c");
+    call.programs = rows;
+    call.programs_count = 2;
     for (int i = 0; i < THREADS; i++) {
         works[i].number = i;
+        works[i].call = &call;
         works[i].rounds = count > 1 ? atoi(arguments[1]) : 1000;
         CHECK(pthread_create(&works[i].thread, NULL, run, &works[i]) == 0);
     }

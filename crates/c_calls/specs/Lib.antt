@@ -1,6 +1,11 @@
+pub mod Asking
+pub mod Failures
 pub mod Laws
 pub mod Memory
 pub mod Outcomes
+pub mod PlanCalls
+pub mod PlanForms
+pub mod Planning
 pub mod Shell
 pub mod Statuses
 pub mod Version

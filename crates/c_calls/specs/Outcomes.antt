@@ -25,9 +25,13 @@ with_texts outcome texts = (outcome.0, (outcome.1.0 ++ ranges_at (length outcome
 abbrev pub of_text : List ℕ → Outcome
 of_text text = (pos 0, ([], text))
 
+-- a refusal with a text of its own
+abbrev pub refused_with : Status → List ℕ → Outcome
+refused_with status message = (statuses.number status, ([], message))
+
 -- a refusal, with its text
 abbrev pub refused : Status → Outcome
-refused status = (statuses.number status, ([], statuses.text status))
+refused status = refused_with status (statuses.text status)
 
 -- the text of a number
 abbrev pub described : Option Status → Outcome

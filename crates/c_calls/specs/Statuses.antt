@@ -1,7 +1,7 @@
 -- The statuses of calls.
 use Rattle.std.specs.Prelude.{ℕ, ℤ, pos, negsuc, ◌==◌, if◌then◌else◌, List, Option, Some, None, codes}
 use Rattle.c_calls.specs.declared.status.Status.{Status}
-use Rattle.c_calls.specs.declared.status.Status.TheVariants.{Success, Memory, NotUtf8, BadNumber, OpenQuote}
+use Rattle.c_calls.specs.declared.status.Status.TheVariants.{Success, Memory, NotUtf8, BadNumber, OpenQuote, BadDryRun, NotFound, BadSuffixes, Unwritable, BadLine}
 
 -- a status's number
 abbrev pub number : Status → ℤ
@@ -10,6 +10,11 @@ number Memory = pos 1
 number NotUtf8 = pos 2
 number BadNumber = pos 3
 number OpenQuote = pos 4
+number BadDryRun = pos 5
+number NotFound = pos 6
+number BadSuffixes = pos 7
+number Unwritable = pos 8
+number BadLine = pos 9
 
 -- the status with this number, if it isn't negative
 abbrev pub with_natural : ℕ → Option Status
@@ -19,6 +24,11 @@ with_natural n =
     else if n == 2 then Some NotUtf8
     else if n == 3 then Some BadNumber
     else if n == 4 then Some OpenQuote
+    else if n == 5 then Some BadDryRun
+    else if n == 6 then Some NotFound
+    else if n == 7 then Some BadSuffixes
+    else if n == 8 then Some Unwritable
+    else if n == 9 then Some BadLine
     else None
 
 -- the status with this number
@@ -33,3 +43,8 @@ text Memory = codes "out of memory"
 text NotUtf8 = codes "a text is not UTF-8"
 text BadNumber = codes "a number has no meaning"
 text OpenQuote = codes "open quote or backslash at the end"
+text BadDryRun = codes "a line of a dry run cannot be read"
+text NotFound = codes "a program is not found"
+text BadSuffixes = codes "bad generated suffixes"
+text Unwritable = codes "the form cannot represent the plan"
+text BadLine = codes "a line of a tool cannot be read"

@@ -7,14 +7,22 @@
 //! The crate `zigrunk_c` exports these calls to C, one function for each.
 #![tactic(auto)]
 
+mod asking;
+mod failure;
 pub mod laws;
 mod memory;
 mod outcome;
+mod plan_call;
+mod plan_forms;
+mod planning;
 mod shell;
 mod status;
 mod versions;
 
+pub use asking::{candidates, lookups};
 pub use memory::{InputText, ListAnswer, Range, TextAnswer};
+pub use plan_call::{FoundProgram, PlanCall, Variable};
+pub use planning::plan;
 pub use shell::{quote, split};
 pub use status::{Status, message};
 pub use versions::{abi_version, version};

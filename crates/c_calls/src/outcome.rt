@@ -74,15 +74,23 @@ impl Outcome {
     }
 }
 
+/// A refusal, with a text of its own.
+pub(crate) fn refused_with(alloc: Global, status: Status, text: String) -> Outcome
+    ensures { result ≡ spec.refused_with status (string_bytes text) }
+{
+    Outcome {
+        status: status.number(),
+        ranges: Vec::new(alloc),
+        text,
+    }
+}
+
 /// A refusal, with its text.
 pub(crate) fn refused(alloc: Global, status: Status) -> Result<Outcome, AllocError>
     ensures { IfOk result (λ outcome. outcome ≡ spec.refused status) }
 {
-    Ok(Outcome {
-        status: status.number(),
-        ranges: Vec::new(alloc),
-        text: String::from_str(alloc, status.text())?,
-    })
+    let text = String::from_str(alloc, status.text())?;
+    Ok(refused_with(alloc, status, text))
 }
 
 /// Writes one text into memory of the caller, if it fits.

@@ -22,6 +22,16 @@ pub enum Status {
     BadNumber,
     /// A text has an open quote, or ends in a backslash.
     OpenQuote,
+    /// A line of a dry run can't be read.
+    BadDryRun,
+    /// The table of look-ups has no such program.
+    NotFound,
+    /// Suffixes of generated files break the rule of such a list.
+    BadSuffixes,
+    /// The form can't represent the plan.
+    Unwritable,
+    /// A line of a tool can't be read.
+    BadLine,
 }
 
 impl Status {
@@ -35,6 +45,11 @@ impl Status {
             Status::NotUtf8 => 2,
             Status::BadNumber => 3,
             Status::OpenQuote => 4,
+            Status::BadDryRun => 5,
+            Status::NotFound => 6,
+            Status::BadSuffixes => 7,
+            Status::Unwritable => 8,
+            Status::BadLine => 9,
         }
     }
 
@@ -48,6 +63,11 @@ impl Status {
             2 => Some(Status::NotUtf8),
             3 => Some(Status::BadNumber),
             4 => Some(Status::OpenQuote),
+            5 => Some(Status::BadDryRun),
+            6 => Some(Status::NotFound),
+            7 => Some(Status::BadSuffixes),
+            8 => Some(Status::Unwritable),
+            9 => Some(Status::BadLine),
             _ => None,
         }
     }
@@ -62,6 +82,11 @@ impl Status {
             Status::NotUtf8 => "a text is not UTF-8",
             Status::BadNumber => "a number has no meaning",
             Status::OpenQuote => "open quote or backslash at the end",
+            Status::BadDryRun => "a line of a dry run cannot be read",
+            Status::NotFound => "a program is not found",
+            Status::BadSuffixes => "bad generated suffixes",
+            Status::Unwritable => "the form cannot represent the plan",
+            Status::BadLine => "a line of a tool cannot be read",
         }
     }
 }

@@ -2,13 +2,15 @@
 #![tactic(auto)]
 
 ghost use Rattle.std.specs.Prelude.{◌≡◌, map};
+ghost use Rattle.c_calls.specs.Asking.{candidates_outcome, lookups_outcome};
 ghost use Rattle.c_calls.specs.Memory.{bytes_of};
 ghost use Rattle.c_calls.specs.Outcomes.{GivesList, GivesText, TellsText, described, of_text};
+ghost use Rattle.c_calls.specs.Planning.{plan_outcome};
 ghost use Rattle.c_calls.specs.Shell.{quote_outcome, split_outcome};
 ghost use Rattle.c_calls.specs.Statuses.{with_number};
 ghost use Rattle.c_calls.specs.Version as version;
 
-use c_calls::{InputText, ListAnswer, Range, TextAnswer};
+use c_calls::{InputText, ListAnswer, PlanCall, Range, TextAnswer};
 use std::alloc::Global;
 
 /// The number of the binary interface.
@@ -58,4 +60,47 @@ pub extern "C" fn zigrunk_quote(
     ensures { GivesText (quote_outcome (map bytes_of words.now)) result out.old out.new }
 {
     c_calls::quote(alloc, words, out)
+}
+
+/// Lists the look-ups of programs that planning two dry runs makes.
+#[unsafe(no_mangle)]
+pub extern "C" fn zigrunk_lookups(
+    alloc: Global,
+    dry1: &[u8],
+    dry2: &[u8],
+    cwd: &[u8],
+    ranges: &mut [Range],
+    out: &mut [u8],
+) -> ListAnswer
+    ensures { GivesList (lookups_outcome dry1.now dry2.now cwd.now) result ranges.old ranges.new out.old out.new }
+{
+    c_calls::lookups(alloc, dry1, dry2, cwd, ranges, out)
+}
+
+/// Lists the paths that a look-up of a program tries.
+#[unsafe(no_mangle)]
+pub extern "C" fn zigrunk_candidates(
+    alloc: Global,
+    program: &[u8],
+    path: &[u8],
+    cwd: &[u8],
+    ranges: &mut [Range],
+    out: &mut [u8],
+) -> ListAnswer
+    ensures { GivesList (candidates_outcome program.now path.now cwd.now) result ranges.old ranges.new out.old out.new }
+{
+    c_calls::candidates(alloc, program, path, cwd, ranges, out)
+}
+
+/// Plans two dry runs of one nvcc call.
+#[unsafe(no_mangle)]
+pub extern "C" fn zigrunk_plan(
+    alloc: Global,
+    call: &PlanCall<'_>,
+    form: u32,
+    out: &mut [u8],
+) -> TextAnswer
+    ensures { GivesText (plan_outcome call.now form) result out.old out.new }
+{
+    c_calls::plan(alloc, call, form, out)
 }

@@ -1,0 +1,250 @@
+"""What one nvcc call really runs, by libzigrunk.
+
+nvcc's dry runs go in, and a plan comes out: the commands in groups, and the commands that the plan dropped, each with the
+reason. The module looks no program up by itself: `lookups` says what to look up, and `find` does it on disk.
+
+The environment variable ZIGRUNK_LIBRARY names the shared object, if it isn't where the loader finds `libzigrunk.so.1`.
+Any number of threads may call.
+"""
+
+from __future__ import annotations
+
+import ctypes
+import enum
+import os
+from dataclasses import dataclass, field
+from typing import Callable, Iterable, List, Mapping, Optional, Sequence, Tuple, Union
+
+__all__ = ["Form", "HostCompiler", "Lookup", "PlanCall", "Status", "ZigrunkError", "candidates", "find", "lookups", "plan",
+           "quote", "split", "version"]
+
+_ABI_VERSION = 1
+
+
+class Status(enum.IntEnum):
+    """How a call ended. A later library may have further numbers: see `ZigrunkError.number`."""
+
+    OK = 0
+    OUT_OF_MEMORY = 1
+    NOT_UTF8 = 2
+    BAD_NUMBER = 3
+    OPEN_QUOTE = 4
+    BAD_DRY_RUN = 5
+    NOT_FOUND = 6
+    BAD_SUFFIXES = 7
+    UNWRITABLE = 8
+    BAD_LINE = 9
+
+
+class Form(enum.IntEnum):
+    """What a plan is written as."""
+
+    JSON = 0
+    NINJA = 1
+    SHELL = 2
+    TEXT = 3
+
+
+class HostCompiler(enum.IntEnum):
+    """The compiler of host code. GCC stands for clang too."""
+
+    GCC = 0
+    MSVC = 1
+    NVHPC = 2
+
+
+class ZigrunkError(Exception):
+    """The library rejected a call. The text is its message, and `number` its status."""
+
+    def __init__(self, number: int, message: str) -> None:
+        super().__init__(message)
+        self.number = number
+
+
+@dataclass(frozen=True)
+class Lookup:
+    """A program that a dry run names, and the value of PATH there."""
+
+    program: str
+    path: str
+
+
+@dataclass
+class PlanCall:
+    """One nvcc call, by what its two dry runs print on standard error."""
+
+    dry1: bytes
+    """The call with `--dryrun --keep`."""
+    dry2: bytes
+    """The call with `--keep-dir TMP --dryrun --keep`."""
+    cwd: str
+    """The working directory, an absolute path."""
+    tmp: str
+    """TMP, the temporary directory, an absolute path."""
+    flag: str = "-c"
+    """The option that says what nvcc makes, empty if it links."""
+    keep_dir: Optional[str] = None
+    """The directory that keeps generated files. Without one, they get canonical names."""
+    environment: Union[Mapping[str, str], Sequence[Tuple[str, str]]] = field(default_factory=list)
+    """The call's environment variables."""
+    suffixes: Sequence[str] = ()
+    """Suffixes of generated files, behind the standard ones."""
+    host_compiler: HostCompiler = HostCompiler.GCC
+
+
+class _Text(ctypes.Structure):
+    _fields_ = [("bytes", ctypes.c_char_p), ("length", ctypes.c_size_t)]
+
+
+class _Variable(ctypes.Structure):
+    _fields_ = [("name", _Text), ("value", _Text)]
+
+
+class _FoundProgram(ctypes.Structure):
+    _fields_ = [("program", _Text), ("path", _Text), ("found", _Text), ("is_found", ctypes.c_uint32), ("reserved", ctypes.c_uint32)]
+
+
+class _PlanCall(ctypes.Structure):
+    _fields_ = [
+        ("dry1", _Text), ("dry2", _Text), ("cwd", _Text), ("tmp", _Text), ("flag", _Text), ("keep_dir", _Text),
+        ("variables", ctypes.POINTER(_Variable)), ("variables_count", ctypes.c_size_t),
+        ("suffixes", ctypes.POINTER(_Text)), ("suffixes_count", ctypes.c_size_t),
+        ("programs", ctypes.POINTER(_FoundProgram)), ("programs_count", ctypes.c_size_t),
+        ("keeps", ctypes.c_uint32), ("host_compiler", ctypes.c_uint32), ("reserved", ctypes.c_uint64),
+    ]
+
+
+class _Range(ctypes.Structure):
+    _fields_ = [("offset", ctypes.c_size_t), ("length", ctypes.c_size_t)]
+
+
+class _TextAnswer(ctypes.Structure):
+    _fields_ = [("status", ctypes.c_int32), ("length", ctypes.c_size_t)]
+
+
+class _ListAnswer(ctypes.Structure):
+    _fields_ = [("status", ctypes.c_int32), ("count", ctypes.c_size_t), ("length", ctypes.c_size_t)]
+
+
+_TEXT = [ctypes.c_char_p, ctypes.c_size_t]
+_OUT = [ctypes.c_char_p, ctypes.c_size_t]
+_RANGES = [ctypes.POINTER(_Range), ctypes.c_size_t]
+_CALLS = {
+    "zigrunk_abi_version": (ctypes.c_uint32, []),
+    "zigrunk_version": (_TextAnswer, _OUT),
+    "zigrunk_split": (_ListAnswer, _TEXT + _RANGES + _OUT),
+    "zigrunk_quote": (_TextAnswer, [ctypes.POINTER(_Text), ctypes.c_size_t] + _OUT),
+    "zigrunk_lookups": (_ListAnswer, _TEXT * 3 + _RANGES + _OUT),
+    "zigrunk_candidates": (_ListAnswer, _TEXT * 3 + _RANGES + _OUT),
+    "zigrunk_plan": (_TextAnswer, [ctypes.POINTER(_PlanCall), ctypes.c_uint32] + _OUT),
+}
+
+
+def _load() -> ctypes.CDLL:
+    library = ctypes.CDLL(os.environ.get("ZIGRUNK_LIBRARY", "libzigrunk.so.1"))
+    for name, (answer, arguments) in _CALLS.items():
+        call = getattr(library, name)
+        call.restype, call.argtypes = answer, arguments
+    if library.zigrunk_abi_version() != _ABI_VERSION:
+        raise ImportError(f"libzigrunk has the interface {library.zigrunk_abi_version()}, not {_ABI_VERSION}")
+    return library
+
+
+_library = _load()
+
+
+def _bytes(text: str) -> bytes:
+    # Bytes that are no UTF-8 come back as they were, and the library rejects them.
+    return text.encode("utf-8", "surrogateescape")
+
+
+def _text(data: bytes) -> _Text:
+    return _Text(data, len(data))
+
+
+def _ask_text(call: Callable[..., _TextAnswer], *arguments: object) -> str:
+    out = ctypes.create_string_buffer(4096)
+    while True:
+        answer = call(*arguments, out, len(out))
+        if answer.length <= len(out):
+            break
+        out = ctypes.create_string_buffer(answer.length)
+    text = out.raw[: answer.length].decode("utf-8")
+    if answer.status != Status.OK:
+        raise ZigrunkError(answer.status, text)
+    return text
+
+
+def _ask_list(call: Callable[..., _ListAnswer], *arguments: object) -> List[str]:
+    ranges, out = (_Range * 64)(), ctypes.create_string_buffer(4096)
+    while True:
+        answer = call(*arguments, ranges, len(ranges), out, len(out))
+        if answer.count <= len(ranges) and answer.length <= len(out):
+            break
+        ranges, out = (_Range * max(answer.count, 1))(), ctypes.create_string_buffer(max(answer.length, 1))
+    data = out.raw[: answer.length]
+    if answer.status != Status.OK:
+        raise ZigrunkError(answer.status, data.decode("utf-8"))
+    return [data[it.offset : it.offset + it.length].decode("utf-8") for it in ranges[: answer.count]]
+
+
+def version() -> str:
+    """The library's version."""
+    return _ask_text(_library.zigrunk_version)
+
+
+def split(text: str) -> List[str]:
+    """Splits a text into the words that a POSIX shell reads. Nothing is expanded."""
+    data = _bytes(text)
+    return _ask_list(_library.zigrunk_split, data, len(data))
+
+
+def quote(words: Sequence[str]) -> str:
+    """The words as one text, which a POSIX shell and `split` read as these words."""
+    array = (_Text * max(len(words), 1))(*[_text(_bytes(word)) for word in words])
+    return _ask_text(_library.zigrunk_quote, array, len(words))
+
+
+def lookups(dry1: bytes, dry2: bytes, cwd: str) -> List[Lookup]:
+    """The look-ups of programs that a plan of two dry runs needs, none twice."""
+    folder = _bytes(cwd)
+    texts = _ask_list(_library.zigrunk_lookups, dry1, len(dry1), dry2, len(dry2), folder, len(folder))
+    return [Lookup(program, path) for program, path in zip(texts[::2], texts[1::2])]
+
+
+def candidates(lookup: Lookup, cwd: str) -> List[str]:
+    """The paths that a look-up tries, in order."""
+    data = [_bytes(text) for text in (lookup.program, lookup.path, cwd)]
+    return _ask_list(_library.zigrunk_candidates, *[part for text in data for part in (text, len(text))])
+
+
+def find(lookup: Lookup, cwd: str) -> Optional[str]:
+    """The first path of a look-up that is an executable file, or None."""
+    return next((path for path in candidates(lookup, cwd) if os.path.isfile(path) and os.access(path, os.X_OK)), None)
+
+
+def _rows(call: PlanCall, which: Callable[[Lookup, str], Optional[str]]) -> Iterable[_FoundProgram]:
+    for lookup in lookups(call.dry1, call.dry2, call.cwd):
+        found = which(lookup, call.cwd)
+        yield _FoundProgram(_text(_bytes(lookup.program)), _text(_bytes(lookup.path)), _text(_bytes(found or "")), found is not None, 0)
+
+
+def plan(call: PlanCall, form: Form = Form.JSON, which: Callable[[Lookup, str], Optional[str]] = find) -> str:
+    """Plans an nvcc call, and writes the plan in a form. `which` finds a program from the working directory.
+
+    Raises `ZigrunkError` if a dry run can't be read, if a program isn't found, if the suffixes break a rule, or if the form
+    can't represent the plan.
+    """
+    environment = call.environment.items() if isinstance(call.environment, Mapping) else call.environment
+    variables = [_Variable(_text(_bytes(name)), _text(_bytes(value))) for name, value in environment]
+    suffixes = [_text(_bytes(suffix)) for suffix in call.suffixes]
+    rows = list(_rows(call, which))
+    record = _PlanCall(
+        _text(call.dry1), _text(call.dry2), _text(_bytes(call.cwd)), _text(_bytes(call.tmp)), _text(_bytes(call.flag)),
+        _text(_bytes(call.keep_dir or "")),
+        (_Variable * max(len(variables), 1))(*variables), len(variables),
+        (_Text * max(len(suffixes), 1))(*suffixes), len(suffixes),
+        (_FoundProgram * max(len(rows), 1))(*rows), len(rows),
+        call.keep_dir is not None, int(call.host_compiler), 0,
+    )
+    return _ask_text(_library.zigrunk_plan, ctypes.byref(record), int(form))

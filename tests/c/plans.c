@@ -1,0 +1,329 @@
+/* Plans: small ones, refusals, and the plans of dry runs in files: `plans FOLDER NAME..` compares what it plans for FOLDER's
+ * NAME.dry1, NAME.dry2 and NAME.flag with NAME.plan, which is what the program `cudaplan` prints for them. */
+#include "plans.h"
+
+static const char run1[] = "#$ PATH=/b:/c\n#$ gcc -D__NVCC__ -E k.cu -o k.cpp1.ii\n#$ cicc k.cpp1.ii -o k.ptx\n";
+static const char run2[] = "#$ PATH=/b:/c\n#$ gcc -D__NVCC__ -E k.cu -o /t/k.cpp1.ii\n#$ cicc k.cpp1.ii -o /t/k.ptx\n";
+
+static zigrunk_found_program rows[2];
+
+static zigrunk_plan_call small_call(void) {
+    rows[0] = row("gcc", "/b:/c", "/b/gcc");
+    rows[1] = row("cicc", "/b:/c", "/c/cicc");
+    zigrunk_plan_call call = call_of(text_of(run1), text_of(run2), "-c");
+    call.programs = rows;
+    call.programs_count = 2;
+    return call;
+}
+
+static void check_lookups(void) {
+    answer a = lookups(text_of(run1), text_of(run2), text_of("/w"));
+    CHECK(a.status == ZIGRUNK_OK && a.count == 4);
+    CHECK(is_word(&a, 0, "gcc") && is_word(&a, 1, "/b:/c") && is_word(&a, 2, "cicc") && is_word(&a, 3, "/b:/c"));
+    release(a);
+    a = lookups(text_of(""), text_of(run2), text_of("/w"));
+    CHECK(a.status == ZIGRUNK_OK && a.count == 4);
+    release(a);
+    a = lookups(text_of(""), text_of("\xFF\n"), text_of(""));
+    CHECK(a.status == ZIGRUNK_OK && a.count == 0 && a.length == 0);
+    release(a);
+    a = lookups(text_of(run1), text_of(run2), text_of("\xFF"));
+    CHECK(a.status == ZIGRUNK_NOT_UTF8 && a.count == 0 && is_text(&a, "a text is not UTF-8"));
+    release(a);
+    a = candidates(text_of("gcc"), text_of("/b::c"), text_of("/w"));
+    CHECK(a.status == ZIGRUNK_OK && a.count == 3);
+    CHECK(is_word(&a, 0, "/b/gcc") && is_word(&a, 1, "/w/gcc") && is_word(&a, 2, "/w/c/gcc"));
+    release(a);
+    for (int i = 0; i < 3; i++) {
+        three bad = {{text_of("gcc"), text_of("/b"), text_of("/w")}};
+        bad.texts[i] = text_of("a\xC3");
+        a = ask_list(call_candidates, &bad);
+        CHECK(a.status == ZIGRUNK_NOT_UTF8 && a.count == 0 && is_text(&a, "a text is not UTF-8"));
+        release(a);
+    }
+}
+
+/* Plans a call as text. */
+static void plans(const zigrunk_plan_call *call, const char *text) {
+    answer a = plan(call, ZIGRUNK_TEXT);
+    CHECK(a.status == ZIGRUNK_OK && is_text(&a, text));
+    if (a.status != ZIGRUNK_OK || !is_text(&a, text)) {
+        printf("status %d: %.*s\n", (int)a.status, (int)a.length, (const char *)a.out);
+    }
+    release(a);
+}
+
+static void check_small_plans(void) {
+    zigrunk_plan_call call = small_call();
+    plans(&call, "group 0\ngroup 1\nno cd /w && /b/gcc -D__NVCC__ -E k.cu -o /t/x_0.cpp1.ii\n"
+                 "yes cd /t && /c/cicc x_0.cpp1.ii -o k.ptx\ngroup 2\n");
+    /* the first row of a look-up counts, and no row of another PATH or program */
+    zigrunk_found_program more[] = {row("gcc", "/b", "/1/gcc"), row("cicc", "/b:/c", "/2/cicc"), row("gcc", "/b:/c", "/3/gcc"),
+        row("gcc", "/b:/c", "/4/gcc"), row("cicc", "/b:/c", NULL)};
+    call.programs = more;
+    call.programs_count = 5;
+    plans(&call, "group 0\ngroup 1\nno cd /w && /3/gcc -D__NVCC__ -E k.cu -o /t/x_0.cpp1.ii\n"
+                 "yes cd /t && /2/cicc x_0.cpp1.ii -o k.ptx\ngroup 2\n");
+    call = small_call();
+    call.keeps = 1;
+    call.keep_dir = text_of("/keep");
+    plans(&call, "group 0\ngroup 1\nno cd /w && /b/gcc -D__NVCC__ -E k.cu -o /t/k.cpp1.ii\n"
+                 "yes cd /t && /c/cicc k.cpp1.ii -o k.ptx\ngroup 2\n");
+    call = call_of(text_of(""), text_of(""), "-c");
+    plans(&call, "group 0\ngroup 1\n");
+}
+
+static int has(const answer *a, const char *part) {
+    size_t length = strlen(part);
+    for (size_t i = 0; i + length <= a->length; i++) {
+        if (memcmp(a->out + i, part, length) == 0) {
+            return 1;
+        }
+    }
+    return 0;
+}
+
+static void check_forms(void) {
+    zigrunk_plan_call call = small_call();
+    zigrunk_variable variables[] = {{text_of("A B"), text_of("it's")}, {text_of("PATH"), text_of("/old")}};
+    call.variables = variables;
+    call.variables_count = 2;
+    answer a = plan(&call, ZIGRUNK_JSON);
+    CHECK(a.status == ZIGRUNK_OK && a.out[0] == '{' && a.out[a.length - 1] == '}');
+    CHECK(has(&a, "\"env\":[[\"A B\",\"it's\"],[\"PATH\",\"/b:/c\"]]"));
+    CHECK(has(&a, "\"exe\":\"/c/cicc\"") && has(&a, "\"tmp\":\"/t\""));
+    release(a);
+    a = plan(&call, ZIGRUNK_SHELL);
+    CHECK(a.status == ZIGRUNK_OK && has(&a, "set -e\n") && has(&a, "( cd /w && env 'A B=it'\\''s' 'PATH=/b:/c' /b/gcc "));
+    release(a);
+    a = plan(&call, ZIGRUNK_NINJA);
+    CHECK(a.status == ZIGRUNK_OK && has(&a, "zigrunk.1.1: ") && has(&a, "/c/cicc x_0.cpp1.ii -o k.ptx"));
+    release(a);
+    /* a form refuses a plan that it can't represent, and JSON none */
+    variables[0].name = text_of("");
+    a = plan(&call, ZIGRUNK_SHELL);
+    CHECK(a.status == ZIGRUNK_UNWRITABLE && is_text(&a, "a variable of the plan has a name that env takes for something else"));
+    release(a);
+    variables[0].name = text_of("A\nB");
+    a = plan(&call, ZIGRUNK_NINJA);
+    CHECK(a.status == ZIGRUNK_UNWRITABLE && is_text(&a, "a text of the plan holds a byte that the form can't"));
+    release(a);
+    a = plan(&call, ZIGRUNK_JSON);
+    CHECK(a.status == ZIGRUNK_OK && has(&a, "[\"A\\nB\",\"it's\"]"));
+    release(a);
+    /* the host compiler says which words preprocess */
+    call = call_of(text_of("#$ PATH=/b\n#$ cl -D__NVCC__ -P k.cu\n"), text_of("#$ PATH=/b\n#$ cl -D__NVCC__ -P k.cu\n"), "-c");
+    zigrunk_found_program cl = row("cl", "/b", "/b/cl");
+    call.programs = &cl;
+    call.programs_count = 1;
+    plans(&call, "group 0\ngroup 1\nyes cd /w && /b/cl -D__NVCC__ -P k.cu\n");
+    call.host_compiler = ZIGRUNK_MSVC;
+    plans(&call, "group 0\nno cd /w && /b/cl -D__NVCC__ -P k.cu\ngroup 1\n");
+}
+
+/* A call that every form refuses. */
+static void refuses(const zigrunk_plan_call *call, int32_t status, const char *text) {
+    for (uint32_t form = ZIGRUNK_JSON; form <= ZIGRUNK_TEXT; form++) {
+        answer a = plan(call, form);
+        CHECK(a.status == status && is_text(&a, text));
+        if (a.status != status || !is_text(&a, text)) {
+            printf("status %d: %.*s\n", (int)a.status, (int)a.length, (const char *)a.out);
+        }
+        release(a);
+    }
+}
+
+static void check_bad_numbers(void) {
+    static const char text[] = "a number has no meaning";
+    zigrunk_plan_call call = small_call();
+    for (int i = 0; i < 2; i++) {
+        answer a = plan(&call, i ? UINT32_MAX : ZIGRUNK_TEXT + 1);
+        CHECK(a.status == ZIGRUNK_BAD_NUMBER && is_text(&a, text));
+        release(a);
+    }
+    call.reserved = 1;
+    refuses(&call, ZIGRUNK_BAD_NUMBER, text);
+    call.reserved = 0;
+    call.keeps = 2;
+    refuses(&call, ZIGRUNK_BAD_NUMBER, text);
+    call.keeps = 0;
+    call.host_compiler = ZIGRUNK_NVHPC + 1;
+    refuses(&call, ZIGRUNK_BAD_NUMBER, text);
+    call.host_compiler = ZIGRUNK_GCC;
+    rows[1].is_found = 2;
+    refuses(&call, ZIGRUNK_BAD_NUMBER, text);
+    rows[1].is_found = 1;
+    rows[1].reserved = 1;
+    /* before any text */
+    call.cwd = text_of("\xFF");
+    refuses(&call, ZIGRUNK_BAD_NUMBER, text);
+}
+
+static void check_bad_texts(void) {
+    static const char text[] = "a text is not UTF-8";
+    static const zigrunk_text bad = {(const uint8_t *)"a\xFF", 2};
+    zigrunk_plan_call call = small_call();
+    zigrunk_text good = call.cwd;
+    zigrunk_text suffix = text_of(".x");
+    zigrunk_variable variable = {text_of("A"), text_of("B")};
+    zigrunk_text *texts[] = {&call.cwd, &call.tmp, &call.flag, &call.keep_dir, &suffix, &variable.name, &variable.value,
+        &rows[1].program, &rows[1].path, &rows[1].found};
+    call.suffixes = &suffix;
+    call.suffixes_count = 1;
+    call.variables = &variable;
+    call.variables_count = 1;
+    for (size_t i = 0; i < sizeof texts / sizeof *texts; i++) {
+        good = *texts[i];
+        *texts[i] = bad;
+        refuses(&call, ZIGRUNK_NOT_UTF8, text);
+        *texts[i] = good;
+    }
+    answer a = plan(&call, ZIGRUNK_JSON);
+    CHECK(a.status == ZIGRUNK_OK);
+    release(a);
+}
+
+static void check_faults(void) {
+    zigrunk_plan_call call = small_call();
+    call.programs_count = 1;
+    refuses(&call, ZIGRUNK_NOT_FOUND, "cicc: not found");
+    call.programs_count = 2;
+    rows[1].is_found = 0;
+    refuses(&call, ZIGRUNK_NOT_FOUND, "cicc: not found");
+    call = small_call();
+    call.dry2 = text_of("#$ gcc x\n");
+    refuses(&call, ZIGRUNK_BAD_DRY_RUN, "run 2 line 0: no PATH");
+    call.dry1 = text_of("#$ PATH=/b\n\xFF\n");
+    refuses(&call, ZIGRUNK_BAD_DRY_RUN, "run 1 line 1: not UTF-8");
+    call.dry1 = text_of("#$ PATH=/b\n#$ 'x\n");
+    refuses(&call, ZIGRUNK_BAD_DRY_RUN, "Could not parse shell line");
+    zigrunk_text suffixes[] = {text_of(".x"), text_of("y")};
+    call.suffixes = suffixes;
+    call.suffixes_count = 2;
+    refuses(&call, ZIGRUNK_BAD_SUFFIXES, "bad generated suffixes");
+}
+
+/* Bytes that repeat a text. */
+static zigrunk_text repeated(const char *first, const char *text, size_t count) {
+    size_t head = strlen(first), each = strlen(text);
+    uint8_t *bytes = room(head + count * each, 1);
+    memcpy(bytes, first, head);
+    for (size_t i = 0; i < count; i++) {
+        memcpy(bytes + head + i * each, text, each);
+    }
+    zigrunk_text made = {bytes, head + count * each};
+    return made;
+}
+
+/* Long dry runs and long tables: no answer depends on a fixed size. */
+static void check_long_calls(void) {
+    zigrunk_text dry = repeated("#$ PATH=/b\n", "#$ nvlink a b -o c\n", 4000);
+    answer a = lookups(dry, dry, text_of("/w"));
+    CHECK(a.status == ZIGRUNK_OK && a.count == 2 && is_word(&a, 0, "nvlink") && is_word(&a, 1, "/b"));
+    release(a);
+    zigrunk_found_program *rows_of_many = room(10000, sizeof *rows_of_many);
+    zigrunk_variable *variables = room(10000, sizeof *variables);
+    for (size_t i = 0; i < 10000; i++) {
+        rows_of_many[i] = row("nvlink", i < 9999 ? "/a" : "/b", i < 9999 ? "/a/nvlink" : "/b/nvlink");
+        variables[i].name = text_of("NAME");
+        variables[i].value = text_of("VALUE");
+    }
+    zigrunk_plan_call call = call_of(dry, text_of(""), "-c");
+    call.programs = rows_of_many;
+    call.programs_count = 10000;
+    zigrunk_text_answer sizes = zigrunk_plan(&call, ZIGRUNK_TEXT, (uint8_t *)"", 0);
+    size_t line = strlen("no cd /t && /b/nvlink a b -o c\n");
+    CHECK(sizes.status == ZIGRUNK_OK && sizes.length == strlen("group 0\ngroup 1\n") + 4000 * line);
+    call.dry1 = text_of("#$ PATH=/b\n#$ nvlink a b -o c\n");
+    call.variables = variables;
+    call.variables_count = 10000;
+    a = plan(&call, ZIGRUNK_SHELL);
+    CHECK(a.status == ZIGRUNK_OK && a.length > 10000 * strlen(" NAME=VALUE"));
+    release(a);
+    free(rows_of_many);
+    free(variables);
+    free((void *)dry.bytes);
+    zigrunk_text path = repeated("", "/b:", 20000);
+    a = candidates(text_of("cicc"), path, text_of("/w"));
+    CHECK(a.status == ZIGRUNK_OK && a.count == 20001 && is_word(&a, 19999, "/b/cicc") && is_word(&a, 20000, "/w/cicc"));
+    release(a);
+    free((void *)path.bytes);
+}
+
+/* A file of a folder. */
+static zigrunk_text file(const char *folder, const char *name, const char *end) {
+    char path[4096];
+    snprintf(path, sizeof path, "%s/%s%s", folder, name, end);
+    FILE *opened = fopen(path, "rb");
+    uint8_t *bytes = room(1 << 20, 1);
+    size_t length = opened ? fread(bytes, 1, 1 << 20, opened) : 0;
+    CHECK(opened && length < 1 << 20);
+    if (opened) {
+        fclose(opened);
+    }
+    zigrunk_text text = {bytes, length};
+    return text;
+}
+
+static zigrunk_text without_newline(zigrunk_text text) {
+    while (text.length > 0 && text.bytes[text.length - 1] == '\n') {
+        text.length--;
+    }
+    return text;
+}
+
+/* Plans the dry runs of a call in files. Each program is where its look-up tries first, as `cudaplan` takes it to be. */
+static void check_files(const char *folder, const char *name) {
+    zigrunk_text dry1 = file(folder, name, ".dry1"), dry2 = file(folder, name, ".dry2");
+    zigrunk_text flag = file(folder, name, ".flag"), expected = file(folder, name, ".plan");
+    zigrunk_plan_call call = call_of(dry1, dry2, "");
+    call.flag = without_newline(flag);
+    answer asked = lookups(dry1, dry2, call.cwd);
+    CHECK(asked.status == ZIGRUNK_OK && asked.count > 0 && asked.count % 2 == 0);
+    size_t count = asked.count / 2;
+    zigrunk_found_program *found = room(count, sizeof *found);
+    answer *paths = room(count, sizeof *paths);
+    memset(found, 0, count * sizeof *found);
+    for (size_t i = 0; i < count; i++) {
+        found[i].program = text_at(&asked, 2 * i);
+        found[i].path = text_at(&asked, 2 * i + 1);
+        paths[i] = candidates(found[i].program, found[i].path, call.cwd);
+        CHECK(paths[i].status == ZIGRUNK_OK && paths[i].count > 0);
+        found[i].found = text_at(&paths[i], 0);
+        found[i].is_found = 1;
+    }
+    call.programs = found;
+    call.programs_count = count;
+    answer a = plan(&call, ZIGRUNK_TEXT);
+    CHECK(a.status == ZIGRUNK_OK && a.length == expected.length && memcmp(a.out, expected.bytes, a.length) == 0);
+    release(a);
+    for (uint32_t form = ZIGRUNK_JSON; form <= ZIGRUNK_SHELL; form++) {
+        a = plan(&call, form);
+        CHECK(a.status == ZIGRUNK_OK);
+        release(a);
+    }
+    for (size_t i = 0; i < count; i++) {
+        release(paths[i]);
+    }
+    release(asked);
+    free(paths);
+    free(found);
+    free((void *)dry1.bytes);
+    free((void *)dry2.bytes);
+    free((void *)flag.bytes);
+    free((void *)expected.bytes);
+}
+
+int main(int count, char **arguments) {
+    check_lookups();
+    check_small_plans();
+    check_forms();
+    check_bad_numbers();
+    check_bad_texts();
+    check_faults();
+    check_long_calls();
+    for (int i = 2; i < count; i++) {
+        check_files(arguments[1], arguments[i]);
+    }
+    return report();
+}
