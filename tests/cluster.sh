@@ -38,13 +38,13 @@ same() {
     fi
 }
 
-# timed COMMAND WORD..: runs it; its seconds are $seconds, in tenths.
+# timed COMMAND WORD..: runs it; its seconds are $seconds, in tenths. It may set the time of its end, $end.
 timed() {
-    local start
+    local start end=''
     start=$(date +%s%N)
     "$@"
     status=$?
-    seconds=$(printf '%s\n' $((($(date +%s%N) - start) / 100000000)) | sed 's/.$/.&/')
+    seconds=$(printf '%s\n' $(((${end:-$(date +%s%N)} - start) / 100000000)) | sed 's/.$/.&/')
 }
 
 targets='-gencode=arch=compute_80,code=sm_80 -gencode=arch=compute_86,code=sm_86 -gencode=arch=compute_90,code=sm_90'
@@ -60,8 +60,13 @@ batch() {
         ZIGRUNK_RUNNER="$examples/slurm/step.sh" ZIGRUNK_JOBS=$(($1 + 2)) "${@:3}" zigrunk-batch "$2" 2> err > out
 }
 
+# array LIST: an array job. sbatch --wait looks for the end only every half minute, so squeue says when that was.
 array() {
-    sbatch -Q --wait --requeue -n1 --array=1-"$(wc -l < "$1")" -o calls.%a.log "${@:2}" "$examples/slurm/array.sh" "$1"
+    sbatch -Q --wait --requeue -n1 --array=1-"$(wc -l < "$1")" -o calls.%a.log "$examples/slurm/array.sh" "$1" &
+    sleep 1
+    while [ -n "$(squeue -h)" ]; do sleep 0.2; done
+    end=$(date +%s%N)
+    wait "$!"
 }
 
 # objects SUFFIX: a line for each object that isn't nvcc's. Symbols that strip removes hold nvcc's random file names.
@@ -93,9 +98,11 @@ void c$number(float *x) { k$number<<<1, 32>>>(x); }
 END
     done
     calls nvcc nvcc 20 > by_nvcc
+    printf '%s\n' '#!/bin/sh' 'exec sleep 0.3' > nap
+    chmod +x nap
 }
 
-equal() {
+by_array() {
     timed taskset -c 1 sh by_nvcc
     whole=$seconds
     echo "20 calls for 3 targets by nvcc on one core: $whole s"
@@ -104,6 +111,9 @@ equal() {
     same 'status of the array' "$status" 0
     same 'objects of the array' "$(objects array)" ''
     echo "the same by an array job on three nodes: $seconds s, ideal $(echo "$whole" | awk '{printf "%.1f", $1 / 3}') s"
+}
+
+by_batch_form() {
     for nodes in 1 2 3; do
         calls nvcc "batch$nodes" 20 > by_batch
         timed batch "$nodes" by_batch
@@ -154,13 +164,14 @@ cancelled() {
 }
 
 # Commands that only sleep show what Slurm costs.
-sleeping() {
-    printf '%s\n' '#!/bin/sh' 'exec sleep 0.3' > nap
-    chmod +x nap
+sleeping_batch() {
     calls nvcc nap 30 > by_batch
     timed batch 3 by_batch STEP_WRAPPER="$PWD/nap" ZIGRUNK_JOBS="${NAP_JOBS:-12}"
     same 'status of sleeping commands' "$status" 0
     echo "390 commands of 0.3 s by the batch form on three nodes: $seconds s, ideal 39 s"
+}
+
+sleeping_array() {
     calls zigrunk-nvcc nap 30 > by_array
     ZIGRUNK_RUNNER="$PWD/nap" timed array by_array
     same 'status of sleeping tasks' "$status" 0
@@ -169,6 +180,6 @@ sleeping() {
 
 start_slurm || skip 'Slurm does not start'
 cd "$scratch/work" && sources || exit 1
-for part in ${PARTS:-equal compile_error killed_node cancelled sleeping}; do "$part"; done
+for part in ${PARTS:-by_array by_batch_form compile_error killed_node cancelled sleeping_batch sleeping_array}; do "$part"; done
 echo "$passed passed, $failed failed"
 [ "$failed" = 0 ]
