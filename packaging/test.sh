@@ -1,6 +1,9 @@
 #!/usr/bin/env bash
-# Installs dist/*.deb in a fresh root of each Debian release, runs the programs there, removes it, and sees that nothing stays.
-# Needs root, debootstrap and the network, else it is skipped with a message. The last line is "N passed, M failed".
+# Installs dist/*.deb in a fresh root of each Debian release, runs the programs there, builds a C program with the library, removes
+# the package, and sees that nothing stays. Needs root, debootstrap and the network, else it is skipped with a message. The last line
+# is "N passed, M failed".
+#
+#   packaging/test.sh [ROOT..]     ROOT: a release of Debian, or the folder of a root, which is copied; by default three releases
 set -u
 cd "$(dirname "$0")/.." || exit 1
 if [ "$(id -u)" -ne 0 ] || ! command -v debootstrap > /dev/null; then
@@ -40,20 +43,59 @@ says() {
     [ "$("$@")" = "$text" ]
 }
 
-for release in bullseye bookworm trixie; do
-    root=$scratch/$release
-    if ! debootstrap --variant=minbase "$release" "$root" > "$scratch/said" 2>&1; then
+# no_mention COMMAND..: whether a command succeeds and prints nothing about this project.
+no_mention() {
+    "$@" > "$scratch/printed" && ! grep zigrunk "$scratch/printed"
+}
+
+# all_found COMMAND..: whether an ldd finds all libraries, versions and symbols.
+all_found() {
+    "$@" > "$scratch/printed" 2>&1 && ! grep -E 'not found|undefined' "$scratch/printed"
+}
+
+# shellcheck disable=SC2016 # for sh
+first_commands='eval "$(zigrunk calls /w /t nvcc -c k.cu -o k.o)"; echo "$flag"; echo "$first_dry_run" | grep -o -e --dryrun'
+dry_runs=$'-c\n--dryrun'
+[ $# -gt 0 ] || set -- bullseye bookworm trixie
+for release in "$@"; do
+    root=$scratch/${release##*/}
+    started=$SECONDS
+    if [ -d "$release" ]; then
+        cp -a --one-file-system "$release" "$root"
+    elif ! debootstrap --variant=minbase "$release" "$root" > "$scratch/said" 2>&1; then
         echo "$release is skipped: $(tail -n 1 "$scratch/said")"
         continue
     fi
     cp "$package" crates/test_plans/data/dry_runs/one_target.dry* "$root/root"
-    inside=(chroot "$root" env -C /root DEBIAN_FRONTEND=noninteractive)
+    # stand-ins for the tools that the dry runs name
+    mkdir -p "$root/root/t" "$root/opt/cuda/bin" "$root/opt/cuda/nvvm/bin"
+    for tool in bin/gcc bin/cudafe++ bin/ptxas bin/fatbinary nvvm/bin/cicc; do
+        ln -s /bin/true "$root/opt/cuda/$tool"
+    done
+    inside=(chroot "$root" env -C /root DEBIAN_FRONTEND=noninteractive LC_ALL=C)
     check "$release: apt-get update" "${inside[@]}" apt-get update
     check "$release: the package installs" "${inside[@]}" apt-get install -y --no-install-recommends "/root/${package##*/}"
     check "$release: the version" says "zigrunk $version" "${inside[@]}" zigrunk --version
     check "$release: a plan" "${inside[@]}" cudaplan plan /w /t -c one_target.dry1 one_target.dry2
+    check "$release: both dry runs of a call" says "$dry_runs" "${inside[@]}" sh -c "$first_commands"
+    check "$release: a plan as JSON" "${inside[@]}" zigrunk json /root /root/t -c one_target.dry1 one_target.dry2
+    check "$release: a plan that Ninja runs" "${inside[@]}" sh -c \
+        'zigrunk ninja /root /root/t -c one_target.dry1 one_target.dry2 > build.ninja && ninja'
+    check "$release: zigrunk-nvcc, for a call that isn't split" says '--preprocess k.cu' "${inside[@]}" \
+        env ZIGRUNK_NVCC=echo zigrunk-nvcc --preprocess k.cu
+    check "$release: what the library needs" all_found "${inside[@]}" ldd -r /usr/lib/libzigrunk.so.1
+    check "$release: a compiler" "${inside[@]}" apt-get install -y --no-install-recommends gcc libc6-dev pkg-config
+    # shellcheck disable=SC2016 # for sh
+    check "$release: the example in C" "${inside[@]}" sh -c \
+        'cc -o example /usr/share/zigrunk/c/example.c $(pkg-config --cflags --libs zigrunk)'
+    check "$release: what it prints" says $'0: a\n1: \'b c\'' "${inside[@]}" ./example 'a "b c"'
+    check "$release: the example with the archive" "${inside[@]}" \
+        cc -o archived /usr/share/zigrunk/c/example.c /usr/lib/libzigrunk.a
+    check "$release: what that prints" says $'0: a\n1: \'b c\'' "${inside[@]}" ./archived 'a "b c"'
     check "$release: removing it" "${inside[@]}" apt-get purge -y zigrunk
-    check "$release: nothing stays" says '' find "$root/usr" "$root/etc" -name '*zigrunk*' -o -name '*cudaplan*'
+    check "$release: nothing stays" says '' find "$root/usr" "$root/etc" "$root/var" -name '*zigrunk*' -o -name '*cudaplan*'
+    check "$release: the linker has forgotten it" no_mention "${inside[@]}" ldconfig -p
+    echo "$release took $((SECONDS - started)) s, with glibc $("${inside[@]}" ldd --version | sed -n '1s/.* //p')"
 done
 echo "$passed passed, $failed failed"
 [ "$failed" -eq 0 ]
