@@ -1,7 +1,7 @@
 #!/usr/bin/env bash
 # Installs into an empty directory whose name has a space, runs each program from there, uninstalls, and sees that nothing stays.
-# Needs the programs and the library that `make build`, `make lib` and the gate leave, and proves nothing. The last line is "N passed,
-# M failed".
+# Needs the programs and the library that `make build`, `make lib` and the gate leave, and proves nothing. The last line is
+# "N passed, M failed".
 set -u
 cd "$(dirname "$0")/.." || exit 1
 if ! .ci/built check programs || ! .ci/built check library; then
@@ -60,15 +60,33 @@ same() {
 
 twice() { exports && exports; }
 # a comment may follow the number
-statuses() { sed -n '/^\/\* Statuses/,/^#if/s/^#define \(ZIGRUNK_[A-Z_0-9]*\) [0-9].*/\1/p' "$top/bindings/c/zigrunk.h"; }
+statuses() { sed -n '/^\/\* Statuses/,/^$/s/^#define \(ZIGRUNK_[A-Z_0-9]*\) [0-9].*/\1/p' "$top/bindings/c/zigrunk.h"; }
 
 check 'the man page declares and describes the calls of the library' same page_calls twice
 check 'the man page lists the statuses of the header' same page_statuses statuses
+
+# records: the records that a file defines, with their fields.
+records() {
+    sed -n '/^typedef struct/,/^}/p' "$top/$1" | sed 's,/\*.*\*/,,; s/ *$//' | grep -v '^\.PP$'
+}
+header_records() { records bindings/c/zigrunk.h | LC_ALL=C sort; }
+page_records() { records man/zigrunk.h.3 | LC_ALL=C sort; }
+
+# missing_numbers: the numbers of the header that the man page lacks.
+missing_numbers() {
+    local name
+    sed -n 's/^#define \(ZIGRUNK_[A-Z_0-9]*\) [0-9].*/\1/p' "$top/bindings/c/zigrunk.h" | while read -r name; do
+        grep -q "\<$name\>" "$top/man/zigrunk.h.3" || echo "$name"
+    done
+}
+check 'the man page has the records of the header' same page_records header_records
+check 'the man page names the numbers of the header' prints '' missing_numbers
 # VERSION is the one place for the version number. The packages take it from there; here are the pages and what is installed.
 version=$(cat VERSION)
 for page in man/*; do
     check "the version of $page" grep -qF "\"zigrunk $version\"" "$page"
 done
+check 'the version of the module for Python' grep -qx "version = \"$version\"" bindings/python/pyproject.toml
 check 'the version of the changelog' grep -qF "## [$version]" CHANGELOG.md
 check 'make install' make -s install DESTDIR="$root" PREFIX=/usr
 check 'a second make install proves nothing' make -s install DESTDIR="$root" PREFIX=/usr
