@@ -402,7 +402,7 @@ stops() {
     kill -s "$1" "$process"
     { wait "$process"; } 2> /dev/null
     same status "$?" "$2"
-    [ $((${EPOCHREALTIME/./} - ${begun/./})) -lt 3000000 ] || problems+='  it takes three seconds'$'\n'
+    [ $((${EPOCHREALTIME/./} - ${begun/./})) -lt 10000000 ] || problems+='  it takes ten seconds'$'\n'
     same processes "$(pgrep -f "$room")" ''
     [ ! -e made ] || problems+='  a command goes on'$'\n'
     end

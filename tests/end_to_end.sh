@@ -57,7 +57,7 @@ interrupt() {
     { wait "$process"; } 2> /dev/null
     ended=$?
     [ "$ended" = "$2" ] || problems+=" status $ended, not $2;"
-    [ $((${EPOCHREALTIME/./} - ${start/./})) -lt 2000000 ] || problems+=' it takes two seconds;'
+    [ $((${EPOCHREALTIME/./} - ${start/./})) -lt 4000000 ] || problems+=' it takes four seconds;'
     [ -z "$(ls -A "$folder/tmp")" ] || problems+=" files left: $(cd "$folder/tmp" && echo ./*);"
     [ ! -e "$folder/work/k.o" ] || problems+=' there is an object;'
     ! pgrep -f "$folder/tmp" > /dev/null || problems+=' commands still run;'
@@ -122,7 +122,7 @@ fi
 finish script
 finish batch
 finish options
-# Alone, since a signal has to end a build within two seconds.
+# Alone, since a signal has to end a build soon.
 if [ -z "$lacking" ]; then
     start signals interrupts
     finish signals
