@@ -1,7 +1,7 @@
 #!/usr/bin/env bash
 # Installs dist/*.deb in a fresh root of each Debian release, runs the programs there, builds a C program with the library,
-# removes the package, and sees that nothing stays. Needs root, debootstrap and the network, else it is skipped with a message. The
-# last line is "N passed, M failed".
+# removes the package, and sees that nothing stays. Needs root, debootstrap and the network, else it is skipped with a message.
+# The last line is "N passed, M failed".
 #
 #   packaging/test.sh [ROOT..]     ROOT: a release of Debian, or the folder of a root, which is copied; by default three releases
 set -u
