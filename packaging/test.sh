@@ -1,7 +1,7 @@
 #!/usr/bin/env bash
-# Installs dist/*.deb in a fresh root of each Debian release, runs the programs there, builds a C program with the library, removes
-# the package, and sees that nothing stays. Needs root, debootstrap and the network, else it is skipped with a message. The last line
-# is "N passed, M failed".
+# Installs dist/*.deb in a fresh root of each Debian release, runs the programs there, builds a C program with the library,
+# removes the package, and sees that nothing stays. Needs root, debootstrap and the network, else it is skipped with a message.
+# The last line is "N passed, M failed".
 #
 #   packaging/test.sh [ROOT..]     ROOT: a release of Debian, or the folder of a root, which is copied; by default three releases
 set -u
@@ -92,6 +92,10 @@ for release in "$@"; do
     check "$release: the example with the archive" "${inside[@]}" \
         cc -o archived /usr/share/zigrunk/c/example.c /usr/lib/libzigrunk.a
     check "$release: what that prints" says $'0: a\n1: \'b c\'' "${inside[@]}" ./archived 'a "b c"'
+    # shellcheck disable=SC2016 # for sh
+    check "$release: a plan by a program in C" "${inside[@]}" sh -c 'cc -o plan /usr/share/zigrunk/c/plan.c \
+        $(pkg-config --cflags --libs zigrunk) && ./plan /root /root/t -c one_target.dry1 one_target.dry2 > script &&
+        grep -q cicc script && sh -n script'
     check "$release: removing it" "${inside[@]}" apt-get purge -y zigrunk
     check "$release: nothing stays" says '' find "$root/usr" "$root/etc" "$root/var" -name '*zigrunk*' -o -name '*cudaplan*'
     check "$release: the linker has forgotten it" no_mention "${inside[@]}" ldconfig -p

@@ -141,6 +141,12 @@ if command -v cc > /dev/null && command -v pkg-config > /dev/null; then
     check 'the version that it has' prints "$version" ./by_shared
     check 'the versions by the archive' cc -o by_archive version.c -I"$root/usr/include" "$root/usr/lib/libzigrunk.a"
     check 'the version that it has' prints "$version" env -u LD_LIBRARY_PATH ./by_archive
+    if command -v python3 > /dev/null; then
+        check 'the version by Python' prints "$version" env PYTHONDONTWRITEBYTECODE=1 \
+            PYTHONPATH="$root/usr/share/zigrunk/python" python3 -c 'import zigrunk; print(zigrunk.version())'
+    else
+        echo 'skipped: the module for Python, without python3'
+    fi
     unset LD_LIBRARY_PATH
 else
     echo 'skipped: calls of the library, without cc or pkg-config'
