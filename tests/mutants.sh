@@ -221,7 +221,7 @@ the dry runs are swapped
 old: "$own/dry1" "$own/dry2"
 new: "$own/dry2" "$own/dry1"
 any plan is run
-old: plain "$reason" "$@"
+old: plain "$(printf '%s\n' "$reason" | sed 1q)" "$@"
 new: :
 outputs stay in Ninja's log
 old: s/^  command =
@@ -298,9 +298,6 @@ new: "$own/dry1"
 commands are dry-run lines
 old: sed '/^#\$ /d'
 new: sed '/^$/d'
-the first failure ends all
-old:  -k 0
-new: 
 groups in the order of texts
 old: -k 2,2n
 new: -k 2,2

@@ -152,7 +152,7 @@ cases() {
     same output "$(cat "$room/out" "$room/err")" ''
     sed "s,$room,ROOM,g" "$room/log" | sort > "$room/sorted"
     cat > "$room/wanted" << END
-ninja [-f] [ROOM/tmp/zigrunk-$user/zigrunk-name/zigrunk.tmp/ninja] [-k] [0]
+ninja [-f] [ROOM/tmp/zigrunk-$user/zigrunk-name/zigrunk.tmp/ninja]
 nvcc [--dryrun] [first]
 nvcc [--dryrun] [second]
 zigrunk [calls] [ROOM/work] [ROOM/tmp/zigrunk-$user/zigrunk-name] [nvcc] [-o] [k.o] [a b.cu] []
@@ -180,7 +180,7 @@ END
     mkdir "$room/shared"
     script ZIGRUNK_TMP="$room/shared" NINJA_DOES='echo "$TMPDIR" > "$LOG.tmp"' -c k.cu -o k.o
     same 'TMPDIR of commands' "$(cat "$room/log.tmp")" "$room/tmp"
-    holds calls "$room/log" "ninja [-f] [$room/shared/zigrunk-$user/zigrunk-name/zigrunk.tmp/ninja] [-k] [0]"
+    holds calls "$room/log" "ninja [-f] [$room/shared/zigrunk-$user/zigrunk-name/zigrunk.tmp/ninja]"
     same 'files left' "$(ls -A "$room/shared")" ''
     script ZIGRUNK_TMP="$room/shared" TMPDIR= NINJA_DOES='echo "$TMPDIR" > "$LOG.tmp"' -c k.cu -o k.o
     same 'TMPDIR of commands' "$(cat "$room/log.tmp")" /tmp
@@ -231,14 +231,14 @@ END
 
     begin 'no TMPDIR'
     script TMPDIR= -c k.cu -o k.o
-    holds calls "$room/log" "ninja [-f] [/tmp/zigrunk-$user/zigrunk-name/zigrunk.tmp/ninja] [-k] [0]"
+    holds calls "$room/log" "ninja [-f] [/tmp/zigrunk-$user/zigrunk-name/zigrunk.tmp/ninja]"
     end
 
     begin 'a relative TMPDIR, and CDPATH'
     mkdir tmp
     script TMPDIR=tmp CDPATH="$room" -c k.cu -o k.o
     same output "$(cat "$room/out" "$room/err")" ''
-    holds calls "$room/log" "ninja [-f] [$room/work/tmp/zigrunk-$user/zigrunk-name/zigrunk.tmp/ninja] [-k] [0]"
+    holds calls "$room/log" "ninja [-f] [$room/work/tmp/zigrunk-$user/zigrunk-name/zigrunk.tmp/ninja]"
     same 'files left' "$(ls -A tmp)" ''
     end
 
@@ -255,7 +255,7 @@ END
     echo other > "$split/file"
     script NINJA_DOES='[ -d "$tmp" ] && stat -c %a "$tmp" > "$LOG.mode"' -c k.cu -o k.o
     same status "$status" 0
-    same 'where' "$(sed -n "s,^ninja \[-f\] \[\(.*\)/zigrunk.tmp.ninja\] \[-k\] \[0\],\1,p" "$room/log" | grep -c "^$room/tmp/zigrunk\.......$")" 1
+    same 'where' "$(sed -n "s,^ninja \[-f\] \[\(.*\)/zigrunk.tmp.ninja\],\1,p" "$room/log" | grep -c "^$room/tmp/zigrunk\.......$")" 1
     same 'mode' "$(cat "$room/log.mode")" 700
     same output "$(cat "$room/out" "$room/err")" ''
     same 'files left' "$(cd "$room/tmp" && find . -type f)" "./zigrunk-$user/zigrunk-name/file"
@@ -265,7 +265,7 @@ END
     mkdir -m 700 "$room/tmp/zigrunk-$user"
     mkdir "$room/tmp/zigrunk-$user/other"
     script -c k.cu -o k.o
-    holds calls "$room/log" "ninja [-f] [$split/zigrunk.tmp/ninja] [-k] [0]"
+    holds calls "$room/log" "ninja [-f] [$split/zigrunk.tmp/ninja]"
     same 'files left' "$(cd "$room/tmp" && find . -mindepth 1)" "./zigrunk-$user"$'\n'"./zigrunk-$user/other"
     end
 
@@ -277,7 +277,7 @@ END
         eval "$way"
         script -c k.cu -o k.o
         same status "$status" 0
-        same 'where' "$(sed -n "s,^ninja \[-f\] \[\(.*\)/zigrunk.tmp.ninja\] \[-k\] \[0\],\1,p" "$room/log" | grep -c "^$room/tmp/zigrunk\.......$")" 1
+        same 'where' "$(sed -n "s,^ninja \[-f\] \[\(.*\)/zigrunk.tmp.ninja\],\1,p" "$room/log" | grep -c "^$room/tmp/zigrunk\.......$")" 1
         same 'random directories left' "$(cd "$room/tmp" && ls -d zigrunk.?????? 2> /dev/null)" ''
         end
     done
@@ -290,7 +290,7 @@ END
         printf '%s\n' '#!/bin/sh' 'rmdir "$1" 2> /dev/null' "exec $(command -v find) \"\$@\"" > "$room/bin/find"
         chmod +x "$room/bin/find"
         script PATH="$room/bin:$PATH" -c k.cu -o k.o
-        holds calls "$room/log" "ninja [-f] [$split/zigrunk.tmp/ninja] [-k] [0]"
+        holds calls "$room/log" "ninja [-f] [$split/zigrunk.tmp/ninja]"
         leaves_nothing
         end
         begin 'directories are made once'
@@ -435,17 +435,17 @@ END
 
     begin 'the number of commands'
     script JOBS=3 -c k.cu -o k.o
-    holds calls "$room/log" "ninja [-f] [$split/zigrunk.tmp/ninja] [-k] [0] [-j] [3]"
+    holds calls "$room/log" "ninja [-f] [$split/zigrunk.tmp/ninja] [-j] [3]"
     script JOBS= jobs=4 -c k.cu -o k.o
-    holds calls "$room/log" "ninja [-f] [$split/zigrunk.tmp/ninja] [-k] [0]"
+    holds calls "$room/log" "ninja [-f] [$split/zigrunk.tmp/ninja]"
     script jobs=4 -c k.cu -o k.o
-    holds 'calls by a variable' "$room/log" "ninja [-f] [$split/zigrunk.tmp/ninja] [-k] [0]"
+    holds 'calls by a variable' "$room/log" "ninja [-f] [$split/zigrunk.tmp/ninja]"
     end
 
     for flag in -fatbin --fatbin; do
         begin "the flag $flag"
         script FLAG="$flag" JOBS=3 -c k.cu -o k.o
-        holds calls "$room/log" "ninja [-f] [$split/zigrunk.tmp/ninja] [-k] [0] [-j] [3]"
+        holds calls "$room/log" "ninja [-f] [$split/zigrunk.tmp/ninja] [-j] [3]"
         script FLAG="$flag" ZIGRUNK_PLAN="$room/plan" -c k.cu -o k.o
         same plan "$(cat "$room/plan")" "$split"
         end
