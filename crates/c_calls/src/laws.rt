@@ -7,7 +7,7 @@ pub fn ranges_cut()
     ensures { laws.RangesCut }
 {}
 
-/// Numbers of statuses and statuses stand for one another.
+/// A status is found again by its number.
 pub fn status_numbers()
     ensures { laws.NumbersName }
 {}

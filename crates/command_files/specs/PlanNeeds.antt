@@ -23,7 +23,7 @@ is_host_compiler tools.Ptxas = false
 is_host_compiler tools.Fatbinary = false
 is_host_compiler tools.Other = true
 
--- The role of a command in the group with a number, of so many: a host compiler preprocesses in the front group and in device
+-- The role of a command in the group numbered `group` of `count`: a host compiler preprocesses in the front group and in device
 -- groups. The last group is the final one, unless it is also the first.
 abbrev pub role_of : ℕ → ℕ → Bool → Role
 role_of count group compiles =

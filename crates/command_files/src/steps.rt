@@ -39,7 +39,7 @@ fn is_host_compiler(tool: Tool) -> bool
     }
 }
 
-// The role of a command in a group with a number, of so many. `compiles`: whether its program is a host compiler.
+// The role of a command in the group numbered `group` of `count`. `compiles`: whether its program is a host compiler.
 fn role_of(count: usize, group: usize, compiles: bool) -> Role
     ensures { result ≡ spec.role_of count group compiles }
 {
@@ -58,7 +58,7 @@ fn role_of(count: usize, group: usize, compiles: bool) -> Role
     }
 }
 
-// A command in a group with a number, of so many.
+// A command of the group numbered `group` of `count`.
 fn step_of(
     alloc: Global,
     count: usize,

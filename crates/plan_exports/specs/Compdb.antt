@@ -23,7 +23,7 @@ records_by files c = if files.complete then [] else map (record_data c) files.re
 abbrev pub records_of : NvccGeneratedSubcommand → List Data
 records_of c = records_by (files_of_words c.exe c.args c.cwd) c
 
--- The records of groups from a number on, of so many. The host compilers of all groups but the last preprocess the source; in
+-- The records of these groups, the first of which has the number `group`, of `count` in all. The host compilers of all groups but the last preprocess the source; in
 -- the last one they compile what cudafe++ wrote.
 abbrev pub records_from : ℕ → ℕ → List (List NvccGeneratedSubcommand) → List Data
 records_from count group [] = []

@@ -36,7 +36,7 @@ further_line path = 92 ∷ 110 ∷ shown_name path
 abbrev pub label : List ℕ → CommandFiles → List ℕ
 label exe files = shown_name exe ++ (flat_map further_line files.writes ++ flat_map further_line files.may_write)
 
--- the title of a device group, and that of any group, of so many
+-- the title of a device group, and that of any group of `count`
 abbrev pub device_title : ℕ → List ℕ
 device_title group = codes "device group " ++ numeral group
 

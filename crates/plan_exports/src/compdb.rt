@@ -111,7 +111,7 @@ fn push_group(
     Ok(())
 }
 
-// Adds the records of a group with a number, of so many, unless it is the last.
+// Adds the records of a group, unless it is the last.
 fn push_unless_last(
     alloc: Global,
     list: &mut Vec<Value>,

@@ -84,7 +84,7 @@ fn push_device_title(alloc: Global, text: &mut String, group: usize) -> Result<(
     push_number(alloc, text, group)
 }
 
-// Adds the title of a group, of so many.
+// Adds the title of the group numbered `group` of `count`.
 fn push_title(
     alloc: Global,
     text: &mut String,
@@ -141,7 +141,7 @@ fn push_node(
     text.push_str("\"] }\n")
 }
 
-// The line of a command, by its number and that of its group, of so many.
+// The line of the command numbered `number`, in the group numbered `group` of `count`.
 fn node_line(
     alloc: Global,
     count: usize,

@@ -257,7 +257,7 @@ fn push_edges(
     Ok(())
 }
 
-// What is behind so many of a list of what commands need.
+// The needs of all commands but the first `count`.
 fn needs_behind(needs: &[Vec<usize>], count: usize) -> &[Vec<usize>]
     ensures { map vec_items result.now ≡ drop count (map vec_items needs.now) }
 {
