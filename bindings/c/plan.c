@@ -1,10 +1,14 @@
-/* Plans one nvcc call as a script for a shell: plan CWD TMP FLAG DRY1 DRY2. Each program has to be at the first path that its
- * look-up tries. */
+/* Plans one nvcc call as a script for a shell: plan CWD TMP FLAG DRY1 DRY2. A program that isn't on this machine counts as
+ * being at the first path that its look-up tries, so that you can plan for another machine. */
+#define _POSIX_C_SOURCE 200809L
 #include <zigrunk.h>
 
+#include <limits.h>
 #include <stdio.h>
 #include <stdlib.h>
 #include <string.h>
+#include <sys/stat.h>
+#include <unistd.h>
 
 static void *room(size_t size) {
     void *at = calloc(size + 1, 1);
@@ -29,6 +33,18 @@ static zigrunk_text file(const char *path) {
     zigrunk_text text = {bytes, fread(bytes, 1, 1 << 20, opened)};
     fclose(opened);
     return text;
+}
+
+/* Whether a path names a file that may be run. */
+static int is_program(const uint8_t *bytes, size_t length) {
+    char path[PATH_MAX];
+    struct stat found;
+    if (length >= sizeof path) {
+        return 0;
+    }
+    memcpy(path, bytes, length);
+    path[length] = 0;
+    return stat(path, &found) == 0 && S_ISREG(found.st_mode) && access(path, X_OK) == 0;
 }
 
 int main(int count, char **arguments) {
@@ -68,7 +84,11 @@ int main(int count, char **arguments) {
         if (tried.status != ZIGRUNK_OK || tried.count == 0 || tried.count > 64 || tried.length > sizeof paths - used) {
             return 1;
         }
-        row->found = (zigrunk_text){paths + used, at[0].length};
+        size_t which = 0;
+        for (size_t i = tried.count; i > 0; i--) {
+            which = is_program(paths + used + at[i - 1].offset, at[i - 1].length) ? i - 1 : which;
+        }
+        row->found = (zigrunk_text){paths + used + at[which].offset, at[which].length};
         row->is_found = 1;
         used += tried.length;
     }
