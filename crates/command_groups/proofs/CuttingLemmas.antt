@@ -1,5 +1,5 @@
 -- The plan that labels are cut into is the plan of the fates.
-use Rattle.std.proofs.Common.{◌≡◌, ℕ, suc, zero, List, [], ◌∷◌, ◌++◌, true, false, cond, map, length, refl, sym, ap, ◌∙◌, arith, append_assoc, Option, Some, None, Result, Ok, Err}
+use Rattle.std.proofs.Common.{◌≡◌, ℕ, suc, zero, List, [], ◌∷◌, ◌++◌, true, false, cond, map, length, refl, sym, ap, ◌∙◌, arith, append_assoc, append-nil, Option, Some, None, Result, Ok, Err}
 use Rattle.std.specs.Prelude.{◌==◌, slice_get, fold, replicate, filter_map, if◌then◌else◌}
 use Rattle.std.specs.List.{list_any}
 use Rattle.std.specs.Str.{bytes_eq}
@@ -48,6 +48,19 @@ zipped_nothing zero [] e = refl
 zipped_nothing zero (h ∷ hs) e = absurd (omega arith)
 zipped_nothing (suc n) [] e = absurd (omega arith)
 zipped_nothing (suc n) (h ∷ hs) e = ap (λ ts. h ∷ ts) (zipped_nothing n hs (omega arith))
+
+pub zipped_with_nothing : {X : Type 0} (names : List (List ℕ)) (gs : List (List X)) → length gs ≡ suc (suc (length names)) → zipped gs ([] ∷ (map (λ name. []) names ++ [] ∷ [])) ≡ gs
+zipped_with_nothing {X = X} names = past_first
+  where
+    rest : (names : List (List ℕ)) (gs : List (List X)) → length gs ≡ suc (length names) → zipped gs (map (λ name. []) names ++ [] ∷ []) ≡ gs
+    rest names [] e = absurd (omega arith)
+    rest [] (g ∷ []) e = ap (λ t. t ∷ []) (append-nil g)
+    rest [] (g ∷ h ∷ gs) e = absurd (omega arith)
+    rest (n ∷ ns) (g ∷ gs) e = λ i. append-nil g i ∷ rest ns gs (omega arith) i
+
+    past_first : (gs : List (List X)) → length gs ≡ suc (suc (length names)) → zipped gs ([] ∷ (map (λ name. []) names ++ [] ∷ [])) ≡ gs
+    past_first [] e = absurd (omega arith)
+    past_first (g ∷ gs) e = λ i. append-nil g i ∷ rest names gs (omega arith) i
 
 module _ {X : Type 0} (x : X) (g : List ℕ → List X) where
   -- the groups, once a command joins the one of a name
@@ -156,21 +169,7 @@ module _ (s : PlanSetting) (opened : Opened) (d : Distinct (names_of opened)) wh
   }
 
   cut_after : (cut : CutState) (ls : List Labelled) → length cut.groups ≡ suc (suc (length opened)) → fold (with_labelled s opened) cut ls ≡ cut_with cut (map (settled opened) ls)
-  cut_after cut [] h = λ i. record { groups = sym (kept_groups cut.groups h) i; dropped = nil_right cut.dropped i }
-    where
-      nil_right : {X : Type 0} (xs : List X) → xs ≡ xs ++ []
-      nil_right [] = refl
-      nil_right (x ∷ xs) = ap (λ ys. x ∷ ys) (nil_right xs)
-
-      zipped_right : {X : Type 0} (names : List (List ℕ)) (gs : List (List X)) → length gs ≡ suc (length names) → zipped gs (map (λ name. []) names ++ [] ∷ []) ≡ gs
-      zipped_right names [] e = absurd (omega arith)
-      zipped_right [] (g ∷ []) e = ap (λ t. t ∷ []) (sym (nil_right g))
-      zipped_right [] (g ∷ h ∷ gs) e = absurd (omega arith)
-      zipped_right (n ∷ ns) (g ∷ gs) e = λ i. sym (nil_right g) i ∷ zipped_right ns gs (omega arith) i
-
-      kept_groups : (gs : List (List NvccGeneratedSubcommand)) → length gs ≡ suc (suc (length opened)) → zipped gs (all_groups []) ≡ gs
-      kept_groups [] e = absurd (omega arith)
-      kept_groups (g ∷ gs) e = λ i. sym (nil_right g) i ∷ zipped_right (names_of opened) gs (omega (arith, names_length opened)) i
+  cut_after cut [] h = λ i. record { groups = sym (zipped_with_nothing (names_of opened) cut.groups (omega (arith, h, names_length opened))) i; dropped = sym (append-nil cut.dropped) i }
   cut_after cut (l ∷ ls) h =
       cut_after (with_labelled s opened cut l) ls (long (group_of_label opened l.label))
       ∙ by_result cut l.staged (map (settled opened) ls) (fate_by opened l.label) (group_of_label opened l.label) (fits l.staged (map (settled opened) ls) l.label)

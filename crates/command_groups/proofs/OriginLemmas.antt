@@ -23,7 +23,7 @@ use Rattle.command_groups.specs.Grouping.{Labelled, GroupingState, grouped}
 use Rattle.command_groups.specs.Cutting.{fate_at, fate_by, settled, group_of_label}
 use Rattle.command_groups.specs.Origins.{origin_of, origins_by, origins_of_placed, origins_of_staged, origins_or_fault, plan_in}
 use Rattle.command_groups.specs.OriginCutting.{with_grouped_origin, with_origin, no_origins, origin_groups}
-use Rattle.command_groups.proofs.CuttingLemmas.{zipped, cons_at, put_before, zipped_nothing, joined_by, joined_at, last_joined, put_length, names_length}
+use Rattle.command_groups.proofs.CuttingLemmas.{zipped, cons_at, put_before, zipped_nothing, zipped_with_nothing, joined_by, joined_at, last_joined, put_length, names_length}
 use Rattle.command_groups.proofs.FateLemmas.{Distinct}
 use Rattle.command_groups.proofs.GroupingLemmas.{labels_are_fates, names_are_opened, names_are_distinct}
 
@@ -78,21 +78,7 @@ module _ (opened : Opened) (d : Distinct (names_of opened)) where
   by_result gs c ps place (Err reason) f = ap (zipped gs) (sym f)
 
   groups_after : (gs : List (List Origin)) (ls : List Labelled) → length gs ≡ suc (suc (length opened)) → fold (with_origin opened) gs ls ≡ zipped gs (all_groups (map (settled opened) ls))
-  groups_after gs [] h = sym (kept_groups gs h)
-    where
-      nil_right : {X : Type 0} (xs : List X) → xs ≡ xs ++ []
-      nil_right [] = refl
-      nil_right (x ∷ xs) = ap (λ ys. x ∷ ys) (nil_right xs)
-
-      zipped_right : {X : Type 0} (names : List (List ℕ)) (gs : List (List X)) → length gs ≡ suc (length names) → zipped gs (map (λ name. []) names ++ [] ∷ []) ≡ gs
-      zipped_right names [] e = absurd (omega arith)
-      zipped_right [] (g ∷ []) e = ap (λ t. t ∷ []) (sym (nil_right g))
-      zipped_right [] (g ∷ h ∷ gs) e = absurd (omega arith)
-      zipped_right (n ∷ ns) (g ∷ gs) e = λ i. sym (nil_right g) i ∷ zipped_right ns gs (omega arith) i
-
-      kept_groups : (gs : List (List Origin)) → length gs ≡ suc (suc (length opened)) → zipped gs (all_groups []) ≡ gs
-      kept_groups [] e = absurd (omega arith)
-      kept_groups (g ∷ gs) e = λ i. sym (nil_right g) i ∷ zipped_right (names_of opened) gs (omega (arith, names_length opened)) i
+  groups_after gs [] h = sym (zipped_with_nothing (names_of opened) gs (omega (arith, h, names_length opened)))
   groups_after gs (l ∷ ls) h =
       groups_after (with_origin opened gs l) ls (long (group_of_label opened l.label))
       ∙ by_result gs l.staged (map (settled opened) ls) (fate_by opened l.label) (group_of_label opened l.label) (fits l.staged (map (settled opened) ls) l.label)
