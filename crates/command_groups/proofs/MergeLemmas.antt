@@ -54,21 +54,34 @@ not_less m n h = elim (nat_lt m n) as (λ b. nat_lt m n ≡ b → b ≡ false) [
     below : m < n → ⊥
     below k = omega arith
 
+-- Commands by line, and on equal lines by what a test says of their runs.
+
+module _ (test : ℕ → ℕ → Bool) (Holds : ℕ → ℕ → Type 0) (says : (m n : ℕ) → test m n ≡ true → Holds m n) (said : (m n : ℕ) → Holds m n → test m n ≡ true) where
+  abbrev ByLine : MergedCommand → MergedCommand → Type 0
+  ByLine a b = (a.line < b.line) ⊎ ((a.line ≡ b.line) × Holds a.run b.run)
+
+  told_by_line : (a b : MergedCommand) → (nat_lt a.line b.line || ((a.line == b.line) && test a.run b.run)) ≡ true → ByLine a b
+  told_by_line a b e =
+      one_of (nat_lt a.line b.line) ((a.line == b.line) && test a.run b.run)
+      (λ f. inl (ltb-true a.line b.line f))
+      (λ f. let p = and_parts (a.line == b.line) (test a.run b.run) f in inr (eqb-true a.line b.line p.0, says a.run b.run p.1))
+      e
+
+  tells_by_line : (a b : MergedCommand) → ByLine a b → (nat_lt a.line b.line || ((a.line == b.line) && test a.run b.run)) ≡ true
+  tells_by_line a b (inl h) = left_true (nat_lt a.line b.line) ((a.line == b.line) && test a.run b.run) (lt-ltb a.line b.line h)
+  tells_by_line a b (inr h) =
+      right_true (nat_lt a.line b.line) ((a.line == b.line) && test a.run b.run) (both_true (a.line == b.line) (test a.run b.run) (eq-eqb a.line b.line h.0) (said a.run b.run h.1))
+
 -- The order is one.
 
 abbrev Before : MergedCommand → MergedCommand → Type 0
 Before a b = (a.line < b.line) ⊎ ((a.line ≡ b.line) × (a.run ≤ b.run))
 
 told : (a b : MergedCommand) → is_in_order a b ≡ true → Before a b
-told a b e =
-    one_of (nat_lt a.line b.line) ((a.line == b.line) && nat_le a.run b.run)
-    (λ f. inl (ltb-true a.line b.line f))
-    (λ f. let p = and_parts (a.line == b.line) (nat_le a.run b.run) f in inr (eqb-true a.line b.line p.0, leb-true a.run b.run p.1))
-    e
+told = told_by_line nat_le (λ m n. m ≤ n) leb-true le-leb
 
 tells : (a b : MergedCommand) → Before a b → is_in_order a b ≡ true
-tells a b (inl h) = left_true (nat_lt a.line b.line) ((a.line == b.line) && nat_le a.run b.run) (lt-ltb a.line b.line h)
-tells a b (inr h) = right_true (nat_lt a.line b.line) ((a.line == b.line) && nat_le a.run b.run) (both_true (a.line == b.line) (nat_le a.run b.run) (eq-eqb a.line b.line h.0) (le-leb a.run b.run h.1))
+tells = tells_by_line nat_le (λ m n. m ≤ n) leb-true le-leb
 
 chained : (a b c : MergedCommand) → Before a b → Before b c → Before a c
 chained a b c (inl h) (inl k) = inl (omega arith)
@@ -172,15 +185,10 @@ abbrev StrictlyBefore : MergedCommand → MergedCommand → Type 0
 StrictlyBefore a b = (a.line < b.line) ⊎ ((a.line ≡ b.line) × (a.run < b.run))
 
 strictly_told : (a b : MergedCommand) → is_before a b ≡ true → StrictlyBefore a b
-strictly_told a b e =
-    one_of (nat_lt a.line b.line) ((a.line == b.line) && nat_lt a.run b.run)
-    (λ f. inl (ltb-true a.line b.line f))
-    (λ f. let p = and_parts (a.line == b.line) (nat_lt a.run b.run) f in inr (eqb-true a.line b.line p.0, ltb-true a.run b.run p.1))
-    e
+strictly_told = told_by_line nat_lt (λ m n. m < n) ltb-true lt-ltb
 
 strictly_tells : (a b : MergedCommand) → StrictlyBefore a b → is_before a b ≡ true
-strictly_tells a b (inl h) = left_true (nat_lt a.line b.line) ((a.line == b.line) && nat_lt a.run b.run) (lt-ltb a.line b.line h)
-strictly_tells a b (inr h) = right_true (nat_lt a.line b.line) ((a.line == b.line) && nat_lt a.run b.run) (both_true (a.line == b.line) (nat_lt a.run b.run) (eq-eqb a.line b.line h.0) (lt-ltb a.run b.run h.1))
+strictly_tells = tells_by_line nat_lt (λ m n. m < n) ltb-true lt-ltb
 
 not_both : (a b : MergedCommand) → StrictlyBefore a b → StrictlyBefore b a → ⊥
 not_both a b (inl h) (inl k) = omega arith
