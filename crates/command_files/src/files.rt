@@ -137,16 +137,23 @@ fn files_of_arguments(
     })
 }
 
+// The files of a line that leaves out none of those that it writes.
+fn all_written(alloc: Global, reads: Words, writes: Words, complete: bool) -> CommandFiles
+    ensures { result ≡ record { reads = reads; writes = writes; may_write = []; complete = complete } }
+{
+    CommandFiles {
+        reads,
+        writes,
+        may_write: Words::new(alloc),
+        complete,
+    }
+}
+
 // No files, of a line that can't be read.
 fn unknown_files(alloc: Global) -> CommandFiles
     ensures { result ≡ spec.unknown_files }
 {
-    CommandFiles {
-        reads: Words::new(alloc),
-        writes: Words::new(alloc),
-        may_write: Words::new(alloc),
-        complete: false,
-    }
+    all_written(alloc, Words::new(alloc), Words::new(alloc), false)
 }
 
 // The files of what a line was read as.
@@ -282,12 +289,9 @@ fn written_by_fatbinary(alloc: Global, cwd: &str, words: &[String]) -> Result<Wo
 fn fatbinary_files(alloc: Global, cwd: &str, words: &[String]) -> Result<CommandFiles, AllocError>
     ensures { IfOk result (λ files. files ≡ spec.fatbinary_files cwd.now (map string_bytes words.now)) }
 {
-    Ok(CommandFiles {
-        reads: image_files(alloc, cwd, words)?,
-        writes: written_by_fatbinary(alloc, cwd, words)?,
-        may_write: Words::new(alloc),
-        complete: true,
-    })
+    let reads = image_files(alloc, cwd, words)?;
+    let writes = written_by_fatbinary(alloc, cwd, words)?;
+    Ok(all_written(alloc, reads, writes, true))
 }
 
 // The word right before the first that is `option`.
@@ -345,12 +349,9 @@ fn read_by_host(alloc: Global, cwd: &str, words: &[String]) -> Result<Words, All
 fn host_files(alloc: Global, cwd: &str, words: &[String]) -> Result<CommandFiles, AllocError>
     ensures { IfOk result (λ files. files ≡ spec.host_files cwd.now (map string_bytes words.now)) }
 {
-    Ok(CommandFiles {
-        reads: read_by_host(alloc, cwd, words)?,
-        writes: written_by_host(alloc, cwd, words)?,
-        may_write: Words::new(alloc),
-        complete: false,
-    })
+    let reads = read_by_host(alloc, cwd, words)?;
+    let writes = written_by_host(alloc, cwd, words)?;
+    Ok(all_written(alloc, reads, writes, false))
 }
 
 /// The files that a planned command reads and writes according to its words.
