@@ -54,465 +54,126 @@ pub enum Purpose {
     Passes(Reason),
 }
 
+// The entries of a table, in groups of a form, a purpose and the texts: `flag PURPOSE => "TEXT" ..;` for options without a
+// value, and `FORM PURPOSE => "TEXT" ..;` for options with one. `FORM` is a constant such as `JOINED`.
+macro_rules! entries {
+    ($($form:ident $purpose:expr => $($text:literal)+;)+) => {
+        [$($(entry!($form, $purpose, $text)),+),+]
+    };
+}
+
+// One entry of `entries`.
+macro_rules! entry {
+    (flag, $purpose:expr, $text:literal) => {
+        ArgInfo::Flag($text, $purpose)
+    };
+    ($form:ident, $purpose:expr, $text:literal) => {
+        ArgInfo::TakeArg($text, $purpose, $form)
+    };
+}
+
 /// nvcc 13's options: the names in `nvcc --help`, long and short, and `-Xcudafe`, `-Xcicc` and `-Xfatbin`, which nvcc takes
 /// without listing them. No two entries have one text.
 ///
 /// nvcc takes a value after `=` or as the next word, whatever that is. `-D`, `-I`, `-L`, `-O`, `-U`, `-l` and `-t` take it
 /// right behind them too. No other word that begins with a name is that option.
-pub const ARGS: [ArgInfo<Purpose>; 299] = [
-    ArgInfo::Flag("--allow-unsupported-compiler", Purpose::Plain),
-    ArgInfo::Flag("-allow-unsupported-compiler", Purpose::Plain),
-    ArgInfo::Flag("--compile-as-tools-patch", Purpose::Plain),
-    ArgInfo::Flag("-astoolspatch", Purpose::Plain),
-    ArgInfo::Flag("--debug", Purpose::Plain),
-    ArgInfo::Flag("-g", Purpose::Plain),
-    ArgInfo::Flag("--device-debug", Purpose::Plain),
-    ArgInfo::Flag("-G", Purpose::Plain),
-    ArgInfo::Flag("--disable-warnings", Purpose::Plain),
-    ArgInfo::Flag("-w", Purpose::Plain),
-    ArgInfo::Flag("--display-error-number", Purpose::Plain),
-    ArgInfo::Flag("-err-no", Purpose::Plain),
-    ArgInfo::Flag("--dlink-time-opt", Purpose::Plain),
-    ArgInfo::Flag("-dlto", Purpose::Plain),
-    ArgInfo::Flag("--dont-use-profile", Purpose::Plain),
-    ArgInfo::Flag("-noprof", Purpose::Plain),
-    ArgInfo::Flag("--expt-extended-lambda", Purpose::Plain),
-    ArgInfo::Flag("-expt-extended-lambda", Purpose::Plain),
-    ArgInfo::Flag("--expt-relaxed-constexpr", Purpose::Plain),
-    ArgInfo::Flag("-expt-relaxed-constexpr", Purpose::Plain),
-    ArgInfo::Flag("--extended-lambda", Purpose::Plain),
-    ArgInfo::Flag("-extended-lambda", Purpose::Plain),
-    ArgInfo::Flag("--extensible-whole-program", Purpose::Plain),
-    ArgInfo::Flag("-ewp", Purpose::Plain),
-    ArgInfo::Flag("--extra-device-vectorization", Purpose::Plain),
-    ArgInfo::Flag("-extra-device-vectorization", Purpose::Plain),
-    ArgInfo::Flag("--fdevice-syntax-only", Purpose::Plain),
-    ArgInfo::Flag("-fdevice-syntax-only", Purpose::Plain),
-    ArgInfo::Flag("--force-cl-env-setup", Purpose::Plain),
-    ArgInfo::Flag("-force-cl-env-setup", Purpose::Plain),
-    ArgInfo::Flag("--gen-opt-lto", Purpose::Plain),
-    ArgInfo::Flag("-gen-opt-lto", Purpose::Plain),
-    ArgInfo::Flag("--generate-line-info", Purpose::Plain),
-    ArgInfo::Flag("-lineinfo", Purpose::Plain),
-    ArgInfo::Flag("--keep", Purpose::Plain),
-    ArgInfo::Flag("-keep", Purpose::Plain),
-    ArgInfo::Flag("--keep-device-functions", Purpose::Plain),
-    ArgInfo::Flag("-keep-device-functions", Purpose::Plain),
-    ArgInfo::Flag("--lto", Purpose::Plain),
-    ArgInfo::Flag("-lto", Purpose::Plain),
-    ArgInfo::Flag("--m64", Purpose::Plain),
-    ArgInfo::Flag("-m64", Purpose::Plain),
-    ArgInfo::Flag("--no-align-double", Purpose::Plain),
-    ArgInfo::Flag("--no-compress", Purpose::Plain),
-    ArgInfo::Flag("-no-compress", Purpose::Plain),
-    ArgInfo::Flag("--no-device-link", Purpose::Plain),
-    ArgInfo::Flag("-nodlink", Purpose::Plain),
-    ArgInfo::Flag("--no-display-error-number", Purpose::Plain),
-    ArgInfo::Flag("-no-err-no", Purpose::Plain),
-    ArgInfo::Flag("--no-exceptions", Purpose::Plain),
-    ArgInfo::Flag("-noeh", Purpose::Plain),
-    ArgInfo::Flag("--no-host-device-initializer-list", Purpose::Plain),
-    ArgInfo::Flag("-nohdinitlist", Purpose::Plain),
-    ArgInfo::Flag("--no-host-device-move-forward", Purpose::Plain),
-    ArgInfo::Flag("-nohdmoveforward", Purpose::Plain),
-    ArgInfo::Flag("--profile", Purpose::Plain),
-    ArgInfo::Flag("-pg", Purpose::Plain),
-    ArgInfo::Flag("--relocatable-ptx", Purpose::Plain),
-    ArgInfo::Flag("-reloc-ptx", Purpose::Plain),
-    ArgInfo::Flag("--resource-usage", Purpose::Plain),
-    ArgInfo::Flag("-res-usage", Purpose::Plain),
-    ArgInfo::Flag("--restrict", Purpose::Plain),
-    ArgInfo::Flag("-restrict", Purpose::Plain),
-    ArgInfo::Flag("--save-temps", Purpose::Plain),
-    ArgInfo::Flag("-save-temps", Purpose::Plain),
-    ArgInfo::Flag("--shared", Purpose::Plain),
-    ArgInfo::Flag("-shared", Purpose::Plain),
-    ArgInfo::Flag("--source-in-ptx", Purpose::Plain),
-    ArgInfo::Flag("-src-in-ptx", Purpose::Plain),
-    ArgInfo::Flag("--use-local-env", Purpose::Plain),
-    ArgInfo::Flag("-use-local-env", Purpose::Plain),
-    ArgInfo::Flag("--use_fast_math", Purpose::Plain),
-    ArgInfo::Flag("-use_fast_math", Purpose::Plain),
-    ArgInfo::Flag("--Wdefault-stream-launch", Purpose::Plain),
-    ArgInfo::Flag("-Wdefault-stream-launch", Purpose::Plain),
-    ArgInfo::Flag("--Wext-lambda-captures-this", Purpose::Plain),
-    ArgInfo::Flag("-Wext-lambda-captures-this", Purpose::Plain),
-    ArgInfo::Flag("--Wmissing-launch-bounds", Purpose::Plain),
-    ArgInfo::Flag("-Wmissing-launch-bounds", Purpose::Plain),
-    ArgInfo::Flag("--Wno-deprecated-declarations", Purpose::Plain),
-    ArgInfo::Flag("-Wno-deprecated-declarations", Purpose::Plain),
-    ArgInfo::Flag("--Wno-deprecated-gpu-targets", Purpose::Plain),
-    ArgInfo::Flag("-Wno-deprecated-gpu-targets", Purpose::Plain),
-    ArgInfo::Flag("--Wreorder", Purpose::Plain),
-    ArgInfo::Flag("-Wreorder", Purpose::Plain),
-    ArgInfo::Flag("--forward-unknown-opts", Purpose::Forward),
-    ArgInfo::Flag("-forward-unknown-opts", Purpose::Forward),
-    ArgInfo::Flag("--forward-unknown-to-host-compiler", Purpose::Forward),
-    ArgInfo::Flag("-forward-unknown-to-host-compiler", Purpose::Forward),
-    ArgInfo::Flag("--forward-unknown-to-host-linker", Purpose::Forward),
-    ArgInfo::Flag("-forward-unknown-to-host-linker", Purpose::Forward),
-    ArgInfo::TakeArg("--archive-options", Purpose::Unquoted, EITHER_WAY_OR_EQUALS),
-    ArgInfo::TakeArg("-Xarchive", Purpose::Unquoted, EITHER_WAY_OR_EQUALS),
-    ArgInfo::TakeArg("--archiver-binary", Purpose::Unquoted, EITHER_WAY_OR_EQUALS),
-    ArgInfo::TakeArg("-arbin", Purpose::Unquoted, EITHER_WAY_OR_EQUALS),
-    ArgInfo::TakeArg(
-        "--brief-diagnostics",
-        Purpose::Unquoted,
-        EITHER_WAY_OR_EQUALS,
-    ),
-    ArgInfo::TakeArg("-brief-diag", Purpose::Unquoted, EITHER_WAY_OR_EQUALS),
-    ArgInfo::TakeArg("--cicc-options", Purpose::Unquoted, EITHER_WAY_OR_EQUALS),
-    ArgInfo::TakeArg("-Xcicc", Purpose::Unquoted, EITHER_WAY_OR_EQUALS),
-    ArgInfo::TakeArg("--compiler-bindir", Purpose::Unquoted, EITHER_WAY_OR_EQUALS),
-    ArgInfo::TakeArg("-ccbin", Purpose::Unquoted, EITHER_WAY_OR_EQUALS),
-    ArgInfo::TakeArg(
-        "--compiler-options",
-        Purpose::Unquoted,
-        EITHER_WAY_OR_EQUALS,
-    ),
-    ArgInfo::TakeArg("-Xcompiler", Purpose::Unquoted, EITHER_WAY_OR_EQUALS),
-    ArgInfo::TakeArg("--compress-mode", Purpose::Unquoted, EITHER_WAY_OR_EQUALS),
-    ArgInfo::TakeArg("-compress-mode", Purpose::Unquoted, EITHER_WAY_OR_EQUALS),
-    ArgInfo::TakeArg("--cudadevrt", Purpose::Unquoted, EITHER_WAY_OR_EQUALS),
-    ArgInfo::TakeArg("-cudadevrt", Purpose::Unquoted, EITHER_WAY_OR_EQUALS),
-    ArgInfo::TakeArg("--cudafe-options", Purpose::Unquoted, EITHER_WAY_OR_EQUALS),
-    ArgInfo::TakeArg("-Xcudafe", Purpose::Unquoted, EITHER_WAY_OR_EQUALS),
-    ArgInfo::TakeArg("--cudart", Purpose::Unquoted, EITHER_WAY_OR_EQUALS),
-    ArgInfo::TakeArg("-cudart", Purpose::Unquoted, EITHER_WAY_OR_EQUALS),
-    ArgInfo::TakeArg("--default-stream", Purpose::Unquoted, EITHER_WAY_OR_EQUALS),
-    ArgInfo::TakeArg("-default-stream", Purpose::Unquoted, EITHER_WAY_OR_EQUALS),
-    ArgInfo::TakeArg(
-        "--device-entity-has-hidden-visibility",
-        Purpose::Unquoted,
-        EITHER_WAY_OR_EQUALS,
-    ),
-    ArgInfo::TakeArg(
-        "-device-entity-has-hidden-visibility",
-        Purpose::Unquoted,
-        EITHER_WAY_OR_EQUALS,
-    ),
-    ArgInfo::TakeArg(
-        "--device-stack-protector",
-        Purpose::Unquoted,
-        EITHER_WAY_OR_EQUALS,
-    ),
-    ArgInfo::TakeArg(
-        "-device-stack-protector",
-        Purpose::Unquoted,
-        EITHER_WAY_OR_EQUALS,
-    ),
-    ArgInfo::TakeArg("--diag-error", Purpose::Unquoted, EITHER_WAY_OR_EQUALS),
-    ArgInfo::TakeArg("-diag-error", Purpose::Unquoted, EITHER_WAY_OR_EQUALS),
-    ArgInfo::TakeArg("--diag-suppress", Purpose::Unquoted, EITHER_WAY_OR_EQUALS),
-    ArgInfo::TakeArg("-diag-suppress", Purpose::Unquoted, EITHER_WAY_OR_EQUALS),
-    ArgInfo::TakeArg("--diag-warn", Purpose::Unquoted, EITHER_WAY_OR_EQUALS),
-    ArgInfo::TakeArg("-diag-warn", Purpose::Unquoted, EITHER_WAY_OR_EQUALS),
-    ArgInfo::TakeArg("--dopt", Purpose::Unquoted, EITHER_WAY_OR_EQUALS),
-    ArgInfo::TakeArg("-dopt", Purpose::Unquoted, EITHER_WAY_OR_EQUALS),
-    ArgInfo::TakeArg("--entries", Purpose::Unquoted, EITHER_WAY_OR_EQUALS),
-    ArgInfo::TakeArg("-e", Purpose::Unquoted, EITHER_WAY_OR_EQUALS),
-    ArgInfo::TakeArg("--fatbin-options", Purpose::Unquoted, EITHER_WAY_OR_EQUALS),
-    ArgInfo::TakeArg("-Xfatbin", Purpose::Unquoted, EITHER_WAY_OR_EQUALS),
-    ArgInfo::TakeArg("--fmad", Purpose::Unquoted, EITHER_WAY_OR_EQUALS),
-    ArgInfo::TakeArg("-fmad", Purpose::Unquoted, EITHER_WAY_OR_EQUALS),
-    ArgInfo::TakeArg("--frandom-seed", Purpose::Unquoted, EITHER_WAY_OR_EQUALS),
-    ArgInfo::TakeArg("-frandom-seed", Purpose::Unquoted, EITHER_WAY_OR_EQUALS),
-    ArgInfo::TakeArg(
-        "--ftemplate-backtrace-limit",
-        Purpose::Unquoted,
-        EITHER_WAY_OR_EQUALS,
-    ),
-    ArgInfo::TakeArg(
-        "-ftemplate-backtrace-limit",
-        Purpose::Unquoted,
-        EITHER_WAY_OR_EQUALS,
-    ),
-    ArgInfo::TakeArg("--ftemplate-depth", Purpose::Unquoted, EITHER_WAY_OR_EQUALS),
-    ArgInfo::TakeArg("-ftemplate-depth", Purpose::Unquoted, EITHER_WAY_OR_EQUALS),
-    ArgInfo::TakeArg("--ftz", Purpose::Unquoted, EITHER_WAY_OR_EQUALS),
-    ArgInfo::TakeArg("-ftz", Purpose::Unquoted, EITHER_WAY_OR_EQUALS),
-    ArgInfo::TakeArg(
-        "--jump-table-density",
-        Purpose::Unquoted,
-        EITHER_WAY_OR_EQUALS,
-    ),
-    ArgInfo::TakeArg("-jtd", Purpose::Unquoted, EITHER_WAY_OR_EQUALS),
-    ArgInfo::TakeArg(
-        "--libdevice-directory",
-        Purpose::Unquoted,
-        EITHER_WAY_OR_EQUALS,
-    ),
-    ArgInfo::TakeArg("-ldir", Purpose::Unquoted, EITHER_WAY_OR_EQUALS),
-    ArgInfo::TakeArg("--library", Purpose::Unquoted, EITHER_WAY_OR_EQUALS),
-    ArgInfo::TakeArg("--linker-options", Purpose::Unquoted, EITHER_WAY_OR_EQUALS),
-    ArgInfo::TakeArg("-Xlinker", Purpose::Unquoted, EITHER_WAY_OR_EQUALS),
-    ArgInfo::TakeArg("--machine", Purpose::Unquoted, EITHER_WAY_OR_EQUALS),
-    ArgInfo::TakeArg("-m", Purpose::Unquoted, EITHER_WAY_OR_EQUALS),
-    ArgInfo::TakeArg("--maxrregcount", Purpose::Unquoted, EITHER_WAY_OR_EQUALS),
-    ArgInfo::TakeArg("-maxrregcount", Purpose::Unquoted, EITHER_WAY_OR_EQUALS),
-    ArgInfo::TakeArg("--nvlink-options", Purpose::Unquoted, EITHER_WAY_OR_EQUALS),
-    ArgInfo::TakeArg("-Xnvlink", Purpose::Unquoted, EITHER_WAY_OR_EQUALS),
-    ArgInfo::TakeArg("--Ofast-compile", Purpose::Unquoted, EITHER_WAY_OR_EQUALS),
-    ArgInfo::TakeArg("-Ofc", Purpose::Unquoted, EITHER_WAY_OR_EQUALS),
-    ArgInfo::TakeArg("--optimize", Purpose::Unquoted, EITHER_WAY_OR_EQUALS),
-    ArgInfo::TakeArg("--prec-div", Purpose::Unquoted, EITHER_WAY_OR_EQUALS),
-    ArgInfo::TakeArg("-prec-div", Purpose::Unquoted, EITHER_WAY_OR_EQUALS),
-    ArgInfo::TakeArg("--prec-sqrt", Purpose::Unquoted, EITHER_WAY_OR_EQUALS),
-    ArgInfo::TakeArg("-prec-sqrt", Purpose::Unquoted, EITHER_WAY_OR_EQUALS),
-    ArgInfo::TakeArg("--ptxas-options", Purpose::Unquoted, EITHER_WAY_OR_EQUALS),
-    ArgInfo::TakeArg("-Xptxas", Purpose::Unquoted, EITHER_WAY_OR_EQUALS),
-    ArgInfo::TakeArg("--qpp-config", Purpose::Unquoted, EITHER_WAY_OR_EQUALS),
-    ArgInfo::TakeArg("-qpp-config", Purpose::Unquoted, EITHER_WAY_OR_EQUALS),
-    ArgInfo::TakeArg(
-        "--relocatable-device-code",
-        Purpose::Unquoted,
-        EITHER_WAY_OR_EQUALS,
-    ),
-    ArgInfo::TakeArg("-rdc", Purpose::Unquoted, EITHER_WAY_OR_EQUALS),
-    ArgInfo::TakeArg("--run-args", Purpose::Unquoted, EITHER_WAY_OR_EQUALS),
-    ArgInfo::TakeArg("-run-args", Purpose::Unquoted, EITHER_WAY_OR_EQUALS),
-    ArgInfo::TakeArg("--sanitize", Purpose::Unquoted, EITHER_WAY_OR_EQUALS),
-    ArgInfo::TakeArg("-sanitize", Purpose::Unquoted, EITHER_WAY_OR_EQUALS),
-    ArgInfo::TakeArg("--split-compile", Purpose::Unquoted, EITHER_WAY_OR_EQUALS),
-    ArgInfo::TakeArg("-split-compile", Purpose::Unquoted, EITHER_WAY_OR_EQUALS),
-    ArgInfo::TakeArg(
-        "--split-compile-extended",
-        Purpose::Unquoted,
-        EITHER_WAY_OR_EQUALS,
-    ),
-    ArgInfo::TakeArg(
-        "-split-compile-extended",
-        Purpose::Unquoted,
-        EITHER_WAY_OR_EQUALS,
-    ),
-    ArgInfo::TakeArg(
-        "--static-global-template-stub",
-        Purpose::Unquoted,
-        EITHER_WAY_OR_EQUALS,
-    ),
-    ArgInfo::TakeArg(
-        "-static-global-template-stub",
-        Purpose::Unquoted,
-        EITHER_WAY_OR_EQUALS,
-    ),
-    ArgInfo::TakeArg("--std", Purpose::Unquoted, EITHER_WAY_OR_EQUALS),
-    ArgInfo::TakeArg("-std", Purpose::Unquoted, EITHER_WAY_OR_EQUALS),
-    ArgInfo::TakeArg("--Werror", Purpose::Unquoted, EITHER_WAY_OR_EQUALS),
-    ArgInfo::TakeArg("-Werror", Purpose::Unquoted, EITHER_WAY_OR_EQUALS),
-    ArgInfo::TakeArg("-l", Purpose::Unquoted, EITHER_WAY),
-    ArgInfo::TakeArg("-O", Purpose::Unquoted, EITHER_WAY),
-    ArgInfo::TakeArg("-l=", Purpose::Unquoted, JOINED),
-    ArgInfo::TakeArg("-O=", Purpose::Unquoted, JOINED),
-    ArgInfo::TakeArg("--generate-code", Purpose::Quoted, EITHER_WAY_OR_EQUALS),
-    ArgInfo::TakeArg("-gencode", Purpose::Quoted, EITHER_WAY_OR_EQUALS),
-    ArgInfo::TakeArg("--gpu-architecture", Purpose::Quoted, EITHER_WAY_OR_EQUALS),
-    ArgInfo::TakeArg("-arch", Purpose::Quoted, EITHER_WAY_OR_EQUALS),
-    ArgInfo::TakeArg("--gpu-code", Purpose::Quoted, EITHER_WAY_OR_EQUALS),
-    ArgInfo::TakeArg("-code", Purpose::Quoted, EITHER_WAY_OR_EQUALS),
-    ArgInfo::TakeArg("--include-path", Purpose::Quoted, EITHER_WAY_OR_EQUALS),
-    ArgInfo::TakeArg("--library-path", Purpose::Quoted, EITHER_WAY_OR_EQUALS),
-    ArgInfo::TakeArg("--system-include", Purpose::Quoted, EITHER_WAY_OR_EQUALS),
-    ArgInfo::TakeArg("-isystem", Purpose::Quoted, EITHER_WAY_OR_EQUALS),
-    ArgInfo::TakeArg("-L", Purpose::Quoted, EITHER_WAY),
-    ArgInfo::TakeArg("-L=", Purpose::Quoted, JOINED),
-    ArgInfo::TakeArg("--define-macro", Purpose::Define, EITHER_WAY_OR_EQUALS),
-    ArgInfo::TakeArg("-D", Purpose::Define, EITHER_WAY),
-    ArgInfo::TakeArg("-D=", Purpose::Define, JOINED),
-    ArgInfo::TakeArg("--undefine-macro", Purpose::Undefine, EITHER_WAY_OR_EQUALS),
-    ArgInfo::TakeArg("-U", Purpose::Undefine, EITHER_WAY),
-    ArgInfo::TakeArg("-U=", Purpose::Undefine, JOINED),
-    ArgInfo::TakeArg("-I", Purpose::Include, EITHER_WAY),
-    ArgInfo::TakeArg("-I=", Purpose::Include, JOINED),
-    ArgInfo::TakeArg("--pre-include", Purpose::PreInclude, EITHER_WAY_OR_EQUALS),
-    ArgInfo::TakeArg("-include", Purpose::PreInclude, EITHER_WAY_OR_EQUALS),
-    ArgInfo::TakeArg(
-        "--optimization-info",
-        Purpose::OptimizationInfo,
-        EITHER_WAY_OR_EQUALS,
-    ),
-    ArgInfo::TakeArg("-opt-info", Purpose::OptimizationInfo, EITHER_WAY_OR_EQUALS),
-    ArgInfo::TakeArg(
-        "--target-directory",
-        Purpose::TargetDirectory,
-        EITHER_WAY_OR_EQUALS,
-    ),
-    ArgInfo::TakeArg(
-        "-target-dir",
-        Purpose::TargetDirectory,
-        EITHER_WAY_OR_EQUALS,
-    ),
-    ArgInfo::Flag("--compile", Purpose::Phase),
-    ArgInfo::Flag("-c", Purpose::Phase),
-    ArgInfo::Flag("--cubin", Purpose::Phase),
-    ArgInfo::Flag("-cubin", Purpose::Phase),
-    ArgInfo::Flag("--device-c", Purpose::Phase),
-    ArgInfo::Flag("-dc", Purpose::Phase),
-    ArgInfo::Flag("--device-w", Purpose::Phase),
-    ArgInfo::Flag("-dw", Purpose::Phase),
-    ArgInfo::Flag("--fatbin", Purpose::Phase),
-    ArgInfo::Flag("-fatbin", Purpose::Phase),
-    ArgInfo::Flag("--optix-ir", Purpose::Phase),
-    ArgInfo::Flag("-optix-ir", Purpose::Phase),
-    ArgInfo::Flag("--ptx", Purpose::Phase),
-    ArgInfo::Flag("-ptx", Purpose::Phase),
-    ArgInfo::TakeArg("--output-file", Purpose::Output, EITHER_WAY_OR_EQUALS),
-    ArgInfo::TakeArg("-o", Purpose::Output, EITHER_WAY_OR_EQUALS),
-    ArgInfo::TakeArg(
-        "--output-directory",
-        Purpose::OutputDirectory,
-        EITHER_WAY_OR_EQUALS,
-    ),
-    ArgInfo::TakeArg("-odir", Purpose::OutputDirectory, EITHER_WAY_OR_EQUALS),
-    ArgInfo::TakeArg("--x", Purpose::Language, EITHER_WAY_OR_EQUALS),
-    ArgInfo::TakeArg("-x", Purpose::Language, EITHER_WAY_OR_EQUALS),
-    ArgInfo::TakeArg("--keep-dir", Purpose::KeepDirectory, EITHER_WAY_OR_EQUALS),
-    ArgInfo::TakeArg("-keep-dir", Purpose::KeepDirectory, EITHER_WAY_OR_EQUALS),
-    ArgInfo::TakeArg("--threads", Purpose::Threads, EITHER_WAY_OR_EQUALS),
-    ArgInfo::TakeArg("-t", Purpose::Threads, EITHER_WAY),
-    ArgInfo::TakeArg("-t=", Purpose::Threads, JOINED),
-    ArgInfo::Flag(
-        "--generate-dependencies-with-compile",
-        Purpose::Dependencies,
-    ),
-    ArgInfo::Flag("-MD", Purpose::Dependencies),
-    ArgInfo::Flag(
-        "--generate-nonsystem-dependencies-with-compile",
-        Purpose::Dependencies,
-    ),
-    ArgInfo::Flag("-MMD", Purpose::Dependencies),
-    ArgInfo::Flag("--generate-dependency-targets", Purpose::DependencyPhonies),
-    ArgInfo::Flag("-MP", Purpose::DependencyPhonies),
-    ArgInfo::TakeArg(
-        "--dependency-output",
-        Purpose::DependencyFile,
-        EITHER_WAY_OR_EQUALS,
-    ),
-    ArgInfo::TakeArg("-MF", Purpose::DependencyFile, EITHER_WAY_OR_EQUALS),
-    ArgInfo::TakeArg(
-        "--dependency-target-name",
-        Purpose::DependencyTarget,
-        EITHER_WAY_OR_EQUALS,
-    ),
-    ArgInfo::TakeArg("-MT", Purpose::DependencyTarget, EITHER_WAY_OR_EQUALS),
-    ArgInfo::Flag("--dryrun", Purpose::Passes(Reason::Prints)),
-    ArgInfo::Flag("-dryrun", Purpose::Passes(Reason::Prints)),
-    ArgInfo::Flag("--help", Purpose::Passes(Reason::Prints)),
-    ArgInfo::Flag("-h", Purpose::Passes(Reason::Prints)),
-    ArgInfo::Flag("--list-gpu-arch", Purpose::Passes(Reason::Prints)),
-    ArgInfo::Flag("-arch-ls", Purpose::Passes(Reason::Prints)),
-    ArgInfo::Flag("--list-gpu-code", Purpose::Passes(Reason::Prints)),
-    ArgInfo::Flag("-code-ls", Purpose::Passes(Reason::Prints)),
-    ArgInfo::Flag("--verbose", Purpose::Passes(Reason::Prints)),
-    ArgInfo::Flag("-v", Purpose::Passes(Reason::Prints)),
-    ArgInfo::Flag("--version", Purpose::Passes(Reason::Prints)),
-    ArgInfo::Flag("-V", Purpose::Passes(Reason::Prints)),
-    ArgInfo::Flag("--clean-targets", Purpose::Passes(Reason::Cleans)),
-    ArgInfo::Flag("-clean", Purpose::Passes(Reason::Cleans)),
-    ArgInfo::Flag(
-        "--augment-host-linker-script",
-        Purpose::Passes(Reason::Links),
-    ),
-    ArgInfo::Flag("-aug-hls", Purpose::Passes(Reason::Links)),
-    ArgInfo::Flag("--device-link", Purpose::Passes(Reason::Links)),
-    ArgInfo::Flag("-dlink", Purpose::Passes(Reason::Links)),
-    ArgInfo::Flag("--lib", Purpose::Passes(Reason::Links)),
-    ArgInfo::Flag("-lib", Purpose::Passes(Reason::Links)),
-    ArgInfo::Flag("--link", Purpose::Passes(Reason::Links)),
-    ArgInfo::Flag("-link", Purpose::Passes(Reason::Links)),
-    ArgInfo::Flag("--relocatable-link", Purpose::Passes(Reason::Links)),
-    ArgInfo::Flag("-r", Purpose::Passes(Reason::Links)),
-    ArgInfo::Flag("--run", Purpose::Passes(Reason::Links)),
-    ArgInfo::Flag("-run", Purpose::Passes(Reason::Links)),
-    ArgInfo::TakeArg(
-        "--host-linker-script",
-        Purpose::Passes(Reason::Links),
-        EITHER_WAY_OR_EQUALS,
-    ),
-    ArgInfo::TakeArg("-hls", Purpose::Passes(Reason::Links), EITHER_WAY_OR_EQUALS),
-    ArgInfo::Flag("--cuda", Purpose::Passes(Reason::OtherPhase)),
-    ArgInfo::Flag("-cuda", Purpose::Passes(Reason::OtherPhase)),
-    ArgInfo::Flag(
-        "--generate-dependencies",
-        Purpose::Passes(Reason::OtherPhase),
-    ),
-    ArgInfo::Flag("-M", Purpose::Passes(Reason::OtherPhase)),
-    ArgInfo::Flag(
-        "--generate-nonsystem-dependencies",
-        Purpose::Passes(Reason::OtherPhase),
-    ),
-    ArgInfo::Flag("-MM", Purpose::Passes(Reason::OtherPhase)),
-    ArgInfo::Flag("--ltoir", Purpose::Passes(Reason::OtherPhase)),
-    ArgInfo::Flag("-ltoir", Purpose::Passes(Reason::OtherPhase)),
-    ArgInfo::Flag("--preprocess", Purpose::Passes(Reason::OtherPhase)),
-    ArgInfo::Flag("-E", Purpose::Passes(Reason::OtherPhase)),
-    ArgInfo::TakeArg(
-        "--options-file",
-        Purpose::Passes(Reason::OptionsFile),
-        EITHER_WAY_OR_EQUALS,
-    ),
-    ArgInfo::TakeArg(
-        "-optf",
-        Purpose::Passes(Reason::OptionsFile),
-        EITHER_WAY_OR_EQUALS,
-    ),
-    ArgInfo::TakeArg(
-        "--fdevice-time-trace",
-        Purpose::Passes(Reason::Measures),
-        EITHER_WAY_OR_EQUALS,
-    ),
-    ArgInfo::TakeArg(
-        "-fdevice-time-trace",
-        Purpose::Passes(Reason::Measures),
-        EITHER_WAY_OR_EQUALS,
-    ),
-    ArgInfo::TakeArg(
-        "--time",
-        Purpose::Passes(Reason::Measures),
-        EITHER_WAY_OR_EQUALS,
-    ),
-    ArgInfo::TakeArg(
-        "-time",
-        Purpose::Passes(Reason::Measures),
-        EITHER_WAY_OR_EQUALS,
-    ),
-    ArgInfo::Flag(
-        "--objdir-as-tempdir",
-        Purpose::Passes(Reason::TemporaryFiles),
-    ),
-    ArgInfo::Flag("-objtemp", Purpose::Passes(Reason::TemporaryFiles)),
-    ArgInfo::Flag("--jobserver", Purpose::Passes(Reason::Jobserver)),
-    ArgInfo::Flag("-jobserver", Purpose::Passes(Reason::Jobserver)),
-    ArgInfo::TakeArg(
-        "--dependency-drive-prefix",
-        Purpose::Passes(Reason::DrivePrefix),
-        EITHER_WAY_OR_EQUALS,
-    ),
-    ArgInfo::TakeArg(
-        "-ddp",
-        Purpose::Passes(Reason::DrivePrefix),
-        EITHER_WAY_OR_EQUALS,
-    ),
-    ArgInfo::TakeArg(
-        "--drive-prefix",
-        Purpose::Passes(Reason::DrivePrefix),
-        EITHER_WAY_OR_EQUALS,
-    ),
-    ArgInfo::TakeArg(
-        "-dp",
-        Purpose::Passes(Reason::DrivePrefix),
-        EITHER_WAY_OR_EQUALS,
-    ),
-    ArgInfo::TakeArg(
-        "--input-drive-prefix",
-        Purpose::Passes(Reason::DrivePrefix),
-        EITHER_WAY_OR_EQUALS,
-    ),
-    ArgInfo::TakeArg(
-        "-idp",
-        Purpose::Passes(Reason::DrivePrefix),
-        EITHER_WAY_OR_EQUALS,
-    ),
-    ArgInfo::Flag("-", Purpose::Passes(Reason::StandardInput)),
+pub const ARGS: [ArgInfo<Purpose>; 299] = entries![
+    flag Purpose::Plain =>
+        "--allow-unsupported-compiler" "-allow-unsupported-compiler" "--compile-as-tools-patch"
+        "-astoolspatch" "--debug" "-g" "--device-debug" "-G" "--disable-warnings" "-w"
+        "--display-error-number" "-err-no" "--dlink-time-opt" "-dlto" "--dont-use-profile" "-noprof"
+        "--expt-extended-lambda" "-expt-extended-lambda" "--expt-relaxed-constexpr"
+        "-expt-relaxed-constexpr" "--extended-lambda" "-extended-lambda"
+        "--extensible-whole-program" "-ewp" "--extra-device-vectorization"
+        "-extra-device-vectorization" "--fdevice-syntax-only" "-fdevice-syntax-only"
+        "--force-cl-env-setup" "-force-cl-env-setup" "--gen-opt-lto" "-gen-opt-lto"
+        "--generate-line-info" "-lineinfo" "--keep" "-keep" "--keep-device-functions"
+        "-keep-device-functions" "--lto" "-lto" "--m64" "-m64" "--no-align-double" "--no-compress"
+        "-no-compress" "--no-device-link" "-nodlink" "--no-display-error-number" "-no-err-no"
+        "--no-exceptions" "-noeh" "--no-host-device-initializer-list" "-nohdinitlist"
+        "--no-host-device-move-forward" "-nohdmoveforward" "--profile" "-pg" "--relocatable-ptx"
+        "-reloc-ptx" "--resource-usage" "-res-usage" "--restrict" "-restrict" "--save-temps"
+        "-save-temps" "--shared" "-shared" "--source-in-ptx" "-src-in-ptx" "--use-local-env"
+        "-use-local-env" "--use_fast_math" "-use_fast_math" "--Wdefault-stream-launch"
+        "-Wdefault-stream-launch" "--Wext-lambda-captures-this" "-Wext-lambda-captures-this"
+        "--Wmissing-launch-bounds" "-Wmissing-launch-bounds" "--Wno-deprecated-declarations"
+        "-Wno-deprecated-declarations" "--Wno-deprecated-gpu-targets" "-Wno-deprecated-gpu-targets"
+        "--Wreorder" "-Wreorder";
+    flag Purpose::Forward =>
+        "--forward-unknown-opts" "-forward-unknown-opts" "--forward-unknown-to-host-compiler"
+        "-forward-unknown-to-host-compiler" "--forward-unknown-to-host-linker"
+        "-forward-unknown-to-host-linker";
+    EITHER_WAY_OR_EQUALS Purpose::Unquoted =>
+        "--archive-options" "-Xarchive" "--archiver-binary" "-arbin" "--brief-diagnostics"
+        "-brief-diag" "--cicc-options" "-Xcicc" "--compiler-bindir" "-ccbin" "--compiler-options"
+        "-Xcompiler" "--compress-mode" "-compress-mode" "--cudadevrt" "-cudadevrt"
+        "--cudafe-options" "-Xcudafe" "--cudart" "-cudart" "--default-stream" "-default-stream"
+        "--device-entity-has-hidden-visibility" "-device-entity-has-hidden-visibility"
+        "--device-stack-protector" "-device-stack-protector" "--diag-error" "-diag-error"
+        "--diag-suppress" "-diag-suppress" "--diag-warn" "-diag-warn" "--dopt" "-dopt" "--entries"
+        "-e" "--fatbin-options" "-Xfatbin" "--fmad" "-fmad" "--frandom-seed" "-frandom-seed"
+        "--ftemplate-backtrace-limit" "-ftemplate-backtrace-limit" "--ftemplate-depth"
+        "-ftemplate-depth" "--ftz" "-ftz" "--jump-table-density" "-jtd" "--libdevice-directory"
+        "-ldir" "--library" "--linker-options" "-Xlinker" "--machine" "-m" "--maxrregcount"
+        "-maxrregcount" "--nvlink-options" "-Xnvlink" "--Ofast-compile" "-Ofc" "--optimize"
+        "--prec-div" "-prec-div" "--prec-sqrt" "-prec-sqrt" "--ptxas-options" "-Xptxas"
+        "--qpp-config" "-qpp-config" "--relocatable-device-code" "-rdc" "--run-args" "-run-args"
+        "--sanitize" "-sanitize" "--split-compile" "-split-compile" "--split-compile-extended"
+        "-split-compile-extended" "--static-global-template-stub" "-static-global-template-stub"
+        "--std" "-std" "--Werror" "-Werror";
+    EITHER_WAY Purpose::Unquoted => "-l" "-O";
+    JOINED Purpose::Unquoted => "-l=" "-O=";
+    EITHER_WAY_OR_EQUALS Purpose::Quoted =>
+        "--generate-code" "-gencode" "--gpu-architecture" "-arch" "--gpu-code" "-code"
+        "--include-path" "--library-path" "--system-include" "-isystem";
+    EITHER_WAY Purpose::Quoted => "-L";
+    JOINED Purpose::Quoted => "-L=";
+    EITHER_WAY_OR_EQUALS Purpose::Define => "--define-macro";
+    EITHER_WAY Purpose::Define => "-D";
+    JOINED Purpose::Define => "-D=";
+    EITHER_WAY_OR_EQUALS Purpose::Undefine => "--undefine-macro";
+    EITHER_WAY Purpose::Undefine => "-U";
+    JOINED Purpose::Undefine => "-U=";
+    EITHER_WAY Purpose::Include => "-I";
+    JOINED Purpose::Include => "-I=";
+    EITHER_WAY_OR_EQUALS Purpose::PreInclude => "--pre-include" "-include";
+    EITHER_WAY_OR_EQUALS Purpose::OptimizationInfo => "--optimization-info" "-opt-info";
+    EITHER_WAY_OR_EQUALS Purpose::TargetDirectory => "--target-directory" "-target-dir";
+    flag Purpose::Phase =>
+        "--compile" "-c" "--cubin" "-cubin" "--device-c" "-dc" "--device-w" "-dw" "--fatbin"
+        "-fatbin" "--optix-ir" "-optix-ir" "--ptx" "-ptx";
+    EITHER_WAY_OR_EQUALS Purpose::Output => "--output-file" "-o";
+    EITHER_WAY_OR_EQUALS Purpose::OutputDirectory => "--output-directory" "-odir";
+    EITHER_WAY_OR_EQUALS Purpose::Language => "--x" "-x";
+    EITHER_WAY_OR_EQUALS Purpose::KeepDirectory => "--keep-dir" "-keep-dir";
+    EITHER_WAY_OR_EQUALS Purpose::Threads => "--threads";
+    EITHER_WAY Purpose::Threads => "-t";
+    JOINED Purpose::Threads => "-t=";
+    flag Purpose::Dependencies =>
+        "--generate-dependencies-with-compile" "-MD"
+        "--generate-nonsystem-dependencies-with-compile" "-MMD";
+    flag Purpose::DependencyPhonies => "--generate-dependency-targets" "-MP";
+    EITHER_WAY_OR_EQUALS Purpose::DependencyFile => "--dependency-output" "-MF";
+    EITHER_WAY_OR_EQUALS Purpose::DependencyTarget => "--dependency-target-name" "-MT";
+    flag Purpose::Passes(Reason::Prints) =>
+        "--dryrun" "-dryrun" "--help" "-h" "--list-gpu-arch" "-arch-ls" "--list-gpu-code" "-code-ls"
+        "--verbose" "-v" "--version" "-V";
+    flag Purpose::Passes(Reason::Cleans) => "--clean-targets" "-clean";
+    flag Purpose::Passes(Reason::Links) =>
+        "--augment-host-linker-script" "-aug-hls" "--device-link" "-dlink" "--lib" "-lib" "--link"
+        "-link" "--relocatable-link" "-r" "--run" "-run";
+    EITHER_WAY_OR_EQUALS Purpose::Passes(Reason::Links) => "--host-linker-script" "-hls";
+    flag Purpose::Passes(Reason::OtherPhase) =>
+        "--cuda" "-cuda" "--generate-dependencies" "-M" "--generate-nonsystem-dependencies" "-MM"
+        "--ltoir" "-ltoir" "--preprocess" "-E";
+    EITHER_WAY_OR_EQUALS Purpose::Passes(Reason::OptionsFile) => "--options-file" "-optf";
+    EITHER_WAY_OR_EQUALS Purpose::Passes(Reason::Measures) =>
+        "--fdevice-time-trace" "-fdevice-time-trace" "--time" "-time";
+    flag Purpose::Passes(Reason::TemporaryFiles) => "--objdir-as-tempdir" "-objtemp";
+    flag Purpose::Passes(Reason::Jobserver) => "--jobserver" "-jobserver";
+    EITHER_WAY_OR_EQUALS Purpose::Passes(Reason::DrivePrefix) =>
+        "--dependency-drive-prefix" "-ddp" "--drive-prefix" "-dp" "--input-drive-prefix" "-idp";
+    flag Purpose::Passes(Reason::StandardInput) => "-";
 ];
 
 /// nvcc's option table.
