@@ -38,41 +38,31 @@ fn push_escaped(text: &mut String, value: &str) -> Result<(), AllocError>
     Ok(())
 }
 
-// Adds the name of a stamp.
-fn push_stamp(
-    alloc: Global,
-    text: &mut String,
-    group: usize,
-    place: usize,
-) -> Result<(), AllocError>
-    ensures { OnOk result (string_bytes text.new ≡ string_bytes text.old ++ spec.stamp group place) }
+// Adds the name of the stamp of the command at a place: the number of its group, and its place there.
+fn push_stamp(alloc: Global, text: &mut String, at: (usize, usize)) -> Result<(), AllocError>
+    ensures { OnOk result (string_bytes text.new ≡ string_bytes text.old ++ spec.stamp at.0 at.1) }
 {
     text.push_str("zigrunk.")?;
-    push_number(alloc, text, group)?;
+    push_number(alloc, text, at.0)?;
     text.push_str(".")?;
-    push_number(alloc, text, place)
+    push_number(alloc, text, at.1)
 }
 
 // Adds a space and the path of a stamp in the temporary directory.
-fn push_stamp_below(
-    alloc: Global,
-    text: &mut String,
-    group: usize,
-    place: usize,
-) -> Result<(), AllocError>
-    ensures { OnOk result (string_bytes text.new ≡ string_bytes text.old ++ spec.stamp_below group place) }
+fn push_stamp_below(alloc: Global, text: &mut String, at: (usize, usize)) -> Result<(), AllocError>
+    ensures { OnOk result (string_bytes text.new ≡ string_bytes text.old ++ spec.stamp_below at.0 at.1) }
 {
     text.push_str(" ${tmp}/")?;
-    push_stamp(alloc, text, group, place)
+    push_stamp(alloc, text, at)
 }
 
 // The path of a stamp.
-fn stamp_path(alloc: Global, tmp: &str, group: usize, place: usize) -> Result<String, AllocError>
-    ensures { IfOk result (λ path. string_bytes path ≡ spec.stamp_path tmp.now group place) }
+fn stamp_path(alloc: Global, tmp: &str, at: (usize, usize)) -> Result<String, AllocError>
+    ensures { IfOk result (λ path. string_bytes path ≡ spec.stamp_path tmp.now at.0 at.1) }
 {
     let mut path = String::from_str(alloc, tmp)?;
     path.push_str("/")?;
-    push_stamp(alloc, &mut path, group, place)?;
+    push_stamp(alloc, &mut path, at)?;
     Ok(path)
 }
 
@@ -91,12 +81,11 @@ fn push_touch(
     alloc: Global,
     text: &mut String,
     tmp: &str,
-    group: usize,
-    place: usize,
+    at: (usize, usize),
 ) -> Result<(), AllocError>
-    ensures { OnOk result (string_bytes text.new ≡ string_bytes text.old ++ spec.touch tmp.now group place) }
+    ensures { OnOk result (string_bytes text.new ≡ string_bytes text.old ++ spec.touch tmp.now at.0 at.1) }
 {
-    let path = stamp_path(alloc, tmp, group, place)?;
+    let path = stamp_path(alloc, tmp, at)?;
     text.push_str(" && touch ")?;
     push_quoted(text, path.as_str(), &[])
 }
@@ -105,15 +94,14 @@ fn push_touch(
 fn edge_command(
     alloc: Global,
     tmp: &str,
-    group: usize,
-    place: usize,
+    at: (usize, usize),
     command: &NvccGeneratedSubcommand,
 ) -> Result<String, AllocError>
-    ensures { IfOk result (λ text. string_bytes text ≡ spec.edge_command tmp.now group place command.now) }
+    ensures { IfOk result (λ text. string_bytes text ≡ spec.edge_command tmp.now at.0 at.1 command.now) }
 {
     let mut text = String::new(alloc);
     push_command(alloc, &mut text, runner(command.cacheable), command)?;
-    push_touch(alloc, &mut text, tmp, group, place)?;
+    push_touch(alloc, &mut text, tmp, at)?;
     Ok(text)
 }
 
@@ -130,16 +118,15 @@ fn push_edge_line(text: &mut String, command: &str) -> Result<(), AllocError>
 fn push_edge_text(
     alloc: Global,
     text: &mut String,
-    group: usize,
-    place: usize,
+    at: (usize, usize),
     needs: &str,
     line: &str,
 ) -> Result<(), AllocError>
     ensures { OnOk result (string_bytes text.new ≡ string_bytes text.old
-        ++ (codes "build" ++ (spec.stamp_below group place ++ (codes ": run" ++ (needs.now ++ spec.edge_line line.now))))) }
+        ++ (codes "build" ++ (spec.stamp_below at.0 at.1 ++ (codes ": run" ++ (needs.now ++ spec.edge_line line.now))))) }
 {
     text.push_str("build")?;
-    push_stamp_below(alloc, text, group, place)?;
+    push_stamp_below(alloc, text, at)?;
     text.push_str(": run")?;
     text.push_str(needs)?;
     push_edge_line(text, line)
@@ -150,15 +137,14 @@ fn push_edge(
     alloc: Global,
     text: &mut String,
     tmp: &str,
-    group: usize,
-    place: usize,
+    at: (usize, usize),
     needs: &str,
     command: &NvccGeneratedSubcommand,
 ) -> Result<(), AllocError>
-    ensures { OnOk result (string_bytes text.new ≡ string_bytes text.old ++ spec.edge tmp.now group place needs.now command.now) }
+    ensures { OnOk result (string_bytes text.new ≡ string_bytes text.old ++ spec.edge tmp.now at.0 at.1 needs.now command.now) }
 {
-    let line = edge_command(alloc, tmp, group, place, command)?;
-    push_edge_text(alloc, text, group, place, needs, line.as_str())
+    let line = edge_command(alloc, tmp, at, command)?;
+    push_edge_text(alloc, text, at, needs, line.as_str())
 }
 
 // Adds the places of a group's commands.
@@ -209,7 +195,7 @@ fn push_stamp_at(
     ensures { OnOk result (string_bytes text.new ≡ string_bytes text.old ++ spec.stamp_at places.now number) }
 {
     let at = place_at(places, number);
-    push_stamp_below(alloc, text, at.0, at.1)
+    push_stamp_below(alloc, text, at)
 }
 
 // The stamps of the commands with these numbers.
@@ -252,7 +238,8 @@ fn push_edges(
 {
     for (place, command) in commands.iter().enumerate() {
         let stamps = stamps_at(alloc, places, needs_at(needs, place))?;
-        push_edge(alloc, text, tmp, group, place, stamps.as_str(), command)?;
+        let at = (group, place);
+        push_edge(alloc, text, tmp, at, stamps.as_str(), command)?;
     }
     Ok(())
 }

@@ -6,7 +6,7 @@ use Rattle.plan_exports.proofs.ninja.push_edge_text.Goals as goal
 pub returns : goal.returns
 returns c =
     let line = edge_line c.args.line.now in
-    let stamp = stamp_below c.args.group c.args.place in
+    let stamp = stamp_below c.args.at.0 c.args.at.1 in
     let needs = c.args.needs.now in
     let t0 = string_bytes c.args.text.now in
     let t1 = string_bytes c.push_str.new.self in
