@@ -3,11 +3,10 @@ use Rattle.std.proofs.Common.{ℕ, List, [], ◌∷◌, ◌++◌, ◌≡◌, sym
 use Rattle.std.specs.List.{flat_map}
 use Rattle.std.proofs.lemmas.Grind.{flat_map-append}
 use Rattle.std.proofs.lemmas.Str.{encodes-append}
-use Rattle.plan_exports.specs.Graph.{escaped_char}
 
 -- one more character
-pub escaped_push : (old now new yielded : List ℕ) (c : ℕ) → now ≡ old ++ encode_utf8_all (flat_map escaped_char yielded) → new ≡ now ++ encode_utf8_all (escaped_char c) → new ≡ old ++ encode_utf8_all (flat_map escaped_char (yielded ++ c ∷ []))
-escaped_push old now new yielded c before after =
-    after ∙ ap (λ t. t ++ encode_utf8_all (escaped_char c)) before
-    ∙ append_assoc old (encode_utf8_all (flat_map escaped_char yielded)) (encode_utf8_all (escaped_char c))
-    ∙ ap (λ t. old ++ t) (sym (rw (flat_map-append, encodes-append) (ap (λ t. encode_utf8_all (flat_map escaped_char yielded) ++ encode_utf8_all t) (append-nil (escaped_char c)))))
+pub escaped_push : (escape : ℕ → List ℕ) (old now new yielded : List ℕ) (c : ℕ) → now ≡ old ++ encode_utf8_all (flat_map escape yielded) → new ≡ now ++ encode_utf8_all (escape c) → new ≡ old ++ encode_utf8_all (flat_map escape (yielded ++ c ∷ []))
+escaped_push escape old now new yielded c before after =
+    after ∙ ap (λ t. t ++ encode_utf8_all (escape c)) before
+    ∙ append_assoc old (encode_utf8_all (flat_map escape yielded)) (encode_utf8_all (escape c))
+    ∙ ap (λ t. old ++ t) (sym (rw (flat_map-append, encodes-append) (ap (λ t. encode_utf8_all (flat_map escape yielded) ++ encode_utf8_all t) (append-nil (escape c)))))

@@ -1,5 +1,4 @@
 pub mod CompdbLemmas
-pub mod DotLemmas
 pub mod EscapedLemmas
 pub mod JsonLemmas
 pub mod JsonExamples

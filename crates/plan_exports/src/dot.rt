@@ -1,10 +1,11 @@
 //! A plan as a graph that Graphviz draws.
 
-ghost use Rattle.std.specs.Prelude.{◌≡◌, ◌+◌, ◌++◌, ◌∷◌, [], IfOk, OnOk, length, map, encode_utf8_all, string_bytes, vec_items};
+ghost use Rattle.std.specs.Prelude.{◌≡◌, ◌+◌, ◌++◌, ◌∷◌, [], IfOk, OnOk, length, map, string_bytes, vec_items};
 ghost use Rattle.std.specs.List.{flat_map};
 ghost use Rattle.plan_exports.specs.Dot as spec;
 ghost use Rattle.plan_exports.specs.Numbered.{of_group, of_groups};
 
+use crate::escaping::{Escaping, push_escaped};
 use command_files::{CommandFiles, files_of, needs};
 use command_groups::{Dropped, NvccGeneratedSubcommand, Plan};
 use std::alloc::{AllocError, Global};
@@ -12,20 +13,24 @@ use texts::decimal::push_number;
 use texts::text::file_name;
 use texts::words::Words;
 
-// Adds a character of a quoted text.
-fn push_char(text: &mut String, c: char) -> Result<(), AllocError>
-    ensures { OnOk result (string_bytes text.new ≡ string_bytes text.old ++ encode_utf8_all (spec.shown_char c)) }
-{
-    if c == '"' {
-        text.push_str("\\\"")
-    } else if c == '\\' {
-        text.push_str("\\\\")
-    } else if c == '&' {
-        text.push_str("&amp;")
-    } else if c == '\0' {
-        text.push_str("\\\\0")
-    } else {
-        text.push(c)
+// The texts inside quotes.
+struct Quoted;
+
+impl Escaping for Quoted {
+    ghost escaped = { λ _. spec.shown_char };
+
+    fn push_char(&self, text: &mut String, c: char) -> Result<(), AllocError> {
+        if c == '"' {
+            text.push_str("\\\"")
+        } else if c == '\\' {
+            text.push_str("\\\\")
+        } else if c == '&' {
+            text.push_str("&amp;")
+        } else if c == '\0' {
+            text.push_str("\\\\0")
+        } else {
+            text.push(c)
+        }
     }
 }
 
@@ -33,10 +38,7 @@ fn push_char(text: &mut String, c: char) -> Result<(), AllocError>
 fn push_shown(text: &mut String, value: &str) -> Result<(), AllocError>
     ensures { OnOk result (string_bytes text.new ≡ string_bytes text.old ++ spec.shown value.now) }
 {
-    for c in value.chars() {
-        push_char(text, c)?;
-    }
-    Ok(())
+    push_escaped(text, &Quoted, value)
 }
 
 // Adds a path's file name, or the path if it has none.

@@ -4,6 +4,7 @@
 mod command;
 mod compdb;
 mod dot;
+mod escaping;
 mod json;
 mod judging;
 pub mod laws;

@@ -1,6 +1,6 @@
 //! A plan as a Ninja file.
 
-ghost use Rattle.std.specs.Prelude.{◌≡◌, ◌++◌, IfOk, OnOk, codes, map, drop, encode_utf8_all, string_bytes, vec_items};
+ghost use Rattle.std.specs.Prelude.{◌≡◌, ◌++◌, IfOk, OnOk, codes, map, drop, string_bytes, vec_items};
 ghost use Rattle.std.specs.List.{flat_map, list_all};
 ghost use Rattle.command_files.specs.Order.{needs_at};
 ghost use Rattle.command_files.specs.PlanNeeds.{plan_needs};
@@ -8,6 +8,7 @@ ghost use Rattle.plan_exports.specs.Answers.{Answers};
 ghost use Rattle.plan_exports.specs.Graph as spec;
 
 use crate::command::push_command;
+use crate::escaping::{Escaping, push_escaped};
 use crate::judging::{holds_text, holds_words, judge_groups};
 use crate::refusal::{Form, Refusal};
 use command_files::needs;
@@ -17,25 +18,26 @@ use shell_words::push_quoted;
 use std::alloc::{AllocError, Global};
 use texts::decimal::push_number;
 
-// Adds a character of a value. `$` is doubled.
-fn push_char(text: &mut String, c: char) -> Result<(), AllocError>
-    ensures { OnOk result (string_bytes text.new ≡ string_bytes text.old ++ encode_utf8_all (spec.escaped_char c)) }
-{
-    if c == '$' {
-        text.push_str("$$")
-    } else {
-        text.push(c)
+// The values of variables, in which `$` is doubled.
+struct Values;
+
+impl Escaping for Values {
+    ghost escaped = { λ _. spec.escaped_char };
+
+    fn push_char(&self, text: &mut String, c: char) -> Result<(), AllocError> {
+        if c == '$' {
+            text.push_str("$$")
+        } else {
+            text.push(c)
+        }
     }
 }
 
 // Adds a text as a variable's value.
-fn push_escaped(text: &mut String, value: &str) -> Result<(), AllocError>
+fn push_value(text: &mut String, value: &str) -> Result<(), AllocError>
     ensures { OnOk result (string_bytes text.new ≡ string_bytes text.old ++ spec.escaped value.now) }
 {
-    for c in value.chars() {
-        push_char(text, c)?;
-    }
-    Ok(())
+    push_escaped(text, &Values, value)
 }
 
 // Adds the name of the stamp of the command at a place: the number of its group, and its place there.
@@ -110,7 +112,7 @@ fn push_edge_line(text: &mut String, command: &str) -> Result<(), AllocError>
     ensures { OnOk result (string_bytes text.new ≡ string_bytes text.old ++ spec.edge_line command.now) }
 {
     text.push_str("\n  line = ")?;
-    push_escaped(text, command)?;
+    push_value(text, command)?;
     text.push_str("\n")
 }
 
@@ -337,7 +339,7 @@ fn push_head(text: &mut String, tmp: &str) -> Result<(), AllocError>
     ensures { OnOk result (string_bytes text.new ≡ string_bytes text.old ++ spec.head tmp.now) }
 {
     text.push_str("tmp = ")?;
-    push_escaped(text, tmp)?;
+    push_value(text, tmp)?;
     text.push_str(rule())
 }
 
