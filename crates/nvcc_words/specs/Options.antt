@@ -1,5 +1,5 @@
 -- nvcc 13's options: every name that nvcc takes, and what it does with a value.
-use Rattle.std.specs.Prelude.{ℕ, List, [], ◌∷◌, ◌++◌, map, Some, None}
+use Rattle.std.specs.Prelude.{ℕ, List, [], ◌∷◌, ◌++◌, map, Some, None, codes}
 use Rattle.nvcc_words.specs.declared.options.Purpose.{Purpose}
 use Rattle.nvcc_words.specs.declared.options.Purpose.TheVariants.{Define, Dependencies, DependencyFile, DependencyPhonies, DependencyTarget, Forward, Include, KeepDirectory, Language, OptimizationInfo, Output, OutputDirectory, Passes, Phase, Plain, PreInclude, Quoted, TargetDirectory, Threads, Undefine, Unquoted}
 use Rattle.nvcc_words.specs.declared.reason.Reason.TheVariants.{Cleans, DrivePrefix, Jobserver, Links, Measures, OptionsFile, OtherPhase, Prints, StandardInput, TemporaryFiles}
@@ -23,6 +23,10 @@ abbrev pub joined : Purpose → List (List ℕ) → List (Entry Purpose)
 joined purpose names =
     options (CanBeSeparated None) purpose names
     ++ options (Concatenated None) purpose (map (λ name. name ++ 61 ∷ []) names)
+
+-- the entries of an option with a long name, which takes a value in two ways, and a short one, which takes it in three
+abbrev pub long_and_short : Purpose → List ℕ → List ℕ → List (Entry Purpose)
+long_and_short purpose long short = valued purpose (long ∷ []) ++ joined purpose (short ∷ [])
 
 -- the entries, by purpose
 abbrev pub nvcc_entries : List (Entry Purpose)
@@ -71,10 +75,8 @@ nvcc_entries =
     ++ spaced "--system-include -isystem")
     ++ joined Quoted (spaced "-L")
     -- options that a normal form spells in its own way
-    ++ valued Define (spaced "--define-macro")
-    ++ joined Define (spaced "-D")
-    ++ valued Undefine (spaced "--undefine-macro")
-    ++ joined Undefine (spaced "-U")
+    ++ long_and_short Define (codes "--define-macro") (codes "-D")
+    ++ long_and_short Undefine (codes "--undefine-macro") (codes "-U")
     ++ joined Include (spaced "-I")
     ++ valued PreInclude (spaced "--pre-include -include")
     ++ valued OptimizationInfo (spaced "--optimization-info -opt-info")
@@ -88,8 +90,7 @@ nvcc_entries =
     ++ valued Language (spaced "--x -x")
     -- words that don't reach nvcc again
     ++ valued KeepDirectory (spaced "--keep-dir -keep-dir")
-    ++ valued Threads (spaced "--threads")
-    ++ joined Threads (spaced "-t")
+    ++ long_and_short Threads (codes "--threads") (codes "-t")
     -- the dependency file
     ++ flags Dependencies (spaced "--generate-dependencies-with-compile -MD --generate-nonsystem-dependencies-with-compile -MMD")
     ++ flags DependencyPhonies (spaced "--generate-dependency-targets -MP")
