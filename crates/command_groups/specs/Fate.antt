@@ -46,13 +46,8 @@ opens_name name p = is_some_and (λ opened. bytes_eq opened name) (opens p.stage
 
 -- whether a stage is one of cicc
 abbrev pub is_device_compiling : Stage → Bool
-is_device_compiling linking = false
-is_device_compiling splitting = false
 is_device_compiling (device_compiling name) = true
-is_device_compiling (assembling path) = false
-is_device_compiling (preprocessing name) = false
-is_device_compiling host_compiling = false
-is_device_compiling foreign = false
+is_device_compiling _ = false
 
 -- whether a placed command is a cicc of a name's group with a path as its last word
 abbrev pub makes : List ℕ → List ℕ → PlacedCommand → Bool

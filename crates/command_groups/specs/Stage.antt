@@ -148,13 +148,8 @@ staged compiler flag c = staged_words compiler (edited flag c)
 
 -- the name that a stage opens a group by, if any
 abbrev pub opens : Stage → Option (List ℕ)
-opens linking = None
-opens splitting = None
-opens (device_compiling name) = None
-opens (assembling path) = None
 opens (preprocessing name) = name
-opens host_compiling = None
-opens foreign = None
+opens _ = None
 
 -- whether the outputs of a stage may come from a cache
 abbrev pub cacheable_mark : Stage → Cacheable
