@@ -104,27 +104,15 @@ fn push_title(
     }
 }
 
-// Adds what names the box of a group.
-fn push_titled(
-    alloc: Global,
-    text: &mut String,
-    count: usize,
-    group: usize,
-) -> Result<(), AllocError>
-    ensures { OnOk result (string_bytes text.new ≡ string_bytes text.old ++ spec.titled count group) }
-{
-    text.push_str(" { label=\"")?;
-    push_title(alloc, text, count, group)?;
-    text.push_str("\" ")
-}
-
 // Adds the box of a group, in front of a node.
 fn push_box(alloc: Global, text: &mut String, count: usize, group: usize) -> Result<(), AllocError>
     ensures { OnOk result (string_bytes text.new ≡ string_bytes text.old ++ spec.box count group) }
 {
     text.push_str("  subgraph cluster_")?;
     push_number(alloc, text, group)?;
-    push_titled(alloc, text, count, group)
+    text.push_str(" { label=\"")?;
+    push_title(alloc, text, count, group)?;
+    text.push_str("\" ")
 }
 
 // Adds a node, which ends its box.
@@ -283,16 +271,7 @@ fn push_dropped_label(text: &mut String, dropped: &Dropped) -> Result<(), AllocE
     text.push_str(dropped.reason.name())
 }
 
-// Adds what makes a dropped command's node dashed.
-fn push_dashed(text: &mut String, dropped: &Dropped) -> Result<(), AllocError>
-    ensures { OnOk result (string_bytes text.new ≡ string_bytes text.old ++ spec.dashed dropped.now) }
-{
-    text.push_str(" [label=\"")?;
-    push_dropped_label(text, dropped)?;
-    text.push_str("\" style=dashed]\n")
-}
-
-// Adds the node of a dropped command.
+// Adds the node of a dropped command, which is dashed.
 fn push_dropped(
     alloc: Global,
     text: &mut String,
@@ -303,7 +282,9 @@ fn push_dropped(
 {
     text.push_str("  d")?;
     push_number(alloc, text, place)?;
-    push_dashed(text, dropped)
+    text.push_str(" [label=\"")?;
+    push_dropped_label(text, dropped)?;
+    text.push_str("\" style=dashed]\n")
 }
 
 // Adds the nodes of dropped commands.
