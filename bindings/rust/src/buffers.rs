@@ -79,3 +79,48 @@ pub(crate) unsafe fn list(
         out = Vec::with_capacity(answer.length.max(LEAST));
     }
 }
+
+#[cfg(test)]
+mod tests {
+    use super::*;
+
+    /// A call that writes texts of one byte, all or nothing.
+    fn answer(count: usize, ranges: *mut Range, ranges_size: usize, out: *mut u8, out_size: usize) -> ListAnswer {
+        if count <= ranges_size && count <= out_size {
+            for number in 0..count {
+                // SAFETY: it is below both sizes.
+                unsafe {
+                    ranges.add(number).write(Range { offset: number, length: 1 });
+                    out.add(number).write(b'a');
+                }
+            }
+        }
+        ListAnswer { status: 0, count, length: count }
+    }
+
+    #[test]
+    fn a_buffer_that_is_too_small_takes_one_more_call() {
+        for (count, expected) in [(0, 1), (LEAST, 1), (LEAST + 1, 2), (100_000, 2)] {
+            let mut calls = 0;
+            // SAFETY: `answer` is such a call.
+            let texts = unsafe {
+                list(LEAST, 0, |ranges, ranges_size, out, out_size| {
+                    calls += 1;
+                    answer(count, ranges, ranges_size, out, out_size)
+                })
+            };
+            assert_eq!((texts.unwrap().iter().collect::<String>(), calls), ("a".repeat(count), expected));
+            let mut calls = 0;
+            // SAFETY: as above. No range is too many for the second buffer.
+            let text = unsafe {
+                text_or_error(0, |out, out_size| {
+                    calls += 1;
+                    let mut ranges = vec![Range::default(); count];
+                    let ListAnswer { status, length, .. } = answer(count, ranges.as_mut_ptr(), count, out, out_size);
+                    TextAnswer { status, length }
+                })
+            };
+            assert_eq!((text.unwrap(), calls), ("a".repeat(count), expected));
+        }
+    }
+}

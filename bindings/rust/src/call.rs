@@ -52,8 +52,8 @@ pub struct PlanCall<'a> {
     pub flag: &'a str,
     /// The directory that keeps generated files. If there is none, they get canonical names.
     pub keep_dir: Option<&'a str>,
-    /// The call's environment: names and values.
-    pub variables: &'a [(&'a str, &'a str)],
+    /// The call's environment, names and values, as [`std::env::vars`] gives it.
+    pub variables: &'a [(String, String)],
     /// Suffixes of generated files, behind the standard ones.
     pub suffixes: &'a [&'a str],
     /// Answers each look-up: see [`find_programs`](crate::find_programs). The first row of a look-up counts.
@@ -65,8 +65,7 @@ pub struct PlanCall<'a> {
 impl PlanCall<'_> {
     /// Passes the call as the record of `zigrunk.h`.
     pub(crate) fn with_record<R>(&self, take: impl FnOnce(&sys::PlanCall<'_>) -> R) -> R {
-        let pair = |&(name, value): &(_, _)| sys::Variable { name: Text::from(name), value: Text::from(value) };
-        let variables: Vec<_> = self.variables.iter().map(pair).collect();
+        let variables: Vec<_> = self.variables.iter().map(variable).collect();
         let suffixes: Vec<_> = self.suffixes.iter().map(|&suffix| Text::from(suffix)).collect();
         let programs: Vec<_> = self.programs.iter().map(row).collect();
         take(&sys::PlanCall {
@@ -92,6 +91,10 @@ impl PlanCall<'_> {
     pub(crate) fn dry_length(&self) -> usize {
         self.dry1.len() + self.dry2.len()
     }
+}
+
+fn variable((name, value): &(String, String)) -> sys::Variable<'_> {
+    sys::Variable { name: name.as_str().into(), value: value.as_str().into() }
 }
 
 fn row(program: &FoundProgram) -> sys::FoundProgram<'_> {

@@ -11,8 +11,9 @@ macro_rules! records {
     ($($name:literal $record:ty { $($field:ident),* })*) => {
         /// What C has to print, and the program that prints it.
         fn expected() -> (String, String) {
-            let (mut lines, mut source) = (String::new(), String::from("#include <zigrunk.h>\n#include <stdio.h>\n#define FIELD(r, f) printf(\" %s %zu\", #f, offsetof(r, f))\n"));
-            source += "#define RECORD(r) printf(\"%s %zu %zu\", #r, sizeof(r), _Alignof(r))\nint main(void) {\n";
+            let (mut lines, mut source) = (String::new(), String::from("#include <zigrunk.h>\n#include <stdio.h>\n"));
+            source += "#define RECORD(r) printf(\"%s %zu %zu\", #r, sizeof(r), _Alignof(r))\n";
+            source += "#define FIELD(r, f) printf(\" %s %zu\", #f, offsetof(r, f))\nint main(void) {\n";
             $(
                 lines += &format!("{} {} {}", $name, size_of::<$record>(), align_of::<$record>());
                 source += &format!("    RECORD({});\n", $name);

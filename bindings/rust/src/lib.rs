@@ -12,7 +12,9 @@
 //! let dry1 = Command::new("nvcc").args(["--dryrun", "--keep", "-c", "k.cu"]).output()?.stderr;
 //! let dry2 = Command::new("nvcc").args(["--keep-dir", tmp, "--dryrun", "--keep", "-c", "k.cu"]).output()?.stderr;
 //! let programs = find_programs(&dry1, &dry2, cwd)?;
-//! let call = PlanCall { dry1: &dry1, dry2: &dry2, cwd, tmp, flag: "-c", programs: &programs, ..PlanCall::default() };
+//! let variables: Vec<_> = std::env::vars().collect();
+//! let (dry1, dry2, variables, programs) = (&dry1, &dry2, &variables, &programs);
+//! let call = PlanCall { dry1, dry2, cwd, tmp, flag: "-c", variables, programs, ..PlanCall::default() };
 //! print!("{}", plan_text(&call, Form::Ninja)?);
 //! # Ok::<(), Box<dyn std::error::Error>>(())
 //! ```

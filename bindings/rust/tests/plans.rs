@@ -52,7 +52,8 @@ fn real_calls_are_planned_as_cudaplan_does() {
 #[test]
 fn settings() {
     let programs = first_candidates(RUN, RUN);
-    let call = PlanCall { variables: &[("PATH", "/old"), ("A", "1")], suffixes: &[".gpu"], ..call(RUN, &programs) };
+    let variables = [("PATH", "/old"), ("A", "1")].map(|(name, value)| (name.to_string(), value.to_string()));
+    let call = PlanCall { variables: &variables, suffixes: &[".gpu"], ..call(RUN, &programs) };
     let json = plan_text(&call, Form::Json).unwrap();
     assert_eq!(json.matches(r#""env":[["PATH","/b"],["A","1"]]"#).count(), 2, "{json}");
     assert!(json.contains(r#"["--x","x_0.gpu","x_0.cpp1.ii","-o","k.ptx"]"#), "{json}");
@@ -60,7 +61,7 @@ fn settings() {
     assert!(plan_text(&keeps, Form::Text).unwrap().contains("cicc --x k.gpu k.cpp1.ii"));
     let bad = PlanCall { suffixes: &["gpu"], ..call };
     assert_eq!(plan_text(&bad, Form::Text), Err(Error::BadSuffixes("bad generated suffixes".into())));
-    let unwritable = PlanCall { variables: &[("", "1")], ..call };
+    let unwritable = PlanCall { variables: &[(String::new(), "1".into())], ..call };
     assert!(matches!(plan_text(&unwritable, Form::Shell), Err(Error::Unwritable(_))));
 }
 
@@ -95,14 +96,13 @@ fn bad_dry_runs() {
 }
 
 #[test]
-fn long_runs_need_a_second_call() {
+fn long_runs() {
     let mut run = b"#$ PATH=/b\n".to_vec();
     for number in 0..2000 {
         run.extend(format!("#$ cicc k{number}.cpp1.ii -o k{number}.ptx\n").bytes());
     }
     let programs = first_candidates(&run, &run);
-    let (name, value) = ("N".repeat(100), "v".repeat(100));
-    let variables = vec![(name.as_str(), value.as_str()); 4];
+    let variables = vec![("N".repeat(100), "v".repeat(100)); 4];
     let json = plan_text(&PlanCall { variables: &variables, ..call(&run, &programs) }, Form::Json).unwrap();
     assert!(json.starts_with('{') && json.ends_with('}'));
 }
