@@ -2,9 +2,9 @@
 
 use std::mem::{align_of, offset_of, size_of};
 use std::path::Path;
-use std::process::Command;
+use std::process;
 
-use crate::sys::{FoundProgram, ListAnswer, PlanCall, Range, Text, TextAnswer, Variable};
+use crate::sys;
 
 /// A line for each record: its name, size and alignment, then its fields with their offsets.
 macro_rules! records {
@@ -35,16 +35,16 @@ macro_rules! records {
 }
 
 records! {
-    "zigrunk_text" Text<'_> { bytes, length }
-    "zigrunk_variable" Variable<'_> { name, value }
-    "zigrunk_found_program" FoundProgram<'_> { program, path, found, is_found, reserved }
-    "zigrunk_plan_call" PlanCall<'_> {
+    "zigrunk_text" sys::Text<'_> { bytes, length }
+    "zigrunk_variable" sys::Variable<'_> { name, value }
+    "zigrunk_found_program" sys::FoundProgram<'_> { program, path, found, is_found, reserved }
+    "zigrunk_plan_call" sys::PlanCall<'_> {
         dry1, dry2, cwd, tmp, flag, keep_dir, variables, variables_count, suffixes, suffixes_count, programs, programs_count, keeps,
         host_compiler, reserved
     }
-    "zigrunk_range" Range { offset, length }
-    "zigrunk_text_answer" TextAnswer { status, length }
-    "zigrunk_list_answer" ListAnswer { status, count, length }
+    "zigrunk_range" sys::Range { offset, length }
+    "zigrunk_text_answer" sys::TextAnswer { status, length }
+    "zigrunk_list_answer" sys::ListAnswer { status, count, length }
 }
 
 /// The folder of the header: the library's, or the repository's.
@@ -62,7 +62,7 @@ fn records_are_laid_out_as_in_c() {
     let (lines, text) = expected();
     std::fs::write(&source, text).unwrap();
     let compiled =
-        Command::new("cc").arg("-std=c11").arg(format!("-I{}", include())).arg(&source).arg("-o").arg(&program).status();
+        process::Command::new("cc").arg("-std=c11").arg(format!("-I{}", include())).arg(&source).arg("-o").arg(&program).status();
     match compiled {
         Ok(status) => assert!(status.success()),
         Err(error) => {
@@ -70,7 +70,7 @@ fn records_are_laid_out_as_in_c() {
             return;
         }
     }
-    let ran = Command::new(&program).output().unwrap();
+    let ran = process::Command::new(&program).output().unwrap();
     assert_eq!(String::from_utf8(ran.stdout).unwrap(), lines);
     std::fs::remove_dir_all(&folder).unwrap();
 }
