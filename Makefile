@@ -69,7 +69,7 @@ install-library:
 	@.ci/built check library || $(MAKE) lib
 	umask 022 && bindings/c/library.sh crates/zigrunk_c/out/libzigrunk_c.a "$(target)"
 	install -D -m 644 man/zigrunk.h.3 "$(target)/share/man/man3/zigrunk.h.3"
-	find bindings -type f ! -path '*/c/library.sh' ! -path '*/c/zigrunk.*' ! -path '*/target/*' ! -path '*/__pycache__/*' -printf '%P\n' | \
+	find bindings -type f ! -path '*/c/library.sh' ! -path '*/c/zigrunk.*' ! -path '*/rust/tests/*' ! -path '*/target/*' ! -path '*/__pycache__/*' -printf '%P\n' | \
 		while read -r file; do install -D -m 644 "bindings/$$file" "$(target)/share/zigrunk/$$file" || exit 1; done
 
 uninstall:

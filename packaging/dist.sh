@@ -90,8 +90,8 @@ Description: split nvcc calls into their commands
  in parallel and cacheable ones go through a compiler cache.
  .
  zigrunk-nvcc does so in place of nvcc; zigrunk writes Ninja files, shell
- scripts and JSON. libzigrunk is for programs in C and
- Python.
+ scripts and JSON. libzigrunk is for programs in C, Rust
+ and Python.
 END
 (cd "$root" && find usr -type f -print0 | sort -z | xargs -0 md5sum > DEBIAN/md5sums)
 date_all "$root"

@@ -128,11 +128,11 @@ watched() {
     fi
 }
 
-# script LIBRARY: the example that plans writes a script that a shell can read, with a line for each command of each plan.
+# script LIBRARY PROGRAM: an example that plans writes a script that a shell can read, with a line for each command of each plan.
 script() {
-    local library=$1 name
+    local library=$1 program=$2 name
     for name in "${real_calls[@]}"; do
-        LD_LIBRARY_PATH=$library/lib "$library/programs/plan" /w /t "$(cat "$data/$name.flag")" "$data/$name.dry1" "$data/$name.dry2" > "$scratch/script" || return 1
+        LD_LIBRARY_PATH=$library/lib "$program" /w /t "$(cat "$data/$name.flag")" "$data/$name.dry1" "$data/$name.dry2" > "$scratch/script" || return 1
         sh -n "$scratch/script" || return 1
         diff <(grep -cE '^(yes|no) cd ' "$data/$name.plan") <(grep -c '^( cd ' "$scratch/script") || return 1
     done
@@ -151,7 +151,7 @@ shared() {
     check 'what the example prints' prints $'0: nvcc\n1: -c\n2: \'my kernel.cu\'\n3: \'-DNAME="x"\'' env LD_LIBRARY_PATH="$library/lib" "$library/programs/example"
     # shellcheck disable=SC2086 # words
     check 'the plan in C' gcc "${c_flags[@]}" bindings/c/plan.c -o "$library/programs/plan" $words
-    check 'the script that it writes' script "$library"
+    check 'the script that it writes' script "$library" "$library/programs/plan"
     check 'the calls of the shared object' env LD_LIBRARY_PATH="$library/lib" "$library/programs/shared" 100
 }
 
@@ -162,6 +162,28 @@ python() {
     export ZIGRUNK_LIBRARY=$library/lib/libzigrunk.so.1 PYTHONPATH=bindings/python PYTHONDONTWRITEBYTECODE=1
     check 'the binding for Python' python3 tests/python_binding.py "$data" "${real_calls[@]}"
     unset ZIGRUNK_LIBRARY PYTHONPATH
+}
+
+# crate LIBRARY: the crate for Rust: its tests, its pages, and what clippy says of it. Cargo takes nothing from a network here, and
+# leaves nothing in the repository.
+crate() {
+    local library=$1 manifest=(--offline --locked --manifest-path bindings/rust/Cargo.toml) start=$SECONDS
+    has cargo cc || return
+    export ZIGRUNK_LIB_DIR=$library/lib CARGO_TARGET_DIR=$scratch/cargo
+    check 'the tests of the crate' cargo test "${manifest[@]}"
+    check 'the script that its example writes' script "$library" "$CARGO_TARGET_DIR/debug/examples/shell"
+    check 'the pages of the crate' env RUSTDOCFLAGS='-D warnings' cargo doc --no-deps "${manifest[@]}"
+    if cargo clippy --version > /dev/null 2>&1; then
+        check 'clippy on the crate' cargo clippy --all-targets "${manifest[@]}" -- -D warnings
+    else
+        echo "skipped: clippy on the crate, which isn't installed"
+    fi
+    rm "$library/lib/libzigrunk.a"
+    check 'the tests with the shared object' env LD_LIBRARY_PATH="$library/lib" cargo test --tests "${manifest[@]}"
+    ZIGRUNK_LIB_DIR=$scratch/none cargo build "${manifest[@]}" > "$scratch/without" 2>&1
+    check 'the build says where it looked for the library' grep -qF "$scratch/none (ZIGRUNK_LIB_DIR)" "$scratch/without"
+    unset ZIGRUNK_LIB_DIR CARGO_TARGET_DIR
+    echo "the crate for Rust took $((SECONDS - start)) s"
 }
 
 # same: both builds give the same answers, byte for byte.
@@ -193,6 +215,7 @@ library=$scratch/llvm
 watched "$library"
 shared "$library"
 python "$library"
+crate "$library"
 
 echo "$passed passed, $failed failed"
 [ "$failed" -eq 0 ]

@@ -1,0 +1,24 @@
+//! Plans one nvcc call as a script for a shell: `shell CWD TMP FLAG DRY1 DRY2`. The files hold what nvcc's two dry runs print on
+//! standard error. A program that isn't on this machine counts as being at the first path that its look-up tries, so that you
+//! can plan for another machine.
+
+use std::error::Error;
+use std::{env, fs, process};
+
+use zigrunk::{candidates, find_programs, plan_text, Form, PlanCall};
+
+fn main() -> Result<(), Box<dyn Error>> {
+    let words: Vec<String> = env::args().skip(1).collect();
+    let [cwd, tmp, flag, first, second] = words.as_slice() else {
+        eprintln!("usage: shell CWD TMP FLAG DRY1 DRY2");
+        process::exit(2);
+    };
+    let (dry1, dry2) = (fs::read(first)?, fs::read(second)?);
+    let mut programs = find_programs(&dry1, &dry2, cwd)?;
+    for program in programs.iter_mut().filter(|program| program.found.is_none()) {
+        program.found = candidates(&program.lookup, cwd)?.get(0).map(String::from);
+    }
+    let call = PlanCall { dry1: &dry1, dry2: &dry2, cwd, tmp, flag, programs: &programs, ..PlanCall::default() };
+    print!("{}", plan_text(&call, Form::Shell)?);
+    Ok(())
+}

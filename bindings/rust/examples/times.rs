@@ -1,0 +1,29 @@
+//! Plans a call many times in one process, and prints the mean in nanoseconds: `times N CWD TMP FLAG DRY1 DRY2`. Each program
+//! counts as being at the first path that its look-up tries. The look-ups aren't in the time.
+
+use std::error::Error;
+use std::hint::black_box;
+use std::time::Instant;
+use std::{env, fs, process};
+
+use zigrunk::{candidates, lookups, plan_text, Form, FoundProgram, PlanCall};
+
+fn main() -> Result<(), Box<dyn Error>> {
+    let words: Vec<String> = env::args().skip(1).collect();
+    let [count, cwd, tmp, flag, first, second] = words.as_slice() else {
+        eprintln!("usage: times N CWD TMP FLAG DRY1 DRY2");
+        process::exit(2);
+    };
+    let (count, dry1, dry2) = (count.parse::<u32>()?, fs::read(first)?, fs::read(second)?);
+    let mut programs = Vec::new();
+    for lookup in lookups(&dry1, &dry2, cwd)? {
+        programs.push(FoundProgram { found: candidates(&lookup, cwd)?.get(0).map(String::from), lookup });
+    }
+    let call = PlanCall { dry1: &dry1, dry2: &dry2, cwd, tmp, flag, programs: &programs, ..PlanCall::default() };
+    let start = Instant::now();
+    for _ in 0..count {
+        black_box(plan_text(black_box(&call), Form::Text)?);
+    }
+    println!("{}", start.elapsed().as_nanos() / u128::from(count.max(1)));
+    Ok(())
+}

@@ -1,0 +1,93 @@
+//! Why a call failed.
+
+use std::fmt;
+
+/// Why a call failed: a variant for each status of `zigrunk.h`, with the library's message for people.
+#[derive(Debug, Clone, PartialEq, Eq)]
+#[non_exhaustive]
+pub enum Error {
+    /// An allocation of the library failed. (Buffers are this crate's: if one can't be allocated, the program aborts.)
+    OutOfMemory(String),
+    /// A text isn't UTF-8. Only dry runs can be that here, and those have errors of their own, so no call gives it today.
+    NotUtf8(String),
+    /// A number has no meaning: [`message`](crate::message) gives it for a status that isn't one.
+    BadNumber(String),
+    /// A text ends inside quotes or in a backslash.
+    OpenQuote(String),
+    /// A line of a dry run can't be read.
+    BadDryRun(String),
+    /// The table of programs doesn't have one that the plan needs, or says that there is none.
+    NotFound(String),
+    /// The suffixes and the standard ones break the rule of such a list.
+    BadSuffixes(String),
+    /// The form can't represent the plan.
+    Unwritable(String),
+    /// A line of a tool can't be read.
+    BadLine(String),
+    /// A status that a later library may have.
+    Other {
+        /// The status.
+        status: i32,
+        /// The library's message.
+        message: String,
+    },
+}
+
+impl Error {
+    pub(crate) fn new(status: i32, message: String) -> Self {
+        match status {
+            1 => Error::OutOfMemory(message),
+            2 => Error::NotUtf8(message),
+            3 => Error::BadNumber(message),
+            4 => Error::OpenQuote(message),
+            5 => Error::BadDryRun(message),
+            6 => Error::NotFound(message),
+            7 => Error::BadSuffixes(message),
+            8 => Error::Unwritable(message),
+            9 => Error::BadLine(message),
+            _ => Error::Other { status, message },
+        }
+    }
+
+    /// The status, as `zigrunk.h` numbers it. It is never 0.
+    #[must_use]
+    pub fn status(&self) -> i32 {
+        match self {
+            Error::OutOfMemory(_) => 1,
+            Error::NotUtf8(_) => 2,
+            Error::BadNumber(_) => 3,
+            Error::OpenQuote(_) => 4,
+            Error::BadDryRun(_) => 5,
+            Error::NotFound(_) => 6,
+            Error::BadSuffixes(_) => 7,
+            Error::Unwritable(_) => 8,
+            Error::BadLine(_) => 9,
+            Error::Other { status, .. } => *status,
+        }
+    }
+
+    /// The library's message, as [`Display`](fmt::Display) writes it.
+    #[must_use]
+    pub fn message(&self) -> &str {
+        match self {
+            Error::OutOfMemory(message)
+            | Error::NotUtf8(message)
+            | Error::BadNumber(message)
+            | Error::OpenQuote(message)
+            | Error::BadDryRun(message)
+            | Error::NotFound(message)
+            | Error::BadSuffixes(message)
+            | Error::Unwritable(message)
+            | Error::BadLine(message)
+            | Error::Other { message, .. } => message,
+        }
+    }
+}
+
+impl fmt::Display for Error {
+    fn fmt(&self, f: &mut fmt::Formatter<'_>) -> fmt::Result {
+        f.write_str(self.message())
+    }
+}
+
+impl std::error::Error for Error {}

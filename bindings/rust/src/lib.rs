@@ -1,0 +1,68 @@
+//! What one `nvcc` call really runs, by libzigrunk.
+//!
+//! nvcc's two dry runs go in, and a plan comes out: the commands of the call in groups, and the commands that the plan dropped,
+//! each with the reason. The library reads no file and starts no process: [`find_programs`] looks on this machine's disk for the
+//! programs that the dry runs name.
+//!
+//! ```no_run
+//! use std::process::Command;
+//! use zigrunk::{find_programs, plan_text, Form, PlanCall};
+//!
+//! let (cwd, tmp) = ("/w", "/t");
+//! let dry1 = Command::new("nvcc").args(["--dryrun", "--keep", "-c", "k.cu"]).output()?.stderr;
+//! let dry2 = Command::new("nvcc").args(["--keep-dir", tmp, "--dryrun", "--keep", "-c", "k.cu"]).output()?.stderr;
+//! let programs = find_programs(&dry1, &dry2, cwd)?;
+//! let variables: Vec<_> = std::env::vars().collect();
+//! let (dry1, dry2, variables, programs) = (&dry1, &dry2, &variables, &programs);
+//! let call = PlanCall { dry1, dry2, cwd, tmp, flag: "-c", variables, programs, ..PlanCall::default() };
+//! print!("{}", plan_text(&call, Form::Ninja)?);
+//! # Ok::<(), Box<dyn std::error::Error>>(())
+//! ```
+//!
+//! Calls share no state, so any number of threads may call. The same input always gives the same answer, unless an allocation fails.
+//!
+//! # Linking
+//!
+//! The build looks for `libzigrunk.a`, else `libzigrunk.so`, in the folder `ZIGRUNK_LIB_DIR`. If that isn't set, it looks where
+//! pkg-config says, in `out/lib` of the repository, where `make lib` leaves it, and in the installation that the crate is of.
+#![deny(missing_docs, unsafe_op_in_unsafe_fn)]
+
+mod buffers;
+mod call;
+mod error;
+#[cfg(test)]
+mod layout;
+mod programs;
+mod sys;
+mod texts;
+mod words;
+
+pub use call::{plan_text, Form, HostCompiler, PlanCall};
+pub use error::Error;
+pub use programs::{candidates, find_program, find_programs, lookups, FoundProgram, Lookup};
+pub use texts::{Texts, TextsIter};
+pub use words::{quote, split};
+
+/// The library's version, such as `0.1.0`.
+#[must_use]
+pub fn version() -> String {
+    // SAFETY: the buffer is exclusive.
+    unsafe { buffers::text(0, |out, size| sys::zigrunk_version(out, size)).1 }
+}
+
+/// The number of the library's binary interface. This crate is for 1, and so is every `libzigrunk.so.1`.
+#[must_use]
+pub fn abi_version() -> u32 {
+    // SAFETY: it takes nothing.
+    unsafe { sys::zigrunk_abi_version() }
+}
+
+/// What a status of `zigrunk.h` means. An [`Error`] has a message of its own, which may say more.
+///
+/// # Errors
+///
+/// [`Error::BadNumber`] if there is no such status, [`Error::OutOfMemory`].
+pub fn message(status: i32) -> Result<String, Error> {
+    // SAFETY: the buffer is exclusive.
+    unsafe { buffers::text_or_error(0, |out, size| sys::zigrunk_message(status, out, size)) }
+}

@@ -1,0 +1,129 @@
+//! The declarations of `zigrunk.h`. A test compares the records with those of the header.
+
+use std::marker::PhantomData;
+
+/// A text of the caller.
+#[repr(C)]
+#[derive(Clone, Copy)]
+pub(crate) struct Text<'a> {
+    pub(crate) bytes: *const u8,
+    pub(crate) length: usize,
+    of: PhantomData<&'a [u8]>,
+}
+
+impl<'a> Text<'a> {
+    pub(crate) fn new(bytes: &'a [u8]) -> Self {
+        Text { bytes: bytes.as_ptr(), length: bytes.len(), of: PhantomData }
+    }
+}
+
+impl<'a> From<&'a str> for Text<'a> {
+    fn from(text: &'a str) -> Self {
+        Text::new(text.as_bytes())
+    }
+}
+
+/// An environment variable.
+#[repr(C)]
+#[derive(Clone, Copy)]
+pub(crate) struct Variable<'a> {
+    pub(crate) name: Text<'a>,
+    pub(crate) value: Text<'a>,
+}
+
+/// A row of the table that answers look-ups.
+#[repr(C)]
+#[derive(Clone, Copy)]
+pub(crate) struct FoundProgram<'a> {
+    pub(crate) program: Text<'a>,
+    pub(crate) path: Text<'a>,
+    pub(crate) found: Text<'a>,
+    pub(crate) is_found: u32,
+    pub(crate) reserved: u32,
+}
+
+/// One nvcc call.
+#[repr(C)]
+#[derive(Clone, Copy)]
+pub(crate) struct PlanCall<'a> {
+    pub(crate) dry1: Text<'a>,
+    pub(crate) dry2: Text<'a>,
+    pub(crate) cwd: Text<'a>,
+    pub(crate) tmp: Text<'a>,
+    pub(crate) flag: Text<'a>,
+    pub(crate) keep_dir: Text<'a>,
+    pub(crate) variables: *const Variable<'a>,
+    pub(crate) variables_count: usize,
+    pub(crate) suffixes: *const Text<'a>,
+    pub(crate) suffixes_count: usize,
+    pub(crate) programs: *const FoundProgram<'a>,
+    pub(crate) programs_count: usize,
+    pub(crate) keeps: u32,
+    pub(crate) host_compiler: u32,
+    pub(crate) reserved: u64,
+}
+
+/// A part of an answer.
+#[repr(C)]
+#[derive(Clone, Copy, Debug, Default, PartialEq, Eq)]
+pub(crate) struct Range {
+    pub(crate) offset: usize,
+    pub(crate) length: usize,
+}
+
+/// The answer of a call that writes a text.
+#[repr(C)]
+#[derive(Clone, Copy)]
+pub(crate) struct TextAnswer {
+    pub(crate) status: i32,
+    pub(crate) length: usize,
+}
+
+/// The answer of a call that writes a list of texts.
+#[repr(C)]
+#[derive(Clone, Copy)]
+pub(crate) struct ListAnswer {
+    pub(crate) status: i32,
+    pub(crate) count: usize,
+    pub(crate) length: usize,
+}
+
+extern "C" {
+    pub(crate) fn zigrunk_abi_version() -> u32;
+    pub(crate) fn zigrunk_version(out: *mut u8, out_size: usize) -> TextAnswer;
+    pub(crate) fn zigrunk_message(status: i32, out: *mut u8, out_size: usize) -> TextAnswer;
+    pub(crate) fn zigrunk_split(
+        text: *const u8,
+        text_length: usize,
+        ranges: *mut Range,
+        ranges_size: usize,
+        out: *mut u8,
+        out_size: usize,
+    ) -> ListAnswer;
+    pub(crate) fn zigrunk_quote(words: *const Text<'_>, words_count: usize, out: *mut u8, out_size: usize) -> TextAnswer;
+    pub(crate) fn zigrunk_lookups(
+        dry1: *const u8,
+        dry1_length: usize,
+        dry2: *const u8,
+        dry2_length: usize,
+        cwd: *const u8,
+        cwd_length: usize,
+        ranges: *mut Range,
+        ranges_size: usize,
+        out: *mut u8,
+        out_size: usize,
+    ) -> ListAnswer;
+    pub(crate) fn zigrunk_candidates(
+        program: *const u8,
+        program_length: usize,
+        path: *const u8,
+        path_length: usize,
+        cwd: *const u8,
+        cwd_length: usize,
+        ranges: *mut Range,
+        ranges_size: usize,
+        out: *mut u8,
+        out_size: usize,
+    ) -> ListAnswer;
+    pub(crate) fn zigrunk_plan(call: *const PlanCall<'_>, form: u32, out: *mut u8, out_size: usize) -> TextAnswer;
+}

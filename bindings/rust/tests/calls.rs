@@ -1,0 +1,84 @@
+//! Calls of each function: answers, errors, and input of all sizes.
+
+use zigrunk::{candidates, find_program, lookups, message, quote, split, Error, Lookup};
+
+fn words_of(text: &str) -> Vec<String> {
+    split(text).unwrap().iter().map(String::from).collect()
+}
+
+#[test]
+fn versions() {
+    assert_eq!(zigrunk::version(), env!("CARGO_PKG_VERSION"));
+    assert_eq!(zigrunk::abi_version(), 1);
+}
+
+#[test]
+fn words_are_split() {
+    assert_eq!(words_of("g++ -D 'a b' c\\ d \"e'f\" ''"), ["g++", "-D", "a b", "c d", "e'f", ""]);
+    assert!(split("").unwrap().is_empty());
+    assert_eq!(split("a 'b").unwrap_err(), Error::OpenQuote("open quote or backslash at the end".into()));
+    assert_eq!(words_of(&"w ".repeat(10_000)), vec!["w"; 10_000]);
+}
+
+#[test]
+fn quoted_words_are_split_into_themselves() {
+    let long = "w".repeat(9000);
+    let lists: [&[&str]; 6] =
+        [&[], &[""], &["a b", "it's", "-DX=\"1\"", "é", "a\0b", "\n"], &[&long, &long], &["'"; 500], &["x"; 500]];
+    for words in lists {
+        assert_eq!(words_of(&quote(words).unwrap()), words);
+    }
+    assert_eq!(quote(vec![String::from("a b")]).unwrap(), "'a b'");
+}
+
+#[test]
+fn a_list_of_texts() {
+    let words = split("a 'b c' d").unwrap();
+    assert_eq!((words.len(), &words[1], words.get(2), words.get(3)), (3, "b c", Some("d"), None));
+    assert_eq!(words.iter().rev().collect::<Vec<_>>(), ["d", "b c", "a"]);
+    assert_eq!(words.iter().len(), 3);
+    assert_eq!(format!("{words:?} {:?}", words.iter()), r#"["a", "b c", "d"] ["a", "b c", "d"]"#);
+    let mut count = 0;
+    for word in &words {
+        count += word.len();
+    }
+    assert_eq!(count, 5);
+    assert_eq!(words, words.clone());
+}
+
+#[test]
+fn messages() {
+    assert_eq!(message(0).unwrap(), "success");
+    assert_eq!(message(6).unwrap(), "a program is not found");
+    for status in [-1, 1000, i32::MIN, i32::MAX] {
+        assert_eq!(message(status), Err(Error::BadNumber("a number has no meaning".into())));
+    }
+}
+
+#[test]
+fn an_error_is_one_of_the_standard_library() {
+    let error: Box<dyn std::error::Error + Send + Sync> = Box::new(split("'").unwrap_err());
+    assert_eq!(error.to_string(), "open quote or backslash at the end");
+    assert_eq!(error.downcast_ref::<Error>().map(Error::status), Some(4));
+}
+
+#[test]
+fn programs_are_looked_up() {
+    let run = b"#$ PATH=/b:c\n#$ cicc k.cpp1.ii\n";
+    let asked = lookups(run, run, "/w").unwrap();
+    assert_eq!(asked, [Lookup { program: "cicc".into(), path: "/b:c".into() }]);
+    assert_eq!(candidates(&asked[0], "/w").unwrap().iter().collect::<Vec<_>>(), ["/b/cicc", "/w/c/cicc"]);
+    assert_eq!(find_program(&asked[0], "/w").unwrap(), None);
+    let shell = Lookup { program: "sh".into(), path: "/nowhere:/bin".into() };
+    assert_eq!(find_program(&shell, "/w").unwrap().as_deref(), Some("/bin/sh"));
+    // a folder, a file that isn't executable, and a name that no file has
+    for program in ["/etc", "/etc/passwd", "/bin/sh\0"] {
+        assert_eq!(find_program(&Lookup { program: program.into(), path: String::new() }, "/").unwrap(), None);
+    }
+}
+
+#[test]
+fn many_folders_of_a_path() {
+    let path = vec!["/some/folder"; 5000].join(":");
+    assert_eq!(candidates(&Lookup { program: "x".into(), path }, "/w").unwrap().len(), 5000);
+}
