@@ -1,9 +1,9 @@
 # Starts and stops a Slurm of three nodes on this machine, without systemd. Sourced by tests/cluster.sh, which sets $run.
 
-# start_node NUMBER: a slurmd on a core of its own.
+# start_node NUMBER: a slurmd on a core of its own, with the variable that examples/slurm/slurm.conf asks for.
 start_node() {
     mkdir -p "$run/spool.n$1"
-    taskset -c "$(($1 % $(nproc)))" slurmd -N "n$1" -f "$SLURM_CONF" -c
+    HWLOC_COMPONENTS=${HWLOC_COMPONENTS--x86} taskset -c "$(($1 % $(nproc)))" slurmd -N "n$1" -f "$SLURM_CONF" -c
 }
 
 start_slurm() {
