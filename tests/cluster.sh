@@ -70,9 +70,9 @@ array() {
     wait "$!"
 }
 
-# objects SUFFIX: a line for each object that isn't nvcc's. Symbols that strip removes hold nvcc's random file names.
+# objects SUFFIX COUNT: a line for each object that isn't nvcc's. Symbols that strip removes hold nvcc's random file names.
 objects() {
-    for number in $(seq 20); do
+    for number in $(seq "$2"); do
         objcopy --strip-unneeded "k$number.nvcc" one && objcopy --strip-unneeded "k$number.$1" two && cmp one two
     done 2>&1
     rm -f one two
@@ -110,7 +110,7 @@ by_array() {
     calls zigrunk-nvcc array 20 > by_array
     timed array by_array
     same 'status of the array' "$status" 0
-    same 'objects of the array' "$(objects array)" ''
+    same 'objects of the array' "$(objects array 20)" ''
     echo "the same by an array job on three nodes: $seconds s, ideal $(echo "$whole" | awk '{printf "%.1f", $1 / 3}') s"
 }
 
@@ -119,7 +119,7 @@ by_batch_form() {
         calls nvcc "batch$nodes" 20 > by_batch
         timed batch "$nodes" by_batch
         same "status of the batch form, nodes $nodes" "$status$(cat out err)" 0
-        same "objects of the batch form, nodes $nodes" "$(objects "batch$nodes")" ''
+        same "objects of the batch form, nodes $nodes" "$(objects "batch$nodes" 20)" ''
         echo "the same by the batch form on $nodes: $seconds s, ideal $(echo "$whole $nodes" | awk '{printf "%.1f", $1 / $2}') s"
     done
 }
@@ -138,19 +138,19 @@ compile_error() {
 # KILLS says how often, 1 unless set. Each time it is another node, at another moment.
 killed_node() {
     local repeats=$PWD/repeats all=0 id turn number
-    [ -e k20.nvcc ] || sh by_nvcc
-    calls nvcc killed 20 > by_batch
+    [ -e k8.nvcc ] || head -n 8 by_nvcc | sh
+    calls nvcc killed 8 > by_batch
     for turn in $(seq "${KILLS:-1}"); do
         number=$((turn % 3 + 1))
         rm -f ./*.killed
         : > "$repeats"
         batch 3 by_batch STEP_LOG="$repeats" &
         id=$!
-        sleep $((5 + turn * 3 % 7))
+        sleep $((4 + turn * 3 % 5))
         kill_node "n$number"
         wait "$id"
         same "status after node $number died" "$?$(cat out) $(grep -v '^salloc: error: Node failure' err)" '0 '
-        same "objects after node $number died" "$(objects killed)" ''
+        same "objects after node $number died" "$(objects killed 8)" ''
         echo "node $number killed in mid-build: steps repeated: $(wc -l < "$repeats")"
         all=$((all + $(wc -l < "$repeats")))
         start_node "$number"
@@ -188,15 +188,15 @@ sleeping_array() {
 # What Slurm costs for a command that does nothing: as a step, as a job that srun waits for, and as a batch job among others.
 costs() {
     # shellcheck disable=SC2016 # the shell in the job counts
-    timed salloc -Q -p p1 -N1 -n1 sh -c 'for _ in $(seq 20); do srun -Q -N1 -n1 --exact true || exit; done'
+    timed salloc -Q -p p1 -N1 -n1 sh -c 'for _ in $(seq 10); do srun -Q -N1 -n1 --exact true || exit; done'
     same 'status of steps' "$status" 0
-    echo "a step that does nothing: $(share 20) s"
+    echo "a step that does nothing: $(share 10) s"
     # shellcheck disable=SC2016 # the same
-    timed sh -c 'for _ in $(seq 20); do srun -Q -p p1 -N1 -n1 true || exit; done'
+    timed sh -c 'for _ in $(seq 10); do srun -Q -p p1 -N1 -n1 true || exit; done'
     same 'status of jobs' "$status" 0
-    echo "a job that does nothing, by srun: $(share 20) s"
+    echo "a job that does nothing, by srun: $(share 10) s"
     timed batch_jobs
-    echo "a job that does nothing, one of 20 submitted at once: $(share 20) s"
+    echo "a job that does nothing, one of 10 submitted at once: $(share 10) s"
 }
 
 # share COUNT: one of so many parts of $seconds.
@@ -205,7 +205,7 @@ share() {
 }
 
 batch_jobs() {
-    for _ in $(seq 20); do sbatch -Q -p p1 -N1 -n1 -o /dev/null --wrap true || return; done
+    for _ in $(seq 10); do sbatch -Q -p p1 -N1 -n1 -o /dev/null --wrap true || return; done
     while [ -n "$(squeue -h)" ]; do sleep 0.1; done
 }
 
@@ -216,21 +216,21 @@ by_ssh() {
         command -v "$tool" > /dev/null || { echo "by_ssh: skipped, $tool is not on the path" && return; }
     done
     start_ssh || { echo 'by_ssh: skipped, sshd does not start' && return; }
-    [ -e k20.nvcc ] || sh by_nvcc
+    [ -e k8.nvcc ] || head -n 8 by_nvcc | sh
     # shellcheck disable=SC2016 # the other machine's variables
     echo 'echo "${NVCC_APPEND_FLAGS-none} ${CPATH-none} $PWD"' > by_ssh
     export NVCC_APPEND_FLAGS=-lineinfo CPATH=/none
     same 'variables by ssh alone' "$(ssh -F "$run/ssh_config" m1 "$(cat by_ssh)")" "none none $HOME"
     same 'variables by parallel.sh' "$("$examples/ssh/parallel.sh" "$run/machines" by_ssh 2>&1)" "-lineinfo none $PWD"
     unset NVCC_APPEND_FLAGS CPATH
-    calls zigrunk-nvcc ssh 20 > by_ssh
+    calls zigrunk-nvcc ssh 8 > by_ssh
     "$examples/ssh/parallel.sh" "$run/machines" by_ssh > out 2> err &
     id=$!
-    sleep 5
+    sleep 4
     kill_machine 2
     wait "$id"
     same 'status after a machine died' "$?$(cat out)" 0
-    same 'objects after a machine died' "$(objects ssh)" ''
+    same 'objects after a machine died' "$(objects ssh 8)" ''
     echo 'zigrunk-nvcc bad.cu' > by_ssh
     "$examples/ssh/parallel.sh" "$run/machines" by_ssh > out 2> err
     same 'status of a failed call' $? 1

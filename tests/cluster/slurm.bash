@@ -86,8 +86,9 @@ stop_slurm() {
     scancel -u "$(id -un)" 2> /dev/null && sleep 1
     for file in "$run"/slurmd.*.pid "$run/slurmctld.pid" "$run/munge.pid"; do
         [ -s "$file" ] && id=$(cat "$file") && kill "$id" 2> /dev/null || continue
+        # One that ended has no words, even if nobody waits for it.
         for _ in $(seq 50); do
-            kill -0 "$id" 2> /dev/null || break
+            [ -n "$(tr -d '\0' 2> /dev/null < "/proc/$id/cmdline")" ] || break
             sleep 0.1
         done
     done
