@@ -58,7 +58,7 @@ calls() {
 # batch NODES LIST [NAME=VALUE..]: the batch form in an allocation, each command as a step.
 batch() {
     salloc -Q --no-kill -p "p$1" -N"$1" -n"$1" env STEP_WRAPPER="$examples/attempts.bash" \
-        ZIGRUNK_RUNNER="$examples/slurm/step.sh" ZIGRUNK_JOBS=$(($1 + 2)) "${@:3}" zigrunk-batch "$2" 2> err > out
+        ZIGRUNK_RUNNER="$examples/slurm/step.sh" ZIGRUNK_JOBS=$(($1 * 2)) "${@:3}" zigrunk-batch "$2" 2> err > out
 }
 
 # array LIST: an array job. sbatch --wait looks for the end only every half minute, so squeue says when that was.
@@ -173,7 +173,7 @@ cancelled() {
 # Commands that only sleep show what Slurm costs.
 sleeping_batch() {
     calls nvcc nap 30 > by_batch
-    timed batch 3 by_batch STEP_WRAPPER="$PWD/nap" ZIGRUNK_JOBS="${NAP_JOBS:-12}"
+    timed batch 3 by_batch STEP_WRAPPER="$PWD/nap" ZIGRUNK_JOBS="${NAP_JOBS:-9}"
     same 'status of sleeping commands' "$status" 0
     echo "390 commands of 0.3 s by the batch form on three nodes: $seconds s, ideal 39 s"
 }

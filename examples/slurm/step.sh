@@ -1,10 +1,10 @@
 #!/bin/sh
 # step.sh COMMAND WORD..    runs a command as a step of this Slurm allocation, and again if its node dies
 #
-#     salloc -Q --no-kill -N3 -n12 env ZIGRUNK_RUNNER="$PWD/step.sh" ZIGRUNK_JOBS=15 ZIGRUNK_TMP=/shared/tmp zigrunk-batch LIST
+#     salloc -Q --no-kill -N3 -n12 env ZIGRUNK_RUNNER="$PWD/step.sh" ZIGRUNK_JOBS=24 ZIGRUNK_TMP=/shared/tmp zigrunk-batch LIST
 #
-# Without --no-kill, Slurm ends the whole allocation with its first dead node. Set ZIGRUNK_JOBS to a little more than the
-# processors.
+# Without --no-kill, Slurm ends the whole allocation with its first dead node. Set ZIGRUNK_JOBS to about twice the
+# processors: while a command runs, the step that takes its place gets ready.
 # STEP_WRAPPER, if set, is a program that runs the command on the node, such as the path of attempts.bash.
 #
 # What srun says of the command's status stays hidden: the caller sees the status. The script repeats a step at most five times,
