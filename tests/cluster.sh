@@ -24,7 +24,8 @@ run=$scratch/run
 mkdir "$run" "$scratch/work" "$scratch/tmp"
 export ZIGRUNK_PROGRAM ZIGRUNK_TMP=$scratch/tmp PATH=$PWD/bin:$PATH
 . tests/cluster/slurm.bash
-trap 'stop_slurm; rm -rf "$scratch"' EXIT
+. tests/cluster/ssh.bash
+trap 'stop_ssh; stop_slurm; rm -rf "$scratch"' EXIT
 trap 'exit 130' HUP INT TERM
 passed=0 failed=0
 
@@ -57,7 +58,7 @@ calls() {
 # batch NODES LIST [NAME=VALUE..]: the batch form in an allocation, each command as a step.
 batch() {
     salloc -Q --no-kill -p "p$1" -N"$1" -n"$1" env STEP_WRAPPER="$examples/attempts.bash" \
-        ZIGRUNK_RUNNER="$examples/slurm/step.sh" ZIGRUNK_JOBS=$(($1 + 2)) "${@:3}" zigrunk-batch "$2" 2> err > out
+        ZIGRUNK_RUNNER="$examples/slurm/step.sh" ZIGRUNK_JOBS=$(($1 * 2)) "${@:3}" zigrunk-batch "$2" 2> err > out
 }
 
 # array LIST: an array job. sbatch --wait looks for the end only every half minute, so squeue says when that was.
@@ -69,9 +70,9 @@ array() {
     wait "$!"
 }
 
-# objects SUFFIX: a line for each object that isn't nvcc's. Symbols that strip removes hold nvcc's random file names.
+# objects SUFFIX COUNT: a line for each object that isn't nvcc's. Symbols that strip removes hold nvcc's random file names.
 objects() {
-    for number in $(seq 20); do
+    for number in $(seq "$2"); do
         objcopy --strip-unneeded "k$number.nvcc" one && objcopy --strip-unneeded "k$number.$1" two && cmp one two
     done 2>&1
     rm -f one two
@@ -109,7 +110,7 @@ by_array() {
     calls zigrunk-nvcc array 20 > by_array
     timed array by_array
     same 'status of the array' "$status" 0
-    same 'objects of the array' "$(objects array)" ''
+    same 'objects of the array' "$(objects array 20)" ''
     echo "the same by an array job on three nodes: $seconds s, ideal $(echo "$whole" | awk '{printf "%.1f", $1 / 3}') s"
 }
 
@@ -118,7 +119,7 @@ by_batch_form() {
         calls nvcc "batch$nodes" 20 > by_batch
         timed batch "$nodes" by_batch
         same "status of the batch form, nodes $nodes" "$status$(cat out err)" 0
-        same "objects of the batch form, nodes $nodes" "$(objects "batch$nodes")" ''
+        same "objects of the batch form, nodes $nodes" "$(objects "batch$nodes" 20)" ''
         echo "the same by the batch form on $nodes: $seconds s, ideal $(echo "$whole $nodes" | awk '{printf "%.1f", $1 / $2}') s"
     done
 }
@@ -134,22 +135,28 @@ compile_error() {
     same 'text of a compile error' "$(grep -v '^zigrunk-batch: ' err)" "$(cat wanted)"
 }
 
+# KILLS says how often, 1 unless set. Each time it is another node, at another moment.
 killed_node() {
-    local repeats=$PWD/repeats id
-    [ -e k20.nvcc ] || sh by_nvcc
-    calls nvcc killed 20 > by_batch
-    : > "$repeats"
-    batch 3 by_batch STEP_LOG="$repeats" &
-    id=$!
-    sleep 8
-    kill_node n2
-    wait "$id"
-    same 'status after a node died' "$?$(cat out) $(grep -v '^salloc: error: Node failure' err)" '0 '
-    same 'objects after a node died' "$(objects killed)" ''
-    echo "a node killed in mid-build: steps repeated: $(wc -l < "$repeats")"
-    same 'a repeated step' "$([ -s "$repeats" ] && echo some)" some
-    start_node 2
-    wait_idle
+    local repeats=$PWD/repeats all=0 id turn number
+    [ -e k8.nvcc ] || head -n 8 by_nvcc | sh
+    calls nvcc killed 8 > by_batch
+    for turn in $(seq "${KILLS:-1}"); do
+        number=$((turn % 3 + 1))
+        rm -f ./*.killed
+        : > "$repeats"
+        batch 3 by_batch STEP_LOG="$repeats" &
+        id=$!
+        sleep $((4 + turn * 3 % 5))
+        kill_node "n$number"
+        wait "$id"
+        same "status after node $number died" "$?$(cat out) $(grep -v '^salloc: error: Node failure' err)" '0 '
+        same "objects after node $number died" "$(objects killed 8)" ''
+        echo "node $number killed in mid-build: steps repeated: $(wc -l < "$repeats")"
+        all=$((all + $(wc -l < "$repeats")))
+        start_node "$number"
+        wait_idle
+    done
+    same 'a repeated step' "$((all > 0))" 1
 }
 
 cancelled() {
@@ -166,7 +173,7 @@ cancelled() {
 # Commands that only sleep show what Slurm costs.
 sleeping_batch() {
     calls nvcc nap 30 > by_batch
-    timed batch 3 by_batch STEP_WRAPPER="$PWD/nap" ZIGRUNK_JOBS="${NAP_JOBS:-12}"
+    timed batch 3 by_batch STEP_WRAPPER="$PWD/nap" ZIGRUNK_JOBS="${NAP_JOBS:-9}"
     same 'status of sleeping commands' "$status" 0
     echo "390 commands of 0.3 s by the batch form on three nodes: $seconds s, ideal 39 s"
 }
@@ -178,8 +185,60 @@ sleeping_array() {
     echo "390 commands of 0.3 s by an array job on three nodes: $seconds s, ideal 39 s"
 }
 
+# What Slurm costs for a command that does nothing: as a step, as a job that srun waits for, and as a batch job among others.
+costs() {
+    # shellcheck disable=SC2016 # the shell in the job counts
+    timed salloc -Q -p p1 -N1 -n1 sh -c 'for _ in $(seq 10); do srun -Q -N1 -n1 --exact true || exit; done'
+    same 'status of steps' "$status" 0
+    echo "a step that does nothing: $(share 10) s"
+    # shellcheck disable=SC2016 # the same
+    timed sh -c 'for _ in $(seq 10); do srun -Q -p p1 -N1 -n1 true || exit; done'
+    same 'status of jobs' "$status" 0
+    echo "a job that does nothing, by srun: $(share 10) s"
+    timed batch_jobs
+    echo "a job that does nothing, one of 10 submitted at once: $(share 10) s"
+}
+
+# share COUNT: one of so many parts of $seconds.
+share() {
+    echo "$seconds $1" | awk '{printf "%.2f", $1 / $2}'
+}
+
+batch_jobs() {
+    for _ in $(seq 10); do sbatch -Q -p p1 -N1 -n1 -o /dev/null --wrap true || return; done
+    while [ -n "$(squeue -h)" ]; do sleep 0.1; done
+}
+
+# by_ssh: two machines, of which the second dies in mid-build.
+by_ssh() {
+    local id
+    for tool in sshd ssh-keygen ssh parallel; do
+        command -v "$tool" > /dev/null || { echo "by_ssh: skipped, $tool is not on the path" && return; }
+    done
+    start_ssh || { echo 'by_ssh: skipped, sshd does not start' && return; }
+    [ -e k8.nvcc ] || head -n 8 by_nvcc | sh
+    # shellcheck disable=SC2016 # the other machine's variables
+    echo 'echo "${NVCC_APPEND_FLAGS-none} ${CPATH-none} $PWD"' > by_ssh
+    export NVCC_APPEND_FLAGS=-lineinfo CPATH=/none
+    same 'variables by ssh alone' "$(ssh -F "$run/ssh_config" m1 "$(cat by_ssh)")" "none none $HOME"
+    same 'variables by parallel.sh' "$("$examples/ssh/parallel.sh" "$run/machines" by_ssh 2>&1)" "-lineinfo none $PWD"
+    unset NVCC_APPEND_FLAGS CPATH
+    calls zigrunk-nvcc ssh 8 > by_ssh
+    "$examples/ssh/parallel.sh" "$run/machines" by_ssh > out 2> err &
+    id=$!
+    sleep 4
+    kill_machine 2
+    wait "$id"
+    same 'status after a machine died' "$?$(cat out)" 0
+    same 'objects after a machine died' "$(objects ssh 8)" ''
+    echo 'zigrunk-nvcc bad.cu' > by_ssh
+    "$examples/ssh/parallel.sh" "$run/machines" by_ssh > out 2> err
+    same 'status of a failed call' $? 1
+    stop_ssh
+}
+
 start_slurm || skip 'Slurm does not start'
 cd "$scratch/work" && sources || exit 1
-for part in ${PARTS:-by_array by_batch_form compile_error killed_node cancelled sleeping_batch sleeping_array}; do "$part"; done
+for part in ${PARTS:-by_array by_batch_form compile_error killed_node cancelled sleeping_batch sleeping_array costs by_ssh}; do "$part"; done
 echo "$passed passed, $failed failed"
 [ "$failed" = 0 ]

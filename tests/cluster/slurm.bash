@@ -1,9 +1,9 @@
 # Starts and stops a Slurm of three nodes on this machine, without systemd. Sourced by tests/cluster.sh, which sets $run.
 
-# start_node NUMBER: a slurmd on a core of its own.
+# start_node NUMBER: a slurmd on a core of its own, with the variable that examples/slurm/slurm.conf asks for.
 start_node() {
     mkdir -p "$run/spool.n$1"
-    taskset -c "$(($1 % $(nproc)))" slurmd -N "n$1" -f "$SLURM_CONF" -c
+    HWLOC_COMPONENTS=${HWLOC_COMPONENTS--x86} taskset -c "$(($1 % $(nproc)))" slurmd -N "n$1" -f "$SLURM_CONF" -c
 }
 
 start_slurm() {
@@ -86,8 +86,9 @@ stop_slurm() {
     scancel -u "$(id -un)" 2> /dev/null && sleep 1
     for file in "$run"/slurmd.*.pid "$run/slurmctld.pid" "$run/munge.pid"; do
         [ -s "$file" ] && id=$(cat "$file") && kill "$id" 2> /dev/null || continue
+        # One that ended has no words, even if nobody waits for it.
         for _ in $(seq 50); do
-            kill -0 "$id" 2> /dev/null || break
+            [ -n "$(tr -d '\0' 2> /dev/null < "/proc/$id/cmdline")" ] || break
             sleep 0.1
         done
     done
