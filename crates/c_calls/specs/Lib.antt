@@ -1,6 +1,7 @@
 pub mod Asking
 pub mod Failures
 pub mod Laws
+pub mod LineCalls
 pub mod Memory
 pub mod Outcomes
 pub mod PlanCalls

@@ -10,6 +10,7 @@
 mod asking;
 mod failure;
 pub mod laws;
+mod line_call;
 mod memory;
 mod outcome;
 mod plan_call;
@@ -20,6 +21,7 @@ mod status;
 mod versions;
 
 pub use asking::{candidates, lookups};
+pub use line_call::LineCall;
 pub use memory::{InputText, ListAnswer, Range, TextAnswer};
 pub use plan_call::{FoundProgram, PlanCall, Variable};
 pub use planning::plan;
