@@ -137,7 +137,10 @@ fn pair_of(alloc: Global, row: &Variable<'_>) -> Result<Option<(String, String)>
 }
 
 /// Copies of variables, if all their texts are UTF-8.
-pub(crate) fn variables_of(alloc: Global, rows: &[Variable<'_>]) -> Result<Option<Variables>, AllocError>
+pub(crate) fn variables_of(
+    alloc: Global,
+    rows: &[Variable<'_>],
+) -> Result<Option<Variables>, AllocError>
     ensures { IfOk result (λ variables. variables ≡ spec.variables_of rows.now) }
 {
     let mut variables = Variables::new(alloc);
