@@ -46,7 +46,8 @@ extern "C" {
 #define ZIGRUNK_NOT_FOUND 6    /* your table doesn't have a program, or says that there is none */
 #define ZIGRUNK_BAD_SUFFIXES 7 /* your suffixes and the standard ones break the rule of such a list */
 #define ZIGRUNK_UNWRITABLE 8   /* the form can't represent the plan */
-#define ZIGRUNK_BAD_LINE 9     /* a line of a tool can't be read */
+#define ZIGRUNK_BAD_LINE 9     /* a line of a tool can't be read, or isn't to be cached */
+#define ZIGRUNK_TO_NVCC 10     /* the line goes to nvcc as it is: the text has the reason */
 
 /* Forms of a plan. */
 #define ZIGRUNK_JSON 0u  /* all there is to know, for programs: zigrunk(1) describes it */
@@ -58,6 +59,14 @@ extern "C" {
 #define ZIGRUNK_GCC 0u /* clang too */
 #define ZIGRUNK_MSVC 1u
 #define ZIGRUNK_NVHPC 2u
+
+/* Tools that lines are of. */
+#define ZIGRUNK_TOOL_CICC 0u
+#define ZIGRUNK_TOOL_PTXAS 1u
+#define ZIGRUNK_TOOL_CUDAFE 2u /* cudafe++ */
+#define ZIGRUNK_TOOL_NVCC 3u
+#define ZIGRUNK_TOOL_NVC 4u   /* nvc of nvhpc */
+#define ZIGRUNK_TOOL_NVCXX 5u /* nvc++ of nvhpc */
 
 #if defined(__GNUC__) || defined(__clang__)
 #define ZIGRUNK_CHECK_RESULT __attribute__((warn_unused_result))
@@ -105,6 +114,30 @@ typedef struct zigrunk_plan_call {
     uint32_t host_compiler; /* ZIGRUNK_GCC .. */
     uint64_t reserved;      /* 0 */
 } zigrunk_plan_call;
+
+/* A line of a tool. Set all of it to zero first, then give each text and each list a pointer that isn't NULL. */
+typedef struct zigrunk_line_call {
+    zigrunk_text cwd;          /* the working directory, an absolute path */
+    const zigrunk_text *words; /* without the tool's name */
+    size_t words_count;
+    const zigrunk_variable *variables; /* nvcc reads NVCC_PREPEND_FLAGS and NVCC_APPEND_FLAGS, the others none */
+    size_t variables_count;
+    uint32_t tool;     /* ZIGRUNK_TOOL_CICC .. */
+    uint32_t reserved; /* 0 */
+} zigrunk_line_call;
+
+/* A line of nvcc that is to be planned. Set all of it to zero first, then give each text and each list a pointer that isn't
+ * NULL. */
+typedef struct zigrunk_nvcc_call {
+    zigrunk_text cwd;          /* the working directory, an absolute path */
+    zigrunk_text tmp;          /* the temporary directory, an absolute path */
+    zigrunk_text nvcc;         /* nvcc's path or name */
+    const zigrunk_text *words; /* without nvcc's name */
+    size_t words_count;
+    const zigrunk_variable *variables; /* NVCC_PREPEND_FLAGS, NVCC_APPEND_FLAGS, ZIGRUNK_JOBS and MAKEFLAGS count */
+    size_t variables_count;
+    uint64_t reserved; /* 0 */
+} zigrunk_nvcc_call;
 
 /* A part of an answer: `length` bytes of its text, or elements of a list, from `offset` on. */
 typedef struct zigrunk_range {
@@ -159,6 +192,28 @@ ZIGRUNK_CHECK_RESULT zigrunk_list_answer zigrunk_candidates(const uint8_t *progr
  * of the second, and last a plan that the form can't represent. */
 ZIGRUNK_CHECK_RESULT zigrunk_text_answer zigrunk_plan(const zigrunk_plan_call *call, uint32_t form,
     uint8_t *out, size_t out_size);
+
+/* Reads a line of a tool and writes what it says as JSON: its input, its outputs, and its words by what they are for.
+ * zigrunk_line(3) lists the members. ZIGRUNK_BAD_LINE if the line compiles nothing, or no cache can serve it. */
+ZIGRUNK_CHECK_RESULT zigrunk_text_answer zigrunk_line(const zigrunk_line_call *call, uint8_t *out, size_t out_size);
+
+/* Reads a line of a tool and lists the words that it is written back as. ZIGRUNK_BAD_LINE as zigrunk_line, and if the line
+ * has no output. */
+ZIGRUNK_CHECK_RESULT zigrunk_list_answer zigrunk_line_words(const zigrunk_line_call *call,
+    zigrunk_range *ranges, size_t ranges_size, uint8_t *out, size_t out_size);
+
+/* Reads a line of nvcc and lists six texts: the command that writes its dependency file, the commands of the first and of
+ * the second dry run, the flag for zigrunk_plan, how many commands run at once, and the directory that keeps generated
+ * files. The commands are texts for a POSIX shell; a text is empty if the line doesn't say it. ZIGRUNK_TO_NVCC, with the
+ * reason, if the line doesn't compile one source. */
+ZIGRUNK_CHECK_RESULT zigrunk_list_answer zigrunk_nvcc_line(const zigrunk_nvcc_call *call,
+    zigrunk_range *ranges, size_t ranges_size, uint8_t *out, size_t out_size);
+
+/* Lists words with canonical names for the files that nvcc generates: as many words, in their order. Pass the words of all
+ * commands of a dry run, one command behind the other. Your suffixes are behind the standard ones. */
+ZIGRUNK_CHECK_RESULT zigrunk_list_answer zigrunk_remap(const zigrunk_text *words, size_t words_count,
+    const zigrunk_text *suffixes, size_t suffixes_count,
+    zigrunk_range *ranges, size_t ranges_size, uint8_t *out, size_t out_size);
 
 #ifdef __cplusplus
 }

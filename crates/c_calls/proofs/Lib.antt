@@ -1,2 +1,3 @@
+pub mod LineJsonLemmas
 pub mod RangeLemmas
 pub mod Utf8Lemmas

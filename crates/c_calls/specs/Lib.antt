@@ -1,11 +1,16 @@
 pub mod Asking
 pub mod Failures
 pub mod Laws
+pub mod LineCalls
+pub mod LineJson
+pub mod Lines
 pub mod Memory
+pub mod NvccOutline
 pub mod Outcomes
 pub mod PlanCalls
 pub mod PlanForms
 pub mod Planning
+pub mod Renaming
 pub mod Shell
 pub mod Statuses
 pub mod Version

@@ -10,19 +10,28 @@
 mod asking;
 mod failure;
 pub mod laws;
+mod line_call;
+mod line_json;
+mod lines;
 mod memory;
+mod nvcc_outline;
 mod outcome;
 mod plan_call;
 mod plan_forms;
 mod planning;
+mod renaming;
 mod shell;
 mod status;
 mod versions;
 
 pub use asking::{candidates, lookups};
+pub use line_call::LineCall;
+pub use lines::{line, line_words};
 pub use memory::{InputText, ListAnswer, Range, TextAnswer};
+pub use nvcc_outline::{NvccLineCall, nvcc_line};
 pub use plan_call::{FoundProgram, PlanCall, Variable};
 pub use planning::plan;
+pub use renaming::remap;
 pub use shell::{quote, split};
 pub use status::{Status, message};
 pub use versions::{abi_version, version};

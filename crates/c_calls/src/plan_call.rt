@@ -136,8 +136,11 @@ fn pair_of(alloc: Global, row: &Variable<'_>) -> Result<Option<(String, String)>
     Ok(Some((name, String::from_str(alloc, value)?)))
 }
 
-// Copies of variables, if all their texts are UTF-8.
-fn variables_of(alloc: Global, rows: &[Variable<'_>]) -> Result<Option<Variables>, AllocError>
+/// Copies of variables, if all their texts are UTF-8.
+pub(crate) fn variables_of(
+    alloc: Global,
+    rows: &[Variable<'_>],
+) -> Result<Option<Variables>, AllocError>
     ensures { IfOk result (λ variables. variables ≡ spec.variables_of rows.now) }
 {
     let mut variables = Variables::new(alloc);

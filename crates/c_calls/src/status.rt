@@ -30,8 +30,10 @@ pub enum Status {
     BadSuffixes,
     /// The form can't represent the plan.
     Unwritable,
-    /// A line of a tool can't be read.
+    /// A line of a tool can't be read, or isn't to be cached.
     BadLine,
+    /// A line goes to nvcc as it is.
+    ToNvcc,
 }
 
 impl Status {
@@ -50,6 +52,7 @@ impl Status {
             Status::BadSuffixes => 7,
             Status::Unwritable => 8,
             Status::BadLine => 9,
+            Status::ToNvcc => 10,
         }
     }
 
@@ -68,6 +71,7 @@ impl Status {
             7 => Some(Status::BadSuffixes),
             8 => Some(Status::Unwritable),
             9 => Some(Status::BadLine),
+            10 => Some(Status::ToNvcc),
             _ => None,
         }
     }
@@ -87,6 +91,7 @@ impl Status {
             Status::BadSuffixes => "bad generated suffixes",
             Status::Unwritable => "the form cannot represent the plan",
             Status::BadLine => "a line of a tool cannot be read",
+            Status::ToNvcc => "the line goes to nvcc",
         }
     }
 }
