@@ -1,2 +1,5 @@
+pub mod AllOrNothing
 pub mod RangeLemmas
+pub mod RecordLemmas
+pub mod RecordReading
 pub mod Utf8Lemmas

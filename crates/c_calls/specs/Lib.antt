@@ -5,7 +5,11 @@ pub mod Memory
 pub mod Outcomes
 pub mod PlanCalls
 pub mod PlanForms
+pub mod PlanRecords
 pub mod Planning
+pub mod RecordLaws
+pub mod Records
+pub mod RecordsRead
 pub mod Shell
 pub mod Statuses
 pub mod Version
