@@ -68,6 +68,18 @@ extern "C" {
 #define ZIGRUNK_TOOL_NVC 4u   /* nvc of nvhpc */
 #define ZIGRUNK_TOOL_NVCXX 5u /* nvc++ of nvhpc */
 
+/* What the groups of a plan are. */
+#define ZIGRUNK_FRONT 0u  /* the first: the preprocessor for the host, and cudafe++ */
+#define ZIGRUNK_DEVICE 1u /* one for each architecture: its preprocessor, cicc and ptxas */
+#define ZIGRUNK_FINAL 2u  /* the last: fatbinary, and the host compiler */
+
+/* Why a plan dropped a command. */
+#define ZIGRUNK_IN_GROUP 0u       /* it didn't: the command is in a group */
+#define ZIGRUNK_NOT_CUDA 1u       /* none of nvcc's tools, and without a CUDA macro */
+#define ZIGRUNK_NO_CICC_GROUP 2u  /* a cicc command whose input no preprocess step before it makes */
+#define ZIGRUNK_NO_PTXAS_GROUP 3u /* a ptxas command whose input no cicc command of a device group makes */
+#define ZIGRUNK_SUPERSEDED 4u     /* of a device group that a later preprocess step opened again */
+
 #if defined(__GNUC__) || defined(__clang__)
 #define ZIGRUNK_CHECK_RESULT __attribute__((warn_unused_result))
 #else
@@ -159,6 +171,37 @@ typedef struct zigrunk_list_answer {
     size_t length;
 } zigrunk_list_answer;
 
+/* A group of a plan: some of its commands, one after the other. */
+typedef struct zigrunk_group {
+    zigrunk_range commands; /* which elements of the list of commands */
+    uint32_t stage;         /* ZIGRUNK_FRONT .. */
+    uint32_t reserved;      /* 0 */
+} zigrunk_group;
+
+/* A command of a plan, or one that the plan dropped. Its texts are elements of the list of ranges, each of which says where
+ * the bytes are. A variable may occur twice: the last one counts. */
+typedef struct zigrunk_command {
+    zigrunk_range arguments; /* which texts are the words after the program's name */
+    zigrunk_range variables; /* which texts are its environment: a name, its value, a name, ..; none if it was dropped */
+    size_t program;          /* which text is the program's path */
+    size_t cwd;              /* which text is the directory that it runs in; an empty text if it was dropped */
+    size_t group;            /* its group; the number of groups if it was dropped */
+    size_t run;              /* the dry run that it is of: 1 or 2 */
+    size_t line;             /* its line there, from 0 (the JSON form counts from 1) */
+    uint32_t reason;         /* why it was dropped: ZIGRUNK_IN_GROUP .. */
+    uint32_t cacheable;      /* 1 if its outputs may come from a cache, else 0 */
+} zigrunk_command;
+
+/* The answer of a call that writes a plan as records: how many groups, commands and ranges there are, and the length of
+ * all texts together. The texts are one behind the other, as in zigrunk_list_answer. */
+typedef struct zigrunk_records_answer {
+    int32_t status;
+    size_t groups;
+    size_t commands;
+    size_t ranges;
+    size_t length;
+} zigrunk_records_answer;
+
 /* The number of the binary interface. A program may compare it with ZIGRUNK_ABI_VERSION once, before other calls. */
 uint32_t zigrunk_abi_version(void);
 
@@ -192,6 +235,13 @@ ZIGRUNK_CHECK_RESULT zigrunk_list_answer zigrunk_candidates(const uint8_t *progr
  * of the second, and last a plan that the form can't represent. */
 ZIGRUNK_CHECK_RESULT zigrunk_text_answer zigrunk_plan(const zigrunk_plan_call *call, uint32_t form,
     uint8_t *out, size_t out_size);
+
+/* Plans the same commands, and writes the plan as records: its groups, then all commands, those of the groups in plan order
+ * before those that it dropped, and the ranges of their texts. All of it is written if each of the four buffers is large
+ * enough, and nothing otherwise. If it refuses, only the message is written, and the three other counts are 0. */
+ZIGRUNK_CHECK_RESULT zigrunk_records_answer zigrunk_plan_records(const zigrunk_plan_call *call,
+    zigrunk_group *groups, size_t groups_size, zigrunk_command *commands, size_t commands_size,
+    zigrunk_range *ranges, size_t ranges_size, uint8_t *out, size_t out_size);
 
 /* Reads a line of a tool and writes what it says as JSON: its input, its outputs, and its words by what they are for.
  * zigrunk_line(3) lists the members. ZIGRUNK_BAD_LINE if the line compiles nothing, or no cache can serve it. */

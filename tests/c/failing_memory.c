@@ -99,6 +99,19 @@ static zigrunk_list_answer try_message(buffers *into) {
 static const char run[] = "#$ PATH=/b\n#$ gcc -D__NVCC__ -E k.cu -o k.cpp1.ii\n#$ cicc k.cpp1.ii -o k.ptx\n"
                           "#$ ptxas k.ptx -o k.cubin\n";
 
+/* The form that stands for records here. */
+#define RECORDS UINT32_MAX
+
+/* A plan as records. Their ranges and texts are answered as a list. */
+static zigrunk_list_answer records_of(const zigrunk_plan_call *call, buffers *into) {
+    static zigrunk_group groups[8];
+    static zigrunk_command commands[16];
+    zigrunk_records_answer a = zigrunk_plan_records(call, groups, 8, commands, 16, into->ranges, 4096, into->out, sizeof into->out);
+    CHECK(a.status == ZIGRUNK_OK ? a.groups == 3 && a.commands == 3 : a.groups == 0 && a.commands == 0);
+    zigrunk_list_answer list = {a.status, a.ranges, a.length};
+    return list;
+}
+
 static zigrunk_list_answer try_plan(uint32_t form, size_t programs, buffers *into) {
     zigrunk_found_program rows[] = {row("gcc", "/b", "/b/gcc"), row("cicc", "/b", "/b/cicc"), row("ptxas", "/b", "/b/ptxas")};
     zigrunk_variable variable = {text_of("A"), text_of("B C")};
@@ -110,7 +123,7 @@ static zigrunk_list_answer try_plan(uint32_t form, size_t programs, buffers *int
     call.suffixes_count = 1;
     call.programs = rows;
     call.programs_count = programs;
-    return as_list(zigrunk_plan(&call, form, into->out, sizeof into->out));
+    return form == RECORDS ? records_of(&call, into) : as_list(zigrunk_plan(&call, form, into->out, sizeof into->out));
 }
 
 static zigrunk_list_answer try_json(buffers *into) {
@@ -119,6 +132,14 @@ static zigrunk_list_answer try_json(buffers *into) {
 
 static zigrunk_list_answer try_ninja(buffers *into) {
     return try_plan(ZIGRUNK_NINJA, 3, into);
+}
+
+static zigrunk_list_answer try_records(buffers *into) {
+    return try_plan(RECORDS, 3, into);
+}
+
+static zigrunk_list_answer try_refused_records(buffers *into) {
+    return try_plan(RECORDS, 2, into);
 }
 
 static zigrunk_list_answer try_refused_plan(buffers *into) {
@@ -143,6 +164,8 @@ int main(void) {
     try_all("JSON", try_json);
     try_all("Ninja", try_ninja);
     try_all("refused plan", try_refused_plan);
+    try_all("records", try_records);
+    try_all("refused records", try_refused_records);
     try_all("look-ups", try_lookups);
     try_all("candidates", try_candidates);
     return report();

@@ -1,6 +1,6 @@
 /* Plans: small ones, refusals, and the plans of dry runs in files: `plans FOLDER NAME..` compares what it plans for FOLDER's
  * NAME.dry1, NAME.dry2 and NAME.flag with NAME.plan, which is what the program `cudaplan` prints for them. */
-#include "plans.h"
+#include "files.h"
 
 static const char run1[] = "#$ PATH=/b:/c\n#$ gcc -D__NVCC__ -E k.cu -o k.cpp1.ii\n#$ cicc k.cpp1.ii -o k.ptx\n";
 static const char run2[] = "#$ PATH=/b:/c\n#$ gcc -D__NVCC__ -E k.cu -o /t/k.cpp1.ii\n#$ cicc k.cpp1.ii -o /t/k.ptx\n";
@@ -203,18 +203,6 @@ static void check_faults(void) {
     refuses(&call, ZIGRUNK_BAD_SUFFIXES, "bad generated suffixes");
 }
 
-/* Bytes that repeat a text. */
-static zigrunk_text repeated(const char *first, const char *text, size_t count) {
-    size_t head = strlen(first), each = strlen(text);
-    uint8_t *bytes = room(head + count * each, 1);
-    memcpy(bytes, first, head);
-    for (size_t i = 0; i < count; i++) {
-        memcpy(bytes + head + i * each, text, each);
-    }
-    zigrunk_text made = {bytes, head + count * each};
-    return made;
-}
-
 /* Long dry runs and long tables: no answer depends on a fixed size. */
 static void check_long_calls(void) {
     zigrunk_text dry = repeated("#$ PATH=/b\n", "#$ nvlink a b -o c\n", 4000);
@@ -250,68 +238,20 @@ static void check_long_calls(void) {
     free((void *)path.bytes);
 }
 
-/* A file of a folder. */
-static zigrunk_text file(const char *folder, const char *name, const char *end) {
-    char path[4096];
-    snprintf(path, sizeof path, "%s/%s%s", folder, name, end);
-    FILE *opened = fopen(path, "rb");
-    uint8_t *bytes = room(1 << 20, 1);
-    size_t length = opened ? fread(bytes, 1, 1 << 20, opened) : 0;
-    CHECK(opened && length < 1 << 20);
-    if (opened) {
-        fclose(opened);
-    }
-    zigrunk_text text = {bytes, length};
-    return text;
-}
-
-static zigrunk_text without_newline(zigrunk_text text) {
-    while (text.length > 0 && text.bytes[text.length - 1] == '\n') {
-        text.length--;
-    }
-    return text;
-}
-
-/* Plans the dry runs of a call in files. Each program is where its look-up tries first, as `cudaplan` takes it to be. */
+/* Plans the dry runs of a call in files. */
 static void check_files(const char *folder, const char *name) {
-    zigrunk_text dry1 = file(folder, name, ".dry1"), dry2 = file(folder, name, ".dry2");
-    zigrunk_text flag = file(folder, name, ".flag"), expected = file(folder, name, ".plan");
-    zigrunk_plan_call call = call_of(dry1, dry2, "");
-    call.flag = without_newline(flag);
-    answer asked = lookups(dry1, dry2, call.cwd);
-    CHECK(asked.status == ZIGRUNK_OK && asked.count > 0 && asked.count % 2 == 0);
-    size_t count = asked.count / 2;
-    zigrunk_found_program *found = room(count, sizeof *found);
-    answer *paths = room(count, sizeof *paths);
-    memset(found, 0, count * sizeof *found);
-    for (size_t i = 0; i < count; i++) {
-        found[i].program = text_at(&asked, 2 * i);
-        found[i].path = text_at(&asked, 2 * i + 1);
-        paths[i] = candidates(found[i].program, found[i].path, call.cwd);
-        CHECK(paths[i].status == ZIGRUNK_OK && paths[i].count > 0);
-        found[i].found = text_at(&paths[i], 0);
-        found[i].is_found = 1;
-    }
-    call.programs = found;
-    call.programs_count = count;
-    answer a = plan(&call, ZIGRUNK_TEXT);
+    planned_files files = files_of(folder, name);
+    answer a = plan(&files.call, ZIGRUNK_TEXT);
+    zigrunk_text expected = file(folder, name, ".plan");
     CHECK(a.status == ZIGRUNK_OK && a.length == expected.length && memcmp(a.out, expected.bytes, a.length) == 0);
     release(a);
     for (uint32_t form = ZIGRUNK_JSON; form <= ZIGRUNK_SHELL; form++) {
-        a = plan(&call, form);
+        a = plan(&files.call, form);
         CHECK(a.status == ZIGRUNK_OK);
         release(a);
     }
-    for (size_t i = 0; i < count; i++) {
-        release(paths[i]);
-    }
-    release(asked);
-    free(paths);
-    free(found);
-    free((void *)dry1.bytes);
-    free((void *)dry2.bytes);
-    free((void *)flag.bytes);
     free((void *)expected.bytes);
+    release_files(files);
 }
 
 int main(int count, char **arguments) {

@@ -9,7 +9,11 @@ pub mod NvccOutline
 pub mod Outcomes
 pub mod PlanCalls
 pub mod PlanForms
+pub mod PlanRecords
 pub mod Planning
+pub mod RecordLaws
+pub mod Records
+pub mod RecordsRead
 pub mod Renaming
 pub mod Shell
 pub mod Statuses

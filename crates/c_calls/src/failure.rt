@@ -12,8 +12,8 @@ use plan_exports::Refusal;
 use std::alloc::{AllocError, Global};
 use texts::fault::Fault;
 
-// The status of a fault.
-fn status_of(fault: &Fault) -> Status
+/// The status of a fault.
+pub(crate) fn status_of(fault: &Fault) -> Status
     ensures { result ≡ spec.status_of fault.now }
 {
     match fault {

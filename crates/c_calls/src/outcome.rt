@@ -50,6 +50,34 @@ impl Outcome {
         }
     }
 
+    /// The status.
+    pub(crate) fn status(&self) -> i32
+        ensures { result ≡ self.now.0 }
+    {
+        self.status
+    }
+
+    /// Where each text is.
+    pub(crate) fn ranges(&self) -> &[Range]
+        ensures { result.now ≡ self.now.1.0 }
+    {
+        self.ranges.as_slice()
+    }
+
+    /// The texts, one behind the other.
+    pub(crate) fn text(&self) -> &str
+        ensures { result.now ≡ self.now.1.1 }
+    {
+        self.text.as_str()
+    }
+
+    /// How many texts there are.
+    pub(crate) fn count(&self) -> usize
+        ensures { result ≡ length self.now.1.0 }
+    {
+        self.ranges.len()
+    }
+
     /// Adds a text.
     pub(crate) fn push(&mut self, text: &str) -> Result<(), AllocError>
         ensures { OnOk result (self.new ≡ spec.with_texts self.old (text.now ∷ [])) }

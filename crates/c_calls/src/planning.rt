@@ -22,8 +22,8 @@ use programs::all_suffixes;
 use std::alloc::{AllocError, Global};
 use texts::fault::Fault;
 
-// The plan of a call, or why there is none.
-fn planned(
+/// The plan of a call, or why there is none.
+pub(crate) fn planned(
     alloc: Global,
     call: &PlanCall<'_>,
     host: NvccHostCompiler,

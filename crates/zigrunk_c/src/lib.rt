@@ -5,12 +5,16 @@ ghost use Rattle.std.specs.Prelude.{◌≡◌, map};
 ghost use Rattle.c_calls.specs.Asking.{candidates_outcome, lookups_outcome};
 ghost use Rattle.c_calls.specs.Memory.{bytes_of};
 ghost use Rattle.c_calls.specs.Outcomes.{GivesList, GivesText, TellsText, described, of_text};
+ghost use Rattle.c_calls.specs.PlanRecords.{plan_records};
 ghost use Rattle.c_calls.specs.Planning.{plan_outcome};
+ghost use Rattle.c_calls.specs.Records.{GivesRecords};
 ghost use Rattle.c_calls.specs.Shell.{quote_outcome, split_outcome};
 ghost use Rattle.c_calls.specs.Statuses.{with_number};
 ghost use Rattle.c_calls.specs.Version as version;
 
-use c_calls::{InputText, ListAnswer, PlanCall, Range, TextAnswer};
+use c_calls::{
+    CommandRecord, GroupRecord, InputText, ListAnswer, PlanCall, Range, RecordsAnswer, TextAnswer,
+};
 use std::alloc::Global;
 
 /// The number of the binary interface.
@@ -103,4 +107,21 @@ pub extern "C" fn zigrunk_plan(
     ensures { GivesText (plan_outcome call.now form) result out.old out.new }
 {
     c_calls::plan(alloc, call, form, out)
+}
+
+/// Plans two dry runs of one nvcc call, as records.
+#[unsafe(no_mangle)]
+pub extern "C" fn zigrunk_plan_records(
+    alloc: Global,
+    call: &PlanCall<'_>,
+    groups: &mut [GroupRecord],
+    commands: &mut [CommandRecord],
+    ranges: &mut [Range],
+    out: &mut [u8],
+) -> RecordsAnswer
+    ensures { GivesRecords (plan_records call.now) result
+        (record { groups = groups.old; commands = commands.old; ranges = ranges.old; bytes = out.old })
+        (record { groups = groups.new; commands = commands.new; ranges = ranges.new; bytes = out.new }) }
+{
+    c_calls::plan_records(alloc, call, groups, commands, ranges, out)
 }
