@@ -106,6 +106,9 @@ calls() {
     check "plans.c" compiled gcc tests/c/plans.c "$programs/plans" "$library"
     check 'the plans' "$programs/plans" "$data" "${real_calls[@]}"
     cat "$scratch/said" >> "$programs/answers"
+    check "lines.c" compiled gcc tests/c/lines.c "$programs/lines" "$library"
+    check 'the lines' "$programs/lines"
+    cat "$scratch/said" >> "$programs/answers"
     check 'failing_memory.c' compiled gcc tests/c/failing_memory.c "$programs/failing_memory" "$library" "${memory_functions[@]}"
     check 'each allocation failing in turn' "$programs/failing_memory"
     check 'threads.c' compiled gcc tests/c/threads.c "$programs/threads" "$library" -pthread
@@ -118,6 +121,7 @@ watched() {
     if has gcc valgrind; then
         check 'the calls under memcheck' valgrind -q --error-exitcode=9 --leak-check=full "$programs/calls" 100
         check 'the plans under memcheck' valgrind -q --error-exitcode=9 --leak-check=full "$programs/plans" "$data" "${real_calls[0]}"
+        check 'the lines under memcheck' valgrind -q --error-exitcode=9 --leak-check=full "$programs/lines"
         check 'the threads under helgrind' valgrind -q --tool=helgrind --error-exitcode=9 "$programs/threads" 20
     fi
     if has clang; then
@@ -125,6 +129,8 @@ watched() {
         check 'the calls under ASan and UBSan' "$programs/sanitized" 1000
         check 'plans.c with sanitizers' compiled clang tests/c/plans.c "$programs/sanitized_plans" "$library" -fsanitize=address,undefined -fno-sanitize-recover=all
         check 'the plans under ASan and UBSan' "$programs/sanitized_plans" "$data" "${real_calls[@]}"
+        check 'lines.c with sanitizers' compiled clang tests/c/lines.c "$programs/sanitized_lines" "$library" -fsanitize=address,undefined -fno-sanitize-recover=all
+        check 'the lines under ASan and UBSan' "$programs/sanitized_lines"
     fi
 }
 
