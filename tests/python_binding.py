@@ -64,6 +64,33 @@ class Calls(unittest.TestCase):
         call = zigrunk.PlanCall(run, run, "/w", "/t")
         self.rejects(zigrunk.Status.NOT_FOUND, "cicc: not found", zigrunk.plan, call, which=lambda lookup, folder: None)
 
+    def test_lines(self):
+        words = "-arch=sm_80 k.ptx -o k.cubin".split()
+        self.assertEqual(zigrunk.line_words(zigrunk.Tool.PTXAS, "/w", words), "-arch sm_80 k.ptx -o /w/k.cubin".split())
+        said = json.loads(zigrunk.line(zigrunk.Tool.PTXAS, "/w", words))
+        self.assertEqual((said["input"], said["common_args"], said["version"]), ("k.ptx", ["-arch", "sm_80"], 1))
+        self.assertEqual(said["outputs"], [{"key": "obj", "optional": False, "path": "/w/k.cubin"}])
+        said = json.loads(zigrunk.line(zigrunk.Tool.NVCC, "/w", ["-c", "k.cu"], {"NVCC_APPEND_FLAGS": "-o j.o"}))
+        self.assertEqual(said["outputs"][0]["path"], "j.o")
+        for call in zigrunk.line, zigrunk.line_words:
+            self.rejects(zigrunk.Status.BAD_LINE, "not a compilation", call, zigrunk.Tool.CICC, "/w", [])
+            self.rejects(zigrunk.Status.NOT_UTF8, "a text is not UTF-8", call, zigrunk.Tool.CICC, "/w", ["\udcff"])
+        self.rejects(zigrunk.Status.BAD_LINE, 'Missing "ptx" file output', zigrunk.line_words, zigrunk.Tool.CICC, "/w", ["k.cpp1.ii"])
+
+    def test_nvcc_lines(self):
+        said = zigrunk.nvcc_line("/w", "/t", "nvcc", ["-c", "k.cu", "-o", "k.o", "-t", "2"])
+        self.assertEqual((said.dependencies, said.flag, said.jobs, said.keep_dir), ("", "-c", "2", ""))
+        self.assertTrue(said.first_dry_run.endswith("cd /w && nvcc -x cu -o k.o -c k.cu --dryrun --keep )"))
+        self.assertTrue(said.second_dry_run.endswith("cd /w && nvcc -x cu -o k.o -c k.cu --keep-dir /t --dryrun --keep )"))
+        reason = "goes to nvcc: its phase isn't split"
+        self.rejects(zigrunk.Status.TO_NVCC, reason, zigrunk.nvcc_line, "/w", "/t", "nvcc", ["-E", "k.cu"])
+
+    def test_names(self):
+        self.assertEqual(zigrunk.remap(["d/k.cpp1.ii", "-I=d/k.cpp1.ii", "k.gpu"]), ["d/x_0.cpp1.ii", "-I=d/x_0.cpp1.ii", "k.gpu"])
+        self.assertEqual(zigrunk.remap(["k.gpu"], [".gpu"]), ["x_0.gpu"])
+        self.assertEqual(zigrunk.remap([]), [])
+        self.rejects(zigrunk.Status.BAD_SUFFIXES, "bad generated suffixes", zigrunk.remap, ["k"], ["gpu"])
+
     def test_example(self):
         for name in NAMES:
             with self.subTest(name):

@@ -244,7 +244,7 @@ ZIGRUNK_CHECK_RESULT zigrunk_records_answer zigrunk_plan_records(const zigrunk_p
     zigrunk_range *ranges, size_t ranges_size, uint8_t *out, size_t out_size);
 
 /* Reads a line of a tool and writes what it says as JSON: its input, its outputs, and its words by what they are for.
- * zigrunk_line(3) lists the members. ZIGRUNK_BAD_LINE if the line compiles nothing, or no cache can serve it. */
+ * zigrunk.h(3) lists the members. ZIGRUNK_BAD_LINE if the line compiles nothing, or no cache can serve it. */
 ZIGRUNK_CHECK_RESULT zigrunk_text_answer zigrunk_line(const zigrunk_line_call *call, uint8_t *out, size_t out_size);
 
 /* Reads a line of a tool and lists the words that it is written back as. ZIGRUNK_BAD_LINE as zigrunk_line, and if the line

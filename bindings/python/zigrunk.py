@@ -15,8 +15,8 @@ import os
 from dataclasses import dataclass, field
 from typing import Callable, Iterable, List, Mapping, Optional, Sequence, Tuple, Union
 
-__all__ = ["Form", "HostCompiler", "Lookup", "PlanCall", "Status", "ZigrunkError", "candidates", "find", "lookups", "plan",
-           "quote", "split", "version"]
+__all__ = ["Form", "HostCompiler", "Lookup", "NvccLine", "PlanCall", "Status", "Tool", "ZigrunkError", "candidates", "find",
+           "line", "line_words", "lookups", "nvcc_line", "plan", "quote", "remap", "split", "version"]
 
 _ABI_VERSION = 1
 
@@ -34,6 +34,7 @@ class Status(enum.IntEnum):
     BAD_SUFFIXES = 7
     UNWRITABLE = 8
     BAD_LINE = 9
+    TO_NVCC = 10
 
 
 class Form(enum.IntEnum):
@@ -51,6 +52,17 @@ class HostCompiler(enum.IntEnum):
     GCC = 0
     MSVC = 1
     NVHPC = 2
+
+
+class Tool(enum.IntEnum):
+    """A tool, by whose rules a line is read. NVC and NVCXX are nvhpc's compilers of C and of C++."""
+
+    CICC = 0
+    PTXAS = 1
+    CUDAFE = 2
+    NVCC = 3
+    NVC = 4
+    NVCXX = 5
 
 
 class ZigrunkError(Exception):
@@ -92,6 +104,24 @@ class PlanCall:
     host_compiler: HostCompiler = HostCompiler.GCC
 
 
+@dataclass(frozen=True)
+class NvccLine:
+    """What to run for a plan of an nvcc line. The commands are texts for a POSIX shell."""
+
+    dependencies: str
+    """The command that writes the dependency file, or empty if the line asks for none."""
+    first_dry_run: str
+    """What it writes to standard error is `PlanCall.dry1`."""
+    second_dry_run: str
+    """What it writes to standard error is `PlanCall.dry2`."""
+    flag: str
+    """The option that says what nvcc makes, or empty."""
+    jobs: str
+    """How many commands may run at once, or empty."""
+    keep_dir: str
+    """The directory that keeps generated files, or empty."""
+
+
 class _Text(ctypes.Structure):
     _fields_ = [("bytes", ctypes.c_char_p), ("length", ctypes.c_size_t)]
 
@@ -111,6 +141,21 @@ class _PlanCall(ctypes.Structure):
         ("suffixes", ctypes.POINTER(_Text)), ("suffixes_count", ctypes.c_size_t),
         ("programs", ctypes.POINTER(_FoundProgram)), ("programs_count", ctypes.c_size_t),
         ("keeps", ctypes.c_uint32), ("host_compiler", ctypes.c_uint32), ("reserved", ctypes.c_uint64),
+    ]
+
+
+class _LineCall(ctypes.Structure):
+    _fields_ = [
+        ("cwd", _Text), ("words", ctypes.POINTER(_Text)), ("words_count", ctypes.c_size_t),
+        ("variables", ctypes.POINTER(_Variable)), ("variables_count", ctypes.c_size_t),
+        ("tool", ctypes.c_uint32), ("reserved", ctypes.c_uint32),
+    ]
+
+
+class _NvccCall(ctypes.Structure):
+    _fields_ = [
+        ("cwd", _Text), ("tmp", _Text), ("nvcc", _Text), ("words", ctypes.POINTER(_Text)), ("words_count", ctypes.c_size_t),
+        ("variables", ctypes.POINTER(_Variable)), ("variables_count", ctypes.c_size_t), ("reserved", ctypes.c_uint64),
     ]
 
 
@@ -137,6 +182,10 @@ _CALLS = {
     "zigrunk_lookups": (_ListAnswer, _TEXT * 3 + _RANGES + _OUT),
     "zigrunk_candidates": (_ListAnswer, _TEXT * 3 + _RANGES + _OUT),
     "zigrunk_plan": (_TextAnswer, [ctypes.POINTER(_PlanCall), ctypes.c_uint32] + _OUT),
+    "zigrunk_line": (_TextAnswer, [ctypes.POINTER(_LineCall)] + _OUT),
+    "zigrunk_line_words": (_ListAnswer, [ctypes.POINTER(_LineCall)] + _RANGES + _OUT),
+    "zigrunk_nvcc_line": (_ListAnswer, [ctypes.POINTER(_NvccCall)] + _RANGES + _OUT),
+    "zigrunk_remap": (_ListAnswer, [ctypes.POINTER(_Text), ctypes.c_size_t] * 2 + _RANGES + _OUT),
 }
 
 
@@ -160,6 +209,15 @@ def _bytes(text: str) -> bytes:
 
 def _text(data: bytes) -> _Text:
     return _Text(data, len(data))
+
+
+def _array(texts: Sequence[str]) -> Tuple[ctypes.Array[_Text], int]:
+    return (_Text * max(len(texts), 1))(*[_text(_bytes(text)) for text in texts]), len(texts)
+
+
+def _variables(environment: Union[Mapping[str, str], Sequence[Tuple[str, str]]]) -> Tuple[ctypes.Array[_Variable], int]:
+    pairs = list(environment.items() if isinstance(environment, Mapping) else environment)
+    return (_Variable * max(len(pairs), 1))(*[_Variable(_text(_bytes(name)), _text(_bytes(value))) for name, value in pairs]), len(pairs)
 
 
 def _ask_text(call: Callable[..., _TextAnswer], *arguments: object) -> str:
@@ -201,8 +259,7 @@ def split(text: str) -> List[str]:
 
 def quote(words: Sequence[str]) -> str:
     """The words as one text, which a POSIX shell and `split` read as these words."""
-    array = (_Text * max(len(words), 1))(*[_text(_bytes(word)) for word in words])
-    return _ask_text(_library.zigrunk_quote, array, len(words))
+    return _ask_text(_library.zigrunk_quote, *_array(words))
 
 
 def lookups(dry1: bytes, dry2: bytes, cwd: str) -> List[Lookup]:
@@ -235,16 +292,53 @@ def plan(call: PlanCall, form: Form = Form.JSON, which: Callable[[Lookup, str], 
     Raises `ZigrunkError` if a dry run can't be read, if a program isn't found, if the suffixes break a rule, or if the form
     can't represent the plan.
     """
-    environment = call.environment.items() if isinstance(call.environment, Mapping) else call.environment
-    variables = [_Variable(_text(_bytes(name)), _text(_bytes(value))) for name, value in environment]
-    suffixes = [_text(_bytes(suffix)) for suffix in call.suffixes]
     rows = list(_rows(call, which))
     record = _PlanCall(
         _text(call.dry1), _text(call.dry2), _text(_bytes(call.cwd)), _text(_bytes(call.tmp)), _text(_bytes(call.flag)),
         _text(_bytes(call.keep_dir or "")),
-        (_Variable * max(len(variables), 1))(*variables), len(variables),
-        (_Text * max(len(suffixes), 1))(*suffixes), len(suffixes),
+        *_variables(call.environment), *_array(call.suffixes),
         (_FoundProgram * max(len(rows), 1))(*rows), len(rows),
         call.keep_dir is not None, int(call.host_compiler), 0,
     )
     return _ask_text(_library.zigrunk_plan, ctypes.byref(record), int(form))
+
+
+def _line_call(tool: Tool, cwd: str, words: Sequence[str],
+               environment: Union[Mapping[str, str], Sequence[Tuple[str, str]]]) -> _LineCall:
+    return _LineCall(_text(_bytes(cwd)), *_array(words), *_variables(environment), int(tool), 0)
+
+
+def line(tool: Tool, cwd: str, words: Sequence[str],
+         environment: Union[Mapping[str, str], Sequence[Tuple[str, str]]] = ()) -> str:
+    """Reads a line of a tool, without the tool's name, and gives what it says as JSON.
+
+    Raises `ZigrunkError` if the line compiles nothing, or if no cache can serve it.
+    """
+    return _ask_text(_library.zigrunk_line, ctypes.byref(_line_call(tool, cwd, words, environment)))
+
+
+def line_words(tool: Tool, cwd: str, words: Sequence[str],
+               environment: Union[Mapping[str, str], Sequence[Tuple[str, str]]] = ()) -> List[str]:
+    """Reads a line of a tool, without the tool's name, and gives the words that it is written back as.
+
+    Raises `ZigrunkError` as `line` does, and if the line has no output.
+    """
+    return _ask_list(_library.zigrunk_line_words, ctypes.byref(_line_call(tool, cwd, words, environment)))
+
+
+def nvcc_line(cwd: str, tmp: str, nvcc: str, words: Sequence[str],
+              environment: Union[Mapping[str, str], Sequence[Tuple[str, str]]] = ()) -> NvccLine:
+    """Reads a line of nvcc, without nvcc's name, and says what to run for a plan of it.
+
+    Raises `ZigrunkError` if the line goes to nvcc as it is (`Status.TO_NVCC`, with the reason), or if it can't be read.
+    """
+    record = _NvccCall(_text(_bytes(cwd)), _text(_bytes(tmp)), _text(_bytes(nvcc)), *_array(words), *_variables(environment), 0)
+    return NvccLine(*_ask_list(_library.zigrunk_nvcc_line, ctypes.byref(record)))
+
+
+def remap(words: Sequence[str], suffixes: Sequence[str] = ()) -> List[str]:
+    """The words of all commands of a dry run, with canonical names for the files that nvcc generates.
+
+    Raises `ZigrunkError` if the suffixes, behind the standard ones, break a rule.
+    """
+    return _ask_list(_library.zigrunk_remap, *_array(words), *_array(suffixes))

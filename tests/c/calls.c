@@ -45,6 +45,7 @@ static void check_messages(void) {
         {ZIGRUNK_BAD_SUFFIXES, "bad generated suffixes"},
         {ZIGRUNK_UNWRITABLE, "the form cannot represent the plan"},
         {ZIGRUNK_BAD_LINE, "a line of a tool cannot be read"},
+        {ZIGRUNK_TO_NVCC, "the line goes to nvcc"},
     };
     for (size_t i = 0; i < sizeof known / sizeof *known; i++) {
         answer told = ask_text(call_message, &known[i].status);

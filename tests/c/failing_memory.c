@@ -1,4 +1,5 @@
 /* Each allocation of a call fails in turn, in one process. Link with --wrap for malloc, realloc and free. */
+#include "lines.h"
 #include "plans.h"
 
 void *__real_malloc(size_t size);
@@ -156,6 +157,42 @@ static zigrunk_list_answer try_candidates(buffers *into) {
     return call_candidates(&more, into->ranges, 4096, into->out, sizeof into->out);
 }
 
+static zigrunk_list_answer try_line(buffers *into) {
+    line_words words = words_of("-arch sm_75 --module_id_file_name k.id k.cpp1.ii -o k.ptx");
+    zigrunk_line_call call = line_call_of(ZIGRUNK_TOOL_CICC, &words);
+    return as_list(call_line(&call, into->out, sizeof into->out));
+}
+
+static zigrunk_list_answer try_line_words(buffers *into) {
+    line_words words = words_of("-MD -MF k.d -DA -c k.cu -o k.o -t 2");
+    zigrunk_line_call call = line_call_of(ZIGRUNK_TOOL_NVCC, &words);
+    return call_line_words(&call, into->ranges, 4096, into->out, sizeof into->out);
+}
+
+static zigrunk_list_answer try_refused_line(buffers *into) {
+    line_words words = words_of("k.cpp1.ii");
+    zigrunk_line_call call = line_call_of(ZIGRUNK_TOOL_CICC, &words);
+    return call_line_words(&call, into->ranges, 4096, into->out, sizeof into->out);
+}
+
+static zigrunk_list_answer try_nvcc_line(buffers *into) {
+    line_words words = words_of("-MD -MF k.d -DA -c k.cu -o k.o -t 2");
+    zigrunk_nvcc_call call = nvcc_call_of(&words);
+    return call_nvcc_line(&call, into->ranges, 4096, into->out, sizeof into->out);
+}
+
+static zigrunk_list_answer try_passed_line(buffers *into) {
+    line_words words = words_of("-E k.cu");
+    zigrunk_nvcc_call call = nvcc_call_of(&words);
+    return call_nvcc_line(&call, into->ranges, 4096, into->out, sizeof into->out);
+}
+
+static zigrunk_list_answer try_remap(buffers *into) {
+    line_words words = words_of("k.cpp1.ii -I=k.cpp1.ii k.gpu -o k.ptx"), suffixes = words_of(".gpu");
+    renamed_words more = {words.words, words.count, suffixes.words, suffixes.count};
+    return call_remap(&more, into->ranges, 4096, into->out, sizeof into->out);
+}
+
 int main(void) {
     try_all("split", try_split);
     try_all("refused split", try_refused_split);
@@ -168,5 +205,11 @@ int main(void) {
     try_all("refused records", try_refused_records);
     try_all("look-ups", try_lookups);
     try_all("candidates", try_candidates);
+    try_all("line", try_line);
+    try_all("written line", try_line_words);
+    try_all("refused line", try_refused_line);
+    try_all("nvcc line", try_nvcc_line);
+    try_all("passed line", try_passed_line);
+    try_all("canonical names", try_remap);
     return report();
 }

@@ -3,17 +3,20 @@
 
 ghost use Rattle.std.specs.Prelude.{◌≡◌, map};
 ghost use Rattle.c_calls.specs.Asking.{candidates_outcome, lookups_outcome};
+ghost use Rattle.c_calls.specs.Lines as lines;
 ghost use Rattle.c_calls.specs.Memory.{bytes_of};
+ghost use Rattle.c_calls.specs.NvccOutline.{nvcc_outcome};
 ghost use Rattle.c_calls.specs.Outcomes.{GivesList, GivesText, TellsText, described, of_text};
 ghost use Rattle.c_calls.specs.PlanRecords.{plan_records};
 ghost use Rattle.c_calls.specs.Planning.{plan_outcome};
 ghost use Rattle.c_calls.specs.Records.{GivesRecords};
+ghost use Rattle.c_calls.specs.Renaming.{remap_outcome};
 ghost use Rattle.c_calls.specs.Shell.{quote_outcome, split_outcome};
 ghost use Rattle.c_calls.specs.Statuses.{with_number};
 ghost use Rattle.c_calls.specs.Version as version;
 
 use c_calls::{
-    CommandRecord, GroupRecord, InputText, ListAnswer, PlanCall, Range, RecordsAnswer, TextAnswer,
+    CommandRecord, GroupRecord, InputText, LineCall, ListAnswer, NvccLineCall, PlanCall, Range, RecordsAnswer, TextAnswer,
 };
 use std::alloc::Global;
 
@@ -124,4 +127,52 @@ pub extern "C" fn zigrunk_plan_records(
         (record { groups = groups.new; commands = commands.new; ranges = ranges.new; bytes = out.new }) }
 {
     c_calls::plan_records(alloc, call, groups, commands, ranges, out)
+}
+
+/// Writes what a line of a tool says as JSON.
+#[unsafe(no_mangle)]
+pub extern "C" fn zigrunk_line(alloc: Global, call: &LineCall<'_>, out: &mut [u8]) -> TextAnswer
+    ensures { GivesText (lines.json_outcome call.now) result out.old out.new }
+{
+    c_calls::line(alloc, call, out)
+}
+
+/// Lists the words that a line of a tool is written back as.
+#[unsafe(no_mangle)]
+pub extern "C" fn zigrunk_line_words(
+    alloc: Global,
+    call: &LineCall<'_>,
+    ranges: &mut [Range],
+    out: &mut [u8],
+) -> ListAnswer
+    ensures { GivesList (lines.words_outcome call.now) result ranges.old ranges.new out.old out.new }
+{
+    c_calls::line_words(alloc, call, ranges, out)
+}
+
+/// Lists what to run for a line of nvcc.
+#[unsafe(no_mangle)]
+pub extern "C" fn zigrunk_nvcc_line(
+    alloc: Global,
+    call: &NvccLineCall<'_>,
+    ranges: &mut [Range],
+    out: &mut [u8],
+) -> ListAnswer
+    ensures { GivesList (nvcc_outcome call.now) result ranges.old ranges.new out.old out.new }
+{
+    c_calls::nvcc_line(alloc, call, ranges, out)
+}
+
+/// Lists words with canonical names of generated files.
+#[unsafe(no_mangle)]
+pub extern "C" fn zigrunk_remap(
+    alloc: Global,
+    words: &[InputText<'_>],
+    suffixes: &[InputText<'_>],
+    ranges: &mut [Range],
+    out: &mut [u8],
+) -> ListAnswer
+    ensures { GivesList (remap_outcome (map bytes_of words.now) (map bytes_of suffixes.now)) result ranges.old ranges.new out.old out.new }
+{
+    c_calls::remap(alloc, words, suffixes, ranges, out)
 }

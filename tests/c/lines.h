@@ -1,0 +1,82 @@
+/* Lines of tools, with buffers of exactly the size that the answers need. */
+#ifndef LINES_H
+#define LINES_H
+
+#include "checks.h"
+
+#define MOST_WORDS 32
+
+/* The words of a line that is written with blanks between them. */
+typedef struct line_words {
+    zigrunk_text words[MOST_WORDS];
+    size_t count;
+} line_words;
+
+static inline line_words words_of(const char *line) {
+    line_words made;
+    made.count = 0;
+    while (*line && made.count < MOST_WORDS) {
+        size_t length = strcspn(line, " ");
+        made.words[made.count].bytes = (const uint8_t *)line;
+        made.words[made.count++].length = length;
+        line += length + (line[length] == ' ');
+    }
+    return made;
+}
+
+static const zigrunk_variable no_line_variables[1];
+
+/* A line of a tool at /w, without an environment. */
+static inline zigrunk_line_call line_call_of(uint32_t tool, const line_words *line) {
+    zigrunk_line_call call;
+    memset(&call, 0, sizeof call);
+    call.cwd = text_of("/w");
+    call.words = line->words;
+    call.words_count = line->count;
+    call.variables = no_line_variables;
+    call.tool = tool;
+    return call;
+}
+
+/* A line of nvcc at /w with /t, without an environment. */
+static inline zigrunk_nvcc_call nvcc_call_of(const line_words *line) {
+    zigrunk_nvcc_call call;
+    memset(&call, 0, sizeof call);
+    call.cwd = text_of("/w");
+    call.tmp = text_of("/t");
+    call.nvcc = text_of("nvcc");
+    call.words = line->words;
+    call.words_count = line->count;
+    call.variables = no_line_variables;
+    return call;
+}
+
+/* What zigrunk_remap takes besides its buffers. */
+typedef struct renamed_words {
+    const zigrunk_text *words;
+    size_t words_count;
+    const zigrunk_text *suffixes;
+    size_t suffixes_count;
+} renamed_words;
+
+static inline zigrunk_text_answer call_line(const void *more, uint8_t *out, size_t out_size) {
+    return zigrunk_line(more, out, out_size);
+}
+
+static inline zigrunk_list_answer call_line_words(const void *more, zigrunk_range *ranges, size_t ranges_size, uint8_t *out,
+    size_t out_size) {
+    return zigrunk_line_words(more, ranges, ranges_size, out, out_size);
+}
+
+static inline zigrunk_list_answer call_nvcc_line(const void *more, zigrunk_range *ranges, size_t ranges_size, uint8_t *out,
+    size_t out_size) {
+    return zigrunk_nvcc_line(more, ranges, ranges_size, out, out_size);
+}
+
+static inline zigrunk_list_answer call_remap(const void *more, zigrunk_range *ranges, size_t ranges_size, uint8_t *out,
+    size_t out_size) {
+    const renamed_words *r = more;
+    return zigrunk_remap(r->words, r->words_count, r->suffixes, r->suffixes_count, ranges, ranges_size, out, out_size);
+}
+
+#endif
