@@ -3,7 +3,7 @@ PREFIX ?= /usr/local
 DESTDIR ?=
 target = $(DESTDIR)$(PREFIX)
 
-.PHONY: help demo build lib install install-programs install-library uninstall dist bench fuzz must-fail refused-memory end-to-end odd-calls cache cluster mutants test-install dist-test check-docs test
+.PHONY: help demo build lib install install-programs install-library uninstall dist bench fuzz fuzz-library must-fail refused-memory end-to-end odd-calls cache cluster mutants test-install dist-test check-docs test
 
 help:
 	@echo 'make demo             run cudaplan, unproved, on two calls; a minute from a fresh clone'
@@ -15,6 +15,7 @@ help:
 	@echo 'make test             the whole gate; the last line is N passed, M failed'
 	@echo 'make must-fail        check that the prover rejects the wrong bodies of all crates, or of CRATES="texts dry_runs"'
 	@echo 'make fuzz             run the library on 10,000 random cases of each kind; SEED=1 COUNT=10000 FIRST=0'
+	@echo 'make fuzz-library     fuzz libzigrunk for an hour, guided by coverage; needs clang with libFuzzer; FUZZ_SECONDS=3600'
 	@echo 'make refused-memory   run the test cases again and again, each time with another allocation failing'
 	@echo 'make end-to-end       compare zigrunk-nvcc with nvcc; needs nvcc and ninja on the path'
 	@echo 'make odd-calls        the same for 131 calls with odd words'
@@ -92,6 +93,11 @@ COUNT ?= 10000
 FIRST ?= 0
 fuzz:
 	cd crates/test_fuzz && rt run -- $(SEED) $(COUNT) $(FIRST)
+
+# libzigrunk by libFuzzer, with code that counts its branches. It keeps inputs and figures in out/fuzz.
+FUZZ_SECONDS ?= 3600
+fuzz-library:
+	tests/fuzz/library.sh out/fuzz $(FUZZ_SECONDS)
 
 # The prover has to reject each wrong body in crates/NAME/must-fail.
 must-fail:
