@@ -741,9 +741,17 @@ bad() {
     check "$1, as text" 1 '' "zigrunk: $scratch/bad:2: ${5-$3}"$'\n'"    ${4-$2}"$'\n' plan /w /t -c "$scratch/kernel" "$scratch/bad"
 }
 
+# suffixes NAME MESSAGE SUFFIX..: further suffixes that are refused with this message, in a format and as text.
+suffixes() {
+    local name=$1 message=$2
+    shift 2
+    check "$name" 1 '' "zigrunk: $message"$'\n' json /w /t -c "$scratch/kernel" "$scratch/kernel.2" "$@"
+    check "$name, as text" 1 '' "zigrunk: $message"$'\n' plan /w /t -c "$scratch/kernel" "$scratch/kernel.2" "$@"
+}
+
 # messages: which file, which line, why, and what to do
 messages() {
-    local nowhere="in PATH ($scratch/none:$scratch/bin)" long folder=$scratch
+    local nowhere="in PATH ($scratch/none:$scratch/bin)" long folder=$scratch rule='must begin with ".", end in a letter or digit and contain no "/"'
     lines_of pathless '#$ gcc'
     check 'no PATH in the second run' 1 '' "zigrunk: $scratch/pathless:1: no line before this one sets PATH"$'\n    #$ gcc\n' \
         json /w /t -c "$scratch/kernel" "$scratch/pathless"
@@ -768,24 +776,66 @@ messages() {
     long=$(printf 'é%.0s' {1..116})
     bad 'a line of 120 characters' "#\$ '$long" 'the command has an open quote or ends in a backslash'
     bad 'a line of 121 characters' "#\$ '${long}x" 'the command has an open quote or ends in a backslash' "#\$ '$long.."
-    check 'a bad suffix behind a good one' 1 '' $'zigrunk: bad generated suffixes\n' json /w /t -c "$scratch/kernel" "$scratch/kernel.2" .ptx .ii
+    suffixes 'a bad suffix behind a good one' 'suffix ".ii" is a suffix of ".cpp1.ii"' .ptx .ii
+    suffixes 'a suffix that ends in a standard one' 'suffix ".cudafe1.c" is a suffix of ".x.cudafe1.c"' .x.cudafe1.c
+    suffixes 'two further suffixes that overlap' 'suffix ".gpu" is a suffix of ".cudafe1.gpu"' .gpu .x .cudafe1.gpu
+    suffixes 'two that overlap, in the other order' 'suffix ".gpu" is a suffix of ".cudafe1.gpu"' .cudafe1.gpu .gpu
+    suffixes 'a standard suffix' 'suffix ".cpp1.ii" is in the list twice' .cpp1.ii
+    suffixes 'a suffix twice' 'suffix ".x" is in the list twice' .x .x
+    suffixes 'a suffix without a dot' "suffix \"gpu\" $rule" .ptx gpu
+    suffixes 'a text that is no suffix, behind two that overlap' "suffix \"a/b\" $rule" .ii a/b
+    suffixes 'an empty suffix' "suffix \"\" $rule" ''
+    suffixes 'a suffix with control characters' "suffix \".\\n\\u{1b}\\u{9b}\" $rule" $'.\n\x1b\xc2\x9b'
 }
 
-# No byte of a dry run reaches the terminal if it isn't printable ASCII: each byte alone, and each control character of two bytes.
+# No byte of the input reaches the terminal if it isn't printable ASCII, in any message that quotes input: all 256 bytes, and each
+# control character of two bytes, in a line, a program and PATH, a path that can't be read, one of a file with a bad line, one
+# that is there twice, and a suffix. A word of a call can't have a null byte, and a line can't have a newline.
 escapes() {
-    local code bytes name
-    for code in {1..9} {11..255} {384..415}; do
+    local code bytes
+    for code in {0..255} {384..415}; do
         printf -v bytes '\\x%x' "$((code % 256))"
         [ "$code" -lt 256 ] || bytes="\\xc2$bytes"
+        : > "$scratch/err"
+        : > "$scratch/out"
+        wrong=ok
+        lines_told=0
         printf "#\$ 'x$bytes\n" > "$scratch/byte"
-        "$program" json /w /t -c "$scratch/byte" "$scratch/kernel" > "$scratch/out" 2> "$scratch/err"
-        echo $? > "$scratch/status"
-        name=ok
-        [ "$(wc -l < "$scratch/err")" -eq 2 ] || name='other lines'
-        tr -d '\n' < "$scratch/err" | LC_ALL=C grep -q '[^ -~]' && name='a byte that does not print'
-        printf '%s' "$name" > "$scratch/err"
-        judge "the message of a line with the byte $bytes" 1 '' ok
+        escaped 2 "$scratch/byte" "$scratch/kernel"
+        printf "#\$ PATH=/x${bytes}y\n#\$ x1${bytes}y\n" > "$scratch/byte"
+        escaped 2 "$scratch/byte" "$scratch/kernel"
+        [ "$code" -eq 0 ] || escaped_words "$bytes"
+        [ "$(wc -l < "$scratch/err")" -eq "$lines_told" ] || wrong='other lines'
+        [ "$(LC_ALL=C tr -d '\n -~' < "$scratch/err" | wc -c)" -eq 0 ] || wrong='a byte that does not print'
+        echo 1 > "$scratch/status"
+        printf '%s' "$wrong" > "$scratch/err"
+        judge "messages with the byte $bytes" 1 '' ok
     done
+}
+
+# the same for words of calls with these bytes, in which a slash ends a folder's name
+escaped_words() {
+    local text
+    printf -v text "x$1."
+    text=${text%.}
+    escaped 1 "$scratch/$text/x" "$scratch/kernel"
+    escaped 1 "$scratch/kernel" "$scratch/kernel.2" ".$text/"
+    [ "$1" != '\x2f' ] || return 0
+    cp "$scratch/pathless" "$scratch/$text"
+    escaped 2 "$scratch/$text" "$scratch/kernel"
+    escaped 1 "$scratch/$text" "$scratch/$text"
+}
+
+# escaped LINES DRY1 DRY2 SUFFIX..: a call that fails with so many lines on standard error, or with the usage text if a word isn't UTF-8.
+escaped() {
+    local lines=$1
+    shift
+    "$program" json /w /t -c "$@" >> "$scratch/out" 2>> "$scratch/err"
+    case $? in
+        1) lines_told=$((lines_told + lines)) ;;
+        2) lines_told=$((lines_told + 1)) ;;
+        *) wrong='another status' ;;
+    esac
 }
 
 # standard input in place of a file
@@ -795,7 +845,7 @@ standard_input() {
     check 'the first run from standard input' 0 "${plan%.}" '' json /w /t -c - "$scratch/kernel.2" < "$scratch/kernel"
     check 'the second run from standard input' 0 "${plan%.}" '' json /w /t -c "$scratch/kernel" - < <(cat "$scratch/kernel.2")
     check 'both runs from standard input' 1 '' $'zigrunk: -: both dry runs are the same file\n' json /w /t -c - - < "$scratch/kernel"
-    check 'a closed standard input' 1 '' $'zigrunk: cannot read -: Input/output error\n' json /w /t -c "$scratch/kernel" - <&-
+    check 'a closed standard input' 1 '' $'zigrunk: cannot read -: the system reports error 9\n' json /w /t -c "$scratch/kernel" - <&-
 }
 
 # plans that aren't written
@@ -805,7 +855,7 @@ refused_exports() {
         check "no first file for $format" 1 '' "$unread" "$format" /w /t -c "$scratch/missing" "$scratch/kernel"
         check "no second file for $format" 1 '' "$unread" "$format" /w /t -c "$scratch/kernel" "$scratch/missing"
     done
-    check 'a bad suffix' 1 '' $'zigrunk: bad generated suffixes\n' json /w /t -c "$scratch/kernel" "$scratch/kernel.2" .ii
+    check 'a bad suffix' 1 '' $'zigrunk: suffix ".ii" is a suffix of ".cpp1.ii"\n' json /w /t -c "$scratch/kernel" "$scratch/kernel.2" .ii
     lines_of pathless '#$ gcc'
     check 'no first file, and its name twice' 1 '' "$unread" json /w /t -c "$scratch/missing" "$scratch/missing"
     check 'no PATH' 1 '' "zigrunk: $scratch/pathless:1: no line before this one sets PATH"$'\n    #$ gcc\n' json /w /t -c "$scratch/pathless" "$scratch/kernel"

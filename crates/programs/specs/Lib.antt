@@ -5,4 +5,5 @@ pub mod LineText
 pub mod PlanText
 pub mod Shown
 pub mod Start
+pub mod SuffixFault
 pub mod Unread

@@ -53,7 +53,7 @@ impl<R: Files + AllocGlobal> Sources for Disk<'_, R> {
     fn read(&self, path: &str) -> Result<Vec<u8>, Unread> {
         match fs::read(self.rt, path) {
             Ok(bytes) => Ok(bytes),
-            Err(error) => Err(unread_of(error.kind())),
+            Err(error) => Err(unread_of(&error)),
         }
     }
 }

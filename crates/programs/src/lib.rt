@@ -11,6 +11,7 @@ mod planning;
 mod shown;
 mod start;
 mod stop;
+mod suffix_fault;
 mod unread;
 
 pub use call::{LineCall, PlanCall, line_call, plan_call};
@@ -22,4 +23,5 @@ pub use planning::{all_suffixes, plan_dry_runs};
 pub use shown::push_shown;
 pub use start::{Process, Start, call_words, push_variables};
 pub use stop::Stop;
+pub use suffix_fault::push_suffix_fault;
 pub use unread::{Unread, unread_of};

@@ -25,7 +25,7 @@ fn push_suffix(alloc: Global, words: &mut Words, suffix: Option<&str>) -> Result
 }
 
 // The words of a list of suffixes.
-fn words_of(alloc: Global, suffixes: &Suffixes) -> Result<Words, AllocError>
+pub(crate) fn words_of(alloc: Global, suffixes: &Suffixes) -> Result<Words, AllocError>
     ensures { IfOk result (λ words. words ≡ suffixes.now) }
 {
     let mut words = Words::new(alloc);

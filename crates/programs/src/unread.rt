@@ -1,10 +1,12 @@
 //! Why a file can't be read.
 
-ghost use Rattle.std.specs.Prelude.{◌≡◌};
+ghost use Rattle.std.specs.Prelude.{◌≡◌, ◌++◌, OnOk, string_bytes};
 ghost use Rattle.programs.specs.Unread as spec;
 
 use crate::stop::Stop;
-use std::io::ErrorKind;
+use std::alloc::{AllocError, Global};
+use std::io::{self, ErrorKind};
+use texts::decimal::push_number;
 use texts::fault::Fault;
 
 /// Why a file can't be read.
@@ -22,14 +24,30 @@ pub enum Unread {
     Loop,
     /// Its name is too long.
     LongName,
-    /// Anything else that the system reports.
+    /// Another error of the system, by its number.
+    System(usize),
+    /// An error without a number.
     Other,
     /// An allocation failed.
     Memory,
 }
 
+// The reason of an error with this number of the system, if it has one.
+fn of_number(number: Option<i32>) -> Unread
+    ensures { result ≡ spec.of_number number }
+{
+    match number {
+        None => Unread::Other,
+        Some(number) => match usize::try_from(number) {
+            Ok(number) => Unread::System(number),
+            Err(_) => Unread::Other,
+        },
+    }
+}
+
 // The reasons that a path gives.
-fn of_path(kind: ErrorKind) -> Unread {
+fn of_path(error: &io::Error) -> Unread {
+    let kind = error.kind();
     if kind == ErrorKind::NotADirectory {
         Unread::NoDirectory
     } else if kind == ErrorKind::FilesystemLoop {
@@ -37,12 +55,13 @@ fn of_path(kind: ErrorKind) -> Unread {
     } else if kind == ErrorKind::InvalidFilename {
         Unread::LongName
     } else {
-        Unread::Other
+        of_number(error.raw_os_error())
     }
 }
 
-/// The reason of an error that the system reported.
-pub fn unread_of(kind: ErrorKind) -> Unread {
+/// The reason of an error.
+pub fn unread_of(error: &io::Error) -> Unread {
+    let kind = error.kind();
     if kind == ErrorKind::OutOfMemory {
         Unread::Memory
     } else if kind == ErrorKind::NotFound {
@@ -52,24 +71,35 @@ pub fn unread_of(kind: ErrorKind) -> Unread {
     } else if kind == ErrorKind::IsADirectory {
         Unread::Directory
     } else {
-        of_path(kind)
+        of_path(error)
     }
 }
 
+// Adds the number of an error of the system.
+fn push_system(alloc: Global, text: &mut String, number: usize) -> Result<(), AllocError>
+    ensures { OnOk result (string_bytes text.new ≡ string_bytes text.old ++ spec.system_text number) }
+{
+    text.push_str("the system reports error ")?;
+    push_number(alloc, text, number)
+}
+
 impl Unread {
-    /// What the system says of it.
-    pub fn as_str(self) -> &'static str
-        ensures { result.now ≡ spec.text_of self }
+    /// Adds what the system says of it to a text.
+    ///
+    /// Fails if an allocation fails, and then part of it may have been added.
+    pub fn push_to(self, alloc: Global, text: &mut String) -> Result<(), AllocError>
+        ensures { OnOk result (string_bytes text.new ≡ string_bytes text.old ++ spec.text_of self) }
     {
         match self {
-            Unread::Missing => "No such file or directory",
-            Unread::Denied => "Permission denied",
-            Unread::Directory => "Is a directory",
-            Unread::NoDirectory => "Not a directory",
-            Unread::Loop => "Too many levels of symbolic links",
-            Unread::LongName => "File name too long",
-            Unread::Other => "Input/output error",
-            Unread::Memory => "out of memory",
+            Unread::Missing => text.push_str("No such file or directory"),
+            Unread::Denied => text.push_str("Permission denied"),
+            Unread::Directory => text.push_str("Is a directory"),
+            Unread::NoDirectory => text.push_str("Not a directory"),
+            Unread::Loop => text.push_str("Too many levels of symbolic links"),
+            Unread::LongName => text.push_str("File name too long"),
+            Unread::System(number) => push_system(alloc, text, number),
+            Unread::Other => text.push_str("the system reports an error"),
+            Unread::Memory => text.push_str("out of memory"),
         }
     }
 

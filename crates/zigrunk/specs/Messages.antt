@@ -12,6 +12,7 @@ use Rattle.dry_runs.specs.DryRun.{LookUp}
 use Rattle.programs.specs.Calls.{PlanOf}
 use Rattle.programs.specs.Complaint.{message_of, complaint}
 use Rattle.programs.specs.Shown.{shown}
+use Rattle.programs.specs.SuffixFault.{further_text}
 use Rattle.programs.specs.Unread as unread
 use Rattle.programs.specs.declared.stop.Stop.{Stop}
 use Rattle.programs.specs.declared.stop.Stop.TheVariants as stops
@@ -75,10 +76,15 @@ abbrev pub message_at : Option PlaceOf → Fault → List ℕ
 message_at None fault = text (fault_text fault)
 message_at (Some place) fault = line_message place fault
 
+-- the message of a fault of a call that plans, but for bad suffixes
+abbrev pub run_message : LookUp → PlanOf → List ℕ → List ℕ → Fault → List ℕ
+run_message which call first second fault =
+    if is_of_line fault then message_at (place_of which call first second) fault else text (fault_text fault)
+
 -- the message of a fault of a call that plans
 abbrev pub fault_message : LookUp → PlanOf → List ℕ → List ℕ → Fault → List ℕ
-fault_message which call first second fault =
-    if is_of_line fault then message_at (place_of which call first second) fault else text (fault_text fault)
+fault_message which call first second faults.BadSuffixes = further_text call.suffixes
+fault_message which call first second fault = run_message which call first second fault
 
 -- the file that can't be a dry run of a call, if there is one: see `unfit`
 abbrev pub unfit_file : PlanOf → List ℕ → List ℕ → Option (List ℕ)

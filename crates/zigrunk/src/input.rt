@@ -22,7 +22,7 @@ impl<'a, R: Files + AllocGlobal> Input<'a, R> {
         let mut bytes = Vec::new(self.rt.alloc());
         match (&self.stdin).read_to_end(&mut bytes) {
             Ok(_) => Ok(bytes),
-            Err(error) => Err(unread_of(error.kind())),
+            Err(error) => Err(unread_of(&error)),
         }
     }
 }

@@ -1,18 +1,19 @@
 //! What the program says when it stops: the file, the line, the cause and what to do.
 
-ghost use Rattle.std.specs.Prelude.{◌≡◌, ◌++◌, IfOk, OnOk, codes, nat_eq, string_bytes};
+ghost use Rattle.std.specs.Prelude.{◌≡◌, ◌++◌, IfOk, OnOk, codes, map, nat_eq, string_bytes};
 ghost use Rattle.std.specs.List.{starts_with};
 ghost use Rattle.std.specs.Option.{option_copied, option_map};
 ghost use Rattle.texts.specs.Fault.{message_of as fault_text};
 ghost use Rattle.programs.specs.Calls.{plan_of};
 ghost use Rattle.programs.specs.Complaint.{message_of};
+ghost use Rattle.programs.specs.SuffixFault.{further_text};
 ghost use Rattle.zigrunk.specs.Messages as spec;
 ghost use Rattle.zigrunk.specs.Places.{place_seen};
 
 use crate::export::is_dry_run;
 use crate::place::{Place, place_of};
 use dry_runs::Which;
-use programs::{PlanCall, Stop, Unread, push_shown};
+use programs::{PlanCall, Stop, Unread, push_shown, push_suffix_fault};
 use std::alloc::{AllocError, Global};
 use texts::decimal::push_number;
 use texts::fault::Fault;
@@ -165,6 +166,34 @@ fn message_at(alloc: Global, place: &Option<Place<'_>>, fault: &Fault) -> Result
     }
 }
 
+// The message of a fault of a call that plans, but for bad suffixes.
+fn run_message<L: Which>(
+    alloc: Global,
+    which: &L,
+    call: &PlanCall<'_>,
+    dry1: &[u8],
+    dry2: &[u8],
+    fault: &Fault,
+) -> Result<String, AllocError>
+    ensures { IfOk result (λ text. string_bytes text
+        ≡ spec.run_message (L.answer which.now) (plan_of call.now) dry1.now dry2.now fault.now) }
+{
+    if !is_of_line(fault) {
+        return plain_fault(alloc, fault);
+    }
+    let place = place_of(alloc, which, call, dry1, dry2)?;
+    message_at(alloc, &place, fault)
+}
+
+// The message of suffixes that break the rule.
+fn suffix_message(alloc: Global, further: &[String]) -> Result<String, AllocError>
+    ensures { IfOk result (λ text. string_bytes text ≡ further_text (map string_bytes further.now)) }
+{
+    let mut text = String::new(alloc);
+    push_suffix_fault(alloc, &mut text, further)?;
+    Ok(text)
+}
+
 // The message of a fault of a call that plans.
 fn fault_message<L: Which>(
     alloc: Global,
@@ -177,11 +206,10 @@ fn fault_message<L: Which>(
     ensures { IfOk result (λ text. string_bytes text
         ≡ spec.fault_message (L.answer which.now) (plan_of call.now) dry1.now dry2.now fault.now) }
 {
-    if !is_of_line(fault) {
-        return plain_fault(alloc, fault);
+    match fault {
+        Fault::BadSuffixes => suffix_message(alloc, call.suffixes),
+        _ => run_message(alloc, which, call, dry1, dry2, fault),
     }
-    let place = place_of(alloc, which, call, dry1, dry2)?;
-    message_at(alloc, &place, fault)
 }
 
 // The file that can't be a dry run of a call, if there is one.
@@ -247,6 +275,6 @@ pub fn unread_message(alloc: Global, file: &str, why: Unread) -> Result<String, 
     text.push_str("cannot read ")?;
     push_text(&mut text, file)?;
     text.push_str(": ")?;
-    text.push_str(why.as_str())?;
+    why.push_to(alloc, &mut text)?;
     Ok(text)
 }
