@@ -16,7 +16,8 @@ ghost use Rattle.c_calls.specs.Statuses.{with_number};
 ghost use Rattle.c_calls.specs.Version as version;
 
 use c_calls::{
-    CommandRecord, GroupRecord, InputText, LineCall, ListAnswer, NvccLineCall, PlanCall, Range, RecordsAnswer, TextAnswer,
+    CommandRecord, GroupRecord, InputText, LineCall, ListAnswer, NvccLineCall, PlanCall, Range,
+    RecordsAnswer, TextAnswer,
 };
 use std::alloc::Global;
 
