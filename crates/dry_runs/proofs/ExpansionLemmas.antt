@@ -154,7 +154,7 @@ text_of-pushed [] one rest = refl
 text_of-pushed (x ∷ found) one rest = ap (λ t. x.now ∷ t) (text_of-pushed found one rest)
 
 -- a text refers to a variable where what follows one of its `$` says so
-refers-behind : (name text : List ℕ) → refers (36 ∷ name) text ≡ refers_by name (behind_dollars text)
+pub refers-behind : (name text : List ℕ) → refers (36 ∷ name) text ≡ refers_by name (behind_dollars text)
 refers-behind name [] = refl
 refers-behind name (c ∷ cs) =
     let flipped : eqb 36 c ≡ eqb c 36 = grind arith in

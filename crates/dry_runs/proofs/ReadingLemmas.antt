@@ -1,30 +1,13 @@
 -- What was said so far, with what the lines that are left mean, is what the whole dry run says.
 use Rattle.std.proofs.Common.{◌≡◌, ℕ, ◌+◌, List, [], ◌∷◌, ◌++◌, Option, Some, None, Result, Ok, Err, refl, ap, sym, ◌∙◌, subst, append_assoc, append-nil}
 use Rattle.std.specs.List.{filter_map, enumerate_from}
-use Rattle.std.specs.Result.{IsErrAnd}
 use Rattle.std.specs.Str.Lines.{lines}
 use Rattle.texts.specs.declared.fault.Fault.{Fault}
-use Rattle.texts.specs.declared.fault.Fault.TheVariants.{Memory}
-use Rattle.texts.specs.Fault.{UnlessMemory}
 use Rattle.dry_runs.specs.declared.commands.DryRun.{DryRun}
 use Rattle.dry_runs.specs.CommandLines.{CommandLine}
 use Rattle.dry_runs.specs.Environment.{Variable}
 use Rattle.dry_runs.specs.DryRun.{LookUp, Meaning, Ignored, Assigns, Runs, Bad, meaning, meanings, meaning_found, meaning_by_path, environment_after, assigned_by, command_of, fault_of, run_of_meanings, run_or_fault}
-use Rattle.dry_runs.specs.Reading.{dry_run_seen, said_after, nothing_said, with_variable, with_command, said_next, found_or_fault}
-
--- a refusal of a part is one of the whole
-pub refused : {X Y : Type 0} (fault : Fault) (part : Result X Fault) (whole : Result Y Fault) → ((f : Fault) → part ≡ Err f → whole ≡ Err f) → UnlessMemory {T = X} (Err fault) part → UnlessMemory {T = Y} (Err fault) whole
-refused Memory part whole h e = tt
-refused fault part whole h e = h fault e
-
--- a fault that is passed on
-pub passed-said : (r : Result (Unit {0}) Fault) (s : DryRun) (fault : Fault) (whole : Result DryRun Fault) → IsErrAnd r (λ f. f ≡ fault) → UnlessMemory {T = DryRun} (Err fault) whole → UnlessMemory (said_after r s) whole
-passed-said (Ok x) s fault whole is told = absurd is
-passed-said (Err f) s fault whole is told = subst (λ (g : Fault). UnlessMemory {T = DryRun} (Err g) whole) (sym is) told
-
-pub passed-seen : (r : Result DryRun Fault) (fault : Fault) (whole : Result (List CommandLine × List Variable) Fault) → IsErrAnd r (λ f. f ≡ fault) → UnlessMemory {T = List CommandLine × List Variable} (Err fault) whole → UnlessMemory (dry_run_seen r) whole
-passed-seen (Ok x) fault whole is told = absurd is
-passed-seen (Err f) fault whole is told = subst (λ (g : Fault). UnlessMemory {T = List CommandLine × List Variable} (Err g) whole) (sym is) told
+use Rattle.dry_runs.specs.Reading.{nothing_said, with_variable, with_command, said_next, found_or_fault}
 
 -- a program that isn't found makes its line bad
 pub not_found-next : (which : LookUp) (run : ℕ) (cwd : List ℕ) (s : DryRun) (line : ℕ) (program : List ℕ) (words : List (List ℕ)) (found : Option (List ℕ)) (fault : Fault) → found_or_fault program found ≡ Err fault → said_next s (meaning_found which run cwd line program words found) ≡ Err fault
@@ -93,9 +76,3 @@ module _ (which : LookUp) (run : ℕ) (cwd : List ℕ) where
       let m = meaning which run cwd s.env (number, line) in
       ap (λ ls. said_with s (run_of_meanings (meanings which run cwd s.env (enumerate_from number ls)))) cut
       ∙ said-refused s m (meanings which run cwd (environment_after which run cwd s.env m) (enumerate_from (number + 1) (lines behind))) fault e
-
-  -- a program that isn't found makes its line bad
-  pub not_found-refused : (s : DryRun) (number : ℕ) (program path : List ℕ) (words : List (List ℕ)) (first : Option (List ℕ)) (fault : Fault) → Some path ≡ first → UnlessMemory {T = List ℕ} (Err fault) (found_or_fault program (which program path cwd)) → UnlessMemory {T = DryRun} (Err fault) (said_next s (meaning_by_path which run cwd number program words first))
-  not_found-refused s number program path words first fault is told =
-      subst (λ p. UnlessMemory {T = DryRun} (Err fault) (said_next s (meaning_by_path which run cwd number program words p))) is
-      (refused fault (found_or_fault program (which program path cwd)) (said_next s (meaning_found which run cwd number program words (which program path cwd))) (λ f e. not_found-next which run cwd s number program words (which program path cwd) f e) told)

@@ -5,6 +5,8 @@ pub mod DryRunLines
 pub mod DryRunExamples
 pub mod Environment
 pub mod FirstDir
+pub mod Limit
+pub mod LimitExamples
 pub mod OneKernel
 pub mod PlainWords
 pub mod Reading

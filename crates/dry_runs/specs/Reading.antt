@@ -14,6 +14,10 @@ use Rattle.dry_runs.specs.Environment.{Variable, is_name_byte, is_followed}
 use Rattle.dry_runs.specs.declared.statement.Statement.{Statement}
 use Rattle.dry_runs.specs.declared.statement.Statement.TheVariants.{Nothing, Sets}
 use Rattle.dry_runs.specs.declared.statement.Statement.TheVariants as statements
+use Rattle.dry_runs.specs.declared.limit.LimitedFault.{LimitedFault}
+use Rattle.dry_runs.specs.declared.limit.LimitedFault.TheVariants.{TooLong}
+use Rattle.dry_runs.specs.declared.limit.LimitedFault.TheVariants as limited
+use Rattle.dry_runs.specs.Limit.{held_by, left_behind}
 use Rattle.dry_runs.specs.DryRun.{LookUp, Meaning, Ignored, Assigns, Runs, Bad, meaning_of_words}
 
 -- a text that is lent
@@ -56,6 +60,11 @@ abbrev pub dry_run_seen : Result DryRun Fault → Result (List CommandLine × Li
 dry_run_seen (Ok run) = Ok (run_seen run)
 dry_run_seen (Err fault) = Err fault
 
+-- what reading a dry run within a limit answers, as texts
+abbrev pub dry_run_seen_within : Result DryRun LimitedFault → Result (List CommandLine × List Variable) LimitedFault
+dry_run_seen_within (Ok run) = Ok (run_seen run)
+dry_run_seen_within (Err fault) = Err fault
+
 -- what looking a program up answers, as a text
 abbrev pub found_seen : Result (String Global) Fault → Result (List ℕ) Fault
 found_seen (Ok path) = Ok (string_bytes path)
@@ -93,7 +102,17 @@ said_next s (Assigns v) = Ok (with_variable s v)
 said_next s (Runs command) = Ok (with_command s command)
 said_next s (Bad fault) = Err fault
 
--- what is gathered behind a line, where it was read
-abbrev pub said_after : Result (Unit {0}) Fault → DryRun → Result DryRun Fault
-said_after (Ok _) s = Ok s
-said_after (Err fault) s = Err fault
+-- what is gathered behind a line and what is left of the limit, where the line was read
+abbrev pub said_left : Result ℕ LimitedFault → DryRun → Result (DryRun × ℕ) LimitedFault
+said_left (Ok left) s = Ok (s, left)
+said_left (Err fault) s = Err fault
+
+-- the same, by what is left behind the line and by what is gathered without a limit
+abbrev pub next_within : ℕ → ℕ → Option ℕ → Result DryRun Fault → Result (DryRun × ℕ) LimitedFault
+next_within run number None said = Err (TooLong run number)
+next_within run number (Some left) (Ok s) = Ok (s, left)
+next_within run number (Some left) (Err fault) = Err (limited.Fault fault)
+
+-- one more line whose texts fit, by what it means and by what was left before it
+abbrev pub next_held : ℕ → ℕ → ℕ → DryRun → Meaning → Result (DryRun × ℕ) LimitedFault
+next_held run number left s m = next_within run number (left_behind left (held_by m)) (said_next s m)

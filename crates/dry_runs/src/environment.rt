@@ -1,6 +1,6 @@
 //! The environment lines of a dry run, and the expansion of references to what they set.
 
-ghost use Rattle.std.specs.Prelude.{◌≡◌, ◌++◌, ◌<◌, ◌≤◌, not, length, map, codes, IfOk, IfSome, MatchOption, string_bytes};
+ghost use Rattle.std.specs.Prelude.{◌≡◌, ◌++◌, ◌<◌, ◌≤◌, ℕ, Some, true, false, nat_le, not, length, map, fold, codes, IfOk, IfSome, MatchOption, string_bytes};
 ghost use Rattle.std.specs.List.{list_all};
 ghost use Rattle.std.specs.Option.{option_copied, option_map};
 ghost use Rattle.std.specs.Str.{chars};
@@ -9,6 +9,7 @@ ghost use Rattle.texts.specs.Lists.{rest_after};
 ghost use Rattle.texts.specs.Variables.{pair_of};
 ghost use Rattle.shell_words.specs.Shell.Splitting.{shell_words};
 ghost use Rattle.dry_runs.specs.Environment as spec;
+ghost use Rattle.dry_runs.specs.Limit as limit;
 ghost use Rattle.dry_runs.specs.Replacing as replacing;
 ghost use Rattle.dry_runs.specs.Reading as reading;
 ghost use Rattle.dry_runs.specs.Reading.{text_of, texts_of, IsCutAt};
@@ -154,9 +155,9 @@ fn first_reference<'a>(
     text: &str,
 ) -> Result<Option<Reference<'a>>, AllocError>
     ensures found { IfOk result (λ found. MatchOption found
-        (spec.expanded (map pair_of env.now) text.now ≡ text.now)
-        (λ r. spec.expanded (map pair_of env.now) text.now
-        ≡ spec.expanded (map pair_of r.behind.now) (replacing.replaced (codes "$" ++ r.name.now) r.value.now text.now))) }
+        ((left : ℕ) → fold (limit.expanded_fitting left) (Some text.now) (map pair_of env.now) ≡ Some text.now)
+        (λ r. (left : ℕ) → fold (limit.expanded_fitting left) (Some text.now) (map pair_of env.now)
+        ≡ fold (limit.expanded_fitting left) (limit.fitting left (replacing.replaced (codes "$" ++ r.name.now) r.value.now text.now)) (map pair_of r.behind.now))) }
     ensures less { IfOk result (λ found. IfSome found (λ r. length r.behind.now < length env.now)) }
 {
     if !holds_dollar(text) {
@@ -179,56 +180,154 @@ fn first_reference<'a>(
     Ok(None)
 }
 
-// Writes the value where the name follows a `$`, and a `$` where it doesn't. Answers what is left.
+// Appends a text, unless that makes one longer than `left`. Answers whether it did.
+fn push_within(out: &mut String, piece: &str, left: usize) -> Result<bool, AllocError>
+    ensures fits { IfOk result (λ fits. fits ≡ nat_le (length (string_bytes out.old ++ piece.now)) left) }
+    ensures text { IfOk result (λ fits. fits ≡ true → string_bytes out.new ≡ string_bytes out.old ++ piece.now) }
+{
+    let Some(room) = left.checked_sub(out.len()) else {
+        return Ok(false);
+    };
+    if piece.len() > room {
+        return Ok(false);
+    }
+    out.push_str(piece)?;
+    Ok(true)
+}
+
+// What stands in the new text for a `$` and what follows it, and what is left to read: the value if the name follows, else
+// the `$` alone.
+fn piece_of<'a>(after: &'a str, name: &str, value: &'a str) -> (&'a str, &'a str)
+    ensures cut { replacing.replaced (codes "$" ++ name.now) value.now (codes "$" ++ after.now)
+        ≡ result.0.now ++ replacing.replaced (codes "$" ++ name.now) value.now result.1.now }
+    ensures less { length result.1.now ≤ length after.now }
+{
+    match behind_name(after, name) {
+        Some(behind) => (value, behind),
+        None => ("$", after),
+    }
+}
+
+// Writes the value where the name follows a `$`, and a `$` where it doesn't. Answers what is left to read, or `None` if
+// the text becomes longer than `left`.
 fn push_reference<'a>(
     out: &mut String,
     after: &'a str,
     name: &str,
-    value: &str,
-) -> Result<&'a str, AllocError>
-    ensures text { IfOk result (λ rest.
-        string_bytes out.new ++ replacing.replaced (codes "$" ++ name.now) value.now rest.now
-        ≡ string_bytes out.old ++ replacing.replaced (codes "$" ++ name.now) value.now (codes "$" ++ after.now)) }
-    ensures less { IfOk result (λ rest. length rest.now ≤ length after.now) }
+    value: &'a str,
+    left: usize,
+) -> Result<Option<&'a str>, AllocError>
+    ensures text { IfOk result (λ found. MatchOption found
+        (limit.fitting left (string_bytes out.old ++ replacing.replaced (codes "$" ++ name.now) value.now (codes "$" ++ after.now)) ≡ None)
+        (λ rest. string_bytes out.new ++ replacing.replaced (codes "$" ++ name.now) value.now rest.now
+        ≡ string_bytes out.old ++ replacing.replaced (codes "$" ++ name.now) value.now (codes "$" ++ after.now))) }
+    ensures less { IfOk result (λ found. IfSome found (λ rest. length rest.now ≤ length after.now)) }
 {
-    match behind_name(after, name) {
-        Some(behind) => {
-            out.push_str(value)?;
-            Ok(behind)
-        }
-        None => {
-            out.push('$')?;
-            Ok(after)
-        }
+    let (piece, rest) = piece_of(after, name, value);
+    if push_within(out, piece, left)? {
+        Ok(Some(rest))
+    } else {
+        Ok(None)
     }
 }
 
-// A text with each place of `$` and a variable's name replaced by its value.
-fn replaced(alloc: Global, text: &str, name: &str, value: &str) -> Result<String, AllocError>
-    ensures { IfOk result (λ t. string_bytes t ≡ replacing.replaced (codes "$" ++ name.now) value.now text.now) }
+// A text with each place of `$` and a variable's name replaced by its value, or `None` if that is longer than `left`.
+fn replaced(
+    alloc: Global,
+    text: &str,
+    name: &str,
+    value: &str,
+    left: usize,
+) -> Result<Option<String>, AllocError>
+    ensures { IfOk result (λ t. option_map string_bytes t ≡ limit.fitting left (replacing.replaced (codes "$" ++ name.now) value.now text.now)) }
 {
-    let mut out = String::with_capacity(alloc, text.len().saturating_add(value.len()))?;
+    let room = text.len().saturating_add(value.len()).min(left);
+    let mut out = String::with_capacity(alloc, room)?;
     let mut rest = text;
     while let Some((front, after)) = parted(rest, '$') {
-        out.push_str(front)?;
-        rest = push_reference(&mut out, after, name, value)?;
+        if !push_within(&mut out, front, left)? {
+            return Ok(None);
+        }
+        let Some(behind) = push_reference(&mut out, after, name, value, left)? else {
+            return Ok(None);
+        };
+        rest = behind;
     }
-    out.push_str(rest)?;
-    Ok(out)
+    if push_within(&mut out, rest, left)? {
+        Ok(Some(out))
+    } else {
+        Ok(None)
+    }
 }
 
-// A text with a variable that it refers to expanded, and then those behind it, one after the other.
-fn expanded(alloc: Global, text: &str, first: Reference) -> Result<String, AllocError>
-    ensures { IfOk result (λ t. string_bytes t
-        ≡ spec.expanded (map pair_of first.entry.behind.now) (replacing.replaced (codes "$" ++ first.entry.name.now) first.entry.value.now text.now)) }
+// A text with a variable that it refers to expanded, and then those behind it, one after the other, or `None` if one of
+// these texts is longer than `left`.
+fn expanded(
+    alloc: Global,
+    text: &str,
+    first: Reference,
+    left: usize,
+) -> Result<Option<String>, AllocError>
+    ensures { IfOk result (λ t. option_map string_bytes t
+        ≡ fold (limit.expanded_fitting left) (limit.fitting left (replacing.replaced (codes "$" ++ first.entry.name.now) first.entry.value.now text.now)) (map pair_of first.entry.behind.now)) }
 {
-    let mut expanded = replaced(alloc, text, first.name, first.value)?;
+    let Some(mut expanded) = replaced(alloc, text, first.name, first.value, left)? else {
+        return Ok(None);
+    };
     let mut rest = first.behind;
     while let Some(next) = first_reference(alloc, rest, expanded.as_str())? {
-        expanded = replaced(alloc, expanded.as_str(), next.name, next.value)?;
+        let Some(more) = replaced(alloc, expanded.as_str(), next.name, next.value, left)? else {
+            return Ok(None);
+        };
+        expanded = more;
         rest = next.behind;
     }
-    Ok(expanded)
+    Ok(Some(expanded))
+}
+
+// The shell words of a text: an inner `None` if it doesn't split.
+fn words_alone(alloc: Global, text: &str) -> Result<Option<Option<Vec<String>>>, AllocError>
+    ensures { IfOk result (λ found. option_map (option_map (λ v. map string_bytes v.items)) found ≡ Some (shell_words text.now)) }
+{
+    Ok(Some(words_of(alloc, text)?))
+}
+
+// The shell words of a text with a variable that it refers to expanded, and then those behind it: an inner `None` if the
+// result doesn't split, and an outer one if one of these texts is longer than `left`.
+fn words_of_expanded(
+    alloc: Global,
+    text: &str,
+    first: Reference,
+    left: usize,
+) -> Result<Option<Option<Vec<String>>>, AllocError>
+    ensures { IfOk result (λ found. option_map (option_map (λ v. map string_bytes v.items)) found
+        ≡ option_map shell_words (fold (limit.expanded_fitting left) (limit.fitting left (replacing.replaced (codes "$" ++ first.entry.name.now) first.entry.value.now text.now)) (map pair_of first.entry.behind.now))) }
+{
+    match expanded(alloc, text, first, left)? {
+        None => Ok(None),
+        Some(expanded) => words_alone(alloc, expanded.as_str()),
+    }
+}
+
+// The shell words of a text in which the variables of an environment are expanded: an inner `None` if the result doesn't
+// split, and an outer one if the text, or one of those that the expansion makes, is longer than `left`. A text that
+// refers to no variable isn't copied.
+pub fn expanded_words_within(
+    alloc: Global,
+    env: &[(String, String)],
+    text: &str,
+    left: usize,
+) -> Result<Option<Option<Vec<String>>>, AllocError>
+    ensures { IfOk result (λ found. option_map (option_map (λ v. map string_bytes v.items)) found
+        ≡ option_map shell_words (limit.expanded_within left (map pair_of env.now) text.now)) }
+{
+    if text.len() > left {
+        return Ok(None);
+    }
+    match first_reference(alloc, env, text)? {
+        None => words_alone(alloc, text),
+        Some(first) => words_of_expanded(alloc, text, first, left),
+    }
 }
 
 /// The shell words of a text in which the variables of an environment are expanded, or `None` if the result doesn't
@@ -241,9 +340,8 @@ pub fn expanded_words(
     ensures { IfOk result (λ found.
         option_map (λ v. map string_bytes v.items) found ≡ shell_words (spec.expanded (map pair_of env.now) text.now)) }
 {
-    let Some(first) = first_reference(alloc, env, text)? else {
-        return words_of(alloc, text);
-    };
-    let expanded = expanded(alloc, text, first)?;
-    words_of(alloc, expanded.as_str())
+    match expanded_words_within(alloc, env, text, usize::MAX)? {
+        None => Err(AllocError),
+        Some(words) => Ok(words),
+    }
 }

@@ -2,6 +2,7 @@
 
 ghost use Rattle.texts.specs.Equality.{TellsEqual};
 ghost use Rattle.dry_runs.specs.DryRunExamples.{OneKernelIsRead, LastLineNeedsNoNewline, NothingIsRead, UnmarkedLineIsNotText, QuoteIsOpen, CommentIsNoCommand, NoPathIsSet, DigitMakesACommand, PathIsEmpty, FirstBadLineDecides, ProgramsAreMissing, EmptyProgramIsLookedUp, ReferenceAtTheEndStays, OneReferenceExpandsAll, LetterFollowsAReference, FirstValueIsExpanded, ValuesAreExpandedInOrder, FirstPathCounts, OtherNamesAreRead, LastLineKeepsItsReturn, ByteOrderMarkUnmarks, ValuesAreKeptAsTheyStand, FirstFolderIsEmpty, FolderNeedsAPathToo, NameIsSetTwice, OtherCharactersEndAName, WordCharactersGoOn};
+ghost use Rattle.dry_runs.specs.LimitExamples.{AllThatIsHeldCounts, TextsOnTheWayCount, FirstOfBothDecides, UnmarkedLinesAreFree};
 
 use crate::commands::{Commands, DryRun};
 
@@ -40,4 +41,12 @@ pub fn worked_runs()
     ensures name_is_set_twice { NameIsSetTwice }
     ensures other_characters_end_a_name { OtherCharactersEndAName }
     ensures word_characters_go_on { WordCharactersGoOn }
+{}
+
+/// What some dry runs say that are read within a limit, by the definitions.
+pub fn worked_limits()
+    ensures all_that_is_held_counts { AllThatIsHeldCounts }
+    ensures texts_on_the_way_count { TextsOnTheWayCount }
+    ensures first_of_both_decides { FirstOfBothDecides }
+    ensures unmarked_lines_are_free { UnmarkedLinesAreFree }
 {}

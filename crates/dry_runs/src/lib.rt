@@ -4,6 +4,7 @@
 mod commands;
 mod environment;
 pub mod laws;
+mod limit;
 mod lines;
 mod plain_words;
 mod reader;
@@ -12,8 +13,9 @@ mod which;
 
 pub use commands::{Commands, DryRun};
 pub use environment::{assignment, expanded_words};
+pub use limit::LimitedFault;
 pub use lines::{first_line, marked};
-pub use reader::read_dry_run;
-pub use statement::{Statement, statement_of};
+pub use reader::{read_dry_run, read_dry_run_within};
+pub use statement::{Statement, statement_of, statement_within};
 pub use texts::text::is_bare;
 pub use which::{FirstDir, Which};

@@ -3,11 +3,13 @@
 ghost use Rattle.std.specs.Prelude.{◌≡◌, codes};
 ghost use Rattle.texts.specs.Fault.{UnlessMemory};
 ghost use Rattle.dry_runs.specs.DryRun.{dry_run_of};
-ghost use Rattle.dry_runs.specs.Reading.{dry_run_seen};
+ghost use Rattle.dry_runs.specs.Limit.{UnlessMemoryWithin, dry_run_within};
+ghost use Rattle.dry_runs.specs.Reading.{dry_run_seen, dry_run_seen_within};
 
 use crate::commands::{Commands, DryRun};
+use crate::limit::{LimitedFault, left_behind_command, left_behind_variable};
 use crate::lines::first_line;
-use crate::statement::{Statement, statement_of};
+use crate::statement::{Statement, statement_within};
 use crate::which::Which;
 use std::alloc::{AllocError, Global};
 use texts::fault::Fault;
@@ -36,7 +38,7 @@ use texts::variables::{Variables, first_value};
 /// and `NotFound` if `which` doesn't find the program. `Memory` may come in place of any answer.
 ///
 /// A text can double with each environment line: by lines like `A=$AA.$AA.`, 469 bytes become 295 kB.
-/// `alloc` has no limit of its own, so read dry runs that you don't trust in a process with one.
+/// Read dry runs that you don't trust with `read_dry_run_within`.
 pub fn read_dry_run<W: Which>(
     alloc: Global,
     dry_run: &[u8],
@@ -46,6 +48,34 @@ pub fn read_dry_run<W: Which>(
 ) -> Result<DryRun, Fault>
     ensures { UnlessMemory (dry_run_seen result) (dry_run_of run dry_run.now cwd.now (W.answer which.now)) }
 {
+    match read_dry_run_within(alloc, dry_run, run, cwd, which, usize::MAX) {
+        Ok(said) => Ok(said),
+        Err(fault) => Err(fault.without_limit()),
+    }
+}
+
+/// Reads a dry run as `read_dry_run` does, within a limit in bytes.
+///
+/// What the lines so far hold, and the texts that a line is expanded to on the way, are counted:
+///
+/// - A variable holds its name and its value, and a command its program's path and its words. Each of these texts
+///   counts its bytes and one more, so that empty words count too.
+/// - The text of a command, and each text that expanding one variable after the other makes, may be as long as what is
+///   left of the limit.
+///
+/// Lines without the mark count nothing, and each run has the whole limit. The first line that exceeds the limit refuses the
+/// run with `LimitedFault::TooLong`, unless a line before it is bad. Such a line, or any other fault, gives
+/// `LimitedFault::Fault` as `read_dry_run` does. The path that `which` finds for a program is counted after it is made.
+pub fn read_dry_run_within<W: Which>(
+    alloc: Global,
+    dry_run: &[u8],
+    run: usize,
+    cwd: &str,
+    which: &W,
+    limit: usize,
+) -> Result<DryRun, LimitedFault>
+    ensures { UnlessMemoryWithin (dry_run_seen_within result) (dry_run_within limit run dry_run.now cwd.now (W.answer which.now)) }
+{
     let setting = Setting {
         alloc,
         run,
@@ -53,10 +83,11 @@ pub fn read_dry_run<W: Which>(
         which,
     };
     let mut said = DryRun::new(alloc);
+    let mut left = limit;
     let mut number = 0;
     let mut rest = dry_run;
     while let Some((line, behind)) = first_line(rest) {
-        said.read(&setting, number, line)?;
+        left = said.read(&setting, left, number, line)?;
         number += 1;
         rest = behind;
     }
@@ -96,10 +127,10 @@ impl<'a, W: Which> Setting<'a, W> {
 // What the lines so far say.
 impl DryRun {
     ghost use Rattle.std.specs.Prelude.{◌≡◌, ◌∷◌, [], map, List, ℕ, OnOk, string_bytes};
-    ghost use Rattle.texts.specs.Fault.{UnlessMemory};
     ghost use Rattle.texts.specs.Variables as variables;
-    ghost use Rattle.dry_runs.specs.DryRun.{meaning, meaning_of_words, meaning_by_path};
-    ghost use Rattle.dry_runs.specs.Reading.{nothing_said, with_variable, said_after, said_next, meaning_stated};
+    ghost use Rattle.dry_runs.specs.DryRun.{meaning, meaning_of_words, meaning_by_path, Assigns, Runs};
+    ghost use Rattle.dry_runs.specs.Limit.{UnlessMemoryWithin, left_behind_line};
+    ghost use Rattle.dry_runs.specs.Reading.{nothing_said, with_variable, said_left, said_next, next_within, next_held, meaning_stated};
 
     fn new(alloc: Global) -> DryRun
         ensures { result ≡ nothing_said }
@@ -110,40 +141,64 @@ impl DryRun {
         }
     }
 
-    // Reads the next line, which has this number.
+    // Reads the next line, which has this number, with so many bytes left. Answers how many are left behind it.
     fn read<W: Which>(
         &mut self,
         setting: &Setting<W>,
+        left: usize,
         number: usize,
         line: &[u8],
-    ) -> Result<(), Fault>
-        ensures { UnlessMemory (said_after result self.new) (said_next self.old
-            (meaning (W.answer setting.now.which.now) setting.now.run setting.now.cwd.now
-            self.old.env (number, line.now))) }
+    ) -> Result<usize, LimitedFault>
+        ensures { UnlessMemoryWithin (said_left result self.new) (next_within setting.now.run number
+            (left_behind_line (W.answer setting.now.which.now) setting.now.run setting.now.cwd.now left self.old.env (number, line.now))
+            (said_next self.old (meaning (W.answer setting.now.which.now) setting.now.run setting.now.cwd.now
+            self.old.env (number, line.now)))) }
     {
-        let statement = statement_of(setting.alloc, &self.env, line)?;
-        self.take(setting, number, statement)
+        let Some(statement) = statement_within(setting.alloc, &self.env, line, left)? else {
+            let run = setting.run;
+            return Err(LimitedFault::TooLong { run, line: number });
+        };
+        self.take(setting, left, number, statement)
     }
 
     // Takes what the line of this number says.
     fn take<W: Which>(
         &mut self,
         setting: &Setting<W>,
+        left: usize,
         number: usize,
         statement: Statement,
-    ) -> Result<(), Fault>
-        ensures { UnlessMemory (said_after result self.new) (said_next self.old
+    ) -> Result<usize, LimitedFault>
+        ensures { UnlessMemoryWithin (said_left result self.new) (next_held setting.now.run number left self.old
             (meaning_stated (W.answer setting.now.which.now) setting.now.run setting.now.cwd.now number
             self.old.env statement)) }
     {
         let run = setting.run;
         match statement {
-            Statement::Nothing => Ok(()),
-            Statement::Sets(name, value) => Ok(self.assign(name, value)?),
-            Statement::Runs(words) => self.run(setting, number, words.into_vec()),
-            Statement::BadShell => Err(Fault::BadShell { run, line: number }),
-            Statement::NotUtf8 => Err(Fault::NotUtf8 { run, line: number }),
+            Statement::Nothing => Ok(left),
+            Statement::Sets(name, value) => self.set(run, left, number, name, value),
+            Statement::Runs(words) => self.run(setting, left, number, words.into_vec()),
+            Statement::BadShell => Err(LimitedFault::Fault(Fault::BadShell { run, line: number })),
+            Statement::NotUtf8 => Err(LimitedFault::Fault(Fault::NotUtf8 { run, line: number })),
         }
+    }
+
+    // Takes a variable, if it fits.
+    fn set(
+        &mut self,
+        run: usize,
+        left: usize,
+        number: usize,
+        name: Text,
+        value: Text,
+    ) -> Result<usize, LimitedFault>
+        ensures { UnlessMemoryWithin (said_left result self.new) (next_held run number left self.old (Assigns (name, value))) }
+    {
+        let Some(left) = left_behind_variable(left, name.as_str(), value.as_str()) else {
+            return Err(LimitedFault::TooLong { run, line: number });
+        };
+        self.assign(name, value)?;
+        Ok(left)
     }
 
     // Puts a variable last.
@@ -157,42 +212,63 @@ impl DryRun {
     fn run<W: Which>(
         &mut self,
         setting: &Setting<W>,
+        left: usize,
         number: usize,
         mut words: Vec<String>,
-    ) -> Result<(), Fault>
-        ensures { UnlessMemory (said_after result self.new) (said_next self.old
+    ) -> Result<usize, LimitedFault>
+        ensures { UnlessMemoryWithin (said_left result self.new) (next_held setting.now.run number left self.old
             (meaning_of_words (W.answer setting.now.which.now) setting.now.run setting.now.cwd.now number
             self.old.env (Some (map string_bytes words.items)))) }
     {
         if words.is_empty() {
-            return Err(Fault::EmptyCommand {
+            return Err(LimitedFault::Fault(Fault::EmptyCommand {
                 run: setting.run,
                 line: number,
-            });
+            }));
         }
         let program = words.remove(0);
-        self.run_program(setting, number, program, words)
+        self.run_program(setting, left, number, program, words)
     }
 
     // Puts the command of this program and these words last.
     fn run_program<W: Which>(
         &mut self,
         setting: &Setting<W>,
+        left: usize,
         number: usize,
         program: String,
         words: Vec<String>,
-    ) -> Result<(), Fault>
-        ensures { UnlessMemory (said_after result self.new) (said_next self.old
+    ) -> Result<usize, LimitedFault>
+        ensures { UnlessMemoryWithin (said_left result self.new) (next_held setting.now.run number left self.old
             (meaning_by_path (W.answer setting.now.which.now) setting.now.run setting.now.cwd.now
             number (string_bytes program) (map string_bytes words.items) (variables.first_value (codes "PATH") self.old.env))) }
     {
         let Some(path) = first_value(self.env.as_slice(), "PATH") else {
-            return Err(Fault::NoPath {
+            return Err(LimitedFault::Fault(Fault::NoPath {
                 run: setting.run,
                 line: number,
-            });
+            }));
         };
         let found = setting.found(path, program)?;
-        Ok(self.commands.push(number, found, words)?)
+        self.run_found(setting.run, left, number, found, words)
+    }
+
+    // Puts the command of the program at this path and of these words last, if it fits.
+    fn run_found(
+        &mut self,
+        run: usize,
+        left: usize,
+        number: usize,
+        path: String,
+        words: Vec<String>,
+    ) -> Result<usize, LimitedFault>
+        ensures { UnlessMemoryWithin (said_left result self.new) (next_held run number left self.old
+            (Runs (number, string_bytes path, map string_bytes words.items))) }
+    {
+        let Some(left) = left_behind_command(left, path.as_str(), words.as_slice()) else {
+            return Err(LimitedFault::TooLong { run, line: number });
+        };
+        self.commands.push(number, path, words)?;
+        Ok(left)
     }
 }

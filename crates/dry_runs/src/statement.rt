@@ -1,12 +1,13 @@
 //! What a line of a dry run says.
 
-ghost use Rattle.std.specs.Prelude.{◌≡◌, Some, IfOk};
+ghost use Rattle.std.specs.Prelude.{◌≡◌, Some, IfOk, if◌then◌else◌, None};
+ghost use Rattle.std.specs.Option.{option_map};
 ghost use Rattle.shell_words.specs.Shell.Splitting.{shell_words};
 ghost use Rattle.dry_runs.specs.DryRunLines.{marked_text};
-ghost use Rattle.dry_runs.specs.Environment.{expanded};
+ghost use Rattle.dry_runs.specs.Limit as limit;
 ghost use Rattle.dry_runs.specs.Statement as spec;
 
-use crate::environment::{assignment, expanded_words};
+use crate::environment::{assignment, expanded_words_within};
 use crate::lines::marked;
 use std::alloc::{AllocError, Global};
 use texts::text::Text;
@@ -28,36 +29,68 @@ pub enum Statement {
     NotUtf8,
 }
 
-// What a command says, by the text behind its mark.
-fn command(alloc: Global, env: &Variables, text: &str) -> Result<Statement, AllocError>
-    ensures { IfOk result (λ s. s ≡ spec.stated_by_words (shell_words (expanded env.now text.now))) }
+// What a command says, by the text behind its mark, or `None` if its expansion makes a text longer than `left`.
+fn command(
+    alloc: Global,
+    env: &Variables,
+    text: &str,
+    left: usize,
+) -> Result<Option<Statement>, AllocError>
+    ensures { IfOk result (λ s. s ≡ option_map spec.stated_by_words (option_map shell_words (limit.expanded_within left env.now text.now))) }
 {
-    match expanded_words(alloc, env.as_slice(), text)? {
-        None => Ok(Statement::BadShell),
-        Some(words) => Ok(Statement::Runs(Words::from_vec(words))),
+    match expanded_words_within(alloc, env.as_slice(), text, left)? {
+        None => Ok(None),
+        Some(None) => Ok(Some(Statement::BadShell)),
+        Some(Some(words)) => Ok(Some(Statement::Runs(Words::from_vec(words)))),
     }
 }
 
-// What a marked line says, by the text behind its mark.
-fn marked_line(alloc: Global, env: &Variables, text: &str) -> Result<Statement, AllocError>
-    ensures { IfOk result (λ s. s ≡ spec.stated_marked env.now (Some text.now)) }
+// What a marked line says, by the text behind its mark, or `None` as for a command.
+fn marked_line(
+    alloc: Global,
+    env: &Variables,
+    text: &str,
+    left: usize,
+) -> Result<Option<Statement>, AllocError>
+    ensures { IfOk result (λ s. s ≡ (if limit.fits_marked left env.now (Some text.now) then Some (spec.stated_marked env.now (Some text.now)) else None)) }
 {
     match assignment(text) {
-        Some((name, value)) => Ok(Statement::Sets(
+        Some((name, value)) => Ok(Some(Statement::Sets(
             Text::copy_of(alloc, name)?,
             Text::copy_of(alloc, value)?,
-        )),
-        None => command(alloc, env, text),
+        ))),
+        None => command(alloc, env, text, left),
     }
 }
 
-// What a line says that is text.
-fn text_line(alloc: Global, env: &Variables, line: &str) -> Result<Statement, AllocError>
-    ensures { IfOk result (λ s. s ≡ spec.stated_marked env.now (marked_text line.now)) }
+// What a line says that is text, or `None` as for a command.
+fn text_line(
+    alloc: Global,
+    env: &Variables,
+    line: &str,
+    left: usize,
+) -> Result<Option<Statement>, AllocError>
+    ensures { IfOk result (λ s. s ≡ (if limit.fits_marked left env.now (marked_text line.now) then Some (spec.stated_marked env.now (marked_text line.now)) else None)) }
 {
     match marked(line) {
-        None => Ok(Statement::Nothing),
-        Some(text) => marked_line(alloc, env, text),
+        None => Ok(Some(Statement::Nothing)),
+        Some(text) => marked_line(alloc, env, text, left),
+    }
+}
+
+/// What `line` says behind the environment lines that set `env`, as `statement_of`, or `None` if the line is a command and
+/// its text, or one of the texts that expanding one variable after the other makes, is longer than `left` bytes.
+pub fn statement_within(
+    alloc: Global,
+    env: &Variables,
+    line: &[u8],
+    left: usize,
+) -> Result<Option<Statement>, AllocError>
+    ensures { IfOk result (λ s. s ≡ limit.stated_within left env.now line.now) }
+{
+    match str::from_utf8(line) {
+        Err(_) => Ok(Some(Statement::NotUtf8)),
+        Ok(text) => text_line(alloc, env, text, left),
     }
 }
 
@@ -67,8 +100,8 @@ fn text_line(alloc: Global, env: &Variables, line: &str) -> Result<Statement, Al
 pub fn statement_of(alloc: Global, env: &Variables, line: &[u8]) -> Result<Statement, AllocError>
     ensures { IfOk result (λ s. s ≡ spec.stated env.now line.now) }
 {
-    match str::from_utf8(line) {
-        Err(_) => Ok(Statement::NotUtf8),
-        Ok(text) => text_line(alloc, env, text),
+    match statement_within(alloc, env, line, usize::MAX)? {
+        None => Err(AllocError),
+        Some(statement) => Ok(statement),
     }
 }

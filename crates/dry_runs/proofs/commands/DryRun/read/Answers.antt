@@ -1,7 +1,8 @@
-use Rattle.std.proofs.Common.{ap, ◌∙◌, subst}
-use Rattle.texts.specs.Fault.{UnlessMemory}
-use Rattle.dry_runs.specs.Reading.{meaning_stated, said_after, said_next}
-use Rattle.dry_runs.proofs.StatementLemmas.{meaning-stated}
+use Rattle.std.proofs.Common.{◌∙◌, sym, subst}
+use Rattle.dry_runs.specs.Limit.{UnlessMemoryWithin}
+use Rattle.dry_runs.specs.Reading.{said_left, said_next}
+use Rattle.dry_runs.specs.DryRun.{meaning}
+use Rattle.dry_runs.proofs.WithinLemmas.{line-fits, line-too_long}
 use Rattle.dry_runs.proofs.commands.DryRun.read.Goals as goal
 
 pub returns : goal.returns
@@ -9,6 +10,14 @@ returns g c =
     let setting = c.args.setting.now in
     let answer = g.W.Which.answer setting.which.now in
     let self = c.args.self.now in
-    subst (λ m. UnlessMemory (said_after c.take.result c.take.new.self) (said_next self m))
-    (ap (meaning_stated answer setting.run setting.cwd.now c.args.number self.env) c.in_ok-statement.ensures ∙ meaning-stated answer setting.run setting.cwd.now c.args.number self.env c.args.line.now)
+    subst (λ e. UnlessMemoryWithin (said_left c.take.result c.take.new.self) e)
+    (line-fits answer setting.run setting.cwd.now c.args.left c.args.number self c.args.line.now c.in-Some.statement (sym c.in-Some.is ∙ c.in_ok-statement.ensures))
     c.take.ensures
+
+pub returns-in_default : goal.returns-in_default
+returns-in_default g c =
+    let setting = c.args.setting.now in
+    let answer = g.W.Which.answer setting.which.now in
+    let self = c.args.self.now in
+    line-too_long answer setting.run setting.cwd.now c.args.left c.args.number self.env c.args.line.now (said_next self (meaning answer setting.run setting.cwd.now self.env (c.args.number, c.args.line.now)))
+    (sym c.in_default.is ∙ c.in_ok-statement.ensures)

@@ -1,0 +1,121 @@
+-- What expanding within a limit makes, and when a text is too long.
+use Rattle.std.proofs.Common.{◌≡◌, ℕ, ◌+◌, Bool, true, false, cond, List, [], ◌∷◌, ◌++◌, Option, Some, None, String, Bor, MatchOption, refl, ap, sym, ◌∙◌, subst, fold, map, length, nat_le, codes, arith}
+use Rattle.std.specs.declared.alloc.Global.{Global}
+use Rattle.std.specs.Option.{option_map, is_some}
+use Rattle.std.proofs.lemmas.Bool.{false≢true}
+use Rattle.std.proofs.lemmas.List.{length-append}
+use Rattle.texts.specs.Path.{lacks}
+use Rattle.shell_words.specs.Shell.Splitting.{shell_words}
+use Rattle.texts.specs.Variables.{pair_of}
+use Rattle.dry_runs.specs.declared.environment.Reference.{Reference}
+use Rattle.dry_runs.specs.Environment.{Variable, refers, expanded}
+use Rattle.dry_runs.specs.Replacing.{replaced}
+use Rattle.dry_runs.specs.Reading.{behind_dollars}
+use Rattle.dry_runs.specs.Reading.{refers as refers_by}
+use Rattle.dry_runs.specs.Limit.{fitting, expanded_fitting, expanded_within}
+use Rattle.dry_runs.proofs.ExpansionLemmas.{refers-nothing, refers-behind}
+
+-- one more variable, by what follows each `$` of the text
+pub fitting-unreferred : (left : ℕ) (env : List Variable) (name value text : List ℕ) → refers_by name (behind_dollars text) ≡ false → fold (expanded_fitting left) (Some text) ((name, value) ∷ env) ≡ fold (expanded_fitting left) (Some text) env
+fitting-unreferred left env name value text h = rw (refers-behind name text ∙ h) refl
+
+pub fitting-referred : (left : ℕ) (env : List Variable) (name value text : List ℕ) → refers_by name (behind_dollars text) ≡ true → fold (expanded_fitting left) (Some text) ((name, value) ∷ env) ≡ fold (expanded_fitting left) (fitting left (replaced (36 ∷ name) value text)) env
+fitting-referred left env name value text h = rw (refers-behind name text ∙ h) refl
+
+-- a text without `$` stays
+pub fitting-nothing : (left : ℕ) (env : List Variable) (text : List ℕ) → lacks 36 text ≡ true → fold (expanded_fitting left) (Some text) env ≡ Some text
+fitting-nothing left [] text h = refl
+fitting-nothing left (v ∷ env) text h = rw (refers-nothing v.0 text h) (fitting-nothing left env text h)
+
+-- where no variable is left, a text stays
+pub fitting-no_more : (left : ℕ) (text : List ℕ) (rest : List (String Global × String Global)) → length rest ≡ 0 → fold (expanded_fitting left) (Some text) (map pair_of rest) ≡ Some text
+fitting-no_more left text [] h = refl
+fitting-no_more left text (v ∷ rest) h = absurd (omega (arith, h))
+
+-- nothing stays nothing
+pub fitting-none : (left : ℕ) (env : List Variable) → fold (expanded_fitting left) None env ≡ None
+fitting-none left [] = refl
+fitting-none left (v ∷ env) = fitting-none left env
+
+pub fits : (left : ℕ) (text : List ℕ) → nat_le (length text) left ≡ true → fitting left text ≡ Some text
+fits left text h = rw h refl
+
+pub exceeds : (left : ℕ) (text : List ℕ) → nat_le (length text) left ≡ false → fitting left text ≡ None
+exceeds left text h = rw h refl
+
+longer : (m n left : ℕ) → nat_le m left ≡ false → nat_le (m + n) left ≡ false
+longer m n left = grind arith
+
+-- a text whose beginning is too long is too long
+pub exceeds-from : (left : ℕ) (front rest whole : List ℕ) → front ++ rest ≡ whole → nat_le (length front) left ≡ false → fitting left whole ≡ None
+exceeds-from left front rest whole is h =
+    exceeds left whole (ap (λ t. nat_le (length t) left) (sym is) ∙ ap (λ n. nat_le n left) (length-append front rest) ∙ longer (length front) (length rest) left h)
+
+no-text : (t x y : List ℕ) → None ≡ Some t → x ≡ y
+no-text t x y h = cc
+
+-- a text that fits, by what becomes of it
+by-length : (left : ℕ) (env : List Variable) (t new : List ℕ) → (fold (expanded_fitting left) (Some new) env ≡ Some t → expanded env new ≡ t) → fold (expanded_fitting left) (fitting left new) env ≡ Some t → expanded env new ≡ t
+by-length left env t new step =
+    elim (nat_le (length new) left)
+    as (λ b. fold (expanded_fitting left) (cond {A = Option (List ℕ)} b (Some new) None) env ≡ Some t → expanded env new ≡ t)
+    [ true ↦ step | false ↦ λ k. no-text t (expanded env new) t (sym (fitting-none left env) ∙ k) ]
+
+-- what is expanded within a limit is what is expanded without one
+pub fold-expanded : (left : ℕ) (env : List Variable) (text t : List ℕ) → fold (expanded_fitting left) (Some text) env ≡ Some t → expanded env text ≡ t
+fold-expanded left [] text t h = let same : text ≡ t = cc in same
+fold-expanded left (v ∷ env) text t h =
+    let new : List ℕ = replaced (36 ∷ v.0) v.1 text in
+    (elim (refers (36 ∷ v.0) text)
+    as (λ b. fold (expanded_fitting left) (cond {A = Option (List ℕ)} b (fitting left new) (Some text)) env ≡ Some t → expanded env (cond {A = List ℕ} b new text) ≡ t)
+    [ true ↦ by-length left env t new (fold-expanded left env new t) | false ↦ fold-expanded left env text t ]) h
+
+pub within-expanded : (left : ℕ) (env : List Variable) (text t : List ℕ) → expanded_within left env text ≡ Some t → expanded env text ≡ t
+within-expanded left env text t = by-length left env t text (fold-expanded left env text t)
+
+-- the words of a text that is expanded within a limit
+pub within-words : (left : ℕ) (env : List Variable) (text : List ℕ) (words : Option (List (List ℕ))) (within : Option (List ℕ)) → expanded_within left env text ≡ within → Some words ≡ option_map shell_words within → words ≡ shell_words (expanded env text)
+within-words left env text words None is h = cc
+within-words left env text words (Some t) is h =
+    let same : words ≡ shell_words t = cc in
+    same ∙ ap shell_words (sym (within-expanded left env text t is))
+
+pub words-too_long : (left : ℕ) (env : List Variable) (text : List ℕ) → nat_le (length text) left ≡ false → None ≡ option_map shell_words (expanded_within left env text)
+words-too_long left env text h = sym (ap (option_map shell_words) (ap (λ o. fold (expanded_fitting left) o env) (exceeds left text h) ∙ fitting-none left env))
+
+pub words-from : (left : ℕ) (env : List Variable) (text : List ℕ) (within : Option (List ℕ)) → nat_le (length text) left ≡ true → fold (expanded_fitting left) (Some text) env ≡ within → option_map shell_words within ≡ option_map shell_words (expanded_within left env text)
+words-from left env text within h is = sym (ap (option_map shell_words) (ap (λ o. fold (expanded_fitting left) o env) (fits left text h) ∙ is))
+
+-- what a reference says, by whether there is one
+module _ (left : ℕ) (env : List Variable) (text : List ℕ) where
+  abbrev FirstIs : Option Reference → Type 0
+  FirstIs o = MatchOption o
+      ((left : ℕ) → fold (expanded_fitting left) (Some text) env ≡ Some text)
+      (λ r. (left : ℕ) → fold (expanded_fitting left) (Some text) env ≡ fold (expanded_fitting left) (fitting left (replaced (36 ∷ r.name.now) r.value.now text)) (map pair_of r.behind.now))
+
+  pub first-none : (o : Option Reference) → o ≡ None → FirstIs o → fold (expanded_fitting left) (Some text) env ≡ Some text
+  first-none None is h = h left
+  first-none (Some r) is h = cc
+
+  pub first-some : (o : Option Reference) (r : Reference) → o ≡ Some r → FirstIs o → fold (expanded_fitting left) (Some text) env ≡ fold (expanded_fitting left) (fitting left (replaced (36 ∷ r.name.now) r.value.now text)) (map pair_of r.behind.now)
+  first-some None r is h = cc
+  first-some (Some q) r is h =
+      let same : q ≡ r = cc in
+      subst (λ (x : Reference). fold (expanded_fitting left) (Some text) env ≡ fold (expanded_fitting left) (fitting left (replaced (36 ∷ x.name.now) x.value.now text)) (map pair_of x.behind.now)) same (h left)
+
+-- what writing a reference says, by whether it fits
+module _ (left : ℕ) (out name value after new : List ℕ) where
+  abbrev WritesIs : Option (Bor (List ℕ)) → Type 0
+  WritesIs o = MatchOption o
+      (fitting left (out ++ replaced (36 ∷ name) value (36 ∷ after)) ≡ None)
+      (λ rest. new ++ replaced (36 ∷ name) value rest.now ≡ out ++ replaced (36 ∷ name) value (36 ∷ after))
+
+  pub written-none : (o : Option (Bor (List ℕ))) → o ≡ None → WritesIs o → fitting left (out ++ replaced (36 ∷ name) value (36 ∷ after)) ≡ None
+  written-none None is h = h
+  written-none (Some r) is h = cc
+
+  pub written-some : (o : Option (Bor (List ℕ))) (r : Bor (List ℕ)) → o ≡ Some r → WritesIs o → new ++ replaced (36 ∷ name) value r.now ≡ out ++ replaced (36 ∷ name) value (36 ∷ after)
+  written-some None r is h = cc
+  written-some (Some q) r is h =
+      let same : q ≡ r = cc in
+      subst (λ (x : Bor (List ℕ)). new ++ replaced (36 ∷ name) value x.now ≡ out ++ replaced (36 ∷ name) value (36 ∷ after)) same h

@@ -1,0 +1,254 @@
+-- What a line says within a limit, and which line is the first that exceeds it.
+use Rattle.std.proofs.Common.{◌≡◌, ℕ, ◌+◌, ◌-◌, nat_le, arith, Bool, true, false, cond, List, [], ◌∷◌, Option, Some, None, Result, Ok, Err, refl, ap, sym, ◌∙◌, subst, IfOk}
+use Rattle.std.specs.List.{enumerate_from}
+use Rattle.std.specs.Option.{option_map, is_some}
+use Rattle.std.specs.Result.{IsErrAnd}
+use Rattle.std.specs.Str.{is_utf8, IsUtf8}
+use Rattle.std.specs.Str.Lines.{lines}
+use Rattle.std.specs.declared.alloc.AllocError.{AllocError}
+use Rattle.std.proofs.lemmas.Bool.{false≢true}
+use Rattle.std.proofs.lemmas.Str.{IsUtf8-from_is_utf8, is_utf8-from_IsUtf8}
+use Rattle.texts.specs.declared.fault.Fault.{Fault}
+use Rattle.texts.specs.declared.fault.Fault.TheVariants.{Memory}
+use Rattle.texts.specs.Fault.{UnlessMemory, UnlessMemoryIs}
+use Rattle.shell_words.specs.Shell.Splitting.{shell_words}
+use Rattle.dry_runs.specs.declared.commands.DryRun.{DryRun}
+use Rattle.dry_runs.specs.declared.limit.LimitedFault.{LimitedFault}
+use Rattle.dry_runs.specs.declared.limit.LimitedFault.TheVariants.{TooLong}
+use Rattle.dry_runs.specs.declared.limit.LimitedFault.TheVariants as limited
+use Rattle.dry_runs.specs.declared.statement.Statement.{Statement}
+use Rattle.dry_runs.specs.declared.statement.Statement.TheVariants.{NotUtf8}
+use Rattle.dry_runs.specs.CommandLines.{CommandLine}
+use Rattle.dry_runs.specs.DryRun.{LookUp, Meaning, Ignored, Assigns, Runs, Bad, meaning, meanings, meaning_found, meaning_by_path, environment_after, fault_of, run_of_meanings, dry_run_of}
+use Rattle.dry_runs.specs.DryRunLines.{marked_text, numbered_lines}
+use Rattle.dry_runs.specs.Environment.{Variable, assignment, expanded}
+use Rattle.dry_runs.specs.Limit.{UnlessMemoryWithin, expanded_within, fits_assigned, fits_marked, text_fits, stated_within, held_by, left_behind, left_behind_line, too_long_from, first_too_long, answer_within, dry_run_within, without_limit}
+use Rattle.dry_runs.specs.Reading.{dry_run_seen, dry_run_seen_within, meaning_stated, found_or_fault, said_left, said_next, next_within, next_held, with_variable, with_command}
+use Rattle.dry_runs.specs.Statement.{stated, stated_marked, stated_assigned, stated_by_words}
+use Rattle.dry_runs.proofs.FittingLemmas.{within-expanded}
+use Rattle.dry_runs.proofs.ReadingLemmas.{environment-next, said_with, not_found-next, line-refused}
+use Rattle.dry_runs.proofs.StatementLemmas.{meaning-stated}
+
+-- a command, by its text
+pub command-within : (left : ℕ) (env : List Variable) (text : List ℕ) (within : Option (List ℕ)) → expanded_within left env text ≡ within → option_map stated_by_words (option_map shell_words within) ≡ cond {A = Option Statement} (is_some within) (Some (stated_by_words (shell_words (expanded env text)))) None
+command-within left env text None is = refl
+command-within left env text (Some t) is = ap (λ e. Some (stated_by_words (shell_words e))) (sym (within-expanded left env text t is))
+
+pub marked-command : (left : ℕ) (env : List Variable) (text : List ℕ) (assigned : Option Variable) → None ≡ assigned → option_map stated_by_words (option_map shell_words (expanded_within left env text)) ≡ cond {A = Option Statement} (fits_assigned left env text assigned) (Some (stated_assigned env text assigned)) None
+marked-command left env text None is = command-within left env text (expanded_within left env text) refl
+marked-command left env text (Some v) is = cc
+
+pub within-no_text : (left : ℕ) (env : List Variable) (line : List ℕ) → (IsUtf8 line → ⊥) → Some NotUtf8 ≡ stated_within left env line
+within-no_text left env line h =
+    elim (is_utf8 line) as (λ b. is_utf8 line ≡ b → Some NotUtf8 ≡ cond {A = Option Statement} (cond b (fits_marked left env (marked_text line)) true) (Some (cond b (stated_marked env (marked_text line)) NotUtf8)) None)
+    [ true ↦ λ e. absurd (h (IsUtf8-from_is_utf8 line e)) | false ↦ λ e. refl ] refl
+
+abbrev marked_within : ℕ → List Variable → List ℕ → Option Statement
+marked_within left env text = cond {A = Option Statement} (fits_marked left env (marked_text text)) (Some (stated_marked env (marked_text text))) None
+
+same-within : (left : ℕ) (env : List Variable) (text line : List ℕ) → text ≡ line → IsUtf8 line → marked_within left env text ≡ stated_within left env line
+same-within left env text line same h =
+    ap (marked_within left env) same
+    ∙ sym (ap (λ b. cond {A = Option Statement} (cond b (fits_marked left env (marked_text line)) true) (Some (cond b (stated_marked env (marked_text line)) NotUtf8)) None) (is_utf8-from_IsUtf8 line h))
+
+pub within-text : (left : ℕ) (env : List Variable) (text line : List ℕ) (r : Result (Option Statement) AllocError) → text ≡ line → IsUtf8 line → IfOk r (λ s. s ≡ marked_within left env text) → IfOk r (λ s. s ≡ stated_within left env line)
+within-text left env text line r same h told = subst (λ q. IfOk r (λ s. s ≡ q)) (same-within left env text line same h) told
+
+-- a statement within a limit is the one without
+pub stated-some : (fits : Bool) (s t : Statement) → Some s ≡ cond {A = Option Statement} fits (Some t) None → s ≡ t
+stated-some true s t h = cc
+stated-some false s t h = cc
+
+stated-fits : (fits : Bool) (s t : Statement) → Some s ≡ cond {A = Option Statement} fits (Some t) None → fits ≡ true
+stated-fits true s t h = refl
+stated-fits false s t h = cc
+
+stated-none : (fits : Bool) (t : Statement) → None ≡ cond {A = Option Statement} fits (Some t) None → fits ≡ false
+stated-none true t h = cc
+stated-none false t h = refl
+
+-- A line that is read with a look-up and a working directory.
+module _ (which : LookUp) (run : ℕ) (cwd : List ℕ) where
+  pub line-too_long : (left number : ℕ) (env : List Variable) (line : List ℕ) (said : Result DryRun Fault) → None ≡ stated_within left env line → next_within run number (left_behind_line which run cwd left env (number, line)) said ≡ Err (TooLong run number)
+  line-too_long left number env line said h =
+      ap (λ b. next_within run number (cond {A = Option ℕ} b (left_behind left (held_by (meaning which run cwd env (number, line)))) None) said) (stated-none (text_fits left env line) (stated env line) h)
+
+  pub line-fits : (left number : ℕ) (s : DryRun) (line : List ℕ) (statement : Statement) → Some statement ≡ stated_within left s.env line → next_held run number left s (meaning_stated which run cwd number s.env statement) ≡ next_within run number (left_behind_line which run cwd left s.env (number, line)) (said_next s (meaning which run cwd s.env (number, line)))
+  line-fits left number s line statement h =
+      let m = meaning which run cwd s.env (number, line) in
+      ap (λ t. next_held run number left s (meaning_stated which run cwd number s.env t)) (stated-some (text_fits left s.env line) statement (stated s.env line) h)
+      ∙ ap (next_held run number left s) (meaning-stated which run cwd number s.env line)
+      ∙ sym (ap (λ b. next_within run number (cond {A = Option ℕ} b (left_behind left (held_by m)) None) (said_next s m)) (stated-fits (text_fits left s.env line) statement (stated s.env line) h))
+
+-- what a step within a limit says of the step without one
+next-ok : (run number : ℕ) (room : Option ℕ) (said : Result DryRun Fault) (t : DryRun) (less : ℕ) → next_within run number room said ≡ Ok (t, less) → (room ≡ Some less) × (said ≡ Ok t)
+next-ok run number None said t less h = cc
+next-ok run number (Some left) (Ok s) t less h =
+    let same : (s, left) ≡ (t, less) = cc in
+    (ap (λ (x : DryRun × ℕ). Some x.1) same, ap (λ (x : DryRun × ℕ). Ok x.0) same)
+next-ok run number (Some left) (Err fault) t less h = cc
+
+next-fault : (run number : ℕ) (room : Option ℕ) (said : Result DryRun Fault) (fault : Fault) → next_within run number room said ≡ Err (limited.Fault fault) → (is_some room ≡ true) × (said ≡ Err fault)
+next-fault run number None said fault h = cc
+next-fault run number (Some left) (Ok s) fault h = cc
+next-fault run number (Some left) (Err f) fault h =
+    let same : limited.Fault f ≡ limited.Fault fault = cc in
+    let faults : f ≡ fault = cc in
+    (refl, ap Err faults)
+
+next-long : (run number : ℕ) (room : Option ℕ) (said : Result DryRun Fault) (r n : ℕ) → next_within run number room said ≡ Err (TooLong r n) → (room ≡ None) × (TooLong run number ≡ TooLong r n)
+next-long run number None said r n h = let same : TooLong run number ≡ TooLong r n = cc in (refl, same)
+next-long run number (Some left) (Ok s) r n h = cc
+next-long run number (Some left) (Err f) r n h = cc
+
+fault-none : (s t : DryRun) (m : Meaning) → said_next s m ≡ Ok t → fault_of m ≡ None
+fault-none s t Ignored e = refl
+fault-none s t (Assigns v) e = refl
+fault-none s t (Runs command) e = refl
+fault-none s t (Bad fault) e = cc
+
+fault-some : (s : DryRun) (m : Meaning) (fault : Fault) → said_next s m ≡ Err fault → fault_of m ≡ Some fault
+fault-some s Ignored fault e = cc
+fault-some s (Assigns v) fault e = cc
+fault-some s (Runs command) fault e = cc
+fault-some s (Bad f) fault e = let same : f ≡ fault = cc in ap Some same
+
+from-fault : (number : ℕ) (fault : Fault) (room : Option ℕ) (rest : ℕ → Option ℕ) → is_some room ≡ true → too_long_from number (Some fault) room rest ≡ None
+from-fault number fault None rest h = absurd (false≢true h)
+from-fault number fault (Some left) rest h = refl
+
+from-none : (number : ℕ) (fault : Option Fault) (rest : ℕ → Option ℕ) → too_long_from number fault None rest ≡ Some number
+from-none number None rest = refl
+from-none number (Some fault) rest = refl
+
+-- one line, and the lines behind it
+module _ (which : LookUp) (run : ℕ) (cwd : List ℕ) where
+  abbrev room_at : ℕ → DryRun → ℕ → List ℕ → Option ℕ
+  room_at left s number line = left_behind_line which run cwd left s.env (number, line)
+
+  abbrev said_at : DryRun → ℕ → List ℕ → Result DryRun Fault
+  said_at s number line = said_next s (meaning which run cwd s.env (number, line))
+
+  abbrev rest_at : DryRun → ℕ → List ℕ → List ℕ → ℕ → Option ℕ
+  rest_at s number line behind less = first_too_long which run cwd less (environment_after which run cwd s.env (meaning which run cwd s.env (number, line))) (enumerate_from (number + 1) (lines behind))
+
+  first-cut : (s : DryRun) (left number : ℕ) (line rest behind : List ℕ) → lines rest ≡ line ∷ lines behind →
+      first_too_long which run cwd left s.env (enumerate_from number (lines rest)) ≡ too_long_from number (fault_of (meaning which run cwd s.env (number, line))) (room_at left s number line) (rest_at s number line behind)
+  first-cut s left number line rest behind cut = ap (λ ls. first_too_long which run cwd left s.env (enumerate_from number ls)) cut
+
+  pub within-next : (s t : DryRun) (left less number : ℕ) (line rest behind : List ℕ) → lines rest ≡ line ∷ lines behind → next_within run number (room_at left s number line) (said_at s number line) ≡ Ok (t, less) →
+      (said_at s number line ≡ Ok t) × (first_too_long which run cwd less t.env (enumerate_from (number + 1) (lines behind)) ≡ first_too_long which run cwd left s.env (enumerate_from number (lines rest)))
+  within-next s t left less number line rest behind cut e =
+      let m = meaning which run cwd s.env (number, line) in
+      let parts = next-ok run number (room_at left s number line) (said_at s number line) t less e in (
+        parts.1,
+        sym (first-cut s left number line rest behind cut
+            ∙ ap (λ f. too_long_from number f (room_at left s number line) (rest_at s number line behind)) (fault-none s t m parts.1)
+            ∙ ap (λ r. too_long_from number None r (rest_at s number line behind)) parts.0
+            ∙ ap (λ env. first_too_long which run cwd less env (enumerate_from (number + 1) (lines behind))) (environment-next which run cwd s t m parts.1)),
+      )
+
+  pub within-fault : (s : DryRun) (left number : ℕ) (line rest behind : List ℕ) (fault : Fault) → lines rest ≡ line ∷ lines behind → next_within run number (room_at left s number line) (said_at s number line) ≡ Err (limited.Fault fault) →
+      (said_at s number line ≡ Err fault) × (first_too_long which run cwd left s.env (enumerate_from number (lines rest)) ≡ None)
+  within-fault s left number line rest behind fault cut e =
+      let m = meaning which run cwd s.env (number, line) in
+      let parts = next-fault run number (room_at left s number line) (said_at s number line) fault e in (
+        parts.1,
+        first-cut s left number line rest behind cut
+            ∙ ap (λ f. too_long_from number f (room_at left s number line) (rest_at s number line behind)) (fault-some s m fault parts.1)
+            ∙ from-fault number fault (room_at left s number line) (rest_at s number line behind) parts.0,
+      )
+
+  pub within-long : (s : DryRun) (left number : ℕ) (line rest behind : List ℕ) (r n : ℕ) → lines rest ≡ line ∷ lines behind → next_within run number (room_at left s number line) (said_at s number line) ≡ Err (TooLong r n) →
+      (TooLong run number ≡ TooLong r n) × (first_too_long which run cwd left s.env (enumerate_from number (lines rest)) ≡ Some number)
+  within-long s left number line rest behind r n cut e =
+      let m = meaning which run cwd s.env (number, line) in
+      let parts = next-long run number (room_at left s number line) (said_at s number line) r n e in (
+        parts.1,
+        first-cut s left number line rest behind cut
+            ∙ ap (λ room. too_long_from number (fault_of m) room (rest_at s number line behind)) parts.0
+            ∙ from-none number (fault_of m) (rest_at s number line behind),
+      )
+
+-- a refusal of a part is one of the whole
+is-refused : {P Q : Type 0} (fault : Fault) → (P → Q) → UnlessMemoryIs fault P → UnlessMemoryIs fault Q
+is-refused Memory h e = tt
+is-refused fault h e = h e
+
+pub refused-within : {X Y : Type 0} (fault : LimitedFault) (part : Result X LimitedFault) (whole : Result Y LimitedFault) → ((f : LimitedFault) → part ≡ Err f → whole ≡ Err f) → UnlessMemoryWithin {T = X} (Err fault) part → UnlessMemoryWithin {T = Y} (Err fault) whole
+refused-within (limited.Fault fault) part whole h e = is-refused fault (h (limited.Fault fault)) e
+refused-within (TooLong run line) part whole h e = h (TooLong run line) e
+
+-- a fault that is passed on
+pub passed-left : (r : Result ℕ LimitedFault) (s : DryRun) (fault : LimitedFault) (whole : Result (DryRun × ℕ) LimitedFault) → IsErrAnd r (λ f. f ≡ fault) → UnlessMemoryWithin {T = DryRun × ℕ} (Err fault) whole → UnlessMemoryWithin (said_left r s) whole
+passed-left (Ok x) s fault whole is told = absurd is
+passed-left (Err f) s fault whole is told = subst (λ (g : LimitedFault). UnlessMemoryWithin {T = DryRun × ℕ} (Err g) whole) (sym is) told
+
+pub passed-within : (r : Result DryRun LimitedFault) (fault : LimitedFault) (whole : Result (List CommandLine × List Variable) LimitedFault) → IsErrAnd r (λ f. f ≡ fault) → UnlessMemoryWithin {T = List CommandLine × List Variable} (Err fault) whole → UnlessMemoryWithin (dry_run_seen_within r) whole
+passed-within (Ok x) fault whole is told = absurd is
+passed-within (Err f) fault whole is told = subst (λ (g : LimitedFault). UnlessMemoryWithin {T = List CommandLine × List Variable} (Err g) whole) (sym is) told
+
+-- a program that isn't found
+limited-next : (run number : ℕ) (room : Option ℕ) (said : Result DryRun Fault) (fault : Fault) → is_some room ≡ true → said ≡ Err fault → next_within run number room said ≡ Err (limited.Fault fault)
+limited-next run number None said fault h e = absurd (false≢true h)
+limited-next run number (Some left) said fault h e = ap (next_within run number (Some left)) e
+
+nothing-held : (left : ℕ) → nat_le 0 left ≡ true
+nothing-held left = grind arith
+
+not_found-held : (which : LookUp) (run : ℕ) (cwd : List ℕ) (s : DryRun) (left line : ℕ) (program : List ℕ) (words : List (List ℕ)) (found : Option (List ℕ)) (fault : Fault) → found_or_fault program found ≡ Err fault → next_held run line left s (meaning_found which run cwd line program words found) ≡ Err (limited.Fault fault)
+not_found-held which run cwd s left line program words None fault h =
+    ap (next_within run line (left_behind left 0)) (not_found-next which run cwd s line program words None fault h)
+    ∙ ap (λ b. next_within run line (cond {A = Option ℕ} b (Some (left - 0)) None) (Err fault)) (nothing-held left)
+not_found-held which run cwd s left line program words (Some path) fault h = cc
+
+pub not_found-passed : (r : Result ℕ LimitedFault) (s : DryRun) (which : LookUp) (run : ℕ) (cwd : List ℕ) (left number : ℕ) (program path : List ℕ) (words : List (List ℕ)) (first : Option (List ℕ)) (fault : Fault) → Some path ≡ first → IsErrAnd r (λ f. f ≡ limited.Fault fault) → UnlessMemory {T = List ℕ} (Err fault) (found_or_fault program (which program path cwd)) → UnlessMemoryWithin (said_left r s) (next_held run number left s (meaning_by_path which run cwd number program words first))
+not_found-passed r s which run cwd left number program path words first fault is passed told =
+    passed-left r s (limited.Fault fault) (next_held run number left s (meaning_by_path which run cwd number program words first)) passed
+    (subst (λ p. UnlessMemoryWithin {T = DryRun × ℕ} (Err (limited.Fault fault)) (next_held run number left s (meaning_by_path which run cwd number program words p))) is
+    (is-refused fault (λ e. not_found-held which run cwd s left number program words (which program path cwd) fault e) told))
+
+-- the whole run
+whole-next : (which : LookUp) (run limit : ℕ) (bytes cwd : List ℕ) (long : Option ℕ) (said : Result (List CommandLine × List Variable) Fault) → first_too_long which run cwd limit [] (numbered_lines bytes) ≡ long → dry_run_of run bytes cwd which ≡ said → dry_run_within limit run bytes cwd which ≡ answer_within run long said
+whole-next which run limit bytes cwd long said over all = ap (λ l. answer_within run l (dry_run_of run bytes cwd which)) over ∙ ap (answer_within run long) all
+
+pub whole-read : (which : LookUp) (run limit : ℕ) (bytes cwd : List ℕ) (said : List CommandLine × List Variable) → first_too_long which run cwd limit [] (numbered_lines bytes) ≡ None → dry_run_of run bytes cwd which ≡ Ok said → dry_run_within limit run bytes cwd which ≡ Ok said
+whole-read which run limit bytes cwd said over all = whole-next which run limit bytes cwd None (Ok said) over all
+
+pub whole-fault : (which : LookUp) (run limit : ℕ) (bytes cwd : List ℕ) (fault : Fault) → first_too_long which run cwd limit [] (numbered_lines bytes) ≡ None → dry_run_of run bytes cwd which ≡ Err fault → dry_run_within limit run bytes cwd which ≡ Err (limited.Fault fault)
+whole-fault which run limit bytes cwd fault over all = whole-next which run limit bytes cwd None (Err fault) over all
+
+pub whole-long : (which : LookUp) (run limit line : ℕ) (bytes cwd : List ℕ) → first_too_long which run cwd limit [] (numbered_lines bytes) ≡ Some line → dry_run_within limit run bytes cwd which ≡ Err (TooLong run line)
+whole-long which run limit line bytes cwd over = whole-next which run limit bytes cwd (Some line) (dry_run_of run bytes cwd which) over refl
+
+-- a line at which the reading ends
+pub refusal : (which : LookUp) (run limit : ℕ) (bytes cwd : List ℕ) (s : DryRun) (left number : ℕ) (line rest behind : List ℕ) → lines rest ≡ line ∷ lines behind →
+    said_with s (run_of_meanings (meanings which run cwd s.env (enumerate_from number (lines rest)))) ≡ dry_run_of run bytes cwd which →
+    first_too_long which run cwd left s.env (enumerate_from number (lines rest)) ≡ first_too_long which run cwd limit [] (numbered_lines bytes) →
+    (f : LimitedFault) → next_within run number (left_behind_line which run cwd left s.env (number, line)) (said_next s (meaning which run cwd s.env (number, line))) ≡ Err f → dry_run_within limit run bytes cwd which ≡ Err f
+refusal which run limit bytes cwd s left number line rest behind cut whole over (limited.Fault fault) e =
+    let parts = within-fault which run cwd s left number line rest behind fault cut e in
+    whole-fault which run limit bytes cwd fault (sym over ∙ parts.1) (sym whole ∙ line-refused which run cwd s number line rest behind fault cut parts.0)
+refusal which run limit bytes cwd s left number line rest behind cut whole over (TooLong r n) e =
+    let parts = within-long which run cwd s left number line rest behind r n cut e in
+    whole-long which run limit number bytes cwd (sym over ∙ parts.1) ∙ ap Err parts.0
+
+-- a run that is read within a limit and isn't too long is the run
+pub unlimited : (run : ℕ) (long : Option ℕ) (said : Result (List CommandLine × List Variable) Fault) (run_said : List CommandLine × List Variable) → answer_within run long said ≡ Ok run_said → said ≡ Ok run_said
+unlimited run (Some line) said read h = cc
+unlimited run None (Ok s) read h = let same : s ≡ read = cc in ap Ok same
+unlimited run None (Err fault) read h = cc
+
+unlimited-fault : (run : ℕ) (long : Option ℕ) (said : Result (List CommandLine × List Variable) Fault) (fault : Fault) → answer_within run long said ≡ Err (limited.Fault fault) → said ≡ Err fault
+unlimited-fault run (Some line) said fault h = cc
+unlimited-fault run None (Ok s) fault h = cc
+unlimited-fault run None (Err f) fault h =
+    let same : limited.Fault f ≡ limited.Fault fault = cc in
+    let faults : f ≡ fault = cc in
+    ap Err faults
+
+pub unlimited-refused : (run : ℕ) (long : Option ℕ) (said : Result (List CommandLine × List Variable) Fault) (fault : LimitedFault) (answered : Fault) → answered ≡ without_limit fault → UnlessMemoryWithin {T = List CommandLine × List Variable} (Err fault) (answer_within run long said) → UnlessMemory {T = List CommandLine × List Variable} (Err answered) said
+unlimited-refused run long said (limited.Fault fault) answered is told =
+    subst (λ (f : Fault). UnlessMemory {T = List CommandLine × List Variable} (Err f) said) (sym is) (is-refused fault (unlimited-fault run long said fault) told)
+unlimited-refused run long said (TooLong r n) answered is told =
+    subst (λ (f : Fault). UnlessMemory {T = List CommandLine × List Variable} (Err f) said) (sym is) tt
