@@ -45,6 +45,9 @@ records! {
     "zigrunk_range" sys::Range { offset, length }
     "zigrunk_text_answer" sys::TextAnswer { status, length }
     "zigrunk_list_answer" sys::ListAnswer { status, count, length }
+    "zigrunk_group" sys::Group { commands, stage, reserved }
+    "zigrunk_command" sys::Command { arguments, variables, program, cwd, group, run, line, reason, cacheable }
+    "zigrunk_records_answer" sys::RecordsAnswer { status, groups, commands, ranges, length }
 }
 
 /// The folder of the header: the library's, or the repository's.

@@ -88,6 +88,41 @@ pub(crate) struct ListAnswer {
     pub(crate) length: usize,
 }
 
+/// A group of a plan.
+#[repr(C)]
+#[derive(Clone, Copy, Debug, PartialEq, Eq)]
+pub(crate) struct Group {
+    pub(crate) commands: Range,
+    pub(crate) stage: u32,
+    pub(crate) reserved: u32,
+}
+
+/// A command of a plan, or one that the plan dropped.
+#[repr(C)]
+#[derive(Clone, Copy, Debug, PartialEq, Eq)]
+pub(crate) struct Command {
+    pub(crate) arguments: Range,
+    pub(crate) variables: Range,
+    pub(crate) program: usize,
+    pub(crate) cwd: usize,
+    pub(crate) group: usize,
+    pub(crate) run: usize,
+    pub(crate) line: usize,
+    pub(crate) reason: u32,
+    pub(crate) cacheable: u32,
+}
+
+/// The answer of a call that writes a plan as records.
+#[repr(C)]
+#[derive(Clone, Copy)]
+pub(crate) struct RecordsAnswer {
+    pub(crate) status: i32,
+    pub(crate) groups: usize,
+    pub(crate) commands: usize,
+    pub(crate) ranges: usize,
+    pub(crate) length: usize,
+}
+
 extern "C" {
     pub(crate) fn zigrunk_abi_version() -> u32;
     pub(crate) fn zigrunk_version(out: *mut u8, out_size: usize) -> TextAnswer;
@@ -126,4 +161,15 @@ extern "C" {
         out_size: usize,
     ) -> ListAnswer;
     pub(crate) fn zigrunk_plan(call: *const PlanCall<'_>, form: u32, out: *mut u8, out_size: usize) -> TextAnswer;
+    pub(crate) fn zigrunk_plan_records(
+        call: *const PlanCall<'_>,
+        groups: *mut Group,
+        groups_size: usize,
+        commands: *mut Command,
+        commands_size: usize,
+        ranges: *mut Range,
+        ranges_size: usize,
+        out: *mut u8,
+        out_size: usize,
+    ) -> RecordsAnswer;
 }
