@@ -52,7 +52,13 @@ fn print(groups: &[Group]) -> Result<(), zigrunk::Error> {
         println!("group {number}, {:?}", group.stage);
         for Subcommand { program, arguments, variables, cwd, cacheable } in &group.commands {
             let cached = if *cacheable { "cached" } else { "run" };
-            println!("    {cached} in {}, {} variables: {} {}", cwd.display(), variables.len(), program.display(), quote(arguments)?);
+            println!(
+                "    {cached} in {}, {} variables: {} {}",
+                cwd.display(),
+                variables.len(),
+                program.display(),
+                quote(arguments)?
+            );
         }
     }
     Ok(())
@@ -70,7 +76,8 @@ fn main() -> Result<(), Box<dyn Error>> {
     let plan = plan(&call)?;
     print(&owned(&plan))?;
     for command in plan.dropped() {
-        println!("dropped, {:?}: {} {}", command.reason(), command.program(), quote(command.arguments())?);
+        let reason = command.reason().map(|reason| format!("{reason:?}")).unwrap_or_default();
+        println!("dropped, {reason}: {} {}", command.program(), quote(command.arguments())?);
     }
     Ok(())
 }
