@@ -42,6 +42,8 @@ records! {
         dry1, dry2, cwd, tmp, flag, keep_dir, variables, variables_count, suffixes, suffixes_count, programs, programs_count, keeps,
         host_compiler, reserved
     }
+    "zigrunk_line_call" sys::LineCall<'_> { cwd, words, words_count, variables, variables_count, tool, reserved }
+    "zigrunk_nvcc_call" sys::NvccCall<'_> { cwd, tmp, nvcc, words, words_count, variables, variables_count, reserved }
     "zigrunk_range" sys::Range { offset, length }
     "zigrunk_text_answer" sys::TextAnswer { status, length }
     "zigrunk_list_answer" sys::ListAnswer { status, count, length }

@@ -42,6 +42,7 @@ mod plan;
 mod programs;
 mod sys;
 mod texts;
+mod tools;
 mod words;
 
 pub use call::{plan_text, Form, HostCompiler, PlanCall};
@@ -49,6 +50,7 @@ pub use error::Error;
 pub use plan::{plan, Command, Commands, Group, Groups, Plan, Reason, Stage, Variables};
 pub use programs::{candidates, find_program, find_programs, lookups, FoundProgram, Lookup};
 pub use texts::{Texts, TextsIter};
+pub use tools::{line, line_words, nvcc_line, remap, LineCall, NvccCall, NvccLine, Tool};
 pub use words::{quote, split};
 
 /// The library's version, such as `0.1.0`.

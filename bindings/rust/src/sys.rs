@@ -31,6 +31,11 @@ pub(crate) struct Variable<'a> {
     pub(crate) value: Text<'a>,
 }
 
+/// Variables as records.
+pub(crate) fn variables(pairs: &[(String, String)]) -> Vec<Variable<'_>> {
+    pairs.iter().map(|(name, value)| Variable { name: name.as_str().into(), value: value.as_str().into() }).collect()
+}
+
 /// A row of the table that answers look-ups.
 #[repr(C)]
 #[derive(Clone, Copy)]
@@ -60,6 +65,33 @@ pub(crate) struct PlanCall<'a> {
     pub(crate) programs_count: usize,
     pub(crate) keeps: u32,
     pub(crate) host_compiler: u32,
+    pub(crate) reserved: u64,
+}
+
+/// A line of a tool.
+#[repr(C)]
+#[derive(Clone, Copy)]
+pub(crate) struct LineCall<'a> {
+    pub(crate) cwd: Text<'a>,
+    pub(crate) words: *const Text<'a>,
+    pub(crate) words_count: usize,
+    pub(crate) variables: *const Variable<'a>,
+    pub(crate) variables_count: usize,
+    pub(crate) tool: u32,
+    pub(crate) reserved: u32,
+}
+
+/// A line of nvcc.
+#[repr(C)]
+#[derive(Clone, Copy)]
+pub(crate) struct NvccCall<'a> {
+    pub(crate) cwd: Text<'a>,
+    pub(crate) tmp: Text<'a>,
+    pub(crate) nvcc: Text<'a>,
+    pub(crate) words: *const Text<'a>,
+    pub(crate) words_count: usize,
+    pub(crate) variables: *const Variable<'a>,
+    pub(crate) variables_count: usize,
     pub(crate) reserved: u64,
 }
 
@@ -136,6 +168,31 @@ extern "C" {
         out_size: usize,
     ) -> ListAnswer;
     pub(crate) fn zigrunk_quote(words: *const Text<'_>, words_count: usize, out: *mut u8, out_size: usize) -> TextAnswer;
+    pub(crate) fn zigrunk_line(call: *const LineCall<'_>, out: *mut u8, out_size: usize) -> TextAnswer;
+    pub(crate) fn zigrunk_line_words(
+        call: *const LineCall<'_>,
+        ranges: *mut Range,
+        ranges_size: usize,
+        out: *mut u8,
+        out_size: usize,
+    ) -> ListAnswer;
+    pub(crate) fn zigrunk_nvcc_line(
+        call: *const NvccCall<'_>,
+        ranges: *mut Range,
+        ranges_size: usize,
+        out: *mut u8,
+        out_size: usize,
+    ) -> ListAnswer;
+    pub(crate) fn zigrunk_remap(
+        words: *const Text<'_>,
+        words_count: usize,
+        suffixes: *const Text<'_>,
+        suffixes_count: usize,
+        ranges: *mut Range,
+        ranges_size: usize,
+        out: *mut u8,
+        out_size: usize,
+    ) -> ListAnswer;
     pub(crate) fn zigrunk_lookups(
         dry1: *const u8,
         dry1_length: usize,
