@@ -175,6 +175,16 @@ python() {
     unset ZIGRUNK_LIBRARY PYTHONPATH
 }
 
+# grouped PROGRAM: the example in Rust that groups prints the groups and the commands of each plan, and which were dropped.
+grouped() {
+    local program=$1 name
+    for name in "${real_calls[@]}"; do
+        "$program" /w /t "$(cat "$data/$name.flag")" "$data/$name.dry1" "$data/$name.dry2" > "$scratch/groups" || return 1
+        diff <(sed -E 's/^(group [0-9]+|no|yes|dropped).*/\1/' "$data/$name.plan") \
+            <(sed -E 's/^    cached.*/yes/; s/^    run.*/no/; s/^(group [0-9]+|dropped),.*/\1/' "$scratch/groups") || return 1
+    done
+}
+
 # crate LIBRARY: the crate for Rust: its tests, its pages, and what clippy says of it. Cargo takes nothing from a network here, and
 # leaves nothing in the repository.
 crate() {
@@ -182,7 +192,8 @@ crate() {
     has cargo cc || return
     export ZIGRUNK_LIB_DIR=$library/lib CARGO_TARGET_DIR=$scratch/cargo
     check 'the tests of the crate' cargo test "${manifest[@]}"
-    check 'the script that its example writes' script "$library" "$CARGO_TARGET_DIR/debug/examples/shell"
+    check 'the script that an example of it writes' script "$library" "$CARGO_TARGET_DIR/debug/examples/shell"
+    check 'the groups that its other example prints' grouped "$CARGO_TARGET_DIR/debug/examples/groups"
     check 'the pages of the crate' env RUSTDOCFLAGS='-D warnings' cargo doc --no-deps "${manifest[@]}"
     if cargo clippy --version > /dev/null 2>&1; then
         check 'clippy on the crate' cargo clippy --all-targets "${manifest[@]}" -- -D warnings

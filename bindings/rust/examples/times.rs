@@ -6,7 +6,7 @@ use std::hint::black_box;
 use std::time::Instant;
 use std::{env, fs, process};
 
-use zigrunk::{candidates, lookups, plan_text, Form, FoundProgram, PlanCall};
+use zigrunk::{candidates, lookups, plan, FoundProgram, PlanCall};
 
 fn main() -> Result<(), Box<dyn Error>> {
     let words: Vec<String> = env::args().skip(1).collect();
@@ -22,7 +22,7 @@ fn main() -> Result<(), Box<dyn Error>> {
     let call = PlanCall { dry1: &dry1, dry2: &dry2, cwd, tmp, flag, programs: &programs, ..PlanCall::default() };
     let start = Instant::now();
     for _ in 0..count {
-        black_box(plan_text(black_box(&call), Form::Text)?);
+        black_box(plan(black_box(&call))?);
     }
     println!("{}", start.elapsed().as_nanos() / u128::from(count.max(1)));
     Ok(())

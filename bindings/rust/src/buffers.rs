@@ -4,7 +4,7 @@ use crate::sys::{ListAnswer, Range, TextAnswer};
 use crate::{Error, Texts};
 
 /// The least room for a text: a message fits.
-const LEAST: usize = 256;
+pub(crate) const LEAST: usize = 256;
 
 /// What the library writes is UTF-8, since it checks what it reads.
 pub(crate) fn utf8(bytes: Vec<u8>) -> String {

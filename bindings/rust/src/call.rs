@@ -65,7 +65,7 @@ pub struct PlanCall<'a> {
 impl PlanCall<'_> {
     /// Passes the call as the record of `zigrunk.h`.
     pub(crate) fn with_record<R>(&self, take: impl FnOnce(&sys::PlanCall<'_>) -> R) -> R {
-        let variables: Vec<_> = self.variables.iter().map(variable).collect();
+        let variables = sys::variables(self.variables);
         let suffixes: Vec<_> = self.suffixes.iter().map(|&suffix| Text::from(suffix)).collect();
         let programs: Vec<_> = self.programs.iter().map(row).collect();
         take(&sys::PlanCall {
@@ -91,10 +91,6 @@ impl PlanCall<'_> {
     pub(crate) fn dry_length(&self) -> usize {
         self.dry1.len() + self.dry2.len()
     }
-}
-
-fn variable((name, value): &(String, String)) -> sys::Variable<'_> {
-    sys::Variable { name: name.as_str().into(), value: value.as_str().into() }
 }
 
 fn row(program: &FoundProgram) -> sys::FoundProgram<'_> {

@@ -22,8 +22,10 @@ pub enum Error {
     BadSuffixes(String),
     /// The form can't represent the plan.
     Unwritable(String),
-    /// A line of a tool can't be read.
+    /// A line of a tool can't be read, or isn't to be cached.
     BadLine(String),
+    /// The line goes to nvcc as it is: the message has the reason.
+    ToNvcc(String),
     /// A status that a later library may have.
     Other {
         /// The status.
@@ -45,6 +47,7 @@ impl Error {
             7 => Error::BadSuffixes(message),
             8 => Error::Unwritable(message),
             9 => Error::BadLine(message),
+            10 => Error::ToNvcc(message),
             _ => Error::Other { status, message },
         }
     }
@@ -62,6 +65,7 @@ impl Error {
             Error::BadSuffixes(_) => 7,
             Error::Unwritable(_) => 8,
             Error::BadLine(_) => 9,
+            Error::ToNvcc(_) => 10,
             Error::Other { status, .. } => *status,
         }
     }
@@ -79,6 +83,7 @@ impl Error {
             | Error::BadSuffixes(message)
             | Error::Unwritable(message)
             | Error::BadLine(message)
+            | Error::ToNvcc(message)
             | Error::Other { message, .. } => message,
         }
     }

@@ -42,9 +42,14 @@ records! {
         dry1, dry2, cwd, tmp, flag, keep_dir, variables, variables_count, suffixes, suffixes_count, programs, programs_count, keeps,
         host_compiler, reserved
     }
+    "zigrunk_line_call" sys::LineCall<'_> { cwd, words, words_count, variables, variables_count, tool, reserved }
+    "zigrunk_nvcc_call" sys::NvccCall<'_> { cwd, tmp, nvcc, words, words_count, variables, variables_count, reserved }
     "zigrunk_range" sys::Range { offset, length }
     "zigrunk_text_answer" sys::TextAnswer { status, length }
     "zigrunk_list_answer" sys::ListAnswer { status, count, length }
+    "zigrunk_group" sys::Group { commands, stage, reserved }
+    "zigrunk_command" sys::Command { arguments, variables, program, cwd, group, run, line, reason, cacheable }
+    "zigrunk_records_answer" sys::RecordsAnswer { status, groups, commands, ranges, length }
 }
 
 /// The folder of the header: the library's, or the repository's.

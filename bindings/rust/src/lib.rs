@@ -6,7 +6,7 @@
 //!
 //! ```no_run
 //! use std::process::Command;
-//! use zigrunk::{find_programs, plan_text, Form, PlanCall};
+//! use zigrunk::{find_programs, plan, PlanCall};
 //!
 //! let (cwd, tmp) = ("/w", "/t");
 //! let dry1 = Command::new("nvcc").args(["--dryrun", "--keep", "-c", "k.cu"]).output()?.stderr;
@@ -15,9 +15,15 @@
 //! let variables: Vec<_> = std::env::vars().collect();
 //! let (dry1, dry2, variables, programs) = (&dry1, &dry2, &variables, &programs);
 //! let call = PlanCall { dry1, dry2, cwd, tmp, flag: "-c", variables, programs, ..PlanCall::default() };
-//! print!("{}", plan_text(&call, Form::Ninja)?);
+//! for (number, group) in plan(&call)?.groups().enumerate() {
+//!     for command in group.commands() {
+//!         println!("group {number}, cacheable {}: {}", command.is_cacheable(), command.program());
+//!     }
+//! }
 //! # Ok::<(), Box<dyn std::error::Error>>(())
 //! ```
+//!
+//! [`plan_text`] writes the same plan as JSON, as a Ninja file, as a shell script or for people.
 //!
 //! Calls share no state, so any number of threads may call. The same input always gives the same answer, unless an allocation fails.
 //!
@@ -32,15 +38,19 @@ mod call;
 mod error;
 #[cfg(test)]
 mod layout;
+mod plan;
 mod programs;
 mod sys;
 mod texts;
+mod tools;
 mod words;
 
 pub use call::{plan_text, Form, HostCompiler, PlanCall};
 pub use error::Error;
+pub use plan::{plan, Command, Commands, Group, Groups, Plan, Reason, Stage, Variables};
 pub use programs::{candidates, find_program, find_programs, lookups, FoundProgram, Lookup};
 pub use texts::{Texts, TextsIter};
+pub use tools::{line, line_words, nvcc_line, remap, LineCall, NvccCall, NvccLine, Tool};
 pub use words::{quote, split};
 
 /// The library's version, such as `0.1.0`.

@@ -31,6 +31,11 @@ pub(crate) struct Variable<'a> {
     pub(crate) value: Text<'a>,
 }
 
+/// Variables as records.
+pub(crate) fn variables(pairs: &[(String, String)]) -> Vec<Variable<'_>> {
+    pairs.iter().map(|(name, value)| Variable { name: name.as_str().into(), value: value.as_str().into() }).collect()
+}
+
 /// A row of the table that answers look-ups.
 #[repr(C)]
 #[derive(Clone, Copy)]
@@ -63,6 +68,33 @@ pub(crate) struct PlanCall<'a> {
     pub(crate) reserved: u64,
 }
 
+/// A line of a tool.
+#[repr(C)]
+#[derive(Clone, Copy)]
+pub(crate) struct LineCall<'a> {
+    pub(crate) cwd: Text<'a>,
+    pub(crate) words: *const Text<'a>,
+    pub(crate) words_count: usize,
+    pub(crate) variables: *const Variable<'a>,
+    pub(crate) variables_count: usize,
+    pub(crate) tool: u32,
+    pub(crate) reserved: u32,
+}
+
+/// A line of nvcc.
+#[repr(C)]
+#[derive(Clone, Copy)]
+pub(crate) struct NvccCall<'a> {
+    pub(crate) cwd: Text<'a>,
+    pub(crate) tmp: Text<'a>,
+    pub(crate) nvcc: Text<'a>,
+    pub(crate) words: *const Text<'a>,
+    pub(crate) words_count: usize,
+    pub(crate) variables: *const Variable<'a>,
+    pub(crate) variables_count: usize,
+    pub(crate) reserved: u64,
+}
+
 /// A part of an answer.
 #[repr(C)]
 #[derive(Clone, Copy, Debug, Default, PartialEq, Eq)]
@@ -88,6 +120,41 @@ pub(crate) struct ListAnswer {
     pub(crate) length: usize,
 }
 
+/// A group of a plan.
+#[repr(C)]
+#[derive(Clone, Copy, Debug, PartialEq, Eq)]
+pub(crate) struct Group {
+    pub(crate) commands: Range,
+    pub(crate) stage: u32,
+    pub(crate) reserved: u32,
+}
+
+/// A command of a plan, or one that the plan dropped.
+#[repr(C)]
+#[derive(Clone, Copy, Debug, PartialEq, Eq)]
+pub(crate) struct Command {
+    pub(crate) arguments: Range,
+    pub(crate) variables: Range,
+    pub(crate) program: usize,
+    pub(crate) cwd: usize,
+    pub(crate) group: usize,
+    pub(crate) run: usize,
+    pub(crate) line: usize,
+    pub(crate) reason: u32,
+    pub(crate) cacheable: u32,
+}
+
+/// The answer of a call that writes a plan as records.
+#[repr(C)]
+#[derive(Clone, Copy)]
+pub(crate) struct RecordsAnswer {
+    pub(crate) status: i32,
+    pub(crate) groups: usize,
+    pub(crate) commands: usize,
+    pub(crate) ranges: usize,
+    pub(crate) length: usize,
+}
+
 extern "C" {
     pub(crate) fn zigrunk_abi_version() -> u32;
     pub(crate) fn zigrunk_version(out: *mut u8, out_size: usize) -> TextAnswer;
@@ -101,6 +168,31 @@ extern "C" {
         out_size: usize,
     ) -> ListAnswer;
     pub(crate) fn zigrunk_quote(words: *const Text<'_>, words_count: usize, out: *mut u8, out_size: usize) -> TextAnswer;
+    pub(crate) fn zigrunk_line(call: *const LineCall<'_>, out: *mut u8, out_size: usize) -> TextAnswer;
+    pub(crate) fn zigrunk_line_words(
+        call: *const LineCall<'_>,
+        ranges: *mut Range,
+        ranges_size: usize,
+        out: *mut u8,
+        out_size: usize,
+    ) -> ListAnswer;
+    pub(crate) fn zigrunk_nvcc_line(
+        call: *const NvccCall<'_>,
+        ranges: *mut Range,
+        ranges_size: usize,
+        out: *mut u8,
+        out_size: usize,
+    ) -> ListAnswer;
+    pub(crate) fn zigrunk_remap(
+        words: *const Text<'_>,
+        words_count: usize,
+        suffixes: *const Text<'_>,
+        suffixes_count: usize,
+        ranges: *mut Range,
+        ranges_size: usize,
+        out: *mut u8,
+        out_size: usize,
+    ) -> ListAnswer;
     pub(crate) fn zigrunk_lookups(
         dry1: *const u8,
         dry1_length: usize,
@@ -126,4 +218,15 @@ extern "C" {
         out_size: usize,
     ) -> ListAnswer;
     pub(crate) fn zigrunk_plan(call: *const PlanCall<'_>, form: u32, out: *mut u8, out_size: usize) -> TextAnswer;
+    pub(crate) fn zigrunk_plan_records(
+        call: *const PlanCall<'_>,
+        groups: *mut Group,
+        groups_size: usize,
+        commands: *mut Command,
+        commands_size: usize,
+        ranges: *mut Range,
+        ranges_size: usize,
+        out: *mut u8,
+        out_size: usize,
+    ) -> RecordsAnswer;
 }

@@ -45,7 +45,7 @@ impl Texts {
 }
 
 /// The part of a text that a range says.
-fn cut(all: &str, range: Range) -> &str {
+pub(crate) fn cut(all: &str, range: Range) -> &str {
     &all[range.offset..range.offset + range.length]
 }
 

@@ -3,7 +3,10 @@
 use std::fs;
 use std::path::PathBuf;
 
-use zigrunk::{candidates, find_programs, lookups, plan_text, Error, Form, FoundProgram, HostCompiler, PlanCall};
+use zigrunk::{
+    candidates, find_programs, lookups, plan, plan_text, Command, Error, Form, FoundProgram, HostCompiler, Plan, PlanCall,
+    Reason, Stage,
+};
 
 const RUN: &[u8] = b"#$ PATH=/b\n#$ gcc -D__NVCC__ -E k.cu -o k.cpp1.ii\n#$ cicc --x k.gpu k.cpp1.ii -o k.ptx\n";
 
@@ -47,6 +50,75 @@ fn real_calls_are_planned_as_cudaplan_does() {
             assert!(plan_text(&call, form).unwrap().contains("gcc"), "{name}");
         }
     }
+}
+
+/// A plan as `cudaplan` prints it.
+fn printed(plan: &Plan) -> String {
+    let words = |command: Command<'_>| {
+        let arguments: Vec<&str> = command.arguments().collect();
+        [&[command.program()], arguments.as_slice()].concat().join(" ")
+    };
+    let mut lines = String::new();
+    for (number, group) in plan.groups().enumerate() {
+        lines += &format!("group {number}\n");
+        for command in group.commands() {
+            assert_eq!((command.group(), command.reason()), (Some(number), None));
+            let cacheable = if command.is_cacheable() { "yes" } else { "no" };
+            lines += &format!("{cacheable} cd {} && {}\n", command.cwd(), words(command));
+        }
+    }
+    for command in plan.dropped() {
+        assert_eq!((command.group(), command.cwd(), command.variables().len()), (None, "", 0));
+        let (line, run, reason) = (command.line(), command.run(), command.reason().unwrap());
+        lines += &format!("dropped {line} run {run} {reason:?} {}\n", words(command));
+    }
+    lines
+}
+
+#[test]
+fn real_calls_as_records_are_their_texts() {
+    for name in real_calls() {
+        let (dry1, dry2) = (read(&name, ".dry1"), read(&name, ".dry2"));
+        let flag = String::from_utf8(read(&name, ".flag")).unwrap();
+        let programs = first_candidates(&dry1, &dry2);
+        let call = PlanCall { flag: flag.trim(), dry2: &dry2, ..call(&dry1, &programs) };
+        let records = plan(&call).unwrap();
+        let text = String::from_utf8(read(&name, ".plan")).unwrap();
+        assert_eq!(printed(&records), text, "{name}");
+        let stages: Vec<Stage> = records.groups().map(|group| group.stage()).collect();
+        let last = stages.len() - 1;
+        assert!(stages.iter().enumerate().all(|(at, stage)| match at {
+            0 => *stage == Stage::Front,
+            _ if at == last => *stage == Stage::Final,
+            _ => *stage == Stage::Device,
+        }));
+        assert_eq!(records.commands().len(), records.groups().map(|group| group.commands().len()).sum::<usize>());
+    }
+}
+
+#[test]
+fn records_of_a_small_call() {
+    let run =
+        b"#$ PATH=/b\n#$ gcc -D__NVCC__ -E k.cu -o k.cpp1.ii\n#$ cicc k.cpp1.ii -o k.ptx\n#$ cicc none.ii -o n.ptx\n#$ rm k\n";
+    let programs = first_candidates(run, run);
+    let variables = [("PATH", "/old"), ("A", "1")].map(|(name, value)| (name.to_string(), value.to_string()));
+    let plan = plan(&PlanCall { variables: &variables, ..call(run, &programs) }).unwrap();
+    let cicc = plan.commands().next_back().unwrap();
+    assert_eq!((cicc.program(), cicc.cwd(), cicc.group(), cicc.is_cacheable()), ("/b/cicc", "/t", Some(1), true));
+    assert_eq!(cicc.arguments().collect::<Vec<_>>(), ["x_0.cpp1.ii", "-o", "k.ptx"]);
+    assert_eq!(cicc.variables().collect::<Vec<_>>(), [("PATH", "/b"), ("A", "1")]);
+    assert_eq!(cicc.line(), 2);
+    assert!(cicc.run() == 1 || cicc.run() == 2);
+    assert!(plan.dropped().any(|command| command.reason() == Some(Reason::NoCiccGroup)), "{plan:?}");
+    assert_eq!(plan, plan.clone());
+}
+
+#[test]
+fn errors_of_records() {
+    assert_eq!(plan(&call(RUN, &[])), Err(Error::NotFound("gcc: not found".into())));
+    let programs = first_candidates(RUN, RUN);
+    let bad = PlanCall { suffixes: &["gpu"], ..call(RUN, &programs) };
+    assert_eq!(plan(&bad), Err(Error::BadSuffixes("bad generated suffixes".into())));
 }
 
 #[test]
@@ -103,8 +175,11 @@ fn long_runs() {
     }
     let programs = first_candidates(&run, &run);
     let variables = vec![("N".repeat(100), "v".repeat(100)); 4];
-    let json = plan_text(&PlanCall { variables: &variables, ..call(&run, &programs) }, Form::Json).unwrap();
+    let call = PlanCall { variables: &variables, ..call(&run, &programs) };
+    let json = plan_text(&call, Form::Json).unwrap();
     assert!(json.starts_with('{') && json.ends_with('}'));
+    let records = plan(&call).unwrap();
+    assert_eq!(printed(&records), plan_text(&call, Form::Text).unwrap());
 }
 
 #[test]

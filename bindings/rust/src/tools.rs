@@ -1,0 +1,193 @@
+//! Lines of tools: what they say, and how to plan a line of nvcc.
+
+use crate::sys::{self, Text};
+use crate::{buffers, Error, Texts};
+
+/// A tool that lines are of.
+#[derive(Debug, Clone, Copy, PartialEq, Eq, Hash)]
+#[non_exhaustive]
+pub enum Tool {
+    /// cicc, which compiles device code to PTX.
+    Cicc,
+    /// ptxas, the assembler.
+    Ptxas,
+    /// cudafe++, the front end for host code.
+    CudaFe,
+    /// nvcc.
+    Nvcc,
+    /// nvc of nvhpc.
+    Nvc,
+    /// nvc++ of nvhpc.
+    Nvcxx,
+}
+
+/// A line of a tool.
+#[derive(Debug, Clone, Copy)]
+pub struct LineCall<'a> {
+    /// The tool.
+    pub tool: Tool,
+    /// The working directory, an absolute path.
+    pub cwd: &'a str,
+    /// The line's words without the tool's name.
+    pub words: &'a [String],
+    /// The environment. nvcc reads `NVCC_PREPEND_FLAGS` and `NVCC_APPEND_FLAGS`, the others none.
+    pub variables: &'a [(String, String)],
+}
+
+impl LineCall<'_> {
+    /// Passes the call as the record of `zigrunk.h`.
+    fn with_record<R>(&self, take: impl FnOnce(&sys::LineCall<'_>) -> R) -> R {
+        let (words, variables) = (texts(self.words), sys::variables(self.variables));
+        take(&sys::LineCall {
+            cwd: self.cwd.into(),
+            words: words.as_ptr(),
+            words_count: words.len(),
+            variables: variables.as_ptr(),
+            variables_count: variables.len(),
+            tool: self.tool as u32,
+            reserved: 0,
+        })
+    }
+
+    /// Room for a path in front of each word.
+    fn estimate(&self) -> usize {
+        self.words.iter().map(|word| word.len() + self.cwd.len() + 8).sum()
+    }
+}
+
+fn texts<S: AsRef<str>>(words: &[S]) -> Vec<Text<'_>> {
+    words.iter().map(|word| word.as_ref().into()).collect()
+}
+
+/// Reads a line of a tool and writes what it says as JSON: its input, its outputs, and its words by what they are for.
+/// zigrunk.h(3) lists the members.
+///
+/// # Errors
+///
+/// [`Error::BadLine`] if the line compiles nothing or no cache can serve it, [`Error::OutOfMemory`].
+pub fn line(call: &LineCall<'_>) -> Result<String, Error> {
+    // SAFETY: the record and all that it points to live through the call, and the buffer is exclusive.
+    call.with_record(|record| unsafe {
+        buffers::text_or_error(call.estimate() * 2 + 1024, |out, size| sys::zigrunk_line(record, out, size))
+    })
+}
+
+/// Reads a line of a tool and lists the words that it is written back as.
+///
+/// # Errors
+///
+/// [`Error::BadLine`] as for [`line`], and if the line has no output; [`Error::OutOfMemory`].
+pub fn line_words(call: &LineCall<'_>) -> Result<Texts, Error> {
+    // SAFETY: the record and all that it points to live through the call, and the two buffers are exclusive.
+    call.with_record(|record| unsafe {
+        buffers::list(call.words.len() * 2 + 16, call.estimate() + 1024, |ranges, count, out, size| {
+            sys::zigrunk_line_words(record, ranges, count, out, size)
+        })
+    })
+}
+
+/// A line of nvcc that is to be planned.
+#[derive(Debug, Clone, Copy, Default)]
+pub struct NvccCall<'a> {
+    /// The working directory, an absolute path.
+    pub cwd: &'a str,
+    /// The temporary directory, an absolute path.
+    pub tmp: &'a str,
+    /// nvcc's path or name.
+    pub nvcc: &'a str,
+    /// The line's words without nvcc's name.
+    pub words: &'a [String],
+    /// The environment. `NVCC_PREPEND_FLAGS`, `NVCC_APPEND_FLAGS`, `ZIGRUNK_JOBS` and `MAKEFLAGS` count.
+    pub variables: &'a [(String, String)],
+}
+
+/// How to plan a line of nvcc. The commands are texts for a POSIX shell.
+#[derive(Debug, Clone, PartialEq, Eq)]
+pub struct NvccLine {
+    texts: Texts,
+}
+
+impl NvccLine {
+    /// The command that writes the dependency file, or `None` if the line doesn't ask for one.
+    #[must_use]
+    pub fn dependencies(&self) -> Option<&str> {
+        self.some(0)
+    }
+
+    /// The command of the first dry run.
+    #[must_use]
+    pub fn first_dry_run(&self) -> &str {
+        &self.texts[1]
+    }
+
+    /// The command of the second dry run.
+    #[must_use]
+    pub fn second_dry_run(&self) -> &str {
+        &self.texts[2]
+    }
+
+    /// [`PlanCall::flag`](crate::PlanCall::flag) for the plan.
+    #[must_use]
+    pub fn flag(&self) -> &str {
+        &self.texts[3]
+    }
+
+    /// How many commands run at once, or `None` if the line doesn't say it.
+    #[must_use]
+    pub fn jobs(&self) -> Option<&str> {
+        self.some(4)
+    }
+
+    /// [`PlanCall::keep_dir`](crate::PlanCall::keep_dir) for the plan.
+    #[must_use]
+    pub fn keep_dir(&self) -> Option<&str> {
+        self.some(5)
+    }
+
+    fn some(&self, number: usize) -> Option<&str> {
+        self.texts.get(number).filter(|text| !text.is_empty())
+    }
+}
+
+/// Reads a line of nvcc, and says which commands print its dry runs.
+///
+/// # Errors
+///
+/// [`Error::ToNvcc`], with the reason, if the line doesn't compile one source; [`Error::OutOfMemory`].
+pub fn nvcc_line(call: &NvccCall<'_>) -> Result<NvccLine, Error> {
+    let (words, variables) = (texts(call.words), sys::variables(call.variables));
+    let record = sys::NvccCall {
+        cwd: call.cwd.into(),
+        tmp: call.tmp.into(),
+        nvcc: call.nvcc.into(),
+        words: words.as_ptr(),
+        words_count: words.len(),
+        variables: variables.as_ptr(),
+        variables_count: variables.len(),
+        reserved: 0,
+    };
+    let estimate = call.words.iter().map(|word| word.len() + 4).sum::<usize>() * 4 + 1024;
+    // SAFETY: the record and all that it points to live through the call, and the two buffers are exclusive.
+    let texts = unsafe {
+        buffers::list(6, estimate, |ranges, count, out, size| sys::zigrunk_nvcc_line(&record, ranges, count, out, size))
+    }?;
+    Ok(NvccLine { texts })
+}
+
+/// Lists words with canonical names for the files that nvcc generates: as many words, in their order. Pass the words of all
+/// commands of a dry run, one command behind the other. The suffixes are behind the standard ones.
+///
+/// # Errors
+///
+/// [`Error::BadSuffixes`], [`Error::OutOfMemory`].
+pub fn remap<S: AsRef<str>>(words: &[S], suffixes: &[&str]) -> Result<Texts, Error> {
+    let (words, suffixes) = (texts(words), texts(suffixes));
+    let estimate = words.iter().map(|word| word.length + 8).sum();
+    // SAFETY: the words and suffixes live through the call, and the two buffers are exclusive.
+    unsafe {
+        buffers::list(words.len(), estimate, |ranges, count, out, size| {
+            let (first, second) = (words.as_ptr(), suffixes.as_ptr());
+            sys::zigrunk_remap(first, words.len(), second, suffixes.len(), ranges, count, out, size)
+        })
+    }
+}
