@@ -66,9 +66,9 @@ class Calls(unittest.TestCase):
 
     def test_lines(self):
         words = "-arch=sm_80 k.ptx -o k.cubin".split()
-        self.assertEqual(zigrunk.line_words(zigrunk.Tool.PTXAS, "/w", words), "-arch sm_80 k.ptx -o /w/k.cubin".split())
+        self.assertEqual(zigrunk.line_words(zigrunk.Tool.PTXAS, "/w", words), "-arch=sm_80 k.ptx -o /w/k.cubin".split())
         said = json.loads(zigrunk.line(zigrunk.Tool.PTXAS, "/w", words))
-        self.assertEqual((said["input"], said["common_args"], said["version"]), ("k.ptx", ["-arch", "sm_80"], 1))
+        self.assertEqual((said["input"], said["common_args"], said["version"]), ("k.ptx", ["-arch=sm_80"], 1))
         self.assertEqual(said["outputs"], [{"key": "obj", "optional": False, "path": "/w/k.cubin"}])
         said = json.loads(zigrunk.line(zigrunk.Tool.NVCC, "/w", ["-c", "k.cu"], {"NVCC_APPEND_FLAGS": "-o j.o"}))
         self.assertEqual(said["outputs"][0]["path"], "j.o")

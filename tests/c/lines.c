@@ -49,8 +49,9 @@ static void check_json(void) {
     call = line_call_of(ZIGRUNK_TOOL_NVCC, &words);
     a = ask_text(call_line, &call);
     CHECK(a.status == ZIGRUNK_OK && has(&a, "\"compilation_flag\":\"-c\"") && has(&a, "\"language\":\"cuda\""));
-    CHECK(has(&a, "\"depfile\":\"k.d\"") && has(&a, "{\"key\":\"obj\",\"optional\":false,\"path\":\"k.o\"}"));
-    CHECK(has(&a, "\"input\":\"k.cu\"") && has(&a, "\"unhashed_args\":[\"-t\",\"2\"]"));
+    CHECK(has(&a, "{\"key\":\"d\",\"optional\":false,\"path\":\"k.d\"},{\"key\":\"obj\",\"optional\":false,\"path\":\"k.o\"}"));
+    CHECK(has(&a, "\"input\":\"k.cu\"") && has(&a, "\"unhashed_args\":[\"-t2\"]"));
+    CHECK(has(&a, "\"dependency_args\":[\"-MD\",\"-MF\",\"k.d\",\"-MT\",\"k.o\"],\"depfile\":null"));
     release(a);
 }
 
@@ -69,10 +70,10 @@ static void writes(uint32_t tool, const char *line, const char *back) {
 static void check_words(void) {
     writes(ZIGRUNK_TOOL_CICC, cicc_line,
         "--device-c -arch compute_80 --module_id_file_name kernel.module_id --simt-only kernel.cpp1.ii -o /w/kernel.ptx");
-    writes(ZIGRUNK_TOOL_PTXAS, "-arch=sm_80 k.ptx -o k.cubin", "-arch sm_80 k.ptx -o /w/k.cubin");
+    writes(ZIGRUNK_TOOL_PTXAS, "-arch=sm_80 k.ptx -o k.cubin", "-arch=sm_80 k.ptx -o /w/k.cubin");
     writes(ZIGRUNK_TOOL_CUDAFE, "--simt-only --module_id_file_name k.id x_0.cpp4.ii",
-        "--simt-only --module_id_file_name k.id x_0.cpp4.ii");
-    writes(ZIGRUNK_TOOL_CICC, "-foo k.cpp1.ii bar baz -o p", "-foo bar baz k.cpp1.ii -o /w/p");
+        "--simt-only --module_id_file_name /w/k.id x_0.cpp4.ii");
+    writes(ZIGRUNK_TOOL_CICC, "-foo k.cpp1.ii bar baz -o p", "-foo bar k.cpp1.ii -o /w/p");
     writes(ZIGRUNK_TOOL_NVCC, "-c k.cu -o k.o", "-x cu -o k.o -c k.cu");
     writes(ZIGRUNK_TOOL_NVC, "-c a.c -o a.o", "-x c -c -o a.o a.c");
     writes(ZIGRUNK_TOOL_NVCXX, "-c a.c -o a.o", "-x c++ -c -o a.o a.c");

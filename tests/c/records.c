@@ -195,7 +195,7 @@ static void check_small_plan(void) {
     call.variables = variables;
     call.variables_count = 2;
     records r = plan_records(&call);
-    CHECK(r.sizes.status == ZIGRUNK_OK && r.sizes.groups == 3 && r.sizes.commands == 4);
+    CHECK(r.sizes.status == ZIGRUNK_OK && r.sizes.groups == 3 && r.sizes.commands == 3);
     const zigrunk_command *gcc = &r.commands[0], *cicc = &r.commands[1], *rm = &r.commands[2];
     CHECK(r.groups[0].commands.length == 0 && r.groups[1].commands.length == 2 && r.groups[2].commands.length == 0);
     CHECK(record_is(&r, gcc->program, "/b/gcc") && record_is(&r, gcc->cwd, "/w") && gcc->arguments.length == 5);

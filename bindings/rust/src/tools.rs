@@ -76,7 +76,7 @@ pub fn line(call: &LineCall<'_>) -> Result<String, Error> {
 ///
 /// # Errors
 ///
-/// [`Error::BadLine`] as for [`line`], and if the line has no output; [`Error::OutOfMemory`].
+/// [`Error::BadLine`] as for [`line()`], and if the line has no output; [`Error::OutOfMemory`].
 pub fn line_words(call: &LineCall<'_>) -> Result<Texts, Error> {
     // SAFETY: the record and all that it points to live through the call, and the two buffers are exclusive.
     call.with_record(|record| unsafe {
