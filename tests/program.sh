@@ -470,7 +470,7 @@ forms_of_cudaplan() {
     alike plan /w /t -c "$data/one_kernel.dry1" "$data/one_kernel.dry2"
     ERR="zigrunk: cannot read $scratch/missing: No such file or directory"$'\n' alike plan /w /t -c "$data/one_kernel.dry1" "$scratch/missing"
     ERR="zigrunk: $data/bad_last_line.dry1:9: the line isn't UTF-8"$'\n    #$ x\\xff\n' alike plan /w /t -c "$data/bad_last_line.dry1" "$data/one_kernel.dry1"
-    alike plan /w /t -c "$data/one_kernel.dry1" "$data/one_kernel.dry2" .ii
+    ERR='zigrunk: suffix ".ii" is a suffix of ".cpp1.ii"'$'\n' alike plan /w /t -c "$data/one_kernel.dry1" "$data/one_kernel.dry2" .ii
 }
 
 # nvcc lines of ten thousand words: all kept, all from a variable, all one phase and one output, all forwarded; and their directory
