@@ -69,7 +69,7 @@ fn command_entry<'a>(
     }
 }
 
-// What a dropped command's record says, if there are so many groups.
+// What the record of a dropped command says, given the number of groups.
 fn dropped_entry<'a>(groups: usize, dropped: &'a Dropped) -> Entry<'a>
     ensures { spec.entry_seen result ≡ spec.dropped_entry groups dropped.now }
 {
@@ -171,7 +171,7 @@ fn push_groups(
     Ok(())
 }
 
-// Adds the dropped commands of a plan with so many groups.
+// Adds the dropped commands of a plan, given the number of its groups.
 fn push_dropped(
     recorded: &mut Recorded,
     groups: usize,

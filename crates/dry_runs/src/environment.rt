@@ -195,8 +195,8 @@ fn push_within(out: &mut String, piece: &str, left: usize) -> Result<bool, Alloc
     Ok(true)
 }
 
-// What stands in the new text for a `$` and what follows it, and what is left to read: the value if the name follows, else
-// the `$` alone.
+// Returns what replaces a `$`, and the text that is left to read: the value if the name follows the `$`, otherwise the `$`
+// itself.
 fn piece_of<'a>(after: &'a str, name: &str, value: &'a str) -> (&'a str, &'a str)
     ensures cut { replacing.replaced (codes "$" ++ name.now) value.now (codes "$" ++ after.now)
         ≡ result.0.now ++ replacing.replaced (codes "$" ++ name.now) value.now result.1.now }

@@ -40,8 +40,8 @@ impl LimitedFault {
     ghost use Rattle.std.specs.Prelude.{◌≡◌};
     ghost use Rattle.dry_runs.specs.Limit.{without_limit};
 
-    /// The fault that it stands for where no limit was asked for: a line that exceeds the largest limit is a failed
-    /// allocation.
+    /// Returns the fault of a reader that has no limit: `Fault::Memory` if a line exceeds even the largest limit, since no
+    /// memory can hold such a line.
     pub fn without_limit(self) -> Fault
         ensures { result ≡ without_limit self }
     {

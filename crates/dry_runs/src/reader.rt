@@ -141,7 +141,7 @@ impl DryRun {
         }
     }
 
-    // Reads the next line, which has this number, with so many bytes left. Answers how many are left behind it.
+    // Reads line `number` with `left` bytes of the limit, and returns how many are left after it.
     fn read<W: Which>(
         &mut self,
         setting: &Setting<W>,
