@@ -71,11 +71,14 @@ all users have one directory
 old: $temporary/zigrunk-$user
 new: $temporary/zigrunk-all
 Ninja runs on after a signal
-old: { kill "$!" && wait; }
+old: { kill ${third:+"$third"} "$!"; wait; }
 new: :
-the directory goes while Ninja ends
-old: kill "$!" && wait
+the line's own dry run goes on after a signal
+old: kill ${third:+"$third"} "$!"
 new: kill "$!"
+the directory goes while Ninja ends
+old: "$!"; wait;
+new: "$!";
 a message when nothing runs
 old: wait; } 2> /dev/null
 new: wait; }
@@ -191,11 +194,41 @@ a missing keep directory is ignored
 old: [ -d "${keep_dir:-/}" ] ||
 new: true ||
 the first dry run may fail
-old: [ "$first $?" = '0 0' ]
-new: [ "0 $?" = '0 0' ]
+old: [ "$first $second $?" =
+new: [ "0 $second $?" =
 the second dry run may fail
-old: [ "$first $?" = '0 0' ]
-new: [ "$first 0" = '0 0' ]
+old: [ "$first $second $?" =
+new: [ "$first 0 $?" =
+the line's own dry run may fail
+old: [ "$first $second $?" =
+new: [ "$first $second 0" =
+the line's own dry run isn't waited for
+old: wait "$third"
+new: true
+the line's own dry run lacks the line
+old: line_dry_run "$@" > /dev/null
+new: line_dry_run > /dev/null
+the line's own dry run is printed
+old: line_dry_run "$@" > /dev/null 2>
+new: line_dry_run "$@" 2>
+the line's own dry run compiles
+old: set -- --dryrun
+new: set -- --
+words of the first variable are lost
+old:  ${NVCC_PREPEND_FLAGS-} "$@"
+new:  "$@"
+words of the second variable are lost
+old:  "$@" ${NVCC_APPEND_FLAGS-}
+new:  "$@"
+words of the variables change places
+old: ${NVCC_PREPEND_FLAGS-} "$@" ${NVCC_APPEND_FLAGS-}
+new: ${NVCC_APPEND_FLAGS-} "$@" ${NVCC_PREPEND_FLAGS-}
+words of the variables count twice
+old: unset NVCC_PREPEND_FLAGS NVCC_APPEND_FLAGS
+new: unset NVCC_PREPEND_FLAGS
+words of the variables are file names
+old: set -f
+new: :
 the second dry run isn't waited for
 old: first=$?
 new: first=$?; true &
@@ -290,11 +323,14 @@ a command's failure counts as Ninja's
 old: [ -n "$(find "$tmp" -name 'zigrunk.*.status')" ] ||
 new: 
 nvcc's warnings are lost
-old: sed '/^#\$ /d' "$own/dry1" >&2
+old: sed '/^#\$ /d' "$own/warnings" >&2
 new: :
 nvcc's warnings are output
-old: "$own/dry1" >&2
-new: "$own/dry1"
+old: "$own/warnings" >&2
+new: "$own/warnings"
+nvcc's warnings are those of the normal form
+old: sed '/^#\$ /d' "$own/warnings"
+new: sed '/^#\$ /d' "$own/dry1"
 commands are dry-run lines
 old: sed '/^#\$ /d'
 new: sed '/^$/d'

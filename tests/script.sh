@@ -21,12 +21,19 @@ cat > "$scratch/bin/nvcc" << 'END'
 line=nvcc
 for word; do line="$line [$word]"; done
 printf '%s\n' "$line" >> "$LOG"
-case " $* " in
-' --dryrun first ' | ' --dryrun second ')
+case $* in
+'--dryrun first' | '--dryrun second')
     echo 'an output of the dry run'
     echo '#$ cicc k.cpp1.ii -o k.ptx' >&2
-    [ -z "${WARNING-}" ] || echo "$WARNING" >&2
+    [ -z "${WARNING-}" ] || echo 'a warning of the normal form' >&2
     case $* in *first*) exit "${FIRST-0}" ;; *) exit "${SECOND-0}" ;; esac
+    ;;
+--dryrun' '*)
+    echo 'an output of the dry run'
+    echo '#$ a command of the line' >&2
+    [ -z "${WARNING-}" ] || echo "$WARNING" >&2
+    eval "${LINE_DOES-}"
+    exit "${LINE-0}"
     ;;
 esac
 echo "nvcc sees: $(cd "$TMPDIR" && find . ! -name . | sort | tr '\n' ' ')"
@@ -153,6 +160,7 @@ cases() {
     sed "s,$room,ROOM,g" "$room/log" | sort > "$room/sorted"
     cat > "$room/wanted" << END
 ninja [-f] [ROOM/tmp/zigrunk-$user/zigrunk-name/zigrunk.tmp/ninja]
+nvcc [--dryrun] [-o] [k.o] [a b.cu] []
 nvcc [--dryrun] [first]
 nvcc [--dryrun] [second]
 zigrunk [calls] [ROOM/work] [ROOM/tmp/zigrunk-$user/zigrunk-name] [nvcc] [-o] [k.o] [a b.cu] []
@@ -392,6 +400,21 @@ END
     script "${plain[@]}" SECOND=1 WARNING='a warning' -c k.cu -o k.o
     by_nvcc 'a dry run fails'
     end
+    begin "the line's own dry run fails"
+    script "${plain[@]}" LINE=1 WARNING='a warning' -c k.cu -o k.o
+    by_nvcc 'a dry run fails'
+    end
+    begin "the line's own dry run is slow"
+    script "${plain[@]}" LINE_DOES='sleep 0.3; echo late >&2; LINE=1' -c k.cu -o k.o
+    by_nvcc 'a dry run fails'
+    end
+    begin "the line's own dry run has the words of the environment, which nvcc gets once"
+    touch -- -a.cu -b.cu
+    script NVCC_PREPEND_FLAGS='-DA  -*' NVCC_APPEND_FLAGS=' -o j.o' LINE_DOES='echo "${NVCC_PREPEND_FLAGS-none} ${NVCC_APPEND_FLAGS-none}" > "$LOG.flags"' -c k.cu -o 'k o'
+    same status "$status" 0
+    holds calls "$room/log" 'nvcc [--dryrun] [-DA] [-*] [-c] [k.cu] [-o] [k o] [-o] [j.o]'
+    same variables "$(cat "$room/log.flags")" 'none none'
+    end
     begin 'a plan that cannot be used'
     script "${plain[@]}" UNUSABLE='a command is dropped' WARNING='a warning' -c k.cu -o k.o
     by_nvcc 'zigrunk: a command is dropped'
@@ -496,6 +519,14 @@ END
         end
     done
 
+    begin "a signal while the line's own dry run runs"
+    start LINE_DOES='echo $$ > "$LOG.runs"; exec sleep 9' -c k.cu -o k.o
+    until_there "$room/log.runs"
+    kill "$process"
+    ended 143
+    same 'the dry run' "$(ps -o args= -p "$(cat "$room/log.runs")")" ''
+    leaves_nothing
+    end
     begin 'a signal while nvcc itself runs'
     start REASON=why NVCC_DOES='echo $$ > "$LOG.runs"; exec sleep 9' -c k.cu -o k.o
     until_there "$room/log.runs"
