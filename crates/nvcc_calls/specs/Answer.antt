@@ -57,6 +57,14 @@ pub words_of_a_variable :
 unfolding chars lib.Utf8.encode
 words_of_a_variable = refl
 
+pub two_values : split_text (nvcc_answer (line_at (spaced "-MD -MF a.d -t2 -o a.o -c k.cu -o b.o -t3 -MF b.d")) []) ≡
+    codes "dependencies='( unset NVCC_PREPEND_FLAGS NVCC_APPEND_FLAGS; cd /w && nvcc -c -x cu k.cu -M -MF b.d -MT b.o )'\n" ++
+    (codes "first_dry_run='( unset NVCC_PREPEND_FLAGS NVCC_APPEND_FLAGS; cd /w && nvcc -x cu -o b.o -c k.cu --dryrun --keep )'\n" ++
+    (codes "second_dry_run='( unset NVCC_PREPEND_FLAGS NVCC_APPEND_FLAGS; cd /w && nvcc -x cu -o b.o -c k.cu --keep-dir /t --dryrun --keep )'\n" ++
+    codes "flag=-c\njobs=3\nkeep_dir=''\n"))
+unfolding chars lib.Utf8.encode
+two_values = refl
+
 pub preprocessor_call : nvcc_answer (line_at (spaced "-E k.cu")) [] ≡ Ok (Pass (codes "its phase isn't split"))
 preprocessor_call = refl
 

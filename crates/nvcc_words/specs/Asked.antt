@@ -12,7 +12,7 @@ use Rattle.nvcc_words.specs.declared.options.Purpose.TheVariants.{Define, Depend
 use Rattle.nvcc_words.specs.declared.reason.Reason.{Reason}
 use Rattle.nvcc_words.specs.declared.reason.Reason.TheVariants.{UnknownOption, MissingValue, BadValue, ShellCharacter}
 use Rattle.nvcc_words.specs.Options.{nvcc_entries}
-use Rattle.nvcc_words.specs.Words.{has_no_operator, is_number, is_joinable, equals_word}
+use Rattle.nvcc_words.specs.Words.{has_no_operator, is_number, is_language, is_joinable, equals_word}
 
 -- a line that asks for nothing
 abbrev pub nothing_asked : Asked
@@ -20,22 +20,22 @@ nothing_asked = record {
   refusal = None;
   phases = [];
   inputs = [];
-  outputs = [];
-  directories = [];
-  languages = [];
-  threads = [];
-  keep_directories = [];
+  output = None;
+  directory = None;
+  language = None;
+  threads = None;
+  keep_directory = None;
   dependencies = [];
   phonies = [];
-  dependency_files = [];
-  dependency_targets = [];
+  dependency_file = None;
+  dependency_target = None;
   forwards = [];
   unknown = [];
   kept = [];
 }
 
--- the words of a flag and of an option with its value in a normal form; phases, inputs and outputs have places of
--- their own
+-- the words of a flag and of an option with its value in a normal form; phases, inputs and options of which only the
+-- last value is kept have places of their own
 abbrev pub flag_words : List ℕ → Purpose → List (List ℕ)
 flag_words text Phase = []
 flag_words text DependencyPhonies = codes "-MP" ∷ []
@@ -49,9 +49,12 @@ option_words text value Include = (codes "-I" ++ value) ∷ []
 option_words text value PreInclude = codes "-include" ∷ value ∷ []
 option_words text value OptimizationInfo = (codes "--optimization-info=" ++ value) ∷ []
 option_words text value TargetDirectory = (codes "--target-directory=" ++ value) ∷ []
-option_words text value OutputDirectory = (codes "--output-directory=" ++ value) ∷ []
-option_words text value DependencyFile = codes "-MF" ∷ value ∷ []
-option_words text value DependencyTarget = codes "-MT" ∷ value ∷ []
+option_words text value OutputDirectory = []
+option_words text value Language = []
+option_words text value Threads = []
+option_words text value KeepDirectory = []
+option_words text value DependencyFile = []
+option_words text value DependencyTarget = []
 option_words text value _ = equals_word text value ∷ []
 
 -- a reason, unless all is well
@@ -73,10 +76,11 @@ value_refusal value Quoted = unless_empty value
 value_refusal value Define = reason_unless (is_joinable value) BadValue
 value_refusal value Undefine = reason_unless (is_joinable value) BadValue
 value_refusal value Include = reason_unless (is_joinable value) BadValue
+value_refusal value Language = reason_unless (is_language value) BadValue
 value_refusal value Threads = reason_unless (is_number value) BadValue
 value_refusal value _ = None
 
--- what a flag says, and an option by its value, beside the words that stay of it
+-- what a flag says, and an option by its value, beside the words that stay of it. Of two values the last counts
 abbrev pub with_flag_note : List ℕ → Purpose → Asked → Asked
 with_flag_note text Phase a = record a { phases = a.phases ++ text ∷ [] }
 with_flag_note text Dependencies a = record a { dependencies = a.dependencies ++ text ∷ [] }
@@ -85,13 +89,13 @@ with_flag_note text Forward a = record a { forwards = a.forwards ++ text ∷ [] 
 with_flag_note text _ a = a
 
 abbrev pub with_value_note : List ℕ → Purpose → Asked → Asked
-with_value_note value Output a = record a { outputs = a.outputs ++ value ∷ [] }
-with_value_note value OutputDirectory a = record a { directories = a.directories ++ value ∷ [] }
-with_value_note value Language a = record a { languages = a.languages ++ value ∷ [] }
-with_value_note value Threads a = record a { threads = a.threads ++ value ∷ [] }
-with_value_note value KeepDirectory a = record a { keep_directories = a.keep_directories ++ value ∷ [] }
-with_value_note value DependencyFile a = record a { dependency_files = a.dependency_files ++ value ∷ [] }
-with_value_note value DependencyTarget a = record a { dependency_targets = a.dependency_targets ++ value ∷ [] }
+with_value_note value Output a = record a { output = Some value }
+with_value_note value OutputDirectory a = record a { directory = Some value }
+with_value_note value Language a = record a { language = Some value }
+with_value_note value Threads a = record a { threads = Some value }
+with_value_note value KeepDirectory a = record a { keep_directory = Some value }
+with_value_note value DependencyFile a = record a { dependency_file = Some value }
+with_value_note value DependencyTarget a = record a { dependency_target = Some value }
 with_value_note value _ a = a
 
 -- a refusal, unless there was one before

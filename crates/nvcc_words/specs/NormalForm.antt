@@ -1,5 +1,5 @@
 -- The normal form of a line: nvcc's reading of it, and the words that say the same in fewer ways.
-use Rattle.std.specs.Prelude.{◌≡◌, ℕ, List, [], ◌∷◌, ◌++◌, Bool, true, false, not, ◌==◌, ◌&&◌, ◌||◌, length, if◌then◌else◌, Option, Some, None, Result, Ok, Err, refl, codes}
+use Rattle.std.specs.Prelude.{◌≡◌, ℕ, List, [], ◌∷◌, ◌++◌, Bool, true, false, not, ◌==◌, ◌&&◌, ◌||◌, length, is_some, is_none, unwrap_or, if◌then◌else◌, Option, Some, None, Result, Ok, Err, refl, codes}
 use Rattle.std.specs.List.{list_any, list_all}
 use Rattle.std.specs.Option.{option_or, option_map_or}
 use Rattle.std.specs.Str.{bytes_eq}
@@ -10,7 +10,7 @@ use Rattle.texts.specs.Rows.{spaced}
 use Rattle.nvcc_words.specs.declared.asked.Asked.{Asked}
 use Rattle.nvcc_words.specs.declared.call.Call.{Call}
 use Rattle.nvcc_words.specs.declared.reason.Reason.{Reason}
-use Rattle.nvcc_words.specs.declared.reason.Reason.TheVariants.{Links, SeveralPhases, NoInput, SeveralInputs, NotSource, HostSource, StandardOutput, HiddenName, UnknownOption, Repeated, DependencyWords, ShellCharacter}
+use Rattle.nvcc_words.specs.declared.reason.Reason.TheVariants.{Links, SeveralPhases, NoInput, SeveralInputs, NotSource, HostSource, StandardOutput, HiddenName, UnknownOption, DependencyWords, ShellCharacter}
 use Rattle.nvcc_words.specs.Words.{is_unexpanded}
 use Rattle.nvcc_words.specs.Asked.{asked_of, reason_unless}
 
@@ -18,6 +18,10 @@ use Rattle.nvcc_words.specs.Asked.{asked_of, reason_unless}
 abbrev pub first_of : List (List ℕ) → List ℕ
 first_of [] = []
 first_of (t ∷ ts) = t
+
+-- the value of an option, and the empty text if it isn't given
+abbrev pub value_of : Option (List ℕ) → List ℕ
+value_of option = unwrap_or option []
 
 -- whether texts differ
 abbrev pub differ : List (List ℕ) → Bool
@@ -58,12 +62,12 @@ is_host_extension = is_among (spaced "c cc cpp cxx")
 
 abbrev pub is_cuda : Asked → Bool
 is_cuda a =
-    if are_given a.languages then bytes_eq (first_of a.languages) (codes "cu")
+    if is_some a.language then bytes_eq (value_of a.language) (codes "cu")
     else option_map_or (λ e. bytes_eq e (codes "cu")) (extension_of (input_of a)) false
 
 abbrev pub is_host : Asked → Bool
 is_host a =
-    if are_given a.languages then is_among (spaced "c c++") (first_of a.languages)
+    if is_some a.language then is_among (spaced "c c++") (value_of a.language)
     else option_map_or is_host_extension (extension_of (input_of a)) false
 
 -- the extension that nvcc gives to what a phase makes
@@ -81,7 +85,7 @@ abbrev pub default_output : List ℕ → List ℕ → List ℕ → List ℕ
 default_output directory input flag = joined directory (with_extension (last_part input) (extension_of_phase flag))
 
 abbrev pub output_of : Asked → List ℕ
-output_of a = if are_given a.outputs then first_of a.outputs else default_output (first_of a.directories) (input_of a) (phase_of a)
+output_of a = if is_some a.output then value_of a.output else default_output (value_of a.directory) (input_of a) (phase_of a)
 
 -- examples: the default outputs
 pub object_of_a_source : default_output [] (codes "sub/k.x.cu") (codes "-dc") ≡ codes "k.x.o"
@@ -89,12 +93,6 @@ object_of_a_source = refl
 
 pub ptx_in_a_folder : default_output (codes "od") (codes "k.cu") (codes "-ptx") ≡ codes "od/k.ptx"
 ptx_in_a_folder = refl
-
--- whether an option has two values, of which nvcc takes the last, and its words don't reach nvcc again
-abbrev pub has_two_values : Asked → Bool
-has_two_values a =
-    differ a.outputs || differ a.directories || differ a.languages || differ a.threads
-    || differ a.keep_directories || differ a.dependency_files || differ a.dependency_targets
 
 -- whether the output is no file: `-` or the empty text
 abbrev pub is_no_file : List ℕ → Bool
@@ -104,7 +102,7 @@ is_no_file output = (length output == 0) || bytes_eq output (codes "-")
 -- the object
 abbrev pub names_usual_file : Asked → Bool
 names_usual_file a =
-    if are_given a.outputs then are_given a.dependency_files || not (is_hidden (first_of a.outputs)) else makes_objects (phase_of a)
+    if is_some a.output then is_some a.dependency_file || not (is_hidden (value_of a.output)) else makes_objects (phase_of a)
 
 -- whether a name looks like one: it isn't empty and doesn't begin with `-`
 abbrev pub is_usual_name : List ℕ → Bool
@@ -116,10 +114,10 @@ has_extension extension path = option_map_or (bytes_eq extension) (extension_of 
 
 -- the target in a dependency file, if the line names it or the output
 abbrev pub names_target : Asked → Bool
-names_target a = are_given a.dependency_targets || are_given a.outputs
+names_target a = is_some a.dependency_target || is_some a.output
 
 abbrev pub target_of : Asked → List ℕ
-target_of a = if are_given a.dependency_targets then first_of a.dependency_targets else first_of a.outputs
+target_of a = if is_some a.dependency_target then value_of a.dependency_target else value_of a.output
 
 -- whether a dependency file has another name than its target. A target without a name is an object
 abbrev pub is_other_file : Asked → List ℕ → Bool
@@ -131,18 +129,18 @@ is_other_file a file =
 abbrev pub names_two_files : Asked → Bool
 names_two_files a =
     (not (names_target a) || is_usual_name (target_of a))
-    && (if are_given a.dependency_files then is_other_file a (first_of a.dependency_files) else not (has_extension (codes "d") (target_of a)))
+    && (if is_some a.dependency_file then is_other_file a (value_of a.dependency_file) else not (has_extension (codes "d") (target_of a)))
 
 abbrev pub is_usual : Asked → Bool
-is_usual a = not (differ a.dependencies) && not (are_given a.directories) && names_usual_file a && names_two_files a
+is_usual a = not (differ a.dependencies) && is_none a.directory && names_usual_file a && names_two_files a
 
 abbrev pub has_usual_dependencies : Asked → Bool
 has_usual_dependencies a =
     if are_given a.dependencies then is_usual a
-    else not (are_given a.dependency_files) && not (are_given a.dependency_targets) && not (are_given a.phonies)
+    else is_none a.dependency_file && is_none a.dependency_target && not (are_given a.phonies)
 
 -- why a line's call is left to nvcc, in order: what an item says; unknown words that nvcc doesn't forward; phases; inputs;
--- options with two values; the input's language; the output; the dependency file
+-- the input's language; the output; the dependency file
 abbrev pub phase_reason : Asked → Option Reason
 phase_reason a = option_or (reason_unless (are_given a.phases) Links) (reason_unless (not (differ a.phases)) SeveralPhases)
 
@@ -160,7 +158,7 @@ language_reason a =
 
 abbrev pub output_reason : Asked → Option Reason
 output_reason a =
-    if are_given a.outputs then reason_unless (not (is_no_file (first_of a.outputs))) StandardOutput
+    if is_some a.output then reason_unless (not (is_no_file (value_of a.output))) StandardOutput
     else reason_unless (not (is_hidden (input_of a))) HiddenName
 
 abbrev pub reason_of : Asked → Option Reason
@@ -169,15 +167,33 @@ reason_of a =
     (option_or (unknown_reason a)
     (option_or (phase_reason a)
     (option_or (input_reason a)
-    (option_or (reason_unless (not (has_two_values a)) Repeated)
     (option_or (language_reason a)
     (option_or (output_reason a)
-    (reason_unless (has_usual_dependencies a) DependencyWords)))))))
+    (reason_unless (has_usual_dependencies a) DependencyWords))))))
+
+-- words with an option's value behind them, if it is given: in the option's word, or as the next word
+abbrev pub with_joined : List ℕ → Option (List ℕ) → List (List ℕ) → List (List ℕ)
+with_joined name None words = words
+with_joined name (Some value) words = words ++ (name ++ value) ∷ []
+
+abbrev pub with_next : List ℕ → Option (List ℕ) → List (List ℕ) → List (List ℕ)
+with_next name None words = words
+with_next name (Some value) words = words ++ name ∷ value ∷ []
+
+-- words with those of the options of which only the last value is kept
+abbrev pub with_last_values : Asked → List (List ℕ) → List (List ℕ)
+with_last_values a words =
+    with_next (codes "-MT") a.dependency_target
+    (with_next (codes "-MF") a.dependency_file
+    (with_joined (codes "--keep-dir=") a.keep_directory
+    (with_joined (codes "--threads=") a.threads
+    (with_joined (codes "-x=") a.language
+    (with_joined (codes "--output-directory=") a.directory words)))))
 
 -- nvcc's reading of a line, with the line's normal form: the phase, `-o` and the output, the other options in their
--- order, and the input
+-- order, those of which only the last value is kept, and the input
 abbrev pub normal_words : Asked → List ℕ → List (List ℕ)
-normal_words a output = (phase_of a ∷ codes "-o" ∷ output ∷ a.kept) ++ input_of a ∷ []
+normal_words a output = with_last_values a (phase_of a ∷ codes "-o" ∷ output ∷ a.kept) ++ input_of a ∷ []
 
 abbrev pub call_of : Asked → Call
 call_of a = record { flag = phase_of a; input = input_of a; output = output_of a; words = normal_words a (output_of a) }
@@ -192,3 +208,16 @@ settled a = unless_refused (reason_of a) (call_of a)
 -- nvcc's reading of a line, or why its call is left to nvcc
 abbrev pub nvcc_call : List (List ℕ) → Result Call Reason
 nvcc_call words = if list_all is_unexpanded words then settled (asked_of words) else Err ShellCharacter
+
+-- examples: of two values the last counts, and comes once
+abbrev pub two_outputs_call : Call
+two_outputs_call = record { flag = codes "-c"; input = codes "k.cu"; output = codes "b.o"; words = spaced "-c -o b.o k.cu" }
+
+pub last_output_counts : nvcc_call (spaced "-c k.cu -o a.o --output-file=b.o") ≡ Ok two_outputs_call
+last_output_counts = refl
+
+abbrev pub two_files_call : Call
+two_files_call = record { flag = codes "-c"; input = codes "k.cu"; output = codes "k.o"; words = spaced "-c -o k.o -MD -g -MF b.d -MT t k.cu" }
+
+pub last_file_counts : nvcc_call (spaced "-MF a.d -MT s -MD -MT t -g -MF b.d -c k.cu") ≡ Ok two_files_call
+last_file_counts = refl

@@ -1,7 +1,7 @@
 -- The texts of the reasons for which a call goes to nvcc unchanged.
 use Rattle.std.specs.Prelude.{ℕ, List, codes}
 use Rattle.nvcc_words.specs.declared.reason.Reason.{Reason}
-use Rattle.nvcc_words.specs.declared.reason.Reason.TheVariants.{Links, OtherPhase, SeveralPhases, NoInput, SeveralInputs, NotSource, HostSource, Prints, Cleans, Measures, OptionsFile, TemporaryFiles, Jobserver, DrivePrefix, StandardInput, StandardOutput, HiddenName, UnknownOption, MissingValue, BadValue, Repeated, DependencyWords, ShellCharacter, VariableQuotes, OtherReading}
+use Rattle.nvcc_words.specs.declared.reason.Reason.TheVariants.{Links, OtherPhase, SeveralPhases, NoInput, SeveralInputs, NotSource, HostSource, Prints, Cleans, Measures, OptionsFile, TemporaryFiles, Jobserver, DrivePrefix, StandardInput, StandardOutput, HiddenName, UnknownOption, MissingValue, BadValue, DependencyWords, ShellCharacter, VariableQuotes, OtherReading}
 
 -- a reason's text
 abbrev pub text_of : Reason → List ℕ
@@ -25,7 +25,6 @@ text_of HiddenName = codes "its output's name isn't certain"
 text_of UnknownOption = codes "an option is unknown"
 text_of MissingValue = codes "an option lacks its value"
 text_of BadValue = codes "an option has an odd value"
-text_of Repeated = codes "an option has two values"
 text_of DependencyWords = codes "its dependency file is an odd one"
 text_of ShellCharacter = codes "nvcc's shell may expand a word"
 text_of VariableQuotes = codes "NVCC_PREPEND_FLAGS or NVCC_APPEND_FLAGS has quotes"

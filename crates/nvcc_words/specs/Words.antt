@@ -1,6 +1,8 @@
 -- Tests of words, and the words of options in a normal form.
 use Rattle.std.specs.Prelude.{◌≡◌, ℕ, List, [], ◌∷◌, ◌++◌, Bool, false, not, ◌==◌, ◌&&◌, ◌||◌, nat_eq, nat_lt, nat_le, length, if◌then◌else◌, refl, codes}
 use Rattle.std.specs.List.{list_any, list_all, ends_with}
+use Rattle.std.specs.Str.{bytes_eq}
+use Rattle.texts.specs.Rows.{spaced}
 
 -- whether nvcc's shell leaves a byte as it is in double quotes: it isn't `$`, a backtick or a control character, such as
 -- the end of a line
@@ -33,6 +35,10 @@ is_digit byte = nat_le 48 byte && nat_le byte 57
 abbrev pub is_number : List ℕ → Bool
 is_number [] = false
 is_number (c ∷ cs) = is_digit c && list_all is_digit cs && nat_lt (length cs) 9 && (not (c == 48) || (length cs == 0))
+
+-- whether nvcc takes a text for a language
+abbrev pub is_language : List ℕ → Bool
+is_language value = list_any (bytes_eq value) (spaced "c c++ cu")
 
 -- whether a value may stand right behind `-D`: it isn't empty, and doesn't begin with `=`
 abbrev pub is_joinable : List ℕ → Bool

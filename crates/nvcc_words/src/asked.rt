@@ -8,13 +8,14 @@ ghost use Rattle.nvcc_words.specs.Asked as spec;
 
 use crate::options::{Purpose, table};
 use crate::reason::Reason;
-use crate::word_tests::{equals_word, has_no_operator, is_joinable, is_number};
+use crate::word_tests::{equals_word, has_no_operator, is_joinable, is_language, is_number};
 use cuda_below::gcc;
 use host_lines::nvcc;
 use option_items::items::{ArgParseError, Line};
 use option_items::table::{Pair, SearchableArgInfo};
 use option_items::views::{ArgumentView, view_item};
 use std::alloc::{AllocError, Global};
+use texts::text::Text;
 use texts::words::Words;
 
 /// What the items of a line ask nvcc for. Each list has texts in the line's order.
@@ -26,34 +27,34 @@ pub struct Asked {
     pub phases: Words,
     /// The words that are no options.
     pub inputs: Words,
-    /// The values of `-o`.
-    pub outputs: Words,
-    /// The values of `-odir`.
-    pub directories: Words,
-    /// The values of `-x`.
-    pub languages: Words,
-    /// The values of `-t`.
-    pub threads: Words,
-    /// The values of `-keep-dir`.
-    pub keep_directories: Words,
+    /// The last value of `-o`.
+    pub output: Option<Text>,
+    /// The last value of `-odir`.
+    pub directory: Option<Text>,
+    /// The last value of `-x`.
+    pub language: Option<Text>,
+    /// The last value of `-t`.
+    pub threads: Option<Text>,
+    /// The last value of `-keep-dir`.
+    pub keep_directory: Option<Text>,
     /// The flags `-MD` and `-MMD`.
     pub dependencies: Words,
     /// The flags `-MP`.
     pub phonies: Words,
-    /// The values of `-MF`.
-    pub dependency_files: Words,
-    /// The values of `-MT`.
-    pub dependency_targets: Words,
+    /// The last value of `-MF`.
+    pub dependency_file: Option<Text>,
+    /// The last value of `-MT`.
+    pub dependency_target: Option<Text>,
     /// The flags that have nvcc forward words that it doesn't know.
     pub forwards: Words,
     /// The words that look like options and that nvcc doesn't know.
     pub unknown: Words,
-    /// The words of all options but phases and outputs, in a normal form.
+    /// The words of the other options, in a normal form: all but phases and those of which only the last value counts.
     pub kept: Words,
 }
 
-// Adds a word that is two texts.
-fn push_joined(
+/// Adds a word that is two texts.
+pub fn push_joined(
     alloc: Global,
     words: &mut Words,
     first: &str,
@@ -93,16 +94,19 @@ fn push_option(
     ensures { OnOk result (words.new ≡ words.old ++ spec.option_words text.now value.now purpose) }
 {
     match purpose {
-        Purpose::Output => Ok(()),
+        Purpose::Output
+        | Purpose::OutputDirectory
+        | Purpose::Language
+        | Purpose::Threads
+        | Purpose::KeepDirectory
+        | Purpose::DependencyFile
+        | Purpose::DependencyTarget => Ok(()),
         Purpose::Define => push_joined(alloc, words, "-D", value),
         Purpose::Undefine => push_joined(alloc, words, "-U", value),
         Purpose::Include => push_joined(alloc, words, "-I", value),
         Purpose::PreInclude => words.push_pair(alloc, "-include", value),
         Purpose::OptimizationInfo => push_joined(alloc, words, "--optimization-info=", value),
         Purpose::TargetDirectory => push_joined(alloc, words, "--target-directory=", value),
-        Purpose::OutputDirectory => push_joined(alloc, words, "--output-directory=", value),
-        Purpose::DependencyFile => words.push_pair(alloc, "-MF", value),
-        Purpose::DependencyTarget => words.push_pair(alloc, "-MT", value),
         _ => words.push(equals_word(alloc, text, value)?),
     }
 }
@@ -146,6 +150,7 @@ fn value_refusal(value: &str, purpose: Purpose) -> Option<Reason>
             is_joinable(value),
             Reason::BadValue,
         ),
+        Purpose::Language => reason_unless(is_language(value), Reason::BadValue),
         Purpose::Threads => reason_unless(is_number(value), Reason::BadValue),
         _ => None,
     }
@@ -194,15 +199,15 @@ impl Asked {
             refusal: None,
             phases: Words::new(alloc),
             inputs: Words::new(alloc),
-            outputs: Words::new(alloc),
-            directories: Words::new(alloc),
-            languages: Words::new(alloc),
-            threads: Words::new(alloc),
-            keep_directories: Words::new(alloc),
+            output: None,
+            directory: None,
+            language: None,
+            threads: None,
+            keep_directory: None,
             dependencies: Words::new(alloc),
             phonies: Words::new(alloc),
-            dependency_files: Words::new(alloc),
-            dependency_targets: Words::new(alloc),
+            dependency_file: None,
+            dependency_target: None,
             forwards: Words::new(alloc),
             unknown: Words::new(alloc),
             kept: Words::new(alloc),
@@ -231,20 +236,23 @@ impl Asked {
         }
     }
 
-    // Notes what an option says by its value.
+    // Notes what an option says by its value, in place of what it said before.
     fn note_value(&mut self, alloc: Global, value: &str, purpose: Purpose) -> Result<(), AllocError>
         ensures { OnOk result (self.new ≡ spec.with_value_note value.now purpose self.old) }
     {
         match purpose {
-            Purpose::Output => self.outputs.push_str(alloc, value),
-            Purpose::OutputDirectory => self.directories.push_str(alloc, value),
-            Purpose::Language => self.languages.push_str(alloc, value),
-            Purpose::Threads => self.threads.push_str(alloc, value),
-            Purpose::KeepDirectory => self.keep_directories.push_str(alloc, value),
-            Purpose::DependencyFile => self.dependency_files.push_str(alloc, value),
-            Purpose::DependencyTarget => self.dependency_targets.push_str(alloc, value),
-            _ => Ok(()),
+            Purpose::Output => self.output = Some(Text::copy_of(alloc, value)?),
+            Purpose::OutputDirectory => self.directory = Some(Text::copy_of(alloc, value)?),
+            Purpose::Language => self.language = Some(Text::copy_of(alloc, value)?),
+            Purpose::Threads => self.threads = Some(Text::copy_of(alloc, value)?),
+            Purpose::KeepDirectory => self.keep_directory = Some(Text::copy_of(alloc, value)?),
+            Purpose::DependencyFile => self.dependency_file = Some(Text::copy_of(alloc, value)?),
+            Purpose::DependencyTarget => {
+                self.dependency_target = Some(Text::copy_of(alloc, value)?)
+            }
+            _ => {}
         }
+        Ok(())
     }
 
     // Takes a flag.

@@ -15,9 +15,10 @@ pub struct Call {
     pub input: Text,
     /// The output's path: as the line gives it, else nvcc's default.
     pub output: Text,
-    /// The line in its normal form: the flag, `-o` and the output, the other options in their order, and the input. A
-    /// value is in its option's word, except after `-o`, `-include`, `-MF` and `-MT`. The words of `NVCC_PREPEND_FLAGS` and
-    /// `NVCC_APPEND_FLAGS` are in it.
+    /// The line in its normal form: the flag, `-o` and the output, the other options in their order, and the input. Right
+    /// before the input are `-odir`, `-x`, `-t`, `-keep-dir`, `-MF` and `-MT`, in this order and each once, with its last
+    /// value. A value is in its option's word, except after `-o`, `-include`, `-MF` and `-MT`. The words of
+    /// `NVCC_PREPEND_FLAGS` and `NVCC_APPEND_FLAGS` are in it.
     pub words: Words,
 }
 

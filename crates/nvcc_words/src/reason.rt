@@ -45,8 +45,6 @@ pub enum Reason {
     MissingValue,
     /// A value that nvcc refuses, or that a normal form can't express.
     BadValue,
-    /// An option that takes one value is given two, of which nvcc takes the last.
-    Repeated,
     /// It asks for a dependency file whose name or target isn't a usual one, or that has one name for both, or it names a
     /// file without asking for it.
     DependencyWords,
@@ -87,7 +85,6 @@ impl Reason {
             Reason::UnknownOption => "an option is unknown",
             Reason::MissingValue => "an option lacks its value",
             Reason::BadValue => "an option has an odd value",
-            Reason::Repeated => "an option has two values",
             Reason::DependencyWords => "its dependency file is an odd one",
             Reason::ShellCharacter => "nvcc's shell may expand a word",
             Reason::VariableQuotes => "NVCC_PREPEND_FLAGS or NVCC_APPEND_FLAGS has quotes",

@@ -1,12 +1,12 @@
 //! Why a line's call is left to nvcc, and nvcc's reading of it if it isn't.
 
-ghost use Rattle.std.specs.Prelude.{◌≡◌, map, IfOk, string_bytes};
+ghost use Rattle.std.specs.Prelude.{◌≡◌, map, IfOk, OnOk, string_bytes};
 ghost use Rattle.std.specs.Str.{bytes_eq};
 ghost use Rattle.std.specs.List.{list_all};
 ghost use Rattle.nvcc_words.specs.Asked.{reason_unless};
 ghost use Rattle.nvcc_words.specs.NormalForm as spec;
 
-use crate::asked::Asked;
+use crate::asked::{Asked, push_joined};
 use crate::call::Call;
 use crate::reason::Reason;
 use std::alloc::{AllocError, Global};
@@ -41,6 +41,46 @@ fn is_text(text: &str, other: &str) -> bool
     ensures { result ≡ bytes_eq text.now other.now }
 {
     text == other
+}
+
+// The value of an option, and the empty text if it isn't given.
+fn value_of(option: &Option<Text>) -> &str
+    ensures { result.now ≡ spec.value_of option.now }
+{
+    match option {
+        Some(value) => value.as_str(),
+        None => "",
+    }
+}
+
+// Adds an option's value, if it is given, in the option's word.
+fn push_value(
+    alloc: Global,
+    words: &mut Words,
+    name: &str,
+    option: &Option<Text>,
+) -> Result<(), AllocError>
+    ensures { OnOk result (words.new ≡ spec.with_joined name.now option.now words.old) }
+{
+    match option {
+        Some(value) => push_joined(alloc, words, name, value.as_str()),
+        None => Ok(()),
+    }
+}
+
+// Adds an option and its value, if it is given, as two words.
+fn push_next_value(
+    alloc: Global,
+    words: &mut Words,
+    name: &str,
+    option: &Option<Text>,
+) -> Result<(), AllocError>
+    ensures { OnOk result (words.new ≡ spec.with_next name.now option.now words.old) }
+{
+    match option {
+        Some(value) => words.push_pair(alloc, name, value.as_str()),
+        None => Ok(()),
+    }
 }
 
 // Whether each of `others` is `text`.
@@ -160,10 +200,10 @@ impl Asked {
     fn output(&self, alloc: Global) -> Result<Text, AllocError>
         ensures { IfOk result (λ path. path ≡ spec.output_of self.now) }
     {
-        if are_given(&self.outputs) {
-            return Text::copy_of(alloc, first_of(&self.outputs));
+        if self.output.is_some() {
+            return Text::copy_of(alloc, value_of(&self.output));
         }
-        let directory = first_of(&self.directories);
+        let directory = value_of(&self.directory);
         Ok(Text::new(default_output(alloc, directory, self.input(), self.phase())?))
     }
 
@@ -171,8 +211,8 @@ impl Asked {
     fn is_cuda(&self) -> bool
         ensures { result ≡ spec.is_cuda self.now }
     {
-        if are_given(&self.languages) {
-            return first_of(&self.languages) == "cu";
+        if self.language.is_some() {
+            return value_of(&self.language) == "cu";
         }
         match extension(self.input()) {
             Some(extension) => extension == "cu",
@@ -184,8 +224,8 @@ impl Asked {
     fn is_host(&self) -> bool
         ensures { result ≡ spec.is_host self.now }
     {
-        if are_given(&self.languages) {
-            return matches!(first_of(&self.languages), "c" | "c++");
+        if self.language.is_some() {
+            return matches!(value_of(&self.language), "c" | "c++");
         }
         match extension(self.input()) {
             Some(extension) => is_host_extension(extension),
@@ -193,25 +233,12 @@ impl Asked {
         }
     }
 
-    // Whether an option has two values and its words don't reach nvcc again.
-    fn has_two_values(&self) -> bool
-        ensures { result ≡ spec.has_two_values self.now }
-    {
-        differ(&self.outputs)
-            || differ(&self.directories)
-            || differ(&self.languages)
-            || differ(&self.threads)
-            || differ(&self.keep_directories)
-            || differ(&self.dependency_files)
-            || differ(&self.dependency_targets)
-    }
-
     // Whether the dependency file that is asked for is a usual one.
     fn is_usual(&self) -> bool
         ensures { result ≡ spec.is_usual self.now }
     {
         !differ(&self.dependencies)
-            && !are_given(&self.directories)
+            && self.directory.is_none()
             && self.names_usual_file()
             && self.names_two_files()
     }
@@ -219,17 +246,17 @@ impl Asked {
     fn names_target(&self) -> bool
         ensures { result ≡ spec.names_target self.now }
     {
-        are_given(&self.dependency_targets) || are_given(&self.outputs)
+        self.dependency_target.is_some() || self.output.is_some()
     }
 
     // The target in a dependency file, if the line names it or the output.
     fn target(&self) -> &str
         ensures { result.now ≡ spec.target_of self.now }
     {
-        if are_given(&self.dependency_targets) {
-            first_of(&self.dependency_targets)
+        if self.dependency_target.is_some() {
+            value_of(&self.dependency_target)
         } else {
-            first_of(&self.outputs)
+            value_of(&self.output)
         }
     }
 
@@ -249,8 +276,8 @@ impl Asked {
         if self.names_target() && !is_usual_name(self.target()) {
             return false;
         }
-        if are_given(&self.dependency_files) {
-            self.is_other_file(first_of(&self.dependency_files))
+        if self.dependency_file.is_some() {
+            self.is_other_file(value_of(&self.dependency_file))
         } else {
             !has_extension("d", self.target())
         }
@@ -260,8 +287,8 @@ impl Asked {
     fn names_usual_file(&self) -> bool
         ensures { result ≡ spec.names_usual_file self.now }
     {
-        if are_given(&self.outputs) {
-            are_given(&self.dependency_files) || !is_hidden(first_of(&self.outputs))
+        if self.output.is_some() {
+            self.dependency_file.is_some() || !is_hidden(value_of(&self.output))
         } else {
             asks_object(self.phase())
         }
@@ -273,8 +300,8 @@ impl Asked {
         if are_given(&self.dependencies) {
             return self.is_usual();
         }
-        !are_given(&self.dependency_files)
-            && !are_given(&self.dependency_targets)
+        self.dependency_file.is_none()
+            && self.dependency_target.is_none()
             && !are_given(&self.phonies)
     }
 
@@ -321,8 +348,8 @@ impl Asked {
     fn output_reason(&self) -> Option<Reason>
         ensures { result ≡ spec.output_reason self.now }
     {
-        if are_given(&self.outputs) {
-            unless(!is_no_file(first_of(&self.outputs)), Reason::StandardOutput)
+        if self.output.is_some() {
+            unless(!is_no_file(value_of(&self.output)), Reason::StandardOutput)
         } else {
             unless(!is_hidden(self.input()), Reason::HiddenName)
         }
@@ -335,10 +362,21 @@ impl Asked {
         let dependencies = unless(self.has_usual_dependencies(), Reason::DependencyWords);
         let output = self.output_reason().or(dependencies);
         let language = self.language_reason().or(output);
-        let repeated = unless(!self.has_two_values(), Reason::Repeated).or(language);
-        let input = self.input_reason().or(repeated);
+        let input = self.input_reason().or(language);
         let phase = self.phase_reason().or(input);
         self.refusal.or(self.unknown_reason().or(phase))
+    }
+
+    // Adds the options of which only the last value is kept.
+    fn push_last_values(&self, alloc: Global, words: &mut Words) -> Result<(), AllocError>
+        ensures { OnOk result (words.new ≡ spec.with_last_values self.now words.old) }
+    {
+        push_value(alloc, words, "--output-directory=", &self.directory)?;
+        push_value(alloc, words, "-x=", &self.language)?;
+        push_value(alloc, words, "--threads=", &self.threads)?;
+        push_value(alloc, words, "--keep-dir=", &self.keep_directory)?;
+        push_next_value(alloc, words, "-MF", &self.dependency_file)?;
+        push_next_value(alloc, words, "-MT", &self.dependency_target)
     }
 
     // The line in its normal form.
@@ -349,6 +387,7 @@ impl Asked {
         words.push_str(alloc, self.phase())?;
         words.push_pair(alloc, "-o", output)?;
         words.extend(alloc, self.kept.as_slice())?;
+        self.push_last_values(alloc, &mut words)?;
         words.push_str(alloc, self.input())?;
         Ok(words)
     }

@@ -142,8 +142,10 @@ fn is_plain(variables: &[(String, String)], name: &str) -> bool
 ///
 /// `Pass` has the first reason that holds, looked for in this order: the variables' quotes; a character that nvcc's shell
 /// may expand; what an option says, in the line's order; a word that nvcc neither knows nor forwards; the phase; the inputs;
-/// an option with two values; the input's language; the output; the dependency file; and at last that sccache's reader reads
-/// the normal form otherwise.
+/// the input's language; the output; the dependency file; and at last that sccache's reader reads the normal form otherwise.
+///
+/// Of two values of an option the last counts, as for nvcc, which warns of it. `-o`, `-odir`, `-x`, `-t`, `-keep-dir`, `-MF` and
+/// `-MT` have only that one in the normal form, so nvcc warns no more of these there.
 pub fn normalize(
     alloc: Global,
     words: &[String],

@@ -116,6 +116,13 @@ pub fn is_number(text: &str) -> bool
     }
 }
 
+/// Whether nvcc takes a text for a language.
+pub fn is_language(value: &str) -> bool
+    ensures { result ≡ spec.is_language value.now }
+{
+    matches!(value, "c" | "c++" | "cu")
+}
+
 /// Whether a value may be right behind `-D`.
 pub fn is_joinable(value: &str) -> bool
     ensures { result ≡ spec.is_joinable value.now }
