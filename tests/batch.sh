@@ -72,6 +72,7 @@ exec $(command -v ninja) "\$@"
 END
 printf '%s\n' '#!/bin/sh' 'printf "%s\n" "runner $*" >> "$LOG"' 'exec "$@"' > "$scratch/bin/runner"
 chmod +x "$scratch"/bin/*
+mkdir "$scratch/opt" && ln -s ../bin/nvcc "$scratch/opt/nvcc"
 export PATH=$scratch/bin:$PATH
 
 # begin NAME: a case of its own folder, from which the script runs.
@@ -153,10 +154,11 @@ lists() {
     begin 'words of a line'
     write 'a b.cu' ':'
     list=$'# nvcc -c no.cu\n\n   \n-c \'a b.cu\' "-DX=$HOME y" -o a.o # nvcc -c no.cu\n  zigrunk-nvcc -c a\\ b.cu -o b.o\n/opt/nvcc -c "a b.cu" -o c.o\nzigrunk-nvcc /opt/nvcc -c "a b.cu" -o d.o'
+    list=${list//\/opt/$scratch/opt}
     batch
     same status "$status" 0
     same calls "$(grep calls "$room/log" | sed "s,\[/[^]]*/call-[^]]*\],TMP,; s,$room,ROOM," | sort)" \
-        "$(printf '%s\n' "zigrunk [calls] [ROOM/work] TMP [/opt/nvcc] [-c] [a b.cu] [-o] [c.o]" "zigrunk [calls] [ROOM/work] TMP [/opt/nvcc] [-c] [a b.cu] [-o] [d.o]" \
+        "$(printf '%s\n' "zigrunk [calls] [ROOM/work] TMP [$scratch/opt/nvcc] [-c] [a b.cu] [-o] [c.o]" "zigrunk [calls] [ROOM/work] TMP [$scratch/opt/nvcc] [-c] [a b.cu] [-o] [d.o]" \
             "zigrunk [calls] [ROOM/work] TMP [nvcc] [-c] [a b.cu] [-DX=$HOME y] [-o] [a.o]" "zigrunk [calls] [ROOM/work] TMP [nvcc] [-c] [a b.cu] [-o] [b.o]" | sort)"
     end
 
@@ -280,7 +282,7 @@ databases() {
     write 'o dd/a b.cu' 'echo "a in $(pwd)"'
     write sub/b.cu 'echo "b in $(pwd)"' 'exit 6'
     cat > "$room/work/compile_commands.json" << END
-[ {"directory": "o dd", "file": "a b.cu", "command": "/opt/nvcc -c \\"a b.cu\\" '-DQ=*;x' -o a.o", "output": "a.o"},
+[ {"directory": "o dd", "file": "a b.cu", "command": "$scratch/opt/nvcc -c \\"a b.cu\\" '-DQ=*;x' -o a.o", "output": "a.o"},
   {"directory": "$room/work/sub", "file": "b.cu", "arguments": ["nvcc", "-c", "b.cu", "-DT=two\\nlines", "-o", "b.o"]},
   {"directory": ".", "file": "m.c", "arguments": ["echo", "other", "*"]} ]
 END
