@@ -122,8 +122,8 @@ fn put_place(
     put(members, alloc, "cacheable", cacheable)
 }
 
-// Adds a list of texts to an object.
-fn put_texts(
+/// Adds a list of texts to an object.
+pub fn put_texts(
     alloc: Global,
     members: &mut Map<String, Value>,
     key: &str,

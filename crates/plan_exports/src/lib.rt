@@ -14,7 +14,7 @@ mod shell;
 
 pub use compdb::compdb_text;
 pub use dot::dot_text;
-pub use json::json_text;
+pub use json::{json_text, put_text, put_texts};
 pub use ninja::ninja_file;
 pub use refusal::Refusal;
 pub use shell::shell_script;

@@ -1,6 +1,6 @@
 //! `Debug` prints the fields of the records that no case prints.
 
-use c_calls::{InputText, ListAnswer, Range, Status, TextAnswer};
+use c_texts::{InputText, ListAnswer, Range, Status, TextAnswer};
 use cuda_plans::cicc::Cicc;
 use cuda_plans::compiler::Places;
 use cuda_plans::cudafe::CudaFE;

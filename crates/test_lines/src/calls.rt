@@ -1,7 +1,7 @@
 //! The calls that cases make, by name.
 
 use crate::{
-    c_texts, faults, inputs, languages, lines, normal_forms, paths, shell_texts, tables, taken,
+    faults, inputs, languages, lines, normal_forms, paths, shell_calls, shell_texts, tables, taken,
 };
 use std::alloc::Global;
 use std::fs::Files;
@@ -25,7 +25,7 @@ impl Calls for LineCalls {
             name if taken::is_call(name) => taken::answer(alloc, case),
             name if normal_forms::is_call(name) => normal_forms::answer(alloc, case),
             name if shell_texts::is_call(name) => shell_texts::answer(alloc, case),
-            name if c_texts::is_call(name) => c_texts::answer(alloc, case),
+            name if shell_calls::is_call(name) => shell_calls::answer(alloc, case),
             name if languages::is_call(name) => languages::answer(alloc, case),
             name if faults::is_call(name) => faults::answer(alloc, case),
             name if paths::is_call(name) => paths::answer(alloc, case),

@@ -7,7 +7,6 @@ use std::io;
 use std::process::ExitCode;
 use test_tables::run_program;
 
-mod c_texts;
 mod calls;
 mod faults;
 mod inputs;
@@ -18,6 +17,7 @@ mod normal_forms;
 mod paths;
 mod reading;
 mod settings;
+mod shell_calls;
 mod shell_texts;
 mod tables;
 mod taken;

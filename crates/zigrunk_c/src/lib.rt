@@ -1,24 +1,23 @@
-//! The exports of libzigrunk: for each call of `c_calls`, one C function. The header is `bindings/c/zigrunk.h`.
+//! The exports of libzigrunk: for each call of `c_texts`, `c_lines` and `c_plans`, one C function. The header is `bindings/c/zigrunk.h`.
 #![tactic(auto)]
 
 ghost use Rattle.std.specs.Prelude.{◌≡◌, map};
-ghost use Rattle.c_calls.specs.Asking.{candidates_outcome, lookups_outcome};
-ghost use Rattle.c_calls.specs.Lines as lines;
-ghost use Rattle.c_calls.specs.Memory.{bytes_of};
-ghost use Rattle.c_calls.specs.NvccOutline.{nvcc_outcome};
-ghost use Rattle.c_calls.specs.Outcomes.{GivesList, GivesText, TellsText, described, of_text};
-ghost use Rattle.c_calls.specs.PlanRecords.{plan_records};
-ghost use Rattle.c_calls.specs.Planning.{plan_outcome};
-ghost use Rattle.c_calls.specs.Records.{GivesRecords};
-ghost use Rattle.c_calls.specs.Renaming.{remap_outcome};
-ghost use Rattle.c_calls.specs.Shell.{quote_outcome, split_outcome};
-ghost use Rattle.c_calls.specs.Statuses.{with_number};
-ghost use Rattle.c_calls.specs.Version as version;
+ghost use Rattle.c_lines.specs.Lines as lines;
+ghost use Rattle.c_lines.specs.NvccOutline.{nvcc_outcome};
+ghost use Rattle.c_plans.specs.Asking.{candidates_outcome, lookups_outcome};
+ghost use Rattle.c_plans.specs.PlanRecords.{plan_records};
+ghost use Rattle.c_plans.specs.Planning.{plan_outcome};
+ghost use Rattle.c_plans.specs.Records.{GivesRecords};
+ghost use Rattle.c_plans.specs.Renaming.{remap_outcome};
+ghost use Rattle.c_texts.specs.Memory.{bytes_of};
+ghost use Rattle.c_texts.specs.Outcomes.{GivesList, GivesText, TellsText, described, of_text};
+ghost use Rattle.c_texts.specs.Shell.{quote_outcome, split_outcome};
+ghost use Rattle.c_texts.specs.Statuses.{with_number};
+ghost use Rattle.c_texts.specs.Version as version;
 
-use c_calls::{
-    CommandRecord, GroupRecord, InputText, LineCall, ListAnswer, NvccLineCall, PlanCall, Range,
-    RecordsAnswer, TextAnswer,
-};
+use c_lines::{LineCall, NvccLineCall};
+use c_plans::{CommandRecord, GroupRecord, PlanCall, RecordsAnswer};
+use c_texts::{InputText, ListAnswer, Range, TextAnswer};
 use std::alloc::Global;
 
 /// The number of the binary interface.
@@ -26,7 +25,7 @@ use std::alloc::Global;
 pub extern "C" fn zigrunk_abi_version() -> u32
     ensures { result ≡ version.abi_version }
 {
-    c_calls::abi_version()
+    c_texts::abi_version()
 }
 
 /// Writes the library's version.
@@ -34,7 +33,7 @@ pub extern "C" fn zigrunk_abi_version() -> u32
 pub extern "C" fn zigrunk_version(out: &mut [u8]) -> TextAnswer
     ensures { TellsText (of_text version.version_text) result out.old out.new }
 {
-    c_calls::version(out)
+    c_texts::version(out)
 }
 
 /// Writes the text of a status.
@@ -42,7 +41,7 @@ pub extern "C" fn zigrunk_version(out: &mut [u8]) -> TextAnswer
 pub extern "C" fn zigrunk_message(alloc: Global, status: i32, out: &mut [u8]) -> TextAnswer
     ensures { GivesText (described (with_number status)) result out.old out.new }
 {
-    c_calls::message(alloc, status, out)
+    c_texts::message(alloc, status, out)
 }
 
 /// Splits a text into the words that a shell reads.
@@ -55,7 +54,7 @@ pub extern "C" fn zigrunk_split(
 ) -> ListAnswer
     ensures { GivesList (split_outcome text.now) result ranges.old ranges.new out.old out.new }
 {
-    c_calls::split(alloc, text, ranges, out)
+    c_texts::split(alloc, text, ranges, out)
 }
 
 /// Quotes words for a shell.
@@ -67,7 +66,7 @@ pub extern "C" fn zigrunk_quote(
 ) -> TextAnswer
     ensures { GivesText (quote_outcome (map bytes_of words.now)) result out.old out.new }
 {
-    c_calls::quote(alloc, words, out)
+    c_texts::quote(alloc, words, out)
 }
 
 /// Lists the look-ups of programs that planning two dry runs makes.
@@ -82,7 +81,7 @@ pub extern "C" fn zigrunk_lookups(
 ) -> ListAnswer
     ensures { GivesList (lookups_outcome dry1.now dry2.now cwd.now) result ranges.old ranges.new out.old out.new }
 {
-    c_calls::lookups(alloc, dry1, dry2, cwd, ranges, out)
+    c_plans::lookups(alloc, dry1, dry2, cwd, ranges, out)
 }
 
 /// Lists the paths that a look-up of a program tries.
@@ -97,7 +96,7 @@ pub extern "C" fn zigrunk_candidates(
 ) -> ListAnswer
     ensures { GivesList (candidates_outcome program.now path.now cwd.now) result ranges.old ranges.new out.old out.new }
 {
-    c_calls::candidates(alloc, program, path, cwd, ranges, out)
+    c_plans::candidates(alloc, program, path, cwd, ranges, out)
 }
 
 /// Plans two dry runs of one nvcc call.
@@ -110,7 +109,7 @@ pub extern "C" fn zigrunk_plan(
 ) -> TextAnswer
     ensures { GivesText (plan_outcome call.now form) result out.old out.new }
 {
-    c_calls::plan(alloc, call, form, out)
+    c_plans::plan(alloc, call, form, out)
 }
 
 /// Plans two dry runs of one nvcc call, as records.
@@ -127,7 +126,7 @@ pub extern "C" fn zigrunk_plan_records(
         (record { groups = groups.old; commands = commands.old; ranges = ranges.old; bytes = out.old })
         (record { groups = groups.new; commands = commands.new; ranges = ranges.new; bytes = out.new }) }
 {
-    c_calls::plan_records(alloc, call, groups, commands, ranges, out)
+    c_plans::plan_records(alloc, call, groups, commands, ranges, out)
 }
 
 /// Writes what a line of a tool says as JSON.
@@ -135,7 +134,7 @@ pub extern "C" fn zigrunk_plan_records(
 pub extern "C" fn zigrunk_line(alloc: Global, call: &LineCall<'_>, out: &mut [u8]) -> TextAnswer
     ensures { GivesText (lines.json_outcome call.now) result out.old out.new }
 {
-    c_calls::line(alloc, call, out)
+    c_lines::line(alloc, call, out)
 }
 
 /// Lists the words that a line of a tool is written back as.
@@ -148,7 +147,7 @@ pub extern "C" fn zigrunk_line_words(
 ) -> ListAnswer
     ensures { GivesList (lines.words_outcome call.now) result ranges.old ranges.new out.old out.new }
 {
-    c_calls::line_words(alloc, call, ranges, out)
+    c_lines::line_words(alloc, call, ranges, out)
 }
 
 /// Lists what to run for a line of nvcc.
@@ -161,7 +160,7 @@ pub extern "C" fn zigrunk_nvcc_line(
 ) -> ListAnswer
     ensures { GivesList (nvcc_outcome call.now) result ranges.old ranges.new out.old out.new }
 {
-    c_calls::nvcc_line(alloc, call, ranges, out)
+    c_lines::nvcc_line(alloc, call, ranges, out)
 }
 
 /// Lists words with canonical names of generated files.
@@ -175,5 +174,5 @@ pub extern "C" fn zigrunk_remap(
 ) -> ListAnswer
     ensures { GivesList (remap_outcome (map bytes_of words.now) (map bytes_of suffixes.now)) result ranges.old ranges.new out.old out.new }
 {
-    c_calls::remap(alloc, words, suffixes, ranges, out)
+    c_plans::remap(alloc, words, suffixes, ranges, out)
 }

@@ -1,0 +1,265 @@
+//! Lines of tools: what they say, and the words that they are written back as.
+
+ghost use Rattle.std.specs.Prelude.{◌≡◌, [], IfOk, map, string_bytes};
+ghost use Rattle.texts.specs.Fault.{UnlessMemory};
+ghost use Rattle.cuda_below.specs.Compiler.{reading_of};
+ghost use Rattle.c_lines.specs.LineCalls.{line_seen};
+ghost use Rattle.c_texts.specs.Failures.{answered};
+ghost use Rattle.c_texts.specs.Outcomes.{GivesList, GivesText, of_texts};
+ghost use Rattle.c_lines.specs.Lines as spec;
+
+use crate::line_call::{Line, LineCall, LineTool, line_in};
+use crate::line_json::line_json;
+use c_texts::{
+    ListAnswer, Outcome, Range, Status, TextAnswer, answered, give_list, give_text, refused,
+    refused_with,
+};
+use cuda_below::arguments::{CompilerArguments, ParsedArguments};
+use cuda_below::command::CompileCommandImpl;
+use cuda_below::compiler::{CCompilerImpl, Places};
+use cuda_plans::cicc::Cicc;
+use cuda_plans::cudafe::CudaFE;
+use cuda_plans::nvcc::Nvcc;
+use cuda_plans::nvhpc::Nvhpc;
+use cuda_plans::ptxas::Ptxas;
+use std::alloc::{AllocError, Global};
+use texts::fault::Fault;
+use texts::text::Text;
+
+// What a compiler reads a line as.
+fn read_with<C: CCompilerImpl>(
+    alloc: Global,
+    compiler: &C,
+    line: &Line<'_>,
+) -> Result<CompilerArguments<ParsedArguments>, AllocError>
+    ensures { IfOk result (λ r. reading_of r ≡ C.reading compiler.now line.now.words line.now.cwd.now line.now.variables) }
+{
+    let variables = line.variables.as_slice();
+    compiler.parse_arguments(alloc, line.words.as_slice(), line.cwd, variables)
+}
+
+// nvhpc's compiler of C, or that of C++.
+fn nvhpc(nvcplusplus: bool) -> Nvhpc
+    ensures plusplus { result.nvcplusplus ≡ nvcplusplus }
+{
+    Nvhpc {
+        nvcplusplus,
+        version: None,
+    }
+}
+
+// What a tool reads a line as.
+fn read_by(
+    alloc: Global,
+    tool: LineTool,
+    line: &Line<'_>,
+) -> Result<CompilerArguments<ParsedArguments>, AllocError>
+    ensures { IfOk result (λ r. reading_of r ≡ spec.read_by tool (line_seen line.now)) }
+{
+    match tool {
+        LineTool::Cicc => read_with(alloc, &Cicc { version: None }, line),
+        LineTool::Ptxas => read_with(alloc, &Ptxas { version: None }, line),
+        LineTool::CudaFe => read_with(alloc, &CudaFE { version: None }, line),
+        LineTool::Nvcc => read_with(alloc, &Nvcc::gcc(), line),
+        LineTool::Nvc => read_with(alloc, &nvhpc(false), line),
+        LineTool::Nvcxx => read_with(alloc, &nvhpc(true), line),
+    }
+}
+
+// Why no cache can serve a line.
+fn not_cached(alloc: Global, text: &str, word: &Option<Text>) -> Result<String, AllocError>
+    ensures { IfOk result (λ message. string_bytes message ≡ spec.not_cached text.now word.now) }
+{
+    match word {
+        None => Ok(format!(in alloc; "cannot cache: {text}")?),
+        Some(word) => {
+            let word = word.as_str();
+            Ok(format!(in alloc; "cannot cache: {text}: {word}")?)
+        }
+    }
+}
+
+// The refusal of a line that no cache can serve.
+fn uncached(alloc: Global, text: &str, word: &Option<Text>) -> Result<Outcome, AllocError>
+    ensures { IfOk result (λ outcome. outcome ≡ spec.bad_line (spec.not_cached text.now word.now)) }
+{
+    let message = not_cached(alloc, text, word)?;
+    Ok(refused_with(alloc, Status::BadLine, message))
+}
+
+// The refusal of a line that compiles nothing.
+fn no_compilation(alloc: Global) -> Result<Outcome, AllocError>
+    ensures { IfOk result (λ outcome. outcome ≡ spec.bad_line spec.no_compilation) }
+{
+    let message = String::from_str(alloc, "not a compilation")?;
+    Ok(refused_with(alloc, Status::BadLine, message))
+}
+
+// The JSON of arguments.
+fn json_of(alloc: Global, parsed: &ParsedArguments) -> Result<Outcome, AllocError>
+    ensures { IfOk result (λ outcome. outcome ≡ spec.json_of parsed.now) }
+{
+    Ok(Outcome::of_text(line_json(alloc, parsed)?, alloc))
+}
+
+// The JSON of what a line was read as.
+fn json_of_reading(
+    alloc: Global,
+    reading: &CompilerArguments<ParsedArguments>,
+) -> Result<Outcome, AllocError>
+    ensures { IfOk result (λ outcome. outcome ≡ spec.if_accepted (reading_of reading.now) spec.json_of) }
+{
+    match reading {
+        CompilerArguments::Ok(parsed) => json_of(alloc, parsed),
+        CompilerArguments::CannotCache(text, word) => uncached(alloc, text, word),
+        CompilerArguments::NotCompilation => no_compilation(alloc),
+    }
+}
+
+// The JSON of a line.
+fn json_by(alloc: Global, tool: LineTool, line: &Line<'_>) -> Result<Outcome, AllocError>
+    ensures { IfOk result (λ outcome. outcome ≡ spec.json_by tool (line_seen line.now)) }
+{
+    let reading = read_by(alloc, tool, line)?;
+    json_of_reading(alloc, &reading)
+}
+
+// The places of a line: its own path of the input, and no directory.
+fn places_of(alloc: Global, parsed: &ParsedArguments) -> Result<Places, AllocError>
+    ensures { IfOk result (λ places. places ≡ spec.places_of parsed.now) }
+{
+    Ok(Places {
+        temp_dir: Text::new(String::new(alloc)),
+        canonical_input: parsed.input.try_clone(alloc)?,
+    })
+}
+
+// A list of words.
+fn listed(alloc: Global, words: &[String]) -> Result<Outcome, AllocError>
+    ensures { IfOk result (λ outcome. outcome ≡ of_texts (map string_bytes words.now)) }
+{
+    let mut outcome = Outcome::new(alloc);
+    outcome.push_all(words)?;
+    Ok(outcome)
+}
+
+// The words that a compiler writes arguments back as.
+fn words_with<C: CCompilerImpl>(
+    alloc: Global,
+    compiler: &C,
+    line: &Line<'_>,
+    parsed: &ParsedArguments,
+) -> Result<Outcome, Fault>
+where
+    C::Command: Drop,
+    ensures { UnlessMemory result (spec.words_told C.Command.arguments
+        (C.writing compiler.now [] parsed.now line.now.cwd.now line.now.variables (spec.places_of parsed.now))) }
+{
+    let places = places_of(alloc, parsed)?;
+    let variables = line.variables.as_slice();
+    let (command, _) = compiler.generate_compile_commands(
+        alloc, "", parsed, line.cwd, variables, &places,
+    )?;
+    Ok(listed(alloc, command.get_arguments())?)
+}
+
+// The words that a tool writes arguments back as.
+fn words_by(
+    alloc: Global,
+    tool: LineTool,
+    line: &Line<'_>,
+    parsed: &ParsedArguments,
+) -> Result<Outcome, Fault>
+    ensures { UnlessMemory result (spec.words_by tool (line_seen line.now) parsed.now) }
+{
+    match tool {
+        LineTool::Cicc => words_with(alloc, &Cicc { version: None }, line, parsed),
+        LineTool::Ptxas => words_with(alloc, &Ptxas { version: None }, line, parsed),
+        LineTool::CudaFe => words_with(alloc, &CudaFE { version: None }, line, parsed),
+        LineTool::Nvcc => words_with(alloc, &Nvcc::gcc(), line, parsed),
+        LineTool::Nvc => words_with(alloc, &nvhpc(false), line, parsed),
+        LineTool::Nvcxx => words_with(alloc, &nvhpc(true), line, parsed),
+    }
+}
+
+// The words that arguments are written back as, or the fault of arguments that can't be.
+fn words_of_parsed(
+    alloc: Global,
+    tool: LineTool,
+    line: &Line<'_>,
+    parsed: &ParsedArguments,
+) -> Result<Outcome, AllocError>
+    ensures { IfOk result (λ outcome. outcome ≡ answered (spec.words_by tool (line_seen line.now) parsed.now)) }
+{
+    answered(alloc, words_by(alloc, tool, line, parsed))
+}
+
+// The words that what a line was read as is written back as.
+fn words_of_reading(
+    alloc: Global,
+    tool: LineTool,
+    line: &Line<'_>,
+    reading: &CompilerArguments<ParsedArguments>,
+) -> Result<Outcome, AllocError>
+    ensures { IfOk result (λ outcome. outcome
+        ≡ spec.if_accepted (reading_of reading.now) (λ p. answered (spec.words_by tool (line_seen line.now) p))) }
+{
+    match reading {
+        CompilerArguments::Ok(parsed) => words_of_parsed(alloc, tool, line, parsed),
+        CompilerArguments::CannotCache(text, word) => uncached(alloc, text, word),
+        CompilerArguments::NotCompilation => no_compilation(alloc),
+    }
+}
+
+// The words that a line is written back as.
+fn rewritten_by(alloc: Global, tool: LineTool, line: &Line<'_>) -> Result<Outcome, AllocError>
+    ensures { IfOk result (λ outcome. outcome ≡ spec.rewritten_by tool (line_seen line.now)) }
+{
+    let reading = read_by(alloc, tool, line)?;
+    words_of_reading(alloc, tool, line, &reading)
+}
+
+// The JSON of a call's line.
+fn json_outcome(alloc: Global, call: &LineCall<'_>) -> Result<Outcome, AllocError>
+    ensures { IfOk result (λ outcome. outcome ≡ spec.json_outcome call.now) }
+{
+    match line_in(alloc, call)? {
+        Ok(found) => json_by(alloc, found.tool, &found.line),
+        Err(status) => refused(alloc, status),
+    }
+}
+
+// The words of a call's line.
+fn words_outcome(alloc: Global, call: &LineCall<'_>) -> Result<Outcome, AllocError>
+    ensures { IfOk result (λ outcome. outcome ≡ spec.words_outcome call.now) }
+{
+    match line_in(alloc, call)? {
+        Ok(found) => rewritten_by(alloc, found.tool, &found.line),
+        Err(status) => refused(alloc, status),
+    }
+}
+
+/// Reads a line of a tool, as `CCompilerImpl::parse_arguments` of that tool, and writes what it says as JSON.
+///
+/// A number without a meaning is the first refusal, then a text that isn't UTF-8. Then comes a line that compiles nothing,
+/// or that no cache can serve.
+pub fn line(alloc: Global, call: &LineCall<'_>, out: &mut [u8]) -> TextAnswer
+    ensures { GivesText (spec.json_outcome call.now) result out.old out.new }
+{
+    give_text(json_outcome(alloc, call), out)
+}
+
+/// Reads a line of a tool and lists the words that it is written back as, as `CCompilerImpl::generate_compile_commands` of that
+/// tool. The input's path is that of the line.
+///
+/// Refuses what [`line`] refuses, and then arguments that can't be written back.
+pub fn line_words(
+    alloc: Global,
+    call: &LineCall<'_>,
+    ranges: &mut [Range],
+    out: &mut [u8],
+) -> ListAnswer
+    ensures { GivesList (spec.words_outcome call.now) result ranges.old ranges.new out.old out.new }
+{
+    give_list(words_outcome(alloc, call), ranges, out)
+}

@@ -1,0 +1,151 @@
+//! Lines of nvcc: what to run for a plan of one.
+
+ghost use Rattle.std.specs.Prelude.{◌≡◌, IfOk, Result};
+ghost use Rattle.std.specs.Option.{option_map};
+ghost use Rattle.texts.specs.declared.fault.Fault.{Fault};
+ghost use Rattle.texts.specs.Fault.{UnlessMemory};
+ghost use Rattle.nvcc_calls.specs.declared.answer.Answer.{Answer};
+ghost use Rattle.c_lines.specs.LineCalls.{line_seen};
+ghost use Rattle.c_texts.specs.Outcomes.{GivesList, of_texts};
+ghost use Rattle.c_lines.specs.NvccOutline as spec;
+
+use crate::line_call::{Line, line_of};
+use c_texts::{
+    InputText, ListAnswer, Outcome, Range, Status, Variable, failed, give_list, refused,
+    refused_with, text_of,
+};
+use nvcc_calls::{Answer, NvccCall, Outline, read_call};
+use std::alloc::{AllocError, Global};
+use texts::fault::Fault;
+
+/// A call that reads a line of nvcc.
+#[repr(C)]
+#[derive(Clone, Copy, Debug)]
+pub struct NvccLineCall<'a> {
+    /// The working directory.
+    pub cwd: InputText<'a>,
+    /// The temporary directory.
+    pub tmp: InputText<'a>,
+    /// nvcc's path or name.
+    pub nvcc: InputText<'a>,
+    /// The words, without nvcc's name.
+    pub words: &'a [InputText<'a>],
+    /// The call's environment.
+    pub variables: &'a [Variable<'a>],
+    /// 0.
+    pub reserved: u64,
+}
+
+// The directory and the program of a call.
+#[derive(Clone, Copy)]
+struct Tools<'a> {
+    tmp: &'a str,
+    nvcc: &'a str,
+}
+
+// These texts, if both are UTF-8.
+fn tools_of<'a>(tmp: &InputText<'a>, nvcc: &InputText<'a>) -> Option<Tools<'a>>
+    ensures { option_map spec.tools_seen result ≡ spec.tools_of tmp.now nvcc.now }
+{
+    Some(Tools {
+        tmp: text_of(tmp.bytes)?,
+        nvcc: text_of(nvcc.bytes)?,
+    })
+}
+
+// What an nvcc line says, as a list.
+fn listed(alloc: Global, outline: &Outline) -> Result<Outcome, AllocError>
+    ensures { IfOk result (λ outcome. outcome ≡ of_texts (spec.texts_of outline.now)) }
+{
+    let mut outcome = Outcome::new(alloc);
+    outcome.push(outline.dependencies.as_str())?;
+    outcome.push(outline.first.as_str())?;
+    outcome.push(outline.second.as_str())?;
+    outcome.push(outline.flag.as_str())?;
+    outcome.push(outline.jobs.as_str())?;
+    outcome.push(outline.keep_dir.as_str())?;
+    Ok(outcome)
+}
+
+// The refusal of a line that goes to nvcc.
+fn passed(alloc: Global, why: &str) -> Result<Outcome, AllocError>
+    ensures { IfOk result (λ outcome. outcome ≡ spec.passed why.now) }
+{
+    let message = format!(in alloc; "goes to nvcc: {why}")?;
+    Ok(refused_with(alloc, Status::ToNvcc, message))
+}
+
+// The outcome of an answer.
+fn outcome_of(alloc: Global, answer: &Answer) -> Result<Outcome, AllocError>
+    ensures { IfOk result (λ outcome. outcome ≡ spec.outcome_of answer.now) }
+{
+    match answer {
+        Answer::Split(outline) => listed(alloc, outline),
+        Answer::Pass(why) => passed(alloc, why.as_str()),
+    }
+}
+
+// The outcome of an answer, or of a fault.
+fn told(alloc: Global, answer: Result<Answer, Fault>) -> Result<Outcome, AllocError>
+    ensures { (expected : Result Answer Fault) → UnlessMemory answer expected → IfOk result (λ outcome. outcome ≡ spec.told expected) }
+{
+    match answer {
+        Ok(answer) => outcome_of(alloc, &answer),
+        Err(Fault::Memory) => Err(AllocError),
+        Err(fault) => failed(alloc, &fault),
+    }
+}
+
+// What an nvcc line says.
+fn outcome_at(alloc: Global, tools: Tools<'_>, line: &Line<'_>) -> Result<Outcome, AllocError>
+    ensures { IfOk result (λ outcome. outcome ≡ spec.outcome_at (spec.tools_seen tools.entry) (line_seen line.now)) }
+{
+    let call = NvccCall {
+        cwd: line.cwd,
+        tmp: tools.tmp,
+        nvcc: tools.nvcc,
+        words: line.words.as_slice(),
+    };
+    told(alloc, read_call(alloc, &call, line.variables.as_slice()))
+}
+
+// A call whose reserved number is 0.
+fn valid_outcome(alloc: Global, call: &NvccLineCall<'_>) -> Result<Outcome, AllocError>
+    ensures { IfOk result (λ outcome. outcome ≡ spec.valid_outcome call.now) }
+{
+    let Some(tools) = tools_of(&call.tmp, &call.nvcc) else {
+        return refused(alloc, Status::NotUtf8);
+    };
+    let Some(line) = line_of(alloc, &call.cwd, call.words, call.variables)? else {
+        return refused(alloc, Status::NotUtf8);
+    };
+    outcome_at(alloc, tools, &line)
+}
+
+// What the line of a call says.
+fn nvcc_outcome(alloc: Global, call: &NvccLineCall<'_>) -> Result<Outcome, AllocError>
+    ensures { IfOk result (λ outcome. outcome ≡ spec.nvcc_outcome call.now) }
+{
+    if call.reserved == 0 {
+        valid_outcome(alloc, call)
+    } else {
+        refused(alloc, Status::BadNumber)
+    }
+}
+
+/// Reads a line of nvcc as `nvcc_calls::read_call`, and lists the texts of its `Outline`: the command that writes the
+/// dependency file, the first dry run, the second, the compilation flag, the number of jobs and the directory that keeps
+/// generated files.
+///
+/// A number without a meaning is the first refusal, then a text that isn't UTF-8, then a line that goes to nvcc, and at last
+/// a fault of the line.
+pub fn nvcc_line(
+    alloc: Global,
+    call: &NvccLineCall<'_>,
+    ranges: &mut [Range],
+    out: &mut [u8],
+) -> ListAnswer
+    ensures { GivesList (spec.nvcc_outcome call.now) result ranges.old ranges.new out.old out.new }
+{
+    give_list(nvcc_outcome(alloc, call), ranges, out)
+}

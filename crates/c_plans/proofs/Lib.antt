@@ -1,0 +1,3 @@
+pub mod AllOrNothing
+pub mod RecordLemmas
+pub mod RecordReading

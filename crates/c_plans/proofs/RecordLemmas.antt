@@ -1,0 +1,171 @@
+-- Texts and records behind others.
+use Rattle.std.proofs.Common.{◌≡◌, ◌++◌, ◌+◌, ◌-◌, ◌∷◌, [], ℕ, suc, List, map, length, refl, sym, ap, ◌∙◌, arith, length-append, append_assoc}
+use Rattle.std.specs.List.{flat_map}
+use Rattle.command_groups.specs.declared.origins.Origin.{Origin}
+use Rattle.command_groups.specs.declared.origins.PlanWithOrigins.{PlanWithOrigins}
+use Rattle.command_groups.specs.declared.plan.Dropped.{Dropped}
+use Rattle.command_groups.specs.declared.plan.NvccGeneratedSubcommand.{NvccGeneratedSubcommand}
+use Rattle.plan_exports.specs.Numbered.{of_group, of_groups}
+use Rattle.c_texts.proofs.TextLemmas.{texts-then, count-then}
+use Rattle.c_plans.specs.declared.record.CommandRecord.{CommandRecord}
+use Rattle.c_plans.specs.declared.record.GroupRecord.{GroupRecord}
+use Rattle.c_texts.specs.Outcomes.{Outcome, of_texts, with_texts}
+use Rattle.c_plans.specs.Records.{Entry, Recorded, command_entry, dropped_entry, variable_texts, texts_of, record_at, records_at, group_record, groups_at, records_of, with_entry, with_entries, with_groups, without_records}
+
+-- ---- records
+
+-- there are as many records as commands
+pub records-length : (first : ℕ) (entries : List Entry) → length (records_at first entries) ≡ length entries
+records-length first [] = refl
+records-length first (e ∷ entries) = ap suc (records-length (first + length (texts_of e)) entries)
+
+records-append : (first : ℕ) (xs ys : List Entry) → records_at first (xs ++ ys) ≡ records_at first xs ++ records_at (first + length (flat_map texts_of xs)) ys
+records-append first [] ys =
+    let same : first ≡ first + 0 = omega arith in
+    ap (λ n. records_at n ys) same
+records-append first (x ∷ xs) ys =
+    let joined : length (texts_of x ++ flat_map texts_of xs) ≡ length (texts_of x) + length (flat_map texts_of xs) = length-append (texts_of x) (flat_map texts_of xs) in
+    let same : first + length (texts_of x) + length (flat_map texts_of xs) ≡ first + length (texts_of x ++ flat_map texts_of xs) = omega (arith, joined) in
+    ap (λ t. record_at first x ∷ t) (records-append (first + length (texts_of x)) xs ys ∙ ap (λ n. records_at (first + length (texts_of x)) xs ++ records_at n ys) same)
+
+texts-append : (xs ys : List Entry) → flat_map texts_of (xs ++ ys) ≡ flat_map texts_of xs ++ flat_map texts_of ys
+texts-append [] ys = refl
+texts-append (x ∷ xs) ys = ap (λ t. texts_of x ++ t) (texts-append xs ys) ∙ sym (append_assoc (texts_of x) (flat_map texts_of xs) (flat_map texts_of ys))
+
+-- commands behind commands
+pub entries-then : (recorded : Recorded) (xs ys : List Entry) → with_entries (with_entries recorded xs) ys ≡ with_entries recorded (xs ++ ys)
+entries-then recorded xs ys =
+    let outcome = recorded.0 in
+    let commands = recorded.1.1 in
+    let first = length outcome.1.0 in
+    let here : List CommandRecord = records_at first xs in
+    let next = length (with_texts outcome (flat_map texts_of xs)).1.0 in
+    let texts : with_texts (with_texts outcome (flat_map texts_of xs)) (flat_map texts_of ys) ≡ with_texts outcome (flat_map texts_of (xs ++ ys)) =
+    texts-then outcome (flat_map texts_of xs) (flat_map texts_of ys) ∙ ap (with_texts outcome) (sym (texts-append xs ys)) in
+    let records : (commands ++ here) ++ records_at next ys ≡ commands ++ records_at first (xs ++ ys) =
+    append_assoc commands here (records_at next ys)
+    ∙ ap (λ n. commands ++ (here ++ records_at n ys)) (count-then outcome (flat_map texts_of xs))
+    ∙ ap (λ t. commands ++ t) (sym (records-append first xs ys)) in
+    λ i. (texts i, (recorded.1.0, records i))
+
+-- a command, and others behind it
+pub entry-then : (recorded : Recorded) (e : Entry) (ys : List Entry) → with_entries (with_entry recorded e) ys ≡ with_entries recorded (e ∷ ys)
+entry-then recorded e ys =
+    let outcome = recorded.0 in
+    let commands = recorded.1.1 in
+    let first = length outcome.1.0 in
+    let next = length (with_texts outcome (texts_of e)).1.0 in
+    let records : (commands ++ record_at first e ∷ []) ++ records_at next ys ≡ commands ++ records_at first (e ∷ ys) =
+    append_assoc commands (record_at first e ∷ []) (records_at next ys)
+    ∙ ap (λ n. commands ++ record_at first e ∷ records_at n ys) (count-then outcome (texts_of e)) in
+    λ i. (texts-then outcome (texts_of e) (flat_map texts_of ys) i, (recorded.1.0, records i))
+
+-- how many records there are, behind further commands
+pub commands-then : (recorded : Recorded) (xs : List Entry) → length (with_entries recorded xs).1.1 ≡ length recorded.1.1 + length xs
+commands-then recorded xs =
+    length-append recorded.1.1 (records_at (length recorded.0.1.0) xs)
+    ∙ ap (λ n. length recorded.1.1 + n) (records-length (length recorded.0.1.0) xs)
+
+-- groups and their commands, and others behind them
+pub groups-then : (recorded : Recorded) (here there : List GroupRecord) (xs ys : List Entry) →
+    with_groups (with_groups recorded here xs) there ys ≡ with_groups recorded (here ++ there) (xs ++ ys)
+groups-then recorded here there xs ys =
+    let groups : (recorded.1.0 ++ here) ++ there ≡ recorded.1.0 ++ (here ++ there) = append_assoc recorded.1.0 here there in
+    λ i. ((entries-then recorded xs ys i).0, (groups i, (entries-then recorded xs ys i).1.1))
+
+-- a group has as many commands as before
+pub group-length : {X : Type 0} (described : ℕ → ℕ → NvccGeneratedSubcommand → X) (number group : ℕ) (commands : List NvccGeneratedSubcommand) →
+    length (of_group described number group commands) ≡ length commands
+group-length described number group [] = refl
+group-length described number group (c ∷ commands) = ap suc (group-length described (number + 1) group commands)
+
+-- ---- a command and its texts
+
+-- the texts of a command, added one after the other
+pub command-texts : (t0 t1 t2 t3 t4 : Outcome) (e : Entry) →
+    t1 ≡ with_texts t0 (e.program ∷ []) → t2 ≡ with_texts t1 (e.cwd ∷ []) → t3 ≡ with_texts t2 e.arguments → t4 ≡ with_texts t3 (variable_texts e.variables) →
+    t4 ≡ with_texts t0 (texts_of e)
+command-texts t0 t1 t2 t3 t4 e first second third fourth =
+    let words = e.arguments in
+    let pairs = variable_texts e.variables in
+    let both : t2 ≡ with_texts t0 (e.program ∷ e.cwd ∷ []) = second ∙ ap (λ t. with_texts t (e.cwd ∷ [])) first ∙ texts-then t0 (e.program ∷ []) (e.cwd ∷ []) in
+    let three : t3 ≡ with_texts t0 (e.program ∷ e.cwd ∷ words) = third ∙ ap (λ t. with_texts t words) both ∙ texts-then t0 (e.program ∷ e.cwd ∷ []) words in
+    fourth ∙ ap (λ t. with_texts t pairs) three ∙ texts-then t0 (e.program ∷ e.cwd ∷ words) pairs
+
+-- a command's record, by how many texts there are before each part
+pub command-record : (t0 t1 t2 t3 : Outcome) (e : Entry) →
+    t1 ≡ with_texts t0 (e.program ∷ []) → t2 ≡ with_texts t1 (e.cwd ∷ []) → t3 ≡ with_texts t2 e.arguments →
+    record {
+      arguments = record { offset = length t2.1.0; length = length e.arguments };
+      variables = record { offset = length t3.1.0; length = length (variable_texts e.variables) };
+      program = length t0.1.0;
+      cwd = length t1.1.0;
+      group = e.group;
+      run = e.run;
+      line = e.line;
+      reason = e.reason;
+      cacheable = e.cacheable;
+    } ≡ record_at (length t0.1.0) e
+command-record t0 t1 t2 t3 e first second third =
+    let n = length t0.1.0 in
+    let one : length t1.1.0 ≡ n + 1 = ap (λ (t : Outcome). length t.1.0) first ∙ count-then t0 (e.program ∷ []) in
+    let counted : length t2.1.0 ≡ length t1.1.0 + 1 = ap (λ (t : Outcome). length t.1.0) second ∙ count-then t1 (e.cwd ∷ []) in
+    let two : length t2.1.0 ≡ n + 2 = omega (arith, one, counted) in
+    let behind : length t3.1.0 ≡ n + 2 + length e.arguments = ap (λ (t : Outcome). length t.1.0) third ∙ count-then t2 e.arguments ∙ ap (λ k. k + length e.arguments) two in
+    λ i. record {
+      arguments = record { offset = two i; length = length e.arguments };
+      variables = record { offset = behind i; length = length (variable_texts e.variables) };
+      program = n;
+      cwd = one i;
+      group = e.group;
+      run = e.run;
+      line = e.line;
+      reason = e.reason;
+      cacheable = e.cacheable;
+    }
+
+-- groups and their commands, and then further commands, where nothing is before them
+pub from-nothing : (groups : List GroupRecord) (xs ys : List Entry) →
+    with_entries (with_groups (without_records (of_texts [])) groups xs) ys ≡ (of_texts (flat_map texts_of (xs ++ ys)), (groups, records_at 0 (xs ++ ys)))
+from-nothing groups xs ys =
+    let nothing : Recorded = without_records (of_texts []) in
+    let both : with_entries (with_entries nothing xs) ys ≡ with_entries nothing (xs ++ ys) = entries-then nothing xs ys in
+    λ i. ((both i).0, (groups, (both i).1.1))
+
+-- a group and its commands, and then further groups, whose numbers begin behind it
+pub groups-step : (described : ℕ → ℕ → NvccGeneratedSubcommand → Entry) (last group : ℕ) (before after : Recorded) (commands : List NvccGeneratedSubcommand)
+    (left : List (List NvccGeneratedSubcommand)) →
+    after ≡ with_groups before (group_record last group (length before.1.1) commands ∷ []) (of_group described (length before.1.1) group commands) →
+    with_groups after (groups_at last (group + 1) (length after.1.1) left) (of_groups described (length after.1.1) (group + 1) left) ≡
+    with_groups before (groups_at last group (length before.1.1) (commands ∷ left)) (of_groups described (length before.1.1) group (commands ∷ left))
+groups-step described last group before after commands left pushed =
+    let n = length before.1.1 in
+    let next = n + length commands in
+    let entries : List Entry = of_group described n group commands in
+    let here : List GroupRecord = group_record last group n commands ∷ [] in
+    let now : Recorded = with_groups before here entries in
+    let counted : length now.1.1 ≡ next = commands-then before entries ∙ ap (λ k. n + k) (group-length described n group commands) in
+    ap (λ (r : Recorded). with_groups r (groups_at last (group + 1) (length r.1.1) left) (of_groups described (length r.1.1) (group + 1) left)) pushed
+    ∙ ap (λ k. with_groups now (groups_at last (group + 1) k left) (of_groups described k (group + 1) left)) counted
+    ∙ groups-then before here (groups_at last (group + 1) next left) entries (of_groups described next (group + 1) left)
+
+-- the records of a plan, by its parts
+abbrev made : List Origin → List (List NvccGeneratedSubcommand) → ℕ → List Dropped → Recorded
+made origins groups count dropped =
+    let entries = of_groups (command_entry origins) 0 0 groups ++ map (dropped_entry count) dropped in
+    (of_texts (flat_map texts_of entries), (groups_at (count - 1) 0 0 groups, records_at 0 entries))
+
+pub records-are : (planned : PlanWithOrigins) (start middle end : Recorded) (origins : List Origin) (groups : List (List NvccGeneratedSubcommand)) (count : ℕ)
+    (dropped : List Dropped) →
+    start ≡ without_records (of_texts []) →
+    middle ≡ with_groups start (groups_at (count - 1) 0 (length start.1.1) groups) (of_groups (command_entry origins) (length start.1.1) 0 groups) →
+    end ≡ with_entries middle (map (dropped_entry count) dropped) →
+    origins ≡ planned.origins → groups ≡ planned.plan.groups → count ≡ length planned.plan.groups → dropped ≡ planned.plan.dropped →
+    end ≡ records_of planned
+records-are planned start middle end origins groups count dropped first second third lines lists counted lost =
+    let others : List Entry = map (dropped_entry count) dropped in
+    third
+    ∙ ap (λ r. with_entries r others) second
+    ∙ ap (λ (r : Recorded). with_entries (with_groups r (groups_at (count - 1) 0 (length r.1.1) groups) (of_groups (command_entry origins) (length r.1.1) 0 groups)) others) first
+    ∙ from-nothing (groups_at (count - 1) 0 0 groups) (of_groups (command_entry origins) 0 0 groups) others
+    ∙ (λ i. made (lines i) (lists i) (counted i) (lost i))

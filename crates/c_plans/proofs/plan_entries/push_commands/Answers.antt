@@ -1,0 +1,23 @@
+use Rattle.std.proofs.Common.{ℕ, ◌+◌, List, ◌∷◌, [], length, drop, sym, ap, ◌∙◌, length-append}
+use Rattle.plan_exports.specs.Numbered.{of_group}
+use Rattle.plan_exports.proofs.Pushing.{next-left}
+use Rattle.c_plans.specs.Records.{Entry, command_entry, record_at, with_entry, with_entries}
+use Rattle.c_plans.proofs.RecordLemmas.{entry-then}
+use Rattle.c_plans.proofs.plan_entries.push_commands.Goals as goal
+
+pub loop-command-preserved : goal.loop-command-preserved
+loop-command-preserved c =
+    let described = command_entry c.args.origins.now in
+    let group = c.args.group in
+    let commands = c.args.commands.now in
+    let i = c.loop-command.command-index in
+    let command = c.command-item.result in
+    let before = c.loop-command.recorded in
+    let n = length before.1.1 in
+    let e : Entry = described n group command in
+    let rest : ℕ → List Entry = λ m. of_group described m group (drop (i + 1) commands) in
+    ap (λ r. with_entries r (rest (length r.1.1))) c.in_ok-push_command.ensures
+    ∙ ap (λ m. with_entries (with_entry before e) (rest m)) (length-append before.1.1 (record_at (length before.0.1.0) e ∷ []))
+    ∙ entry-then before e (rest (n + 1))
+    ∙ ap (λ cs. with_entries before (of_group described n group cs)) (sym (next-left commands i command c.loop-command-test.true c.command-item.is))
+    ∙ c.loop-command.invariant

@@ -1,0 +1,28 @@
+use Rattle.std.proofs.Common.{length, sym, ◌∙◌, string_bytes}
+use Rattle.c_plans.specs.Records.{Entry, entry_seen}
+use Rattle.c_plans.proofs.RecordLemmas.{command-texts, command-record}
+use Rattle.c_texts.proofs.TextLemmas.{mapped-length}
+use Rattle.c_plans.proofs.recorded.push_texts.Goals as goal
+
+pub returns-clause-texts : goal.returns-clause-texts
+returns-clause-texts c =
+    command-texts c.args.texts.now c.push.new.self c.push-2.new.self c.push_list.new.self c.push_variables.new.texts (entry_seen c.args.entry)
+    c.in_ok-push.ensures c.in_ok-push-2.ensures c.in_ok-arguments.ensures.texts c.in_ok-variables.ensures.texts
+
+pub returns-clause-record : goal.returns-clause-record
+returns-clause-record c =
+    let e : Entry = entry_seen c.args.entry in
+    let words = c.in_ok-arguments.ensures.range
+    ∙ (λ i. record { offset = length c.push-2.new.self.1.0; length = sym (mapped-length string_bytes c.args.entry.arguments.now) i }) in
+    (λ i. record {
+      arguments = words i;
+      variables = c.in_ok-variables.ensures.range i;
+      program = c.count-program.ensures i;
+      cwd = c.count-cwd.ensures i;
+      group = e.group;
+      run = e.run;
+      line = e.line;
+      reason = e.reason;
+      cacheable = e.cacheable;
+    })
+    ∙ command-record c.args.texts.now c.push.new.self c.push-2.new.self c.push_list.new.self e c.in_ok-push.ensures c.in_ok-push-2.ensures c.in_ok-arguments.ensures.texts

@@ -1,0 +1,30 @@
+-- The calls on look-ups of programs.
+use Rattle.std.specs.Prelude.{ℕ, List, [], ◌∷◌}
+use Rattle.std.specs.List.{flat_map}
+use Rattle.program_lookups.specs.declared.lookup.Lookup.{Lookup}
+use Rattle.program_lookups.specs.Asked.{asked_of_both}
+use Rattle.program_lookups.specs.Candidates.{candidates_of}
+use Rattle.c_texts.specs.Failures.{if_utf8}
+use Rattle.c_texts.specs.Outcomes.{Outcome, of_texts}
+use Rattle.c_texts.specs.Memory.{text_of}
+
+-- the texts of a look-up: the program, and the value of `PATH`
+abbrev pub texts_of : Lookup → List (List ℕ)
+texts_of lookup = lookup.program ∷ lookup.path ∷ []
+
+-- the look-ups of two dry runs from a working directory
+abbrev pub lookups_from : List ℕ → List ℕ → List ℕ → Outcome
+lookups_from dry1 dry2 cwd = of_texts (flat_map texts_of (asked_of_both dry1 dry2 cwd))
+
+-- the same, if the directory is UTF-8
+abbrev pub lookups_outcome : List ℕ → List ℕ → List ℕ → Outcome
+lookups_outcome dry1 dry2 cwd = if_utf8 (text_of cwd) (lookups_from dry1 dry2)
+
+-- the paths of a look-up from a working directory
+abbrev pub candidates_from : List ℕ → List ℕ → List ℕ → Outcome
+candidates_from program path cwd = of_texts (candidates_of program path cwd)
+
+-- the same, if all three texts are UTF-8
+abbrev pub candidates_outcome : List ℕ → List ℕ → List ℕ → Outcome
+candidates_outcome program path cwd =
+    if_utf8 (text_of program) (λ program. if_utf8 (text_of path) (λ path. if_utf8 (text_of cwd) (candidates_from program path)))

@@ -1,0 +1,10 @@
+pub mod Asking
+pub mod PlanCalls
+pub mod PlanForms
+pub mod PlanRecords
+pub mod Planning
+pub mod RecordLaws
+pub mod Records
+pub mod RecordsRead
+pub mod Refusals
+pub mod Renaming

@@ -1,0 +1,186 @@
+-- A plan as records, and texts one behind the other.
+use Rattle.std.specs.Prelude.{◌≡◌, ◌⊎◌, ℕ, ◌+◌, ◌-◌, List, [], ◌∷◌, ◌++◌, ◌&&◌, ◌==◌, Bool, if◌then◌else◌, length, map, string_bytes}
+use Rattle.std.specs.List.{flat_map}
+use Rattle.compilers.specs.declared.command.Cacheable.{Cacheable}
+use Rattle.compilers.specs.declared.command.Cacheable.TheVariants.{Yes, No}
+use Rattle.command_groups.specs.declared.origins.Origin.{Origin}
+use Rattle.command_groups.specs.declared.origins.PlanWithOrigins.{PlanWithOrigins}
+use Rattle.command_groups.specs.declared.plan.Dropped.{Dropped}
+use Rattle.command_groups.specs.declared.plan.NvccGeneratedSubcommand.{NvccGeneratedSubcommand}
+use Rattle.command_groups.specs.declared.plan.Reason.{Reason}
+use Rattle.command_groups.specs.declared.plan.Reason.TheVariants.{NotCuda, NoCiccGroup, NoPtxasGroup, Superseded}
+use Rattle.plan_exports.specs.Json.{origin_at}
+use Rattle.plan_exports.specs.Numbered.{of_groups}
+use Rattle.texts.specs.Variables.{pair_of}
+use Rattle.c_texts.specs.declared.memory.Range.{Range}
+use Rattle.c_plans.specs.declared.record.CommandRecord.{CommandRecord}
+use Rattle.c_plans.specs.declared.record.GroupRecord.{GroupRecord}
+use Rattle.c_plans.specs.declared.record.RecordsAnswer.{RecordsAnswer}
+use Rattle.c_plans.specs.declared.recorded.Entry.{Entry as HeldEntry}
+use Rattle.c_texts.specs.declared.status.Status.TheVariants.{Memory}
+use Rattle.c_texts.specs.Memory.{fits, filled}
+use Rattle.c_texts.specs.Outcomes.{Outcome, of_texts, refused, with_texts}
+
+-- what the records say of a command, in a group or dropped. Its reason is 0 if it is in a group
+pub record Entry : Type 0 where
+  pub program : List ℕ
+  pub cwd : List ℕ
+  pub arguments : List (List ℕ)
+  pub variables : List (List ℕ × List ℕ)
+  pub group : ℕ
+  pub run : ℕ
+  pub line : ℕ
+  pub reason : ℕ
+  pub cacheable : ℕ
+
+-- the number of a reason
+abbrev pub reason_number : Reason → ℕ
+reason_number NotCuda = 1
+reason_number NoCiccGroup = 2
+reason_number NoPtxasGroup = 3
+reason_number Superseded = 4
+
+-- 1 if a cache may serve a command's outputs
+abbrev pub cacheable_number : Cacheable → ℕ
+cacheable_number Yes = 1
+cacheable_number No = 0
+
+-- a command by its number and that of its group, given where each command comes from
+abbrev pub command_entry : List Origin → ℕ → ℕ → NvccGeneratedSubcommand → Entry
+command_entry origins id group c =
+    let origin = origin_at origins id in
+    record { program = c.exe; cwd = c.cwd; arguments = c.args; variables = c.env_vars; group = group; run = origin.run; line = origin.line; reason = 0; cacheable = cacheable_number c.cacheable }
+
+-- a dropped command. Its group is the number of groups, which no group has
+abbrev pub dropped_entry : ℕ → Dropped → Entry
+dropped_entry groups d =
+    record { program = d.exe; cwd = []; arguments = d.args; variables = []; group = groups; run = d.run; line = d.line; reason = reason_number d.reason; cacheable = 0 }
+
+-- all commands of a plan: those of the groups in plan order, then the dropped ones
+abbrev pub entries_of : PlanWithOrigins → List Entry
+entries_of planned =
+    of_groups (command_entry planned.origins) 0 0 planned.plan.groups
+    ++ map (dropped_entry (length planned.plan.groups)) planned.plan.dropped
+
+-- the texts of variables: a name, its value, a name, ..
+abbrev pub variable_texts : List (List ℕ × List ℕ) → List (List ℕ)
+variable_texts variables = flat_map (λ p. p.0 ∷ p.1 ∷ []) variables
+
+-- the texts of a command: its program, its working directory, its arguments and its variables
+abbrev pub texts_of : Entry → List (List ℕ)
+texts_of e = e.program ∷ e.cwd ∷ (e.arguments ++ variable_texts e.variables)
+
+-- a command's record, if the first of its texts has this number
+abbrev pub record_at : ℕ → Entry → CommandRecord
+record_at first e = record {
+  arguments = record { offset = first + 2; length = length e.arguments };
+  variables = record { offset = first + 2 + length e.arguments; length = length (variable_texts e.variables) };
+  program = first;
+  cwd = first + 1;
+  group = e.group;
+  run = e.run;
+  line = e.line;
+  reason = e.reason;
+  cacheable = e.cacheable;
+}
+
+-- the records of commands, if the first of their texts has this number
+abbrev pub records_at : ℕ → List Entry → List CommandRecord
+records_at first [] = []
+records_at first (e ∷ entries) = record_at first e ∷ records_at (first + length (texts_of e)) entries
+
+-- the stage of the group with a number, if the last one has this number: the first is the front group, the last the final group
+abbrev pub stage_at : ℕ → ℕ → ℕ
+stage_at last group = if group == 0 then 0 else if group == last then 2 else 1
+
+-- a group's record, given the number of the last group, its own and that of its first command
+abbrev pub group_record : {X : Type 0} → ℕ → ℕ → ℕ → List X → GroupRecord
+group_record last group first commands =
+    record { commands = record { offset = first; length = length commands }; stage = stage_at last group; reserved = 0 }
+
+-- the records of groups from such numbers on
+abbrev pub groups_at : {X : Type 0} → ℕ → ℕ → ℕ → List (List X) → List GroupRecord
+groups_at last group first [] = []
+groups_at last group first (commands ∷ groups) = group_record last group first commands ∷ groups_at last (group + 1) (first + length commands) groups
+
+-- what a call ends with that writes records
+abbrev pub Recorded : Type 0
+Recorded = Outcome × (List GroupRecord × List CommandRecord)
+
+-- a refusal, without records
+abbrev pub without_records : Outcome → Recorded
+without_records outcome = (outcome, ([], []))
+
+-- a plan as records
+abbrev pub records_of : PlanWithOrigins → Recorded
+records_of planned =
+    let groups = planned.plan.groups in
+    let entries = entries_of planned in
+    (of_texts (flat_map texts_of entries), (groups_at (length groups - 1) 0 0 groups, records_at 0 entries))
+
+-- records with that of a further command
+abbrev pub with_entry : Recorded → Entry → Recorded
+with_entry recorded e =
+    (with_texts recorded.0 (texts_of e), (recorded.1.0, recorded.1.1 ++ record_at (length recorded.0.1.0) e ∷ []))
+
+-- the same of commands
+abbrev pub with_entries : Recorded → List Entry → Recorded
+with_entries recorded entries =
+    (with_texts recorded.0 (flat_map texts_of entries), (recorded.1.0, recorded.1.1 ++ records_at (length recorded.0.1.0) entries))
+
+-- the same of groups and their commands
+abbrev pub with_groups : Recorded → List GroupRecord → List Entry → Recorded
+with_groups recorded groups entries =
+    let more = with_entries recorded entries in
+    (more.0, (more.1.0 ++ groups, more.1.1))
+
+-- what a record says, as the code holds it
+abbrev pub entry_seen : HeldEntry → Entry
+entry_seen e = record {
+  program = e.program.now;
+  cwd = e.cwd.now;
+  arguments = map string_bytes e.arguments.now;
+  variables = map pair_of e.variables.now;
+  group = e.group;
+  run = e.run;
+  line = e.line;
+  reason = e.reason;
+  cacheable = e.cacheable;
+}
+
+-- whether all of an answer fits into the memory for groups, commands, ranges and bytes
+abbrev pub all_fit : Recorded → List GroupRecord → List CommandRecord → List Range → List ℕ → Bool
+all_fit recorded groups commands ranges bytes =
+    fits recorded.1.0 groups && fits recorded.1.1 commands && fits recorded.0.1.0 ranges && fits recorded.0.1.1 bytes
+
+-- a call's memory that is written: groups, commands, ranges and bytes
+pub record Buffers : Type 0 where
+  pub groups : List GroupRecord
+  pub commands : List CommandRecord
+  pub ranges : List Range
+  pub bytes : List ℕ
+
+-- the sizes of an answer
+abbrev pub sizes_of : Recorded → RecordsAnswer
+sizes_of recorded = record {
+  status = recorded.0.0;
+  groups = length recorded.1.0;
+  commands = length recorded.1.1;
+  ranges = length recorded.0.1.0;
+  length = length recorded.0.1.1;
+}
+
+-- A call tells what it ends with: its status, and how much of each there is. All of it is written if it fits, else nothing.
+abbrev pub TellsRecords : Recorded → RecordsAnswer → Buffers → Buffers → Type 0
+TellsRecords recorded answer before after =
+    let all = all_fit recorded before.groups before.commands before.ranges before.bytes in
+    (answer ≡ sizes_of recorded)
+    × (after.groups ≡ filled all recorded.1.0 before.groups)
+    × (after.commands ≡ filled all recorded.1.1 before.commands)
+    × (after.ranges ≡ filled all recorded.0.1.0 before.ranges)
+    × (after.bytes ≡ filled all recorded.0.1.1 before.bytes)
+
+-- It tells what is expected, or that an allocation failed.
+abbrev pub GivesRecords : Recorded → RecordsAnswer → Buffers → Buffers → Type 0
+GivesRecords expected answer before after =
+    TellsRecords expected answer before after ⊎ TellsRecords (without_records (refused Memory)) answer before after

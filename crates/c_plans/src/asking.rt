@@ -1,0 +1,111 @@
+//! Look-ups of programs.
+
+ghost use Rattle.std.specs.Prelude.{◌≡◌, IfOk, OnOk};
+ghost use Rattle.std.specs.List.{flat_map};
+ghost use Rattle.c_texts.specs.Outcomes.{GivesList, with_texts};
+ghost use Rattle.c_plans.specs.Asking as spec;
+
+use c_texts::{ListAnswer, Outcome, Range, Status, give_list, refused, text_of};
+use program_lookups::{Lookup, asked_lookups_of_both};
+use std::alloc::{AllocError, Global};
+
+// Adds the texts of look-ups.
+fn push_lookups(outcome: &mut Outcome, lookups: &[Lookup]) -> Result<(), AllocError>
+    ensures { OnOk result (outcome.new ≡ with_texts outcome.old (flat_map spec.texts_of lookups.now)) }
+{
+    for lookup in lookups {
+        outcome.push(lookup.program.as_str())?;
+        outcome.push(lookup.path.as_str())?;
+    }
+    Ok(())
+}
+
+// The look-ups of two dry runs.
+fn lookups_from(alloc: Global, dry1: &[u8], dry2: &[u8], cwd: &str) -> Result<Outcome, AllocError>
+    ensures { IfOk result (λ outcome. outcome ≡ spec.lookups_from dry1.now dry2.now cwd.now) }
+{
+    let lookups = asked_lookups_of_both(alloc, dry1, dry2, cwd)?;
+    let mut outcome = Outcome::new(alloc);
+    push_lookups(&mut outcome, lookups.as_slice())?;
+    Ok(outcome)
+}
+
+// The same, of a working directory that may be no text.
+fn lookups_outcome(
+    alloc: Global,
+    dry1: &[u8],
+    dry2: &[u8],
+    cwd: &[u8],
+) -> Result<Outcome, AllocError>
+    ensures { IfOk result (λ outcome. outcome ≡ spec.lookups_outcome dry1.now dry2.now cwd.now) }
+{
+    match text_of(cwd) {
+        Some(cwd) => lookups_from(alloc, dry1, dry2, cwd),
+        None => refused(alloc, Status::NotUtf8),
+    }
+}
+
+/// The look-ups of programs that planning two dry runs makes from the working directory `cwd`, as `asked_lookups_of_both`:
+/// two texts for each, the program and the value of `PATH`.
+pub fn lookups(
+    alloc: Global,
+    dry1: &[u8],
+    dry2: &[u8],
+    cwd: &[u8],
+    ranges: &mut [Range],
+    out: &mut [u8],
+) -> ListAnswer
+    ensures { GivesList (spec.lookups_outcome dry1.now dry2.now cwd.now) result ranges.old ranges.new out.old out.new }
+{
+    give_list(lookups_outcome(alloc, dry1, dry2, cwd), ranges, out)
+}
+
+// The paths of a look-up.
+fn candidates_from(
+    alloc: Global,
+    program: &str,
+    path: &str,
+    cwd: &str,
+) -> Result<Outcome, AllocError>
+    ensures { IfOk result (λ outcome. outcome ≡ spec.candidates_from program.now path.now cwd.now) }
+{
+    let paths = program_lookups::candidates(alloc, program, path, cwd)?;
+    let mut outcome = Outcome::new(alloc);
+    outcome.push_all(paths.as_slice())?;
+    Ok(outcome)
+}
+
+// The same, of bytes that may be no texts.
+fn candidates_outcome(
+    alloc: Global,
+    program: &[u8],
+    path: &[u8],
+    cwd: &[u8],
+) -> Result<Outcome, AllocError>
+    ensures { IfOk result (λ outcome. outcome ≡ spec.candidates_outcome program.now path.now cwd.now) }
+{
+    let Some(program) = text_of(program) else {
+        return refused(alloc, Status::NotUtf8);
+    };
+    let Some(path) = text_of(path) else {
+        return refused(alloc, Status::NotUtf8);
+    };
+    match text_of(cwd) {
+        Some(cwd) => candidates_from(alloc, program, path, cwd),
+        None => refused(alloc, Status::NotUtf8),
+    }
+}
+
+/// The paths that a look-up of a program tries, in order, as `program_lookups::candidates`.
+pub fn candidates(
+    alloc: Global,
+    program: &[u8],
+    path: &[u8],
+    cwd: &[u8],
+    ranges: &mut [Range],
+    out: &mut [u8],
+) -> ListAnswer
+    ensures { GivesList (spec.candidates_outcome program.now path.now cwd.now) result ranges.old ranges.new out.old out.new }
+{
+    give_list(candidates_outcome(alloc, program, path, cwd), ranges, out)
+}

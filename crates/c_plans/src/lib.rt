@@ -1,0 +1,24 @@
+//! The calls on plans over memory that a C program owns: the look-ups of programs that a plan needs, the plan of two dry runs,
+//! as text or as records, and canonical names.
+//!
+//! `c_texts` says what holds of all calls. The crate `zigrunk_c` exports these to C, one function for each.
+#![tactic(auto)]
+
+mod asking;
+pub mod laws;
+mod plan_call;
+mod plan_entries;
+mod plan_forms;
+mod planned_records;
+mod planning;
+mod record;
+mod recorded;
+mod refusal;
+mod renaming;
+
+pub use asking::{candidates, lookups};
+pub use plan_call::{FoundProgram, PlanCall};
+pub use planned_records::plan_records;
+pub use planning::plan;
+pub use record::{CommandRecord, GroupRecord, RecordsAnswer};
+pub use renaming::remap;

@@ -1,0 +1,207 @@
+//! What a caller passes for a plan.
+
+ghost use Rattle.std.specs.Prelude.{◌≡◌, IfOk};
+ghost use Rattle.std.specs.List.{list_all};
+ghost use Rattle.std.specs.Option.{option_copied, option_map};
+ghost use Rattle.program_lookups.specs.Lookup.{lookup_of};
+ghost use Rattle.c_plans.specs.PlanCalls as spec;
+
+use c_texts::{InputText, Variable, text_of, variables_of, words_of};
+use compilers::compiler::NvccHostCompiler;
+use program_lookups::{Entry, Lookup, Snapshot};
+use std::alloc::{AllocError, Global};
+use texts::text::Text;
+use texts::variables::Variables;
+use texts::words::Words;
+
+/// A row of the table of look-ups: a program and a value of `PATH`, and what the caller found.
+#[repr(C)]
+#[derive(Clone, Copy, Debug)]
+pub struct FoundProgram<'a> {
+    pub program: InputText<'a>,
+    pub path: InputText<'a>,
+    /// The program's path, if `is_found` is 1.
+    pub found: InputText<'a>,
+    /// 1 if there is such a program, else 0.
+    pub is_found: u32,
+    /// 0.
+    pub reserved: u32,
+}
+
+/// A call that plans two dry runs.
+#[repr(C)]
+#[derive(Clone, Copy, Debug)]
+pub struct PlanCall<'a> {
+    /// What nvcc prints with `--dryrun --keep`.
+    pub dry1: InputText<'a>,
+    /// What nvcc prints with `--keep-dir TMP --dryrun --keep`.
+    pub dry2: InputText<'a>,
+    /// The working directory.
+    pub cwd: InputText<'a>,
+    /// The temporary directory.
+    pub tmp: InputText<'a>,
+    /// The option that says what nvcc makes, as `-c`.
+    pub flag: InputText<'a>,
+    /// The directory that keeps generated files, if `keeps` is 1.
+    pub keep_dir: InputText<'a>,
+    /// The call's environment.
+    pub variables: &'a [Variable<'a>],
+    /// Suffixes of generated files, behind the standard ones.
+    pub suffixes: &'a [InputText<'a>],
+    /// Answers the look-ups of programs. A look-up without a row finds nothing.
+    pub lookups: &'a [FoundProgram<'a>],
+    /// 1 if generated files keep nvcc's names, else 0.
+    pub keeps: u32,
+    /// The number of the host compiler.
+    pub host_compiler: u32,
+    /// 0.
+    pub reserved: u64,
+}
+
+/// The host compiler with a number.
+pub(crate) fn host_of(number: u32) -> Option<NvccHostCompiler>
+    ensures { result ≡ spec.host_of number }
+{
+    match number {
+        0 => Some(NvccHostCompiler::Gcc),
+        1 => Some(NvccHostCompiler::Msvc),
+        2 => Some(NvccHostCompiler::Nvhpc),
+        _ => None,
+    }
+}
+
+// Whether the numbers of rows have a meaning.
+fn have_numbers(rows: &[FoundProgram<'_>]) -> bool
+    ensures { result ≡ list_all spec.has_row_numbers rows.now }
+{
+    rows.iter()
+        .all(|row| row.is_found <= 1 && row.reserved == 0)
+}
+
+/// Whether the flags and the reserved numbers of a call have a meaning.
+pub(crate) fn has_numbers(call: &PlanCall<'_>) -> bool
+    ensures { result ≡ spec.has_numbers call.now }
+{
+    call.keeps <= 1 && call.reserved == 0 && have_numbers(call.lookups)
+}
+
+/// The texts of a call but those of its tables.
+#[derive(Clone, Copy)]
+pub(crate) struct Texts<'a> {
+    pub(crate) cwd: &'a str,
+    pub(crate) tmp: &'a str,
+    pub(crate) flag: &'a str,
+    pub(crate) keep_dir: &'a str,
+}
+
+/// These texts of a call, if all are UTF-8.
+pub(crate) fn texts_of<'a>(call: &PlanCall<'a>) -> Option<Texts<'a>>
+    ensures { option_map spec.texts_seen result ≡ spec.texts_of call.now }
+{
+    Some(Texts {
+        cwd: text_of(call.cwd.bytes)?,
+        tmp: text_of(call.tmp.bytes)?,
+        flag: text_of(call.flag.bytes)?,
+        keep_dir: text_of(call.keep_dir.bytes)?,
+    })
+}
+
+/// A text that there is if a flag isn't 0.
+pub(crate) fn if_flag(flag: u32, text: &str) -> Option<&str>
+    ensures { option_copied result ≡ spec.if_flag flag text.now }
+{
+    if flag == 0 { None } else { Some(text) }
+}
+
+// A copy of what a row says that a look-up found.
+fn found_in(alloc: Global, is_found: u32, found: &str) -> Result<Option<Text>, AllocError>
+    ensures { IfOk result (λ text. text ≡ spec.if_flag is_found found.now) }
+{
+    if is_found == 0 {
+        return Ok(None);
+    }
+    Ok(Some(Text::copy_of(alloc, found)?))
+}
+
+// A row as an entry, given its texts.
+fn entry_with(
+    alloc: Global,
+    cwd: &str,
+    program: &str,
+    path: &str,
+    found: Option<Text>,
+) -> Result<Entry, AllocError>
+    ensures { IfOk result (λ entry. entry ≡ record { lookup = lookup_of program.now path.now cwd.now; found = found }) }
+{
+    Ok(Entry {
+        lookup: Lookup::copy_of(alloc, program, path, cwd)?,
+        found,
+    })
+}
+
+// A row as an entry, if its texts are UTF-8.
+fn entry_of(alloc: Global, cwd: &str, row: &FoundProgram<'_>) -> Result<Option<Entry>, AllocError>
+    ensures { IfOk result (λ entry. entry ≡ spec.valid_entry cwd.now row.now) }
+{
+    let Some(program) = text_of(row.program.bytes) else {
+        return Ok(None);
+    };
+    let Some(path) = text_of(row.path.bytes) else {
+        return Ok(None);
+    };
+    let Some(found) = text_of(row.found.bytes) else {
+        return Ok(None);
+    };
+    let found = found_in(alloc, row.is_found, found)?;
+    Ok(Some(entry_with(alloc, cwd, program, path, found)?))
+}
+
+// Rows as entries, if all their texts are UTF-8.
+fn entries_of(
+    alloc: Global,
+    cwd: &str,
+    rows: &[FoundProgram<'_>],
+) -> Result<Option<Snapshot>, AllocError>
+    ensures { IfOk result (λ found. found ≡ spec.entries_of cwd.now rows.now) }
+{
+    let mut entries = Vec::new(alloc);
+    for row in rows {
+        let Some(entry) = entry_of(alloc, cwd, row)? else {
+            return Ok(None);
+        };
+        entries.push(entry)?;
+    }
+    Ok(Some(Snapshot::new(entries)))
+}
+
+/// Copies of the tables of a call.
+#[derive(Drop)]
+pub(crate) struct Tables {
+    pub(crate) suffixes: Words,
+    pub(crate) variables: Variables,
+    pub(crate) found: Snapshot,
+}
+
+/// The tables of a call, if all their texts are UTF-8.
+pub(crate) fn tables_of(
+    alloc: Global,
+    cwd: &str,
+    call: &PlanCall<'_>,
+) -> Result<Option<Tables>, AllocError>
+    ensures { IfOk result (λ tables. tables ≡ spec.tables_of cwd.now call.now) }
+{
+    let Some(suffixes) = words_of(alloc, call.suffixes)? else {
+        return Ok(None);
+    };
+    let Some(variables) = variables_of(alloc, call.variables)? else {
+        return Ok(None);
+    };
+    let Some(found) = entries_of(alloc, cwd, call.lookups)? else {
+        return Ok(None);
+    };
+    Ok(Some(Tables {
+        suffixes,
+        variables,
+        found,
+    }))
+}

@@ -1,0 +1,196 @@
+//! The commands of a plan as records.
+
+ghost use Rattle.std.specs.Prelude.{◌≡◌, ◌-◌, ◌∷◌, [], List, ℕ, IfOk, OnOk, length, map, vec_items};
+ghost use Rattle.command_groups.specs.declared.origins.Origin.{Origin};
+ghost use Rattle.plan_exports.specs.Json.{origin_at};
+ghost use Rattle.plan_exports.specs.Numbered.{of_group, of_groups};
+ghost use Rattle.c_texts.specs.Outcomes.{of_texts};
+ghost use Rattle.c_plans.specs.Records as spec;
+
+use crate::record::GroupRecord;
+use crate::recorded::{Entry, Recorded};
+use c_texts::{Outcome, Range};
+use command_groups::{Dropped, NvccGeneratedSubcommand, Origin, PlanWithOrigins, Reason};
+use compilers::command::Cacheable;
+use std::alloc::{AllocError, Global};
+
+// The number of a reason.
+fn reason_number(reason: Reason) -> u32
+    ensures { result ≡ spec.reason_number reason }
+{
+    match reason {
+        Reason::NotCuda => 1,
+        Reason::NoCiccGroup => 2,
+        Reason::NoPtxasGroup => 3,
+        Reason::Superseded => 4,
+    }
+}
+
+// 1 if a cache may serve a command's outputs.
+fn cacheable_number(cacheable: Cacheable) -> u32
+    ensures { result ≡ spec.cacheable_number cacheable }
+{
+    match cacheable {
+        Cacheable::Yes => 1,
+        Cacheable::No => 0,
+    }
+}
+
+// Where the command with a number comes from.
+fn origin_of(origins: &[Origin], id: usize) -> Origin
+    ensures { result ≡ origin_at origins.now id }
+{
+    match origins.get(id) {
+        Some(origin) => *origin,
+        None => Origin { line: 0, run: 0 },
+    }
+}
+
+// What a command's record says.
+fn command_entry<'a>(
+    origin: Origin,
+    group: usize,
+    command: &'a NvccGeneratedSubcommand,
+) -> Entry<'a>
+    ensures { (origins : List Origin) (id : ℕ) → origin ≡ origin_at origins id
+        → spec.entry_seen result ≡ spec.command_entry origins id group command.now }
+{
+    Entry {
+        program: command.exe.as_str(),
+        cwd: command.cwd.as_str(),
+        arguments: command.args.as_slice(),
+        variables: command.env_vars.as_slice(),
+        group,
+        run: origin.run,
+        line: origin.line,
+        reason: 0,
+        cacheable: cacheable_number(command.cacheable),
+    }
+}
+
+// What the record of a dropped command says, given the number of groups.
+fn dropped_entry<'a>(groups: usize, dropped: &'a Dropped) -> Entry<'a>
+    ensures { spec.entry_seen result ≡ spec.dropped_entry groups dropped.now }
+{
+    Entry {
+        program: dropped.exe.as_str(),
+        cwd: "",
+        arguments: dropped.args.as_slice(),
+        variables: &[],
+        group: groups,
+        run: dropped.run,
+        line: dropped.line,
+        reason: reason_number(dropped.reason),
+        cacheable: 0,
+    }
+}
+
+// The stage of a group, given the number of the last one.
+fn stage_at(last: usize, group: usize) -> u32
+    ensures { result ≡ spec.stage_at last group }
+{
+    if group == 0 {
+        0
+    } else if group == last {
+        2
+    } else {
+        1
+    }
+}
+
+// Adds a command of a group.
+fn push_command(
+    recorded: &mut Recorded,
+    origins: &[Origin],
+    group: usize,
+    command: &NvccGeneratedSubcommand,
+) -> Result<(), AllocError>
+    ensures { OnOk result (recorded.new
+        ≡ spec.with_entry recorded.old (spec.command_entry origins.now (length recorded.old.1.1) group command.now)) }
+{
+    let origin = origin_of(origins, recorded.commands_count());
+    recorded.push(command_entry(origin, group, command))
+}
+
+// Adds the commands of a group.
+fn push_commands(
+    recorded: &mut Recorded,
+    origins: &[Origin],
+    group: usize,
+    commands: &[NvccGeneratedSubcommand],
+) -> Result<(), AllocError>
+    ensures { OnOk result (recorded.new
+        ≡ spec.with_entries recorded.old (of_group (spec.command_entry origins.now) (length recorded.old.1.1) group commands.now)) }
+{
+    for command in commands {
+        push_command(recorded, origins, group, command)?;
+    }
+    Ok(())
+}
+
+// Adds a group and its commands.
+fn push_group(
+    recorded: &mut Recorded,
+    origins: &[Origin],
+    last: usize,
+    group: usize,
+    commands: &[NvccGeneratedSubcommand],
+) -> Result<(), AllocError>
+    ensures { OnOk result (recorded.new
+        ≡ spec.with_groups recorded.old (spec.group_record last group (length recorded.old.1.1) commands.now ∷ [])
+        (of_group (spec.command_entry origins.now) (length recorded.old.1.1) group commands.now)) }
+{
+    let record = GroupRecord {
+        commands: Range {
+            offset: recorded.commands_count(),
+            length: commands.len(),
+        },
+        stage: stage_at(last, group),
+        reserved: 0,
+    };
+    push_commands(recorded, origins, group, commands)?;
+    recorded.push_group(record)
+}
+
+// Adds the groups of a plan, with their commands.
+fn push_groups(
+    recorded: &mut Recorded,
+    origins: &[Origin],
+    groups: &[Vec<NvccGeneratedSubcommand>],
+) -> Result<(), AllocError>
+    ensures { OnOk result (recorded.new
+        ≡ spec.with_groups recorded.old
+        (spec.groups_at (length groups.now - 1) 0 (length recorded.old.1.1) (map vec_items groups.now))
+        (of_groups (spec.command_entry origins.now) (length recorded.old.1.1) 0 (map vec_items groups.now))) }
+{
+    let last = groups.len().saturating_sub(1);
+    for (group, commands) in groups.iter().enumerate() {
+        push_group(recorded, origins, last, group, commands.as_slice())?;
+    }
+    Ok(())
+}
+
+// Adds the dropped commands of a plan, given the number of its groups.
+fn push_dropped(
+    recorded: &mut Recorded,
+    groups: usize,
+    dropped: &[Dropped],
+) -> Result<(), AllocError>
+    ensures { OnOk result (recorded.new ≡ spec.with_entries recorded.old (map (spec.dropped_entry groups) dropped.now)) }
+{
+    for command in dropped {
+        recorded.push(dropped_entry(groups, command))?;
+    }
+    Ok(())
+}
+
+/// A plan as records.
+pub(crate) fn records_of(alloc: Global, planned: &PlanWithOrigins) -> Result<Recorded, AllocError>
+    ensures { IfOk result (λ recorded. recorded ≡ spec.records_of planned.now) }
+{
+    let groups = planned.plan.groups.as_slice();
+    let mut recorded = Recorded::of_outcome(alloc, Outcome::new(alloc));
+    push_groups(&mut recorded, planned.origins.as_slice(), groups)?;
+    push_dropped(&mut recorded, groups.len(), planned.plan.dropped.as_slice())?;
+    Ok(recorded)
+}

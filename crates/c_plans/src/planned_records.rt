@@ -1,0 +1,100 @@
+//! Planning the two dry runs of a call, as records.
+
+ghost use Rattle.std.specs.Prelude.{◌≡◌, IfOk, Result};
+ghost use Rattle.texts.specs.declared.fault.Fault.{Fault};
+ghost use Rattle.texts.specs.Fault.{UnlessMemory, UnlessMemoryIs};
+ghost use Rattle.command_groups.specs.declared.origins.PlanWithOrigins.{PlanWithOrigins};
+ghost use Rattle.c_texts.specs.Failures.{failed};
+ghost use Rattle.c_texts.specs.Outcomes as outcomes;
+ghost use Rattle.c_plans.specs.PlanRecords as spec;
+ghost use Rattle.c_plans.specs.Records as records;
+
+use crate::plan_call::{PlanCall, has_numbers, host_of, tables_of, texts_of};
+use crate::plan_entries::records_of;
+use crate::planning::planned;
+use crate::record::{CommandRecord, GroupRecord, RecordsAnswer};
+use crate::recorded::{Recorded, give_records};
+use c_texts::{Range, Status, refused, refused_with, status_of};
+use command_groups::PlanWithOrigins;
+use compilers::compiler::NvccHostCompiler;
+use std::alloc::{AllocError, Global};
+use texts::fault::Fault;
+
+// A refusal, with its text.
+fn refused_records(alloc: Global, status: Status) -> Result<Recorded, AllocError>
+    ensures { IfOk result (λ recorded. recorded ≡ records.without_records (outcomes.refused status)) }
+{
+    let outcome = refused(alloc, status)?;
+    Ok(Recorded::of_outcome(alloc, outcome))
+}
+
+// A fault: its status and its message.
+fn failed_records(alloc: Global, fault: &Fault) -> Result<Recorded, AllocError>
+    ensures { IfOk result (λ recorded. UnlessMemoryIs fault.now (recorded ≡ records.without_records (failed fault.now))) }
+{
+    let text = fault.message(alloc)?;
+    let outcome = refused_with(alloc, status_of(fault), text);
+    Ok(Recorded::of_outcome(alloc, outcome))
+}
+
+// A plan as records, or the fault of a plan that there isn't.
+fn recorded(alloc: Global, plan: Result<PlanWithOrigins, Fault>) -> Result<Recorded, AllocError>
+    ensures { (expected : Result PlanWithOrigins Fault) → UnlessMemory plan expected
+        → IfOk result (λ recorded. recorded ≡ spec.recorded expected) }
+{
+    match plan {
+        Ok(plan) => records_of(alloc, &plan),
+        Err(Fault::Memory) => Err(AllocError),
+        Err(fault) => failed_records(alloc, &fault),
+    }
+}
+
+// A call with numbers that have a meaning.
+fn records_with(
+    alloc: Global,
+    call: &PlanCall<'_>,
+    host: NvccHostCompiler,
+) -> Result<Recorded, AllocError>
+    ensures { IfOk result (λ recorded. recorded ≡ spec.records_with call.now host) }
+{
+    let Some(texts) = texts_of(call) else {
+        return refused_records(alloc, Status::NotUtf8);
+    };
+    let Some(tables) = tables_of(alloc, texts.cwd, call)? else {
+        return refused_records(alloc, Status::NotUtf8);
+    };
+    recorded(alloc, planned(alloc, call, host, texts, &tables))
+}
+
+// A call.
+fn records_outcome(alloc: Global, call: &PlanCall<'_>) -> Result<Recorded, AllocError>
+    ensures { IfOk result (λ recorded. recorded ≡ spec.plan_records call.now) }
+{
+    let Some(host) = host_of(call.host_compiler) else {
+        return refused_records(alloc, Status::BadNumber);
+    };
+    if has_numbers(call) {
+        records_with(alloc, call, host)
+    } else {
+        refused_records(alloc, Status::BadNumber)
+    }
+}
+
+/// Plans two dry runs of one `nvcc` call, as `plan_with_origins`, and writes the plan as records: its groups, its commands
+/// (those of the groups in plan order, then those that it dropped), and their texts.
+///
+/// The call refuses what `plan` refuses, in the same order, but for the form.
+pub fn plan_records(
+    alloc: Global,
+    call: &PlanCall<'_>,
+    groups: &mut [GroupRecord],
+    commands: &mut [CommandRecord],
+    ranges: &mut [Range],
+    out: &mut [u8],
+) -> RecordsAnswer
+    ensures { records.GivesRecords (spec.plan_records call.now) result
+        (record { groups = groups.old; commands = commands.old; ranges = ranges.old; bytes = out.old })
+        (record { groups = groups.new; commands = commands.new; ranges = ranges.new; bytes = out.new }) }
+{
+    give_records(records_outcome(alloc, call), groups, commands, ranges, out)
+}

@@ -1,0 +1,55 @@
+//! The records of a plan.
+
+use c_texts::Range;
+
+/// A group of a plan: commands, one after the other.
+#[repr(C)]
+#[derive(Clone, Copy, Debug)]
+pub struct GroupRecord {
+    /// Which elements of the list of commands.
+    pub commands: Range,
+    /// 0 for the front group, 1 for a device group, 2 for the final group.
+    pub stage: u32,
+    /// 0.
+    pub reserved: u32,
+}
+
+/// A command of a plan, or one that the plan dropped. Its texts are elements of the list of ranges.
+#[repr(C)]
+#[derive(Clone, Copy, Debug)]
+pub struct CommandRecord {
+    /// Which texts are the words after the program's name.
+    pub arguments: Range,
+    /// Which texts are its variables: a name, its value, a name, ..
+    pub variables: Range,
+    /// Which text is the program's path.
+    pub program: usize,
+    /// Which text is the working directory, empty if the command was dropped.
+    pub cwd: usize,
+    /// The number of its group, or the number of groups if it was dropped.
+    pub group: usize,
+    /// The dry run that it is of: 1 or 2.
+    pub run: usize,
+    /// The number of its line in the dry run, from 0.
+    pub line: usize,
+    /// 0 if it is in a group, else the number of the reason why it isn't.
+    pub reason: u32,
+    /// 1 if its outputs may come from a cache, else 0.
+    pub cacheable: u32,
+}
+
+/// The answer of a call that writes a plan as records.
+#[repr(C)]
+#[derive(Clone, Copy, Debug)]
+pub struct RecordsAnswer {
+    /// 0, or the number of a refusal.
+    pub status: i32,
+    /// How many groups there are, written or not.
+    pub groups: usize,
+    /// How many commands there are.
+    pub commands: usize,
+    /// How many texts there are.
+    pub ranges: usize,
+    /// The bytes of all of them, or of the refusal's text.
+    pub length: usize,
+}

@@ -1,0 +1,197 @@
+//! Commands and groups as records, and writing them into the caller's memory.
+
+ghost use Rattle.std.specs.Prelude.{◌≡◌, ◌∷◌, [], ◌++◌, IfOk, OnOk, length, map};
+ghost use Rattle.texts.specs.Variables.{pair_of};
+ghost use Rattle.c_texts.specs.declared.status.Status.TheVariants.{Memory};
+ghost use Rattle.c_texts.specs.Memory.{fits, filled};
+ghost use Rattle.c_texts.specs.Outcomes.{refused, with_texts};
+ghost use Rattle.c_texts.specs.Statuses.{text};
+ghost use Rattle.c_plans.specs.Records as spec;
+
+use crate::record::{CommandRecord, GroupRecord, RecordsAnswer};
+use c_texts::{Outcome, Range, Status, tell_text};
+use std::alloc::{AllocError, Global};
+use std::marker::Model;
+
+/// A status and texts, and the records that say what the texts are.
+#[derive(Drop)]
+pub(crate) struct Recorded {
+    outcome: Outcome,
+    groups: Vec<GroupRecord>,
+    commands: Vec<CommandRecord>,
+}
+
+impl Model for Recorded {
+    ghost use Rattle.c_plans.specs.Records.{Recorded};
+
+    ghost Value = { Recorded };
+
+    ghost view = { λ r. (r.outcome, (r.groups.items, r.commands.items)) };
+}
+
+/// What a command's record says.
+#[derive(Clone, Copy)]
+pub(crate) struct Entry<'a> {
+    pub(crate) program: &'a str,
+    pub(crate) cwd: &'a str,
+    pub(crate) arguments: &'a [String],
+    pub(crate) variables: &'a [(String, String)],
+    pub(crate) group: usize,
+    pub(crate) run: usize,
+    pub(crate) line: usize,
+    pub(crate) reason: u32,
+    pub(crate) cacheable: u32,
+}
+
+// Adds the texts of variables.
+fn push_pairs(texts: &mut Outcome, variables: &[(String, String)]) -> Result<(), AllocError>
+    ensures { OnOk result (texts.new ≡ with_texts texts.old (spec.variable_texts (map pair_of variables.now))) }
+{
+    for pair in variables {
+        texts.push(pair.0.as_str())?;
+        texts.push(pair.1.as_str())?;
+    }
+    Ok(())
+}
+
+// The same, and says which they are.
+fn push_variables(texts: &mut Outcome, variables: &[(String, String)]) -> Result<Range, AllocError>
+    ensures texts { OnOk result (texts.new ≡ with_texts texts.old (spec.variable_texts (map pair_of variables.now))) }
+    ensures range { IfOk result (λ range. range
+        ≡ record { offset = length texts.old.1.0; length = length (spec.variable_texts (map pair_of variables.now)) }) }
+{
+    let offset = texts.count();
+    push_pairs(texts, variables)?;
+    Ok(Range {
+        offset,
+        length: texts.count() - offset,
+    })
+}
+
+// Adds the texts of a command, and makes its record.
+fn push_texts(texts: &mut Outcome, entry: Entry<'_>) -> Result<CommandRecord, AllocError>
+    ensures texts { OnOk result (texts.new ≡ with_texts texts.old (spec.texts_of (spec.entry_seen entry.entry))) }
+    ensures record { IfOk result (λ r. r ≡ spec.record_at (length texts.old.1.0) (spec.entry_seen entry.entry)) }
+{
+    let program = texts.count();
+    texts.push(entry.program)?;
+    let cwd = texts.count();
+    texts.push(entry.cwd)?;
+    let arguments = texts.push_list(entry.arguments)?;
+    let variables = push_variables(texts, entry.variables)?;
+    Ok(CommandRecord {
+        arguments,
+        variables,
+        program,
+        cwd,
+        group: entry.group,
+        run: entry.run,
+        line: entry.line,
+        reason: entry.reason,
+        cacheable: entry.cacheable,
+    })
+}
+
+impl Recorded {
+    /// An outcome without records.
+    pub(crate) fn of_outcome(alloc: Global, outcome: Outcome) -> Recorded
+        ensures { result ≡ spec.without_records outcome }
+    {
+        Recorded {
+            outcome,
+            groups: Vec::new(alloc),
+            commands: Vec::new(alloc),
+        }
+    }
+
+    /// How many commands there are.
+    pub(crate) fn commands_count(&self) -> usize
+        ensures { result ≡ length self.now.1.1 }
+    {
+        self.commands.len()
+    }
+
+    /// Adds a command.
+    pub(crate) fn push(&mut self, entry: Entry<'_>) -> Result<(), AllocError>
+        ensures { OnOk result (self.new ≡ spec.with_entry self.old (spec.entry_seen entry.entry)) }
+    {
+        let record = push_texts(&mut self.outcome, entry)?;
+        self.commands.push(record)?;
+        Ok(())
+    }
+
+    /// Adds a group's record.
+    pub(crate) fn push_group(&mut self, group: GroupRecord) -> Result<(), AllocError>
+        ensures { OnOk result (self.new ≡ (self.old.0, (self.old.1.0 ++ group ∷ [], self.old.1.1))) }
+    {
+        self.groups.push(group)?;
+        Ok(())
+    }
+}
+
+// Writes all parts of an answer into memory of the caller, if all fit.
+fn tell_records(
+    recorded: &Recorded,
+    groups: &mut [GroupRecord],
+    commands: &mut [CommandRecord],
+    ranges: &mut [Range],
+    out: &mut [u8],
+) -> RecordsAnswer
+    ensures { spec.TellsRecords recorded.now result
+        (record { groups = groups.old; commands = commands.old; ranges = ranges.old; bytes = out.old })
+        (record { groups = groups.new; commands = commands.new; ranges = ranges.new; bytes = out.new }) }
+{
+    let places = recorded.outcome.ranges();
+    let text = recorded.outcome.text().as_bytes();
+    if recorded.groups.len() <= groups.len()
+        && recorded.commands.len() <= commands.len()
+        && places.len() <= ranges.len()
+        && text.len() <= out.len()
+    {
+        groups[..recorded.groups.len()].copy_from_slice(recorded.groups.as_slice());
+        commands[..recorded.commands.len()].copy_from_slice(recorded.commands.as_slice());
+        ranges[..places.len()].copy_from_slice(places);
+        out[..text.len()].copy_from_slice(text);
+    }
+    RecordsAnswer {
+        status: recorded.outcome.status(),
+        groups: recorded.groups.len(),
+        commands: recorded.commands.len(),
+        ranges: places.len(),
+        length: text.len(),
+    }
+}
+
+// Tells the caller that an allocation failed: writes the message, if it fits.
+fn tell_memory(out: &mut [u8]) -> RecordsAnswer
+    ensures answer { result ≡ spec.sizes_of (spec.without_records (refused Memory)) }
+    ensures text { out.new ≡ filled (fits (text Memory) out.old) (text Memory) out.old }
+{
+    let told = tell_text(Status::Memory.number(), Status::Memory.text(), out);
+    RecordsAnswer {
+        status: told.status,
+        groups: 0,
+        commands: 0,
+        ranges: 0,
+        length: told.length,
+    }
+}
+
+/// Tells the caller a plan as records or a refusal, or that an allocation failed.
+pub(crate) fn give_records(
+    outcome: Result<Recorded, AllocError>,
+    groups: &mut [GroupRecord],
+    commands: &mut [CommandRecord],
+    ranges: &mut [Range],
+    out: &mut [u8],
+) -> RecordsAnswer
+    ensures { (expected : spec.Recorded) → IfOk outcome (λ recorded. recorded ≡ expected)
+        → spec.GivesRecords expected result
+        (record { groups = groups.old; commands = commands.old; ranges = ranges.old; bytes = out.old })
+        (record { groups = groups.new; commands = commands.new; ranges = ranges.new; bytes = out.new }) }
+{
+    match outcome {
+        Ok(recorded) => tell_records(&recorded, groups, commands, ranges, out),
+        Err(_) => tell_memory(out),
+    }
+}

@@ -1,0 +1,3 @@
+pub mod RangeLemmas
+pub mod TextLemmas
+pub mod Utf8Lemmas

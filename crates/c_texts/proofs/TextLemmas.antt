@@ -1,0 +1,50 @@
+-- Texts behind other texts.
+use Rattle.std.proofs.Common.{◌≡◌, ◌++◌, ◌+◌, ◌∷◌, [], ℕ, suc, List, map, length, refl, sym, ap, ◌∙◌, arith, length-append, append_assoc}
+use Rattle.std.specs.List.{concat}
+use Rattle.c_texts.specs.declared.memory.Range.{Range}
+use Rattle.c_texts.specs.Memory.{ranges_at}
+use Rattle.c_texts.specs.Outcomes.{Outcome, with_texts}
+
+-- a list is as long as one that was made of it
+pub mapped-length : {X Y : Type 0} (f : X → Y) (xs : List X) → length (map f xs) ≡ length xs
+mapped-length f [] = refl
+mapped-length f (x ∷ xs) = ap suc (mapped-length f xs)
+
+-- there are as many ranges as texts
+pub ranges-length : (first : ℕ) (texts : List (List ℕ)) → length (ranges_at first texts) ≡ length texts
+ranges-length first [] = refl
+ranges-length first (text ∷ texts) = ap suc (ranges-length (first + length text) texts)
+
+ranges-append : (first : ℕ) (xs ys : List (List ℕ)) → ranges_at first (xs ++ ys) ≡ ranges_at first xs ++ ranges_at (first + length (concat xs)) ys
+ranges-append first [] ys =
+    let same : first ≡ first + 0 = omega arith in
+    ap (λ n. ranges_at n ys) same
+ranges-append first (x ∷ xs) ys =
+    let range : Range = record { offset = first; length = length x } in
+    let joined : length (x ++ concat xs) ≡ length x + length (concat xs) = length-append x (concat xs) in
+    let same : first + length x + length (concat xs) ≡ first + length (x ++ concat xs) = omega (arith, joined) in
+    ap (λ t. range ∷ t) (ranges-append (first + length x) xs ys ∙ ap (λ n. ranges_at (first + length x) xs ++ ranges_at n ys) same)
+
+concat-append : (xs ys : List (List ℕ)) → concat (xs ++ ys) ≡ concat xs ++ concat ys
+concat-append [] ys = refl
+concat-append (x ∷ xs) ys = ap (λ t. x ++ t) (concat-append xs ys) ∙ sym (append_assoc x (concat xs) (concat ys))
+
+-- texts behind texts
+pub texts-then : (outcome : Outcome) (xs ys : List (List ℕ)) → with_texts (with_texts outcome xs) ys ≡ with_texts outcome (xs ++ ys)
+texts-then outcome xs ys =
+    let ranges = outcome.1.0 in
+    let bytes = outcome.1.1 in
+    let here : List Range = ranges_at (length bytes) xs in
+    let places : (ranges ++ here) ++ ranges_at (length (bytes ++ concat xs)) ys ≡ ranges ++ ranges_at (length bytes) (xs ++ ys) =
+    append_assoc ranges here (ranges_at (length (bytes ++ concat xs)) ys)
+    ∙ ap (λ n. ranges ++ (here ++ ranges_at n ys)) (length-append bytes (concat xs))
+    ∙ ap (λ t. ranges ++ t) (sym (ranges-append (length bytes) xs ys)) in
+    let text : (bytes ++ concat xs) ++ concat ys ≡ bytes ++ concat (xs ++ ys) =
+    append_assoc bytes (concat xs) (concat ys) ∙ ap (λ t. bytes ++ t) (sym (concat-append xs ys)) in
+    λ i. (outcome.0, (places i, text i))
+
+-- how many ranges there are, behind further texts
+pub count-then : (outcome : Outcome) (xs : List (List ℕ)) → length (with_texts outcome xs).1.0 ≡ length outcome.1.0 + length xs
+count-then outcome xs =
+    length-append outcome.1.0 (ranges_at (length outcome.1.1) xs)
+    ∙ ap (λ n. length outcome.1.0 + n) (ranges-length (length outcome.1.1) xs)

@@ -1,0 +1,26 @@
+//! Texts in memory that a C program owns, and the calls that need no more: shell words, messages and versions.
+//!
+//! Each call reads texts of the caller, and writes its answer into buffers of the caller: all of it, or nothing if a
+//! buffer is too small. Either way it returns the sizes of the answer, so a call with empty buffers asks for the sizes.
+//! No call keeps anything: there is no state and nothing to free.
+//!
+//! `c_lines` and `c_plans` have the other calls, and are written with what is here: an `Outcome` is what a call ends with,
+//! and `give_text` and `give_list` tell it to the caller. The crate `zigrunk_c` exports all calls to C.
+#![tactic(auto)]
+
+mod failure;
+pub mod laws;
+mod memory;
+mod outcome;
+mod shell;
+mod status;
+mod variables;
+mod versions;
+
+pub use failure::{answered, failed, status_of};
+pub use memory::{InputText, ListAnswer, Range, TextAnswer, text_of, words_of};
+pub use outcome::{Outcome, give_list, give_text, refused, refused_with, tell_text};
+pub use shell::{quote, split};
+pub use status::{Status, message};
+pub use variables::{Variable, variables_of};
+pub use versions::{abi_version, version};

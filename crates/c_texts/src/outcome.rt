@@ -1,0 +1,209 @@
+//! What calls end with, and how they tell the caller.
+
+ghost use Rattle.std.specs.Prelude.{◌≡◌, ◌++◌, [], ◌∷◌, map, IfOk, OnOk, length, string_bytes};
+ghost use Rattle.std.specs.List.{concat};
+ghost use Rattle.c_texts.specs.Memory as memory;
+ghost use Rattle.c_texts.specs.Outcomes as spec;
+
+use crate::memory::{ListAnswer, Range, TextAnswer};
+use crate::status::Status;
+use std::alloc::{AllocError, Global};
+use std::marker::Model;
+
+/// A status, and texts one behind the other.
+#[derive(Drop)]
+pub struct Outcome {
+    status: i32,
+    ranges: Vec<Range>,
+    text: String,
+}
+
+impl Model for Outcome {
+    ghost use Rattle.std.specs.Prelude.{string_bytes};
+    ghost use Rattle.c_texts.specs.Outcomes.{Outcome};
+
+    ghost Value = { Outcome };
+
+    ghost view = { λ o. (o.status, (o.ranges.items, string_bytes o.text)) };
+}
+
+impl Outcome {
+    /// Success, so far without a text.
+    pub fn new(alloc: Global) -> Outcome
+        ensures { result ≡ spec.of_texts [] }
+    {
+        Outcome {
+            status: 0,
+            ranges: Vec::new(alloc),
+            text: String::new(alloc),
+        }
+    }
+
+    /// Success, with one text that no range names.
+    pub fn of_text(text: String, alloc: Global) -> Outcome
+        ensures { result ≡ spec.of_text (string_bytes text) }
+    {
+        Outcome {
+            status: 0,
+            ranges: Vec::new(alloc),
+            text,
+        }
+    }
+
+    /// The status.
+    pub fn status(&self) -> i32
+        ensures { result ≡ self.now.0 }
+    {
+        self.status
+    }
+
+    /// Where each text is.
+    pub fn ranges(&self) -> &[Range]
+        ensures { result.now ≡ self.now.1.0 }
+    {
+        self.ranges.as_slice()
+    }
+
+    /// The texts, one behind the other.
+    pub fn text(&self) -> &str
+        ensures { result.now ≡ self.now.1.1 }
+    {
+        self.text.as_str()
+    }
+
+    /// How many texts there are.
+    pub fn count(&self) -> usize
+        ensures { result ≡ length self.now.1.0 }
+    {
+        self.ranges.len()
+    }
+
+    /// Adds a text.
+    pub fn push(&mut self, text: &str) -> Result<(), AllocError>
+        ensures { OnOk result (self.new ≡ spec.with_texts self.old (text.now ∷ [])) }
+    {
+        let range = Range {
+            offset: self.text.len(),
+            length: text.len(),
+        };
+        self.text.push_str(text)?;
+        self.ranges.push(range)?;
+        Ok(())
+    }
+
+    /// Adds texts.
+    pub fn push_all(&mut self, texts: &[String]) -> Result<(), AllocError>
+        ensures { OnOk result (self.new ≡ spec.with_texts self.old (map string_bytes texts.now)) }
+    {
+        for text in texts {
+            self.push(text.as_str())?;
+        }
+        Ok(())
+    }
+
+    /// Adds texts, and says which elements of the list they are.
+    pub fn push_list(&mut self, texts: &[String]) -> Result<Range, AllocError>
+        ensures texts { OnOk result (self.new ≡ spec.with_texts self.old (map string_bytes texts.now)) }
+        ensures range { IfOk result (λ range. range ≡ record { offset = length self.old.1.0; length = length texts.now }) }
+    {
+        let offset = self.count();
+        self.push_all(texts)?;
+        Ok(Range {
+            offset,
+            length: texts.len(),
+        })
+    }
+}
+
+/// A refusal, with a text of its own.
+pub fn refused_with(alloc: Global, status: Status, text: String) -> Outcome
+    ensures { result ≡ spec.refused_with status (string_bytes text) }
+{
+    Outcome {
+        status: status.number(),
+        ranges: Vec::new(alloc),
+        text,
+    }
+}
+
+/// A refusal, with its text.
+pub fn refused(alloc: Global, status: Status) -> Result<Outcome, AllocError>
+    ensures { IfOk result (λ outcome. outcome ≡ spec.refused status) }
+{
+    let text = String::from_str(alloc, status.text())?;
+    Ok(refused_with(alloc, status, text))
+}
+
+/// Writes one text into memory of the caller, if it fits.
+pub fn tell_text(status: i32, text: &str, out: &mut [u8]) -> TextAnswer
+    ensures { spec.TellsText (status, ([], text.now)) result out.old out.new }
+{
+    let text = text.as_bytes();
+    if text.len() <= out.len() {
+        out[..text.len()].copy_from_slice(text);
+    }
+    TextAnswer {
+        status,
+        length: text.len(),
+    }
+}
+
+// Writes ranges and bytes into memory of the caller, if both fit.
+fn tell_list(
+    status: i32,
+    places: &[Range],
+    text: &str,
+    ranges: &mut [Range],
+    out: &mut [u8],
+) -> ListAnswer
+    ensures { spec.TellsList (status, (places.now, text.now)) result ranges.old ranges.new out.old out.new }
+{
+    let text = text.as_bytes();
+    if places.len() <= ranges.len() && text.len() <= out.len() {
+        ranges[..places.len()].copy_from_slice(places);
+        out[..text.len()].copy_from_slice(text);
+    }
+    ListAnswer {
+        status,
+        count: places.len(),
+        length: text.len(),
+    }
+}
+
+/// Tells the caller an outcome with one text, or that an allocation failed.
+pub fn give_text(outcome: Result<Outcome, AllocError>, out: &mut [u8]) -> TextAnswer
+    ensures { (expected : spec.Outcome) → IfOk outcome (λ o. o ≡ expected)
+        → spec.GivesText expected result out.old out.new }
+{
+    match outcome {
+        Ok(outcome) => tell_text(outcome.status, outcome.text.as_str(), out),
+        Err(_) => tell_text(Status::Memory.number(), Status::Memory.text(), out),
+    }
+}
+
+/// Tells the caller an outcome, or that an allocation failed.
+pub fn give_list(
+    outcome: Result<Outcome, AllocError>,
+    ranges: &mut [Range],
+    out: &mut [u8],
+) -> ListAnswer
+    ensures { (expected : spec.Outcome) → IfOk outcome (λ o. o ≡ expected)
+        → spec.GivesList expected result ranges.old ranges.new out.old out.new }
+{
+    match outcome {
+        Ok(outcome) => tell_list(
+            outcome.status,
+            outcome.ranges.as_slice(),
+            outcome.text.as_str(),
+            ranges,
+            out,
+        ),
+        Err(_) => tell_list(
+            Status::Memory.number(),
+            &[],
+            Status::Memory.text(),
+            ranges,
+            out,
+        ),
+    }
+}

@@ -1,0 +1,116 @@
+//! The statuses of calls: their numbers and texts.
+
+ghost use Rattle.std.specs.Prelude.{◌≡◌, IfOk};
+ghost use Rattle.c_texts.specs.Statuses as spec;
+ghost use Rattle.c_texts.specs.Outcomes.{GivesText, described};
+
+use crate::memory::TextAnswer;
+use crate::outcome::{Outcome, give_text, refused};
+use std::alloc::{AllocError, Global};
+
+/// How a call ended. The numbers never change: a new status takes a new one.
+#[derive(Clone, Copy, Debug)]
+pub enum Status {
+    /// The answer is what the caller asked for.
+    Success,
+    /// An allocation failed.
+    Memory,
+    /// A text of the call isn't UTF-8.
+    NotUtf8,
+    /// A number of the call has no meaning, or a reserved field isn't zero.
+    BadNumber,
+    /// A text has an open quote, or ends in a backslash.
+    OpenQuote,
+    /// A line of a dry run can't be read.
+    BadDryRun,
+    /// The table of look-ups has no such program.
+    NotFound,
+    /// Suffixes of generated files break the rule of such a list.
+    BadSuffixes,
+    /// The form can't represent the plan.
+    Unwritable,
+    /// A line of a tool can't be read, or isn't to be cached.
+    BadLine,
+    /// A line goes to nvcc as it is.
+    ToNvcc,
+}
+
+impl Status {
+    /// The number that C programs see.
+    pub fn number(self) -> i32
+        ensures { result ≡ spec.number self }
+    {
+        match self {
+            Status::Success => 0,
+            Status::Memory => 1,
+            Status::NotUtf8 => 2,
+            Status::BadNumber => 3,
+            Status::OpenQuote => 4,
+            Status::BadDryRun => 5,
+            Status::NotFound => 6,
+            Status::BadSuffixes => 7,
+            Status::Unwritable => 8,
+            Status::BadLine => 9,
+            Status::ToNvcc => 10,
+        }
+    }
+
+    /// The status with this number.
+    pub fn with_number(number: i32) -> Option<Status>
+        ensures { result ≡ spec.with_number number }
+    {
+        match number {
+            0 => Some(Status::Success),
+            1 => Some(Status::Memory),
+            2 => Some(Status::NotUtf8),
+            3 => Some(Status::BadNumber),
+            4 => Some(Status::OpenQuote),
+            5 => Some(Status::BadDryRun),
+            6 => Some(Status::NotFound),
+            7 => Some(Status::BadSuffixes),
+            8 => Some(Status::Unwritable),
+            9 => Some(Status::BadLine),
+            10 => Some(Status::ToNvcc),
+            _ => None,
+        }
+    }
+
+    /// What the status means, in a few words.
+    pub fn text(self) -> &'static str
+        ensures { result.now ≡ spec.text self }
+    {
+        match self {
+            Status::Success => "success",
+            Status::Memory => "out of memory",
+            Status::NotUtf8 => "a text is not UTF-8",
+            Status::BadNumber => "a number has no meaning",
+            Status::OpenQuote => "open quote or backslash at the end",
+            Status::BadDryRun => "a line of a dry run cannot be read",
+            Status::NotFound => "a program is not found",
+            Status::BadSuffixes => "bad generated suffixes",
+            Status::Unwritable => "the form cannot represent the plan",
+            Status::BadLine => "a line of a tool cannot be read",
+            Status::ToNvcc => "the line goes to nvcc",
+        }
+    }
+}
+
+// The text of a number, or the refusal of a number without one.
+fn described(alloc: Global, number: i32) -> Result<Outcome, AllocError>
+    ensures { IfOk result (λ outcome. outcome ≡ described (spec.with_number number)) }
+{
+    match Status::with_number(number) {
+        Some(status) => {
+            let text = String::from_str(alloc, status.text())?;
+            Ok(Outcome::of_text(text, alloc))
+        }
+        None => refused(alloc, Status::BadNumber),
+    }
+}
+
+/// Writes the text of the status with this number.
+pub fn message(alloc: Global, number: i32, out: &mut [u8]) -> TextAnswer
+    ensures { GivesText (described (spec.with_number number)) result out.old out.new }
+{
+    give_text(described(alloc, number), out)
+}
