@@ -4,16 +4,22 @@
 FOLDER holds dry runs of real calls as NAME.dry1, NAME.dry2 and NAME.flag, each with NAME.plan, which the program cudaplan prints.
 ZIGRUNK_LIBRARY has to name the shared object, and PYTHONPATH the binding's folder."""
 
+import ctypes
+import dataclasses
 import json
 import os
+import re
+import shutil
 import subprocess
 import sys
+import tempfile
 import unittest
 
 import zigrunk
 
 FOLDER, NAMES = sys.argv[1], sys.argv[2:]
 EXAMPLE = os.path.join(os.path.dirname(zigrunk.__file__), "examples", "audit.py")
+INCLUDE = os.path.join(os.path.dirname(zigrunk.__file__), "..", "c")
 
 
 def first(lookup, folder):
@@ -54,6 +60,73 @@ class Calls(unittest.TestCase):
         self.assertIn("cicc --x k.gpu k.cpp1.ii", zigrunk.plan(call, zigrunk.Form.TEXT, first))
         call.suffixes = ["gpu"]
         self.rejects(zigrunk.Status.BAD_SUFFIXES, "bad generated suffixes", zigrunk.plan, call, which=first)
+
+    def test_records_of_real_calls(self):
+        for name in NAMES:
+            with self.subTest(name):
+                call = zigrunk.PlanCall(read(name, ".dry1"), read(name, ".dry2"), "/w", "/t", read(name, ".flag").decode().strip(),
+                                        environment=[("A", "1"), ("B", "é\n"), ("A", "")])
+                records, said = zigrunk.plan_records(call, first), json.loads(zigrunk.plan(call, which=first))
+                commands = [{"program": it["exe"], "arguments": tuple(it["args"]), "variables": tuple(map(tuple, it["env"])),
+                             "cwd": it["cwd"], "group": it["group"], "reason": None, "cacheable": it["cacheable"], "run": it["run"],
+                             "line": it["line"] - 1} for it in said["commands"]]
+                self.assertEqual([dataclasses.asdict(it) for it in records.commands], commands)
+                self.assertEqual(len(records.groups), said["groups"])
+                for number, group in enumerate(records.groups):
+                    self.assertEqual({it.group for it in group.commands} - {number}, set())
+                stages = [group.stage for group in records.groups]
+                self.assertEqual(stages, [zigrunk.Stage.FRONT] + [zigrunk.Stage.DEVICE] * (len(stages) - 2) + [zigrunk.Stage.FINAL])
+                dropped = [{"program": it["exe"], "arguments": tuple(it["args"]), "variables": (), "cwd": "", "group": None,
+                            "cacheable": False, "run": it["run"], "line": it["line"] - 1} for it in said["dropped"]]
+                reasons = [it.reason.name.replace("_", "").lower() for it in records.dropped]
+                self.assertEqual(reasons, [it["reason"].lower() for it in said["dropped"]])
+                self.assertEqual([dataclasses.asdict(dataclasses.replace(it, reason=None)) for it in records.dropped],
+                                 [{**it, "reason": None} for it in dropped])
+
+    def test_records_of_a_small_call(self):
+        run = b"#$ PATH=/b\n#$ gcc -D__NVCC__ -E k.cu -o k.cpp1.ii\n#$ cicc k.cpp1.ii -o k.ptx\n#$ cicc n.ii -o n.ptx\n#$ rm k\n"
+        call = zigrunk.PlanCall(run, run, "/w", "/t", environment={"PATH": "/old", "A": "1"})
+        plan = zigrunk.plan_records(call, first)
+        environment = (("PATH", "/b"), ("A", "1"))
+        self.assertEqual(plan.groups, (
+            zigrunk.Group(zigrunk.Stage.FRONT, ()),
+            zigrunk.Group(zigrunk.Stage.DEVICE, (
+                zigrunk.Command("/b/gcc", ("-D__NVCC__", "-E", "k.cu", "-o", "x_0.cpp1.ii"), environment, "/w", 1, None, False, 2, 1),
+                zigrunk.Command("/b/cicc", ("x_0.cpp1.ii", "-o", "k.ptx"), environment, "/t", 1, None, True, 1, 2))),
+            zigrunk.Group(zigrunk.Stage.FINAL, ())))
+        self.assertEqual(plan.dropped, (
+            zigrunk.Command("/b/cicc", ("n.ii", "-o", "n.ptx"), (), "", None, zigrunk.Reason.NO_CICC_GROUP, False, 1, 3),
+            zigrunk.Command("/b/rm", ("k",), (), "", None, zigrunk.Reason.NOT_CUDA, False, 2, 4)))
+
+    def test_records_of_a_long_call(self):
+        run = b"#$ PATH=/b\n" + b"".join(b"#$ cicc k%d.cpp1.ii -o k%d.ptx\n" % (it, it) for it in range(2000))
+        call = zigrunk.PlanCall(run, run, "/w", "/t")
+        self.assertEqual([it.line for it in zigrunk.plan_records(call, first).dropped], list(range(1, 2001)))
+
+    def test_errors_of_records(self):
+        run = b"#$ PATH=/b\n#$ gcc -D__NVCC__ -c k.cpp\n"
+        call = zigrunk.PlanCall(run, run, "/w", "/t")
+        self.rejects(zigrunk.Status.NOT_FOUND, "gcc: not found", zigrunk.plan_records, call, lambda lookup, folder: None)
+        call.suffixes = ["gpu"]
+        self.rejects(zigrunk.Status.BAD_SUFFIXES, "bad generated suffixes", zigrunk.plan_records, call, first)
+        call.cwd = "\udcff"
+        self.rejects(zigrunk.Status.NOT_UTF8, "a text is not UTF-8", zigrunk.plan_records, call, first)
+
+    def test_an_answer_that_grows(self):
+        calls = []
+
+        def growing(ranges, count, out, size):
+            calls.append((count, size))
+            return zigrunk._ListAnswer(0, count, size + 1)
+
+        with self.assertRaises(RuntimeError):
+            zigrunk._ask_list(growing)
+        self.assertEqual(calls, [(64, 4096 + it) for it in range(4)])
+        with self.assertRaises(RuntimeError):
+            zigrunk._ask_text(lambda out, size: zigrunk._TextAnswer(0, size + 1))
+
+    def test_a_reason_of_a_later_library(self):
+        self.assertEqual([zigrunk._reason(it) for it in (0, 4, 5)], [None, zigrunk.Reason.SUPERSEDED, 5])
 
     def test_look_ups(self):
         run = b"#$ PATH=/b:c\n#$ cicc k.cpp1.ii\n"
@@ -99,6 +172,41 @@ class Calls(unittest.TestCase):
                 lines = subprocess.run(call, check=True, stdout=subprocess.PIPE, text=True).stdout.splitlines()
                 plan = [it for it in read(name, ".plan").decode().splitlines() if not it.startswith("group ")]
                 self.assertEqual([it.startswith("dropped") for it in lines], [it.startswith("dropped") for it in plan])
+
+
+class Layout(unittest.TestCase):
+    """The records of the module and those of the header, as a C compiler lays them out."""
+
+    @staticmethod
+    def records():
+        """The module's records by their names in the header."""
+        names = {it: "zigrunk" + re.sub("[A-Z]", lambda letter: "_" + letter[0].lower(), it[1:]) for it in dir(zigrunk)}
+        return {names[it]: getattr(zigrunk, it) for it in names if isinstance(getattr(zigrunk, it), type(ctypes.Structure))}
+
+    def test_fields(self):
+        with open(os.path.join(INCLUDE, "zigrunk.h"), encoding="utf-8") as file:
+            code = re.sub(r"/\*.*?\*/", "", file.read(), flags=re.DOTALL)
+        structs = re.findall(r"typedef struct \w+ \{(.*?)\} (\w+);", code, re.DOTALL)
+        header = {name: re.findall(r"(\w+);", fields) for fields, name in structs}
+        self.assertGreaterEqual(len(header), 12)
+        self.assertEqual({name: [field[0] for field in record._fields_] for name, record in self.records().items()}, header)
+
+    @unittest.skipUnless(shutil.which("cc"), "needs cc")
+    def test_offsets(self):
+        expected, lines = [], []
+        for name, record in self.records().items():
+            expected.append(f"{name} {ctypes.sizeof(record)} {ctypes.alignment(record)}")
+            lines.append(f'printf("{name} %zu %zu\\n", sizeof({name}), _Alignof({name}));')
+            for field in (it[0] for it in record._fields_):
+                expected.append(f"{field} {getattr(record, field).offset} {getattr(record, field).size}")
+                lines.append(f'printf("{field} %zu %zu\\n", offsetof({name}, {field}), sizeof((({name} *)0)->{field}));')
+        with tempfile.TemporaryDirectory() as folder:
+            source, program = os.path.join(folder, "layout.c"), os.path.join(folder, "layout")
+            with open(source, "w", encoding="utf-8") as file:
+                file.write('#include <zigrunk.h>\n#include <stdio.h>\nint main(void) {\n' + "\n".join(lines) + "\nreturn 0;\n}\n")
+            subprocess.run(["cc", "-std=c11", f"-I{INCLUDE}", source, "-o", program], check=True)
+            printed = subprocess.run([program], check=True, stdout=subprocess.PIPE, text=True).stdout
+        self.assertEqual(printed.splitlines(), expected)
 
 
 if __name__ == "__main__":

@@ -12,11 +12,13 @@ from __future__ import annotations
 import ctypes
 import enum
 import os
+import struct
 from dataclasses import dataclass, field
 from typing import Callable, Iterable, List, Mapping, Optional, Sequence, Tuple, Union
 
-__all__ = ["Form", "HostCompiler", "Lookup", "NvccLine", "PlanCall", "Status", "Tool", "ZigrunkError", "candidates", "find",
-           "line", "line_words", "lookups", "nvcc_line", "plan", "quote", "remap", "split", "version"]
+__all__ = ["Command", "Form", "Group", "HostCompiler", "Lookup", "NvccLine", "Plan", "PlanCall", "Reason", "Stage", "Status", "Tool",
+           "ZigrunkError", "candidates", "find", "line", "line_words", "lookups", "nvcc_line", "plan", "plan_records", "quote",
+           "remap", "split", "version"]
 
 _ABI_VERSION = 1
 
@@ -65,6 +67,28 @@ class Tool(enum.IntEnum):
     NVCXX = 5
 
 
+class Stage(enum.IntEnum):
+    """What a group of a plan is. FRONT is the first: the preprocessor for the host, and cudafe++. DEVICE is one for each
+    architecture: its preprocessor, cicc and ptxas. FINAL is the last: fatbinary, and the host compiler."""
+
+    FRONT = 0
+    DEVICE = 1
+    FINAL = 2
+
+
+class Reason(enum.IntEnum):
+    """Why a plan dropped a command."""
+
+    NOT_CUDA = 1
+    """None of nvcc's tools, and without a CUDA macro."""
+    NO_CICC_GROUP = 2
+    """A cicc command whose input no preprocess step before it makes."""
+    NO_PTXAS_GROUP = 3
+    """A ptxas command whose input no cicc command of a device group makes."""
+    SUPERSEDED = 4
+    """Of a device group that a later preprocess step opened again."""
+
+
 class ZigrunkError(Exception):
     """The library rejected a call. The text is its message, and `number` its status."""
 
@@ -102,6 +126,55 @@ class PlanCall:
     suffixes: Sequence[str] = ()
     """Suffixes of generated files, behind the standard ones."""
     host_compiler: HostCompiler = HostCompiler.GCC
+
+
+@dataclass(frozen=True)
+class Command:
+    """A command of a plan, or one that the plan dropped."""
+
+    program: str
+    """The program's path."""
+    arguments: Tuple[str, ...]
+    """The words after the program's name."""
+    variables: Tuple[Tuple[str, str], ...]
+    """The environment: names and values. A name may occur twice: the last one counts. Empty if the command was dropped."""
+    cwd: str
+    """The directory that it runs in, or empty if it was dropped."""
+    group: Optional[int]
+    """The number of its group, from 0, or None if it was dropped."""
+    reason: Union[Reason, int, None]
+    """Why it was dropped, or None if it is in a group. A number if a later library has a reason that this module doesn't know."""
+    cacheable: bool
+    """Whether its outputs may come from a cache."""
+    run: int
+    """The dry run that it is of: 1 or 2."""
+    line: int
+    """Its line in that dry run, from 0. (The JSON form counts from 1.)"""
+
+
+@dataclass(frozen=True)
+class Group:
+    """A group of a plan."""
+
+    stage: Stage
+    """What the group is."""
+    commands: Tuple[Command, ...]
+    """Its commands, which have to run one after the other."""
+
+
+@dataclass(frozen=True)
+class Plan:
+    """What one nvcc call runs: groups of commands, and the commands that were dropped."""
+
+    groups: Tuple[Group, ...]
+    """The groups, in the order in which they may run: the front group, the device groups, the final group."""
+    dropped: Tuple[Command, ...]
+    """The commands that the plan dropped, each with its reason."""
+
+    @property
+    def commands(self) -> Tuple[Command, ...]:
+        """The commands of all groups, in plan order."""
+        return tuple(command for group in self.groups for command in group.commands)
 
 
 @dataclass(frozen=True)
@@ -171,6 +244,24 @@ class _ListAnswer(ctypes.Structure):
     _fields_ = [("status", ctypes.c_int32), ("count", ctypes.c_size_t), ("length", ctypes.c_size_t)]
 
 
+class _Group(ctypes.Structure):
+    _fields_ = [("commands", _Range), ("stage", ctypes.c_uint32), ("reserved", ctypes.c_uint32)]
+
+
+class _Command(ctypes.Structure):
+    _fields_ = [
+        ("arguments", _Range), ("variables", _Range), ("program", ctypes.c_size_t), ("cwd", ctypes.c_size_t), ("group", ctypes.c_size_t),
+        ("run", ctypes.c_size_t), ("line", ctypes.c_size_t), ("reason", ctypes.c_uint32), ("cacheable", ctypes.c_uint32),
+    ]
+
+
+class _RecordsAnswer(ctypes.Structure):
+    _fields_ = [
+        ("status", ctypes.c_int32), ("groups", ctypes.c_size_t), ("commands", ctypes.c_size_t), ("ranges", ctypes.c_size_t),
+        ("length", ctypes.c_size_t),
+    ]
+
+
 _TEXT = [ctypes.c_char_p, ctypes.c_size_t]
 _OUT = [ctypes.c_char_p, ctypes.c_size_t]
 _RANGES = [ctypes.POINTER(_Range), ctypes.c_size_t]
@@ -182,6 +273,9 @@ _CALLS = {
     "zigrunk_lookups": (_ListAnswer, _TEXT * 3 + _RANGES + _OUT),
     "zigrunk_candidates": (_ListAnswer, _TEXT * 3 + _RANGES + _OUT),
     "zigrunk_plan": (_TextAnswer, [ctypes.POINTER(_PlanCall), ctypes.c_uint32] + _OUT),
+    "zigrunk_plan_records": (_RecordsAnswer, [
+        ctypes.POINTER(_PlanCall), ctypes.POINTER(_Group), ctypes.c_size_t, ctypes.POINTER(_Command), ctypes.c_size_t,
+    ] + _RANGES + _OUT),
     "zigrunk_line": (_TextAnswer, [ctypes.POINTER(_LineCall)] + _OUT),
     "zigrunk_line_words": (_ListAnswer, [ctypes.POINTER(_LineCall)] + _RANGES + _OUT),
     "zigrunk_nvcc_line": (_ListAnswer, [ctypes.POINTER(_NvccCall)] + _RANGES + _OUT),
@@ -220,30 +314,49 @@ def _variables(environment: Union[Mapping[str, str], Sequence[Tuple[str, str]]])
     return (_Variable * max(len(pairs), 1))(*[_Variable(_text(_bytes(name)), _text(_bytes(value))) for name, value in pairs]), len(pairs)
 
 
+# How often a call is made. The first has buffers of a guessed size, the second those that the first asked for. An answer that
+# still doesn't fit is one that another thread changes.
+_ATTEMPTS = 4
+
+
+def _unsettled() -> RuntimeError:
+    return RuntimeError("the answer grew with each call: another thread changes what the call reads")
+
+
+def _checked(status: int, text: bytes) -> None:
+    if status != Status.OK:
+        raise ZigrunkError(status, text.decode("utf-8"))
+
+
+def _texts(ranges: ctypes.Array[_Range], count: int, data: bytes) -> List[str]:
+    used = ctypes.string_at(ranges, count * ctypes.sizeof(_Range))
+    return [data[offset : offset + length].decode("utf-8") for offset, length in struct.iter_unpack("NN", used)]
+
+
 def _ask_text(call: Callable[..., _TextAnswer], *arguments: object) -> str:
-    out = ctypes.create_string_buffer(4096)
-    while True:
-        answer = call(*arguments, out, len(out))
-        if answer.length <= len(out):
-            break
-        out = ctypes.create_string_buffer(answer.length)
-    text = out.raw[: answer.length].decode("utf-8")
-    if answer.status != Status.OK:
-        raise ZigrunkError(answer.status, text)
-    return text
+    size = 4096
+    for _ in range(_ATTEMPTS):
+        out = ctypes.create_string_buffer(size)
+        answer = call(*arguments, out, size)
+        if answer.length <= size:
+            data = out.raw[: answer.length]
+            _checked(answer.status, data)
+            return data.decode("utf-8")
+        size = answer.length
+    raise _unsettled()
 
 
 def _ask_list(call: Callable[..., _ListAnswer], *arguments: object) -> List[str]:
-    ranges, out = (_Range * 64)(), ctypes.create_string_buffer(4096)
-    while True:
-        answer = call(*arguments, ranges, len(ranges), out, len(out))
-        if answer.count <= len(ranges) and answer.length <= len(out):
-            break
-        ranges, out = (_Range * max(answer.count, 1))(), ctypes.create_string_buffer(max(answer.length, 1))
-    data = out.raw[: answer.length]
-    if answer.status != Status.OK:
-        raise ZigrunkError(answer.status, data.decode("utf-8"))
-    return [data[it.offset : it.offset + it.length].decode("utf-8") for it in ranges[: answer.count]]
+    count, size = 64, 4096
+    for _ in range(_ATTEMPTS):
+        ranges, out = (_Range * count)(), ctypes.create_string_buffer(size)
+        answer = call(*arguments, ranges, count, out, size)
+        if answer.count <= count and answer.length <= size:
+            data = out.raw[: answer.length]
+            _checked(answer.status, data)
+            return _texts(ranges, answer.count, data)
+        count, size = max(answer.count, count), max(answer.length, size)
+    raise _unsettled()
 
 
 def version() -> str:
@@ -286,21 +399,66 @@ def _rows(call: PlanCall, which: Callable[[Lookup, str], Optional[str]]) -> Iter
         yield _FoundProgram(_text(_bytes(lookup.program)), _text(_bytes(lookup.path)), _text(_bytes(found or "")), found is not None, 0)
 
 
-def plan(call: PlanCall, form: Form = Form.JSON, which: Callable[[Lookup, str], Optional[str]] = find) -> str:
-    """Plans an nvcc call, and writes the plan in a form. `which` finds a program from the working directory.
-
-    Raises `ZigrunkError` if a dry run can't be read, if a program isn't found, if the suffixes break a rule, or if the form
-    can't represent the plan.
-    """
+def _record(call: PlanCall, which: Callable[[Lookup, str], Optional[str]]) -> _PlanCall:
     rows = list(_rows(call, which))
-    record = _PlanCall(
+    return _PlanCall(
         _text(call.dry1), _text(call.dry2), _text(_bytes(call.cwd)), _text(_bytes(call.tmp)), _text(_bytes(call.flag)),
         _text(_bytes(call.keep_dir or "")),
         *_variables(call.environment), *_array(call.suffixes),
         (_FoundProgram * max(len(rows), 1))(*rows), len(rows),
         call.keep_dir is not None, int(call.host_compiler), 0,
     )
-    return _ask_text(_library.zigrunk_plan, ctypes.byref(record), int(form))
+
+
+def plan(call: PlanCall, form: Form = Form.JSON, which: Callable[[Lookup, str], Optional[str]] = find) -> str:
+    """Plans an nvcc call, and writes the plan in a form. `which` finds a program from the working directory.
+
+    Raises `ZigrunkError` if a dry run can't be read, if a program isn't found, if the suffixes break a rule, or if the form
+    can't represent the plan.
+    """
+    return _ask_text(_library.zigrunk_plan, ctypes.byref(_record(call, which)), int(form))
+
+
+def _reason(number: int) -> Union[Reason, int, None]:
+    try:
+        return Reason(number) if number else None
+    except ValueError:
+        return number
+
+
+def _command(it: _Command, texts: Sequence[str]) -> Command:
+    arguments, variables = (texts[part.offset : part.offset + part.length] for part in (it.arguments, it.variables))
+    return Command(
+        texts[it.program], tuple(arguments), tuple(zip(variables[::2], variables[1::2])), texts[it.cwd],
+        it.group if it.reason == 0 else None, _reason(it.reason), it.cacheable == 1, it.run, it.line,
+    )
+
+
+def plan_records(call: PlanCall, which: Callable[[Lookup, str], Optional[str]] = find) -> Plan:
+    """Plans an nvcc call, and gives the plan as objects. `which` finds a program from the working directory.
+
+    Raises `ZigrunkError` as `plan` does, except for the form.
+    """
+    record = _record(call, which)
+    sizes = _RecordsAnswer(0, 16, 64, 4096, 65536)
+    for _ in range(_ATTEMPTS):
+        groups, commands, ranges = (_Group * sizes.groups)(), (_Command * sizes.commands)(), (_Range * sizes.ranges)()
+        out = ctypes.create_string_buffer(sizes.length)
+        answer = _library.zigrunk_plan_records(
+            ctypes.byref(record), groups, sizes.groups, commands, sizes.commands, ranges, sizes.ranges, out, sizes.length)
+        wanted = [max(getattr(answer, name), getattr(sizes, name)) for name in ("groups", "commands", "ranges", "length")]
+        if wanted == [sizes.groups, sizes.commands, sizes.ranges, sizes.length]:
+            data = out.raw[: answer.length]
+            _checked(answer.status, data)
+            texts = _texts(ranges, answer.ranges, data)
+            made = tuple(_command(it, texts) for it in commands[: answer.commands])
+            return Plan(
+                tuple(Group(Stage(it.stage), made[it.commands.offset : it.commands.offset + it.commands.length])
+                      for it in groups[: answer.groups]),
+                tuple(it for it in made if it.reason is not None),
+            )
+        sizes = _RecordsAnswer(0, *wanted)
+    raise _unsettled()
 
 
 def _line_call(tool: Tool, cwd: str, words: Sequence[str],

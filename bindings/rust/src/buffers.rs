@@ -1,4 +1,4 @@
-//! Buffers for answers: a call with an estimate, and another with the sizes that the first returned.
+//! Buffers for answers: a call with estimates, and another with the sizes that the first returned.
 
 use crate::sys::{ListAnswer, Range, TextAnswer};
 use crate::{Error, Texts};
@@ -23,21 +23,35 @@ pub(crate) unsafe fn written<T>(mut buffer: Vec<T>, length: usize) -> Vec<T> {
     buffer
 }
 
+/// How often a call is made. Two calls settle it, unless something changes the memory that the call reads in between.
+const ATTEMPTS: usize = 4;
+
+/// The answer of `attempt`, which takes sizes of buffers and returns the sizes that it needs if these are too small.
+pub(crate) fn settled<S, A>(mut sizes: S, mut attempt: impl FnMut(S) -> Result<A, S>) -> Result<A, Error> {
+    for _ in 0..ATTEMPTS {
+        match attempt(sizes) {
+            Ok(answer) => return Ok(answer),
+            Err(needed) => sizes = needed,
+        }
+    }
+    Err(Error::Unsettled)
+}
+
 /// The status and the text of a call that writes a text into a buffer of a size.
 ///
 /// # Safety
 ///
 /// `call` writes nothing but the buffer, and all of its answer if that fits.
-pub(crate) unsafe fn text(estimate: usize, mut call: impl FnMut(*mut u8, usize) -> TextAnswer) -> (i32, String) {
-    let mut out: Vec<u8> = Vec::with_capacity(estimate.max(LEAST));
-    loop {
+pub(crate) unsafe fn text(estimate: usize, mut call: impl FnMut(*mut u8, usize) -> TextAnswer) -> Result<(i32, String), Error> {
+    settled(estimate, |size| {
+        let mut out: Vec<u8> = Vec::with_capacity(size.max(LEAST));
         let answer = call(out.as_mut_ptr(), out.capacity());
-        if answer.length <= out.capacity() {
-            // SAFETY: it fits, so the call has written it.
-            return (answer.status, utf8(unsafe { written(out, answer.length) }));
+        if answer.length > out.capacity() {
+            return Err(answer.length);
         }
-        out = Vec::with_capacity(answer.length);
-    }
+        // SAFETY: it fits, so the call has written it.
+        Ok((answer.status, utf8(unsafe { written(out, answer.length) })))
+    })
 }
 
 /// A text, or the error of the call.
@@ -47,7 +61,7 @@ pub(crate) unsafe fn text(estimate: usize, mut call: impl FnMut(*mut u8, usize) 
 /// As for `text`.
 pub(crate) unsafe fn text_or_error(estimate: usize, call: impl FnMut(*mut u8, usize) -> TextAnswer) -> Result<String, Error> {
     // SAFETY: the caller's duty.
-    match unsafe { text(estimate, call) } {
+    match unsafe { text(estimate, call) }? {
         (0, text) => Ok(text),
         (status, message) => Err(Error::new(status, message)),
     }
@@ -63,20 +77,19 @@ pub(crate) unsafe fn list(
     length: usize,
     mut call: impl FnMut(*mut Range, usize, *mut u8, usize) -> ListAnswer,
 ) -> Result<Texts, Error> {
-    let mut ranges: Vec<Range> = Vec::with_capacity(count);
-    let mut out: Vec<u8> = Vec::with_capacity(length.max(LEAST));
-    loop {
+    let (status, ranges, text) = settled((count, length), |(count, length)| {
+        let mut ranges: Vec<Range> = Vec::with_capacity(count);
+        let mut out: Vec<u8> = Vec::with_capacity(length.max(LEAST));
         let answer = call(ranges.as_mut_ptr(), ranges.capacity(), out.as_mut_ptr(), out.capacity());
-        if answer.count <= ranges.capacity() && answer.length <= out.capacity() {
-            // SAFETY: both fit, so the call has written them.
-            let (ranges, out) = unsafe { (written(ranges, answer.count), written(out, answer.length)) };
-            return match answer.status {
-                0 => Ok(Texts::new(ranges, utf8(out))),
-                status => Err(Error::new(status, utf8(out))),
-            };
+        if answer.count > ranges.capacity() || answer.length > out.capacity() {
+            return Err((answer.count, answer.length));
         }
-        ranges = Vec::with_capacity(answer.count);
-        out = Vec::with_capacity(answer.length.max(LEAST));
+        // SAFETY: both fit, so the call has written them.
+        Ok(unsafe { (answer.status, written(ranges, answer.count), utf8(written(out, answer.length))) })
+    })?;
+    match status {
+        0 => Ok(Texts::new(ranges, text)),
+        status => Err(Error::new(status, text)),
     }
 }
 
@@ -121,6 +134,48 @@ mod tests {
                 })
             };
             assert_eq!((text.unwrap(), calls), ("a".repeat(count), expected));
+        }
+    }
+
+    /// A call that asks for one byte more than it gets until it has been made `growing` times.
+    fn text_of_growing(growing: usize) -> (Result<String, Error>, usize) {
+        let mut calls = 0;
+        // SAFETY: it writes nothing until the answer fits, and then all of it.
+        let text = unsafe {
+            text_or_error(0, |out, out_size| {
+                calls += 1;
+                if calls <= growing {
+                    return TextAnswer { status: 0, length: out_size + 1 };
+                }
+                out.write(b'a');
+                TextAnswer { status: 0, length: 1 }
+            })
+        };
+        (text, calls)
+    }
+
+    #[test]
+    fn a_text_that_grows_with_each_call_is_an_error() {
+        for growing in 0..ATTEMPTS {
+            assert_eq!(text_of_growing(growing), (Ok("a".to_string()), growing + 1));
+        }
+        for growing in [ATTEMPTS, ATTEMPTS + 1, 1_000_000] {
+            assert_eq!(text_of_growing(growing), (Err(Error::Unsettled), ATTEMPTS));
+        }
+    }
+
+    #[test]
+    fn a_list_that_grows_with_each_call_is_an_error() {
+        for (more_texts, more_bytes) in [(1, 0), (0, 1), (1, 1)] {
+            let mut calls = 0;
+            // SAFETY: it writes nothing, and no answer fits.
+            let texts = unsafe {
+                list(1, 0, |_, ranges_size, _, out_size| {
+                    calls += 1;
+                    ListAnswer { status: 0, count: ranges_size + more_texts, length: out_size + more_bytes }
+                })
+            };
+            assert_eq!((texts, calls), (Err(Error::Unsettled), ATTEMPTS));
         }
     }
 }

@@ -2,7 +2,7 @@
 
 use std::fmt;
 
-/// Why a call failed: a variant for each status of `zigrunk.h`, with the library's message for people.
+/// Why a call failed: a variant for each status of `zigrunk.h`, with the library's message for people, and one of this crate.
 #[derive(Debug, Clone, PartialEq, Eq)]
 #[non_exhaustive]
 pub enum Error {
@@ -26,6 +26,9 @@ pub enum Error {
     BadLine(String),
     /// The line goes to nvcc as it is: the message has the reason.
     ToNvcc(String),
+    /// The answer didn't fit into buffers of the sizes that the call itself had asked for, several times. The library can't cause
+    /// that: something changes the memory that the call reads, such as a file that is mapped into memory.
+    Unsettled,
     /// A status that a later library may have.
     Other {
         /// The status.
@@ -52,7 +55,7 @@ impl Error {
         }
     }
 
-    /// The status, as `zigrunk.h` numbers it. It is never 0.
+    /// The status, as `zigrunk.h` numbers it. It is never 0. [`Error::Unsettled`], which isn't the library's, has -1.
     #[must_use]
     pub fn status(&self) -> i32 {
         match self {
@@ -66,11 +69,12 @@ impl Error {
             Error::Unwritable(_) => 8,
             Error::BadLine(_) => 9,
             Error::ToNvcc(_) => 10,
+            Error::Unsettled => -1,
             Error::Other { status, .. } => *status,
         }
     }
 
-    /// The library's message, as [`Display`](fmt::Display) writes it.
+    /// The message, as [`Display`](fmt::Display) writes it.
     #[must_use]
     pub fn message(&self) -> &str {
         match self {
@@ -85,6 +89,7 @@ impl Error {
             | Error::BadLine(message)
             | Error::ToNvcc(message)
             | Error::Other { message, .. } => message,
+            Error::Unsettled => "the answer grew with each call",
         }
     }
 }

@@ -57,7 +57,8 @@ pub use words::{quote, split};
 #[must_use]
 pub fn version() -> String {
     // SAFETY: the buffer is exclusive.
-    unsafe { buffers::text(0, |out, size| sys::zigrunk_version(out, size)).1 }
+    let answer = unsafe { buffers::text(0, |out, size| sys::zigrunk_version(out, size)) };
+    answer.map_or_else(|error| error.to_string(), |(_, text)| text)
 }
 
 /// The number of the library's binary interface. This crate is for 1, and so is every `libzigrunk.so.1`.

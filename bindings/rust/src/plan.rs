@@ -53,16 +53,8 @@ pub struct Plan {
 /// [`Error::BadSuffixes`], [`Error::BadDryRun`] and [`Error::NotFound`] for the first bad line of the first run or of the
 /// second, [`Error::OutOfMemory`].
 pub fn plan(call: &PlanCall<'_>) -> Result<Plan, Error> {
-    call.with_record(|record| {
-        let mut sizes = estimate(call);
-        loop {
-            // SAFETY: the record and all that it points to live through the call.
-            match unsafe { try_plan(record, sizes) } {
-                Ok(answer) => return answer,
-                Err(answer) => sizes = answer,
-            }
-        }
-    })
+    // SAFETY: the record and all that it points to live through the call.
+    call.with_record(|record| buffers::settled(estimate(call), |sizes| unsafe { try_plan(record, sizes) })?)
 }
 
 /// The sizes of the buffers for a first call. The texts of real plans took at most 1.2 bytes for each byte of their dry runs,

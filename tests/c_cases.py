@@ -1,0 +1,539 @@
+#!/usr/bin/env python3
+"""Makes the cases of test_lines and test_plans through libzigrunk. Usage: tests/c_cases.py [FOLDER]
+
+FOLDER is the repository, or a copy of its crates/test_lines and crates/test_plans. The README of test_lines' data says how
+cases are written. Each case that a call of zigrunk.h answers too is made by the binding for Python, and the answer has to be
+what the case expects. Prints a line for each wrong answer, then how many cases of each kind it made and how many have no call
+in C. The status is 1 if an answer is wrong, if one of wrong_cases.txt is taken for right, or if too few cases were made.
+ZIGRUNK_LIBRARY has to name the shared object, and PYTHONPATH the binding's folder."""
+
+import collections
+import json
+import os
+import re
+import sys
+
+import zigrunk
+from zigrunk import Status, Tool
+
+ROOT = os.path.abspath(sys.argv[1] if len(sys.argv) > 1 else os.path.join(os.path.dirname(__file__), ".."))
+WRONG = "wrong_cases.txt"
+ESCAPES = {"s": " ", "n": "\n", "t": "\t", "r": "\r", "_": "\u00a0", "%": "%", "e": ""}
+STANDARD = [".cpp1.ii", ".cpp4.ii", ".cudafe1.c", ".cudafe1.cpp", ".cudafe1.stub.c"]
+TOOLS = {"cicc": Tool.CICC, "cudafe++": Tool.CUDAFE, "ptxas": Tool.PTXAS, "nvcc": Tool.NVCC, "nvc": Tool.NVC, "nvc++": Tool.NVCXX}
+LANGUAGES = {"C": "c", "Cxx": "c++", "ObjectiveC": "objc", "ObjectiveCxx": "objc++", "Cuda": "cuda", "CudaFE": "cuda", "Ptx": "ptx",
+             "Cubin": "cubin"}
+# the outputs of a line in the order of facts
+KEYS = ["obj", "d", "--gen_c_file_name", "--gen_device_file_name", "--module_id_file_name", "--stub_file_name"]
+HOSTS = {"gcc": zigrunk.HostCompiler.GCC, "msvc": zigrunk.HostCompiler.MSVC, "nvhpc": zigrunk.HostCompiler.NVHPC}
+REASONS = {zigrunk.Reason.NOT_CUDA: "NotCuda", zigrunk.Reason.NO_CICC_GROUP: "NoCiccGroup",
+           zigrunk.Reason.NO_PTXAS_GROUP: "NoPtxasGroup", zigrunk.Reason.SUPERSEDED: "Superseded"}
+# what the messages of a dry run, a look-up and a list of suffixes are; the others are of a line
+FAULTS = [(r"run \d+ line \d+: (not UTF-8|no PATH)|Could not (parse|split) shell line", Status.BAD_DRY_RUN),
+          (r".*: not found", Status.NOT_FOUND), ("bad generated suffixes", Status.BAD_SUFFIXES), (".*", Status.BAD_LINE)]
+OPEN_QUOTE = "open quote or backslash at the end"
+
+# Kinds that tell all that a case expects, and kinds that tell a part of it, each with the fewest cases to be made. A wrong case
+# of the second kind may look right.
+WHOLE = {"candidates": 7, "c_quote": 4, "c_split": 8, "files": 6, "lookups": 4, "needs": 7, "parse": 135,
+         "plan as JSON": 63, "plan as records": 63, "plan as text": 63, "plan_text": 82, "quote": 4, "rename": 40,
+         "reread": 14, "split": 77}
+PART = {"normal_form": 120, "read": 60, "suffixes": 18, "write": 74}
+
+
+def unescaped(text, number):
+    """The word that a text with escapes means, in the repetition with this number."""
+    if "%" not in text:
+        return text
+    return re.sub("%(.)", lambda it: str(number + int(it[1])) if it[1] in "01" else ESCAPES[it[1]], text)
+
+
+def words_of(text, number=0):
+    """The words of a case's text."""
+    words = []
+    for part in text.split(" "):
+        if part.startswith("%*"):
+            count, word = part[2:].split("*", 1)
+            words += [word] * int(count) if "%" not in word else [unescaped(word, it) for it in range(int(count))]
+        elif "%+" in part:
+            beginning, rest = part.split("%+", 1)
+            count, rest = rest.split("+", 1)
+            again, _, end = rest.partition("+")
+            words.append(unescaped(beginning, number) + unescaped(again, number) * int(count) + unescaped(end, number))
+        elif part:
+            words.append(unescaped(part, number))
+    return words
+
+
+class Case:
+    """A case: a call, its settings and words, and the expected facts."""
+
+    def __init__(self, folder, file, number, line):
+        question, _, answer = line.partition(" => ")
+        settings, _, words = question.removesuffix(" :").partition(" : ")
+        self.call, _, settings = settings.partition(" ")
+        self.folder, self.file, self.number = folder, file, number
+        self.settings, self.words, self.facts = words_of(settings), words_of(words), []
+        if answer:
+            self.read_facts(answer, 0)
+
+    def read_facts(self, text, number):
+        self.facts += [words_of(fact, number) for fact in text.split(" ; ")]
+
+    def add(self, line):
+        """Takes an indented line."""
+        count = 1
+        if line.startswith("*"):
+            count, line = line[1:].split(" ", 1)
+        for number in range(int(count)):
+            if line.startswith(": "):
+                self.words += words_of(line[2:], number)
+            elif line.startswith("+ "):
+                self.facts[-1] += words_of(line[2:], number)
+            else:
+                self.read_facts(line, number)
+
+
+def cases_of(folder, file):
+    """The cases of a file."""
+    cases = []
+    with open(os.path.join(folder, file), encoding="utf-8", newline="") as text:
+        for number, line in enumerate(text.read().split("\n"), 1):
+            line = line.removesuffix("\r")
+            if line.startswith(" "):
+                cases[-1].add(line.lstrip(" \t\n\f\r"))
+            elif line and not line.startswith("#"):
+                cases.append(Case(folder, file, number, line))
+    return cases
+
+
+def told(call, *arguments, **more):
+    """What a call answers: its status, and the answer or the message."""
+    try:
+        return Status.OK, call(*arguments, **more)
+    except zigrunk.ZigrunkError as error:
+        return error.number, str(error)
+
+
+def fault(words):
+    """The status and the message of a fact `fault`."""
+    message = " ".join(words)
+    return next(status for form, status in FAULTS if re.fullmatch(form, message, re.DOTALL)), message
+
+
+def split_settings(settings):
+    """The variables among settings, and the others as lists by name."""
+    variables, others = [], collections.defaultdict(list)
+    for setting in settings:
+        name, _, value = setting.partition("=")
+        if name.startswith("$"):
+            variables.append((name[1:], value))
+        else:
+            others[name].append(value)
+    return variables, others
+
+
+def parts_of(words):
+    """Splits words into lists at each `||`."""
+    parts = [[]]
+    for word in words:
+        if word == "||":
+            parts.append([])
+        else:
+            parts[-1].append(word)
+    return parts
+
+
+def dry_run(words):
+    """The bytes of a dry run: words with blanks between them, but none behind a newline or beside a byte."""
+    run, blank = bytearray(), b""
+    for word in words:
+        if word.startswith("0x"):
+            run.append(int(word[2:], 16))
+            blank = b""
+        else:
+            run += blank + word.encode()
+            blank = b"" if word.endswith("\n") else b" "
+    return bytes(run)
+
+
+def dry_runs(case, others):
+    """The dry runs of a case: of files beside the cases, or of its words."""
+    if others["file"]:
+        return [open(os.path.join(case.folder, name), "rb").read() for name in others["file"]]
+    return [dry_run(part) for part in parts_of(case.words)]
+
+
+def further(suffixes):
+    """The suffixes behind the standard ones, or None if these don't come first."""
+    if not suffixes:
+        return []
+    return [it for name in suffixes[1:] for it in (STANDARD if name == "standard" else [name])] if suffixes[0] == "standard" else None
+
+
+def first_dir(lookup, cwd):
+    """Where test_plans expects a program: a path counts from the directory, a name is in the first part of PATH."""
+    part = lookup.path.split(":")[0] if "/" not in lookup.program else cwd
+    if part == "" and "/" not in lookup.program:
+        return None
+    return lookup.program if lookup.program.startswith("/") else part + ("" if part.endswith("/") or not part else "/") + lookup.program
+
+
+# ---- words ----
+
+
+def split(case):
+    expected = (Status.OK, case.facts[0][1:]) if case.facts[0][0] == "words" else (Status.OPEN_QUOTE, OPEN_QUOTE)
+    if case.facts[0][0] == "status":
+        expected = int(case.facts[0][1]), " ".join(case.facts[1][1:])
+    return [(case.call, expected, told(zigrunk.split, case.settings[0]))]
+
+
+def quote(case):
+    return [(case.call, (Status.OK, case.facts[0][1]), told(zigrunk.quote, case.settings))]
+
+
+# ---- lines ----
+
+
+def refusal(facts):
+    """The message of a line that isn't read, or None."""
+    if facts[0] == ["not", "a", "compilation"]:
+        return "not a compilation"
+    if facts[0][0] == "refused":
+        return ": ".join(["cannot cache", " ".join(facts[0][1:]), *[fact[1] for fact in facts[1:]]])
+    return None
+
+
+def facts_of_line(said):
+    """What the JSON of a line says, as facts."""
+    facts = [[said["language"], said["input"]]]
+    facts += [["dashes"]] if said["double_dash_input"] else []
+    facts += [["flag", said["compilation_flag"]]] if said["compilation_flag"] else []
+    for output in sorted(said["outputs"], key=lambda it: KEYS.index(it["key"])):
+        facts.append([output["key"], output["path"]] + (["optional"] if output["optional"] else []))
+    facts += [["depfile", said["depfile"]]] if said["depfile"] is not None else []
+    for name, member in [("dependency", "dependency_args"), ("preprocessor", "preprocessor_args"), ("common", "common_args"),
+                         ("arch", "arch_args"), ("unhashed", "unhashed_args"), ("dist", "extra_dist_files"),
+                         ("hashed", "extra_hash_files")]:
+        facts += [[name, *said[member]]] if said[member] else []
+    for name, member in [("external-assembler", "uses_external_assembler"), ("msvc-includes", "msvc_show_includes"),
+                         ("msvc-language", "msvc_explicit_language"), ("profile", "profile_generate"),
+                         ("whole-includes", "suppress_rewrite_includes_only")]:
+        facts += [[name]] if said[member] else []
+    facts += [["color", said["color_mode"]]] if said["color_mode"] != "auto" else []
+    too_hard = said["too_hard_for_preprocessor_cache_mode"]
+    return facts + ([["too-hard", too_hard]] if too_hard is not None else [])
+
+
+def parse(case):
+    tool, cwd, *settings = case.settings
+    if tool not in TOOLS:
+        return []
+    status, said = told(zigrunk.line, TOOLS[tool], cwd, case.words, split_settings(settings)[0])
+    message = refusal(case.facts)
+    if message is None:
+        expected = Status.OK, [[LANGUAGES[case.facts[0][0]], *case.facts[0][1:]], *case.facts[1:]]
+    else:
+        expected = Status.BAD_LINE, message
+    return [("parse", expected, (status, facts_of_line(json.loads(said)) if status == Status.OK else said))]
+
+
+def line_of(case):
+    """The arguments of a call on a line that C can make, or None. C replaces no part of what the line says."""
+    tool, cwd, *settings = case.settings
+    variables, others = split_settings(settings)
+    if tool not in TOOLS or any(others[name] for name in ("unhashed", "dependency", "language", "outputs")):
+        return None
+    return TOOLS[tool], cwd, case.words, variables
+
+
+def own_input(line, canonical, words):
+    """Expected words with the line's own path of the input, which C writes, in the place of the canonical one at the end."""
+    if line[0] != Tool.NVCC or words[-1:] != canonical:
+        return words
+    own = json.loads(zigrunk.line(*line))["input"]
+    return words[:-1] + [own] if own in line[2] else words
+
+
+def write(case):
+    line = line_of(case)
+    if line is None:
+        return []
+    name, *words = case.facts[0]
+    if name == "fault":
+        expected = fault(words)
+    elif refusal(case.facts) is not None:
+        expected = Status.BAD_LINE, refusal(case.facts)
+    else:
+        expected = Status.OK, own_input(line, split_settings(case.settings[2:])[1]["input"], words)
+    return [("write", expected, told(zigrunk.line_words, *line))]
+
+
+def reread(case):
+    line = line_of(case)
+    if line is None:
+        return []
+    status, words = told(zigrunk.line_words, *line)
+    if status != Status.OK:
+        return [("reread", fault(case.facts[0][1:]), (status, words))]
+    same = told(zigrunk.line, line[0], line[1], words, line[3]) == told(zigrunk.line, *line)
+    return [("reread", case.facts, [["yes" if same else "no"]])]
+
+
+def dry_run_of(cwd, words):
+    """The command of the first dry run of a normal form, by its two other calls: their answers are the cases of lines."""
+    status, written = told(zigrunk.line_words, Tool.NVCC, cwd, words)
+    if status != Status.OK:
+        return status, written
+    if any(it in ("-lineinfo", "--generate-line-info", "-G", "--device-debug") for it in written) and not written[-1].startswith("/"):
+        written = written[:-1] + [f"{cwd}/{written[-1]}"]
+    command = zigrunk.quote(["nvcc", *written, "--dryrun", "--keep"])
+    return status, f"( unset NVCC_PREPEND_FLAGS NVCC_APPEND_FLAGS; cd {zigrunk.quote([cwd])} && {command} )"
+
+
+def files_of(command):
+    """The input and the output of a dry run's command, by their paths from /w."""
+    words = zigrunk.split(command)
+    return [it.removeprefix("/w/") for it in (words[words.index("--dryrun") - 1], words[words.index("-o") + 1])]
+
+
+def normal_form(case):
+    status, said = told(zigrunk.nvcc_line, "/w", "/t", "nvcc", case.words, split_settings(case.settings)[0])
+    got = (status, [said.flag, *files_of(said.first_dry_run), said.first_dry_run] if status == Status.OK else said)
+    name, *words = case.facts[0]
+    if name == "pass":
+        expected = Status.TO_NVCC, "goes to nvcc: " + " ".join(words)
+    elif told(zigrunk.line, Tool.NVCC, "/w", case.facts[1][1:])[0] == Status.BAD_LINE:
+        expected = Status.TO_NVCC, "goes to nvcc: its words can be read in two ways"
+    else:
+        expected = dry_run_of("/w", case.facts[1][1:])
+        if expected[0] == Status.OK:
+            expected = Status.OK, [words[0], *[it.removeprefix("/w/") for it in words[1:]], expected[1]]
+    return [("normal_form", expected, got)]
+
+
+# ---- plans ----
+
+
+def records_facts(plan, whole):
+    """The records of a plan, as facts."""
+    facts = []
+    for number, group in enumerate(plan.groups):
+        facts.append(["group", str(number)])
+        for it in group.commands:
+            assert (it.group, it.reason) == (number, None)
+            facts.append(["yes" if it.cacheable else "no", it.cwd, it.program, *it.arguments])
+            facts += [["env", *variable] for variable in it.variables] if whole else []
+    for it in plan.dropped:
+        assert (it.group, it.cwd, it.variables) == (None, "", ())
+        facts.append(["dropped", str(it.line), str(it.run), REASONS[it.reason], it.program, *it.arguments])
+    stages = [int(group.stage) for group in plan.groups]
+    return facts if stages == [0] + [1] * (len(stages) - 2) + [2] else [["stages", *map(str, stages)]]
+
+
+def json_facts(plan, whole):
+    """The JSON of a plan, as facts."""
+    facts = []
+    for number in range(plan["groups"]):
+        facts.append(["group", str(number)])
+        for it in plan["commands"]:
+            if it["group"] == number:
+                facts.append(["yes" if it["cacheable"] else "no", it["cwd"], it["exe"], *it["args"]])
+                facts += [["env", *variable] for variable in it["env"]] if whole else []
+    for it in plan["dropped"]:
+        facts.append(["dropped", str(it["line"] - 1), str(it["run"]), it["reason"], it["exe"], *it["args"]])
+    return facts
+
+
+def text_of_facts(facts):
+    """A plan's text, by the facts of the plan."""
+    text = ""
+    for name, *words in facts:
+        if name == "dropped":
+            text += f"dropped {words[0]} run {words[1]} {' '.join(words[2:])}\n"
+        elif name in ("yes", "no"):
+            text += f"{name} cd {words[0]} && {' '.join(words[1:])}\n"
+        elif name == "group":
+            text += f"group {words[0]}\n"
+    return text
+
+
+def plan_call(case, suffixes, others, variables):
+    first, *second = dry_runs(case, others)
+    cwd, tmp, flag = case.settings[:3]
+    keep = others["keep"][-1] if others["keep"] else None
+    host = HOSTS[others["host"][-1]] if others["host"] else zigrunk.HostCompiler.GCC
+    return zigrunk.PlanCall(first, second[0] if second else first, cwd, tmp, flag, keep, variables, suffixes, host)
+
+
+def plan(case):
+    variables, others = split_settings(case.settings[3:])
+    suffixes = further(others["suffix"])
+    if suffixes is None:
+        return []
+    call, whole = plan_call(case, suffixes, others, variables), case.call == "plan_whole"
+    records, text = told(zigrunk.plan_records, call, which=first_dir), told(zigrunk.plan, call, zigrunk.Form.JSON, first_dir)
+    lines = told(zigrunk.plan, call, zigrunk.Form.TEXT, first_dir)
+    if case.facts[0][0] == "fault":
+        expected = fault(case.facts[0][1:])
+        return [("plan as records", expected, records), ("plan as JSON", expected, text), ("plan as text", expected, lines)]
+    return [
+        ("plan as records", (Status.OK, case.facts), (records[0], records_facts(records[1], whole) if records[0] == 0 else records[1])),
+        ("plan as JSON", (Status.OK, case.facts), (text[0], json_facts(json.loads(text[1]), whole) if text[0] == 0 else text[1])),
+        # a text has no environments
+        ("plan as text", (Status.OK, text_of_facts(case.facts)), lines),
+    ][: 2 if case.file == WRONG and whole else 3]
+
+
+def plan_text(case):
+    variables, others = split_settings(case.settings[3:])
+    suffixes = [it for name in others["suffix"] for it in (STANDARD if name == "standard" else [name])]
+    status, text = told(zigrunk.plan, plan_call(case, suffixes, others, variables), zigrunk.Form.TEXT, first_dir)
+    if case.facts[0][0] == "fault":
+        return [("plan_text", fault(case.facts[0][1:]), (status, text))]
+    if others["text"] and status == Status.OK:
+        with open(os.path.join(case.folder, others["text"][-1]), "rb") as file:
+            return [("plan_text", case.facts, [["yes" if file.read() == text.encode() else "no"]])]
+    lines = text.removesuffix("\n").split("\n") if text else []
+    got = [["text", *line.removesuffix("\r").split(" ")] for line in lines] if status == Status.OK else text
+    return [("plan_text", (Status.OK, case.facts), (status, got))]
+
+
+def files_and_needs(case):
+    variables, others = split_settings(case.settings[3:])
+    suffixes = further(others["suffix"])
+    if suffixes is None:
+        return []
+    status, text = told(zigrunk.plan, plan_call(case, suffixes, others, variables), zigrunk.Form.JSON, first_dir)
+    if case.facts[0][0] == "fault":
+        return [(case.call, fault(case.facts[0][1:]), (status, text))]
+    facts = []
+    for it in json.loads(text)["commands"]:
+        if case.call == "needs":
+            facts.append(["needs", *map(str, it["needs"])])
+            continue
+        facts += [["reads", *it["reads"]], ["writes", *it["writes"]]]
+        facts += [["may-write", *it["may_write"]]] if it["may_write"] else []
+        facts += [["incomplete"]] if not it["complete"] else []
+    return [(case.call, case.facts, facts)]
+
+
+def read(case):
+    """A dry run that can't be read, as one of the two of a plan. The other is empty."""
+    number, cwd, *settings = case.settings
+    if case.facts[0][0] != "fault" or number not in ("1", "2"):
+        return []
+    run = dry_runs(case, split_settings(settings)[1])[0]
+    call = zigrunk.PlanCall(*((run, b"") if number == "1" else (b"", run)), cwd, "/t")
+    return [("read", fault(case.facts[0][1:]), told(zigrunk.plan_records, call, first_dir))]
+
+
+def rename(case):
+    suffixes = further(split_settings(case.settings)[1]["suffix"])
+    if suffixes is None:
+        return []
+    parts = parts_of(case.words)
+    status, words = told(zigrunk.remap, [word for part in parts for word in part], suffixes)
+    lines = iter(words if status == Status.OK else [])
+    got = [["words", *[next(lines, None) for _ in part]] for part in parts] + [["more", word] for word in lines]
+    return [("rename", (Status.OK, case.facts), (status, got))]
+
+
+def suffixes(case):
+    more = further(case.settings)
+    if not case.settings or more is None:
+        return []
+    expected = fault(case.facts[0][1:]) if case.facts[0][0] == "fault" else (Status.OK, [])
+    return [("suffixes", expected, told(zigrunk.remap, [], more))]
+
+
+def candidates(case):
+    program, path, cwd = case.settings
+    return [("candidates", (Status.OK, case.facts[0][1:]), told(zigrunk.candidates, zigrunk.Lookup(program, path), cwd))]
+
+
+def lookups(case):
+    cwd, folder, *settings = case.settings
+    got = []
+    for lookup in zigrunk.lookups(*dry_runs(case, split_settings(settings)[1]), cwd):
+        there = [path for path in zigrunk.candidates(lookup, cwd) if path.rpartition("/")[0] == folder]
+        got.append(["finds", lookup.program, there[0]] if there else ["misses", lookup.program])
+    return [("lookups", case.facts, got)]
+
+
+CALLS = {
+    "split": split, "c_split": split, "quote": quote, "c_quote": quote, "parse": parse, "write": write, "write_whole": write,
+    "reread": reread, "normal_form": normal_form, "plan": plan, "plan_whole": plan, "plan_text": plan_text,
+    "files": files_and_needs, "needs": files_and_needs, "read": read, "read_whole": read, "rename": rename, "suffixes": suffixes,
+    "candidates": candidates, "lookups": lookups,
+}
+
+
+def answers(case):
+    """What a call of C answers to a case: a kind, the expected answer and the answer, for each way to make it."""
+    try:
+        return CALLS[case.call](case) if case.call in CALLS else []
+    except Exception as error:  # an answer of another form than the case's
+        return [(case.call, case.facts, error)]
+
+
+class Report:
+    """How many cases were made, by kind, and what went wrong."""
+
+    def __init__(self):
+        self.made, self.found_wrong = collections.Counter(), collections.Counter()
+        self.cases = self.without = self.failures = 0
+
+    def fail(self, text):
+        self.failures += 1
+        print(text if len(text) < 2000 else text[:2000] + " ..")
+
+    def take(self, case):
+        self.cases += 1
+        results = answers(case)
+        self.without += not results
+        for kind, expected, got in results:
+            if case.file != WRONG:
+                self.made[kind] += 1
+                if expected != got:
+                    self.fail(f"{case.file}:{case.number}: {kind}: expected {expected}, but got {got!r}")
+            elif expected != got:
+                self.found_wrong[kind] += 1
+            elif kind in WHOLE:
+                self.fail(f"{case.file}:{case.number}: {kind}: right, but meant to be wrong: {got!r}")
+
+    def finish(self):
+        for kind, least in {**WHOLE, **PART}.items():
+            if self.made[kind] < least:
+                self.fail(f"{kind}: only {self.made[kind]} cases, but there were {least}")
+            # no wrong list of suffixes begins with the standard ones
+            if not self.found_wrong[kind] and kind != "suffixes":
+                self.fail(f"{kind}: no case of {WRONG} was found to be wrong")
+            print(f"{kind}: {self.made[kind]}, and {self.found_wrong[kind]} found to be wrong")
+        for kind in self.made.keys() - WHOLE.keys() - PART.keys():
+            self.fail(f"{kind}: a kind without a least number")
+        made = self.cases - self.without
+        print(f"{self.cases} cases: {made} made through C, {self.without} without a call in C, {self.failures} failures")
+        return 1 if self.failures else 0
+
+
+def main():
+    report = Report()
+    for program in "test_lines", "test_plans":
+        crate = os.path.join(ROOT, "crates", program)
+        with open(os.path.join(crate, "stdout"), encoding="utf-8") as text:
+            counts = dict(re.findall(r"^(\S+\.txt): (\d+) cases$", text.read(), re.MULTILINE))
+        with open(os.path.join(crate, "args"), encoding="utf-8") as names:
+            files = names.read().split()
+        for file in files:
+            cases = cases_of(os.path.join(crate, "data"), file)
+            if str(len(cases)) != counts.get(file):
+                report.fail(f"{file}: {len(cases)} cases, but {program} has {counts.get(file)}")
+            for case in cases:
+                report.take(case)
+    return report.finish()
+
+
+if __name__ == "__main__":
+    sys.exit(main())
