@@ -5,11 +5,13 @@
 # These calls stand for must-fail edits of the programs. Three mistakes are shown by one call alone: a program that takes every
 # verb for a plan ('unknown verb'), that writes JSON as a script ('a plan as JSON'), or that drops --keep (the one 'with names kept').
 #
-#   tests/program.sh [CUDAPLAN [ZIGRUNK]]     the programs are those that `make build` and the gate leave, unless given
+#   tests/program.sh [CUDAPLAN [ZIGRUNK [FUNCTION..]]]     the programs are those that `make build` and the gate leave, unless given;
+#                                                          only these functions of this script are called, if there are some
 set -u
 cd "$(dirname "$0")/.." || exit 1
 program=$(realpath "${1:-crates/cudaplan/out/cudaplan}")
 zigrunk=$(realpath "${2:-crates/zigrunk/out/zigrunk}")
+wanted=("${@:3}")
 data=crates/test_plans/data/dry_runs
 scratch=$(mktemp -d)
 trap 'rm -rf "$scratch"' EXIT
@@ -287,6 +289,20 @@ long_lines() {
     many=("$word" "$word" "$word" "$word" "$word" "$word" "$word" "$word" "$word" "$word" "$word")
     out=$(lines "${many[@]}" k.cpp1.ii -o /k.ptx)
     check 'a megabyte of words' 0 "${out%.}" '' line cicc / "${many[@]}" k.cpp1.ii -o k.ptx
+}
+
+# a plan with a thousand further suffixes, and one with a thousand dropped commands
+long_suffixes() {
+    local suffixes=() steps=() want=('group 0' 'group 1') number
+    for number in {1..1000}; do
+        suffixes+=(".a$number")
+        steps+=("#\$ gcc k$number.cpp")
+        want+=("dropped $number run 2 NotCuda /b/gcc k$number.cpp")
+    done
+    lines_of suffixed '#$ PATH=/b' '#$ gcc -D__NVCC__ -c k.a1000'
+    check 'a thousand further suffixes' 0 $'group 0\ngroup 1\nyes cd /w && /b/gcc -D__NVCC__ -c x_0.a1000\n' '' \
+        plan /w /t -c "$scratch/suffixed" "$scratch/suffixed" "${suffixes[@]}"
+    plans 'a thousand dropped commands' "$(lines "${want[@]}")" "${steps[@]}"
 }
 
 # byte_by_byte FILE: writes a file one byte at a time.
@@ -683,8 +699,9 @@ counts() {
 
 # long plans in every format: a thousand commands in one group, a hundred device groups, a thousand programs on disk
 long_exports() {
-    local group=("${KERNEL[2]}" "${KERNEL[3]}") groups=() programs=() number format dropped
+    local group=("${KERNEL[2]}" "${KERNEL[3]}") groups=() programs=() sources=() number format dropped
     for number in {1..1000}; do
+        sources+=("#\$ gcc -D__CUDACC__ -E s$number.cu -o s$number.cpp4.ii")
         group+=("#\$ ptxas k.ptx -o k$number.cubin")
         programs+=("#\$ p$number x")
     done
@@ -695,6 +712,7 @@ long_exports() {
     run_of group "${group[@]}"
     run_of groups "${groups[@]}"
     run_of programs "${KERNEL[2]}" "${programs[@]}"
+    run_of sources "${sources[@]}"
     for format in shell ninja json; do
         counts "a group of a thousand commands as $format" 1000 'o[",]* *k[0-9]\+\.cubin' "$format" /w /t -c "$scratch/group" "$scratch/group.2"
         counts "a hundred device groups as $format" 100 'o[",]* *k[0-9]\+\.ptx' "$format" /w /t -c "$scratch/groups" "$scratch/groups.2"
@@ -706,6 +724,7 @@ long_exports() {
     counts 'a hundred device groups as a graph' 100 'cicc.nk[0-9]\+\.ptx' dot /w /t -c "$scratch/groups" "$scratch/groups.2"
     counts 'a thousand dropped programs as a graph' 1000 'd[0-9]\+ \[label="p[0-9]\+.nNotCuda" style=dashed' \
         dot /w /t -c "$scratch/programs" "$scratch/programs.2"
+    counts 'a thousand sources as a compilation database' 1000 '"file":"/w/s[0-9]\+\.cu"' compdb /w /t -c "$scratch/sources" "$scratch/sources.2"
     counts 'a hundred device groups as a compilation database' 100 'x_[0-9]\+\.cpp1\.ii' compdb /w /t -c "$scratch/groups" "$scratch/groups.2"
 }
 
@@ -786,6 +805,19 @@ messages() {
     suffixes 'a text that is no suffix, behind two that overlap' "suffix \"a/b\" $rule" .ii a/b
     suffixes 'an empty suffix' "suffix \"\" $rule" ''
     suffixes 'a suffix with control characters' "suffix \".\\n\\u{1b}\\u{9b}\" $rule" $'.\n\x1b\xc2\x9b'
+}
+
+# messages about long input: a line of a megabyte, the last of a thousand suffixes, and a file with a long name
+long_messages() {
+    local long suffixes=() number
+    long=$(head -c 1000000 /dev/zero | tr '\0' x)
+    bad 'a line of a megabyte' "#\$ '$long" 'the command has an open quote or ends in a backslash' "#\$ '${long:0:116}.."
+    for number in {1..1000}; do
+        suffixes+=(".a$number")
+    done
+    suffixes 'a bad suffix behind a thousand' 'suffix ".ii" is a suffix of ".cpp1.ii"' "${suffixes[@]}" .ii
+    long=${long:0:100000}
+    check 'a file with a name of 100,000 bytes' 1 '' "zigrunk: cannot read ${long:0:1000}..: File name too long"$'\n' json /w /t -c "$long" x
 }
 
 # No byte of the input reaches the terminal if it isn't printable ASCII, in any message that quotes input: all 256 bytes, and each
@@ -909,43 +941,23 @@ zigrunk_pages() {
     NVCC_APPEND_FLAGS=$'\xff' check 'a variable that is not UTF-8' 2 '' "$usage" calls /w /t nvcc -c k.cu -o k.o
 }
 
-good_lines
-refused_lines
-good_plans
-grouped_plans
-long_plan
-refused_plans
-unreadable_runs
-lost_programs
-odd_plans
-other_calls
-long_lines
-slow_streams
-short_streams
-closed_streams
+# run FUNCTION..: calls these functions, or those of them that the script's call names.
+run() {
+    local name
+    for name in "$@"; do
+        [[ ${#wanted[@]} -gt 0 && " ${wanted[*]} " != *" $name "* ]] || "$name"
+    done
+}
+
+run \
+    good_lines refused_lines good_plans grouped_plans long_plan refused_plans unreadable_runs lost_programs odd_plans other_calls \
+    long_suffixes long_lines slow_streams short_streams closed_streams
 cudaplan=$program
 program=$zigrunk
 unset NVCC_PREPEND_FLAGS NVCC_APPEND_FLAGS ZIGRUNK_JOBS MAKEFLAGS
-nvcc_lines
-jobs_at_once
-directories
-forms_of_cudaplan
-long_nvcc_lines
-odd_nvcc_words
-refused_nvcc_lines
-kernel_programs
-plan_scripts
-plan_files
-plan_views
-plan_schema
-whole_plans
-unfit_files
-statuses
-long_exports
-refused_exports
-messages
-escapes
-standard_input
-zigrunk_pages
+run \
+    nvcc_lines jobs_at_once directories forms_of_cudaplan long_nvcc_lines odd_nvcc_words refused_nvcc_lines kernel_programs \
+    plan_scripts plan_files plan_views plan_schema whole_plans unfit_files statuses long_exports refused_exports messages \
+    long_messages escapes standard_input zigrunk_pages
 echo "$passed passed, $failed failed"
 [ "$failed" -eq 0 ]

@@ -1,27 +1,31 @@
 //! `Debug` prints the fields of the records that no case prints.
 
 use c_texts::{InputText, ListAnswer, Range, Status, TextAnswer};
-use cuda_plans::cicc::Cicc;
-use cuda_plans::compiler::Places;
+use cuda_plans::cicc::{ArgData, Cicc};
+use cuda_plans::compiler::{CCompilerKind, Places};
 use cuda_plans::cudafe::CudaFE;
-use cuda_plans::dry_run::{FirstDir, Suffixes};
-use cuda_plans::items::Argument;
+use cuda_plans::dry_run::{FirstDir, LimitedFault, Suffixes};
+use cuda_plans::items::{ArgParseError, Argument, Line, NormalizedDisposition};
 use cuda_plans::nvcc::{Nvcc, NvccHostCompiler};
 use cuda_plans::nvhpc::Nvhpc;
+use cuda_plans::plan::{DroppedCommands, Groups, Origin, Origins, Plan, PlanWithOrigins};
 use cuda_plans::ptxas::Ptxas;
 use cuda_plans::runner::{Answer, Place};
-use cuda_plans::table::{ArgDisposition, ArgInfo, Match, Table};
+use cuda_plans::table::{ArgDisposition, ArgInfo, Match, Pair, Table};
+use cuda_plans::views::ArgumentView;
 use nvcc_calls::{DirectoryCall, NvccCall, Outline};
+use plan_exports::Refusal;
 use plan_texts::Tool;
-use programs::{LineCall, PlanCall, Stop};
-use std::alloc::Global;
+use programs::{LineCall, PlanCall, Stop, Unread};
+use std::alloc::{AllocError, Global};
 use std::fmt::Debug;
 use texts::bytes::Bytes;
+use texts::fault::Fault;
 use texts::status::CompileFinished;
 use texts::text::Text;
 
-// Whether `{:?}` prints this text for a value.
-fn prints<T: Debug>(alloc: Global, value: &T, text: &str) -> bool {
+/// Whether `{:?}` prints this text for a value.
+pub fn prints<T: Debug>(alloc: Global, value: &T, text: &str) -> bool {
     matches!(format!(in alloc; "{value:?}"), Ok(printed) if printed.as_str() == text)
 }
 
@@ -40,6 +44,36 @@ fn tables_and_items_print_their_fields(rt: HostRuntime) {
     assert!(rt; prints(alloc, &Match::Joined("x"), r#"Joined("x")"#));
     let item = Argument::Flag("-c", 1);
     assert!(rt; prints(alloc, &item, r#"Flag("-c", 1)"#));
+}
+
+const PAIR_TEXT: &str = r#"Pair { first: Table { rows: [] }, second: Table { rows: [] } }"#;
+
+#[test]
+fn pairs_of_tables_print_their_fields(rt: HostRuntime) {
+    let alloc = rt.alloc();
+    let pair: Pair<'static, u8> = Pair {
+        first: Table { rows: &[] },
+        second: Table { rows: &[] },
+    };
+    assert!(rt; prints(alloc, &pair, PAIR_TEXT));
+    let line = Line::new(&[]);
+    assert!(rt; prints(alloc, &line, "Line { front: [], back: [] }"));
+    let form = NormalizedDisposition::Separated;
+    assert!(rt; prints(alloc, &form, "Separated"));
+    let error = ArgParseError::UnexpectedEndOfArgs;
+    assert!(rt; prints(alloc, &error, "UnexpectedEndOfArgs"));
+}
+
+#[test]
+fn views_of_items_print_their_fields(rt: HostRuntime) {
+    let alloc = rt.alloc();
+    let raw: ArgumentView<'static, u8> = ArgumentView::Raw("a");
+    assert!(rt; prints(alloc, &raw, r#"Raw("a")"#));
+    let unknown: ArgumentView<'static, u8> = ArgumentView::UnknownFlag("-a");
+    assert!(rt; prints(alloc, &unknown, r#"UnknownFlag("-a")"#));
+    assert!(rt; prints(alloc, &ArgumentView::Flag("-c", 1u8), r#"Flag("-c", 1)"#));
+    let value = ArgumentView::WithValue("-o", 2u8, "b", ArgDisposition::Separated);
+    assert!(rt; prints(alloc, &value, r#"WithValue("-o", 2, "b", Separated)"#));
 }
 
 #[test]
@@ -104,6 +138,51 @@ fn runs_and_plans_print_their_fields(rt: HostRuntime) {
     assert!(rt; prints(alloc, &finished(alloc), FINISHED_TEXT));
     assert!(rt; prints(alloc, &Suffixes::standard(), "Suffixes { handed: None }"));
     assert!(rt; prints(alloc, &FirstDir, "FirstDir"));
+}
+
+const ORIGIN: Origin = Origin { line: 3, run: 2 };
+
+// A plan without commands, and one origin.
+fn planned(alloc: Global) -> Result<PlanWithOrigins, AllocError> {
+    let mut origins = Vec::new(alloc);
+    origins.push(ORIGIN)?;
+    Ok(PlanWithOrigins {
+        plan: Plan {
+            groups: Groups::from_vec(Vec::new(alloc)),
+            dropped: DroppedCommands::from_vec(Vec::new(alloc)),
+        },
+        origins: Origins::from_vec(origins),
+    })
+}
+
+const ORIGINS_TEXT: &str = "Origins { origins: [Origin { line: 3, run: 2 }] }";
+
+const PLANNED_TEXT: &str =
+    "PlanWithOrigins { plan: Plan { groups: Groups { groups: [] }, dropped: DroppedCommands { commands: [] } }, origins: Origins { origins: [Origin { line: 3, run: 2 }] } }";
+
+// Whether a plan and its origins print these texts.
+fn origins_print(alloc: Global, planned: &PlanWithOrigins) -> bool {
+    prints(alloc, &planned.origins, ORIGINS_TEXT) && prints(alloc, planned, PLANNED_TEXT)
+}
+
+#[test]
+fn plans_with_origins_print_their_fields(rt: HostRuntime) {
+    let alloc = rt.alloc();
+    assert!(rt; prints(alloc, &ORIGIN, "Origin { line: 3, run: 2 }"));
+    assert!(rt; matches!(&planned(alloc), Ok(planned) if origins_print(alloc, planned)));
+}
+
+#[test]
+fn reasons_print_their_fields(rt: HostRuntime) {
+    let alloc = rt.alloc();
+    let long = LimitedFault::TooLong { run: 1, line: 2 };
+    assert!(rt; prints(alloc, &long, "TooLong { run: 1, line: 2 }"));
+    let fault = LimitedFault::Fault(Fault::NoPath { run: 1, line: 2 });
+    assert!(rt; prints(alloc, &fault, "Fault(NoPath { run: 1, line: 2 })"));
+    assert!(rt; prints(alloc, &Refusal::VariableName, "VariableName"));
+    assert!(rt; prints(alloc, &Unread::System(5), "System(5)"));
+    assert!(rt; prints(alloc, &CCompilerKind::CudaFE, "CudaFE"));
+    assert!(rt; prints(alloc, &ArgData::PassThrough, "PassThrough"));
 }
 
 const LINE_CALL_TEXT: &str = r#"LineCall { tool: Cicc, cwd: "/w", words: [] }"#;

@@ -3,6 +3,8 @@
 #![tactic(auto)]
 
 #[cfg(test)]
+mod c_records;
+#[cfg(test)]
 mod debug;
 #[cfg(test)]
 mod exports;

@@ -1,6 +1,6 @@
 //! The calls that cases make, by name.
 
-use crate::{lookups, plan_runs, plans, renaming, runs, selection};
+use crate::{limits, lookups, plan_runs, plans, renaming, runs, selection};
 use std::alloc::Global;
 use std::fs::Files;
 use test_tables::{Answer, Calls, Case, CaseError};
@@ -24,6 +24,7 @@ impl Calls for PlanCalls {
             | "is_clean"
             | "is_shadow"
             | "is_step_shadow" => { runs::answer(rt, alloc, case) }
+            "read_within" => limits::answer(rt, alloc, case),
             "rename" | "suffixes" | "standard_suffixes" => renaming::answer(alloc, case),
             "select" => selection::answer(rt, alloc, case),
             "plan"

@@ -10,6 +10,7 @@ use test_tables::run_program;
 mod calls;
 mod command_needs;
 mod handed;
+mod limits;
 mod lookups;
 mod plan_runs;
 mod plan_settings;

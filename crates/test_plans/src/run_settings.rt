@@ -39,14 +39,22 @@ fn place(word: &str) -> Result<Place, CaseError> {
     }
 }
 
-// The answer that a signal ended a compilation.
-fn ended_by(alloc: Global, signal: i32) -> Answer {
-    Answer::Finished(CompileFinished {
+// The answer that a compilation ended, by a signal if there is one, and wrote this to both of its streams.
+fn ended(alloc: Global, signal: Option<i32>, text: &str) -> Result<Answer, CaseError> {
+    Ok(Answer::Finished(CompileFinished {
         retcode: None,
-        signal: Some(signal),
-        stdout: Bytes::new(alloc),
-        stderr: Bytes::new(alloc),
-    })
+        signal,
+        stdout: Bytes::copy_of(alloc, text.as_bytes())?,
+        stderr: Bytes::copy_of(alloc, text.as_bytes())?,
+    }))
+}
+
+// The answer that a signal ended a compilation: its number, and what was written if there is more.
+fn ended_by(alloc: Global, told: &str) -> Result<Answer, CaseError> {
+    match told.split_once(':') {
+        Some((signal, text)) => ended(alloc, Some(code(signal)?), text),
+        None => ended(alloc, Some(code(told)?), ""),
+    }
 }
 
 // The answer that a setting describes.
@@ -57,7 +65,8 @@ fn answer_of(alloc: Global, name: &str, value: &str) -> Result<Answer, CaseError
             let printed = Bytes::copy_of(alloc, value.as_bytes())?;
             Ok(Answer::Ran(left(alloc, 0, printed)))
         }
-        "signal" => Ok(ended_by(alloc, code(value)?)),
+        "ended" => ended(alloc, None, value),
+        "signal" => ended_by(alloc, value),
         "failed" => {
             let output = left(alloc, code(value)?, Bytes::new(alloc));
             Ok(Answer::Failed(Fault::Process(output)))
@@ -105,7 +114,7 @@ impl<'a> RunSettings<'a> {
     fn take(&mut self, alloc: Global, setting: &str) -> Result<(), CaseError> {
         match setting.split_once('=') {
             Some(("parallel", value)) => self.num_parallel = number_of(value)?,
-            Some((name @ ("fail" | "print" | "signal" | "failed" | "refuse"), told)) => {
+            Some((name @ ("fail" | "print" | "ended" | "signal" | "failed" | "refuse"), told)) => {
                 self.prepare(alloc, name, told)?;
             }
             _ => self.plan.take(alloc, setting)?,

@@ -1,0 +1,4 @@
+pub mod LineCalls
+pub mod LineJson
+pub mod Lines
+pub mod NvccOutline

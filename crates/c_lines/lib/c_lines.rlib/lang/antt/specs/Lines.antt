@@ -1,0 +1,105 @@
+-- The calls on lines of tools.
+use Rattle.std.specs.Prelude.{ℕ, List, [], ◌++◌, true, false, Option, Some, None, Result, Ok, Err, codes}
+use Rattle.compilers.specs.declared.arguments.ParsedArguments.{ParsedArguments}
+use Rattle.cuda_below.specs.declared.command.Cacheable.{Cacheable}
+use Rattle.cuda_below.specs.declared.compiler.NvccHostCompiler.TheVariants.{Gcc}
+use Rattle.cuda_below.specs.declared.compiler.Places.{Places}
+use Rattle.cuda_below.specs.Command.{Writing, written}
+use Rattle.cuda_below.specs.Compiler.{Reading, accepted, cannot_cache, not_compilation}
+use Rattle.cuda_below.specs.GccLine.{gcc_words}
+use Rattle.cuda_plans.specs.Nvcc.{nvcc_reading}
+use Rattle.cuda_plans.specs.NvccCommand.{nvcc_written}
+use Rattle.device_lines.specs.Cicc.{cicc_options}
+use Rattle.device_lines.specs.CudaFE.{cudafe_options}
+use Rattle.device_lines.specs.DeviceWords.{cicc_words, cudafe_words}
+use Rattle.device_lines.specs.Ptxas.{ptxas_options}
+use Rattle.device_lines.specs.Reading.{tool_reading}
+use Rattle.host_lines.specs.Nvhpc.{nvhpc_reading}
+use Rattle.serde_json.specs.Written.{compact_text}
+use Rattle.texts.specs.declared.fault.Fault.{Fault}
+use Rattle.texts.specs.declared.language.Language.TheVariants.{Ptx, Cubin, CudaFE}
+use Rattle.c_lines.specs.declared.line_call.LineCall.{LineCall}
+use Rattle.c_lines.specs.declared.line_call.LineTool.{LineTool}
+use Rattle.c_lines.specs.declared.line_call.LineTool.TheVariants as tools
+use Rattle.c_texts.specs.declared.status.Status.{Status}
+use Rattle.c_texts.specs.declared.status.Status.TheVariants.{BadLine}
+use Rattle.c_texts.specs.Failures.{answered}
+use Rattle.c_lines.specs.LineCalls.{Line, line_in}
+use Rattle.c_lines.specs.LineJson.{line_data}
+use Rattle.c_texts.specs.Outcomes.{Outcome, of_text, of_texts, refused, refused_with}
+
+-- what a tool reads a line as
+abbrev pub read_by : LineTool → Line → Reading
+read_by tools.Cicc line = tool_reading cicc_options line.cwd Ptx 3 line.words
+read_by tools.Ptxas line = tool_reading ptxas_options line.cwd Cubin 3 line.words
+read_by tools.CudaFe line = tool_reading cudafe_options line.cwd CudaFE 1 line.words
+read_by tools.Nvcc line = nvcc_reading line.words line.cwd line.variables
+read_by tools.Nvc line = nvhpc_reading false line.cwd line.words
+read_by tools.Nvcxx line = nvhpc_reading true line.cwd line.words
+
+-- the refusal of a line, with its message
+abbrev pub bad_line : List ℕ → Outcome
+bad_line message = refused_with BadLine message
+
+-- why no cache can serve a line: an option, or what is wrong, and the word that says it
+abbrev pub not_cached : List ℕ → Option (List ℕ) → List ℕ
+not_cached text None = codes "cannot cache: " ++ text
+not_cached text (Some word) = codes "cannot cache: " ++ (text ++ (codes ": " ++ word))
+
+abbrev pub no_compilation : List ℕ
+no_compilation = codes "not a compilation"
+
+-- an outcome of arguments, or the refusal of a line that has none
+abbrev pub if_accepted : Reading → (ParsedArguments → Outcome) → Outcome
+if_accepted (accepted p) outcome = outcome p
+if_accepted (cannot_cache text word) outcome = bad_line (not_cached text word)
+if_accepted not_compilation outcome = bad_line no_compilation
+
+-- the JSON of arguments
+abbrev pub json_of : ParsedArguments → Outcome
+json_of p = of_text (compact_text (line_data p))
+
+-- the JSON of a line
+abbrev pub json_by : LineTool → Line → Outcome
+json_by tool line = if_accepted (read_by tool line) json_of
+
+-- the places of a line: its own path of the input, and no directory
+abbrev pub places_of : ParsedArguments → Places
+places_of p = record { temp_dir = []; canonical_input = p.input }
+
+-- the words of a command, given a way to see them, or the fault of arguments that can't be written
+abbrev pub words_told : {C : Type 0} → (C → List (List ℕ)) → Result (C × Cacheable) Fault → Result Outcome Fault
+words_told words (Ok command) = Ok (of_texts (words command.0))
+words_told words (Err fault) = Err fault
+
+-- the words of arguments, given how they are written with the path of their output
+abbrev pub plain_words : Writing → Line → ParsedArguments → Result Outcome Fault
+plain_words words line p = words_told (λ c. c.arguments) (written words [] p line.cwd line.variables)
+
+-- the words that a tool writes arguments back as
+abbrev pub words_by : LineTool → Line → ParsedArguments → Result Outcome Fault
+words_by tools.Cicc line p = plain_words cicc_words line p
+words_by tools.Ptxas line p = plain_words cicc_words line p
+words_by tools.CudaFe line p = plain_words cudafe_words line p
+words_by tools.Nvcc line p = words_told (λ c. c.arguments) (nvcc_written [] p line.cwd line.variables Gcc (places_of p))
+words_by tools.Nvc line p = plain_words gcc_words line p
+words_by tools.Nvcxx line p = plain_words gcc_words line p
+
+-- the words that a line is written back as
+abbrev pub rewritten_by : LineTool → Line → Outcome
+rewritten_by tool line = if_accepted (read_by tool line) (λ p. answered (words_by tool line p))
+
+-- an outcome of a tool and a line, or the refusal of a call without
+abbrev pub on_line : (LineTool → Line → Outcome) → Result (LineTool × Line) Status → Outcome
+on_line outcome (Ok at) = outcome at.0 at.1
+on_line outcome (Err status) = refused status
+
+-- an outcome of a call's tool and line
+abbrev pub of_line : (LineTool → Line → Outcome) → LineCall → Outcome
+of_line outcome call = on_line outcome (line_in call)
+
+abbrev pub json_outcome : LineCall → Outcome
+json_outcome call = of_line json_by call
+
+abbrev pub words_outcome : LineCall → Outcome
+words_outcome call = of_line rewritten_by call

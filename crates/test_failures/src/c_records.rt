@@ -1,0 +1,137 @@
+//! `Debug` prints the fields of the records that C programs pass and get.
+
+use crate::debug::prints;
+use c_calls::{
+    CommandRecord, FoundProgram, GroupRecord, InputText, LineCall, NvccLineCall, PlanCall, Range,
+    RecordsAnswer, Variable,
+};
+
+const A: InputText<'static> = InputText { bytes: b"a" };
+
+const B: InputText<'static> = InputText { bytes: b"b" };
+
+const NONE: InputText<'static> = InputText { bytes: b"" };
+
+const VARIABLE: Variable<'static> = Variable { name: A, value: B };
+
+const VARIABLE_TEXT: &str =
+    "Variable { name: InputText { bytes: [97] }, value: InputText { bytes: [98] } }";
+
+const PROGRAM: FoundProgram<'static> = FoundProgram {
+    program: A,
+    path: B,
+    found: NONE,
+    is_found: 1,
+    reserved: 0,
+};
+
+const PROGRAM_TEXT: &str =
+    "FoundProgram { program: InputText { bytes: [97] }, path: InputText { bytes: [98] }, found: InputText { bytes: [] }, is_found: 1, reserved: 0 }";
+
+#[test]
+fn rows_of_c_programs_print_their_fields(rt: HostRuntime) {
+    let alloc = rt.alloc();
+    assert!(rt; prints(alloc, &VARIABLE, VARIABLE_TEXT));
+    assert!(rt; prints(alloc, &PROGRAM, PROGRAM_TEXT));
+}
+
+const LINE_CALL_TEXT: &str =
+    "LineCall { cwd: InputText { bytes: [97] }, words: [InputText { bytes: [98] }], variables: [], tool: 3, reserved: 0 }";
+
+const NVCC_LINE_CALL_TEXT: &str =
+    "NvccLineCall { cwd: InputText { bytes: [97] }, tmp: InputText { bytes: [98] }, nvcc: InputText { bytes: [] }, words: [InputText { bytes: [98] }], variables: [], reserved: 7 }";
+
+#[test]
+fn lines_of_c_programs_print_their_fields(rt: HostRuntime) {
+    let (alloc, words) = (rt.alloc(), [B]);
+    let line = LineCall {
+        cwd: A,
+        words: &words,
+        variables: &[],
+        tool: 3,
+        reserved: 0,
+    };
+    assert!(rt; prints(alloc, &line, LINE_CALL_TEXT));
+    let nvcc = NvccLineCall {
+        cwd: A,
+        tmp: B,
+        nvcc: NONE,
+        words: &words,
+        variables: &[],
+        reserved: 7,
+    };
+    assert!(rt; prints(alloc, &nvcc, NVCC_LINE_CALL_TEXT));
+}
+
+const PLAN_CALL_TEXT: &str =
+    "PlanCall { dry1: InputText { bytes: [97] }, dry2: InputText { bytes: [98] }, cwd: InputText { bytes: [] }, tmp: InputText { bytes: [97] }, flag: InputText { bytes: [98] }, keep_dir: InputText { bytes: [] }, variables: [], suffixes: [InputText { bytes: [98] }], lookups: [], keeps: 1, host_compiler: 2, reserved: 0 }";
+
+#[test]
+fn plans_of_c_programs_print_their_fields(rt: HostRuntime) {
+    let (alloc, suffixes) = (rt.alloc(), [B]);
+    let call = PlanCall {
+        dry1: A,
+        dry2: B,
+        cwd: NONE,
+        tmp: A,
+        flag: B,
+        keep_dir: NONE,
+        variables: &[],
+        suffixes: &suffixes,
+        lookups: &[],
+        keeps: 1,
+        host_compiler: 2,
+        reserved: 0,
+    };
+    assert!(rt; prints(alloc, &call, PLAN_CALL_TEXT));
+}
+
+const FIRST: Range = Range {
+    offset: 1,
+    length: 2,
+};
+
+const NEXT: Range = Range {
+    offset: 3,
+    length: 4,
+};
+
+const GROUP_TEXT: &str =
+    "GroupRecord { commands: Range { offset: 1, length: 2 }, stage: 1, reserved: 0 }";
+
+const COMMAND_TEXT: &str =
+    "CommandRecord { arguments: Range { offset: 1, length: 2 }, variables: Range { offset: 3, length: 4 }, program: 5, cwd: 6, group: 7, run: 1, line: 8, reason: 9, cacheable: 0 }";
+
+const RECORDS_TEXT: &str =
+    "RecordsAnswer { status: -1, groups: 2, commands: 3, ranges: 4, length: 5 }";
+
+#[test]
+fn records_of_plans_print_their_fields(rt: HostRuntime) {
+    let alloc = rt.alloc();
+    let group = GroupRecord {
+        commands: FIRST,
+        stage: 1,
+        reserved: 0,
+    };
+    assert!(rt; prints(alloc, &group, GROUP_TEXT));
+    let command = CommandRecord {
+        arguments: FIRST,
+        variables: NEXT,
+        program: 5,
+        cwd: 6,
+        group: 7,
+        run: 1,
+        line: 8,
+        reason: 9,
+        cacheable: 0,
+    };
+    assert!(rt; prints(alloc, &command, COMMAND_TEXT));
+    let records = RecordsAnswer {
+        status: -1,
+        groups: 2,
+        commands: 3,
+        ranges: 4,
+        length: 5,
+    };
+    assert!(rt; prints(alloc, &records, RECORDS_TEXT));
+}

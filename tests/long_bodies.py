@@ -1,0 +1,542 @@
+#!/usr/bin/env python3
+"""Tries wrong bodies that give up on long input: a test has to fail with each.
+
+An allocation may always fail, so a contract allows each call to answer "out of memory", and the prover accepts a body that does so
+for long input. Only a test with long input rejects it (tests/LONG_INPUT.md). This script puts all the bodies of BODIES below into
+one copy of the repository, each behind a switch, and builds the test programs of the copy with `rt try`: unproved, but once for all
+bodies. Then it runs each long case alone, and notes which bodies would give up in it; and then each body with these cases, the
+quickest first. A body is caught if such a case fails.
+
+Usage: tests/long_bodies.py [--keep FOLDER] [NAME..]    all bodies, or those whose lines contain one of these texts, as lines: or gcc
+
+--keep leaves the copy and the programs in a new folder, and a second call with this folder builds nothing. RT_JOBS is the number of
+tests to run at a time, by default the number of processors. It prints a line for each body that isn't caught, and last 'N caught,
+M not caught, K not judged'; the status is 1 if one isn't caught. A body is not judged if each case that reaches it takes longer than
+SECONDS. It isn't part of the gate: each of the four programs takes one to three minutes to build, and cases take up to minutes.
+
+It hasn't run to its end yet: all bodies compile, and few of them were judged.
+"""
+
+import concurrent.futures
+import contextlib
+import os
+import re
+import shutil
+import subprocess
+import sys
+import tempfile
+import time
+
+TOP = os.path.realpath(f"{os.path.dirname(os.path.realpath(__file__))}/..")
+
+# How long a case may take. The programs are built without optimization, and with checks: some cases take minutes.
+SECONDS = 300
+
+# Where it is tested; the file; the function, and with a number which one of this name in the file, then `before` and the start of
+# a line, or nothing for the start of the body; and when the body gives up.
+BODIES = """
+lines | shell_words/splitting | split | text.len() > 500_000
+lines | shell_words/splitting | split before splitter.finish() | splitter.words.len() > 50_000
+lines | shell_words/quoting | quote | words.len() > 5_000
+lines | shell_words/quoting | quote | long_body::has_long(words, 500_000)
+programs | shell_words/quoting | push_quoted | rest.len() > 5_000
+programs | shell_words/quoting | push_quoted | long_body::has_long(rest, 50_000)
+
+lines | option_items/items | read_item | word.len() > 500_000
+lines | option_items/items | write 1 | self.front.len() + self.back.len() > 5_000
+lines | option_items/items | write 2 | words.len() > 5_000
+lines | option_items/items | words | self.value().len() > 50_000
+lines | option_items/views | to_argument | matches!(self, ArgumentView::WithValue(_, _, value, _) if value.len() > 500_000)
+lines | option_items/views | to_argument | matches!(self, ArgumentView::Raw(word) if word.len() > 500_000)
+lines | option_items/views | write | words.len() > 5_000
+
+lines | compilers/arguments | try_clone | self.common_args.len() > 5_000
+lines | compilers/command | copy_of | arguments.len() > 50_000
+lines | compilers/command | copy_of | env_vars.len() > 500
+lines | compilers/command | try_clone | self.arguments.len() > 500
+lines | compilers/command | try_clone | self.env_vars.len() > 500
+
+lines | cuda_below/gcc | parse_arguments | arguments.len() > 50_000
+lines | cuda_below/gcc | parse_arguments | long_body::has_long(arguments, 500_000)
+lines | cuda_below/gcc | gather before gathered.take_inputs | arguments.len() > 50_000
+lines | cuda_below/gcc/line | generate_compile_commands | parsed_args.common_args.len() > 50_000
+lines | cuda_below/gcc/line | generate_compile_commands | parsed_args.preprocessor_args.len() > 50_000
+lines | cuda_below/gcc/line | generate_compile_commands | env_vars.len() > 500
+
+lines | device_lines/reader | parse_arguments | arguments.len() > 50_000 && matches!(language, Language::Ptx)
+lines | device_lines/reader | parse_arguments | arguments.len() > 50_000 && matches!(language, Language::Cubin)
+lines | device_lines/reader | parse_arguments | arguments.len() > 50_000 && matches!(language, Language::CudaFE)
+lines | device_lines/reader | parse_arguments | long_body::has_long(arguments, 500_000)
+lines | device_lines/cicc | generate_compile_commands | parsed_args.common_args.len() > 50_000
+lines | device_lines/cicc | generate_compile_commands | env_vars.len() > 500
+lines | device_lines/cudafe | generate_compile_commands | parsed_args.common_args.len() > 50_000
+lines | device_lines/cudafe | generate_compile_commands | env_vars.len() > 500
+lines | device_lines/tools | generate_compile_commands 3 | parsed_args.common_args.len() > 50_000
+lines | device_lines/tools | generate_compile_commands 3 | env_vars.len() > 500
+lines | device_lines/input | read_bytes before match read_on | bytes.len() > 500_000
+lines | device_lines/input | read_bytes before match read_on | bytes.len() > 5_000 && bytes.len() < 50_000
+
+lines | host_lines/nvcc/taking | take_keep | words.len() > 50_000 && words[0].as_str() == "-keep"
+lines | host_lines/nvcc/taking | take_keep | words.len() > 50_000 && words[0].as_str() != "-keep"
+lines | host_lines/nvcc/taking | take_threads | words.len() > 50_000 && words[1].as_str() == "-t2"
+lines | host_lines/nvcc/taking | take_threads | words.len() > 50_000 && words[1].as_str() != "-t2"
+lines | host_lines/nvcc/environment | without_flags | env_vars.len() > 500
+lines | host_lines/nvcc/environment | whole_line | arguments.len() > 5_000
+lines | host_lines/nvcc/environment | whole_line before Ok(words) | words.len() > 5_000 && arguments.len() < 5_000
+lines | host_lines/nvcc/preprocessor | preprocess | parsed_args.common_args.len() > 5_000
+lines | host_lines/nvcc/preprocessor | preprocess | parsed_args.dependency_args.len() > 500
+lines | host_lines/nvcc/preprocessor | preprocess | env_vars.len() > 500
+lines | host_lines/nvhpc/preprocessor | preprocess | parsed_args.common_args.len() > 5_000
+lines | host_lines/nvhpc/preprocessor | preprocess | parsed_args.dependency_args.len() > 500
+lines | host_lines/nvhpc/preprocessor | preprocess | env_vars.len() > 500
+lines | host_lines/nvhpc | parse_arguments | arguments.len() > 50_000
+lines | host_lines/nvhpc | generate_compile_commands | parsed_args.common_args.len() > 5_000
+lines | host_lines/nvhpc | generate_compile_commands | env_vars.len() > 500
+
+lines | nvcc_words/verdict | normalize | words.len() > 5_000 && words[2].as_str() != "-odir=a"
+lines | nvcc_words/verdict | normalize | words.len() > 5_000 && words[2].as_str() == "-odir=a"
+lines | nvcc_words/verdict | normalize before let read | line.len() > 5_000 && words.len() < 5_000
+lines | nvcc_words/verdict | normalize | long_body::has_long(words, 500_000)
+
+lines | cuda_plans/nvcc | parse_arguments 1 | arguments.len() > 50_000
+lines | cuda_plans/nvcc | parse_arguments 1 before match read_options | words.len() > 5_000 && arguments.len() < 5_000
+lines | cuda_plans/nvcc | parse_arguments 1 | env_vars.len() > 500
+lines | cuda_plans/nvcc/command | generate_compile_commands | parsed_args.preprocessor_args.len() > 50_000
+lines | cuda_plans/nvcc/command | generate_compile_commands | env_vars.len() > 500
+lines | cuda_plans/nvcc/command | try_clone | self.arguments.len() > 500
+lines | cuda_plans/nvcc/command | try_clone | self.env_vars.len() > 500
+lines | cuda_plans/nvcc/command | dryrun_commands | self.arguments.len() > 5_000
+lines | cuda_plans/nvcc/command | dryrun_commands | self.env_vars.len() > 500
+lines | cuda_plans/nvcc/preprocess | preprocess | parsed_args.common_args.len() > 5_000
+
+lines | texts/text | copy_of | text.len() > 500_000
+lines | texts/text | try_clone | self.len() > 500_000
+lines | texts/text | join | path.len() > 500_000
+lines | texts/extension | with_extension | path.len() > 500_000
+lines | texts/fault | message | matches!(self, Fault::Runner(text) if text.len() > 500_000)
+lines | texts/fault | try_clone | matches!(self, Fault::Runner(text) if text.len() > 500_000)
+lines | texts/bytes | copy_of | bytes.len() > 50_000
+lines | texts/bytes | try_clone | self.len() > 50_000
+lines | texts/status | try_clone 1 | self.stdout.len() > 50_000
+lines | texts/status | try_clone 2 | self.stdout.len() > 50_000
+lines | texts/variables | push | self.len() > 500
+lines | texts/variables | copy_of | pairs.len() > 500
+lines | texts/variables | try_clone | self.len() > 500
+lines | texts/words | push | self.len() > 50_000
+lines | texts/words | push_two | self.len() > 500
+lines | texts/words | push_str | self.len() > 5_000
+lines | texts/words | push_pair | self.len() > 5_000
+lines | texts/words | push_copies | words.len() > 5_000
+lines | texts/words | append | more.len() > 5_000
+lines | texts/words | extend | words.len() > 5_000
+lines | texts/words | copy_of | words.len() > 5_000
+lines | texts/words | try_clone | self.len() > 5_000
+
+plans | dry_runs/reader | read_dry_run | dry_run.len() > 500_000
+plans | dry_runs/reader | read_dry_run_within before left = | number > 5_000
+plans | dry_runs/reader | read_dry_run_within before left = | said.commands.as_slice().len() > 500
+plans | dry_runs/reader | read_dry_run_within before left = | said.env.len() > 500
+plans | dry_runs/reader | read_dry_run_within | limit != usize::MAX && dry_run.len() > 5_000
+plans | dry_runs/statement | statement_of | line.len() > 50_000
+plans | dry_runs/statement | statement_of | env.len() > 50
+plans | dry_runs/statement | statement_within | line.len() > 500_000
+plans | dry_runs/statement | statement_within | env.len() > 500
+plans | dry_runs/environment | expanded_words | text.len() > 5_000
+plans | dry_runs/environment | expanded_words_within | text.len() > 500_000
+plans | dry_runs/environment | expanded_words_within | env.len() > 500
+plans | dry_runs/environment | expanded_words_within before match first_reference | long_body::count_of(text, '$') > 500
+
+plans | canonical_names/remap | remap_generated_filenames | args.len() > 500
+plans | canonical_names/remap | remap_generated_filenames | renames.len() > 500
+plans | canonical_names/remap | remap_generated_filenames | long_body::has_long(args, 500_000)
+plans | canonical_names/remap | remap_commands | commands.as_slice().len() > 500
+plans | canonical_names/remap | remap_commands before push_remapped | renames.len() > 500
+plans | canonical_names/renames | new | suffixes.len() > 500
+plans | canonical_names/shadow | is_shadow | run1.commands.as_slice().len() > 500
+plans | canonical_names/shadow | is_step_shadow | run1.commands.as_slice().len() > 500
+plans | canonical_names/suffixes | new | list.len() > 500
+plans | canonical_names/suffixes | try_clone | self.len() > 500
+
+plans | program_lookups/asking | asked_lookups | dry_run.len() > 5_000
+plans | program_lookups/asking | asked_lookups_of_both | dry2.len() > 5_000
+plans | program_lookups/asking | asked_lookups_of_both before asked_behind | first.len() > 500
+plans | program_lookups/disk | snapshot_by | dry1.len() > 5_000
+programs | program_lookups/disk | snapshot_of | dry1.len() > 10_000
+plans | program_lookups/search_path | candidates | path.len() > 1_000
+plans | program_lookups/search_path | candidates | program.len() > 50_000
+
+plans | command_groups/planning | plan_with_origins before Ok(planned) | planned.plan.groups.as_slice().len() > 50
+plans | command_groups/planning | plan_with_origins before Ok(planned) | long_body::has_large(planned.plan.groups.as_slice(), 500)
+plans | command_groups/planning | plan_with_origins before Ok(planned) | planned.plan.dropped.as_slice().len() > 500
+plans | command_groups/planning | plan_with_origins before Ok(planned) | planned.plan.dropped.as_slice().len() > 50 && planned.plan.dropped.as_slice().len() < 150
+plans | command_groups/planning | plan_with_origins before let planned | first.env.len() > 500
+plans | command_groups/planning | plan_with_origins | env_vars.len() > 500
+plans | command_groups/planning | group_nvcc_subcommands_by_compilation_stage | dry1.len() > 30_000
+plans | command_groups/planning | group_nvcc_subcommands_by_compilation_stage | env_vars.len() > 500
+plans | command_groups/planning | group_nvcc_subcommands_by_compilation_stage | suffixes.len() > 500
+plans | command_groups/select | select_nvcc_subcommands before let commands | said.commands.as_slice().len() > 500
+plans | command_groups/select | select_nvcc_subcommands | env_vars.len() > 500
+plans | command_groups/plan | try_clone | self.args.len() > 50
+plans | command_groups/plan | try_clone | self.env_vars.len() > 50
+
+plans | cuda_plans/nvcc/execution | execute before run_plan | plan.groups.as_slice().len() > 50 && self.num_parallel < 2
+plans | cuda_plans/nvcc/execution | execute before run_plan | plan.groups.as_slice().len() > 50 && self.num_parallel > 1
+plans | cuda_plans/nvcc/execution | execute before run_plan | long_body::has_large(plan.groups.as_slice(), 500)
+plans | cuda_plans/outcome | aggregate_output | lhs.stdout.len() > 500_000
+plans | cuda_plans/outcome | aggregate_output | rhs.stdout.len() > 500_000
+plans | cuda_plans/outcome | aggregate_output | lhs.stderr.len() > 50_000
+plans | cuda_plans/outcome | aggregate_output | rhs.stderr.len() > 50_000
+plans | cuda_plans/outcome | error_to_output | matches!(&fault, Fault::Runner(text) if text.len() > 500_000)
+plans | cuda_plans/outcome | compile_result_to_output | finished.stderr.len() > 50_000
+plans | cuda_plans/outcome | compile_result_to_output | finished.stdout.len() > 50_000
+
+plans | command_files/files | files_of | command.args.len() > 500
+plans | command_files/files | files_of | long_body::has_long(command.args.as_slice(), 1_500)
+plans | command_files/steps | files_of_plan | plan.groups.as_slice().len() > 50
+plans | command_files/steps | files_of_plan | long_body::has_large(plan.groups.as_slice(), 500)
+plans | command_files/needed | needs | plan.groups.as_slice().len() > 50
+plans | command_files/needed | needs | long_body::has_large(plan.groups.as_slice(), 500)
+
+plans | plan_texts/plan | show_plan | plan.groups.as_slice().len() > 50
+programs | plan_texts/plan | show_plan | long_body::has_large(plan.groups.as_slice(), 500)
+programs | plan_texts/plan | show_plan | plan.dropped.as_slice().len() > 500
+programs | plan_texts/line | show_line | words.len() > 50_000
+programs | plan_texts/line | show_line | long_body::has_long(words, 50_000)
+
+programs | programs/engine | write_line | words.len() > 50_000
+programs | programs/engine | write_plan | dry1.len() > 20_000
+programs | programs/engine | write_plan | suffixes.len() > 500
+programs | programs/engine | write_with_second | dry1.len() > 20_000
+plans | programs/planning | all_suffixes | further.len() > 500
+plans | programs/planning | plan_dry_runs | further.len() > 500
+plans | programs/planning | plan_dry_runs | dry1.len() > 5_000
+programs | programs/start | behind_first | words.len() > 50_000
+programs | programs/shown | push_shown | value.len() > 50_000
+programs | programs/suffix_fault | push_suffix_fault | further.len() > 500
+
+programs | plan_exports/shell | shell_script | plan.groups.as_slice().len() > 50
+programs | plan_exports/shell | shell_script | long_body::has_large(plan.groups.as_slice(), 500)
+programs | plan_exports/ninja | ninja_file | plan.groups.as_slice().len() > 50
+programs | plan_exports/ninja | ninja_file | long_body::has_large(plan.groups.as_slice(), 500)
+programs | plan_exports/ninja | ninja_file | plan.dropped.as_slice().len() > 500
+programs | plan_exports/json | json_text | planned.plan.groups.as_slice().len() > 50
+programs | plan_exports/json | json_text | long_body::has_large(planned.plan.groups.as_slice(), 500)
+programs | plan_exports/json | json_text | planned.plan.dropped.as_slice().len() > 500
+programs | plan_exports/dot | dot_text | plan.groups.as_slice().len() > 50
+programs | plan_exports/dot | dot_text | long_body::has_large(plan.groups.as_slice(), 500)
+programs | plan_exports/dot | dot_text | plan.dropped.as_slice().len() > 500
+programs | plan_exports/compdb | compdb_text | plan.groups.as_slice().len() > 50
+programs | plan_exports/compdb | compdb_text | long_body::has_large(plan.groups.as_slice(), 500)
+
+programs | nvcc_calls/answer | read_call | call.words.len() > 5_000
+programs | nvcc_calls/answer | read_call | long_body::has_long(call.words, 50_000)
+programs | nvcc_calls/answer | read_call | long_body::has_long_value(variables, 20_000)
+programs | nvcc_calls/shell | shell_text | outline.first.len() > 20_000
+programs | nvcc_calls/directory | directory_name | call.words.len() > 5_000
+programs | nvcc_calls/directory | directory_name | long_body::has_long(call.words, 50_000)
+
+lines | c_calls/shell | split_outcome | bytes.len() > 500_000
+lines | c_calls/shell | quote_outcome | texts.len() > 5_000
+"""
+
+# What no contract says of the programs: what goes to standard error. Each line has a statement in place of a condition.
+SILENT = """
+whole | cudaplan/program | run_program before let _ = err | return 2;
+whole | cudaplan/program | stopped | return 1;
+whole | zigrunk/program | run_program before let _ = err | return 2;
+whole | zigrunk/program | run_program before let _ = err | let _ = err.write_all(help().as_bytes()); return 2;
+whole | zigrunk/program | read before let _ = complain | return Err(why.fault());
+whole | zigrunk/program | told | return answer;
+whole | zigrunk/program | plan_told | return answer;
+whole | zigrunk/complaint | say | return write!(err, "zigrunk\\n");
+"""
+
+# The crate that holds the switch: a call of a C function, which a proof can't see through.
+SWITCH = """//! Says which wrong body is switched on.
+#![tactic(auto)]
+
+use std::alloc::AllocError;
+
+unsafe extern "C" {
+    safe fn long_body_is(number: u32) -> bool;
+}
+
+/// Out of memory, if the input is long and this body is switched on.
+pub fn refuse(number: u32, is_long: bool) -> Result<(), AllocError> {
+    if is_long && long_body_is(number) {
+        return Err(AllocError);
+    }
+    Ok(())
+}
+
+/// Whether one of the words has more bytes than `most`.
+pub fn has_long(words: &[String], most: usize) -> bool {
+    for word in words {
+        if word.len() > most {
+            return true;
+        }
+    }
+    false
+}
+
+/// Whether one of the values has more bytes than `most`.
+pub fn has_long_value(variables: &[(String, String)], most: usize) -> bool {
+    for pair in variables {
+        if pair.1.len() > most {
+            return true;
+        }
+    }
+    false
+}
+
+/// Whether one of the lists is longer than `most`.
+pub fn has_large<T>(lists: &[Vec<T>], most: usize) -> bool {
+    for list in lists {
+        if list.len() > most {
+            return true;
+        }
+    }
+    false
+}
+
+/// How often a character is in a text.
+pub fn count_of(text: &str, wanted: char) -> usize {
+    let mut count = 0;
+    for letter in text.chars() {
+        if letter == wanted {
+            count += 1;
+        }
+    }
+    count
+}
+"""
+
+# The number comes from the environment. `rt try` keeps no program, so the first run of one copies its own file to where %s says.
+SWITCH_C = r"""#include <stdbool.h>
+#include <stdint.h>
+#include <stdio.h>
+#include <stdlib.h>
+#include <string.h>
+#include <sys/stat.h>
+
+static uint32_t number;
+static bool reached[1000];
+
+/* Whether a body is switched on. The first time that one would give up, its number is added to a file. */
+bool long_body_is(uint32_t body) {
+    const char *log = getenv("LONG_BODY_LOG");
+    if (log && body < 1000 && !reached[body]) {
+        reached[body] = true;
+        FILE *to = fopen(log, "a");
+        if (to) {
+            fprintf(to, "%%u\n", body);
+            fclose(to);
+        }
+    }
+    return body == number;
+}
+
+/* Finds the file that holds this code: its path is the last field of its line in the list of mappings. */
+static int own_path(char *path) {
+    FILE *maps = fopen("/proc/self/maps", "r");
+    char line[5000];
+    unsigned long from, to, at = (unsigned long)(void *)&own_path;
+    int found = 0;
+    while (!found && maps && fgets(line, sizeof line, maps)) {
+        char *name = strchr(line, '/');
+        found = sscanf(line, "%%lx-%%lx", &from, &to) == 2 && from <= at && at < to && name;
+        if (found) {
+            name[strcspn(name, "\n")] = 0;
+            strcpy(path, name);
+        }
+    }
+    if (maps) fclose(maps);
+    return found;
+}
+
+__attribute__((constructor)) static void start(void) {
+    const char *wanted = getenv("LONG_BODY"), *kept = "%s";
+    char path[5000], bytes[65536];
+    if (wanted) { number = (uint32_t)atoi(wanted); return; }
+    FILE *from = own_path(path) ? fopen(path, "rb") : 0, *to = from ? fopen(kept, "wbx") : 0;
+    if (!to) return;
+    for (size_t count; (count = fread(bytes, 1, sizeof bytes, from)) > 0;) fwrite(bytes, 1, count, to);
+    fclose(to);
+    fclose(from);
+    chmod(kept, 0755);
+}
+"""
+
+
+class Body:
+    """A wrong body: its number, where it is tested, where it stands, and when it gives up or what it does."""
+
+    def __init__(self, number, row, is_silent):
+        self.number, self.is_silent = number, is_silent
+        self.test, self.file, self.place, self.condition = [it.strip() for it in row.split(" | ")]
+        self.name = f"{self.test}: {self.file} {self.place}: {self.condition}"
+        head, _, self.before = self.place.partition(" before ")
+        self.function, _, nth = head.partition(" ")
+        self.nth = int(nth or "1")
+
+    def put_into(self, lines):
+        """Puts the statement into the lines of its file."""
+        found = [at for at, it in enumerate(lines) if re.match(rf" *(pub(\(\w+\))? )?fn {self.function}\b", it)]
+        if len(found) < self.nth:
+            raise SystemExit(f"no such function: {self.name}")
+        indent = re.match(" *", lines[found[self.nth - 1]])[0]
+        at = found[self.nth - 1]
+        while lines[at] != f"{indent}{{" and not re.match(rf"{indent}(\)|.*fn ).*\{{$", lines[at]):
+            at += 1
+        if self.before:
+            while not lines[at].lstrip().startswith(self.before):
+                if lines[at] == f"{indent}}}":
+                    raise SystemExit(f"no such line: {self.name}")
+                at += 1
+            at -= 1
+        if self.is_silent:
+            lines.insert(at + 1, f"if long_body::refuse({self.number}, true).is_err() {{ {self.condition} }}")
+        else:
+            lines.insert(at + 1, f"long_body::refuse({self.number}, {self.condition})?;")
+
+
+def bodies():
+    rows = [(it, False) for it in BODIES.split("\n") if it] + [(it, True) for it in SILENT.split("\n") if it]
+    return [Body(number + 1, row, is_silent) for number, (row, is_silent) in enumerate(rows)]
+
+
+def copy_with(room):
+    """Makes a copy of the crates with all wrong bodies in it, each behind the switch."""
+    for part in ("crates", "docs", "tests", "demo", "bin", "man"):
+        shutil.copytree(f"{TOP}/{part}", f"{room}/{part}", ignore=shutil.ignore_patterns("out", "lib", "must-fail"), symlinks=True)
+    for it in ("HANDLES", "VERSION"):
+        shutil.copy(f"{TOP}/{it}", room)
+    os.makedirs(f"{room}/.git")
+    with open(f"{TOP}/crates.txt", encoding="utf-8") as it:
+        lines = it.read().split("\n")
+    with open(f"{room}/crates.txt", "w", encoding="utf-8") as it:
+        it.write("\n".join(f"{line} long_body" if ":" in line and line[0] != "#" else line for line in lines) + "long_body:\n")
+    os.makedirs(f"{room}/crates/long_body/src")
+    os.makedirs(f"{room}/crates/long_body/c")
+    with open(f"{room}/crates/long_body/src/lib.rt", "w", encoding="utf-8") as it:
+        it.write(SWITCH)
+    with open(f"{room}/bodies", "w", encoding="utf-8") as it:
+        it.write(BODIES + SILENT)
+    files = {}
+    for body in bodies():
+        crate, _, path = body.file.partition("/")
+        name = f"{room}/crates/{crate}/src/{path}.rt"
+        if name not in files:
+            with open(name, encoding="utf-8") as it:
+                files[name] = it.read().split("\n")
+        body.put_into(files[name])
+    for name, lines in files.items():
+        with open(name, "w", encoding="utf-8") as it:
+            it.write("\n".join(lines))
+
+
+def build(room, program):
+    """Builds a program of the copy, unproved, and returns its path."""
+    built = f"{room}/{program}"
+    if not os.path.exists(built):
+        with open(f"{room}/crates/long_body/c/long_body.c", "w", encoding="utf-8") as it:
+            it.write(SWITCH_C % built)
+        tried = subprocess.run(
+            ["rt", "try", "--steps", "1"], cwd=f"{room}/crates/{program}", env={**os.environ, "RT_ALLOW_C": "1"}, stdin=subprocess.DEVNULL, capture_output=True, text=True, check=False
+        )
+        if not os.path.exists(built):
+            raise SystemExit(f"{program} isn't built:\n{tried.stdout}{tried.stderr}")
+    return built
+
+
+def cases_of(room, test):
+    """Returns the cases of a test: for a table a file for each, for the script of the programs its functions."""
+    if test == "programs":
+        return ["long_plan", "long_suffixes", "long_lines", "long_nvcc_lines", "long_exports", "long_messages"]
+    if test == "whole":
+        return [""]
+    with open(f"{TOP}/crates/test_{test}/data/long_cases.txt", encoding="utf-8") as it:
+        lines = [line for line in it.read().split("\n") if line and line[0] != "#"]
+    os.makedirs(f"{room}/cases", exist_ok=True)
+    files = []
+    for line in lines:
+        if line[0] != " ":
+            files.append(f"{room}/cases/{test}.{len(files)}.txt")
+            open(files[-1], "w", encoding="utf-8").close()
+        with open(files[-1], "a", encoding="utf-8") as it:
+            it.write(f"{line}\n")
+    return files
+
+
+def run_case(room, test, case, number, log=""):
+    """Runs a case with a wrong body, 0 for none. Returns the exit status and the seconds that it took."""
+    if test in ("programs", "whole"):
+        words = [f"{TOP}/tests/program.sh", f"{room}/cudaplan", f"{room}/zigrunk", *(["kernel_programs", case] if case else [])]
+    else:
+        words = [f"{room}/test_{test}", case]
+    env = {**os.environ, "LONG_BODY": str(number), **({"LONG_BODY_LOG": log} if log else {})}
+    start = time.monotonic()
+    with contextlib.suppress(subprocess.TimeoutExpired):
+        ran = subprocess.run(words, cwd=TOP, env=env, stdin=subprocess.DEVNULL, stdout=subprocess.DEVNULL, stderr=subprocess.DEVNULL, timeout=SECONDS, check=False)
+        return ran.returncode, time.monotonic() - start
+    return None, SECONDS
+
+
+def reached_by(room, test, case):
+    """Runs a case without a wrong body. Returns the seconds and the numbers of the bodies that would give up in it."""
+    log = f"{room}/cases/log.{test}.{os.path.basename(case)}"
+    os.makedirs(f"{room}/cases", exist_ok=True)
+    open(log, "w", encoding="utf-8").close()
+    status, seconds = run_case(room, test, case, 0, log)
+    with open(log, encoding="utf-8") as it:
+        reached = {int(line) for line in it.read().split()}
+    return status, seconds, reached
+
+
+def judge(room, body, runs):
+    """Returns whether a case fails with the body, or None if no case that it would give up in ends in time."""
+    cases = sorted((seconds, case) for case, (_, seconds, reached) in runs.items() if body.is_silent or body.number in reached)
+    timely = [case for _, case in cases if runs[case][0] == 0]
+    for case in timely:
+        status, _ = run_case(room, body.test, case, body.number)
+        if status == 1:
+            return True
+    return None if cases and not timely else False
+
+
+def main(words):
+    kept = words[1] if words[:1] == ["--keep"] else None
+    named = words[2:] if kept else words
+    room = os.path.abspath(kept) if kept else tempfile.mkdtemp(prefix="long-bodies-")
+    tried = [it for it in bodies() if not named or any(name in it.name for name in named)]
+    if not os.path.isdir(f"{room}/crates"):
+        os.makedirs(room, exist_ok=True)
+        copy_with(room)
+    with open(f"{room}/bodies", encoding="utf-8") as it:
+        if it.read() != BODIES + SILENT:
+            raise SystemExit(f"{room} has other bodies")
+    programs = {"lines": ["test_lines"], "plans": ["test_plans"], "programs": ["cudaplan", "zigrunk"], "whole": ["cudaplan", "zigrunk"]}
+    counts = {True: 0, False: 0, None: 0}
+    jobs = os.environ.get("RT_JOBS", "")
+    with concurrent.futures.ThreadPoolExecutor(int(jobs) if jobs.isdigit() else len(os.sched_getaffinity(0))) as lanes:
+        for test in sorted({it.test for it in tried}):
+            for program in programs[test]:
+                build(room, program)
+            cases = cases_of(room, test)
+            runs = dict(zip(cases, lanes.map(lambda case, test=test: reached_by(room, test, case), cases)))
+            for case, (status, _, _) in runs.items():
+                if status not in (0, None):
+                    raise SystemExit(f"{case} of {test} fails without a wrong body")
+            of_test = [it for it in tried if it.test == test]
+            for body, is_caught in zip(of_test, lanes.map(lambda body, runs=runs: judge(room, body, runs), of_test)):
+                counts[is_caught] += 1
+                if not is_caught:
+                    print(f"{'not judged' if is_caught is None else 'not caught'} in {body.name}", flush=True)
+    if not kept:
+        shutil.rmtree(room)
+    print(f"{counts[True]} caught, {counts[False]} not caught, {counts[None]} not judged")
+    return 1 if counts[False] or counts[None] else 0
+
+
+if __name__ == "__main__":
+    sys.exit(main(sys.argv[1:]))
