@@ -18,6 +18,8 @@ pub mod PlanLaws
 pub mod PlanNeeds
 pub mod PlanOfBytes
 pub mod PlanOfBytesExamples
+pub mod PlanWithin
+pub mod PlanWithinExamples
 pub mod PlanExamples
 pub mod Reasons
 pub mod Selection

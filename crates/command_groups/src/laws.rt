@@ -6,6 +6,7 @@ ghost use Rattle.command_groups.specs.MergeLaws.{MergedIsInOrder, MergedAreTheSe
 ghost use Rattle.command_groups.specs.PlanLaws.{AlikePairsHaveOnePlan, AlikeTextsHaveOnePlan, ReadableRunsArePlanned, PlannedRunsAreReadable, FirstRunIsRefused, SecondRunIsRefused, PlannedCommandsHaveOneFate};
 ghost use Rattle.command_groups.specs.PlanNeeds.{PlansAgreeFirstUnclean, PlansAgreeSecondUnclean, PlansAgreeByAnyMap, PlansAgreeInOtherFolders, PlansAgreeWithKeepDirectory, PlansAgreeWithAnyVariables};
 ghost use Rattle.command_groups.specs.PlanOfBytesExamples.{OneKernelFromBytes, OtherNamesFromBytes, TemporaryNamesFromBytes, KeptNamesFromBytes, NothingFromBytes, HostCodeFromBytes, OtherNamesAreAlike, SecondRunIsBad, FirstRunIsBad, SecondPtxasFromBytes, SupersededCiccFromBytes, StepWithoutCiccFromBytes, OutputWithASlashFromBytes, NamelessFromBytes};
+ghost use Rattle.command_groups.specs.PlanWithinExamples.{EachRunHasTheLimit, FirstRunIsTooLong, SecondRunIsTooLong, FirstRunDecides};
 ghost use Rattle.command_groups.specs.PlanExamples.{OneKernelPlan, NamesInAFolder, NamesAsTheyAre, EmptyRuns, HostCodeAlone, ReopenedGroup, SecondPtxas, SupersededCicc, StepMakesNoPtx, SharedPtx, PreprocessesForMsvc, CompilesForGcc, CiccLosesOneWord, CiccKeepsItsWords, NotForCuda, ProgramWithoutAStem, StepWithoutAnOutput, StepWithoutAFileName, OutputWithASlash, SecondGroupIsJoined, MergedByLineAndRun, FoldedEnvironment, MarkedTwice};
 ghost use Rattle.command_groups.specs.SelectionExamples as selections;
 ghost use Rattle.command_groups.specs.ShadowLaws.{ShadowsStandTogether, StepShadowsStandTogether};
@@ -128,6 +129,14 @@ pub fn worked_plans_from_bytes()
     ensures step_without_cicc_from_bytes { StepWithoutCiccFromBytes }
     ensures output_with_a_slash_from_bytes { OutputWithASlashFromBytes }
     ensures nameless_from_bytes { NamelessFromBytes }
+{}
+
+/// What some dry runs are planned as within a limit, by the definitions.
+pub fn worked_limits()
+    ensures each_run_has_the_limit { EachRunHasTheLimit }
+    ensures first_run_is_too_long { FirstRunIsTooLong }
+    ensures second_run_is_too_long { SecondRunIsTooLong }
+    ensures first_run_decides { FirstRunDecides }
 {}
 
 /// None of the premises of `plans` can be left out. Pairs of runs that are alike don't all have equal

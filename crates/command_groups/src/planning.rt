@@ -76,7 +76,7 @@ fn plan_of_runs(
 }
 
 // The plan of two runs that were read.
-fn plan_of_dry_runs(
+pub(crate) fn plan_of_dry_runs(
     alloc: Global,
     suffixes: &Suffixes,
     keep_dir: Option<&str>,
