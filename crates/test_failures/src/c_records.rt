@@ -28,6 +28,11 @@ const PROGRAM: FoundProgram<'static> = FoundProgram {
 const PROGRAM_TEXT: &str =
     "FoundProgram { program: InputText { bytes: [97] }, path: InputText { bytes: [98] }, found: InputText { bytes: [] }, is_found: 1, reserved: 0 }";
 
+// A text as a C program passes it.
+fn text(bytes: &[u8]) -> InputText<'_> {
+    InputText { bytes }
+}
+
 #[test]
 fn rows_of_c_programs_print_their_fields(rt: HostRuntime) {
     let alloc = rt.alloc();
@@ -43,9 +48,10 @@ const NVCC_LINE_CALL_TEXT: &str =
 
 #[test]
 fn lines_of_c_programs_print_their_fields(rt: HostRuntime) {
-    let (alloc, words) = (rt.alloc(), [B]);
+    let (a, b, none) = (text(b"a"), text(b"b"), text(b""));
+    let (alloc, words) = (rt.alloc(), [b]);
     let line = LineCall {
-        cwd: A,
+        cwd: a,
         words: &words,
         variables: &[],
         tool: 3,
@@ -53,9 +59,9 @@ fn lines_of_c_programs_print_their_fields(rt: HostRuntime) {
     };
     assert!(rt; prints(alloc, &line, LINE_CALL_TEXT));
     let nvcc = NvccLineCall {
-        cwd: A,
-        tmp: B,
-        nvcc: NONE,
+        cwd: a,
+        tmp: b,
+        nvcc: none,
         words: &words,
         variables: &[],
         reserved: 7,
@@ -68,14 +74,15 @@ const PLAN_CALL_TEXT: &str =
 
 #[test]
 fn plans_of_c_programs_print_their_fields(rt: HostRuntime) {
-    let (alloc, suffixes) = (rt.alloc(), [B]);
+    let (a, b, none) = (text(b"a"), text(b"b"), text(b""));
+    let (alloc, suffixes) = (rt.alloc(), [b]);
     let call = PlanCall {
-        dry1: A,
-        dry2: B,
-        cwd: NONE,
-        tmp: A,
-        flag: B,
-        keep_dir: NONE,
+        dry1: a,
+        dry2: b,
+        cwd: none,
+        tmp: a,
+        flag: b,
+        keep_dir: none,
         variables: &[],
         suffixes: &suffixes,
         lookups: &[],
