@@ -235,8 +235,8 @@ programs | nvcc_calls/shell | shell_text | outline.first.len() > 20_000
 programs | nvcc_calls/directory | directory_name | call.words.len() > 5_000
 programs | nvcc_calls/directory | directory_name | long_body::has_long(call.words, 50_000)
 
-lines | c_calls/shell | split_outcome | bytes.len() > 500_000
-lines | c_calls/shell | quote_outcome | texts.len() > 5_000
+lines | c_texts/shell | split_outcome | bytes.len() > 500_000
+lines | c_texts/shell | quote_outcome | texts.len() > 5_000
 """
 
 # What no contract says of the programs: what goes to standard error. Each line has a statement in place of a condition.

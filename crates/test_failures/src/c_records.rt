@@ -1,10 +1,9 @@
 //! `Debug` prints the fields of the records that C programs pass and get.
 
 use crate::debug::prints;
-use c_calls::{
-    CommandRecord, FoundProgram, GroupRecord, InputText, LineCall, NvccLineCall, PlanCall, Range,
-    RecordsAnswer, Variable,
-};
+use c_lines::{LineCall, NvccLineCall};
+use c_plans::{CommandRecord, FoundProgram, GroupRecord, PlanCall, RecordsAnswer};
+use c_texts::{InputText, Range, Variable};
 
 const A: InputText<'static> = InputText { bytes: b"a" };
 

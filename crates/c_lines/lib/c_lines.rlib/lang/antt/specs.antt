@@ -1,4 +1,0 @@
-pub mod LineCalls
-pub mod LineJson
-pub mod Lines
-pub mod NvccOutline
