@@ -26,9 +26,15 @@ _zigrunk_plan() {
 }
 
 _zigrunk() {
-    local current=${COMP_WORDS[COMP_CWORD]} form=${COMP_WORDS[1]-} forms='line plan'
+    local current=${COMP_WORDS[COMP_CWORD]} forms='line plan'
     COMPREPLY=()
-    [ "${1##*/}" = cudaplan ] || forms='shell ninja json dot compdb calls directory line plan -h --help --version'
+    [ "${1##*/}" = cudaplan ] || forms='shell ninja json dot compdb calls directory line plan --limit -h --help --version'
+    if [ "${COMP_WORDS[1]-}" = --limit ] && [ "$COMP_CWORD" -gt 1 ]; then
+        [ "$COMP_CWORD" -gt 2 ] || return
+        local COMP_WORDS=("${COMP_WORDS[0]}" "${COMP_WORDS[@]:3}") COMP_CWORD=$((COMP_CWORD - 2))
+        forms='shell ninja json dot compdb plan'
+    fi
+    local form=${COMP_WORDS[1]-}
     if [ "$COMP_CWORD" -eq 1 ]; then
         _zigrunk_words "$forms"
         return

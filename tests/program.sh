@@ -910,20 +910,65 @@ refused_exports() {
     judge 'a plan as JSON to a full disk' 1 '' $'zigrunk: cannot write\n'
 }
 
+# doubling N: a dry run of N variables, each of which is twice the next, and a command that refers to the first.
+doubling() {
+    local number
+    echo '#$ PATH=/b'
+    for ((number = 0; number < $1; number++)); do
+        echo "#\$ ${letters:number:1}=\$${letters:number + 1:1}.\$${letters:number + 1:1}."
+    done
+    echo '#$ $A.'
+}
+
+# the limit for what reading a dry run makes: exactly, in both runs and in each form, and for one that explodes
+limits() {
+    local letters=ABCDEFGHIJKLMNOPQRSTUVWXYZ form out
+    lines_of small '#$ PATH=/b'
+    run_of within '#$ gcc -D__NVCC__ x.i'
+    local room within=$'\n    #$ gcc -D__NVCC__ x.i\n'
+    # PATH and its value, and PATH with gcc behind it, -D__NVCC__ and x.i: each counts one byte more
+    room=$(($(sed -n 's/^#\$ PATH=//p' "$scratch/within" | tr -d '\n' | wc -c) * 2 + 25))
+    local exceeded=":2: with this line, the dry run makes over $((room - 1)) bytes: --limit allows more$within"
+    out=$("$program" json /w /t -c "$scratch/within" "$scratch/within.2"; printf .)
+    check 'dry runs that just fit' 0 "${out%.}" '' --limit "$room" json /w /t -c "$scratch/within" "$scratch/within.2"
+    for form in shell ninja json dot compdb plan; do
+        check "$form: the first run exceeds the limit" 1 '' "zigrunk: $scratch/within$exceeded" \
+            --limit $((room - 1)) "$form" /w /t -c "$scratch/within" "$scratch/within.2"
+        check "$form: the second run exceeds the limit" 1 '' "zigrunk: $scratch/within.2$exceeded" \
+            --limit $((room - 1)) "$form" /w /t -c "$scratch/small" "$scratch/within.2"
+    done
+    check 'no room at all' 1 '' "zigrunk: $scratch/within:1: with this line, the dry run makes over 0 bytes: --limit allows more"$'\n    '"$(head -n 1 "$scratch/within")"$'\n' \
+        --limit 0 json /w /t -c "$scratch/within" "$scratch/within.2"
+    doubling 25 > "$scratch/doubling"
+    cp "$scratch/doubling" "$scratch/doubling.2"
+    for form in json plan; do
+        check "$form: $(wc -c < "$scratch/doubling") bytes that explode" 1 '' \
+            "zigrunk: $scratch/doubling:27: with this line, the dry run makes over 67108864 bytes: --limit allows more"$'\n    #$ $A.\n' \
+            "$form" /w /t -c "$scratch/doubling" "$scratch/doubling.2"
+    done
+    local usage
+    usage=$("$program" 2>&1; printf .)
+    for out in '' '--limit' '--limit 5' '--limit x json' '--limit -1 json' '--limit 5 --limit 5 json'; do
+        # shellcheck disable=SC2086 # words
+        check "a limit without a number or a call: $out" 2 '' "${usage%.}" $out ${out:+/w /t -c "$scratch/within" "$scratch/within.2"}
+    done
+}
+
 # the pages, and words that are no call
 zigrunk_pages() {
     local out
     check 'the version' 0 $'zigrunk 0.1.0\n' '' --version
     "$program" --help > "$scratch/help" 2> "$scratch/err"
     echo $? > "$scratch/status"
-    head -n 3 "$scratch/help" > "$scratch/out"
-    judge 'the help' 0 "usage: zigrunk FORMAT [--keep] [--whole] CWD TMP FLAG DRY1 DRY2 SUFFIX..
+    head -n 4 "$scratch/help" > "$scratch/out"
+    judge 'the help' 0 "usage: zigrunk [--limit BYTES] FORMAT [--keep] [--whole]
+                   CWD TMP FLAG DRY1 DRY2 SUFFIX..
        zigrunk calls CWD TMP NVCC WORD..
        zigrunk directory CWD NVCC WORD..
 " ''
     out=$("$program" --help; printf .)
     check 'the help by one letter' 0 "${out%.}" '' -h
-    local usage=$'usage: zigrunk shell|ninja|json|dot|compdb [--keep] [--whole] CWD TMP FLAG DRY1 DRY2 SUFFIX.. | calls CWD TMP NVCC WORD.. | directory CWD NVCC WORD.. | line TOOL CWD WORD.. | plan CWD TMP FLAG DRY1 DRY2 SUFFIX.. | -h | --help | --version\n' format
+    local usage=$'usage: zigrunk [--limit BYTES] shell|ninja|json|dot|compdb [--keep] [--whole] CWD TMP FLAG DRY1 DRY2 SUFFIX.. | calls CWD TMP NVCC WORD.. | directory CWD NVCC WORD.. | line TOOL CWD WORD.. | plan CWD TMP FLAG DRY1 DRY2 SUFFIX.. | -h | --help | --version\n' format
     check 'no words for zigrunk' 2 '' "$usage"
     check 'a directory without nvcc' 2 '' "$usage" directory /w
     check 'a line of another tool' 2 '' "$usage" line nvcc /w -c k.cu
@@ -957,7 +1002,7 @@ program=$zigrunk
 unset NVCC_PREPEND_FLAGS NVCC_APPEND_FLAGS ZIGRUNK_JOBS MAKEFLAGS
 run \
     nvcc_lines jobs_at_once directories forms_of_cudaplan long_nvcc_lines odd_nvcc_words refused_nvcc_lines kernel_programs \
-    plan_scripts plan_files plan_views plan_schema whole_plans unfit_files statuses long_exports refused_exports messages \
+    plan_scripts plan_files plan_views plan_schema whole_plans unfit_files statuses long_exports refused_exports limits messages \
     long_messages escapes standard_input zigrunk_pages
 echo "$passed passed, $failed failed"
 [ "$failed" -eq 0 ]

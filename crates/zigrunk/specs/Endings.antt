@@ -1,5 +1,5 @@
 -- How calls of the program end.
-use Rattle.std.specs.Prelude.{◌≡◌, ℕ, List, [], ◌∷◌, ◌++◌, ◌⊎◌, Option, Result, Ok, Err, MatchOption}
+use Rattle.std.specs.Prelude.{◌≡◌, ℕ, List, [], ◌∷◌, ◌++◌, ◌⊎◌, Option, Some, None, Result, Ok, Err, MatchOption}
 use Rattle.std.specs.Io.KnownBytes.{Keeps}
 use Rattle.nvcc_calls.specs.Directory.{directory_name}
 use Rattle.program_lookups.specs.declared.snapshot.Entry.{Entry}
@@ -10,9 +10,12 @@ use Rattle.programs.specs.declared.stop.Stop.TheVariants.{Fault, NotCompilation,
 use Rattle.programs.specs.Calls.{PlanOf}
 use Rattle.programs.specs.Delivery.{Delivers}
 use Rattle.programs.specs.LineText.{shown_line}
-use Rattle.programs.specs.PlanText.{PlansFiles, ReadsFirst, out_of_memory, shown_plan}
+use Rattle.programs.specs.PlanText.{ReadsFirst, out_of_memory, shown_plan}
 use Rattle.zigrunk.specs.Calls.{CallOf, ExportOf, exports, reads, names, rewrites, plans, helps, tells_version}
+use Rattle.zigrunk.specs.declared.excess.Excess.{Excess}
+use Rattle.zigrunk.specs.Excess.{excess_of}
 use Rattle.zigrunk.specs.Exports.{exported}
+use Rattle.zigrunk.specs.Messages.{over_limit}
 use Rattle.zigrunk.specs.NvccText.{nvcc_text}
 use Rattle.zigrunk.specs.Pages.{help_text, version_text}
 
@@ -39,54 +42,80 @@ abbrev pub status_of : CallOf → Result (Unit {0}) Stop → ℕ
 status_of call (Ok _) = 0
 status_of call (Err stop) = stopped_status call stop
 
--- what the program writes for a call that plans, given the bytes of its two files and the engine's answer
-abbrev pub ShowsBytes : PlanOf → List ℕ → List ℕ → Result (Unit {0}) Stop → Option (List ℕ) → Option (List ℕ) → Type 0
-ShowsBytes c first second answer before after = Delivers answer (shown_plan c.cwd c.tmp c.flag first second c.suffixes) before after
+-- the answer if a dry run exceeds the limit
+abbrev pub exceeded : Result (List ℕ) Stop
+exceeded = Err (Unwritable over_limit)
+
+-- what the program writes, given the line that exceeds the limit, if there is one, and what follows if there is none
+abbrev pub WithinLimit : Option Excess → Type 0 → Result (Unit {0}) Stop → Option (List ℕ) → Option (List ℕ) → Type 0
+WithinLimit None Follows answer before after = Follows
+WithinLimit (Some excess) Follows answer before after = Delivers answer exceeded before after
+
+-- what the program writes for a call that plans, given the limit, the bytes of its two files and the engine's answer
+abbrev pub ShowsBytes : ℕ → PlanOf → List ℕ → List ℕ → Result (Unit {0}) Stop → Option (List ℕ) → Option (List ℕ) → Type 0
+ShowsBytes limit c first second answer before after =
+    Delivers answer out_of_memory before after
+    ⊎ WithinLimit (excess_of limit c.cwd first second) (Delivers answer (shown_plan c.cwd c.tmp c.flag first second c.suffixes) before after) answer before after
+
+-- the same, given what files may hold, the bytes of the first file and the engine's answer
+abbrev pub ShowsSecond :
+    (List ℕ → Option (List ℕ) → Type 0) → ℕ → PlanOf → List ℕ → Result (Unit {0}) Stop → Option (List ℕ) → Option (List ℕ) → Type 0
+ShowsSecond holds limit c first answer before after = ReadsFirst (holds c.dry2) (λ second. ShowsBytes limit c first second answer before after) answer before after
+
+-- the same, given only what files may hold and the engine's answer: the text of the plan of these two files
+abbrev pub ShowsFiles :
+    (List ℕ → Option (List ℕ) → Type 0) → ℕ → PlanOf → Result (Unit {0}) Stop → Option (List ℕ) → Option (List ℕ) → Type 0
+ShowsFiles holds limit c answer before after = ReadsFirst (holds c.dry1) (λ first. ShowsSecond holds limit c first answer before after) answer before after
 
 -- what the program writes for a call that exports a plan, given the bytes of its two files and the engine's answer. The disk
 -- may say anything of the programs that the dry runs look up
-abbrev pub ExportsBytes : ExportOf → List ℕ → List ℕ → Result (Unit {0}) Stop → Option (List ℕ) → Option (List ℕ) → Type 0
-ExportsBytes c first second answer before after =
+abbrev pub ExportsFitting : ExportOf → List ℕ → List ℕ → Result (Unit {0}) Stop → Option (List ℕ) → Option (List ℕ) → Type 0
+ExportsFitting c first second answer before after =
     (programs : List Entry)
     × IsSnapshotOf (asked_of_both first second c.plan.cwd) programs
     × Delivers answer (exported c (answer_in programs) first second) before after
 
--- the same, unless memory runs out before
-abbrev pub ExportsOrRunsOut : ExportOf → List ℕ → List ℕ → Result (Unit {0}) Stop → Option (List ℕ) → Option (List ℕ) → Type 0
-ExportsOrRunsOut c first second answer before after = Delivers answer out_of_memory before after ⊎ ExportsBytes c first second answer before after
+-- the same, unless a dry run exceeds the limit or memory runs out before
+abbrev pub ExportsBytes : ℕ → ExportOf → List ℕ → List ℕ → Result (Unit {0}) Stop → Option (List ℕ) → Option (List ℕ) → Type 0
+ExportsBytes limit c first second answer before after =
+    Delivers answer out_of_memory before after
+    ⊎ WithinLimit (excess_of limit c.plan.cwd first second) (ExportsFitting c first second answer before after) answer before after
 
 -- the same, given what files may hold, the bytes of the first file and the engine's answer
 abbrev pub ExportsSecond :
-    (List ℕ → Option (List ℕ) → Type 0) → ExportOf → List ℕ → Result (Unit {0}) Stop → Option (List ℕ) → Option (List ℕ) → Type 0
-ExportsSecond holds c first answer before after =
-    ReadsFirst (holds c.plan.dry2) (λ second. ExportsOrRunsOut c first second answer before after) answer before after
+    (List ℕ → Option (List ℕ) → Type 0) → ℕ → ExportOf → List ℕ → Result (Unit {0}) Stop → Option (List ℕ) → Option (List ℕ) → Type 0
+ExportsSecond holds limit c first answer before after =
+    ReadsFirst (holds c.plan.dry2) (λ second. ExportsBytes limit c first second answer before after) answer before after
 
 -- the same, given only what files may hold and the engine's answer: the plan of these two files
 abbrev pub ExportsFiles :
-    (List ℕ → Option (List ℕ) → Type 0) → ExportOf → Result (Unit {0}) Stop → Option (List ℕ) → Option (List ℕ) → Type 0
-ExportsFiles holds c answer before after = ReadsFirst (holds c.plan.dry1) (λ first. ExportsSecond holds c first answer before after) answer before after
+    (List ℕ → Option (List ℕ) → Type 0) → ℕ → ExportOf → Result (Unit {0}) Stop → Option (List ℕ) → Option (List ℕ) → Type 0
+ExportsFiles holds limit c answer before after =
+    ReadsFirst (holds c.plan.dry1) (λ first. ExportsSecond holds limit c first answer before after) answer before after
 
--- what the program writes for a call, given what files may hold, the engine's answer and the variables that nvcc takes words from
+-- what the program writes for a call, given what files may hold, the limit, the engine's answer and the variables that nvcc takes
+-- words from
 abbrev pub Serves :
     (List ℕ → Option (List ℕ) → Type 0)
+    → ℕ
     → CallOf
     → List (List ℕ × List ℕ)
     → Result (Unit {0}) Stop
     → Option (List ℕ)
     → Option (List ℕ)
     → Type 0
-Serves holds (exports c) variables answer before after = ExportsFiles holds c answer before after
-Serves holds (reads c) variables answer before after = Delivers answer (nvcc_text c variables) before after
-Serves holds (names c) variables answer before after = Delivers answer (Ok (directory_name c variables ++ 10 ∷ [])) before after
-Serves holds (rewrites c) variables answer before after = Delivers answer (shown_line c.tool c.cwd c.words) before after
-Serves holds (plans c) variables answer before after = PlansFiles holds c answer before after
-Serves holds helps variables answer before after = Delivers answer (Ok help_text) before after
-Serves holds tells_version variables answer before after = Delivers answer (Ok version_text) before after
+Serves holds limit (exports c) variables answer before after = ExportsFiles holds limit c answer before after
+Serves holds limit (reads c) variables answer before after = Delivers answer (nvcc_text c variables) before after
+Serves holds limit (names c) variables answer before after = Delivers answer (Ok (directory_name c variables ++ 10 ∷ [])) before after
+Serves holds limit (rewrites c) variables answer before after = Delivers answer (shown_line c.tool c.cwd c.words) before after
+Serves holds limit (plans c) variables answer before after = ShowsFiles holds limit c answer before after
+Serves holds limit helps variables answer before after = Delivers answer (Ok help_text) before after
+Serves holds limit tells_version variables answer before after = Delivers answer (Ok version_text) before after
 
 -- how a call ends: with status 2 and nothing written if the words are no call, else with the status of an engine's answer,
 -- and with what that engine writes
 abbrev pub Ends :
-    (List ℕ → Option (List ℕ) → Type 0) → ℕ → Option CallOf → List (List ℕ × List ℕ) → Option (List ℕ) → Option (List ℕ) → Type 0
+    (List ℕ → Option (List ℕ) → Type 0) → ℕ → Option (ℕ × CallOf) → List (List ℕ × List ℕ) → Option (List ℕ) → Option (List ℕ) → Type 0
 Ends holds status call variables before after =
     MatchOption call ((status ≡ 2) × Keeps before after)
-    (λ c. (answer : Result (Unit {0}) Stop) × (status ≡ status_of c answer) × Serves holds c variables answer before after)
+    (λ c. (answer : Result (Unit {0}) Stop) × (status ≡ status_of c.1 answer) × Serves holds c.0 c.1 variables answer before after)

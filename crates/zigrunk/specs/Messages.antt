@@ -54,6 +54,10 @@ advice fault place =
     if is_for_dependencies place.line then codes "this line filters dependencies: make the dry runs without dependency options, such as -MD"
     else cause fault place.path
 
+-- why a dry run isn't planned that exceeds the limit
+abbrev pub over_limit : List ℕ
+over_limit = codes "a dry run exceeds the limit"
+
 -- where a bad line is: its file, and its number from 1
 abbrev pub place_text : PlaceOf → List ℕ
 place_text place = text place.file ++ (codes ":" ++ (numeral (min (place.number + 1) (2 ^ 64 - 1)) ++ codes ": "))
@@ -61,6 +65,14 @@ place_text place = text place.file ++ (codes ":" ++ (numeral (min (place.number 
 -- the message of a bad line: where it is, what is wrong, and below that the line itself
 abbrev pub line_message : PlaceOf → Fault → List ℕ
 line_message place fault = place_text place ++ (advice fault place ++ line_below place.line)
+
+-- what is wrong with a line that exceeds the limit, and what to do
+abbrev pub excess_cause : ℕ → List ℕ
+excess_cause limit = codes "with this line, the dry run makes over " ++ (numeral limit ++ codes " bytes: --limit allows more")
+
+-- the message of such a line
+abbrev pub excess_message : ℕ → PlaceOf → List ℕ
+excess_message limit place = place_text place ++ (excess_cause limit ++ line_below place.line)
 
 -- whether a fault is one of a line
 abbrev pub is_of_line : Fault → Bool
@@ -110,6 +122,10 @@ unread_message file why = codes "cannot read " ++ (text file ++ (codes ": " ++ u
 -- what the program writes to standard error: a message behind its name
 abbrev pub said : List ℕ → List ℕ
 said message = codes "zigrunk: " ++ (message ++ codes "\n")
+
+-- it says that a dry run exceeds the limit, and if there is memory for it, where
+abbrev pub SaysExcess : Option (List ℕ) → Option (List ℕ) → List ℕ → Type 0
+SaysExcess before after message = Appends before after (said message) ⊎ Appends before after (said over_limit)
 
 -- it says a message. If there is no memory for that, it says the short text of the reason
 abbrev pub Says : Option (List ℕ) → Option (List ℕ) → List ℕ → Stop → Type 0

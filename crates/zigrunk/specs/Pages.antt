@@ -10,11 +10,12 @@ lines_of lines = flat_map (λ line. line ++ 10 ∷ []) lines
 abbrev pub help_text : List ℕ
 help_text =
     lines_of
-    (codes "usage: zigrunk FORMAT [--keep] [--whole] CWD TMP FLAG DRY1 DRY2 SUFFIX.." ∷
+    (codes "usage: zigrunk [--limit BYTES] FORMAT [--keep] [--whole]" ∷
+    codes "                   CWD TMP FLAG DRY1 DRY2 SUFFIX.." ∷
     codes "       zigrunk calls CWD TMP NVCC WORD.." ∷
     codes "       zigrunk directory CWD NVCC WORD.." ∷
     codes "       zigrunk line TOOL CWD WORD.." ∷
-    codes "       zigrunk plan CWD TMP FLAG DRY1 DRY2 SUFFIX.." ∷
+    codes "       zigrunk [--limit BYTES] plan CWD TMP FLAG DRY1 DRY2 SUFFIX.." ∷
     codes "       zigrunk -h | --help | --version" ∷
     [] ∷
     codes "FORMAT              Plan the two dry runs of an nvcc call, in the files DRY1 and" ∷
@@ -31,6 +32,9 @@ help_text =
     codes "line                Read a line of cicc, ptxas or cudafe++ and write it back, one" ∷
     codes "                    word a line." ∷
     codes "plan                Write the plan of two dry runs as text." ∷
+    codes "--limit             Stop if reading a dry run makes over so many bytes of text:" ∷
+    codes "                    its variables can make a short one explode. It is 67108864" ∷
+    codes "                    (64 MiB) if not given." ∷
     [] ∷
     codes "CWD is the working directory, TMP the temporary directory, FLAG the compilation" ∷
     codes "flag, as -c. DRY1 or DRY2 may be -, which is standard input. Each SUFFIX names" ∷

@@ -2,6 +2,7 @@
 
 ghost use Rattle.std.specs.Prelude.{◌≡◌, map, string_bytes};
 ghost use Rattle.std.specs.Option.{option_map};
+ghost use Rattle.host_lines.specs.KeepThreads.{number_of};
 ghost use Rattle.zigrunk.specs.Calls as spec;
 
 use nvcc_calls::{DirectoryCall, NvccCall, directory_call, nvcc_call};
@@ -48,16 +49,8 @@ pub enum Call<'a> {
     Version,
 }
 
-// The format of a name, if it is one that shows a plan.
-fn view_named(name: &str) -> Option<Format>
-    ensures { result ≡ spec.view_of_name name.now }
-{
-    match name {
-        "dot" => Some(Format::Dot),
-        "compdb" => Some(Format::Compdb),
-        _ => None,
-    }
-}
+/// The limit of a call that names none, in bytes: 64 MiB. The dry runs of a real call hold some hundred KiB.
+const DEFAULT_LIMIT: usize = 67_108_864;
 
 // The format of a name.
 fn format_named(name: &str) -> Option<Format>
@@ -67,69 +60,34 @@ fn format_named(name: &str) -> Option<Format>
         "shell" => Some(Format::Shell),
         "ninja" => Some(Format::Ninja),
         "json" => Some(Format::Json),
-        _ => view_named(name),
+        "dot" => Some(Format::Dot),
+        "compdb" => Some(Format::Compdb),
+        _ => None,
     }
 }
 
-// Parses `CWD TMP FLAG DRY1 DRY2 SUFFIX..`.
-fn export_with<'a>(
-    format: Format,
-    keeps: bool,
-    whole: bool,
-    words: &'a [String],
-) -> Option<ExportCall<'a>>
-    ensures { option_map spec.export_of result ≡ spec.export_with format keeps whole (map string_bytes words.now) }
+// Whether words begin with an option, and the words behind it.
+fn past<'a>(option: &str, words: &'a [String]) -> (bool, &'a [String])
+    ensures { (result.0, map string_bytes result.1.now) ≡ spec.past option.now (map string_bytes words.now) }
 {
+    match words {
+        [word, rest @ ..] if word.as_str() == option => (true, rest),
+        _ => (false, words),
+    }
+}
+
+// Parses `[--keep] [--whole] CWD TMP FLAG DRY1 DRY2 SUFFIX..`.
+fn export_call<'a>(format: Format, words: &'a [String]) -> Option<ExportCall<'a>>
+    ensures { option_map spec.export_of result ≡ spec.export_call_of format (map string_bytes words.now) }
+{
+    let (keeps, words) = past("--keep", words);
+    let (whole, words) = past("--whole", words);
     Some(ExportCall {
         format,
         keeps,
         whole,
         plan: plan_call(words)?,
     })
-}
-
-// The same behind `--whole`, which may be left out.
-fn export_behind_keep<'a>(
-    format: Format,
-    keeps: bool,
-    words: &'a [String],
-) -> Option<ExportCall<'a>>
-    ensures { option_map spec.export_of result ≡ spec.export_behind_keep format keeps (map string_bytes words.now) }
-{
-    let [word, rest @ ..] = words else {
-        return None;
-    };
-    match word.as_str() {
-        "--whole" => export_with(format, keeps, true, rest),
-        _ => export_with(format, keeps, false, words),
-    }
-}
-
-// The same behind `--keep`, which may be left out.
-fn export_call<'a>(format: Format, words: &'a [String]) -> Option<ExportCall<'a>>
-    ensures { option_map spec.export_of result ≡ spec.export_call_of format (map string_bytes words.now) }
-{
-    let [word, rest @ ..] = words else {
-        return None;
-    };
-    match word.as_str() {
-        "--keep" => export_behind_keep(format, true, rest),
-        _ => export_behind_keep(format, false, words),
-    }
-}
-
-// Parses the words behind a name, if it is a format's.
-fn export_named<'a>(name: &str, words: &'a [String]) -> Option<ExportCall<'a>>
-    ensures { option_map spec.export_of result ≡ spec.export_named name.now (map string_bytes words.now) }
-{
-    export_call(format_named(name)?, words)
-}
-
-// The same, as a call of the program.
-fn exporting<'a>(name: &str, words: &'a [String]) -> Option<Call<'a>>
-    ensures { option_map spec.seen result ≡ option_map spec.exports (spec.export_named name.now (map string_bytes words.now)) }
-{
-    Some(Call::Export(export_named(name, words)?))
 }
 
 // The call, if no further words follow.
@@ -147,36 +105,54 @@ fn other_call<'a>(name: &str, words: &'a [String]) -> Option<Call<'a>>
     ensures { option_map spec.seen result ≡ spec.other_call name.now (map string_bytes words.now) }
 {
     match name {
-        "--help" => alone(Call::Help, words),
-        "-h" => alone(Call::Help, words),
+        "--help" | "-h" => alone(Call::Help, words),
         "--version" => alone(Call::Version, words),
-        _ => exporting(name, words),
+        _ => Some(Call::Export(export_call(format_named(name)?, words)?)),
     }
 }
 
-// Parses the calls that cudaplan has too, and all others but those of an nvcc line.
-fn text_call<'a>(name: &str, words: &'a [String]) -> Option<Call<'a>>
-    ensures { option_map spec.seen result ≡ spec.text_call name.now (map string_bytes words.now) }
-{
-    match name {
-        "line" => Some(Call::Line(line_call(words)?)),
-        "plan" => Some(Call::Plan(plan_call(words)?)),
-        _ => other_call(name, words),
-    }
-}
-
-// Parses the calls of an nvcc line, and all others.
+// Parses all calls, by their names.
 fn named_call<'a>(name: &str, words: &'a [String]) -> Option<Call<'a>>
     ensures { option_map spec.seen result ≡ spec.named_call name.now (map string_bytes words.now) }
 {
     match name {
         "calls" => Some(Call::Nvcc(nvcc_call(words)?)),
         "directory" => Some(Call::Directory(directory_call(words)?)),
-        _ => text_call(name, words),
+        "line" => Some(Call::Line(line_call(words)?)),
+        "plan" => Some(Call::Plan(plan_call(words)?)),
+        _ => other_call(name, words),
     }
 }
 
-/// Parses the words after the program's name:
+// Parses a call behind its limit.
+fn call_of<'a>(words: &'a [String]) -> Option<Call<'a>>
+    ensures { option_map spec.seen result ≡ spec.call_of (map string_bytes words.now) }
+{
+    let [verb, rest @ ..] = words else {
+        return None;
+    };
+    named_call(verb.as_str(), rest)
+}
+
+// The number that a word is.
+fn number_in(word: &str) -> Option<usize>
+    ensures { result ≡ number_of word.now }
+{
+    word.parse::<usize>().ok()
+}
+
+// Parses `BYTES` and a call.
+fn call_behind_limit<'a>(words: &'a [String]) -> Option<(usize, Call<'a>)>
+    ensures { option_map spec.seen_limited result ≡ spec.call_behind_limit (map string_bytes words.now) }
+{
+    let [number, rest @ ..] = words else {
+        return None;
+    };
+    let limit = number_in(number.as_str())?;
+    Some((limit, call_of(rest)?))
+}
+
+/// Parses the words after the program's name, `[--limit BYTES]` and one of these calls, and gives the limit too:
 ///
 /// - `shell|ninja|json|dot|compdb [--keep] [--whole] CWD TMP FLAG DRY1 DRY2 SUFFIX..`, with `--keep` if generated files keep
 ///   nvcc's names, and `--whole` if a plan that dropped a command is an error;
@@ -184,11 +160,12 @@ fn named_call<'a>(name: &str, words: &'a [String]) -> Option<Call<'a>>
 /// - `directory CWD NVCC WORD..`;
 /// - `line TOOL CWD WORD..` or `plan CWD TMP FLAG DRY1 DRY2 SUFFIX..`, as `cudaplan`;
 /// - `--help`, `-h` or `--version`.
-pub fn call_of<'a>(words: &'a [String]) -> Option<Call<'a>>
-    ensures { option_map spec.seen result ≡ spec.call_of (map string_bytes words.now) }
+pub fn limited_call_of<'a>(words: &'a [String]) -> Option<(usize, Call<'a>)>
+    ensures { option_map spec.seen_limited result ≡ spec.limited_call_of (map string_bytes words.now) }
 {
-    let [verb, rest @ ..] = words else {
-        return None;
-    };
-    named_call(verb.as_str(), rest)
+    let (is_limited, rest) = past("--limit", words);
+    if is_limited {
+        return call_behind_limit(rest);
+    }
+    Some((DEFAULT_LIMIT, call_of(words)?))
 }

@@ -6,12 +6,17 @@ ghost use Rattle.programs.specs.Calls.{plan_of};
 ghost use Rattle.programs.specs.Complaint.{message_of};
 ghost use Rattle.programs.specs.Unread.{stop_of};
 ghost use Rattle.zigrunk.specs.Messages as spec;
+ghost use Rattle.zigrunk.specs.Places.{place_seen};
 
-use crate::message::{plain_message, plan_message, unread_message};
+use crate::message::{excess_message, plain_message, plan_message, unread_message};
+use crate::place::Place;
 use dry_runs::Which;
 use programs::{PlanCall, Stop, Unread, complain};
 use std::alloc::Global;
 use std::io::{self, Write};
+
+/// Why a dry run isn't planned that exceeds the limit.
+pub const OVER_LIMIT: &str = "a dry run exceeds the limit";
 
 // Writes a message behind the program's name.
 fn say<E: Write>(message: &str, err: &mut E) -> io::Result<()>
@@ -48,6 +53,23 @@ pub fn complain_of_plan<L: Which, E: Write>(
     match plan_message(alloc, which, call, dry1, dry2, stop) {
         Ok(message) => say(message.as_str(), err),
         Err(_) => complain("zigrunk", stop, err),
+    }
+}
+
+/// Says which line exceeds the limit, in bytes. If there is no memory for that, it says only that a dry run does.
+///
+/// If a write fails, part of the message may have been written.
+pub fn complain_of_excess<E: Write>(
+    alloc: Global,
+    place: &Place<'_>,
+    limit: usize,
+    err: &mut E,
+) -> io::Result<()>
+    ensures { OnOk result (spec.SaysExcess (E.contents err.old) (E.contents err.new) (spec.excess_message limit (place_seen place.now))) }
+{
+    match excess_message(alloc, place, limit) {
+        Ok(message) => say(message.as_str(), err),
+        Err(_) => say(OVER_LIMIT, err),
     }
 }
 

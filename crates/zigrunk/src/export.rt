@@ -109,8 +109,8 @@ fn lacking(whole: bool, plan: &Plan) -> Option<&'static str>
     }
 }
 
-// Stops the program for a reason.
-fn refused(alloc: Global, why: &str) -> Result<String, Stop>
+/// Stops the program for a reason.
+pub fn refused(alloc: Global, why: &str) -> Result<String, Stop>
     ensures { Answers (text_of result) (Err (stops.Unwritable why.now)) }
 {
     Err(Stop::Unwritable(Text::copy_of(alloc, why)?))

@@ -13,6 +13,7 @@ use std::rt::Env;
 mod call;
 mod complaint;
 mod environment;
+mod excess;
 mod export;
 mod input;
 mod message;

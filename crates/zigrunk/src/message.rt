@@ -4,6 +4,7 @@ ghost use Rattle.std.specs.Prelude.{◌≡◌, ◌++◌, IfOk, OnOk, codes, map,
 ghost use Rattle.std.specs.List.{starts_with};
 ghost use Rattle.std.specs.Option.{option_copied, option_map};
 ghost use Rattle.texts.specs.Fault.{message_of as fault_text};
+ghost use Rattle.texts.specs.Numeral.{numeral};
 ghost use Rattle.programs.specs.Calls.{plan_of};
 ghost use Rattle.programs.specs.Complaint.{message_of};
 ghost use Rattle.programs.specs.SuffixFault.{further_text};
@@ -129,6 +130,40 @@ fn line_message(alloc: Global, place: &Place<'_>, fault: &Fault) -> Result<Strin
     let mut text = String::new(alloc);
     push_place(alloc, &mut text, place)?;
     push_advice(alloc, &mut text, fault, place)?;
+    push_line(&mut text, place.line)?;
+    Ok(text)
+}
+
+// Adds a number between two texts.
+fn push_between(
+    alloc: Global,
+    text: &mut String,
+    front: &str,
+    number: usize,
+    back: &str,
+) -> Result<(), AllocError>
+    ensures { OnOk result (string_bytes text.new ≡ string_bytes text.old ++ (front.now ++ (numeral number ++ back.now))) }
+{
+    text.push_str(front)?;
+    push_number(alloc, text, number)?;
+    text.push_str(back)
+}
+
+// Adds that a line exceeds the limit, and what to do.
+fn push_excess(alloc: Global, text: &mut String, limit: usize) -> Result<(), AllocError>
+    ensures { OnOk result (string_bytes text.new ≡ string_bytes text.old ++ spec.excess_cause limit) }
+{
+    let front = "with this line, the dry run makes over ";
+    push_between(alloc, text, front, limit, " bytes: --limit allows more")
+}
+
+/// The message of a line that exceeds the limit, in bytes.
+pub fn excess_message(alloc: Global, place: &Place<'_>, limit: usize) -> Result<String, AllocError>
+    ensures { IfOk result (λ text. string_bytes text ≡ spec.excess_message limit (place_seen place.now)) }
+{
+    let mut text = String::new(alloc);
+    push_place(alloc, &mut text, place)?;
+    push_excess(alloc, &mut text, limit)?;
     push_line(&mut text, place.line)?;
     Ok(text)
 }

@@ -5,7 +5,7 @@ ghost use Rattle.zigrunk.specs.Pages as spec;
 
 /// What the program writes to standard error for wrong usage.
 pub const USAGE: &str =
-    "usage: zigrunk shell|ninja|json|dot|compdb [--keep] [--whole] CWD TMP FLAG DRY1 DRY2 SUFFIX.. \
+    "usage: zigrunk [--limit BYTES] shell|ninja|json|dot|compdb [--keep] [--whole] CWD TMP FLAG DRY1 DRY2 SUFFIX.. \
 | calls CWD TMP NVCC WORD.. | directory CWD NVCC WORD.. | line TOOL CWD WORD.. | plan CWD TMP FLAG DRY1 DRY2 SUFFIX.. \
 | -h | --help | --version\n";
 
@@ -13,11 +13,12 @@ pub const USAGE: &str =
 pub fn help() -> &'static str
     ensures { result.now ≡ spec.help_text }
 {
-    "usage: zigrunk FORMAT [--keep] [--whole] CWD TMP FLAG DRY1 DRY2 SUFFIX..
+    "usage: zigrunk [--limit BYTES] FORMAT [--keep] [--whole]
+                   CWD TMP FLAG DRY1 DRY2 SUFFIX..
        zigrunk calls CWD TMP NVCC WORD..
        zigrunk directory CWD NVCC WORD..
        zigrunk line TOOL CWD WORD..
-       zigrunk plan CWD TMP FLAG DRY1 DRY2 SUFFIX..
+       zigrunk [--limit BYTES] plan CWD TMP FLAG DRY1 DRY2 SUFFIX..
        zigrunk -h | --help | --version
 
 FORMAT              Plan the two dry runs of an nvcc call, in the files DRY1 and
@@ -34,6 +35,9 @@ directory           Write a name for the directory of an nvcc call. The same cal
 line                Read a line of cicc, ptxas or cudafe++ and write it back, one
                     word a line.
 plan                Write the plan of two dry runs as text.
+--limit             Stop if reading a dry run makes over so many bytes of text:
+                    its variables can make a short one explode. It is 67108864
+                    (64 MiB) if not given.
 
 CWD is the working directory, TMP the temporary directory, FLAG the compilation
 flag, as -c. DRY1 or DRY2 may be -, which is standard input. Each SUFFIX names

@@ -9,13 +9,17 @@ ghost use Rattle.program_lookups.specs.Snapshot.{IsSnapshotOf};
 ghost use Rattle.programs.specs.Calls.{plan_of};
 ghost use Rattle.nvcc_calls.specs.Directory as directories;
 ghost use Rattle.programs.specs.Delivery.{Delivers};
-ghost use Rattle.programs.specs.PlanText.{PlansFiles, PlansSecond, out_of_memory};
+ghost use Rattle.programs.specs.PlanText.{out_of_memory, shown_plan};
 ghost use Rattle.zigrunk.specs.Calls as forms;
 ghost use Rattle.zigrunk.specs.Endings as spec;
+ghost use Rattle.zigrunk.specs.Excess as limits;
 
-use crate::call::{Call, ExportCall, call_of};
-use crate::complaint::{complain_of, complain_of_file, complain_of_plan};
-use crate::export::write_export;
+use crate::call::{Call, ExportCall, limited_call_of};
+use crate::complaint::{
+    OVER_LIMIT, complain_of, complain_of_excess, complain_of_file, complain_of_plan,
+};
+use crate::excess::{Excess, excess_of, place_of_excess};
+use crate::export::{refused, write_export};
 use crate::nvcc_text::write_nvcc_text;
 use crate::page::{USAGE, help, version};
 use dry_runs::{FirstDir, Which};
@@ -91,8 +95,44 @@ fn programs_for<R: Files + AllocGlobal, E: Write>(
     answer
 }
 
-// Plans two dry runs, with the programs that the disk has, and writes the plan.
-fn export_bytes<R: Files + AllocGlobal, W: Write, E: Write>(
+// The line of two dry runs that exceeds the limit, if there is one. If memory runs out, it first says so.
+fn excess_told<E: Write>(
+    alloc: Global,
+    call: &PlanCall<'_>,
+    dry1: &[u8],
+    dry2: &[u8],
+    limit: usize,
+    err: &mut E,
+) -> Result<Option<Excess>, AllocError>
+    ensures { IfOk result (λ excess. excess ≡ limits.excess_of limit call.now.cwd.now dry1.now dry2.now) }
+{
+    let answer = excess_of(alloc, dry1, dry2, call.cwd, limit);
+    if answer.is_err() {
+        let _ = complain_of(alloc, &Stop::Fault(Fault::Memory), err);
+    }
+    answer
+}
+
+// Says which line exceeds the limit, and stops.
+fn stop_at<W: Write, E: Write>(
+    alloc: Global,
+    call: &PlanCall<'_>,
+    dry1: &[u8],
+    dry2: &[u8],
+    limit: usize,
+    excess: Excess,
+    out: &mut W,
+    err: &mut E,
+) -> Result<(), Stop>
+    ensures { Delivers result spec.exceeded (W.contents out.old) (W.contents out.new) }
+{
+    let place = place_of_excess(alloc, call, dry1, dry2, excess);
+    let _ = complain_of_excess(alloc, &place, limit, err);
+    deliver(refused(alloc, OVER_LIMIT), out)
+}
+
+// Plans two dry runs that don't exceed the limit, with the programs that the disk has, and writes the plan.
+fn export_fitting<R: Files + AllocGlobal, W: Write, E: Write>(
     rt: &R,
     call: &ExportCall<'_>,
     dry1: &[u8],
@@ -101,11 +141,30 @@ fn export_bytes<R: Files + AllocGlobal, W: Write, E: Write>(
     err: &mut E,
 ) -> Result<(), Stop>
     ensures { Delivers result out_of_memory (W.contents out.old) (W.contents out.new)
-        ⊎ spec.ExportsBytes (forms.export_of call.now) dry1.now dry2.now result (W.contents out.old) (W.contents out.new) }
+        ⊎ spec.ExportsFitting (forms.export_of call.now) dry1.now dry2.now result (W.contents out.old) (W.contents out.new) }
 {
     let programs = programs_for(rt, dry1, dry2, call.plan.cwd, err)?;
     let answer = write_export(rt.alloc(), call, dry1, dry2, &programs, out);
     plan_told(rt.alloc(), &programs, &call.plan, dry1, dry2, answer, err)
+}
+
+// Plans two dry runs within the limit, and writes the plan.
+fn export_bytes<R: Files + AllocGlobal, W: Write, E: Write>(
+    rt: &R,
+    call: &ExportCall<'_>,
+    dry1: &[u8],
+    dry2: &[u8],
+    limit: usize,
+    out: &mut W,
+    err: &mut E,
+) -> Result<(), Stop>
+    ensures { spec.ExportsBytes limit (forms.export_of call.now) dry1.now dry2.now result (W.contents out.old) (W.contents out.new) }
+{
+    let alloc = rt.alloc();
+    match excess_told(alloc, &call.plan, dry1, dry2, limit, err)? {
+        None => export_fitting(rt, call, dry1, dry2, out, err),
+        Some(excess) => stop_at(alloc, &call.plan, dry1, dry2, limit, excess, out, err),
+    }
 }
 
 // Reads the file of the second dry run, plans both, and writes the plan.
@@ -114,13 +173,14 @@ fn export_second<R: Files + AllocGlobal, S: Sources, W: Write, E: Write>(
     sources: &S,
     call: &ExportCall<'_>,
     dry1: &[u8],
+    limit: usize,
     out: &mut W,
     err: &mut E,
 ) -> Result<(), Stop>
-    ensures { spec.ExportsSecond (S.holds sources.now) (forms.export_of call.now) dry1.now result (W.contents out.old) (W.contents out.new) }
+    ensures { spec.ExportsSecond (S.holds sources.now) limit (forms.export_of call.now) dry1.now result (W.contents out.old) (W.contents out.new) }
 {
     let dry2 = read(rt.alloc(), sources, call.plan.dry2, err)?;
-    export_bytes(rt, call, dry1, dry2.as_slice(), out, err)
+    export_bytes(rt, call, dry1, dry2.as_slice(), limit, out, err)
 }
 
 // Reads the files of two dry runs, plans them, and writes the plan.
@@ -128,17 +188,18 @@ fn export_files<R: Files + AllocGlobal, S: Sources, W: Write, E: Write>(
     rt: &R,
     sources: &S,
     call: &ExportCall<'_>,
+    limit: usize,
     out: &mut W,
     err: &mut E,
 ) -> Result<(), Stop>
-    ensures { spec.ExportsFiles (S.holds sources.now) (forms.export_of call.now) result (W.contents out.old) (W.contents out.new) }
+    ensures { spec.ExportsFiles (S.holds sources.now) limit (forms.export_of call.now) result (W.contents out.old) (W.contents out.new) }
 {
     let dry1 = read(rt.alloc(), sources, call.plan.dry1, err)?;
-    export_second(rt, sources, call, dry1.as_slice(), out, err)
+    export_second(rt, sources, call, dry1.as_slice(), limit, out, err)
 }
 
-// Plans two dry runs, and writes the plan as text.
-fn show_bytes<W: Write, E: Write>(
+// Plans two dry runs that don't exceed the limit, and writes the plan as text.
+fn show_fitting<W: Write, E: Write>(
     alloc: Global,
     call: &PlanCall<'_>,
     dry1: &[u8],
@@ -146,7 +207,8 @@ fn show_bytes<W: Write, E: Write>(
     out: &mut W,
     err: &mut E,
 ) -> Result<(), Stop>
-    ensures { spec.ShowsBytes (plan_of call.now) dry1.now dry2.now result (W.contents out.old) (W.contents out.new) }
+    ensures { Delivers result (shown_plan call.now.cwd.now call.now.tmp.now call.now.flag.now dry1.now dry2.now (map string_bytes call.now.suffixes.now))
+        (W.contents out.old) (W.contents out.new) }
 {
     let answer = write_plan(
         alloc,
@@ -161,19 +223,38 @@ fn show_bytes<W: Write, E: Write>(
     plan_told(alloc, &FirstDir, call, dry1, dry2, answer, err)
 }
 
+// Plans two dry runs within the limit, and writes the plan as text.
+fn show_bytes<W: Write, E: Write>(
+    alloc: Global,
+    call: &PlanCall<'_>,
+    dry1: &[u8],
+    dry2: &[u8],
+    limit: usize,
+    out: &mut W,
+    err: &mut E,
+) -> Result<(), Stop>
+    ensures { spec.ShowsBytes limit (plan_of call.now) dry1.now dry2.now result (W.contents out.old) (W.contents out.new) }
+{
+    match excess_told(alloc, call, dry1, dry2, limit, err)? {
+        None => show_fitting(alloc, call, dry1, dry2, out, err),
+        Some(excess) => stop_at(alloc, call, dry1, dry2, limit, excess, out, err),
+    }
+}
+
 // Reads the file of the second dry run, plans both, and writes the plan as text.
 fn show_second<S: Sources, W: Write, E: Write>(
     alloc: Global,
     sources: &S,
     call: &PlanCall<'_>,
     dry1: &[u8],
+    limit: usize,
     out: &mut W,
     err: &mut E,
 ) -> Result<(), Stop>
-    ensures { PlansSecond (S.holds sources.now) (plan_of call.now) dry1.now result (W.contents out.old) (W.contents out.new) }
+    ensures { spec.ShowsSecond (S.holds sources.now) limit (plan_of call.now) dry1.now result (W.contents out.old) (W.contents out.new) }
 {
     let dry2 = read(alloc, sources, call.dry2, err)?;
-    show_bytes(alloc, call, dry1, dry2.as_slice(), out, err)
+    show_bytes(alloc, call, dry1, dry2.as_slice(), limit, out, err)
 }
 
 // Reads the files of two dry runs, plans them, and writes the plan as text.
@@ -181,13 +262,14 @@ fn show_files<S: Sources, W: Write, E: Write>(
     alloc: Global,
     sources: &S,
     call: &PlanCall<'_>,
+    limit: usize,
     out: &mut W,
     err: &mut E,
 ) -> Result<(), Stop>
-    ensures { PlansFiles (S.holds sources.now) (plan_of call.now) result (W.contents out.old) (W.contents out.new) }
+    ensures { spec.ShowsFiles (S.holds sources.now) limit (plan_of call.now) result (W.contents out.old) (W.contents out.new) }
 {
     let dry1 = read(alloc, sources, call.dry1, err)?;
-    show_second(alloc, sources, call, dry1.as_slice(), out, err)
+    show_second(alloc, sources, call, dry1.as_slice(), limit, out, err)
 }
 
 // Writes a page.
@@ -217,17 +299,18 @@ fn show_directory<W: Write>(
 fn serve<R: Files + AllocGlobal, S: Sources, W: Write, E: Write>(
     rt: &R,
     sources: &S,
+    limit: usize,
     call: &Call<'_>,
     variables: &[(String, String)],
     out: &mut W,
     err: &mut E,
 ) -> Result<(), Stop>
-    ensures { spec.Serves (S.holds sources.now) (forms.seen call.now) (map pair_of variables.now) result (W.contents out.old) (W.contents out.new) }
+    ensures { spec.Serves (S.holds sources.now) limit (forms.seen call.now) (map pair_of variables.now) result (W.contents out.old) (W.contents out.new) }
 {
     let alloc = rt.alloc();
     match call {
-        Call::Export(export) => export_files(rt, sources, export, out, err),
-        Call::Plan(plan) => show_files(alloc, sources, plan, out, err),
+        Call::Export(export) => export_files(rt, sources, export, limit, out, err),
+        Call::Plan(plan) => show_files(alloc, sources, plan, limit, out, err),
         Call::Nvcc(line) => told(alloc, write_nvcc_text(alloc, line, variables, out), err),
         Call::Directory(call) => told(alloc, show_directory(alloc, call, variables, out), err),
         Call::Line(line) => told(
@@ -281,12 +364,12 @@ pub fn run_program<R: Files + AllocGlobal, S: Sources, W: Write, E: Write>(
     out: &mut W,
     err: &mut E,
 ) -> u8
-    ensures { spec.Ends (S.holds sources.now) result (forms.call_of (map string_bytes words.now)) (map pair_of variables.now) (W.contents out.old) (W.contents out.new) }
+    ensures { spec.Ends (S.holds sources.now) result (forms.limited_call_of (map string_bytes words.now)) (map pair_of variables.now) (W.contents out.old) (W.contents out.new) }
 {
-    let Some(call) = call_of(words) else {
+    let Some((limit, call)) = limited_call_of(words) else {
         let _ = err.write_all(USAGE.as_bytes());
         return 2;
     };
-    let answer = serve(rt, sources, &call, variables, out, err);
+    let answer = serve(rt, sources, limit, &call, variables, out, err);
     ended(&call, &answer)
 }
