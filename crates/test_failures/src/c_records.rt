@@ -27,11 +27,6 @@ const PROGRAM: FoundProgram<'static> = FoundProgram {
 const PROGRAM_TEXT: &str =
     "FoundProgram { program: InputText { bytes: [97] }, path: InputText { bytes: [98] }, found: InputText { bytes: [] }, is_found: 1, reserved: 0 }";
 
-// A text as a C program passes it.
-fn text(bytes: &[u8]) -> InputText<'_> {
-    InputText { bytes }
-}
-
 #[test]
 fn rows_of_c_programs_print_their_fields(rt: HostRuntime) {
     let alloc = rt.alloc();
@@ -40,55 +35,77 @@ fn rows_of_c_programs_print_their_fields(rt: HostRuntime) {
 }
 
 const LINE_CALL_TEXT: &str =
-    "LineCall { cwd: InputText { bytes: [97] }, words: [InputText { bytes: [98] }], variables: [], tool: 3, reserved: 0 }";
+    "LineCall { cwd: InputText { bytes: [97] }, words: [], variables: [], tool: 3, reserved: 0 }";
 
 const NVCC_LINE_CALL_TEXT: &str =
-    "NvccLineCall { cwd: InputText { bytes: [97] }, tmp: InputText { bytes: [98] }, nvcc: InputText { bytes: [] }, words: [InputText { bytes: [98] }], variables: [], reserved: 7 }";
+    "NvccLineCall { cwd: InputText { bytes: [97] }, tmp: InputText { bytes: [98] }, nvcc: InputText { bytes: [] }, words: [], variables: [], reserved: 7 }";
 
-#[test]
-fn lines_of_c_programs_print_their_fields(rt: HostRuntime) {
-    let (a, b, none) = (text(b"a"), text(b"b"), text(b""));
-    let (alloc, words) = (rt.alloc(), [b]);
-    let line = LineCall {
-        cwd: a,
-        words: &words,
+// A line without variables.
+fn line_call<'a>(cwd: InputText<'a>, words: &'a [InputText<'a>]) -> LineCall<'a> {
+    LineCall {
+        cwd,
+        words,
         variables: &[],
         tool: 3,
         reserved: 0,
-    };
-    assert!(rt; prints(alloc, &line, LINE_CALL_TEXT));
-    let nvcc = NvccLineCall {
-        cwd: a,
-        tmp: b,
-        nvcc: none,
-        words: &words,
+    }
+}
+
+// A line of nvcc without variables.
+fn nvcc_line_call<'a>(
+    cwd: InputText<'a>,
+    tmp: InputText<'a>,
+    nvcc: InputText<'a>,
+    words: &'a [InputText<'a>],
+) -> NvccLineCall<'a> {
+    NvccLineCall {
+        cwd,
+        tmp,
+        nvcc,
+        words,
         variables: &[],
         reserved: 7,
-    };
+    }
+}
+
+#[test]
+fn lines_of_c_programs_print_their_fields(rt: HostRuntime) {
+    let alloc = rt.alloc();
+    let line = line_call(A, &[]);
+    assert!(rt; prints(alloc, &line, LINE_CALL_TEXT));
+    let nvcc = nvcc_line_call(A, B, NONE, &[]);
     assert!(rt; prints(alloc, &nvcc, NVCC_LINE_CALL_TEXT));
 }
 
 const PLAN_CALL_TEXT: &str =
-    "PlanCall { dry1: InputText { bytes: [97] }, dry2: InputText { bytes: [98] }, cwd: InputText { bytes: [] }, tmp: InputText { bytes: [97] }, flag: InputText { bytes: [98] }, keep_dir: InputText { bytes: [] }, variables: [], suffixes: [InputText { bytes: [98] }], lookups: [], keeps: 1, host_compiler: 2, reserved: 0 }";
+    "PlanCall { dry1: InputText { bytes: [97] }, dry2: InputText { bytes: [98] }, cwd: InputText { bytes: [] }, tmp: InputText { bytes: [97] }, flag: InputText { bytes: [98] }, keep_dir: InputText { bytes: [] }, variables: [], suffixes: [], lookups: [], keeps: 1, host_compiler: 2, reserved: 0 }";
 
-#[test]
-fn plans_of_c_programs_print_their_fields(rt: HostRuntime) {
-    let (a, b, none) = (text(b"a"), text(b"b"), text(b""));
-    let (alloc, suffixes) = (rt.alloc(), [b]);
-    let call = PlanCall {
-        dry1: a,
-        dry2: b,
-        cwd: none,
-        tmp: a,
-        flag: b,
-        keep_dir: none,
+// A plan's call without lists.
+fn plan_call<'a>(
+    first: InputText<'a>,
+    second: InputText<'a>,
+    third: InputText<'a>,
+) -> PlanCall<'a> {
+    PlanCall {
+        dry1: first,
+        dry2: second,
+        cwd: third,
+        tmp: first,
+        flag: second,
+        keep_dir: third,
         variables: &[],
-        suffixes: &suffixes,
+        suffixes: &[],
         lookups: &[],
         keeps: 1,
         host_compiler: 2,
         reserved: 0,
-    };
+    }
+}
+
+#[test]
+fn plans_of_c_programs_print_their_fields(rt: HostRuntime) {
+    let alloc = rt.alloc();
+    let call = plan_call(A, B, NONE);
     assert!(rt; prints(alloc, &call, PLAN_CALL_TEXT));
 }
 
