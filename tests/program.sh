@@ -942,9 +942,12 @@ limits() {
     doubling 25 > "$scratch/doubling"
     cp "$scratch/doubling" "$scratch/doubling.2"
     for form in json plan; do
+        # in 300 MB
+        ulimit -S -v 307200
         check "$form: $(wc -c < "$scratch/doubling") bytes that explode" 1 '' \
-            "zigrunk: $scratch/doubling:27: with this line, the dry run makes over 67108864 bytes: --limit allows more"$'\n    #$ $A.\n' \
+            "zigrunk: $scratch/doubling:27: with this line, the dry run makes over 16777216 bytes: --limit allows more"$'\n    #$ $A.\n' \
             "$form" /w /t -c "$scratch/doubling" "$scratch/doubling.2"
+        ulimit -S -v unlimited
     done
     local usage
     usage=$("$program" 2>&1; printf .)
