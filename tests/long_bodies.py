@@ -14,7 +14,8 @@ tests to run at a time, by default the number of processors. It prints a line fo
 M not caught, K not judged'; the status is 1 if one isn't caught. A body is not judged if each case that reaches it takes longer than
 SECONDS. It isn't part of the gate: each of the four programs takes one to three minutes to build, and cases take up to minutes.
 
-It hasn't run to its end yet: all bodies compile, and few of them were judged.
+Unfinished: it hasn't run to its end yet. The bodies that `lines` and `plans` test have compiled, those that `programs` test were never
+built, and one body was judged: that of `take_keep` for many words, which is caught.
 """
 
 import concurrent.futures

@@ -11,6 +11,8 @@ mod exports;
 #[cfg(test)]
 mod inputs;
 #[cfg(test)]
+mod limits;
+#[cfg(test)]
 mod lookups;
 #[cfg(test)]
 mod one_kernel;
