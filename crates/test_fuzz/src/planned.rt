@@ -1,7 +1,6 @@
 //! Checks the plan of two dry runs.
 
 use crate::count::{Sum, run_of};
-use crate::exports::check_exports;
 use crate::pair::{Pair, Setting};
 use crate::renaming::{check_renaming, renamed};
 use crate::tally::Tally;
@@ -130,7 +129,6 @@ fn check_answers(
         (Ok(first), Ok(second), Ok(plan)) => {
             count_plan(plan, tally)?;
             check_commands(alloc, &pair.setting, (first, second), plan, tally)?;
-            check_exports(alloc, pair, plan, tally)?;
             check_renaming(alloc, pair, plan, tally)
         }
         _ => tally.expect(false, "a plan comes exactly if both dry runs can be read"),

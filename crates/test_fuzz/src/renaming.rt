@@ -1,7 +1,6 @@
 //! Plans of dry runs whose generated files have other names.
 
 use crate::count::mark_of;
-use crate::limit::read_small;
 use crate::pair::{Pair, Setting};
 use crate::tally::Tally;
 use cuda_plans::dry_run::{Commands, DryRun, Suffixes, is_clean, is_shadow, remap_commands};
@@ -147,7 +146,7 @@ fn is_read_as(
     commands: &Commands,
     env: &Variables,
 ) -> bool {
-    let read = read_small(alloc, setting, bytes, 1);
+    let read = setting.read(alloc, bytes, 1);
     let holds = match &read {
         Ok(read) => {
             read.commands == *commands && read.env == *env && is_clean(read, &setting.suffixes)
@@ -159,7 +158,7 @@ fn is_read_as(
 }
 
 // A dry run, read and written again, with other names or unchanged. `None` if the new run doesn't read as its source, or
-// isn't clean. That happens if words hold newlines or references to variables, which may also make the new run too large.
+// isn't clean. That happens if words hold newlines or references to variables.
 fn rewritten(
     alloc: Global,
     setting: &Setting,

@@ -6,9 +6,8 @@ use std::alloc::{AllocError, Global};
 use texts::fault::Fault;
 
 // The names of the counts, in the order in which they are printed.
-const NAMES: [&str; 51] = [
+const NAMES: [&str; 44] = [
     "pairs",
-    "pairs too large",
     "plans",
     "plans with device groups",
     "plans that drop commands",
@@ -25,16 +24,12 @@ const NAMES: [&str; 51] = [
     "pairs written anew",
     "pairs with other names",
     "pairs that can't be written so",
-    "scripts",
-    "Ninja files",
     "plans printed",
     "plans not printed",
     "selections",
     "selections refused",
     "lists of suffixes taken",
     "refused: bad suffixes",
-    "runs within a limit",
-    "runs over a limit",
     "device lines",
     "lines written back",
     "lines reread",
@@ -50,8 +45,6 @@ const NAMES: [&str; 51] = [
     "refused: threads without a value",
     "lines without keep words",
     "lines without thread words",
-    "nvcc lines split",
-    "nvcc lines that go to nvcc",
     "lists of words quoted",
     "texts split",
     "texts without words",
