@@ -1,6 +1,6 @@
 #!/usr/bin/env bash
 # Runs bin/zigrunk-batch with Ninja and with stand-ins for nvcc and zigrunk, by each of dash, bash and busybox sh that is installed.
-# Prints a line for each case that fails, and last 'N passed, M failed'; the status is 1 if one failed.
+# Prints a line for each case that fails, and last 'N passed, M failed'; the status is 1 if one failed. The shells run side by side.
 #
 #   tests/batch.sh [SCRIPT]    SCRIPT is bin/zigrunk-batch, unless given
 #
@@ -78,7 +78,7 @@ export PATH=$scratch/bin:$PATH
 # begin NAME: a case of its own folder, from which the script runs.
 begin() {
     name=$1
-    room=$scratch/room
+    room=$scratch/$one/room
     rm -rf "$room"
     mkdir -p "$room/work" "$room/tmp"
     cd "$room/work" || exit 1
@@ -131,9 +131,9 @@ end() {
     fi
 }
 
+# finish: notes the counts of this shell, and ends its process.
 finish() {
-    echo "$passed passed, $failed failed"
-    [ "$failed" -eq 0 ]
+    echo "$passed $failed" > "$scratch/$one/counts"
     exit
 }
 
@@ -382,7 +382,7 @@ places() {
     end
 }
 
-# stops SIGNAL STATUS PHASE: a signal to the script while it plans or builds.
+# stops SIGNAL STATUS PHASE COMMANDS: a signal to the script while it plans or builds, once so many commands run.
 stops() {
     begin "the signal $1 while it $3"
     write a.cu 'echo started >> started; sleep 30; echo a >> made'
@@ -392,22 +392,37 @@ stops() {
         mkdir "$room/bin"
         printf '%s\n' '#!/bin/sh' 'echo started >> "$STARTED"' 'sleep 30' > "$room/bin/nvcc"
         chmod +x "$room/bin/nvcc"
-        rm whole.cu && cp a.cu b.cu && printf '%s\n' '-c a.cu -o a.o' > list
+        rm whole.cu && printf '%s\n' '-c a.cu -o a.o' > list
     fi
+    : > started
     env --default-signal=HUP,INT,TERM LOG="$room/log" TMPDIR="$room/tmp" STARTED="$room/work/started" PATH="$room/bin:$PATH" "${shell[@]}" "$script" list > "$room/out" 2>&1 &
     local process=$! begun
-    for _ in $(seq 200); do
-        [ "$(wc -l 2> /dev/null < started)" != 2 ] || break
-        sleep 0.05
-    done
+    within 20 all_run "$4" || problems+="  $(wc -l < started) commands start, not $4"$'\n'
     begun=$EPOCHREALTIME
     kill -s "$1" "$process"
     { wait "$process"; } 2> /dev/null
     same status "$?" "$2"
     [ $((${EPOCHREALTIME/./} - ${begun/./})) -lt 10000000 ] || problems+='  it takes ten seconds'$'\n'
-    same processes "$(pgrep -f "$room")" ''
+    within 10 none_run || problems+="  processes: $(pgrep -af "$room")"$'\n'
     [ ! -e made ] || problems+='  a command goes on'$'\n'
     end
+}
+
+# within SECONDS COMMAND..: waits until the command succeeds, and fails if it takes longer.
+within() {
+    local last=$((SECONDS + $1))
+    until "${@:2}"; do
+        [ "$SECONDS" -le "$last" ] || return
+        sleep 0.02
+    done
+}
+
+all_run() {
+    [ "$(wc -l < started)" -ge "$1" ]
+}
+
+none_run() {
+    ! pgrep -f "$room" > /dev/null
 }
 
 cases() {
@@ -415,17 +430,26 @@ cases() {
     failures
     databases
     places
-    stops TERM 143 builds
-    stops INT 130 builds
-    stops HUP 129 builds
-    stops TERM 143 plans
+    stops TERM 143 builds 2
+    stops INT 130 builds 2
+    stops HUP 129 builds 2
+    stops TERM 143 plans 3
 }
 
 read -ra shells <<< "${SHELLS-dash bash busybox}"
+tried=()
 for one in "${shells[@]}"; do
     command -v "$one" > /dev/null || continue
     shell=("$one")
     [ "$one" != busybox ] || shell=(busybox sh)
-    cases
+    mkdir "$scratch/$one"
+    tried+=("$one")
+    (cases; finish) &
 done
-finish
+wait
+for one in "${tried[@]}"; do
+    read -r good bad 2> /dev/null < "$scratch/$one/counts" || good=0 bad=1
+    passed=$((passed + good)) failed=$((failed + bad))
+done
+echo "$passed passed, $failed failed"
+[ "$failed" -eq 0 ]

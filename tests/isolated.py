@@ -8,7 +8,8 @@ commands work in the call's own folders.
 
 Where a record isn't complete, the command gets exactly what it is known to lack:
 
-- A preprocess step also reads headers. It gets the header beside its source; those of system and toolkit are there anyway.
+- A preprocess step also reads headers. It gets those beside its source, one of which takes the place of the toolkit's
+  cuda_runtime.h; those of system and toolkit are there anyway.
 - The last host compiler reads what its generated source includes. It gets the stub that cudafe++ names and the fatbin as C.
 
 With --leave-out, each command also runs without one of its files, once for each file. Then it has to fail or make something else:
@@ -42,6 +43,7 @@ SOURCES = {
     "k.cu": '#include "k.h"\n__device__ int table[SIZE];\n__global__ void add(int* values) { values[0] += table[0]; }\n'
     "void run(int* values) { add<<<1, 1>>>(values); }\n",
     "k.h": "#define SIZE 6\n",
+    "cuda_runtime.h": open(f"{TOP}/tests/small/cuda_runtime.h", encoding="utf-8").read(),
 }
 SYSTEM = ("bin", "etc", "lib", "lib32", "lib64", "libx32", "sbin", "usr")
 # The words: the new root, the folder to work in, the folders to mount, an empty word, the command.

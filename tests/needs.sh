@@ -12,6 +12,7 @@ for tool in nvcc "${ZIGRUNK_NINJA:-ninja}"; do
     fi
 done
 wrapper=$PWD/bin/zigrunk-nvcc
+headers=$PWD/tests/small
 ZIGRUNK_PROGRAM=$(realpath "${1:-${ZIGRUNK_PROGRAM:-crates/zigrunk/out/zigrunk}}")
 export ZIGRUNK_PROGRAM ZIGRUNK_EXPLAIN=1 ZIGRUNK_JOBS=8
 scratch=$(mktemp -d)
@@ -31,13 +32,13 @@ judge() {
 
 cd "$scratch" || exit 1
 mkdir tmp
+cp "$headers/cuda_runtime.h" .
 export TMPDIR=$scratch/tmp
 cat > k.cu << 'END_OF_SOURCE'
-#include <cstdio>
 template <int N> __global__ void scale(float* values) { values[threadIdx.x] *= N; }
-__global__ void say(const char* text) { printf("%s %d\n", text, threadIdx.x); }
 __device__ int table[64];
-void run(float* values) { scale<2><<<1, 32>>>(values); scale<3><<<1, 32>>>(values); say<<<1, 1>>>("text"); }
+__global__ void fill(int value) { table[threadIdx.x] = value; }
+void run(float* values) { scale<2><<<1, 32>>>(values); scale<3><<<1, 32>>>(values); fill<<<1, 64>>>(4); }
 END_OF_SOURCE
 targets=()
 for number in 75 80 86 89 90 100; do

@@ -1,6 +1,6 @@
 #!/usr/bin/env bash
 # Runs bin/zigrunk-nvcc with stand-ins for nvcc, zigrunk and Ninja, by each of dash, bash and busybox sh that is installed.
-# Prints a line for each case that fails, and last 'N passed, M failed'; the status is 1 if one failed.
+# Prints a line for each case that fails, and last 'N passed, M failed'; the status is 1 if one failed. The shells run side by side.
 #
 #   tests/script.sh [SCRIPT]    SCRIPT is bin/zigrunk-nvcc, unless given
 #
@@ -84,7 +84,6 @@ export PATH=$scratch/bin:$PATH
 # begin NAME: a case of its own folder, from which the script runs.
 begin() {
     name=$1
-    room=$scratch/room
     rm -rf "$room"
     mkdir -p "$room/work" "$room/tmp"
     cd "$room/work" || exit 1
@@ -143,9 +142,9 @@ end() {
     fi
 }
 
+# finish: notes the counts of this shell, and ends its process.
 finish() {
-    echo "$passed passed, $failed failed"
-    [ "$failed" -eq 0 ]
+    echo "$passed $failed" > "$scratch/$choice/counts"
     exit
 }
 
@@ -508,7 +507,7 @@ END
 
     for signal in HUP:129 INT:130 TERM:143; do
         begin "the signal ${signal%:*}"
-        start NINJA_DOES='sleep 9 & trap "kill $!; sleep 0.3; echo stopped > $LOG.stopped; exit 2" TERM; : > "$LOG.runs"; wait' -c k.cu -o k.o
+        start NINJA_DOES='sleep 20 & trap "kill $!; sleep 0.3; echo stopped > $LOG.stopped; exit 2" TERM; echo > "$LOG.runs"; wait' -c k.cu -o k.o
         until_there "$room/log.runs"
         kill -s "${signal%:*}" "$process"
         sleep 0.1
@@ -520,7 +519,7 @@ END
     done
 
     begin "a signal while the line's own dry run runs"
-    start LINE_DOES='echo $$ > "$LOG.runs"; exec sleep 9' -c k.cu -o k.o
+    start LINE_DOES='echo $$ > "$LOG.runs"; exec sleep 20' -c k.cu -o k.o
     until_there "$room/log.runs"
     kill "$process"
     ended 143
@@ -528,7 +527,7 @@ END
     leaves_nothing
     end
     begin 'a signal while nvcc itself runs'
-    start REASON=why NVCC_DOES='echo $$ > "$LOG.runs"; exec sleep 9' -c k.cu -o k.o
+    start REASON=why NVCC_DOES='echo $$ > "$LOG.runs"; exec sleep 20' -c k.cu -o k.o
     until_there "$room/log.runs"
     same process "$(cat "$room/log.runs")" "$process"
     kill "$process"
@@ -551,35 +550,45 @@ start() {
     rm -f "$room/log"
     env --default-signal=HUP,INT,TERM LOG="$room/log" TMPDIR="$room/tmp" "${settings[@]}" "${shell[@]}" "$script" "$@" > "$room/out" 2> "$room/err" &
     process=$!
+}
+
+# until_there FILE: waits until there is a file that holds something, at most twenty seconds.
+until_there() {
+    local last=$((SECONDS + 20))
+    until [ -s "$1" ]; do
+        [ "$SECONDS" -le "$last" ] || { problems+="  no file $1"$'\n' && return; }
+        sleep 0.02
+    done
     began=$SECONDS
 }
 
-# until_there FILE: waits until there is a file, at most five seconds.
-until_there() {
-    for _ in $(seq 100); do
-        [ ! -s "$1" ] && [ ! -e "$1" ] || return 0
-        sleep 0.05
-    done
-    problems+="  no file $1"$'\n'
-}
-
-# ended STATUS: a problem, unless the script ends within two seconds, and with this status.
+# ended STATUS: a problem, unless the script ends within eight seconds after the file was there, and with this status. What it has to
+# stop takes twenty.
 ended() {
     { wait "$process"; } 2> /dev/null
     same status "$?" "$1"
     [ $((SECONDS - began)) -le 8 ] || problems+='  it ends late'$'\n'
 }
 
-room=$scratch/room
+tried=()
 for choice in ${SHELLS-dash bash busybox}; do
     case $choice in
     busybox) shell=(busybox sh) ;;
     *) shell=("$choice") ;;
     esac
     if command -v "${shell[0]}" > /dev/null; then
-        cases
+        tried+=("$choice")
+        room=$scratch/$choice/room
+        mkdir "$scratch/$choice"
+        (cases; finish) &
     else
         echo "${shell[*]}: skipped, it is not on the path"
     fi
 done
-finish
+wait
+for choice in "${tried[@]}"; do
+    read -r good bad 2> /dev/null < "$scratch/$choice/counts" || good=0 bad=1
+    passed=$((passed + good)) failed=$((failed + bad))
+done
+echo "$passed passed, $failed failed"
+[ "$failed" -eq 0 ]
