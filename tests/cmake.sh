@@ -13,6 +13,7 @@ for tool in cmake nvcc "${ZIGRUNK_NINJA:-ninja}" make objcopy; do
     fi
 done
 wrapper=$PWD/bin/zigrunk-nvcc
+headers=$PWD/tests/small
 ZIGRUNK_PROGRAM=$(realpath "${1:-${ZIGRUNK_PROGRAM:-crates/zigrunk/out/zigrunk}}")
 export ZIGRUNK_PROGRAM
 scratch=$(mktemp -d)
@@ -28,9 +29,10 @@ exec "$@"
 END
 chmod +x "$scratch/launchers/log"
 
-# make_sources FOLDER: the project.
+# make_sources FOLDER: the project. A small cuda_runtime.h takes the toolkit's place where its sources are compiled.
 make_sources() {
-    mkdir -p "$1"
+    mkdir -p "$1/build"
+    cp "$headers/cuda_runtime.h" "$1/build"
     cat > "$1/CMakeLists.txt" << 'END'
 cmake_minimum_required(VERSION 3.18)
 project(Example LANGUAGES CXX CUDA)

@@ -1,6 +1,7 @@
 #!/usr/bin/env bash
 # Tests that the edges of a Ninja file are enough: zigrunk-nvcc builds a fatbin for six targets twenty times with eight commands at once,
-# and each product has to be nvcc's. The last line is 'N passed, M failed'; the status is 1 if one failed.
+# and each product has to be nvcc's. A call has 19 commands. Each build but the first holds another one back for a second, in which all
+# run that Ninja doesn't hold back for it. The last line is 'N passed, M failed'; the status is 1 if one failed.
 #
 #   tests/needs.sh [PROGRAM]    PROGRAM is the zigrunk that `make build` leaves, unless given
 cd "$(dirname "$0")/.." || exit 1
@@ -45,11 +46,29 @@ for number in 75 80 86 89 90 100; do
     targets+=(-gencode "arch=compute_$number,code=sm_$number")
 done
 
+# The runner. A command's key is a checksum of its words. In a build that holds nothing back it writes down the keys.
+cat > runner << 'END_OF_RUNNER'
+#!/bin/sh
+key=$(printf '%s ' "$@" | cksum)
+[ -n "$HELD" ] || echo "$key" >> "$KEYS"
+[ "$key" != "$HELD" ] || { echo held > "$KEYS.held" && sleep 1; }
+exec "$@"
+END_OF_RUNNER
+chmod +x runner
+export ZIGRUNK_RUNNER=$scratch/runner KEYS=$scratch/keys
+
 nvcc -fatbin "${targets[@]}" k.cu -o wanted.fatbin || exit 1
 for run in {1..20}; do
-    rm -f k.fatbin
+    rm -f k.fatbin keys.held
+    HELD=$(sed -n "$((run - 1))p" keys 2> /dev/null)
+    export HELD
     problem=$("$wrapper" -fatbin "${targets[@]}" k.cu -o k.fatbin 2>&1) || problem+=" status $?"
     cmp -s k.fatbin wanted.fatbin || problem+=' the fatbin differs from that of nvcc'
+    if [ "$run" = 1 ]; then
+        [ "$(sort -u keys | wc -l)" = 19 ] || problem+=" $(sort -u keys | wc -l) commands, not 19"
+    else
+        [ -e keys.held ] || problem+=' no command is held back'
+    fi
     judge "a fatbin for six targets, build $run" "$problem"
 done
 

@@ -15,6 +15,7 @@ cudaError_t __cudaLaunchKernel(cudaKernel_t, dim3, dim3, void**, size_t, cudaStr
 double sqrt(double) noexcept, fabs(double) noexcept, exp2(double) noexcept, log2(double) noexcept, sin(double) noexcept;
 double cos(double) noexcept, floor(double) noexcept, round(double) noexcept, exp(double) noexcept, log(double) noexcept;
 double log1p(double) noexcept, erfc(double) noexcept, copysign(double, double) noexcept;
+void exit(int) noexcept;
 int __isnan(double) noexcept, __isinf(double) noexcept, __signbit(double) noexcept;
 void* memcpy(void*, const void*, size_t) noexcept;
 }
