@@ -1,22 +1,20 @@
 -- Cutting a text at a mark, and what environment lines and references come to.
-use Rattle.std.proofs.Common.{◌≡◌, ℕ, zero, suc, ◌+◌, ◌-◌, ◌<◌, Bool, true, false, cond, eqb, eqb-true, not, ◌&&◌, ◌||◌, List, [], ◌∷◌, ◌++◌, Option, Some, None, Bor, refl, ap, sym, ◌∙◌, subst, map, length, take, drop, get_or, append-nil, arith}
+use Rattle.std.proofs.Common.{◌≡◌, ℕ, suc, ◌+◌, ◌-◌, ◌<◌, Bool, true, false, cond, eqb, eqb-true, not, ◌&&◌, ◌||◌, List, [], ◌∷◌, ◌++◌, Option, Some, None, Bor, refl, ap, sym, ◌∙◌, subst, length, take, drop, get_or, append-nil, arith}
 use Rattle.std.specs.List.{position_or_len, prefix_len, list_all, before_first, after_first}
 use Rattle.std.specs.Option.{is_some}
 use Rattle.std.specs.Cmp.Lexicographic.{pointwise}
 use Rattle.std.proofs.lemmas.Bool.{false≢true, and_parts}
-use Rattle.std.proofs.lemmas.Bool.Decides.{Decides-eqb}
 use Rattle.std.proofs.lemmas.List.Sums.{split_at_first, passes_at_first}
 use Rattle.std.proofs.lemmas.List.Folds.{length-prefix_len}
 use Rattle.std.proofs.lemmas.Str.Pattern.{IsSplitOnceResult, split_once_first}
 use Rattle.std.proofs.Math.Seq.{take-length, take-append_seam, drop-append_seam}
-use Rattle.memchr.specs.Find.{IsFirstByte, is_byte}
 use Rattle.texts.specs.Path.{lacks}
-use Rattle.texts.proofs.PathLemmas.{lacks-places}
 use Rattle.texts.specs.Lists.{rest_after}
 use Rattle.dry_runs.specs.Environment.{Variable, is_name_byte, assigned, assignment, is_followed, refers, expanded}
 use Rattle.dry_runs.specs.Replacing.{replaced_past, replaced}
-use Rattle.dry_runs.specs.Reading.{IsCutAt, is_name, begins_name, text_of, behind_dollars}
-use Rattle.dry_runs.specs.Reading.{refers as refers_by}
+use Rattle.dry_runs.specs.Reading.{IsCutAt, is_name, begins_name}
+use Rattle.dry_runs.specs.FirstReferred.{behind_dollars}
+use Rattle.dry_runs.specs.FirstReferred.{refers as refers_by}
 
 one-more : (n : ℕ) → 1 + n ≡ suc n
 one-more n = omega arith
@@ -148,11 +146,6 @@ behind-nothing text h = ap behind_dollars (sym (append-nil text)) ∙ behind-pas
 pub behind-cut : (text front after : List ℕ) → text ≡ front ++ 36 ∷ after → lacks 36 front ≡ true → behind_dollars text ≡ after ∷ behind_dollars after
 behind-cut text front after is h = ap behind_dollars is ∙ behind-past front (36 ∷ after) h
 
--- one more text that is lent
-pub text_of-pushed : (found : List (Bor (List ℕ))) (one : Bor (List ℕ)) (rest : List (List ℕ)) → map text_of (found ++ one ∷ []) ++ rest ≡ map text_of found ++ one.now ∷ rest
-text_of-pushed [] one rest = refl
-text_of-pushed (x ∷ found) one rest = ap (λ t. x.now ∷ t) (text_of-pushed found one rest)
-
 -- a text refers to a variable where what follows one of its `$` says so
 pub refers-behind : (name text : List ℕ) → refers (36 ∷ name) text ≡ refers_by name (behind_dollars text)
 refers-behind name [] = refl
@@ -162,28 +155,12 @@ refers-behind name (c ∷ cs) =
     (elim (eqb c 36) as (λ b. (is_followed (cond b (rest_after name cs) None) || refers (36 ∷ name) cs) ≡ refers_by name (cond b (cs ∷ behind_dollars cs) (behind_dollars cs)))
     [ true ↦ ap (λ r. is_followed (rest_after name cs) || r) (refers-behind name cs) | false ↦ refers-behind name cs ])
 
-pub refers-seen : (name seen text : List ℕ) (places slice : List (Bor (List ℕ))) (told : Bool) → seen ≡ name → slice ≡ places → map text_of places ≡ behind_dollars text → refers_by seen (map text_of slice) ≡ told → refers_by name (behind_dollars text) ≡ told
-refers-seen name seen text places slice told same all are h = ap (λ n. refers_by n (behind_dollars text)) (sym same) ∙ ap (refers_by seen) (sym (ap (map text_of) all ∙ are)) ∙ h
-
 -- one more variable, by what follows each `$` of the text
 pub expanded-unreferred : (env : List Variable) (name value text : List ℕ) → refers_by name (behind_dollars text) ≡ false → expanded ((name, value) ∷ env) text ≡ expanded env text
 expanded-unreferred env name value text h = rw (refers-behind name text ∙ h) refl
 
 pub expanded-referred : (env : List Variable) (name value text : List ℕ) → refers_by name (behind_dollars text) ≡ true → expanded ((name, value) ∷ env) text ≡ expanded env (replaced (36 ∷ name) value text)
 expanded-referred env name value text h = rw (refers-behind name text ∙ h) refl
-
--- a search finds a `$` where a text doesn't lack it
-lacks-at : (byte : ℕ) (text : List ℕ) (k : ℕ) → k < length text → eqb (get_or text k 0) byte ≡ true → lacks byte text ≡ false
-lacks-at byte [] k less e = absurd (omega (arith, less))
-lacks-at byte (c ∷ cs) zero less e = rw e refl
-lacks-at byte (c ∷ cs) (suc k) less e = rw (lacks-at byte cs k (omega (arith, less)) e) (and-false (not (eqb c byte))) where
-  and-false : (b : Bool) → (b && false) ≡ false
-  and-false true = refl
-  and-false false = refl
-
-pub dollar-found : (text : List ℕ) (r : Option ℕ) → IsFirstByte (is_byte 36) text r → is_some r ≡ not (lacks 36 text)
-dollar-found text None h = sym (ap not (lacks-places 36 text (λ i less e. h i (omega arith) less ((Decides-eqb (get_or text i 0) 36).1 e))))
-dollar-found text (Some k) h = sym (ap not (lacks-at 36 text k h.0.high h.1))
 
 pub replaced-past : (name value front rest : List ℕ) → lacks 36 front ≡ true → replaced (36 ∷ name) value (front ++ rest) ≡ front ++ replaced (36 ∷ name) value rest
 replaced-past name value [] rest h = refl

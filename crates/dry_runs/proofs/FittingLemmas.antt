@@ -1,17 +1,14 @@
 -- What expanding within a limit makes, and when a text is too long.
-use Rattle.std.proofs.Common.{◌≡◌, ℕ, ◌+◌, Bool, true, false, cond, List, [], ◌∷◌, ◌++◌, Option, Some, None, String, Bor, MatchOption, refl, ap, sym, ◌∙◌, subst, fold, map, length, nat_le, codes, arith}
-use Rattle.std.specs.declared.alloc.Global.{Global}
-use Rattle.std.specs.Option.{option_map, is_some}
-use Rattle.std.proofs.lemmas.Bool.{false≢true}
+use Rattle.std.proofs.Common.{◌≡◌, ℕ, ◌+◌, true, false, cond, List, [], ◌∷◌, ◌++◌, Option, Some, None, Bor, MatchOption, refl, ap, sym, ◌∙◌, subst, fold, length, drop, nat_le, arith}
+use Rattle.std.specs.Option.{option_map}
 use Rattle.std.proofs.lemmas.List.{length-append}
 use Rattle.texts.specs.Path.{lacks}
 use Rattle.shell_words.specs.Shell.Splitting.{shell_words}
-use Rattle.texts.specs.Variables.{pair_of}
-use Rattle.dry_runs.specs.declared.environment.Reference.{Reference}
+use Rattle.dry_runs.specs.declared.set_variables.Reference.{Reference}
 use Rattle.dry_runs.specs.Environment.{Variable, refers, expanded}
 use Rattle.dry_runs.specs.Replacing.{replaced}
-use Rattle.dry_runs.specs.Reading.{behind_dollars}
-use Rattle.dry_runs.specs.Reading.{refers as refers_by}
+use Rattle.dry_runs.specs.FirstReferred.{behind_dollars}
+use Rattle.dry_runs.specs.FirstReferred.{refers as refers_by}
 use Rattle.dry_runs.specs.Limit.{fitting, expanded_fitting, expanded_within}
 use Rattle.dry_runs.proofs.ExpansionLemmas.{refers-nothing, refers-behind}
 
@@ -26,11 +23,6 @@ fitting-referred left env name value text h = rw (refers-behind name text ∙ h)
 pub fitting-nothing : (left : ℕ) (env : List Variable) (text : List ℕ) → lacks 36 text ≡ true → fold (expanded_fitting left) (Some text) env ≡ Some text
 fitting-nothing left [] text h = refl
 fitting-nothing left (v ∷ env) text h = rw (refers-nothing v.0 text h) (fitting-nothing left env text h)
-
--- where no variable is left, a text stays
-pub fitting-no_more : (left : ℕ) (text : List ℕ) (rest : List (String Global × String Global)) → length rest ≡ 0 → fold (expanded_fitting left) (Some text) (map pair_of rest) ≡ Some text
-fitting-no_more left text [] h = refl
-fitting-no_more left text (v ∷ rest) h = absurd (omega (arith, h))
 
 -- nothing stays nothing
 pub fitting-none : (left : ℕ) (env : List Variable) → fold (expanded_fitting left) None env ≡ None
@@ -87,21 +79,21 @@ pub words-from : (left : ℕ) (env : List Variable) (text : List ℕ) (within : 
 words-from left env text within h is = sym (ap (option_map shell_words) (ap (λ o. fold (expanded_fitting left) o env) (fits left text h) ∙ is))
 
 -- what a reference says, by whether there is one
-module _ (left : ℕ) (env : List Variable) (text : List ℕ) where
+module _ (left : ℕ) (env : List Variable) (from : ℕ) (text : List ℕ) where
   abbrev FirstIs : Option Reference → Type 0
   FirstIs o = MatchOption o
-      ((left : ℕ) → fold (expanded_fitting left) (Some text) env ≡ Some text)
-      (λ r. (left : ℕ) → fold (expanded_fitting left) (Some text) env ≡ fold (expanded_fitting left) (fitting left (replaced (36 ∷ r.name.now) r.value.now text)) (map pair_of r.behind.now))
+      ((left : ℕ) → fold (expanded_fitting left) (Some text) (drop from env) ≡ Some text)
+      (λ r. (left : ℕ) → fold (expanded_fitting left) (Some text) (drop from env) ≡ fold (expanded_fitting left) (fitting left (replaced (36 ∷ r.name.now) r.value.now text)) (drop r.next env))
 
-  pub first-none : (o : Option Reference) → o ≡ None → FirstIs o → fold (expanded_fitting left) (Some text) env ≡ Some text
+  pub first-none : (o : Option Reference) → o ≡ None → FirstIs o → fold (expanded_fitting left) (Some text) (drop from env) ≡ Some text
   first-none None is h = h left
   first-none (Some r) is h = cc
 
-  pub first-some : (o : Option Reference) (r : Reference) → o ≡ Some r → FirstIs o → fold (expanded_fitting left) (Some text) env ≡ fold (expanded_fitting left) (fitting left (replaced (36 ∷ r.name.now) r.value.now text)) (map pair_of r.behind.now)
+  pub first-some : (o : Option Reference) (r : Reference) → o ≡ Some r → FirstIs o → fold (expanded_fitting left) (Some text) (drop from env) ≡ fold (expanded_fitting left) (fitting left (replaced (36 ∷ r.name.now) r.value.now text)) (drop r.next env)
   first-some None r is h = cc
   first-some (Some q) r is h =
       let same : q ≡ r = cc in
-      subst (λ (x : Reference). fold (expanded_fitting left) (Some text) env ≡ fold (expanded_fitting left) (fitting left (replaced (36 ∷ x.name.now) x.value.now text)) (map pair_of x.behind.now)) same (h left)
+      subst (λ (x : Reference). fold (expanded_fitting left) (Some text) (drop from env) ≡ fold (expanded_fitting left) (fitting left (replaced (36 ∷ x.name.now) x.value.now text)) (drop x.next env)) same (h left)
 
 -- what writing a reference says, by whether it fits
 module _ (left : ℕ) (out name value after new : List ℕ) where

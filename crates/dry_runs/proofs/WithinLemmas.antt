@@ -13,6 +13,7 @@ use Rattle.texts.specs.declared.fault.Fault.TheVariants.{Memory}
 use Rattle.texts.specs.Fault.{UnlessMemory, UnlessMemoryIs}
 use Rattle.shell_words.specs.Shell.Splitting.{shell_words}
 use Rattle.dry_runs.specs.declared.commands.DryRun.{DryRun}
+use Rattle.dry_runs.specs.declared.reader.Said.{Said}
 use Rattle.dry_runs.specs.declared.limit.LimitedFault.{LimitedFault}
 use Rattle.dry_runs.specs.declared.limit.LimitedFault.TheVariants.{TooLong}
 use Rattle.dry_runs.specs.declared.limit.LimitedFault.TheVariants as limited
@@ -21,9 +22,9 @@ use Rattle.dry_runs.specs.declared.statement.Statement.TheVariants.{NotUtf8}
 use Rattle.dry_runs.specs.CommandLines.{CommandLine}
 use Rattle.dry_runs.specs.DryRun.{LookUp, Meaning, Ignored, Assigns, Runs, Bad, meaning, meanings, meaning_found, meaning_by_path, environment_after, fault_of, run_of_meanings, dry_run_of}
 use Rattle.dry_runs.specs.DryRunLines.{marked_text, numbered_lines}
-use Rattle.dry_runs.specs.Environment.{Variable, assignment, expanded}
+use Rattle.dry_runs.specs.Environment.{Variable, expanded}
 use Rattle.dry_runs.specs.Limit.{UnlessMemoryWithin, expanded_within, fits_assigned, fits_marked, text_fits, stated_within, held_by, left_behind, left_behind_line, too_long_from, first_too_long, answer_within, dry_run_within, without_limit}
-use Rattle.dry_runs.specs.Reading.{dry_run_seen, dry_run_seen_within, meaning_stated, found_or_fault, said_left, said_next, next_within, next_held, with_variable, with_command}
+use Rattle.dry_runs.specs.Reading.{dry_run_seen_within, meaning_stated, found_or_fault, said_left, said_next, next_within, next_held}
 use Rattle.dry_runs.specs.Statement.{stated, stated_marked, stated_assigned, stated_by_words}
 use Rattle.dry_runs.proofs.FittingLemmas.{within-expanded}
 use Rattle.dry_runs.proofs.ReadingLemmas.{environment-next, said_with, not_found-next, line-refused}
@@ -69,11 +70,11 @@ stated-none false t h = refl
 
 -- A line that is read with a look-up and a working directory.
 module _ (which : LookUp) (run : ℕ) (cwd : List ℕ) where
-  pub line-too_long : (left number : ℕ) (env : List Variable) (line : List ℕ) (said : Result DryRun Fault) → None ≡ stated_within left env line → next_within run number (left_behind_line which run cwd left env (number, line)) said ≡ Err (TooLong run number)
+  pub line-too_long : (left number : ℕ) (env : List Variable) (line : List ℕ) (said : Result Said Fault) → None ≡ stated_within left env line → next_within run number (left_behind_line which run cwd left env (number, line)) said ≡ Err (TooLong run number)
   line-too_long left number env line said h =
       ap (λ b. next_within run number (cond {A = Option ℕ} b (left_behind left (held_by (meaning which run cwd env (number, line)))) None) said) (stated-none (text_fits left env line) (stated env line) h)
 
-  pub line-fits : (left number : ℕ) (s : DryRun) (line : List ℕ) (statement : Statement) → Some statement ≡ stated_within left s.env line → next_held run number left s (meaning_stated which run cwd number s.env statement) ≡ next_within run number (left_behind_line which run cwd left s.env (number, line)) (said_next s (meaning which run cwd s.env (number, line)))
+  pub line-fits : (left number : ℕ) (s : Said) (line : List ℕ) (statement : Statement) → Some statement ≡ stated_within left s.env line → next_held run number left s (meaning_stated which run cwd number s.env statement) ≡ next_within run number (left_behind_line which run cwd left s.env (number, line)) (said_next s (meaning which run cwd s.env (number, line)))
   line-fits left number s line statement h =
       let m = meaning which run cwd s.env (number, line) in
       ap (λ t. next_held run number left s (meaning_stated which run cwd number s.env t)) (stated-some (text_fits left s.env line) statement (stated s.env line) h)
@@ -81,14 +82,14 @@ module _ (which : LookUp) (run : ℕ) (cwd : List ℕ) where
       ∙ sym (ap (λ b. next_within run number (cond {A = Option ℕ} b (left_behind left (held_by m)) None) (said_next s m)) (stated-fits (text_fits left s.env line) statement (stated s.env line) h))
 
 -- what a step within a limit says of the step without one
-next-ok : (run number : ℕ) (room : Option ℕ) (said : Result DryRun Fault) (t : DryRun) (less : ℕ) → next_within run number room said ≡ Ok (t, less) → (room ≡ Some less) × (said ≡ Ok t)
+next-ok : (run number : ℕ) (room : Option ℕ) (said : Result Said Fault) (t : Said) (less : ℕ) → next_within run number room said ≡ Ok (t, less) → (room ≡ Some less) × (said ≡ Ok t)
 next-ok run number None said t less h = cc
 next-ok run number (Some left) (Ok s) t less h =
     let same : (s, left) ≡ (t, less) = cc in
-    (ap (λ (x : DryRun × ℕ). Some x.1) same, ap (λ (x : DryRun × ℕ). Ok x.0) same)
+    (ap (λ (x : Said × ℕ). Some x.1) same, ap (λ (x : Said × ℕ). Ok x.0) same)
 next-ok run number (Some left) (Err fault) t less h = cc
 
-next-fault : (run number : ℕ) (room : Option ℕ) (said : Result DryRun Fault) (fault : Fault) → next_within run number room said ≡ Err (limited.Fault fault) → (is_some room ≡ true) × (said ≡ Err fault)
+next-fault : (run number : ℕ) (room : Option ℕ) (said : Result Said Fault) (fault : Fault) → next_within run number room said ≡ Err (limited.Fault fault) → (is_some room ≡ true) × (said ≡ Err fault)
 next-fault run number None said fault h = cc
 next-fault run number (Some left) (Ok s) fault h = cc
 next-fault run number (Some left) (Err f) fault h =
@@ -96,18 +97,18 @@ next-fault run number (Some left) (Err f) fault h =
     let faults : f ≡ fault = cc in
     (refl, ap Err faults)
 
-next-long : (run number : ℕ) (room : Option ℕ) (said : Result DryRun Fault) (r n : ℕ) → next_within run number room said ≡ Err (TooLong r n) → (room ≡ None) × (TooLong run number ≡ TooLong r n)
+next-long : (run number : ℕ) (room : Option ℕ) (said : Result Said Fault) (r n : ℕ) → next_within run number room said ≡ Err (TooLong r n) → (room ≡ None) × (TooLong run number ≡ TooLong r n)
 next-long run number None said r n h = let same : TooLong run number ≡ TooLong r n = cc in (refl, same)
 next-long run number (Some left) (Ok s) r n h = cc
 next-long run number (Some left) (Err f) r n h = cc
 
-fault-none : (s t : DryRun) (m : Meaning) → said_next s m ≡ Ok t → fault_of m ≡ None
+fault-none : (s t : Said) (m : Meaning) → said_next s m ≡ Ok t → fault_of m ≡ None
 fault-none s t Ignored e = refl
 fault-none s t (Assigns v) e = refl
 fault-none s t (Runs command) e = refl
 fault-none s t (Bad fault) e = cc
 
-fault-some : (s : DryRun) (m : Meaning) (fault : Fault) → said_next s m ≡ Err fault → fault_of m ≡ Some fault
+fault-some : (s : Said) (m : Meaning) (fault : Fault) → said_next s m ≡ Err fault → fault_of m ≡ Some fault
 fault-some s Ignored fault e = cc
 fault-some s (Assigns v) fault e = cc
 fault-some s (Runs command) fault e = cc
@@ -123,20 +124,20 @@ from-none number (Some fault) rest = refl
 
 -- one line, and the lines behind it
 module _ (which : LookUp) (run : ℕ) (cwd : List ℕ) where
-  abbrev room_at : ℕ → DryRun → ℕ → List ℕ → Option ℕ
+  abbrev room_at : ℕ → Said → ℕ → List ℕ → Option ℕ
   room_at left s number line = left_behind_line which run cwd left s.env (number, line)
 
-  abbrev said_at : DryRun → ℕ → List ℕ → Result DryRun Fault
+  abbrev said_at : Said → ℕ → List ℕ → Result Said Fault
   said_at s number line = said_next s (meaning which run cwd s.env (number, line))
 
-  abbrev rest_at : DryRun → ℕ → List ℕ → List ℕ → ℕ → Option ℕ
+  abbrev rest_at : Said → ℕ → List ℕ → List ℕ → ℕ → Option ℕ
   rest_at s number line behind less = first_too_long which run cwd less (environment_after which run cwd s.env (meaning which run cwd s.env (number, line))) (enumerate_from (number + 1) (lines behind))
 
-  first-cut : (s : DryRun) (left number : ℕ) (line rest behind : List ℕ) → lines rest ≡ line ∷ lines behind →
+  first-cut : (s : Said) (left number : ℕ) (line rest behind : List ℕ) → lines rest ≡ line ∷ lines behind →
       first_too_long which run cwd left s.env (enumerate_from number (lines rest)) ≡ too_long_from number (fault_of (meaning which run cwd s.env (number, line))) (room_at left s number line) (rest_at s number line behind)
   first-cut s left number line rest behind cut = ap (λ ls. first_too_long which run cwd left s.env (enumerate_from number ls)) cut
 
-  pub within-next : (s t : DryRun) (left less number : ℕ) (line rest behind : List ℕ) → lines rest ≡ line ∷ lines behind → next_within run number (room_at left s number line) (said_at s number line) ≡ Ok (t, less) →
+  pub within-next : (s t : Said) (left less number : ℕ) (line rest behind : List ℕ) → lines rest ≡ line ∷ lines behind → next_within run number (room_at left s number line) (said_at s number line) ≡ Ok (t, less) →
       (said_at s number line ≡ Ok t) × (first_too_long which run cwd less t.env (enumerate_from (number + 1) (lines behind)) ≡ first_too_long which run cwd left s.env (enumerate_from number (lines rest)))
   within-next s t left less number line rest behind cut e =
       let m = meaning which run cwd s.env (number, line) in
@@ -148,7 +149,7 @@ module _ (which : LookUp) (run : ℕ) (cwd : List ℕ) where
             ∙ ap (λ env. first_too_long which run cwd less env (enumerate_from (number + 1) (lines behind))) (environment-next which run cwd s t m parts.1)),
       )
 
-  pub within-fault : (s : DryRun) (left number : ℕ) (line rest behind : List ℕ) (fault : Fault) → lines rest ≡ line ∷ lines behind → next_within run number (room_at left s number line) (said_at s number line) ≡ Err (limited.Fault fault) →
+  pub within-fault : (s : Said) (left number : ℕ) (line rest behind : List ℕ) (fault : Fault) → lines rest ≡ line ∷ lines behind → next_within run number (room_at left s number line) (said_at s number line) ≡ Err (limited.Fault fault) →
       (said_at s number line ≡ Err fault) × (first_too_long which run cwd left s.env (enumerate_from number (lines rest)) ≡ None)
   within-fault s left number line rest behind fault cut e =
       let m = meaning which run cwd s.env (number, line) in
@@ -159,7 +160,7 @@ module _ (which : LookUp) (run : ℕ) (cwd : List ℕ) where
             ∙ from-fault number fault (room_at left s number line) (rest_at s number line behind) parts.0,
       )
 
-  pub within-long : (s : DryRun) (left number : ℕ) (line rest behind : List ℕ) (r n : ℕ) → lines rest ≡ line ∷ lines behind → next_within run number (room_at left s number line) (said_at s number line) ≡ Err (TooLong r n) →
+  pub within-long : (s : Said) (left number : ℕ) (line rest behind : List ℕ) (r n : ℕ) → lines rest ≡ line ∷ lines behind → next_within run number (room_at left s number line) (said_at s number line) ≡ Err (TooLong r n) →
       (TooLong run number ≡ TooLong r n) × (first_too_long which run cwd left s.env (enumerate_from number (lines rest)) ≡ Some number)
   within-long s left number line rest behind r n cut e =
       let m = meaning which run cwd s.env (number, line) in
@@ -180,32 +181,32 @@ refused-within (limited.Fault fault) part whole h e = is-refused fault (h (limit
 refused-within (TooLong run line) part whole h e = h (TooLong run line) e
 
 -- a fault that is passed on
-pub passed-left : (r : Result ℕ LimitedFault) (s : DryRun) (fault : LimitedFault) (whole : Result (DryRun × ℕ) LimitedFault) → IsErrAnd r (λ f. f ≡ fault) → UnlessMemoryWithin {T = DryRun × ℕ} (Err fault) whole → UnlessMemoryWithin (said_left r s) whole
+pub passed-left : (r : Result ℕ LimitedFault) (s : Said) (fault : LimitedFault) (whole : Result (Said × ℕ) LimitedFault) → IsErrAnd r (λ f. f ≡ fault) → UnlessMemoryWithin {T = Said × ℕ} (Err fault) whole → UnlessMemoryWithin (said_left r s) whole
 passed-left (Ok x) s fault whole is told = absurd is
-passed-left (Err f) s fault whole is told = subst (λ (g : LimitedFault). UnlessMemoryWithin {T = DryRun × ℕ} (Err g) whole) (sym is) told
+passed-left (Err f) s fault whole is told = subst (λ (g : LimitedFault). UnlessMemoryWithin {T = Said × ℕ} (Err g) whole) (sym is) told
 
 pub passed-within : (r : Result DryRun LimitedFault) (fault : LimitedFault) (whole : Result (List CommandLine × List Variable) LimitedFault) → IsErrAnd r (λ f. f ≡ fault) → UnlessMemoryWithin {T = List CommandLine × List Variable} (Err fault) whole → UnlessMemoryWithin (dry_run_seen_within r) whole
 passed-within (Ok x) fault whole is told = absurd is
 passed-within (Err f) fault whole is told = subst (λ (g : LimitedFault). UnlessMemoryWithin {T = List CommandLine × List Variable} (Err g) whole) (sym is) told
 
 -- a program that isn't found
-limited-next : (run number : ℕ) (room : Option ℕ) (said : Result DryRun Fault) (fault : Fault) → is_some room ≡ true → said ≡ Err fault → next_within run number room said ≡ Err (limited.Fault fault)
+limited-next : (run number : ℕ) (room : Option ℕ) (said : Result Said Fault) (fault : Fault) → is_some room ≡ true → said ≡ Err fault → next_within run number room said ≡ Err (limited.Fault fault)
 limited-next run number None said fault h e = absurd (false≢true h)
 limited-next run number (Some left) said fault h e = ap (next_within run number (Some left)) e
 
 nothing-held : (left : ℕ) → nat_le 0 left ≡ true
 nothing-held left = grind arith
 
-not_found-held : (which : LookUp) (run : ℕ) (cwd : List ℕ) (s : DryRun) (left line : ℕ) (program : List ℕ) (words : List (List ℕ)) (found : Option (List ℕ)) (fault : Fault) → found_or_fault program found ≡ Err fault → next_held run line left s (meaning_found which run cwd line program words found) ≡ Err (limited.Fault fault)
+not_found-held : (which : LookUp) (run : ℕ) (cwd : List ℕ) (s : Said) (left line : ℕ) (program : List ℕ) (words : List (List ℕ)) (found : Option (List ℕ)) (fault : Fault) → found_or_fault program found ≡ Err fault → next_held run line left s (meaning_found which run cwd line program words found) ≡ Err (limited.Fault fault)
 not_found-held which run cwd s left line program words None fault h =
     ap (next_within run line (left_behind left 0)) (not_found-next which run cwd s line program words None fault h)
     ∙ ap (λ b. next_within run line (cond {A = Option ℕ} b (Some (left - 0)) None) (Err fault)) (nothing-held left)
 not_found-held which run cwd s left line program words (Some path) fault h = cc
 
-pub not_found-passed : (r : Result ℕ LimitedFault) (s : DryRun) (which : LookUp) (run : ℕ) (cwd : List ℕ) (left number : ℕ) (program path : List ℕ) (words : List (List ℕ)) (first : Option (List ℕ)) (fault : Fault) → Some path ≡ first → IsErrAnd r (λ f. f ≡ limited.Fault fault) → UnlessMemory {T = List ℕ} (Err fault) (found_or_fault program (which program path cwd)) → UnlessMemoryWithin (said_left r s) (next_held run number left s (meaning_by_path which run cwd number program words first))
+pub not_found-passed : (r : Result ℕ LimitedFault) (s : Said) (which : LookUp) (run : ℕ) (cwd : List ℕ) (left number : ℕ) (program path : List ℕ) (words : List (List ℕ)) (first : Option (List ℕ)) (fault : Fault) → Some path ≡ first → IsErrAnd r (λ f. f ≡ limited.Fault fault) → UnlessMemory {T = List ℕ} (Err fault) (found_or_fault program (which program path cwd)) → UnlessMemoryWithin (said_left r s) (next_held run number left s (meaning_by_path which run cwd number program words first))
 not_found-passed r s which run cwd left number program path words first fault is passed told =
     passed-left r s (limited.Fault fault) (next_held run number left s (meaning_by_path which run cwd number program words first)) passed
-    (subst (λ p. UnlessMemoryWithin {T = DryRun × ℕ} (Err (limited.Fault fault)) (next_held run number left s (meaning_by_path which run cwd number program words p))) is
+    (subst (λ p. UnlessMemoryWithin {T = Said × ℕ} (Err (limited.Fault fault)) (next_held run number left s (meaning_by_path which run cwd number program words p))) is
     (is-refused fault (λ e. not_found-held which run cwd s left number program words (which program path cwd) fault e) told))
 
 -- the whole run
@@ -222,7 +223,7 @@ pub whole-long : (which : LookUp) (run limit line : ℕ) (bytes cwd : List ℕ) 
 whole-long which run limit line bytes cwd over = whole-next which run limit bytes cwd (Some line) (dry_run_of run bytes cwd which) over refl
 
 -- a line at which the reading ends
-pub refusal : (which : LookUp) (run limit : ℕ) (bytes cwd : List ℕ) (s : DryRun) (left number : ℕ) (line rest behind : List ℕ) → lines rest ≡ line ∷ lines behind →
+pub refusal : (which : LookUp) (run limit : ℕ) (bytes cwd : List ℕ) (s : Said) (left number : ℕ) (line rest behind : List ℕ) → lines rest ≡ line ∷ lines behind →
     said_with s (run_of_meanings (meanings which run cwd s.env (enumerate_from number (lines rest)))) ≡ dry_run_of run bytes cwd which →
     first_too_long which run cwd left s.env (enumerate_from number (lines rest)) ≡ first_too_long which run cwd limit [] (numbered_lines bytes) →
     (f : LimitedFault) → next_within run number (left_behind_line which run cwd left s.env (number, line)) (said_next s (meaning which run cwd s.env (number, line))) ≡ Err f → dry_run_within limit run bytes cwd which ≡ Err f

@@ -5,9 +5,12 @@ pub mod DryRunLines
 pub mod DryRunExamples
 pub mod Environment
 pub mod FirstDir
+pub mod FirstReferred
 pub mod Limit
 pub mod LimitExamples
 pub mod OneKernel
+pub mod Places
+pub mod PlacesView
 pub mod PlainWords
 pub mod Reading
 pub mod Replacing

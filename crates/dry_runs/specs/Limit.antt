@@ -1,6 +1,5 @@
 -- Reading a dry run within a limit of bytes: what counts, and which line is the first that exceeds it.
-use Rattle.std.specs.Prelude.{◌≡◌, ℕ, ◌+◌, ◌-◌, List, [], ◌∷◌, ◌++◌, Bool, true, nat_le, length, fold, if◌then◌else◌, Option, Some, None, Result, Ok, Err, refl, codes}
-use Rattle.std.specs.Fmt.{decimal}
+use Rattle.std.specs.Prelude.{◌≡◌, ℕ, ◌+◌, ◌-◌, List, [], ◌∷◌, ◌++◌, Bool, true, nat_le, length, fold, if◌then◌else◌, Option, Some, None, Result, Ok, Err, codes}
 use Rattle.std.specs.Option.{is_some}
 use Rattle.std.specs.Str.{is_utf8}
 use Rattle.texts.specs.declared.fault.Fault.{Fault}

@@ -1,16 +1,16 @@
 -- What reading a dry run has gathered, and how one more line changes it.
-use Rattle.std.specs.Prelude.{◌≡◌, ℕ, List, [], ◌∷◌, ◌++◌, Bool, true, false, not, ◌==◌, ◌&&◌, length, if◌then◌else◌, Option, Some, None, Result, Ok, Err, String, string_bytes}
-use Rattle.std.specs.List.{list_all, list_any}
+use Rattle.std.specs.Prelude.{◌≡◌, ℕ, List, [], ◌∷◌, ◌++◌, Bool, true, false, not, ◌==◌, ◌&&◌, length, Option, Some, None, Result, Ok, Err, String, string_bytes}
+use Rattle.std.specs.List.{list_all}
 use Rattle.std.specs.Borrow.{Bor}
 use Rattle.std.specs.declared.alloc.Global.{Global}
 use Rattle.texts.specs.Path.{lacks}
-use Rattle.texts.specs.Lists.{rest_after}
 use Rattle.texts.specs.declared.fault.Fault.{Fault}
 use Rattle.texts.specs.declared.fault.Fault.TheVariants.{NotFound}
 use Rattle.texts.specs.declared.fault.Fault.TheVariants as faults
 use Rattle.dry_runs.specs.declared.commands.DryRun.{DryRun}
+use Rattle.dry_runs.specs.declared.reader.Said.{Said}
 use Rattle.dry_runs.specs.CommandLines.{CommandLine}
-use Rattle.dry_runs.specs.Environment.{Variable, is_name_byte, is_followed}
+use Rattle.dry_runs.specs.Environment.{Variable, is_name_byte}
 use Rattle.dry_runs.specs.declared.statement.Statement.{Statement}
 use Rattle.dry_runs.specs.declared.statement.Statement.TheVariants.{Nothing, Sets}
 use Rattle.dry_runs.specs.declared.statement.Statement.TheVariants as statements
@@ -41,15 +41,6 @@ is_name text = not (length text == 0) && list_all is_name_byte text
 abbrev pub begins_name : List ℕ → Bool
 begins_name [] = false
 begins_name (c ∷ _) = is_name_byte c
-
--- what follows each `$` of a text, in order
-abbrev pub behind_dollars : List ℕ → List (List ℕ)
-behind_dollars [] = []
-behind_dollars (c ∷ cs) = if c == 36 then cs ∷ behind_dollars cs else behind_dollars cs
-
--- whether a text refers to a variable, by what follows each `$` of the text
-abbrev pub refers : List ℕ → List (List ℕ) → Bool
-refers name behind = list_any (λ after. is_followed (rest_after name after)) behind
 
 -- what a dry run says, as texts
 abbrev pub run_seen : DryRun → List CommandLine × List Variable
@@ -84,35 +75,39 @@ meaning_stated which run cwd line env statements.BadShell = Bad (faults.BadShell
 meaning_stated which run cwd line env statements.NotUtf8 = Bad (faults.NotUtf8 run line)
 
 -- nothing so far
-abbrev pub nothing_said : DryRun
+abbrev pub nothing_said : Said
 nothing_said = record { commands = []; env = [] }
 
+-- the run that lines say, once all are read
+abbrev pub said_run : Said → DryRun
+said_run s = record { commands = s.commands; env = s.env }
+
 -- one more variable
-abbrev pub with_variable : DryRun → Variable → DryRun
+abbrev pub with_variable : Said → Variable → Said
 with_variable s v = record { commands = s.commands; env = s.env ++ v ∷ [] }
 
 -- one more command
-abbrev pub with_command : DryRun → CommandLine → DryRun
+abbrev pub with_command : Said → CommandLine → Said
 with_command s command = record { commands = s.commands ++ command ∷ []; env = s.env }
 
 -- one more line, by what it means
-abbrev pub said_next : DryRun → Meaning → Result DryRun Fault
+abbrev pub said_next : Said → Meaning → Result Said Fault
 said_next s Ignored = Ok s
 said_next s (Assigns v) = Ok (with_variable s v)
 said_next s (Runs command) = Ok (with_command s command)
 said_next s (Bad fault) = Err fault
 
 -- what is gathered behind a line and what is left of the limit, where the line was read
-abbrev pub said_left : Result ℕ LimitedFault → DryRun → Result (DryRun × ℕ) LimitedFault
+abbrev pub said_left : Result ℕ LimitedFault → Said → Result (Said × ℕ) LimitedFault
 said_left (Ok left) s = Ok (s, left)
 said_left (Err fault) s = Err fault
 
 -- the same, by what is left behind the line and by what is gathered without a limit
-abbrev pub next_within : ℕ → ℕ → Option ℕ → Result DryRun Fault → Result (DryRun × ℕ) LimitedFault
+abbrev pub next_within : ℕ → ℕ → Option ℕ → Result Said Fault → Result (Said × ℕ) LimitedFault
 next_within run number None said = Err (TooLong run number)
 next_within run number (Some left) (Ok s) = Ok (s, left)
 next_within run number (Some left) (Err fault) = Err (limited.Fault fault)
 
 -- one more line whose texts fit, by what it means and by what was left before it
-abbrev pub next_held : ℕ → ℕ → ℕ → DryRun → Meaning → Result (DryRun × ℕ) LimitedFault
+abbrev pub next_held : ℕ → ℕ → ℕ → Said → Meaning → Result (Said × ℕ) LimitedFault
 next_held run number left s m = next_within run number (left_behind left (held_by m)) (said_next s m)

@@ -1,6 +1,6 @@
 //! The environment lines of a dry run, and the expansion of references to what they set.
 
-ghost use Rattle.std.specs.Prelude.{◌≡◌, ◌++◌, ◌<◌, ◌≤◌, ℕ, Some, true, false, nat_le, not, length, map, fold, codes, IfOk, IfSome, MatchOption, string_bytes};
+ghost use Rattle.std.specs.Prelude.{◌≡◌, ◌++◌, ◌<◌, ◌≤◌, ℕ, Some, true, false, nat_le, not, length, map, fold, drop, codes, IfOk, IfSome, MatchOption, string_bytes};
 ghost use Rattle.std.specs.List.{list_all};
 ghost use Rattle.std.specs.Option.{option_copied, option_map};
 ghost use Rattle.std.specs.Str.{chars};
@@ -15,7 +15,7 @@ ghost use Rattle.dry_runs.specs.Reading as reading;
 ghost use Rattle.dry_runs.specs.Reading.{text_of, texts_of, IsCutAt};
 
 use crate::plain_words::words_of;
-use memchr::memchr;
+use crate::set_variables::{Reference, SetVariables};
 use std::alloc::{AllocError, Global};
 use unicode::perl::is_word_character;
 
@@ -29,7 +29,7 @@ pub fn parted(text: &str, mark: char) -> Option<(&str, &str)>
 }
 
 // Whether a byte may stand in the name of an environment line.
-fn is_name_byte(byte: u8) -> bool
+pub(crate) fn is_name_byte(byte: u8) -> bool
     ensures { result ≡ spec.is_name_byte byte }
 {
     byte == b'_' || byte.is_ascii_uppercase()
@@ -97,87 +97,13 @@ fn behind_name<'a>(text: &'a str, name: &str) -> Option<&'a str>
 }
 
 // Whether what follows a `$` is a name that ends there.
-fn is_reference(after: &str, name: &str) -> bool
+pub(crate) fn is_reference(after: &str, name: &str) -> bool
     ensures { result ≡ spec.is_followed (rest_after name.now after.now) }
 {
     match behind_name(after, name) {
         None => false,
         Some(behind) => begins_otherwise(behind),
     }
-}
-
-// Whether a text holds a `$`.
-fn holds_dollar(text: &str) -> bool
-    ensures { result ≡ not (lacks 36 text.now) }
-{
-    memchr(b'$', text.as_bytes()).is_some()
-}
-
-// What follows each `$` of a text, in order.
-fn behind_dollars<'a>(alloc: Global, text: &'a str) -> Result<Vec<&'a str>, AllocError>
-    ensures { IfOk result (λ found. map text_of found.items ≡ reading.behind_dollars text.now) }
-{
-    let mut found = Vec::new(alloc);
-    let mut rest = text;
-    while let Some((_, after)) = parted(rest, '$') {
-        found.push(after)?;
-        rest = after;
-    }
-    Ok(found)
-}
-
-// Whether a text refers to a variable, by what follows each `$` of the text: somewhere it is the variable's name right
-// before a character that isn't a word character.
-fn refers(behind_dollars: &[&str], name: &str) -> bool
-    ensures { result ≡ reading.refers name.now (map text_of behind_dollars.now) }
-{
-    for after in behind_dollars {
-        let after: &str = after;
-        if is_reference(after, name) {
-            return true;
-        }
-    }
-    false
-}
-
-// A variable that a text refers to, and the variables behind it in its environment.
-#[derive(Clone, Copy)]
-struct Reference<'a> {
-    name: &'a str,
-    value: &'a str,
-    behind: &'a [(String, String)],
-}
-
-// The first variable of an environment that a text refers to.
-fn first_reference<'a>(
-    alloc: Global,
-    env: &'a [(String, String)],
-    text: &str,
-) -> Result<Option<Reference<'a>>, AllocError>
-    ensures found { IfOk result (λ found. MatchOption found
-        ((left : ℕ) → fold (limit.expanded_fitting left) (Some text.now) (map pair_of env.now) ≡ Some text.now)
-        (λ r. (left : ℕ) → fold (limit.expanded_fitting left) (Some text.now) (map pair_of env.now)
-        ≡ fold (limit.expanded_fitting left) (limit.fitting left (replacing.replaced (codes "$" ++ r.name.now) r.value.now text.now)) (map pair_of r.behind.now))) }
-    ensures less { IfOk result (λ found. IfSome found (λ r. length r.behind.now < length env.now)) }
-{
-    if !holds_dollar(text) {
-        return Ok(None);
-    }
-    let behind_dollars = behind_dollars(alloc, text)?;
-    let mut rest = env;
-    while let Some((variable, behind)) = rest.split_first() {
-        let name = variable.0.as_str();
-        if refers(behind_dollars.as_slice(), name) {
-            let value = variable.1.as_str();
-            return Ok(Some(Reference {
-                name,
-                value,
-                behind,
-            }));
-        }
-        rest = behind;
-    }
-    Ok(None)
 }
 
 // Appends a text, unless that makes one longer than `left`. Answers whether it did.
@@ -264,23 +190,24 @@ fn replaced(
 // these texts is longer than `left`.
 fn expanded(
     alloc: Global,
+    env: &SetVariables,
     text: &str,
     first: Reference,
     left: usize,
 ) -> Result<Option<String>, AllocError>
     ensures { IfOk result (λ t. option_map string_bytes t
-        ≡ fold (limit.expanded_fitting left) (limit.fitting left (replacing.replaced (codes "$" ++ first.entry.name.now) first.entry.value.now text.now)) (map pair_of first.entry.behind.now)) }
+        ≡ fold (limit.expanded_fitting left) (limit.fitting left (replacing.replaced (codes "$" ++ first.entry.name.now) first.entry.value.now text.now)) (drop first.entry.next env.now)) }
 {
     let Some(mut expanded) = replaced(alloc, text, first.name, first.value, left)? else {
         return Ok(None);
     };
-    let mut rest = first.behind;
-    while let Some(next) = first_reference(alloc, rest, expanded.as_str())? {
+    let mut from = first.next;
+    while let Some(next) = env.first_reference(from, expanded.as_str()) {
         let Some(more) = replaced(alloc, expanded.as_str(), next.name, next.value, left)? else {
             return Ok(None);
         };
         expanded = more;
-        rest = next.behind;
+        from = next.next;
     }
     Ok(Some(expanded))
 }
@@ -296,14 +223,15 @@ fn words_alone(alloc: Global, text: &str) -> Result<Option<Option<Vec<String>>>,
 // result doesn't split, and an outer one if one of these texts is longer than `left`.
 fn words_of_expanded(
     alloc: Global,
+    env: &SetVariables,
     text: &str,
     first: Reference,
     left: usize,
 ) -> Result<Option<Option<Vec<String>>>, AllocError>
     ensures { IfOk result (λ found. option_map (option_map (λ v. map string_bytes v.items)) found
-        ≡ option_map shell_words (fold (limit.expanded_fitting left) (limit.fitting left (replacing.replaced (codes "$" ++ first.entry.name.now) first.entry.value.now text.now)) (map pair_of first.entry.behind.now))) }
+        ≡ option_map shell_words (fold (limit.expanded_fitting left) (limit.fitting left (replacing.replaced (codes "$" ++ first.entry.name.now) first.entry.value.now text.now)) (drop first.entry.next env.now))) }
 {
-    match expanded(alloc, text, first, left)? {
+    match expanded(alloc, env, text, first, left)? {
         None => Ok(None),
         Some(expanded) => words_alone(alloc, expanded.as_str()),
     }
@@ -314,19 +242,19 @@ fn words_of_expanded(
 // refers to no variable isn't copied.
 pub fn expanded_words_within(
     alloc: Global,
-    env: &[(String, String)],
+    env: &SetVariables,
     text: &str,
     left: usize,
 ) -> Result<Option<Option<Vec<String>>>, AllocError>
     ensures { IfOk result (λ found. option_map (option_map (λ v. map string_bytes v.items)) found
-        ≡ option_map shell_words (limit.expanded_within left (map pair_of env.now) text.now)) }
+        ≡ option_map shell_words (limit.expanded_within left env.now text.now)) }
 {
     if text.len() > left {
         return Ok(None);
     }
-    match first_reference(alloc, env, text)? {
+    match env.first_reference(0, text) {
         None => words_alone(alloc, text),
-        Some(first) => words_of_expanded(alloc, text, first, left),
+        Some(first) => words_of_expanded(alloc, env, text, first, left),
     }
 }
 
@@ -334,11 +262,11 @@ pub fn expanded_words_within(
 /// split. A text that refers to no variable isn't copied.
 pub fn expanded_words(
     alloc: Global,
-    env: &[(String, String)],
+    env: &SetVariables,
     text: &str,
 ) -> Result<Option<Vec<String>>, AllocError>
     ensures { IfOk result (λ found.
-        option_map (λ v. map string_bytes v.items) found ≡ shell_words (spec.expanded (map pair_of env.now) text.now)) }
+        option_map (λ v. map string_bytes v.items) found ≡ shell_words (spec.expanded env.now text.now)) }
 {
     match expanded_words_within(alloc, env, text, usize::MAX)? {
         None => Err(AllocError),

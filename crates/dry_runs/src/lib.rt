@@ -6,8 +6,10 @@ mod environment;
 pub mod laws;
 mod limit;
 mod lines;
+mod places;
 mod plain_words;
 mod reader;
+mod set_variables;
 mod statement;
 mod which;
 
@@ -16,6 +18,7 @@ pub use environment::{assignment, expanded_words};
 pub use limit::LimitedFault;
 pub use lines::{first_line, marked};
 pub use reader::{read_dry_run, read_dry_run_within};
+pub use set_variables::SetVariables;
 pub use statement::{Statement, statement_of, statement_within};
 pub use texts::text::is_bare;
 pub use which::{FirstDir, Which};

@@ -9,12 +9,13 @@ ghost use Rattle.dry_runs.specs.Reading.{dry_run_seen, dry_run_seen_within};
 use crate::commands::{Commands, DryRun};
 use crate::limit::{LimitedFault, left_behind_command, left_behind_variable};
 use crate::lines::first_line;
+use crate::set_variables::SetVariables;
 use crate::statement::{Statement, statement_within};
 use crate::which::Which;
 use std::alloc::{AllocError, Global};
 use texts::fault::Fault;
 use texts::text::Text;
-use texts::variables::{Variables, first_value};
+use texts::variables::first_value;
 
 /// Reads what `nvcc --dryrun` printed: its commands, each with its line, its program's path and its words,
 /// and what its environment lines set.
@@ -82,7 +83,7 @@ pub fn read_dry_run_within<W: Which>(
         cwd,
         which,
     };
-    let mut said = DryRun::new(alloc);
+    let mut said = Said::new(alloc);
     let mut left = limit;
     let mut number = 0;
     let mut rest = dry_run;
@@ -91,7 +92,7 @@ pub fn read_dry_run_within<W: Which>(
         number += 1;
         rest = behind;
     }
-    Ok(said)
+    Ok(said.into_dry_run())
 }
 
 // What the lines of a dry run are read with.
@@ -125,19 +126,34 @@ impl<'a, W: Which> Setting<'a, W> {
 }
 
 // What the lines so far say.
-impl DryRun {
+#[derive(Drop)]
+struct Said {
+    commands: Commands,
+    env: SetVariables,
+}
+
+impl Said {
     ghost use Rattle.std.specs.Prelude.{◌≡◌, ◌∷◌, [], map, List, ℕ, OnOk, string_bytes};
     ghost use Rattle.texts.specs.Variables as variables;
     ghost use Rattle.dry_runs.specs.DryRun.{meaning, meaning_of_words, meaning_by_path, Assigns, Runs};
     ghost use Rattle.dry_runs.specs.Limit.{UnlessMemoryWithin, left_behind_line};
-    ghost use Rattle.dry_runs.specs.Reading.{nothing_said, with_variable, said_left, said_next, next_within, next_held, meaning_stated};
+    ghost use Rattle.dry_runs.specs.Reading.{nothing_said, said_run, with_variable, said_left, said_next, next_within, next_held, meaning_stated};
 
-    fn new(alloc: Global) -> DryRun
+    fn new(alloc: Global) -> Said
         ensures { result ≡ nothing_said }
     {
-        DryRun {
+        Said {
             commands: Commands::new(alloc),
-            env: Variables::new(alloc),
+            env: SetVariables::new(alloc),
+        }
+    }
+
+    fn into_dry_run(self) -> DryRun
+        ensures { result ≡ said_run self }
+    {
+        DryRun {
+            commands: self.commands,
+            env: self.env.into_variables(),
         }
     }
 
@@ -176,7 +192,7 @@ impl DryRun {
         let run = setting.run;
         match statement {
             Statement::Nothing => Ok(left),
-            Statement::Sets(name, value) => self.set(run, left, number, name, value),
+            Statement::Sets(name, value) => self.set(setting, left, number, name, value),
             Statement::Runs(words) => self.run(setting, left, number, words.into_vec()),
             Statement::BadShell => Err(LimitedFault::Fault(Fault::BadShell { run, line: number })),
             Statement::NotUtf8 => Err(LimitedFault::Fault(Fault::NotUtf8 { run, line: number })),
@@ -184,28 +200,30 @@ impl DryRun {
     }
 
     // Takes a variable, if it fits.
-    fn set(
+    fn set<W: Which>(
         &mut self,
-        run: usize,
+        setting: &Setting<W>,
         left: usize,
         number: usize,
         name: Text,
         value: Text,
     ) -> Result<usize, LimitedFault>
-        ensures { UnlessMemoryWithin (said_left result self.new) (next_held run number left self.old (Assigns (name, value))) }
+        ensures { UnlessMemoryWithin (said_left result self.new) (next_held setting.now.run number left self.old (Assigns (name, value))) }
     {
         let Some(left) = left_behind_variable(left, name.as_str(), value.as_str()) else {
+            let run = setting.run;
             return Err(LimitedFault::TooLong { run, line: number });
         };
-        self.assign(name, value)?;
+        self.assign(setting.alloc, name, value)?;
         Ok(left)
     }
 
     // Puts a variable last.
-    fn assign(&mut self, name: Text, value: Text) -> Result<(), AllocError>
+    fn assign(&mut self, alloc: Global, name: Text, value: Text) -> Result<(), AllocError>
         ensures { OnOk result (self.new ≡ with_variable self.old (name, value)) }
     {
-        self.env.push(name.into_string(), value.into_string())
+        self.env
+            .push(alloc, name.into_string(), value.into_string())
     }
 
     // Puts the command of these words last.

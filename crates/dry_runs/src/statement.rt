@@ -9,9 +9,9 @@ ghost use Rattle.dry_runs.specs.Statement as spec;
 
 use crate::environment::{assignment, expanded_words_within};
 use crate::lines::marked;
+use crate::set_variables::SetVariables;
 use std::alloc::{AllocError, Global};
 use texts::text::Text;
-use texts::variables::Variables;
 use texts::words::Words;
 
 /// What a line of a dry run says by itself, before its program is looked up.
@@ -32,13 +32,13 @@ pub enum Statement {
 // What a command says, by the text behind its mark, or `None` if its expansion makes a text longer than `left`.
 fn command(
     alloc: Global,
-    env: &Variables,
+    env: &SetVariables,
     text: &str,
     left: usize,
 ) -> Result<Option<Statement>, AllocError>
     ensures { IfOk result (λ s. s ≡ option_map spec.stated_by_words (option_map shell_words (limit.expanded_within left env.now text.now))) }
 {
-    match expanded_words_within(alloc, env.as_slice(), text, left)? {
+    match expanded_words_within(alloc, env, text, left)? {
         None => Ok(None),
         Some(None) => Ok(Some(Statement::BadShell)),
         Some(Some(words)) => Ok(Some(Statement::Runs(Words::from_vec(words)))),
@@ -48,7 +48,7 @@ fn command(
 // What a marked line says, by the text behind its mark, or `None` as for a command.
 fn marked_line(
     alloc: Global,
-    env: &Variables,
+    env: &SetVariables,
     text: &str,
     left: usize,
 ) -> Result<Option<Statement>, AllocError>
@@ -66,7 +66,7 @@ fn marked_line(
 // What a line says that is text, or `None` as for a command.
 fn text_line(
     alloc: Global,
-    env: &Variables,
+    env: &SetVariables,
     line: &str,
     left: usize,
 ) -> Result<Option<Statement>, AllocError>
@@ -82,7 +82,7 @@ fn text_line(
 /// its text, or one of the texts that expanding one variable after the other makes, is longer than `left` bytes.
 pub fn statement_within(
     alloc: Global,
-    env: &Variables,
+    env: &SetVariables,
     line: &[u8],
     left: usize,
 ) -> Result<Option<Statement>, AllocError>
@@ -97,7 +97,7 @@ pub fn statement_within(
 /// What `line` says behind the environment lines that set `env`: `read_dry_run` says by which rules.
 ///
 /// The line is one that `first_line` cuts off, without its newline.
-pub fn statement_of(alloc: Global, env: &Variables, line: &[u8]) -> Result<Statement, AllocError>
+pub fn statement_of(alloc: Global, env: &SetVariables, line: &[u8]) -> Result<Statement, AllocError>
     ensures { IfOk result (λ s. s ≡ spec.stated env.now line.now) }
 {
     match statement_within(alloc, env, line, usize::MAX)? {

@@ -7,10 +7,10 @@ ghost use Rattle.program_lookups.specs.Asked as spec;
 ghost use Rattle.program_lookups.specs.Asked.{asked_of, asked_of_both};
 
 use crate::lookup::{Lookup, add};
-use dry_runs::{Statement, first_line, statement_of};
+use dry_runs::{SetVariables, Statement, first_line, statement_of};
 use std::alloc::{AllocError, Global};
 use texts::text::Text;
-use texts::variables::{Variables, first_value};
+use texts::variables::first_value;
 
 // What reading does at a line, whatever a look-up answers.
 #[derive(Drop)]
@@ -28,7 +28,7 @@ enum Asking {
 // What a command asks for, by its words.
 fn asking_of_words(
     alloc: Global,
-    env: &Variables,
+    env: &SetVariables,
     folder: &str,
     words: &[String],
 ) -> Result<Asking, AllocError>
@@ -46,7 +46,7 @@ fn asking_of_words(
 // What a line asks for, by what it says.
 fn asking_stated(
     alloc: Global,
-    env: &Variables,
+    env: &SetVariables,
     folder: &str,
     statement: Statement,
 ) -> Result<Asking, AllocError>
@@ -63,7 +63,7 @@ fn asking_stated(
 // What a line asks for behind the environment lines `env`.
 fn asking_of(
     alloc: Global,
-    env: &Variables,
+    env: &SetVariables,
     folder: &str,
     line: &[u8],
 ) -> Result<Asking, AllocError>
@@ -77,7 +77,7 @@ fn asking_of(
 fn add_asked(
     alloc: Global,
     lookups: &mut Vec<Lookup>,
-    env: &mut Variables,
+    env: &mut SetVariables,
     dry_run: &[u8],
     folder: &str,
 ) -> Result<(), AllocError>
@@ -87,7 +87,7 @@ fn add_asked(
     while let Some((line, behind)) = first_line(rest) {
         match asking_of(alloc, env, folder, line)? {
             Asking::Nothing => {}
-            Asking::Sets(name, value) => env.push(name.into_string(), value.into_string())?,
+            Asking::Sets(name, value) => env.push(alloc, name.into_string(), value.into_string())?,
             Asking::Asks(lookup) => add(lookups, lookup)?,
             Asking::Ends => return Ok(()),
         }
@@ -106,7 +106,7 @@ fn asked_behind(
     ensures { IfOk result (λ lookups. lookups.items ≡ spec.asked_behind known.items dry_run.now folder.now) }
 {
     let mut lookups = known;
-    let mut env = Variables::new(alloc);
+    let mut env = SetVariables::new(alloc);
     add_asked(alloc, &mut lookups, &mut env, dry_run, folder)?;
     Ok(lookups)
 }

@@ -8,11 +8,11 @@ ghost use Rattle.texts.specs.Variables.{first_value as first_value_of};
 ghost use Rattle.programs.specs.Calls.{plan_of};
 ghost use Rattle.zigrunk.specs.Places as spec;
 
-use dry_runs::{Statement, Which, first_line, statement_of};
+use dry_runs::{SetVariables, Statement, Which, first_line, statement_of};
 use programs::PlanCall;
 use std::alloc::{AllocError, Global};
 use texts::text::Text;
-use texts::variables::{Variables, first_value};
+use texts::variables::first_value;
 
 /// A bad line of a file.
 #[derive(Drop)]
@@ -59,7 +59,7 @@ fn step_of_words<L: Which>(
     alloc: Global,
     which: &L,
     cwd: &str,
-    env: &Variables,
+    env: &SetVariables,
     words: &[String],
 ) -> Result<Step, AllocError>
     ensures { IfOk result (λ step. step ≡ spec.step_of_words (L.answer which.now) cwd.now env.now (map string_bytes words.now)) }
@@ -78,7 +78,7 @@ fn step_stated<L: Which>(
     alloc: Global,
     which: &L,
     cwd: &str,
-    env: &Variables,
+    env: &SetVariables,
     statement: Statement,
 ) -> Result<Step, AllocError>
     ensures { IfOk result (λ step. step ≡ spec.step_stated (L.answer which.now) cwd.now env.now statement) }
@@ -96,7 +96,7 @@ fn step_of<L: Which>(
     alloc: Global,
     which: &L,
     cwd: &str,
-    env: &Variables,
+    env: &SetVariables,
     line: &[u8],
 ) -> Result<Step, AllocError>
     ensures { IfOk result (λ step. step ≡ spec.step_stated (L.answer which.now) cwd.now env.now (stated env.now line.now)) }
@@ -106,7 +106,7 @@ fn step_of<L: Which>(
 }
 
 // The value of `PATH`, or nothing.
-fn path_in(alloc: Global, env: &Variables) -> Result<Text, AllocError>
+fn path_in(alloc: Global, env: &SetVariables) -> Result<Text, AllocError>
     ensures { IfOk result (λ path. path ≡ spec.path_in env.now) }
 {
     match first_value(env.as_slice(), "PATH") {
@@ -125,13 +125,13 @@ fn place_in<'a, L: Which>(
 ) -> Result<Option<Place<'a>>, AllocError>
     ensures { IfOk result (λ place. option_map spec.place_seen place ≡ spec.place_in (L.answer which.now) cwd.now file.now [] 0 (lines dry_run.now)) }
 {
-    let mut env = Variables::new(alloc);
+    let mut env = SetVariables::new(alloc);
     let mut number = 0;
     let mut rest = dry_run;
     while let Some((line, behind)) = first_line(rest) {
         match step_of(alloc, which, cwd, &env, line)? {
             Step::On => {}
-            Step::Sets(name, value) => env.push(name.into_string(), value.into_string())?,
+            Step::Sets(name, value) => env.push(alloc, name.into_string(), value.into_string())?,
             Step::Bad => {
                 let path = path_in(alloc, &env)?;
                 return Ok(Some(Place {

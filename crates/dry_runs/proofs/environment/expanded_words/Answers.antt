@@ -1,14 +1,13 @@
 use Rattle.std.proofs.Common.{◌∙◌, ℕ, Vec, String, ap, sym, refl, map, string_bytes}
 use Rattle.std.specs.Option.{option_map}
 use Rattle.std.specs.declared.alloc.Global.{Global}
-use Rattle.texts.specs.Variables.{pair_of}
 use Rattle.dry_runs.specs.Limit.{expanded_within}
 use Rattle.dry_runs.proofs.FittingLemmas.{within-words}
 use Rattle.dry_runs.proofs.environment.expanded_words.Goals as goal
 
 pub returns-in-Some : goal.returns-in-Some
 returns-in-Some c =
-    let env = map pair_of c.args.env.now in
+    let env = c.args.env.now in
     let text = c.args.text.now in
     let limit : ℕ = 18446744073709551615 in
     within-words limit env text (option_map (λ (v : Vec (String Global) Global). map string_bytes v.items) c.in-Some.words) (expanded_within limit env text) refl

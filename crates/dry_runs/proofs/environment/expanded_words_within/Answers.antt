@@ -1,27 +1,25 @@
-use Rattle.std.proofs.Common.{◌≡◌, IfOk, map, subst, string_bytes, nat_le, length, true, false, arith}
+use Rattle.std.proofs.Common.{◌≡◌, IfOk, map, subst, string_bytes, nat_le, length, true, arith}
 use Rattle.std.specs.Option.{option_map}
-use Rattle.texts.specs.Variables.{pair_of}
-use Rattle.shell_words.specs.Shell.Splitting.{shell_words}
 use Rattle.dry_runs.proofs.FittingLemmas.{words-too_long, words-from, first-none, first-some}
 use Rattle.dry_runs.proofs.environment.expanded_words_within.Goals as goal
 
 pub returns-then-text-left : goal.returns-then-text-left
-returns-then-text-left c = words-too_long c.args.left (map pair_of c.args.env.now) c.args.text.now (grind (arith, c.if-text-left.true))
+returns-then-text-left c = words-too_long c.args.left c.args.env.now c.args.text.now (grind (arith, c.if-text-left.true))
 
 pub returns-in-None : goal.returns-in-None
 returns-in-None c =
     let left = c.args.left in
-    let env = map pair_of c.args.env.now in
+    let env = c.args.env.now in
     let text = c.args.text.now in
     let fits : nat_le (length text) left ≡ true = grind (arith, c.if-text-left.false) in
     subst (λ q. IfOk c.words_alone.result (λ found. option_map (option_map (λ v. map string_bytes v.items)) found ≡ q))
-    (words-from left env text _ fits (first-none left env text c.in_ok-first_reference.field-0 c.in-None.is c.in_ok-first_reference.ensures.found)) c.words_alone.ensures
+    (words-from left env text _ fits (first-none left env 0 text c.first_reference.result c.in-None.is c.first_reference.ensures.found)) c.words_alone.ensures
 
 pub returns-in-Some : goal.returns-in-Some
 returns-in-Some c =
     let left = c.args.left in
-    let env = map pair_of c.args.env.now in
+    let env = c.args.env.now in
     let text = c.args.text.now in
     let fits : nat_le (length text) left ≡ true = grind (arith, c.if-text-left.false) in
     subst (λ q. IfOk c.words_of_expanded.result (λ found. option_map (option_map (λ v. map string_bytes v.items)) found ≡ q))
-    (words-from left env text _ fits (first-some left env text c.in_ok-first_reference.field-0 c.in-Some.first c.in-Some.is c.in_ok-first_reference.ensures.found)) c.words_of_expanded.ensures
+    (words-from left env text _ fits (first-some left env 0 text c.first_reference.result c.in-Some.first c.in-Some.is c.first_reference.ensures.found)) c.words_of_expanded.ensures

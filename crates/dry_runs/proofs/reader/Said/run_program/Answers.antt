@@ -1,7 +1,7 @@
 use Rattle.std.proofs.Common.{codes, ◌∙◌, ap, map, string_bytes}
 use Rattle.texts.specs.Variables.{first_value}
 use Rattle.dry_runs.proofs.WithinLemmas.{not_found-passed}
-use Rattle.dry_runs.proofs.commands.DryRun.run_program.Goals as goal
+use Rattle.dry_runs.proofs.reader.Said.run_program.Goals as goal
 
 pub returns-in_err-found : goal.returns-in_err-found
 returns-in_err-found g c =

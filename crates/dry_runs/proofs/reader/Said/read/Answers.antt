@@ -3,7 +3,7 @@ use Rattle.dry_runs.specs.Limit.{UnlessMemoryWithin}
 use Rattle.dry_runs.specs.Reading.{said_left, said_next}
 use Rattle.dry_runs.specs.DryRun.{meaning}
 use Rattle.dry_runs.proofs.WithinLemmas.{line-fits, line-too_long}
-use Rattle.dry_runs.proofs.commands.DryRun.read.Goals as goal
+use Rattle.dry_runs.proofs.reader.Said.read.Goals as goal
 
 pub returns : goal.returns
 returns g c =

@@ -1,0 +1,348 @@
+-- Where variables stand by the beginnings of their names, and which of them a text refers to first.
+use Rattle.std.proofs.Common.{◌≡◌, ℕ, zero, suc, ◌+◌, ◌<◌, ◌≤◌, Bool, true, false, cond, eqb, eqb-true, not, ◌&&◌, ◌||◌, nat_le, List, [], ◌∷◌, ◌++◌, Option, Some, None, Result, Ok, Err, OnErr, refl, ap, sym, ◌∙◌, subst, fold, map, length, drop, get_or, string_bytes, String, append_assoc, add-one, arith}
+use Rattle.std.specs.declared.alloc.Global.{Global}
+use Rattle.std.specs.List.{prefix_len, slice_get}
+use Rattle.std.specs.Str.{chars, bytes_eq, IsUtf8, IsCharBoundary}
+use Rattle.std.proofs.lemmas.Bool.{false≢true, lt-ltb}
+use Rattle.std.proofs.lemmas.List.{map-append, length-map}
+use Rattle.std.proofs.lemmas.List.Sums.{prefix_len-le-length}
+use Rattle.std.proofs.lemmas.Option.{slice_get-get_or, slice_get-map, slice_get_past, slice_get_within}
+use Rattle.std.specs.Option.{option_map}
+use Rattle.std.proofs.lemmas.Str.{IsCharBoundary-start, IsCharBoundary-after_ascii}
+use Rattle.std.proofs.lemmas.Slice.Eq.{bytes_eq-Decides}
+use Rattle.ucd_perl.specs.Perl.{is_word_char, is_word_byte}
+use Rattle.ucd_perl.proofs.PerlLemmas.{is_word_char-ascii}
+use Rattle.texts.specs.Lists.{is_some_and, rest_after}
+use Rattle.texts.specs.Path.{lacks}
+use Rattle.texts.specs.Variables.{pair_of}
+use Rattle.dry_runs.specs.Environment.{Variable, is_name_byte, begins_otherwise, is_followed}
+use Rattle.dry_runs.specs.Limit.{fitting, expanded_fitting}
+use Rattle.dry_runs.specs.FirstReferred.{behind_dollars, refers, first_below, follows_at, follows_from, refers_at, IsFirstReferred}
+use Rattle.dry_runs.specs.Places.{beginning, Places, with_place, places_from}
+use Rattle.dry_runs.specs.Replacing.{replaced}
+use Rattle.dry_runs.proofs.ExpansionLemmas.{behind-cut, behind-nothing}
+use Rattle.dry_runs.proofs.FittingLemmas.{fitting-unreferred, fitting-referred}
+
+-- A name and a text that refers to it begin with the same bytes.
+
+name-word : (c : ℕ) → is_name_byte c ≡ true → is_word_byte c ≡ true
+name-word c h = grind (arith, h)
+
+name-small : (c : ℕ) → is_name_byte c ≡ true → c < 128
+name-small c h = grind (arith, h)
+
+first-char : (c : ℕ) (cs : List ℕ) → c < 128 → begins_otherwise (chars (c ∷ cs)) ≡ not (is_word_char c)
+unfolding chars
+first-char c [] small = rw (lt-ltb c 128 small) refl
+first-char c (d ∷ ds) small = rw (lt-ltb c 128 small) refl
+
+name-first : (c : ℕ) (cs : List ℕ) → is_name_byte c ≡ true → begins_otherwise (chars (c ∷ cs)) ≡ false
+name-first c cs h = first-char c cs (name-small c h) ∙ ap not (is_word_char-ascii c (name-small c h) ∙ name-word c h)
+
+one-more : (n : ℕ) → 1 + n ≡ suc n
+one-more n = omega arith
+
+beginning-byte : (c : ℕ) (cs : List ℕ) → is_name_byte c ≡ true → beginning (c ∷ cs) ≡ c ∷ beginning cs
+beginning-byte c cs h = rw (h, one-more (prefix_len is_name_byte cs)) refl
+
+beginning-other : (c : ℕ) (cs : List ℕ) → is_name_byte c ≡ false → beginning (c ∷ cs) ≡ []
+beginning-other c cs h = rw h refl
+
+nothing-begun : (after : List ℕ) → begins_otherwise (chars after) ≡ true → beginning after ≡ []
+nothing-begun [] h = refl
+nothing-begun (c ∷ cs) h =
+    elim (is_name_byte c) as (λ b. is_name_byte c ≡ b → beginning (c ∷ cs) ≡ [])
+    [ true ↦ λ e. absurd (false≢true (sym (name-first c cs e) ∙ h)) | false ↦ λ e. beginning-other c cs e ] refl
+
+one-byte-more : (c : ℕ) (xs ys : List ℕ) → beginning xs ≡ beginning ys → beginning (c ∷ xs) ≡ beginning (c ∷ ys)
+one-byte-more c xs ys h =
+    elim (is_name_byte c) as (λ b. is_name_byte c ≡ b → beginning (c ∷ xs) ≡ beginning (c ∷ ys)) [
+      | true ↦ λ e. beginning-byte c xs e ∙ ap (λ t. c ∷ t) h ∙ sym (beginning-byte c ys e)
+      | false ↦ λ e. beginning-other c xs e ∙ sym (beginning-other c ys e)
+    ]
+    refl
+
+same-beginning : (name after : List ℕ) → is_followed (rest_after name after) ≡ true → beginning after ≡ beginning name
+same-beginning [] after h = nothing-begun after h
+same-beginning (c ∷ cs) [] h = absurd (false≢true h)
+same-beginning (c ∷ cs) (d ∷ ds) h =
+    elim (eqb c d) as (λ b. eqb c d ≡ b → is_followed (cond b (rest_after cs ds) None) ≡ true → beginning (d ∷ ds) ≡ beginning (c ∷ cs)) [
+      | true ↦ λ e k. subst (λ x. beginning (d ∷ ds) ≡ beginning (x ∷ cs)) (sym (eqb-true c d e)) (one-byte-more d ds cs (same-beginning cs ds k))
+      | false ↦ λ e k. absurd (false≢true k)
+    ]
+    refl h
+
+pub same-bytes : (name after : List ℕ) → is_followed (rest_after name after) ≡ true → bytes_eq (beginning after) (beginning name) ≡ true
+same-bytes name after h = (bytes_eq-Decides (beginning after) (beginning name)).1 (same-beginning name after h)
+
+-- a text may be cut behind the bytes of a name
+byte-inside : (c : ℕ) (cs : List ℕ) (n : ℕ) → is_name_byte c ≡ true → ((k : ℕ) → suc k ≤ prefix_len is_name_byte cs → get_or cs k 0 < 128) → suc n ≤ 1 + prefix_len is_name_byte cs → get_or (c ∷ cs) n 0 < 128
+byte-inside c cs zero e rest le = name-small c e
+byte-inside c cs (suc n) e rest le = rest n (omega (arith, le))
+
+byte-small : (text : List ℕ) (n : ℕ) → suc n ≤ prefix_len is_name_byte text → get_or text n 0 < 128
+byte-small [] n le = absurd (omega (arith, le))
+byte-small (c ∷ cs) n le =
+    elim (is_name_byte c) as (λ b. is_name_byte c ≡ b → suc n ≤ cond b (1 + prefix_len is_name_byte cs) 0 → get_or (c ∷ cs) n 0 < 128)
+    [ true ↦ λ e k. byte-inside c cs n e (λ m more. byte-small cs m more) k | false ↦ λ e k. absurd (omega (arith, k)) ] refl le
+
+pub name-boundary : (text : List ℕ) (n : ℕ) → IsUtf8 text → n ≡ prefix_len is_name_byte text → IsCharBoundary text n
+name-boundary text zero utf8 is = IsCharBoundary-start text utf8
+name-boundary text (suc n) utf8 is =
+    let within : prefix_len is_name_byte text ≤ length text = prefix_len-le-length is_name_byte text in
+    subst (λ k. IsCharBoundary text k) (add-one n) (IsCharBoundary-after_ascii text n utf8 (omega (arith, within, is)) (byte-small text n (omega (arith, is))))
+
+-- One more variable has one more place.
+
+no-more : (n : ℕ) → n + 0 ≡ n
+no-more n = omega arith
+
+moved-on : (n k : ℕ) → (n + 1) + k ≡ n + suc k
+moved-on n k = omega arith
+
+pub places-pushed : (place : ℕ) (env : List Variable) (v : Variable) (start : List ℕ) → places_from place (env ++ v ∷ []) start ≡ with_place (places_from place env) (beginning v.0) (place + length env) start
+places-pushed place [] v start =
+    elim (bytes_eq start (beginning v.0)) as (λ b. cond {A = List ℕ} b (place ∷ []) [] ++ [] ≡ cond {A = List ℕ} b ([] ++ (place + 0) ∷ []) [])
+    [ true ↦ ap (λ n. n ∷ []) (sym (no-more place)) | false ↦ refl ]
+places-pushed place (w ∷ ws) v start =
+    let here : List ℕ = cond {A = List ℕ} (bytes_eq start (beginning w.0)) (place ∷ []) [] in
+    let rest : List ℕ = places_from (place + 1) ws start in
+    ap (λ t. here ++ t) (places-pushed (place + 1) ws v start)
+    ∙ (elim (bytes_eq start (beginning v.0))
+    as (λ b. here ++ cond {A = List ℕ} b (rest ++ ((place + 1) + length ws) ∷ []) rest ≡ cond {A = List ℕ} b ((here ++ rest) ++ (place + length (w ∷ ws)) ∷ []) (here ++ rest))
+    [ true ↦ sym (append_assoc here rest (((place + 1) + length ws) ∷ [])) ∙ ap (λ n. (here ++ rest) ++ n ∷ []) (moved-on place (length ws)) | false ↦ refl ])
+
+counted-on : (n : ℕ) → 0 + n ≡ n
+counted-on n = omega arith
+
+-- the places of a list with one more pair
+pub places-more : (pairs more : List (String Global × String Global)) (pair : String Global × String Global) (places placed : Places) (n : ℕ) (name : List ℕ) → more ≡ pairs ++ pair ∷ [] → places ≡ places_from 0 (map pair_of pairs) → n ≡ length pairs → name ≡ string_bytes pair.0 → placed ≡ with_place places (beginning name) n → placed ≡ places_from 0 (map pair_of more)
+places-more pairs more pair places placed n name grown known count same noted =
+    let env : List Variable = map pair_of pairs in
+    let size : n ≡ 0 + length env = count ∙ sym (length-map pairs pair_of) ∙ sym (counted-on (length env)) in
+    noted
+    ∙ (λ i. with_place (known i) (beginning (same i)) (size i))
+    ∙ sym (λ i start. places-pushed 0 env (pair_of pair) start i)
+    ∙ ap (places_from 0) (sym (ap (map pair_of) grown ∙ map-append pair_of pairs (pair ∷ [])))
+
+-- The first place below a bound.
+
+pub first-within : (test : ℕ → Bool) (bound : ℕ) (places : List ℕ) → first_below test bound places ≤ bound
+first-within test bound [] = omega arith
+first-within test bound (p ∷ ps) =
+    elim (nat_le bound p) as (λ b. nat_le bound p ≡ b → cond b bound (cond (test p) p (first_below test bound ps)) ≤ bound) [
+      | true ↦ λ e. omega arith
+      | false ↦ λ e. elim (test p) as (λ b. cond b p (first_below test bound ps) ≤ bound) [ true ↦ grind (arith, e) | false ↦ first-within test bound ps ]
+    ]
+    refl
+
+pub first-passes : (test : ℕ → Bool) (bound : ℕ) (places : List ℕ) → first_below test bound places < bound → test (first_below test bound places) ≡ true
+first-passes test bound [] less = absurd (omega (arith, less))
+first-passes test bound (p ∷ ps) less =
+    elim (nat_le bound p) as (λ b. cond b bound (cond (test p) p (first_below test bound ps)) < bound → test (cond b bound (cond (test p) p (first_below test bound ps))) ≡ true) [
+      | true ↦ λ k. absurd (omega (arith, k))
+      | false ↦ elim (test p) as (λ b. test p ≡ b → cond b p (first_below test bound ps) < bound → test (cond b p (first_below test bound ps)) ≡ true)
+          [ true ↦ λ e k. e | false ↦ λ e k. first-passes test bound ps k ] refl
+    ]
+    less
+
+and-false : (b : Bool) → (b && false) ≡ false
+and-false true = refl
+and-false false = refl
+
+-- none before the first place passes, of variables that are numbered from a place on
+module _ (env : List Variable) (from bound : ℕ) (after : List ℕ) where
+  abbrev test : ℕ → Bool
+  test place = follows_from from env after place
+
+  -- a variable of another beginning doesn't pass
+  fails-other : (place : ℕ) (v : Variable) → slice_get env place ≡ Some v → bytes_eq (beginning after) (beginning v.0) ≡ false → test place ≡ false
+  fails-other place v at other =
+      ap (λ o. nat_le from place && is_some_and (λ (w : Variable). is_followed (rest_after w.0 after)) o) at
+      ∙ (elim (is_followed (rest_after v.0 after)) as (λ b. is_followed (rest_after v.0 after) ≡ b → (nat_le from place && b) ≡ false)
+      [ true ↦ λ e. absurd (false≢true (sym other ∙ same-bytes v.0 after e)) | false ↦ λ e. and-false (nat_le from place) ] refl)
+
+  -- this place doesn't pass and neither does any behind it, so none of both does
+  or-later : (place i : ℕ) → place ≤ i → test place ≡ false → (place + 1 ≤ i → test i ≡ false) → test i ≡ false
+  or-later place i le here later =
+      elim (eqb place i) as (λ b. eqb place i ≡ b → test i ≡ false) [
+        | true ↦ λ e. subst (λ n. test n ≡ false) (eqb-true place i e) here
+        | false ↦ λ e. later (grind (arith, e, le))
+      ]
+      refl
+
+  pub none-before : (place : ℕ) (vs : List Variable) → ((j : ℕ) → slice_get env (place + j) ≡ slice_get vs j) → bound ≤ place + length vs → (i : ℕ) → place ≤ i → i < first_below test bound (places_from place vs (beginning after)) → test i ≡ false
+  none-before place [] at all i le less = absurd (omega (arith, all, le, less))
+  none-before place (v ∷ vs) at all i le less =
+      let here : slice_get env place ≡ Some v = ap (slice_get env) (sym (no-more place)) ∙ at 0 in
+      let next : (j : ℕ) → slice_get env ((place + 1) + j) ≡ slice_get vs j = λ j. ap (slice_get env) (moved-on place j) ∙ at (suc j) in
+      let rest : List ℕ = places_from (place + 1) vs (beginning after) in
+      let further : bound ≤ (place + 1) + length vs = omega (arith, all) in
+      elim (bytes_eq (beginning after) (beginning v.0))
+      as (λ b. bytes_eq (beginning after) (beginning v.0) ≡ b → i < first_below test bound (cond {A = List ℕ} b (place ∷ []) [] ++ rest) → test i ≡ false) [
+        | true ↦ λ e k.
+            elim (nat_le bound place) as (λ b. nat_le bound place ≡ b → i < cond b bound (cond (test place) place (first_below test bound rest)) → test i ≡ false) [
+              | true ↦ λ over m. absurd (grind (arith, over, m, le))
+              | false ↦ λ below m.
+                  elim (test place) as (λ b. test place ≡ b → i < cond b place (first_below test bound rest) → test i ≡ false) [
+                    | true ↦ λ passes n. absurd (omega (arith, n, le))
+                    | false ↦ λ fails n. or-later place i le fails (λ later. none-before (place + 1) vs next further i later n)
+                  ]
+                  refl m
+            ]
+            refl k
+        | false ↦ λ e k. or-later place i le (fails-other place v here e) (λ later. none-before (place + 1) vs next further i later k)
+      ]
+      refl less
+
+  from-zero : (j : ℕ) → 0 + j ≡ j
+  from-zero j = omega arith
+
+  -- the same, of all variables
+  pub none-follows : bound ≤ length env → (i : ℕ) → from ≤ i → i < first_below test bound (places_from 0 env (beginning after)) → follows_at env after i ≡ false
+  none-follows all i le less =
+      passed (nat_le from i) (follows_at env after i) (grind (arith, le)) (none-before 0 env (λ j. ap (slice_get env) (from-zero j)) (omega (arith, all)) i (omega arith) less) where
+        passed : (a b : Bool) → a ≡ true → (a && b) ≡ false → b ≡ false
+        passed true b e h = h
+        passed false b e h = absurd (false≢true e)
+
+-- A text refers to a variable if what follows its first `$` does, or the text behind that.
+
+pub refers-cut : (env : List Variable) (text front after : List ℕ) (place : ℕ) → text ≡ front ++ 36 ∷ after → lacks 36 front ≡ true → refers_at env text place ≡ (follows_at env after place || refers_at env after place)
+refers-cut env text front after place is h =
+    ap (λ found. is_some_and (λ (v : Variable). refers v.0 found) (slice_get env place)) (behind-cut text front after is h) ∙ by (slice_get env place)
+  where
+    by : (o : Option Variable) → is_some_and (λ (v : Variable). refers v.0 (after ∷ behind_dollars after)) o ≡ (is_some_and (λ (v : Variable). is_followed (rest_after v.0 after)) o || is_some_and (λ (v : Variable). refers v.0 (behind_dollars after)) o)
+    by None = refl
+    by (Some v) = refl
+
+pub refers-none : (env : List Variable) (text : List ℕ) (place : ℕ) → lacks 36 text ≡ true → refers_at env text place ≡ false
+refers-none env text place h =
+    ap (λ found. is_some_and (λ (v : Variable). refers v.0 found) (slice_get env place)) (behind-nothing text h) ∙ by (slice_get env place)
+  where
+    by : (o : Option Variable) → is_some_and (λ (v : Variable). refers v.0 []) o ≡ false
+    by None = refl
+    by (Some v) = refl
+
+-- What is expanded first.
+
+module _ (left : ℕ) (text : List ℕ) where
+  -- no variable from a place on
+  pub none-referred : (env : List Variable) (from : ℕ) → ((i : ℕ) → from ≤ i → refers_at env text i ≡ false) → fold (expanded_fitting left) (Some text) (drop from env) ≡ Some text
+  none-referred [] zero h = refl
+  none-referred [] (suc from) h = refl
+  none-referred (v ∷ env) zero h = fitting-unreferred left env v.0 v.1 text (h 0 (omega arith)) ∙ none-referred env 0 (λ i le. h (suc i) (omega arith))
+  none-referred (v ∷ env) (suc from) h = none-referred env from (λ i le. h (suc i) (omega (arith, le)))
+
+  -- this variable, and none before it
+  pub first-referred : (env : List Variable) (from place : ℕ) (v : Variable) → from ≤ place → slice_get env place ≡ Some v → refers v.0 (behind_dollars text) ≡ true → ((i : ℕ) → from ≤ i → i < place → refers_at env text i ≡ false)
+      → fold (expanded_fitting left) (Some text) (drop from env) ≡ fold (expanded_fitting left) (fitting left (replaced (36 ∷ v.0) v.1 text)) (drop (suc place) env)
+  first-referred [] from place v le at told h = cc
+  first-referred (w ∷ env) zero zero v le at told h =
+      let same : w ≡ v = cc in
+      subst (λ (x : Variable). fold (expanded_fitting left) (Some text) (x ∷ env) ≡ fold (expanded_fitting left) (fitting left (replaced (36 ∷ v.0) v.1 text)) env) (sym same) (fitting-referred left env v.0 v.1 text told)
+  first-referred (w ∷ env) zero (suc place) v le at told h =
+      fitting-unreferred left env w.0 w.1 text (h 0 (omega arith) (omega arith))
+      ∙ first-referred env 0 place v (omega arith) at told (λ i low high. h (suc i) (omega arith) (omega (arith, high)))
+  first-referred (w ∷ env) (suc from) zero v le at told h = absurd (omega (arith, le))
+  first-referred (w ∷ env) (suc from) (suc place) v le at told h = first-referred env from place v (omega (arith, le)) at told (λ i low high. h (suc i) (omega (arith, low)) (omega (arith, high)))
+
+-- The search through a text, once a part of it is read.
+pub record FirstSoFar (env : List Variable) (from : ℕ) (text rest : List ℕ) (place : ℕ) : Type 0 where
+  pub within : place ≤ length env
+  pub before : (i : ℕ) → from ≤ i → i < place → refers_at env text i ≡ refers_at env rest i
+  pub is_one : place < length env → (from ≤ place) × (refers_at env text place ≡ true)
+
+pub first-start : (env : List Variable) (from : ℕ) (text : List ℕ) → FirstSoFar env from text text (length env)
+first-start env from text = record { within = omega arith; before = λ i low high. refl; is_one = λ less. absurd (omega (arith, less)) }
+
+module _ (env : List Variable) (from : ℕ) (text rest front after : List ℕ) (place next : ℕ) (so : FirstSoFar env from text rest place) (is : rest ≡ front ++ 36 ∷ after) (clear : lacks 36 front ≡ true) (found : next ≡ first_below (follows_from from env after) place (places_from 0 env (beginning after))) where
+  lower : next ≤ place
+  lower = subst (λ n. n ≤ place) (sym found) (first-within (follows_from from env after) place (places_from 0 env (beginning after)))
+
+  either : (a b c d : Bool) → a ≡ (b || c) → b ≡ d → d ≡ false → a ≡ c
+  either a b c d e f g = e ∙ ap (λ x. x || c) (f ∙ g)
+
+  cut : (i : ℕ) → from ≤ i → i < place → refers_at env text i ≡ (follows_at env after i || refers_at env after i)
+  cut i low high = so.before i low high ∙ refers-cut env rest front after i is clear
+
+  holds : (a b : Bool) → (a && b) ≡ true → (a ≡ true) × (b ≡ true)
+  holds true b h = (refl, h)
+  holds false b h = absurd (false≢true h)
+
+  one : next < place → (from ≤ next) × (refers_at env text next ≡ true)
+  one less =
+      let passes : follows_from from env after next ≡ true = subst (λ n. follows_from from env after n ≡ true) (sym found) (first-passes (follows_from from env after) place (places_from 0 env (beginning after)) (subst (λ n. n < place) found less)) in
+      let parts = holds (nat_le from next) (follows_at env after next) passes in
+      let low : from ≤ next = grind (arith, parts) in
+      (low, cut next low less ∙ ap (λ b. b || refers_at env after next) parts.1)
+
+  pub first-goes-on : FirstSoFar env from text after next
+  first-goes-on = record {
+    within = (let w = so.within in omega (arith, lower, w));
+    before = λ i low high.
+        cut i low (omega (arith, high, lower)) ∙ ap (λ b. b || refers_at env after i) (none-follows env from place after so.within i low (subst (λ n. i < n) found high));
+    is_one = λ less.
+        elim (nat_le place next) as (λ b. nat_le place next ≡ b → (from ≤ next) × (refers_at env text next ≡ true)) [
+          | true ↦ λ e.
+              let same : place ≡ next = grind (arith, e, lower) in
+              subst (λ n. (from ≤ n) × (refers_at env text n ≡ true)) same (so.is_one (omega (arith, less, same)))
+          | false ↦ λ e. one (grind (arith, e))
+        ]
+        refl;
+  }
+
+-- the search is over at the place that it began with
+pub first-at-start : (env : List Variable) (from : ℕ) (text rest : List ℕ) (place : ℕ) → FirstSoFar env from text rest place → place ≤ from → IsFirstReferred env from text place
+first-at-start env from text rest place so low = record { within = so.within; none_before = λ i le less. absurd (omega (arith, le, less, low)); is_one = so.is_one }
+
+-- or where no `$` is left
+pub first-at-end : (env : List Variable) (from : ℕ) (text rest : List ℕ) (place : ℕ) → FirstSoFar env from text rest place → lacks 36 rest ≡ true → IsFirstReferred env from text place
+first-at-end env from text rest place so h = record { within = so.within; none_before = λ i le less. so.before i le less ∙ refers-none env rest i h; is_one = so.is_one }
+
+-- what the place says about expanding
+module _ (left : ℕ) (env : List Variable) (from : ℕ) (text : List ℕ) (place : ℕ) (first : IsFirstReferred env from text place) where
+  past : (i : ℕ) → length env ≤ i → refers_at env text i ≡ false
+  past i le = ap (λ o. is_some_and (λ (v : Variable). refers v.0 (behind_dollars text)) o) (slice_get_past env i le)
+
+  pub first-none-there : slice_get env place ≡ None → fold (expanded_fitting left) (Some text) (drop from env) ≡ Some text
+  first-none-there none =
+      none-referred left text env from (λ i low.
+      elim (nat_le (length env) i) as (λ b. nat_le (length env) i ≡ b → refers_at env text i ≡ false) [
+        | true ↦ λ e. past i (grind (arith, e))
+        | false ↦ λ e. first.none_before i low (before i (grind (arith, e)))
+      ]
+      refl)
+    where
+      some : (i : ℕ) → i < length env → slice_get env i ≡ None → ⊥
+      some i less e = let d : Variable = ([], []) in clash (sym (slice_get-get_or env i d less) ∙ e) where
+        clash : {X : Type 0} {x : X} → Some x ≡ None → ⊥
+        clash h = cc
+
+      before : (i : ℕ) → i < length env → i < place
+      before i less =
+          elim (nat_le place i) as (λ b. nat_le place i ≡ b → i < place) [
+            | true ↦ λ e. let w = first.within in let at : place < length env = grind (arith, e, less) in absurd (some place at none)
+            | false ↦ λ e. grind (arith, e)
+          ]
+          refl
+
+  pub first-there : (v : Variable) → slice_get env place ≡ Some v → fold (expanded_fitting left) (Some text) (drop from env) ≡ fold (expanded_fitting left) (fitting left (replaced (36 ∷ v.0) v.1 text)) (drop (suc place) env)
+  first-there v at =
+      let inside : place < length env = slice_get_within env place v at in
+      let is = first.is_one inside in
+      first-referred left text env from place v is.0 at (ap (λ o. is_some_and (λ (w : Variable). refers w.0 (behind_dollars text)) o) (sym at) ∙ is.1) first.none_before
+
+-- the pair at a place, as texts
+pub no-pair : (pairs : List (String Global × String Global)) (env : List Variable) (place : ℕ) → map pair_of pairs ≡ env → length pairs ≤ place → slice_get env place ≡ None
+no-pair pairs env place is le =
+    let size : length env ≡ length pairs = ap length (sym is) ∙ length-map pairs pair_of in
+    slice_get_past env place (omega (arith, size, le))
+
+pub pair-there : (pairs : List (String Global × String Global)) (env : List Variable) (place : ℕ) (pair : String Global × String Global) → map pair_of pairs ≡ env → slice_get pairs place ≡ Some pair → slice_get env place ≡ Some (pair_of pair)
+pair-there pairs env place pair is at = ap (λ (e : List Variable). slice_get e place) (sym is) ∙ slice_get-map pair_of pairs place ∙ ap (option_map pair_of) at
+
+-- what a failed call leaves
+pub on-err : {T E P : Type 0} (r : Result T E) → P → OnErr r P
+on-err (Ok x) p = tt
+on-err (Err e) p = p
