@@ -7,6 +7,7 @@
 
 mod asking;
 mod disk;
+mod excess;
 pub mod laws;
 mod lookup;
 mod search_path;
@@ -14,6 +15,7 @@ mod snapshot;
 
 pub use asking::{asked_lookups, asked_lookups_of_both};
 pub use disk::{snapshot_by, snapshot_of};
+pub use excess::{Excess, excess_of};
 pub use lookup::Lookup;
 pub use search_path::candidates;
 pub use snapshot::{Entry, Snapshot};

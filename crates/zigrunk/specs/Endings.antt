@@ -2,8 +2,10 @@
 use Rattle.std.specs.Prelude.{◌≡◌, ℕ, List, [], ◌∷◌, ◌++◌, ◌⊎◌, Option, Some, None, Result, Ok, Err, MatchOption}
 use Rattle.std.specs.Io.KnownBytes.{Keeps}
 use Rattle.nvcc_calls.specs.Directory.{directory_name}
+use Rattle.program_lookups.specs.declared.excess.Excess.{Excess}
 use Rattle.program_lookups.specs.declared.snapshot.Entry.{Entry}
 use Rattle.program_lookups.specs.Asked.{asked_of_both}
+use Rattle.program_lookups.specs.Excess.{excess_of}
 use Rattle.program_lookups.specs.Snapshot.{answer_in, IsSnapshotOf}
 use Rattle.programs.specs.declared.stop.Stop.{Stop}
 use Rattle.programs.specs.declared.stop.Stop.TheVariants.{Fault, NotCompilation, ToNvcc, Unwritable, Write}
@@ -12,8 +14,6 @@ use Rattle.programs.specs.Delivery.{Delivers}
 use Rattle.programs.specs.LineText.{shown_line}
 use Rattle.programs.specs.PlanText.{ReadsFirst, out_of_memory, shown_plan}
 use Rattle.zigrunk.specs.Calls.{CallOf, ExportOf, exports, reads, names, rewrites, plans, helps, tells_version}
-use Rattle.zigrunk.specs.declared.excess.Excess.{Excess}
-use Rattle.zigrunk.specs.Excess.{excess_of}
 use Rattle.zigrunk.specs.Exports.{exported}
 use Rattle.zigrunk.specs.Messages.{over_limit}
 use Rattle.zigrunk.specs.NvccText.{nvcc_text}

@@ -5,6 +5,7 @@ ghost use Rattle.texts.specs.declared.fault.Fault.TheVariants.{Read};
 ghost use Rattle.texts.specs.Fault.{UnlessMemoryIs};
 ghost use Rattle.texts.specs.Variables.{pair_of};
 ghost use Rattle.program_lookups.specs.Asked.{asked_of_both};
+ghost use Rattle.program_lookups.specs.Excess as limits;
 ghost use Rattle.program_lookups.specs.Snapshot.{IsSnapshotOf};
 ghost use Rattle.programs.specs.Calls.{plan_of};
 ghost use Rattle.nvcc_calls.specs.Directory as directories;
@@ -12,19 +13,18 @@ ghost use Rattle.programs.specs.Delivery.{Delivers};
 ghost use Rattle.programs.specs.PlanText.{out_of_memory, shown_plan};
 ghost use Rattle.zigrunk.specs.Calls as forms;
 ghost use Rattle.zigrunk.specs.Endings as spec;
-ghost use Rattle.zigrunk.specs.Excess as limits;
 
 use crate::call::{Call, ExportCall, limited_call_of};
 use crate::complaint::{
     OVER_LIMIT, complain_of, complain_of_excess, complain_of_file, complain_of_plan,
 };
-use crate::excess::{Excess, excess_of, place_of_excess};
+use crate::excess::place_of_excess;
 use crate::export::{refused, write_export};
 use crate::nvcc_text::write_nvcc_text;
 use crate::page::{USAGE, help, version};
 use dry_runs::{FirstDir, Which};
 use nvcc_calls::{DirectoryCall, directory_name};
-use program_lookups::{Snapshot, snapshot_of};
+use program_lookups::{Excess, Snapshot, excess_of, snapshot_of};
 use programs::{PlanCall, Sources, Stop, deliver, write_line, write_plan};
 use std::alloc::{AllocError, Global};
 use std::fs::Files;
