@@ -166,12 +166,12 @@ programs | program_lookups/disk | snapshot_of | dry1.len() > 10_000
 plans | program_lookups/search_path | candidates | path.len() > 1_000
 plans | program_lookups/search_path | candidates | program.len() > 50_000
 
-plans | command_groups/planning | plan_with_origins before Ok(planned) | planned.plan.groups.as_slice().len() > 50
-plans | command_groups/planning | plan_with_origins before Ok(planned) | long_body::has_large(planned.plan.groups.as_slice(), 500)
-plans | command_groups/planning | plan_with_origins before Ok(planned) | planned.plan.dropped.as_slice().len() > 500
-plans | command_groups/planning | plan_with_origins before Ok(planned) | planned.plan.dropped.as_slice().len() > 50 && planned.plan.dropped.as_slice().len() < 150
-plans | command_groups/planning | plan_with_origins before let planned | first.env.len() > 500
-plans | command_groups/planning | plan_with_origins | env_vars.len() > 500
+plans | command_groups/planning | plan_with_origins_within before Ok(planned) | planned.plan.groups.as_slice().len() > 50
+plans | command_groups/planning | plan_with_origins_within before Ok(planned) | long_body::has_large(planned.plan.groups.as_slice(), 500)
+plans | command_groups/planning | plan_with_origins_within before Ok(planned) | planned.plan.dropped.as_slice().len() > 500
+plans | command_groups/planning | plan_with_origins_within before Ok(planned) | planned.plan.dropped.as_slice().len() > 50 && planned.plan.dropped.as_slice().len() < 150
+plans | command_groups/planning | plan_with_origins_within before let planned | first.env.len() > 500
+plans | command_groups/planning | plan_with_origins_within | env_vars.len() > 500
 plans | command_groups/planning | group_nvcc_subcommands_by_compilation_stage | dry1.len() > 30_000
 plans | command_groups/planning | group_nvcc_subcommands_by_compilation_stage | env_vars.len() > 500
 plans | command_groups/planning | group_nvcc_subcommands_by_compilation_stage | suffixes.len() > 500

@@ -4,6 +4,7 @@ pub mod EnvironmentLemmas
 pub mod FateLemmas
 pub mod GroupLemmas
 pub mod GroupingLemmas
+pub mod LimitLemmas
 pub mod MergeLemmas
 pub mod OpeningLemmas
 pub mod OpenerLemmas

@@ -5,9 +5,6 @@ use Rattle.std.specs.List.{flat_map}
 use Rattle.std.specs.Str.{bytes_eq}
 use Rattle.std.proofs.lemmas.List.{length-replicate}
 use Rattle.texts.specs.Lists.{is_some_and}
-use Rattle.texts.specs.declared.fault.Fault.{Fault}
-use Rattle.dry_runs.specs.CommandLines.{CommandLine}
-use Rattle.dry_runs.specs.Environment.{Variable}
 use Rattle.command_groups.specs.declared.openings.Opening.{Opening}
 use Rattle.command_groups.specs.declared.grouping.Label.{Label}
 use Rattle.command_groups.specs.declared.grouping.Label.TheVariants.{Front, Device, Final, Ungrouped}
@@ -16,12 +13,11 @@ use Rattle.command_groups.specs.declared.plan.Reason.{Reason}
 use Rattle.command_groups.specs.declared.plan.Reason.TheVariants.{Superseded}
 use Rattle.command_groups.specs.Stage.{StagedCommand}
 use Rattle.command_groups.specs.Fate.{Fate, device, ungrouped, PlacedCommand, is_device}
-use Rattle.command_groups.specs.Plan.{PlanSetting, is_front, is_final, of_fate}
-use Rattle.command_groups.specs.PlanOfBytes.{plan_or_fault}
+use Rattle.command_groups.specs.Plan.{is_front, is_final, of_fate}
 use Rattle.command_groups.specs.Openings.{Opened, names_of}
 use Rattle.command_groups.specs.Grouping.{Labelled, GroupingState, grouped}
 use Rattle.command_groups.specs.Cutting.{fate_at, fate_by, settled, group_of_label}
-use Rattle.command_groups.specs.Origins.{origin_of, origins_by, origins_of_placed, origins_of_staged, origins_or_fault, plan_in}
+use Rattle.command_groups.specs.Origins.{origin_of, origins_by, origins_of_placed, origins_of_staged}
 use Rattle.command_groups.specs.OriginCutting.{with_grouped_origin, with_origin, no_origins, origin_groups}
 use Rattle.command_groups.proofs.CuttingLemmas.{zipped, cons_at, put_before, zipped_nothing, zipped_with_nothing, joined_by, joined_at, last_joined, put_length, names_length}
 use Rattle.command_groups.proofs.FateLemmas.{Distinct}
@@ -123,12 +119,3 @@ origins_are commands =
     ap (flat_map (λ (group : List Origin). group)) (groups_are g.opened (names_are_distinct commands) g.labelled)
     ∙ joined_groups (names_of g.opened) (map (settled g.opened) g.labelled)
     ∙ (λ i. origins_of_placed (names_are_opened commands i) (labels_are_fates commands i))
-
--- ---- A plan without its origins.
-
--- a planning with origins has the plan of a planning
-pub plan_without : (suffixes : List (List ℕ)) (keep_dir : Option (List ℕ)) (s : PlanSetting) (one two : Result (List CommandLine × List Variable) Fault) →
-    plan_in (origins_or_fault suffixes keep_dir s one two) ≡ plan_or_fault suffixes keep_dir s one two
-plan_without suffixes keep_dir s (Err fault) two = refl
-plan_without suffixes keep_dir s (Ok one) (Err fault) = refl
-plan_without suffixes keep_dir s (Ok one) (Ok two) = refl

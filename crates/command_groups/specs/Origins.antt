@@ -7,7 +7,6 @@ use Rattle.dry_runs.specs.DryRun.{LookUp, dry_run_of}
 use Rattle.dry_runs.specs.Environment.{Variable}
 use Rattle.command_groups.specs.declared.origins.Origin.{Origin}
 use Rattle.command_groups.specs.declared.origins.PlanWithOrigins.{PlanWithOrigins}
-use Rattle.command_groups.specs.declared.plan.Plan.{Plan}
 use Rattle.command_groups.specs.Stage.{StagedCommand}
 use Rattle.command_groups.specs.Fate.{Fate, PlacedCommand, is_device, opened_names, fates}
 use Rattle.command_groups.specs.Plan.{PlanSetting, is_front, is_final, of_fate, staged_commands, plan_of}
@@ -49,8 +48,3 @@ origins_or_fault suffixes keep_dir s (Ok first) (Ok second) =
 abbrev pub planning_with_origins : List (List ℕ) → Option (List ℕ) → PlanSetting → LookUp → List ℕ → List ℕ → Result PlanWithOrigins Fault
 planning_with_origins suffixes keep_dir s which first second =
     origins_or_fault suffixes keep_dir s (dry_run_of 1 first s.cwd which) (dry_run_of 2 second s.cwd which)
-
--- its plan alone
-abbrev pub plan_in : Result PlanWithOrigins Fault → Result Plan Fault
-plan_in (Ok planned) = Ok planned.plan
-plan_in (Err fault) = Err fault

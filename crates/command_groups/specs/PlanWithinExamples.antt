@@ -1,5 +1,5 @@
 -- Plans of dry runs within a limit, worked out by hand.
-use Rattle.std.specs.Prelude.{◌≡◌, ℕ, List, [], ◌∷◌, Option, None, Result, Ok, Err, codes}
+use Rattle.std.specs.Prelude.{◌≡◌, ℕ, List, [], ◌∷◌, None, Result, Ok, Err, codes}
 use Rattle.texts.specs.declared.fault.Fault.TheVariants.{NoPath}
 use Rattle.compilers.specs.declared.compiler.NvccHostCompiler.TheVariants.{Gcc}
 use Rattle.dry_runs.specs.declared.limit.LimitedFault.{LimitedFault}

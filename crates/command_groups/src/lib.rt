@@ -14,10 +14,12 @@ mod planning;
 mod select;
 mod setting;
 mod stage;
-mod within;
 
 pub use origins::{Origin, Origins, PlanWithOrigins};
 pub use plan::{Dropped, DroppedCommands, Groups, NvccGeneratedSubcommand, Plan, Reason};
-pub use planning::{group_nvcc_subcommands_by_compilation_stage, plan_with_origins};
+pub use planning::{
+    group_nvcc_subcommands_by_compilation_stage,
+    group_nvcc_subcommands_by_compilation_stage_within, plan_with_origins,
+    plan_with_origins_within,
+};
 pub use select::select_nvcc_subcommands;
-pub use within::{group_nvcc_subcommands_by_compilation_stage_within, plan_with_origins_within};
