@@ -8,9 +8,9 @@
 #
 #   tests/end_to_end.sh [--all] [PROGRAM]
 #
-# PROGRAM is the zigrunk that `make build` and the gate leave, unless given. With --all it makes all calls but the odd ones, which
-# `make odd-calls` makes, builds CMake projects (tests/cmake.sh) and fatbins (tests/needs.sh), and isolates the commands of five calls;
-# the gate isolates those of one call.
+# PROGRAM is the zigrunk that `make build` and the gate leave, unless given. With --all it makes all calls, builds CMake projects
+# (tests/cmake.sh) and fatbins (tests/needs.sh), and isolates the commands of five calls; the gate makes the quick calls and isolates the
+# commands of one.
 cd "$(dirname "$0")/.." || exit 1
 all=''
 [ "${1-}" != --all ] || { all=yes && shift; }
@@ -23,13 +23,23 @@ started=()
 
 # start PART COMMAND..: runs a part in the background.
 start() {
-    local part=$1
+    timed "$@" &
+    parts[$1]=$!
+    started+=("$1")
+}
+
+# timed PART COMMAND..: runs a part, and notes how long it took, and its seconds of processor: the user's and the system's.
+timed() {
+    local part=$1 begun=$SECONDS status
     shift
-    # shellcheck disable=SC2034 # of `time`
-    local TIMEFORMAT='%0R s, of processors %0U s and %0S s'
-    { time "$@" > "$scratch/$part.said" 2>&1; } 2> "$scratch/$part.took" &
-    parts[$part]=$!
-    started+=("$part")
+    "$@" > "$scratch/$part.said" 2>&1 &
+    # shellcheck disable=SC2064 # this process
+    trap "kill $!" TERM
+    wait "$!"
+    status=$?
+    times > "$scratch/$part.times"
+    echo "$part: $((SECONDS - begun)) s, of processors $(sed -n 2p "$scratch/$part.times")" > "$scratch/$part.took"
+    return "$status"
 }
 
 # finish PART: waits for a part, shows what it printed, and adds the counts of its last line.
@@ -123,7 +133,7 @@ else
     calls=(tests/calls_quick.txt)
     alone=(--only=-dc)
     if [ -n "$all" ]; then
-        calls+=(tests/calls.txt tests/calls_words.txt)
+        calls+=(tests/calls.txt tests/calls_words.txt tests/calls_odd.txt)
         alone=(--leave-out)
         start cmake tests/cmake.sh "$program"
         start needs tests/needs.sh "$program"
@@ -133,6 +143,6 @@ else
     start calls nice tests/compare_calls.py --scratch "$scratch" --jobs "$(nproc)" "${calls[@]}"
 fi
 for part in "${started[@]}"; do finish "$part"; done
-for part in "${started[@]}"; do echo "$part: $(tail -n 1 "$scratch/$part.took")"; done
+for part in "${started[@]}"; do cat "$scratch/$part.took"; done
 echo "$passed passed, $failed failed"
 [ "$failed" -eq 0 ]

@@ -9,7 +9,7 @@
 cd "$(dirname "$0")/.." || exit 1
 script=$(realpath "${1:-bin/zigrunk-nvcc}")
 scratch=$(mktemp -d)
-trap 'rm -rf "$scratch"' EXIT
+trap 'kill $(jobs -p) 2> /dev/null; rm -rf "$scratch"' EXIT
 unset NVCC_PREPEND_FLAGS NVCC_APPEND_FLAGS CDPATH MAKEFLAGS "${!ZIGRUNK@}"
 user=$(id -u)
 passed=0 failed=0
