@@ -5,6 +5,7 @@ use cuda_plans::cicc::{ArgData, Cicc};
 use cuda_plans::compiler::{CCompilerKind, Places};
 use cuda_plans::cudafe::CudaFE;
 use cuda_plans::dry_run::{FirstDir, LimitedFault, Suffixes};
+use cuda_plans::gcc;
 use cuda_plans::items::{ArgParseError, Argument, Line, NormalizedDisposition};
 use cuda_plans::nvcc::{Nvcc, NvccHostCompiler};
 use cuda_plans::nvhpc::Nvhpc;
@@ -13,7 +14,9 @@ use cuda_plans::ptxas::Ptxas;
 use cuda_plans::runner::{Answer, Place};
 use cuda_plans::table::{ArgDisposition, ArgInfo, Match, Pair, Table};
 use cuda_plans::views::ArgumentView;
+use dry_runs::Statement;
 use nvcc_calls::{DirectoryCall, NvccCall, Outline};
+use nvcc_words::Purpose;
 use plan_exports::Refusal;
 use plan_texts::Tool;
 use programs::{LineCall, PlanCall, Stop, Unread};
@@ -23,6 +26,7 @@ use texts::bytes::Bytes;
 use texts::fault::Fault;
 use texts::status::CompileFinished;
 use texts::text::Text;
+use texts::words::Words;
 
 /// Whether `{:?}` prints this text for a value.
 pub fn prints<T: Debug>(alloc: Global, value: &T, text: &str) -> bool {
@@ -183,6 +187,27 @@ fn reasons_print_their_fields(rt: HostRuntime) {
     assert!(rt; prints(alloc, &Unread::System(5), "System(5)"));
     assert!(rt; prints(alloc, &CCompilerKind::CudaFE, "CudaFE"));
     assert!(rt; prints(alloc, &ArgData::PassThrough, "PassThrough"));
+}
+
+const SETS_TEXT: &str = r#"Sets(Text { string: "" }, Text { string: "" })"#;
+
+#[test]
+fn statements_print_their_fields(rt: HostRuntime) {
+    let alloc = rt.alloc();
+    assert!(rt; prints(alloc, &Statement::Nothing, "Nothing"));
+    let sets = Statement::Sets(no_text(alloc), no_text(alloc));
+    assert!(rt; prints(alloc, &sets, SETS_TEXT));
+    let runs = Statement::Runs(Words::new(alloc));
+    assert!(rt; prints(alloc, &runs, "Runs(Words { words: [] })"));
+    assert!(rt; prints(alloc, &Statement::BadShell, "BadShell"));
+    assert!(rt; prints(alloc, &Statement::NotUtf8, "NotUtf8"));
+}
+
+#[test]
+fn purposes_of_options_print_their_names(rt: HostRuntime) {
+    let alloc = rt.alloc();
+    assert!(rt; prints(alloc, &Purpose::TargetDirectory, "TargetDirectory"));
+    assert!(rt; prints(alloc, &gcc::ArgData::TooHardFlag, "TooHardFlag"));
 }
 
 const LINE_CALL_TEXT: &str = r#"LineCall { tool: Cicc, cwd: "/w", words: [] }"#;
