@@ -22,7 +22,7 @@ fn too_long(
 }
 
 // An error as facts.
-fn refused_within(alloc: Global, fault: &LimitedFault) -> Result<Answer, CaseError> {
+pub fn refused_within(alloc: Global, fault: &LimitedFault) -> Result<Answer, CaseError> {
     match fault {
         LimitedFault::Fault(fault) => refused_at(alloc, fault),
         LimitedFault::TooLong { run, line } => too_long(alloc, fault, *run, *line),

@@ -2,10 +2,13 @@
 
 use crate::handed::Handed;
 use canonical_names::Suffixes;
-use command_groups::{Plan, group_nvcc_subcommands_by_compilation_stage};
+use command_groups::{
+    Plan, group_nvcc_subcommands_by_compilation_stage,
+    group_nvcc_subcommands_by_compilation_stage_within,
+};
 use cuda_below::compiler::NvccHostCompiler;
 use cuda_plans::nvcc::NvccCompileCommand;
-use dry_runs::FirstDir;
+use dry_runs::{FirstDir, LimitedFault};
 use programs::{Stop as PlanStop, write_plan};
 use std::alloc::{AllocError, Global};
 use test_tables::{Case, CaseError};
@@ -22,6 +25,8 @@ pub struct PlanSettings<'a> {
     flag: &'a str,
     keep_dir: Option<String>,
     host_compiler: NvccHostCompiler,
+    /// The most bytes that each dry run may hold, if the case names a limit.
+    pub limit: Option<usize>,
     /// The dry runs, suffixes and variables.
     pub handed: Handed,
     /// The file with the plan's text; empty if the case names none.
@@ -34,6 +39,13 @@ fn host_named(name: &str) -> Result<NvccHostCompiler, CaseError> {
         "msvc" => Ok(NvccHostCompiler::Msvc),
         "nvhpc" => Ok(NvccHostCompiler::Nvhpc),
         _ => Err(CaseError::Form("an unknown host compiler")),
+    }
+}
+
+fn limit_named(digits: &str) -> Result<usize, CaseError> {
+    match digits.parse::<usize>() {
+        Ok(limit) => Ok(limit),
+        Err(_) => Err(CaseError::Form("a limit that isn't a number")),
     }
 }
 
@@ -52,6 +64,7 @@ impl<'a> PlanSettings<'a> {
             flag: flag.as_str(),
             keep_dir: None,
             host_compiler: NvccHostCompiler::Gcc,
+            limit: None,
             handed: Handed::new(alloc),
             text_file: String::new(alloc),
         };
@@ -75,6 +88,7 @@ impl<'a> PlanSettings<'a> {
         match name {
             "keep" => self.keep_dir = Some(String::from_str(alloc, value)?),
             "host" => self.host_compiler = host_named(value)?,
+            "limit" => self.limit = Some(limit_named(value)?),
             "text" => self.text_file = String::from_str(alloc, value)?,
             _ => self.handed.take(alloc, setting)?,
         }
@@ -101,6 +115,31 @@ impl<'a> PlanSettings<'a> {
             self.host_compiler,
             &FirstDir,
             suffixes,
+        )
+    }
+
+    /// The plan of two dry runs that are read within a limit.
+    pub fn plan_within(
+        &self,
+        alloc: Global,
+        first: &[u8],
+        second: &[u8],
+        suffixes: &Suffixes,
+        limit: usize,
+    ) -> Result<Plan, LimitedFault> {
+        group_nvcc_subcommands_by_compilation_stage_within(
+            alloc,
+            first,
+            second,
+            self.flag,
+            self.cwd,
+            self.tmp,
+            self.keep_dir.as_deref(),
+            self.handed.env_vars.as_slice(),
+            self.host_compiler,
+            &FirstDir,
+            suffixes,
+            limit,
         )
     }
 

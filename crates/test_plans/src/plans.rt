@@ -2,10 +2,12 @@
 
 use crate::command_needs;
 use crate::handed::bytes_of_file;
+use crate::limits::refused_within;
 use crate::plan_settings::PlanSettings;
 use crate::runs::refused_at;
 use command_groups::{Dropped, NvccGeneratedSubcommand, Plan};
 use cuda_below::command::Cacheable;
+use dry_runs::LimitedFault;
 use programs::Stop as PlanStop;
 use std::alloc::{AllocError, Global};
 use std::fs::Files;
@@ -129,6 +131,18 @@ fn of_plan(alloc: Global, call: &str, plan: &Result<Plan, Fault>) -> Result<Answ
     }
 }
 
+// Makes a call on a plan within a limit, unless it is an error.
+fn of_plan_within(
+    alloc: Global,
+    call: &str,
+    plan: &Result<Plan, LimitedFault>,
+) -> Result<Answer, CaseError> {
+    match plan {
+        Err(fault) => refused_within(alloc, fault),
+        Ok(plan) => of_good_plan(alloc, call, plan),
+    }
+}
+
 // The lines of a plan's text, as facts.
 fn lines_of(alloc: Global, text: &str) -> Result<Answer, CaseError> {
     let mut answer = Answer::new(alloc);
@@ -193,6 +207,22 @@ fn made(
     answer
 }
 
+// Makes a call on a plan whose dry runs are read within a limit.
+fn made_within(
+    alloc: Global,
+    call: &str,
+    settings: &PlanSettings<'_>,
+    first: &[u8],
+    second: &[u8],
+    limit: usize,
+) -> Result<Answer, CaseError> {
+    let suffixes = settings.handed.suffixes(alloc)?;
+    let plan = settings.plan_within(alloc, first, second, &suffixes, limit);
+    let answer = of_plan_within(alloc, call, &plan);
+    drop(plan);
+    answer
+}
+
 // Makes a call on the plan of two dry runs.
 fn planned<R: Files>(
     rt: &R,
@@ -205,7 +235,10 @@ fn planned<R: Files>(
     if call == "plan_text" {
         return printed(rt, alloc, settings, first, second);
     }
-    made(alloc, call, settings, first, second)
+    match settings.limit {
+        Some(limit) => made_within(alloc, call, settings, first, second, limit),
+        None => made(alloc, call, settings, first, second),
+    }
 }
 
 // Makes a call on one dry run, taken twice, or on two.
