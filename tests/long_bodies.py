@@ -7,19 +7,20 @@ one copy of the repository, each behind a switch, and builds the test programs o
 bodies. Then it runs each long case alone, and notes which bodies would give up in it; and then each body with these cases, the
 quickest first. A body is caught if such a case fails.
 
+`rt try` builds with checks and without optimization, so these programs are slow. Therefore a tenth of everything is long here: each
+number of a long case of `lines` and `plans` is divided by ten, and so is each limit of a body that they test.
+
 Usage: tests/long_bodies.py [--keep FOLDER] [NAME..]    all bodies, or those whose lines contain one of these texts, as lines: or gcc
 
---keep leaves the copy and the programs in a new folder, and a second call with this folder builds nothing. RT_JOBS is the number of
-tests to run at a time, by default the number of processors. It prints a line for each body that isn't caught, and last 'N caught,
-M not caught, K not judged'; the status is 1 if one isn't caught. A body is not judged if each case that reaches it takes longer than
-SECONDS. It isn't part of the gate: each of the four programs takes one to three minutes to build, and cases take up to minutes.
-
-Unfinished: it hasn't run to its end yet. The bodies that `lines` and `plans` test have compiled, those that `programs` test were never
-built, and one body was judged: that of `take_keep` for many words, which is caught.
+--keep leaves the copy, the programs and what was found in a new folder. A second call with this folder goes on where the first one
+ended. RT_JOBS is the number of tests to run at a time, by default the number of processors. It prints a line for each body that
+isn't caught, and last 'N of M judged: K caught, L not caught'; the status is 1 if one isn't caught or judged. A body is not judged
+if each case that reaches it takes longer than SECONDS. It isn't part of the gate.
 """
 
 import concurrent.futures
 import contextlib
+import json
 import os
 import re
 import shutil
@@ -32,6 +33,12 @@ TOP = os.path.realpath(f"{os.path.dirname(os.path.realpath(__file__))}/..")
 
 # How long a case may take. The programs are built without optimization, and with checks: some cases take minutes.
 SECONDS = 300
+
+# The statuses of a test that fails: 1 if an answer is wrong, 2 if a call is out of memory.
+FAILURES = (1, 2)
+
+# The tests that are tables of cases. They run with a tenth of their length.
+TABLES = ("lines", "plans")
 
 # Where it is tested; the file; the function, and with a number which one of this name in the file, then `before` and the start of
 # a line, or nothing for the start of the body; and when the body gives up.
@@ -116,13 +123,15 @@ lines | texts/text | join | path.len() > 500_000
 lines | texts/extension | with_extension | path.len() > 500_000
 lines | texts/fault | message | matches!(self, Fault::Runner(text) if text.len() > 500_000)
 lines | texts/fault | try_clone | matches!(self, Fault::Runner(text) if text.len() > 500_000)
-lines | texts/bytes | copy_of | bytes.len() > 50_000
-lines | texts/bytes | try_clone | self.len() > 50_000
-lines | texts/status | try_clone 1 | self.stdout.len() > 50_000
-lines | texts/status | try_clone 2 | self.stdout.len() > 50_000
+plans | texts/bytes | copy_of | bytes.len() > 50_000
+plans | texts/bytes | try_clone | self.len() > 50_000
+plans | texts/status | try_clone 1 | self.stdout.len() > 50_000
+plans | texts/status | try_clone 2 | self.stdout.len() > 50_000
 lines | texts/variables | push | self.len() > 500
 lines | texts/variables | copy_of | pairs.len() > 500
 lines | texts/variables | try_clone | self.len() > 500
+plans | texts/variables | share | self.len() > 500
+plans | texts/variables | into_vec | self.len() > 500
 lines | texts/words | push | self.len() > 50_000
 lines | texts/words | push_two | self.len() > 500
 lines | texts/words | push_str | self.len() > 5_000
@@ -133,6 +142,7 @@ lines | texts/words | extend | words.len() > 5_000
 lines | texts/words | copy_of | words.len() > 5_000
 lines | texts/words | try_clone | self.len() > 5_000
 
+lines | dry_runs/which | found 2 | exe.len() > 500_000
 plans | dry_runs/reader | read_dry_run | dry_run.len() > 500_000
 plans | dry_runs/reader | read_dry_run_within before left = | number > 5_000
 plans | dry_runs/reader | read_dry_run_within before left = | said.commands.as_slice().len() > 500
@@ -163,6 +173,7 @@ plans | program_lookups/asking | asked_lookups_of_both | dry2.len() > 5_000
 plans | program_lookups/asking | asked_lookups_of_both before asked_behind | first.len() > 500
 plans | program_lookups/disk | snapshot_by | dry1.len() > 5_000
 programs | program_lookups/disk | snapshot_of | dry1.len() > 10_000
+plans | program_lookups/snapshot | found | self.as_slice().len() > 500
 plans | program_lookups/search_path | candidates | path.len() > 1_000
 plans | program_lookups/search_path | candidates | program.len() > 50_000
 
@@ -175,6 +186,9 @@ plans | command_groups/planning | plan_with_origins_within | env_vars.len() > 50
 plans | command_groups/planning | group_nvcc_subcommands_by_compilation_stage | dry1.len() > 30_000
 plans | command_groups/planning | group_nvcc_subcommands_by_compilation_stage | env_vars.len() > 500
 plans | command_groups/planning | group_nvcc_subcommands_by_compilation_stage | suffixes.len() > 500
+plans | command_groups/within | plan_with_origins_within | dry1.len() > 5_000
+plans | command_groups/within | plan_with_origins_within before Ok(planned) | planned.plan.groups.as_slice().len() > 50
+plans | command_groups/within | group_nvcc_subcommands_by_compilation_stage_within | dry2.len() > 5_000
 plans | command_groups/select | select_nvcc_subcommands before let commands | said.commands.as_slice().len() > 500
 plans | command_groups/select | select_nvcc_subcommands | env_vars.len() > 500
 plans | command_groups/plan | try_clone | self.args.len() > 50
@@ -369,12 +383,24 @@ __attribute__((constructor)) static void start(void) {
 """
 
 
+def tenth(text, least):
+    """Returns a text with a tenth of each number that is at least `least`. A number that ends in 1 is one more than a count."""
+
+    def shorter(found):
+        number = int(found[0].replace("_", ""))
+        return found[0] if number < least else str(number // 10 + (number % 10 == 1))
+
+    return re.sub(r"(?<![\w.])\d[\d_]*(?!\w)|(?<=\D)\d{3,}(?!\d)", shorter, text)
+
+
 class Body:
     """A wrong body: its number, where it is tested, where it stands, and when it gives up or what it does."""
 
     def __init__(self, number, row, is_silent):
         self.number, self.is_silent = number, is_silent
         self.test, self.file, self.place, self.condition = [it.strip() for it in row.split(" | ")]
+        if self.test in TABLES:
+            self.condition = tenth(self.condition, 50)
         self.name = f"{self.test}: {self.file} {self.place}: {self.condition}"
         head, _, self.before = self.place.partition(" before ")
         self.function, _, nth = head.partition(" ")
@@ -450,22 +476,30 @@ def build(room, program):
     return built
 
 
+def table_cases(test):
+    """Returns the long cases of a test."""
+    with open(f"{TOP}/crates/test_{test}/data/long_cases.txt", encoding="utf-8") as it:
+        lines = [line for line in it.read().split("\n") if line and line[0] != "#"]
+    cases = []
+    for line in lines:
+        if line[0] != " ":
+            cases.append("")
+        cases[-1] += f"{line}\n"
+    return cases
+
+
 def cases_of(room, test):
     """Returns the cases of a test: for a table a file for each, for the script of the programs its functions."""
     if test == "programs":
         return ["long_plan", "long_suffixes", "long_lines", "long_nvcc_lines", "long_exports", "long_messages"]
     if test == "whole":
         return [""]
-    with open(f"{TOP}/crates/test_{test}/data/long_cases.txt", encoding="utf-8") as it:
-        lines = [line for line in it.read().split("\n") if line and line[0] != "#"]
     os.makedirs(f"{room}/cases", exist_ok=True)
     files = []
-    for line in lines:
-        if line[0] != " ":
-            files.append(f"{room}/cases/{test}.{len(files)}.txt")
-            open(files[-1], "w", encoding="utf-8").close()
-        with open(files[-1], "a", encoding="utf-8") as it:
-            it.write(f"{line}\n")
+    for number, case in enumerate(table_cases(test)):
+        files.append(f"{room}/cases/{test}.{number}.txt")
+        with open(files[-1], "w", encoding="utf-8") as it:
+            it.write(tenth(case, 99))
     return files
 
 
@@ -490,7 +524,7 @@ def reached_by(room, test, case):
     open(log, "w", encoding="utf-8").close()
     status, seconds = run_case(room, test, case, 0, log)
     with open(log, encoding="utf-8") as it:
-        reached = {int(line) for line in it.read().split()}
+        reached = sorted({int(line) for line in it.read().split()})
     return status, seconds, reached
 
 
@@ -500,9 +534,51 @@ def judge(room, body, runs):
     timely = [case for _, case in cases if runs[case][0] == 0]
     for case in timely:
         status, _ = run_case(room, body.test, case, body.number)
-        if status == 1:
+        if status in FAILURES:
             return True
     return None if cases and not timely else False
+
+
+class Notes:
+    """What was found out, in a file of the copy: the runs of the cases, and which bodies are caught."""
+
+    def __init__(self, room):
+        self.path, self.known = f"{room}/notes.json", {"runs": {}, "caught": {}}
+        if os.path.exists(self.path):
+            with open(self.path, encoding="utf-8") as it:
+                self.known = json.load(it)
+
+    def found(self, kind, key, make):
+        """Returns what is known, or makes it and keeps it."""
+        if key not in self.known[kind]:
+            self.known[kind][key] = make()
+            with open(f"{self.path}.new", "w", encoding="utf-8") as it:
+                json.dump(dict(self.known), it)
+            os.replace(f"{self.path}.new", self.path)
+        return self.known[kind][key]
+
+
+def runs_of(room, notes, test, lanes):
+    """Runs the cases of a test without a wrong body. Returns the runs."""
+    cases = cases_of(room, test)
+    run = [lanes.submit(reached_by, room, test, case) for case in cases if f"{test} {case}" not in notes.known["runs"]]
+    for case in cases:
+        notes.found("runs", f"{test} {case}", lambda: run.pop(0).result())
+    runs = {case: notes.known["runs"][f"{test} {case}"] for case in cases}
+    for case, (status, _, _) in runs.items():
+        if status not in (0, None):
+            raise SystemExit(f"{case} of {test} fails without a wrong body")
+    return runs
+
+
+def judge_all(room, notes, bodies_of_test, runs, lanes):
+    """Judges bodies. Returns for each whether it is caught, or None if it isn't judged."""
+    run = {it.number: lanes.submit(judge, room, it, runs) for it in bodies_of_test if it.name not in notes.known["caught"]}
+    for body in bodies_of_test:
+        is_caught = notes.found("caught", body.name, lambda body=body: run[body.number].result())
+        if not is_caught:
+            print(f"{'not judged' if is_caught is None else 'not caught'} in {body.name}", flush=True)
+        yield is_caught
 
 
 def main(words):
@@ -517,26 +593,18 @@ def main(words):
         if it.read() != BODIES + SILENT:
             raise SystemExit(f"{room} has other bodies")
     programs = {"lines": ["test_lines"], "plans": ["test_plans"], "programs": ["cudaplan", "zigrunk"], "whole": ["cudaplan", "zigrunk"]}
-    counts = {True: 0, False: 0, None: 0}
-    jobs = os.environ.get("RT_JOBS", "")
+    jobs, notes, answers = os.environ.get("RT_JOBS", ""), Notes(room), []
     with concurrent.futures.ThreadPoolExecutor(int(jobs) if jobs.isdigit() else len(os.sched_getaffinity(0))) as lanes:
         for test in sorted({it.test for it in tried}):
             for program in programs[test]:
                 build(room, program)
-            cases = cases_of(room, test)
-            runs = dict(zip(cases, lanes.map(lambda case, test=test: reached_by(room, test, case), cases)))
-            for case, (status, _, _) in runs.items():
-                if status not in (0, None):
-                    raise SystemExit(f"{case} of {test} fails without a wrong body")
-            of_test = [it for it in tried if it.test == test]
-            for body, is_caught in zip(of_test, lanes.map(lambda body, runs=runs: judge(room, body, runs), of_test)):
-                counts[is_caught] += 1
-                if not is_caught:
-                    print(f"{'not judged' if is_caught is None else 'not caught'} in {body.name}", flush=True)
+            runs = runs_of(room, notes, test, lanes)
+            answers += judge_all(room, notes, [it for it in tried if it.test == test], runs, lanes)
     if not kept:
         shutil.rmtree(room)
-    print(f"{counts[True]} caught, {counts[False]} not caught, {counts[None]} not judged")
-    return 1 if counts[False] or counts[None] else 0
+    caught, lost = answers.count(True), answers.count(False)
+    print(f"{caught + lost} of {len(answers)} judged: {caught} caught, {lost} not caught")
+    return 0 if caught == len(answers) else 1
 
 
 if __name__ == "__main__":

@@ -134,10 +134,10 @@ fn add_written<T: Copy + Named>(
     alloc: Global,
     answer: &mut Answer,
     words: &mut Words,
-    item: Argument<T>,
+    item: &Argument<T>,
 ) -> Result<(), CaseError> {
-    add_item(alloc, answer, &item)?;
-    item.write(alloc, words)?;
+    add_item(alloc, answer, item)?;
+    words.append(item.words(alloc)?)?;
     Ok(())
 }
 
@@ -150,7 +150,7 @@ fn add_items<T: Copy + Named, S: SearchableArgInfo<T> + Drop>(
 ) -> Result<(), CaseError> {
     while let Some(item) = items.next() {
         match item {
-            Ok(item) => add_written(alloc, answer, words, item)?,
+            Ok(item) => add_written(alloc, answer, words, &item)?,
             Err(_) => answer.add(alloc, &["faulty"])?,
         }
     }
