@@ -8,7 +8,7 @@ bodies. Then it runs each long case alone, and notes which bodies would give up 
 quickest first. A body is caught if such a case fails.
 
 `rt try` builds with checks and without optimization, so these programs are slow. Therefore a tenth of everything is long here: each
-number of a long case of `lines` and `plans` is divided by ten, and so is each limit of a body that they test.
+number of a long case is divided by ten, and so is each limit of a body.
 
 Usage: tests/long_bodies.py [--keep FOLDER] [NAME..]    all bodies, or those whose lines contain one of these texts, as lines: or gcc
 
@@ -37,8 +37,8 @@ SECONDS = 300
 # The statuses of a test that fails: 1 if an answer is wrong, 2 if a call is out of memory.
 FAILURES = (1, 2)
 
-# The tests that are tables of cases. They run with a tenth of their length.
-TABLES = ("lines", "plans")
+# The tests with long input. They run with a tenth of their length.
+LONG = ("lines", "plans", "programs")
 
 # Where it is tested; the file; the function, and with a number which one of this name in the file, then `before` and the start of
 # a line, or nothing for the start of the body; and when the body gives up.
@@ -384,13 +384,14 @@ __attribute__((constructor)) static void start(void) {
 
 
 def tenth(text, least):
-    """Returns a text with a tenth of each number that is at least `least`. A number that ends in 1 is one more than a count."""
+    """Returns a text with a tenth of each number that is at least `least`, unless it says where a text is cut, as in `${text:0:120}`.
+    A number that ends in 1 is one more than a count, and one that begins with 0 is the width of a number."""
 
     def shorter(found):
         number = int(found[0].replace("_", ""))
-        return found[0] if number < least else str(number // 10 + (number % 10 == 1))
+        return found[0] if number < least else "0" * (found[0][0] == "0") + str(number // 10 + (number % 10 == 1))
 
-    return re.sub(r"(?<![\w.])\d[\d_]*(?!\w)|(?<=\D)\d{3,}(?!\d)", shorter, text)
+    return re.sub(r"(?<!:0:)(?:(?<![\w.])\d[\d_]*(?!\w)|(?<=\D)\d{3,}(?!\d))", shorter, text)
 
 
 class Body:
@@ -399,7 +400,7 @@ class Body:
     def __init__(self, number, row, is_silent):
         self.number, self.is_silent = number, is_silent
         self.test, self.file, self.place, self.condition = [it.strip() for it in row.split(" | ")]
-        if self.test in TABLES:
+        if self.test in LONG:
             self.condition = tenth(self.condition, 50)
         self.name = f"{self.test}: {self.file} {self.place}: {self.condition}"
         head, _, self.before = self.place.partition(" before ")
@@ -439,6 +440,7 @@ def copy_with(room):
     for it in ("HANDLES", "VERSION"):
         shutil.copy(f"{TOP}/{it}", room)
     os.makedirs(f"{room}/.git")
+    shorten_script(f"{room}/tests/program.sh")
     with open(f"{TOP}/crates.txt", encoding="utf-8") as it:
         lines = it.read().split("\n")
     with open(f"{room}/crates.txt", "w", encoding="utf-8") as it:
@@ -476,6 +478,14 @@ def build(room, program):
     return built
 
 
+def shorten_script(path):
+    """Divides the numbers of the script's functions with long input by ten."""
+    with open(path, encoding="utf-8") as it:
+        text = it.read()
+    with open(path, "w", encoding="utf-8") as it:
+        it.write(re.sub(r"(?ms)^long_\w+\(\) \{$.*?^\}$", lambda found: tenth(found[0], 99), text))
+
+
 def table_cases(test):
     """Returns the long cases of a test."""
     with open(f"{TOP}/crates/test_{test}/data/long_cases.txt", encoding="utf-8") as it:
@@ -506,13 +516,13 @@ def cases_of(room, test):
 def run_case(room, test, case, number, log=""):
     """Runs a case with a wrong body, 0 for none. Returns the exit status and the seconds that it took."""
     if test in ("programs", "whole"):
-        words = [f"{TOP}/tests/program.sh", f"{room}/cudaplan", f"{room}/zigrunk", *(["kernel_programs", case] if case else [])]
+        words = [f"{room}/tests/program.sh", f"{room}/cudaplan", f"{room}/zigrunk", *(["kernel_programs", case] if case else [])]
     else:
         words = [f"{room}/test_{test}", case]
     env = {**os.environ, "LONG_BODY": str(number), **({"LONG_BODY_LOG": log} if log else {})}
     start = time.monotonic()
     with contextlib.suppress(subprocess.TimeoutExpired):
-        ran = subprocess.run(words, cwd=TOP, env=env, stdin=subprocess.DEVNULL, stdout=subprocess.DEVNULL, stderr=subprocess.DEVNULL, timeout=SECONDS, check=False)
+        ran = subprocess.run(words, cwd=room, env=env, stdin=subprocess.DEVNULL, stdout=subprocess.DEVNULL, stderr=subprocess.DEVNULL, timeout=SECONDS, check=False)
         return ran.returncode, time.monotonic() - start
     return None, SECONDS
 

@@ -2,6 +2,8 @@
 
 use crate::call::Call;
 use crate::engine::check_engine;
+use crate::limit::{are_small, check_limits};
+use crate::nvcc_call::check_call;
 use crate::pair::{Pair, some_pair};
 use crate::planned::check_pair;
 use crate::run_error::RunError;
@@ -20,12 +22,27 @@ fn show(alloc: Global, pair: &Pair, tally: &mut Tally) -> Result<(), AllocError>
     tally.show("second dry run:", second.as_str())
 }
 
-// Checks the results for a pair, and shows the pair if a check failed.
-fn check_dry_runs(alloc: Global, pair: &Pair, tally: &mut Tally) -> Result<(), AllocError> {
-    let before = tally.failed();
+// Checks the results for a pair, unless its runs are too large.
+fn check_results(alloc: Global, pair: &Pair, tally: &mut Tally) -> Result<(), AllocError> {
+    tally.count("pairs")?;
+    if !are_small(alloc, pair) {
+        return tally.count("pairs too large");
+    }
     check_pair(alloc, pair, tally)?;
     check_engine(alloc, pair, tally)?;
-    check_selections(alloc, pair, tally)?;
+    check_selections(alloc, pair, tally)
+}
+
+// Checks the results for a pair, and shows the pair if a check failed.
+fn check_dry_runs(
+    alloc: Global,
+    source: &mut Source,
+    pair: &Pair,
+    tally: &mut Tally,
+) -> Result<(), AllocError> {
+    let before = tally.failed();
+    check_results(alloc, pair, tally)?;
+    check_limits(alloc, source, pair, tally)?;
     if tally.failed() > before {
         show(alloc, pair, tally)?;
     }
@@ -35,7 +52,7 @@ fn check_dry_runs(alloc: Global, pair: &Pair, tally: &mut Tally) -> Result<(), A
 // Checks the dry runs of a case.
 fn run_pair(alloc: Global, seed: u64, number: u64, tally: &mut Tally) -> Result<(), AllocError> {
     let pair = some_pair(alloc, seed, number, tally)?;
-    check_dry_runs(alloc, &pair, tally)
+    check_dry_runs(alloc, &mut Source::new(seed, number, 4), &pair, tally)
 }
 
 // Checks the lines and texts of a case.
@@ -52,6 +69,7 @@ fn run_all(alloc: Global, call: &Call, tally: &mut Tally) -> Result<(), AllocErr
         tally.turn_to(number);
         run_pair(alloc, call.seed, number, tally)?;
         run_lines(alloc, &mut Source::new(call.seed, number, 3), tally)?;
+        check_call(alloc, &mut Source::new(call.seed, number, 5), tally)?;
     }
     Ok(())
 }

@@ -20,8 +20,8 @@ fn word(alloc: Global, source: &mut Source) -> Result<String, AllocError> {
     String::from_str(alloc, source.pick(&HOST_WORDS))
 }
 
-// A random line. Most lines are compilations.
-fn line(alloc: Global, source: &mut Source) -> Result<Vec<String>, AllocError> {
+/// A random line. Most lines are compilations.
+pub fn line(alloc: Global, source: &mut Source) -> Result<Vec<String>, AllocError> {
     let mut words = Vec::new(alloc);
     if !source.one_in(3) {
         words.push(String::from_str(alloc, "-c")?)?;
@@ -34,8 +34,11 @@ fn line(alloc: Global, source: &mut Source) -> Result<Vec<String>, AllocError> {
     Ok(words)
 }
 
-// A random environment.
-fn environment(alloc: Global, source: &mut Source) -> Result<Vec<(String, String)>, AllocError> {
+/// A random environment.
+pub fn environment(
+    alloc: Global,
+    source: &mut Source,
+) -> Result<Vec<(String, String)>, AllocError> {
     let mut env_vars = Vec::new(alloc);
     let names = ["NVCC_PREPEND_FLAGS", "NVCC_APPEND_FLAGS", "A"];
     let values = [

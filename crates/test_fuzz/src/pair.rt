@@ -6,8 +6,13 @@ use crate::suffix_list::{further, suffixes};
 use crate::tally::Tally;
 use crate::template::Names;
 use cuda_plans::compiler::NvccHostCompiler;
-use cuda_plans::dry_run::{DryRun, FirstDir, Suffixes, read_dry_run};
-use cuda_plans::plan::{Plan, group_nvcc_subcommands_by_compilation_stage};
+use cuda_plans::dry_run::{
+    DryRun, FirstDir, LimitedFault, Suffixes, read_dry_run, read_dry_run_within,
+};
+use cuda_plans::plan::{
+    Plan, PlanWithOrigins, group_nvcc_subcommands_by_compilation_stage,
+    group_nvcc_subcommands_by_compilation_stage_within, plan_with_origins,
+};
 use std::alloc::{AllocError, Global};
 use texts::fault::Fault;
 
@@ -77,9 +82,66 @@ impl Setting {
         read_dry_run(alloc, bytes, run, self.cwd, &FirstDir)
     }
 
+    /// Reads a dry run within a limit in bytes.
+    pub fn read_within(
+        &self,
+        alloc: Global,
+        bytes: &[u8],
+        run: usize,
+        limit: usize,
+    ) -> Result<DryRun, LimitedFault> {
+        read_dry_run_within(alloc, bytes, run, self.cwd, &FirstDir, limit)
+    }
+
     /// Plans two dry runs.
     pub fn plan(&self, alloc: Global, first: &[u8], second: &[u8]) -> Result<Plan, Fault> {
         group_nvcc_subcommands_by_compilation_stage(
+            alloc,
+            first,
+            second,
+            self.flag,
+            self.cwd,
+            self.tmp,
+            self.keep_dir,
+            self.env_vars.as_slice(),
+            self.host_compiler,
+            &FirstDir,
+            &self.suffixes,
+        )
+    }
+
+    /// Plans two dry runs, each within a limit in bytes.
+    pub fn plan_within(
+        &self,
+        alloc: Global,
+        first: &[u8],
+        second: &[u8],
+        limit: usize,
+    ) -> Result<Plan, LimitedFault> {
+        group_nvcc_subcommands_by_compilation_stage_within(
+            alloc,
+            first,
+            second,
+            self.flag,
+            self.cwd,
+            self.tmp,
+            self.keep_dir,
+            self.env_vars.as_slice(),
+            self.host_compiler,
+            &FirstDir,
+            &self.suffixes,
+            limit,
+        )
+    }
+
+    /// Plans two dry runs, with the lines that commands come from.
+    pub fn plan_with_origins(
+        &self,
+        alloc: Global,
+        first: &[u8],
+        second: &[u8],
+    ) -> Result<PlanWithOrigins, Fault> {
+        plan_with_origins(
             alloc,
             first,
             second,

@@ -1,6 +1,7 @@
 //! Checks the plan of two dry runs.
 
 use crate::count::{Sum, run_of};
+use crate::exports::check_exports;
 use crate::pair::{Pair, Setting};
 use crate::renaming::{check_renaming, renamed};
 use crate::tally::Tally;
@@ -129,6 +130,7 @@ fn check_answers(
         (Ok(first), Ok(second), Ok(plan)) => {
             count_plan(plan, tally)?;
             check_commands(alloc, &pair.setting, (first, second), plan, tally)?;
+            check_exports(alloc, pair, plan, tally)?;
             check_renaming(alloc, pair, plan, tally)
         }
         _ => tally.expect(false, "a plan comes exactly if both dry runs can be read"),
@@ -137,7 +139,6 @@ fn check_answers(
 
 /// Plans a pair and checks the result.
 pub fn check_pair(alloc: Global, pair: &Pair, tally: &mut Tally) -> Result<(), AllocError> {
-    tally.count("pairs")?;
     let setting = &pair.setting;
     let (first, second) = (pair.first.as_slice(), pair.second.as_slice());
     let planned = setting.plan(alloc, first, second);

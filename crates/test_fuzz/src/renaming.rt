@@ -1,9 +1,12 @@
 //! Plans of dry runs whose generated files have other names.
 
 use crate::count::mark_of;
+use crate::limit::read_small;
 use crate::pair::{Pair, Setting};
 use crate::tally::Tally;
-use cuda_plans::dry_run::{Commands, DryRun, Suffixes, is_clean, is_shadow, remap_commands};
+use cuda_plans::dry_run::{
+    Commands, DryRun, LimitedFault, Suffixes, is_clean, is_shadow, remap_commands,
+};
 use cuda_plans::plan::Plan;
 use cuda_plans::shell;
 use plan_texts::show_plan;
@@ -138,38 +141,53 @@ fn written(alloc: Global, bytes: &[u8], commands: &Commands) -> Result<Vec<u8>, 
     Ok(text)
 }
 
-// Whether a dry run has these commands and variables, and is clean.
-fn is_read_as(
-    alloc: Global,
+// A dry run that was read and written again: a copy of it, by what reading it gives.
+#[derive(Drop)]
+enum CopiedRun {
+    // It reads as its source, and is clean.
+    Same(Vec<u8>),
+    // It doesn't. That happens if words hold newlines or references to variables.
+    Other,
+    // It can't be read within the limit. That happens if words hold references to long variables.
+    TooLarge,
+}
+
+// What a dry run is that was written with these commands, by what is read of it.
+fn written_as(
     setting: &Setting,
-    bytes: &[u8],
+    text: Vec<u8>,
+    read: &Result<DryRun, LimitedFault>,
     commands: &Commands,
     env: &Variables,
-) -> bool {
-    let read = setting.read(alloc, bytes, 1);
-    let holds = match &read {
+) -> CopiedRun {
+    let holds = match read {
+        Err(LimitedFault::TooLong { .. }) => return CopiedRun::TooLarge,
+        Err(_) => false,
         Ok(read) => {
             read.commands == *commands && read.env == *env && is_clean(read, &setting.suffixes)
         }
-        Err(_) => false,
     };
-    drop(read);
-    holds
+    if holds {
+        CopiedRun::Same(text)
+    } else {
+        CopiedRun::Other
+    }
 }
 
-// A dry run, read and written again, with other names or unchanged. `None` if the new run doesn't read as its source, or
-// isn't clean. That happens if words hold newlines or references to variables.
+// A dry run, read and written again, with other names or unchanged.
 fn rewritten(
     alloc: Global,
     setting: &Setting,
     bytes: &[u8],
     run: &DryRun,
     suffixes: Option<&Suffixes>,
-) -> Result<Option<Vec<u8>>, AllocError> {
+) -> Result<CopiedRun, AllocError> {
     let commands = other_commands(alloc, suffixes, &run.commands)?;
     let text = written(alloc, bytes, &commands)?;
-    let holds = is_read_as(alloc, setting, text.as_slice(), &commands, &run.env);
-    Ok(if holds { Some(text) } else { None })
+    let read = read_small(alloc, setting, text.as_slice(), 1);
+    let copied = written_as(setting, text, &read, &commands, &run.env);
+    drop(read);
+    Ok(copied)
 }
 
 // Checks that two plans are equal and print the same text.
@@ -214,22 +232,21 @@ fn check_same(
     let setting = &pair.setting;
     let first = rewritten(alloc, setting, pair.first.as_slice(), runs.0, suffixes)?;
     let second = rewritten(alloc, setting, pair.second.as_slice(), runs.1, suffixes)?;
-    let (Some(first), Some(second)) = (&first, &second) else {
-        return tally.count("pairs that can't be written so");
-    };
-    tally.count(if suffixes.is_some() {
-        "pairs with other names"
-    } else {
-        "pairs written anew"
-    })?;
-    check_anew(
-        alloc,
-        setting,
-        first.as_slice(),
-        second.as_slice(),
-        plan,
-        tally,
-    )
+    match (&first, &second) {
+        (CopiedRun::Same(first), CopiedRun::Same(second)) => {
+            tally.count(if suffixes.is_some() {
+                "pairs with other names"
+            } else {
+                "pairs written anew"
+            })?;
+            let (first, second) = (first.as_slice(), second.as_slice());
+            check_anew(alloc, setting, first, second, plan, tally)
+        }
+        (CopiedRun::TooLarge, _) | (_, CopiedRun::TooLarge) => {
+            tally.count("pairs too large if written so")
+        }
+        _ => tally.count("pairs that can't be written so"),
+    }
 }
 
 /// The commands of a run, with canonical names.

@@ -6,8 +6,9 @@ use std::alloc::{AllocError, Global};
 use texts::fault::Fault;
 
 // The names of the counts, in the order in which they are printed.
-const NAMES: [&str; 44] = [
+const NAMES: [&str; 55] = [
     "pairs",
+    "pairs too large",
     "plans",
     "plans with device groups",
     "plans that drop commands",
@@ -24,12 +25,20 @@ const NAMES: [&str; 44] = [
     "pairs written anew",
     "pairs with other names",
     "pairs that can't be written so",
+    "pairs too large if written so",
+    "plans too large for scripts",
+    "scripts",
+    "Ninja files",
     "plans printed",
     "plans not printed",
     "selections",
     "selections refused",
     "lists of suffixes taken",
     "refused: bad suffixes",
+    "runs within a limit",
+    "runs over a limit",
+    "plans within a limit",
+    "plans over a limit",
     "device lines",
     "lines written back",
     "lines reread",
@@ -45,6 +54,8 @@ const NAMES: [&str; 44] = [
     "refused: threads without a value",
     "lines without keep words",
     "lines without thread words",
+    "nvcc lines split",
+    "nvcc lines that go to nvcc",
     "lists of words quoted",
     "texts split",
     "texts without words",
