@@ -146,16 +146,16 @@ lines | dry_runs/which | found 2 | exe.len() > 500_000
 plans | dry_runs/reader | read_dry_run | dry_run.len() > 500_000
 plans | dry_runs/reader | read_dry_run_within before left = | number > 5_000
 plans | dry_runs/reader | read_dry_run_within before left = | said.commands.as_slice().len() > 500
-plans | dry_runs/reader | read_dry_run_within before left = | said.env.len() > 500
+plans | dry_runs/reader | read_dry_run_within before left = | said.env.as_slice().len() > 500
 plans | dry_runs/reader | read_dry_run_within | limit != usize::MAX && dry_run.len() > 5_000
 plans | dry_runs/statement | statement_of | line.len() > 50_000
-plans | dry_runs/statement | statement_of | env.len() > 50
+plans | dry_runs/statement | statement_of | env.as_slice().len() > 50
 plans | dry_runs/statement | statement_within | line.len() > 500_000
-plans | dry_runs/statement | statement_within | env.len() > 500
+plans | dry_runs/statement | statement_within | env.as_slice().len() > 500
 plans | dry_runs/environment | expanded_words | text.len() > 5_000
 plans | dry_runs/environment | expanded_words_within | text.len() > 500_000
-plans | dry_runs/environment | expanded_words_within | env.len() > 500
-plans | dry_runs/environment | expanded_words_within before match first_reference | long_body::count_of(text, '$') > 500
+plans | dry_runs/environment | expanded_words_within | env.as_slice().len() > 500
+plans | dry_runs/environment | expanded_words_within before match env.first_reference | long_body::count_of(text, '$') > 500
 
 plans | canonical_names/remap | remap_generated_filenames | args.len() > 500
 plans | canonical_names/remap | remap_generated_filenames | renames.len() > 500
