@@ -17,6 +17,20 @@ pub struct LineCall<'a> {
     pub words: &'a [String],
 }
 
+/// Parses `TOOL CWD WORD..`. `None` if the words have another form or name another tool.
+pub fn line_call<'a>(words: &'a [String]) -> Option<LineCall<'a>>
+    ensures { option_map spec.line_of result ≡ spec.line_call_of (map string_bytes words.now) }
+{
+    let [tool, cwd, line @ ..] = words else {
+        return None;
+    };
+    Some(LineCall {
+        tool: Tool::named(tool.as_str())?,
+        cwd: cwd.as_str(),
+        words: line,
+    })
+}
+
 /// A call that plans the dry runs of two files.
 #[derive(Debug, Drop)]
 pub struct PlanCall<'a> {
@@ -32,20 +46,6 @@ pub struct PlanCall<'a> {
     pub dry2: &'a str,
     /// Further suffixes of generated files.
     pub suffixes: &'a [String],
-}
-
-/// Parses `TOOL CWD WORD..`. `None` if the words have another form or name another tool.
-pub fn line_call<'a>(words: &'a [String]) -> Option<LineCall<'a>>
-    ensures { option_map spec.line_of result ≡ spec.line_call_of (map string_bytes words.now) }
-{
-    let [tool, cwd, line @ ..] = words else {
-        return None;
-    };
-    Some(LineCall {
-        tool: Tool::named(tool.as_str())?,
-        cwd: cwd.as_str(),
-        words: line,
-    })
 }
 
 /// Parses `CWD TMP FLAG DRY1 DRY2 SUFFIX..`. `None` if the words are too few.
