@@ -27,7 +27,7 @@ fn planned(alloc: Global, second: &[u8], limit: usize) -> Result<Plan, LimitedFa
     )
 }
 
-// The same, with the lines that its commands come from.
+// The same with a folder that keeps generated files, and with the lines that its commands come from.
 fn with_origins(
     alloc: Global,
     second: &[u8],
@@ -40,7 +40,7 @@ fn with_origins(
         "-c",
         "/w",
         "/t",
-        None,
+        Some("/t"),
         &[],
         NvccHostCompiler::Gcc,
         &FirstDir,
