@@ -201,25 +201,6 @@ fn message_at(alloc: Global, place: &Option<Place<'_>>, fault: &Fault) -> Result
     }
 }
 
-// The message of a fault of a call that plans, but for bad suffixes.
-fn run_message<L: Which>(
-    alloc: Global,
-    which: &L,
-    call: &PlanCall<'_>,
-    dry1: &[u8],
-    dry2: &[u8],
-    fault: &Fault,
-) -> Result<String, AllocError>
-    ensures { IfOk result (λ text. string_bytes text
-        ≡ spec.run_message (L.answer which.now) (plan_of call.now) dry1.now dry2.now fault.now) }
-{
-    if !is_of_line(fault) {
-        return plain_fault(alloc, fault);
-    }
-    let place = place_of(alloc, which, call, dry1, dry2)?;
-    message_at(alloc, &place, fault)
-}
-
 // The message of suffixes that break the rule.
 fn suffix_message(alloc: Global, further: &[String]) -> Result<String, AllocError>
     ensures { IfOk result (λ text. string_bytes text ≡ further_text (map string_bytes further.now)) }
@@ -227,24 +208,6 @@ fn suffix_message(alloc: Global, further: &[String]) -> Result<String, AllocErro
     let mut text = String::new(alloc);
     push_suffix_fault(alloc, &mut text, further)?;
     Ok(text)
-}
-
-// The message of a fault of a call that plans.
-fn fault_message<L: Which>(
-    alloc: Global,
-    which: &L,
-    call: &PlanCall<'_>,
-    dry1: &[u8],
-    dry2: &[u8],
-    fault: &Fault,
-) -> Result<String, AllocError>
-    ensures { IfOk result (λ text. string_bytes text
-        ≡ spec.fault_message (L.answer which.now) (plan_of call.now) dry1.now dry2.now fault.now) }
-{
-    match fault {
-        Fault::BadSuffixes => suffix_message(alloc, call.suffixes),
-        _ => run_message(alloc, which, call, dry1, dry2, fault),
-    }
 }
 
 // The file that can't be a dry run of a call, if there is one.
@@ -296,7 +259,12 @@ pub fn plan_message<L: Which>(
         ≡ spec.plan_message (L.answer which.now) (plan_of call.now) dry1.now dry2.now stop.now) }
 {
     match stop {
-        Stop::Fault(fault) => fault_message(alloc, which, call, dry1, dry2, fault),
+        Stop::Fault(Fault::BadSuffixes) => suffix_message(alloc, call.suffixes),
+        Stop::Fault(fault) if is_of_line(fault) => {
+            let place = place_of(alloc, which, call, dry1, dry2)?;
+            message_at(alloc, &place, fault)
+        }
+        Stop::Fault(fault) => plain_fault(alloc, fault),
         Stop::Unwritable(why) => with_file(alloc, unfit_file(call, dry1, dry2), why.as_str()),
         _ => plain_message(alloc, stop),
     }
