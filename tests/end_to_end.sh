@@ -61,13 +61,14 @@ finish() {
 # that is only that the build, its processes included, takes more than a second to stop.
 interrupt() {
     local folder process start problems='' ended
-    folder=$(mktemp -d "$scratch/$1.XXXXXX")
+    folder=$(mktemp -d "$scratch/$1.XXXXXX") || { echo 'there is no folder for it' && return; }
     mkdir "$folder/work" "$folder/tmp"
     printf '%s\n' '#include <cstdio>' '__global__ void kernel(int* values) { values[0] = 1; }' > "$folder/work/k.cu"
     (cd "$folder/work" && exec env --default-signal=HUP,INT,TERM TMPDIR="$folder/tmp" "$wrapper" -arch=all-major -c k.cu -o k.o) &
     process=$!
     for _ in $(seq 600); do
-        [ -z "$(find "$folder/tmp" -name 'x_0*.ii')" ] || break
+        [ -z "$(find "$folder/tmp" -name 'x_0*.ii' 2> /dev/null)" ] || break
+        kill -0 "$process" 2> /dev/null || break
         sleep 0.05
     done
     start=$EPOCHREALTIME
