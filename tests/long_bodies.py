@@ -186,9 +186,9 @@ plans | command_groups/planning | plan_with_origins_within | env_vars.len() > 50
 plans | command_groups/planning | group_nvcc_subcommands_by_compilation_stage | dry1.len() > 30_000
 plans | command_groups/planning | group_nvcc_subcommands_by_compilation_stage | env_vars.len() > 500
 plans | command_groups/planning | group_nvcc_subcommands_by_compilation_stage | suffixes.len() > 500
-plans | command_groups/within | plan_with_origins_within | dry1.len() > 5_000
-plans | command_groups/within | plan_with_origins_within before Ok(planned) | planned.plan.groups.as_slice().len() > 50
-plans | command_groups/within | group_nvcc_subcommands_by_compilation_stage_within | dry2.len() > 5_000
+plans | command_groups/planning | plan_with_origins_within | limit != usize::MAX && dry1.len() > 5_000
+plans | command_groups/planning | plan_with_origins_within before Ok(planned) | limit != usize::MAX && planned.plan.groups.as_slice().len() > 50
+plans | command_groups/planning | group_nvcc_subcommands_by_compilation_stage_within | dry2.len() > 5_000
 plans | command_groups/select | select_nvcc_subcommands before let commands | said.commands.as_slice().len() > 500
 plans | command_groups/select | select_nvcc_subcommands | env_vars.len() > 500
 plans | command_groups/plan | try_clone | self.args.len() > 50
