@@ -27,6 +27,7 @@ cat > "$scratch/bin/zigrunk" << 'END'
 line=zigrunk
 for word; do line="$line [$word]"; done
 printf '%s\n' "$line" >> "$LOG"
+[ "$1" != --limit ] || shift 2
 case $1 in
 directory) shift && printf 'call-%s\n' "$(printf '%s\n' "$@" | cksum | tr ' ' -)" ;;
 calls)

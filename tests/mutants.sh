@@ -52,6 +52,9 @@ new: "$nvcc")
 no launcher form by ZIGRUNK_NVCC
 old: *nvcc | "$nvcc")
 new: *nvcc)
+the limit is that of a text that nobody knows
+old: --limit 268435456 ninja
+new: ninja
 any first word is taken for nvcc
 old: *nvcc | "$nvcc")
 new: *)

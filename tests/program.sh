@@ -945,10 +945,16 @@ limits() {
         # in 300 MB
         ulimit -S -v 307200
         check "$form: $(wc -c < "$scratch/doubling") bytes that explode" 1 '' \
-            "zigrunk: $scratch/doubling:27: with this line, the dry run makes over 16777216 bytes: --limit allows more"$'\n    #$ $A.\n' \
+            "zigrunk: $scratch/doubling:27: with this line, the dry run makes over 4194304 bytes: --limit allows more"$'\n    #$ $A.\n' \
             "$form" /w /t -c "$scratch/doubling" "$scratch/doubling.2"
         ulimit -S -v unlimited
     done
+    # ten refusals take half a second of the processor at most, or twice that if it shares a core with other work
+    local TIMEFORMAT='%3U + %3S'
+    out=$({ time for form in 1 2 3 4 5 6 7 8 9 10; do "$program" json /w /t -c "$scratch/doubling" "$scratch/doubling.2" 2> /dev/null; done; } 2>&1)
+    echo 0 > "$scratch/status"
+    awk "BEGIN { print (($out) < 1) }" > "$scratch/out" 2> "$scratch/err"
+    judge "ten refusals of a text that explodes take $out s" 0 $'1\n' ''
     local usage
     usage=$("$program" 2>&1; printf .)
     for out in '' '--limit' '--limit 5' '--limit x json' '--limit -1 json' '--limit 5 --limit 5 json'; do

@@ -46,6 +46,7 @@ cat > "$scratch/bin/zigrunk" << 'END'
 line=zigrunk
 for word; do line="$line [$word]"; done
 printf '%s\n' "$line" >> "$LOG"
+[ "$1" != --limit ] || shift 2
 case $1 in
 directory)
     eval "${DIRECTORY_DOES-}"
@@ -156,15 +157,15 @@ cases() {
     script NINJA_DOES='touch "$tmp/k.ii"' -o k.o 'a b.cu' ''
     same status "$status" 0
     same output "$(cat "$room/out" "$room/err")" ''
-    sed "s,$room,ROOM,g" "$room/log" | sort > "$room/sorted"
+    sed "s,$room,ROOM,g" "$room/log" | LC_ALL=C sort > "$room/sorted"
     cat > "$room/wanted" << END
 ninja [-f] [ROOM/tmp/zigrunk-$user/zigrunk-name/zigrunk.tmp/ninja]
 nvcc [--dryrun] [-o] [k.o] [a b.cu] []
 nvcc [--dryrun] [first]
 nvcc [--dryrun] [second]
+zigrunk [--limit] [268435456] [ninja] [--whole] [ROOM/work] [ROOM/tmp/zigrunk-$user/zigrunk-name] [-c] [ROOM/tmp/zigrunk-$user/zigrunk-name/zigrunk.tmp/dry1] [ROOM/tmp/zigrunk-$user/zigrunk-name/zigrunk.tmp/dry2]
 zigrunk [calls] [ROOM/work] [ROOM/tmp/zigrunk-$user/zigrunk-name] [nvcc] [-o] [k.o] [a b.cu] []
 zigrunk [directory] [ROOM/work] [nvcc] [-o] [k.o] [a b.cu] []
-zigrunk [ninja] [--whole] [ROOM/work] [ROOM/tmp/zigrunk-$user/zigrunk-name] [-c] [ROOM/tmp/zigrunk-$user/zigrunk-name/zigrunk.tmp/dry1] [ROOM/tmp/zigrunk-$user/zigrunk-name/zigrunk.tmp/dry2]
 END
     same calls "$(diff "$room/sorted" "$room/wanted")" ''
     leaves_nothing
@@ -479,7 +480,7 @@ END
     same status "$status" 0
     same output "$(cat "$room/out" "$room/err")" ''
     same 'files kept' "$(ls -A "$room/a dir")" $'.k\nk 1.ii\nsub\nzigrunk.ptx'
-    holds calls "$room/log" "zigrunk [ninja] [--keep] [--whole] [$room/work] [$split] [-c] [$split/zigrunk.tmp/dry1] [$split/zigrunk.tmp/dry2]"
+    holds calls "$room/log" "zigrunk [--limit] [268435456] [ninja] [--keep] [--whole] [$room/work] [$split] [-c] [$split/zigrunk.tmp/dry1] [$split/zigrunk.tmp/dry2]"
     leaves_nothing
     end
     begin 'files that are kept of a call that fails'

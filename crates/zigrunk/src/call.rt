@@ -49,8 +49,8 @@ pub enum Call<'a> {
     Version,
 }
 
-/// The limit of a call that names none, in bytes: 16 MiB. The dry runs of a real call hold some hundred KiB.
-const DEFAULT_LIMIT: usize = 16_777_216;
+/// The limit of a call that names none, in bytes: 4 MiB. The dry runs of a real call hold some hundred KiB.
+const DEFAULT_LIMIT: usize = 4_194_304;
 
 // The format of a name.
 fn format_named(name: &str) -> Option<Format>
