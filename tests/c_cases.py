@@ -8,6 +8,7 @@ in C. The status is 1 if an answer is wrong, if one of wrong_cases.txt is taken 
 ZIGRUNK_LIBRARY has to name the shared object, and PYTHONPATH the binding's folder."""
 
 import collections
+import dataclasses
 import json
 import os
 import re
@@ -23,6 +24,9 @@ STANDARD = [".cpp1.ii", ".cpp4.ii", ".cudafe1.c", ".cudafe1.cpp", ".cudafe1.stub
 TOOLS = {"cicc": Tool.CICC, "cudafe++": Tool.CUDAFE, "ptxas": Tool.PTXAS, "nvcc": Tool.NVCC, "nvc": Tool.NVC, "nvc++": Tool.NVCXX}
 LANGUAGES = {"C": "c", "Cxx": "c++", "ObjectiveC": "objc", "ObjectiveCxx": "objc++", "Cuda": "cuda", "CudaFE": "cuda", "Ptx": "ptx",
              "Cubin": "cubin"}
+LANGUAGE_FACTS = {zigrunk.Language.C: "C", zigrunk.Language.CXX: "Cxx", zigrunk.Language.OBJC: "ObjectiveC",
+                  zigrunk.Language.OBJCXX: "ObjectiveCxx", zigrunk.Language.CUDA: "Cuda", zigrunk.Language.CUDAFE: "CudaFE",
+                  zigrunk.Language.PTX: "Ptx", zigrunk.Language.CUBIN: "Cubin"}
 # the outputs of a line in the order of facts
 KEYS = ["obj", "d", "--gen_c_file_name", "--gen_device_file_name", "--module_id_file_name", "--stub_file_name"]
 HOSTS = {"gcc": zigrunk.HostCompiler.GCC, "msvc": zigrunk.HostCompiler.MSVC, "nvhpc": zigrunk.HostCompiler.NVHPC}
@@ -35,10 +39,10 @@ OPEN_QUOTE = "open quote or backslash at the end"
 
 # Kinds that tell all that a case expects, and kinds that tell a part of it, each with the fewest cases to be made. A wrong case
 # of the second kind may look right.
-WHOLE = {"candidates": 7, "c_quote": 4, "c_split": 8, "files": 6, "lookups": 4, "needs": 7, "parse": 135,
+WHOLE = {"candidates": 7, "c_quote": 4, "c_split": 8, "files": 6, "lookups": 4, "needs": 7, "parse": 135, "parse as records": 135,
          "plan as JSON": 63, "plan as records": 63, "plan as text": 63, "plan_text": 82, "quote": 4, "rename": 40,
          "reread": 14, "split": 77}
-PART = {"normal_form": 120, "read": 60, "suffixes": 18, "write": 74}
+PART = {"normal_form": 120, "read": 60, "read_within": 24, "suffixes": 18, "write": 74}
 
 
 def unescaped(text, number):
@@ -119,6 +123,14 @@ def fault(words):
     """The status and the message of a fact `fault`."""
     message = " ".join(words)
     return next(status for form, status in FAULTS if re.fullmatch(form, message, re.DOTALL)), message
+
+
+def refused(case, limit=None):
+    """The status and the message of a case that is refused, or None. The library's message names the limit too."""
+    name, *words = case.facts[0]
+    if name == "too-long":
+        return Status.OVER_LIMIT, f"run {words[0]} line {words[1]}: over the limit of {limit} bytes"
+    return fault(words) if name == "fault" else None
 
 
 def split_settings(settings):
@@ -226,17 +238,30 @@ def facts_of_line(said):
     return facts + ([["too-hard", too_hard]] if too_hard is not None else [])
 
 
+def members_of(line):
+    """The records of a line, as the JSON form has them."""
+    members = dataclasses.asdict(line) | {"version": 1, "color_mode": line.color_mode.name.lower()}
+    members["language"] = LANGUAGES[LANGUAGE_FACTS[line.language]]
+    return json.loads(json.dumps(members))
+
+
 def parse(case):
     tool, cwd, *settings = case.settings
     if tool not in TOOLS:
         return []
-    status, said = told(zigrunk.line, TOOLS[tool], cwd, case.words, split_settings(settings)[0])
+    line = TOOLS[tool], cwd, case.words, split_settings(settings)[0]
+    (status, said), (records_status, records) = told(zigrunk.line, *line), told(zigrunk.line_records, *line)
     message = refusal(case.facts)
-    if message is None:
-        expected = Status.OK, [[LANGUAGES[case.facts[0][0]], *case.facts[0][1:]], *case.facts[1:]]
-    else:
+    if message is not None:
         expected = Status.BAD_LINE, message
-    return [("parse", expected, (status, facts_of_line(json.loads(said)) if status == Status.OK else said))]
+        return [("parse", expected, (status, said)), ("parse as records", expected, (records_status, records))]
+    expected = Status.OK, [[LANGUAGES[case.facts[0][0]], *case.facts[0][1:]], *case.facts[1:]]
+    got = status, facts_of_line(json.loads(said)) if status == Status.OK else said
+    if records_status == Status.OK:
+        # the records tell more languages apart than the JSON form, and say the same else
+        facts = facts_of_line(members_of(records) | {"language": LANGUAGE_FACTS[records.language]})
+        records = facts if members_of(records) == json.loads(said) else ["not what the JSON form says", records]
+    return [("parse", expected, got), ("parse as records", (Status.OK, case.facts), (records_status, records))]
 
 
 def line_of(case):
@@ -364,7 +389,8 @@ def plan_call(case, suffixes, others, variables):
     cwd, tmp, flag = case.settings[:3]
     keep = others["keep"][-1] if others["keep"] else None
     host = HOSTS[others["host"][-1]] if others["host"] else zigrunk.HostCompiler.GCC
-    return zigrunk.PlanCall(first, second[0] if second else first, cwd, tmp, flag, keep, variables, suffixes, host)
+    limit = int(others["limit"][-1]) if others["limit"] else None
+    return zigrunk.PlanCall(first, second[0] if second else first, cwd, tmp, flag, keep, variables, suffixes, host, limit)
 
 
 def plan(case):
@@ -375,8 +401,8 @@ def plan(case):
     call, whole = plan_call(case, suffixes, others, variables), case.call == "plan_whole"
     records, text = told(zigrunk.plan_records, call, which=first_dir), told(zigrunk.plan, call, zigrunk.Form.JSON, first_dir)
     lines = told(zigrunk.plan, call, zigrunk.Form.TEXT, first_dir)
-    if case.facts[0][0] == "fault":
-        expected = fault(case.facts[0][1:])
+    expected = refused(case, call.limit)
+    if expected is not None:
         return [("plan as records", expected, records), ("plan as JSON", expected, text), ("plan as text", expected, lines)]
     return [
         ("plan as records", (Status.OK, case.facts), (records[0], records_facts(records[1], whole) if records[0] == 0 else records[1])),
@@ -429,6 +455,20 @@ def read(case):
     return [("read", fault(case.facts[0][1:]), told(zigrunk.plan_records, call, first_dir))]
 
 
+def read_within(case):
+    """A dry run that is read within a limit, as one of the two of a plan: whether it fits, and else what is said. The other is empty."""
+    number, cwd, limit, *settings = case.settings
+    if limit == "0" or number not in ("1", "2"):
+        return []
+    run = dry_runs(case, split_settings(settings)[1])[0]
+    call = zigrunk.PlanCall(*((run, b"") if number == "1" else (b"", run)), cwd, "/t", keep_dir="/t", limit=int(limit))
+    status, plan = told(zigrunk.plan_records, call, first_dir)
+    expected = refused(case, limit)
+    if expected is None:
+        return [("read_within", Status.OK, status)]
+    return [("read_within", expected, (status, plan))]
+
+
 def rename(case):
     suffixes = further(split_settings(case.settings)[1]["suffix"])
     if suffixes is None:
@@ -465,7 +505,7 @@ def lookups(case):
 CALLS = {
     "split": split, "c_split": split, "quote": quote, "c_quote": quote, "parse": parse, "write": write, "write_whole": write,
     "reread": reread, "normal_form": normal_form, "plan": plan, "plan_whole": plan, "plan_text": plan_text,
-    "files": files_and_needs, "needs": files_and_needs, "read": read, "read_whole": read, "rename": rename, "suffixes": suffixes,
+    "files": files_and_needs, "needs": files_and_needs, "read": read, "read_whole": read, "read_within": read_within, "rename": rename, "suffixes": suffixes,
     "candidates": candidates, "lookups": lookups,
 }
 

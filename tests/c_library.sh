@@ -108,8 +108,14 @@ calls() {
     cat "$scratch/said" >> "$programs/answers"
     check "records.c" compiled gcc tests/c/records.c "$programs/records" "$library"
     check 'the records' "$programs/records" 1000 "$data" "${real_calls[@]}"
+    check "limits.c" compiled gcc tests/c/limits.c "$programs/limits" "$library"
+    check 'the limits' "$programs/limits"
+    grep '^digest' "$scratch/said" >> "$programs/answers"
     check "lines.c" compiled gcc tests/c/lines.c "$programs/lines" "$library"
     check 'the lines' "$programs/lines"
+    cat "$scratch/said" >> "$programs/answers"
+    check "line_records.c" compiled gcc tests/c/line_records.c "$programs/line_records" "$library"
+    check 'the records of lines' "$programs/line_records" 1000
     cat "$scratch/said" >> "$programs/answers"
     check 'failing_memory.c' compiled gcc tests/c/failing_memory.c "$programs/failing_memory" "$library" "${memory_functions[@]}"
     check 'each allocation failing in turn' "$programs/failing_memory"
@@ -124,7 +130,9 @@ watched() {
         check 'the calls under memcheck' valgrind -q --error-exitcode=9 --leak-check=full "$programs/calls" 100
         check 'the plans under memcheck' valgrind -q --error-exitcode=9 --leak-check=full "$programs/plans" "$data" "${real_calls[0]}"
         check 'the records under memcheck' valgrind -q --error-exitcode=9 --leak-check=full "$programs/records" 20 "$data" "${real_calls[0]}"
+        check 'the limits under memcheck' valgrind -q --error-exitcode=9 --leak-check=full "$programs/limits" watched
         check 'the lines under memcheck' valgrind -q --error-exitcode=9 --leak-check=full "$programs/lines"
+        check 'the records of lines under memcheck' valgrind -q --error-exitcode=9 --leak-check=full "$programs/line_records" 50
         check 'the threads under helgrind' valgrind -q --tool=helgrind --error-exitcode=9 "$programs/threads" 20
     fi
     if has clang; then
@@ -134,8 +142,12 @@ watched() {
         check 'the plans under ASan and UBSan' "$programs/sanitized_plans" "$data" "${real_calls[@]}"
         check 'records.c with sanitizers' compiled clang tests/c/records.c "$programs/sanitized_records" "$library" -fsanitize=address,undefined -fno-sanitize-recover=all
         check 'the records under ASan and UBSan' "$programs/sanitized_records" 1000 "$data" "${real_calls[@]}"
+        check 'limits.c with sanitizers' compiled clang tests/c/limits.c "$programs/sanitized_limits" "$library" -fsanitize=address,undefined -fno-sanitize-recover=all
+        check 'the limits under ASan and UBSan' "$programs/sanitized_limits" watched
         check 'lines.c with sanitizers' compiled clang tests/c/lines.c "$programs/sanitized_lines" "$library" -fsanitize=address,undefined -fno-sanitize-recover=all
         check 'the lines under ASan and UBSan' "$programs/sanitized_lines"
+        check 'line_records.c with sanitizers' compiled clang tests/c/line_records.c "$programs/sanitized_line_records" "$library" -fsanitize=address,undefined -fno-sanitize-recover=all
+        check 'the records of lines under ASan and UBSan' "$programs/sanitized_line_records" 1000
     fi
 }
 

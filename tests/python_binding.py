@@ -137,6 +137,32 @@ class Calls(unittest.TestCase):
         call = zigrunk.PlanCall(run, run, "/w", "/t")
         self.rejects(zigrunk.Status.NOT_FOUND, "cicc: not found", zigrunk.plan, call, which=lambda lookup, folder: None)
 
+    def test_limits(self):
+        run = b"#$ PATH=/b\n#$ gcc -D__NVCC__ x.i\n"
+        call = zigrunk.PlanCall(run, run, "/w", "/t", limit=30)
+        self.assertEqual(len(zigrunk.plan_records(call, first).commands), 1)
+        call.limit = 29
+        for make in zigrunk.plan, zigrunk.plan_records:
+            self.rejects(zigrunk.Status.OVER_LIMIT, "run 1 line 1: over the limit of 29 bytes", make, call, which=first)
+        call.dry1 = b""
+        self.rejects(zigrunk.Status.OVER_LIMIT, "run 2 line 1: over the limit of 29 bytes", zigrunk.plan, call, which=first)
+        self.assertEqual(zigrunk.lookups(run, run, "/w", 29), [zigrunk.Lookup("gcc", "/b")])
+        self.rejects(zigrunk.Status.OVER_LIMIT, "run 1 line 1: over the limit of 28 bytes", zigrunk.lookups, run, run, "/w", 28)
+        for limit in 0, -1, 1 << 64:
+            call.limit = limit
+            for make in (lambda: zigrunk.plan(call, which=first)), (lambda: zigrunk.lookups(run, run, "/w", limit)):
+                with self.assertRaisesRegex(ValueError, f"a limit of {limit} bytes"):
+                    make()
+
+    def test_a_text_that_explodes(self):
+        names = "ABCDEFGHIJKLMNOPQRSTUVWXYZ"
+        lines = [f"#$ {it}=${other}.${other}." for it, other in zip(names, names[1:])]
+        run = "\n".join(["#$ PATH=/b", *lines, "#$ $A.", ""]).encode()
+        call = zigrunk.PlanCall(run, run, "/w", "/t", limit=2 << 20)
+        message = "run 1 line 26: over the limit of 2097152 bytes"
+        self.rejects(zigrunk.Status.OVER_LIMIT, message, zigrunk.plan, call, which=first)
+        self.rejects(zigrunk.Status.OVER_LIMIT, message, zigrunk.plan_records, call, which=first)
+
     def test_lines(self):
         words = "-arch=sm_80 k.ptx -o k.cubin".split()
         self.assertEqual(zigrunk.line_words(zigrunk.Tool.PTXAS, "/w", words), "-arch=sm_80 k.ptx -o /w/k.cubin".split())
@@ -145,10 +171,25 @@ class Calls(unittest.TestCase):
         self.assertEqual(said["outputs"], [{"key": "obj", "optional": False, "path": "/w/k.cubin"}])
         said = json.loads(zigrunk.line(zigrunk.Tool.NVCC, "/w", ["-c", "k.cu"], {"NVCC_APPEND_FLAGS": "-o j.o"}))
         self.assertEqual(said["outputs"][0]["path"], "j.o")
-        for call in zigrunk.line, zigrunk.line_words:
+        for call in zigrunk.line, zigrunk.line_records, zigrunk.line_words:
             self.rejects(zigrunk.Status.BAD_LINE, "not a compilation", call, zigrunk.Tool.CICC, "/w", [])
             self.rejects(zigrunk.Status.NOT_UTF8, "a text is not UTF-8", call, zigrunk.Tool.CICC, "/w", ["\udcff"])
         self.rejects(zigrunk.Status.BAD_LINE, 'Missing "ptx" file output', zigrunk.line_words, zigrunk.Tool.CICC, "/w", ["k.cpp1.ii"])
+
+    def test_line_records(self):
+        line = zigrunk.line_records(zigrunk.Tool.NVCC, "/w", "-MD -MF k.d -c k.cu -t 2 -DA".split(), {"NVCC_APPEND_FLAGS": "-o j.o"})
+        self.assertEqual((line.input, line.language, line.compilation_flag), ("k.cu", zigrunk.Language.CUDA, "-c"))
+        self.assertEqual(line.outputs, (zigrunk.Output("d", "k.d", False), zigrunk.Output("obj", "j.o", False)))
+        self.assertEqual((line.depfile, line.dependency_args[:3], line.unhashed_args), (None, ("-MD", "-MF", "k.d"), ("-t2",)))
+        self.assertEqual((line.color_mode, line.double_dash_input), (zigrunk.ColorMode.AUTO, False))
+        # buffers of the first call are too small for each part
+        words = [f"-DNAME_{it}={'x' * 90}" for it in range(300)] + ["k.cpp1.ii", "-o", "k.ptx"]
+        line = zigrunk.line_records(zigrunk.Tool.CICC, "/w", words)
+        self.assertEqual((line.common_args, line.language), (tuple(words[:300]), zigrunk.Language.PTX))
+        said = json.loads(zigrunk.line(zigrunk.Tool.CICC, "/w", words))
+        members = json.loads(json.dumps(dataclasses.asdict(line)))
+        differ = {name for name in said if said[name] != members.get(name)}
+        self.assertEqual(differ, {"color_mode", "language", "version"})
 
     def test_nvcc_lines(self):
         said = zigrunk.nvcc_line("/w", "/t", "nvcc", ["-c", "k.cu", "-o", "k.o", "-t", "2"])
@@ -188,7 +229,7 @@ class Layout(unittest.TestCase):
             code = re.sub(r"/\*.*?\*/", "", file.read(), flags=re.DOTALL)
         structs = re.findall(r"typedef struct \w+ \{(.*?)\} (\w+);", code, re.DOTALL)
         header = {name: re.findall(r"(\w+);", fields) for fields, name in structs}
-        self.assertGreaterEqual(len(header), 12)
+        self.assertGreaterEqual(len(header), 15)
         self.assertEqual({name: [field[0] for field in record._fields_] for name, record in self.records().items()}, header)
 
     @unittest.skipUnless(shutil.which("cc"), "needs cc")

@@ -21,7 +21,8 @@
  * Calls share no state, so any number of threads may call at the same time.
  *
  * Versions: names, numbers and records here don't change. A record that needs another field gets a new name, as does a
- * call that takes it, and the old ones stay. Numbers of new statuses may appear: treat an unknown status as a refusal.
+ * call that takes it, and the old ones stay. What is reserved may get a meaning, and 0 then means what it does now. Numbers
+ * of new statuses may appear: treat an unknown status as a refusal.
  */
 #ifndef ZIGRUNK_H
 #define ZIGRUNK_H
@@ -48,6 +49,7 @@ extern "C" {
 #define ZIGRUNK_UNWRITABLE 8   /* the form can't represent the plan */
 #define ZIGRUNK_BAD_LINE 9     /* a line of a tool can't be read, or isn't to be cached */
 #define ZIGRUNK_TO_NVCC 10     /* the line goes to nvcc as it is: the text has the reason */
+#define ZIGRUNK_OVER_LIMIT 11  /* a line of a dry run exceeds your limit: the text says which */
 
 /* Forms of a plan. */
 #define ZIGRUNK_JSON 0u  /* all there is to know, for programs: zigrunk(1) describes it */
@@ -67,6 +69,21 @@ extern "C" {
 #define ZIGRUNK_TOOL_NVCC 3u
 #define ZIGRUNK_TOOL_NVC 4u   /* nvc of nvhpc */
 #define ZIGRUNK_TOOL_NVCXX 5u /* nvc++ of nvhpc */
+
+/* Languages: that of a line's input, or what the tool makes of it. */
+#define ZIGRUNK_LANGUAGE_C 0u
+#define ZIGRUNK_LANGUAGE_CXX 1u
+#define ZIGRUNK_LANGUAGE_OBJC 2u
+#define ZIGRUNK_LANGUAGE_OBJCXX 3u
+#define ZIGRUNK_LANGUAGE_CUDA 4u
+#define ZIGRUNK_LANGUAGE_CUDAFE 5u /* cudafe++; the JSON form says "cuda" here too */
+#define ZIGRUNK_LANGUAGE_PTX 6u
+#define ZIGRUNK_LANGUAGE_CUBIN 7u
+
+/* Whether a compiler colours its messages. */
+#define ZIGRUNK_COLOR_OFF 0u
+#define ZIGRUNK_COLOR_ON 1u
+#define ZIGRUNK_COLOR_AUTO 2u
 
 /* What the groups of a plan are. */
 #define ZIGRUNK_FRONT 0u  /* the first: the preprocessor for the host, and cudafe++ */
@@ -107,8 +124,9 @@ typedef struct zigrunk_found_program {
     uint32_t reserved;  /* 0 */
 } zigrunk_found_program;
 
-/* One nvcc call, by what its two dry runs print. Set all of it to zero first, so that what is reserved is zero; then give
- * each text and each list a pointer that isn't NULL, also where it is empty. */
+/* One nvcc call, by what its two dry runs print. Set all of it to zero first; then give each text and each list a pointer that
+ * isn't NULL, also where it is empty. If someone else wrote the dry runs, give it a limit: variables that refer to each other
+ * can turn 350 bytes into gigabytes. */
 typedef struct zigrunk_plan_call {
     zigrunk_text dry1;     /* standard error of the call with --dryrun --keep; any bytes */
     zigrunk_text dry2;     /* the same with --keep-dir TMP --dryrun --keep */
@@ -124,7 +142,7 @@ typedef struct zigrunk_plan_call {
     size_t programs_count;
     uint32_t keeps;         /* 1 if generated files keep nvcc's names, else 0 */
     uint32_t host_compiler; /* ZIGRUNK_GCC .. */
-    uint64_t reserved;      /* 0 */
+    size_t limit;           /* how many bytes of text reading each dry run may make; 0 for any number. See zigrunk.h(3) */
 } zigrunk_plan_call;
 
 /* A line of a tool. Set all of it to zero first, then give each text and each list a pointer that isn't NULL. */
@@ -202,6 +220,48 @@ typedef struct zigrunk_records_answer {
     size_t length;
 } zigrunk_records_answer;
 
+/* What a line of a tool says. Its texts are elements of the list of ranges, each of which says where the bytes are. Words and
+ * paths are `length` texts from number `offset` on. (*) A field of sccache's that these tools' lines don't set. */
+typedef struct zigrunk_line_record {
+    size_t input;                    /* which text is the input's path, as the line has it */
+    size_t compilation_flag;         /* which text is the option that asks for a compilation, as "-c"; it may be empty */
+    zigrunk_range depfile;           /* none: the dependency file is the output "d" (*) */
+    zigrunk_range dependency_args;   /* the words that ask for dependencies */
+    zigrunk_range preprocessor_args; /* the words for the preprocessor */
+    zigrunk_range common_args;       /* the words that are part of a cache key */
+    zigrunk_range arch_args;         /* the words that name architectures, part of a cache key too */
+    zigrunk_range unhashed_args;     /* the words that are no part of a cache key */
+    zigrunk_range extra_dist_files;  /* paths of files that a distributed compilation also needs */
+    zigrunk_range extra_hash_files;  /* paths of files whose contents are part of a cache key */
+    zigrunk_range too_hard_for_preprocessor_cache_mode; /* none (*) */
+    uint32_t language;          /* ZIGRUNK_LANGUAGE_C .. */
+    uint32_t color_mode;        /* ZIGRUNK_COLOR_OFF .. */
+    uint32_t double_dash_input; /* 1 if the input comes after "--", else 0 */
+    uint32_t msvc_explicit_language; /* this and the rest: 0 (*) */
+    uint32_t msvc_show_includes;
+    uint32_t profile_generate;
+    uint32_t suppress_rewrite_includes_only;
+    uint32_t uses_external_assembler;
+} zigrunk_line_record;
+
+/* An output of a line. Its texts are elements of the list of ranges. */
+typedef struct zigrunk_output {
+    size_t key;        /* which text is "obj" for the file that the line is for, "d" for the dependency file, else an option */
+    size_t path;       /* which text is the path */
+    uint32_t optional; /* 1 if the command may leave the file out, else 0 */
+    uint32_t reserved; /* 0 */
+} zigrunk_output;
+
+/* The answer of a call that writes what a line says as records: how many outputs and ranges there are, the length of all
+ * texts together, and the line's record. All numbers of the record are 0 if the call refuses. */
+typedef struct zigrunk_line_answer {
+    int32_t status;
+    size_t outputs;
+    size_t ranges;
+    size_t length;
+    zigrunk_line_record line;
+} zigrunk_line_answer;
+
 /* The number of the binary interface. A program may compare it with ZIGRUNK_ABI_VERSION once, before other calls. */
 uint32_t zigrunk_abi_version(void);
 
@@ -225,14 +285,20 @@ ZIGRUNK_CHECK_RESULT zigrunk_list_answer zigrunk_lookups(const uint8_t *dry1, si
     const uint8_t *dry2, size_t dry2_length, const uint8_t *cwd, size_t cwd_length,
     zigrunk_range *ranges, size_t ranges_size, uint8_t *out, size_t out_size);
 
+/* Lists the same look-ups of dry runs that someone else wrote: ZIGRUNK_OVER_LIMIT if a line of one exceeds the limit. Here
+ * each command counts the value of PATH too, since looking its program up holds that. A limit of 0 allows any number. */
+ZIGRUNK_CHECK_RESULT zigrunk_list_answer zigrunk_lookups_within(const uint8_t *dry1, size_t dry1_length,
+    const uint8_t *dry2, size_t dry2_length, const uint8_t *cwd, size_t cwd_length, size_t limit,
+    zigrunk_range *ranges, size_t ranges_size, uint8_t *out, size_t out_size);
+
 /* Lists the paths that a look-up of a program tries, in order: the first that is an executable file is the program. */
 ZIGRUNK_CHECK_RESULT zigrunk_list_answer zigrunk_candidates(const uint8_t *program, size_t program_length,
     const uint8_t *path, size_t path_length, const uint8_t *cwd, size_t cwd_length,
     zigrunk_range *ranges, size_t ranges_size, uint8_t *out, size_t out_size);
 
 /* Plans the commands of one nvcc call, and writes the plan in a form (ZIGRUNK_JSON ..). A number without a meaning is the
- * first thing that it refuses, then a text that isn't UTF-8, then the suffixes, then the first bad line of the first run and
- * of the second, and last a plan that the form can't represent. */
+ * first thing that it refuses, then a text that isn't UTF-8, then the suffixes, then the first line of the first run and of the
+ * second that is bad or exceeds the limit, and last a plan that the form can't represent. */
 ZIGRUNK_CHECK_RESULT zigrunk_text_answer zigrunk_plan(const zigrunk_plan_call *call, uint32_t form,
     uint8_t *out, size_t out_size);
 
@@ -246,6 +312,12 @@ ZIGRUNK_CHECK_RESULT zigrunk_records_answer zigrunk_plan_records(const zigrunk_p
 /* Reads a line of a tool and writes what it says as JSON: its input, its outputs, and its words by what they are for.
  * zigrunk.h(3) lists the members. ZIGRUNK_BAD_LINE if the line compiles nothing, or no cache can serve it. */
 ZIGRUNK_CHECK_RESULT zigrunk_text_answer zigrunk_line(const zigrunk_line_call *call, uint8_t *out, size_t out_size);
+
+/* Reads the same line and writes what it says as records: its outputs, in the order of their keys, and the ranges of all its
+ * texts; the line's own record is in the answer. All of it is written if each of the three buffers is large enough, and
+ * nothing otherwise. It refuses what zigrunk_line refuses; then only the message is written, and the other counts are 0. */
+ZIGRUNK_CHECK_RESULT zigrunk_line_answer zigrunk_line_records(const zigrunk_line_call *call,
+    zigrunk_output *outputs, size_t outputs_size, zigrunk_range *ranges, size_t ranges_size, uint8_t *out, size_t out_size);
 
 /* Reads a line of a tool and lists the words that it is written back as. ZIGRUNK_BAD_LINE as zigrunk_line, and if the line
  * has no output. */

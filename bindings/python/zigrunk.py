@@ -13,14 +13,17 @@ import ctypes
 import enum
 import os
 import struct
+import sys
 from dataclasses import dataclass, field
-from typing import Callable, Iterable, List, Mapping, Optional, Sequence, Tuple, Union
+from typing import Callable, Iterable, List, Mapping, Optional, Sequence, Tuple, Type, TypeVar, Union
 
-__all__ = ["Command", "Form", "Group", "HostCompiler", "Lookup", "NvccLine", "Plan", "PlanCall", "Reason", "Stage", "Status", "Tool",
-           "ZigrunkError", "candidates", "find", "line", "line_words", "lookups", "nvcc_line", "plan", "plan_records", "quote",
-           "remap", "split", "version"]
+__all__ = ["ColorMode", "Command", "Form", "Group", "HostCompiler", "Language", "Line", "Lookup", "NvccLine", "Output", "Plan",
+           "PlanCall", "Reason", "Stage", "Status", "Tool", "ZigrunkError", "candidates", "find", "line", "line_records", "line_words",
+           "lookups", "nvcc_line", "plan", "plan_records", "quote", "remap", "split", "version"]
 
 _ABI_VERSION = 1
+
+_Number = TypeVar("_Number", bound=enum.IntEnum)
 
 
 class Status(enum.IntEnum):
@@ -37,6 +40,7 @@ class Status(enum.IntEnum):
     UNWRITABLE = 8
     BAD_LINE = 9
     TO_NVCC = 10
+    OVER_LIMIT = 11
 
 
 class Form(enum.IntEnum):
@@ -65,6 +69,28 @@ class Tool(enum.IntEnum):
     NVCC = 3
     NVC = 4
     NVCXX = 5
+
+
+class Language(enum.IntEnum):
+    """The language of a line's input, or what the tool makes of it."""
+
+    C = 0
+    CXX = 1
+    OBJC = 2
+    OBJCXX = 3
+    CUDA = 4
+    CUDAFE = 5
+    """Of cudafe++. The JSON form says "cuda" here too."""
+    PTX = 6
+    CUBIN = 7
+
+
+class ColorMode(enum.IntEnum):
+    """Whether a compiler colours its messages."""
+
+    OFF = 0
+    ON = 1
+    AUTO = 2
 
 
 class Stage(enum.IntEnum):
@@ -126,6 +152,9 @@ class PlanCall:
     suffixes: Sequence[str] = ()
     """Suffixes of generated files, behind the standard ones."""
     host_compiler: HostCompiler = HostCompiler.GCC
+    limit: Optional[int] = None
+    """How many bytes of text reading each dry run may make. Without a limit, 350 bytes of variables that refer to each other can
+    turn into gigabytes: give one if someone else wrote the dry runs."""
 
 
 @dataclass(frozen=True)
@@ -178,6 +207,60 @@ class Plan:
 
 
 @dataclass(frozen=True)
+class Output:
+    """A file that a line makes."""
+
+    key: str
+    """`obj` for the file that the line is for, `d` for the dependency file, else the option that names it."""
+    path: str
+    """Its path."""
+    optional: bool
+    """Whether the command may leave it out."""
+
+
+@dataclass(frozen=True)
+class Line:
+    """What a line of a tool says. Words are in the order of the line."""
+
+    input: str
+    """The input's path, as the line has it."""
+    outputs: Tuple[Output, ...]
+    """The files that the line makes, in the order of their keys."""
+    language: Union[Language, int]
+    """The input's language, or what the tool makes of it. A number if a later library has one that this module doesn't know."""
+    compilation_flag: str
+    """The option that asks for a compilation, as `-c`, or empty."""
+    depfile: Optional[str]
+    """None: a field of sccache's that these tools' lines don't set. The dependency file is the output `d`."""
+    dependency_args: Tuple[str, ...]
+    """The words that ask for dependencies."""
+    preprocessor_args: Tuple[str, ...]
+    """The words for the preprocessor."""
+    common_args: Tuple[str, ...]
+    """The words that are part of a cache key."""
+    arch_args: Tuple[str, ...]
+    """The words that name architectures, part of a cache key too."""
+    unhashed_args: Tuple[str, ...]
+    """The words that are no part of a cache key."""
+    extra_dist_files: Tuple[str, ...]
+    """Paths of files that a distributed compilation also needs."""
+    extra_hash_files: Tuple[str, ...]
+    """Paths of files whose contents are part of a cache key."""
+    too_hard_for_preprocessor_cache_mode: Optional[str]
+    """None, as `depfile`."""
+    color_mode: Union[ColorMode, int]
+    """Whether the compiler colours its messages: OFF for a device tool, else AUTO. A number if a later library has a mode that this module doesn't know."""
+    double_dash_input: bool
+    """Whether the input comes after `--`."""
+    msvc_explicit_language: bool
+    """False, and so are the others: fields of sccache's that these tools' lines don't set."""
+    msvc_show_includes: bool
+    profile_generate: bool
+    suppress_rewrite_includes_only: bool
+    uses_external_assembler: bool
+
+
+@dataclass(frozen=True)
 class NvccLine:
     """What to run for a plan of an nvcc line. The commands are texts for a POSIX shell."""
 
@@ -213,7 +296,7 @@ class _PlanCall(ctypes.Structure):
         ("variables", ctypes.POINTER(_Variable)), ("variables_count", ctypes.c_size_t),
         ("suffixes", ctypes.POINTER(_Text)), ("suffixes_count", ctypes.c_size_t),
         ("programs", ctypes.POINTER(_FoundProgram)), ("programs_count", ctypes.c_size_t),
-        ("keeps", ctypes.c_uint32), ("host_compiler", ctypes.c_uint32), ("reserved", ctypes.c_uint64),
+        ("keeps", ctypes.c_uint32), ("host_compiler", ctypes.c_uint32), ("limit", ctypes.c_size_t),
     ]
 
 
@@ -262,6 +345,28 @@ class _RecordsAnswer(ctypes.Structure):
     ]
 
 
+class _LineRecord(ctypes.Structure):
+    _fields_ = [
+        ("input", ctypes.c_size_t), ("compilation_flag", ctypes.c_size_t), ("depfile", _Range), ("dependency_args", _Range),
+        ("preprocessor_args", _Range), ("common_args", _Range), ("arch_args", _Range), ("unhashed_args", _Range),
+        ("extra_dist_files", _Range), ("extra_hash_files", _Range), ("too_hard_for_preprocessor_cache_mode", _Range),
+        ("language", ctypes.c_uint32), ("color_mode", ctypes.c_uint32), ("double_dash_input", ctypes.c_uint32),
+        ("msvc_explicit_language", ctypes.c_uint32), ("msvc_show_includes", ctypes.c_uint32), ("profile_generate", ctypes.c_uint32),
+        ("suppress_rewrite_includes_only", ctypes.c_uint32), ("uses_external_assembler", ctypes.c_uint32),
+    ]
+
+
+class _Output(ctypes.Structure):
+    _fields_ = [("key", ctypes.c_size_t), ("path", ctypes.c_size_t), ("optional", ctypes.c_uint32), ("reserved", ctypes.c_uint32)]
+
+
+class _LineAnswer(ctypes.Structure):
+    _fields_ = [
+        ("status", ctypes.c_int32), ("outputs", ctypes.c_size_t), ("ranges", ctypes.c_size_t), ("length", ctypes.c_size_t),
+        ("line", _LineRecord),
+    ]
+
+
 _TEXT = [ctypes.c_char_p, ctypes.c_size_t]
 _OUT = [ctypes.c_char_p, ctypes.c_size_t]
 _RANGES = [ctypes.POINTER(_Range), ctypes.c_size_t]
@@ -270,13 +375,14 @@ _CALLS = {
     "zigrunk_version": (_TextAnswer, _OUT),
     "zigrunk_split": (_ListAnswer, _TEXT + _RANGES + _OUT),
     "zigrunk_quote": (_TextAnswer, [ctypes.POINTER(_Text), ctypes.c_size_t] + _OUT),
-    "zigrunk_lookups": (_ListAnswer, _TEXT * 3 + _RANGES + _OUT),
+    "zigrunk_lookups_within": (_ListAnswer, _TEXT * 3 + [ctypes.c_size_t] + _RANGES + _OUT),
     "zigrunk_candidates": (_ListAnswer, _TEXT * 3 + _RANGES + _OUT),
     "zigrunk_plan": (_TextAnswer, [ctypes.POINTER(_PlanCall), ctypes.c_uint32] + _OUT),
     "zigrunk_plan_records": (_RecordsAnswer, [
         ctypes.POINTER(_PlanCall), ctypes.POINTER(_Group), ctypes.c_size_t, ctypes.POINTER(_Command), ctypes.c_size_t,
     ] + _RANGES + _OUT),
     "zigrunk_line": (_TextAnswer, [ctypes.POINTER(_LineCall)] + _OUT),
+    "zigrunk_line_records": (_LineAnswer, [ctypes.POINTER(_LineCall), ctypes.POINTER(_Output), ctypes.c_size_t] + _RANGES + _OUT),
     "zigrunk_line_words": (_ListAnswer, [ctypes.POINTER(_LineCall)] + _RANGES + _OUT),
     "zigrunk_nvcc_line": (_ListAnswer, [ctypes.POINTER(_NvccCall)] + _RANGES + _OUT),
     "zigrunk_remap": (_ListAnswer, [ctypes.POINTER(_Text), ctypes.c_size_t] * 2 + _RANGES + _OUT),
@@ -312,6 +418,12 @@ def _array(texts: Sequence[str]) -> Tuple[ctypes.Array[_Text], int]:
 def _variables(environment: Union[Mapping[str, str], Sequence[Tuple[str, str]]]) -> Tuple[ctypes.Array[_Variable], int]:
     pairs = list(environment.items() if isinstance(environment, Mapping) else environment)
     return (_Variable * max(len(pairs), 1))(*[_Variable(_text(_bytes(name)), _text(_bytes(value))) for name, value in pairs]), len(pairs)
+
+
+def _limit(limit: Optional[int]) -> int:
+    if limit is not None and not 0 < limit <= sys.maxsize:
+        raise ValueError(f"a limit of {limit} bytes")
+    return limit or 0
 
 
 # How often a call is made. The first has buffers of a guessed size, the second those that the first asked for. An answer that
@@ -375,10 +487,15 @@ def quote(words: Sequence[str]) -> str:
     return _ask_text(_library.zigrunk_quote, *_array(words))
 
 
-def lookups(dry1: bytes, dry2: bytes, cwd: str) -> List[Lookup]:
-    """The look-ups of programs that a plan of two dry runs needs, none twice."""
+def lookups(dry1: bytes, dry2: bytes, cwd: str, limit: Optional[int] = None) -> List[Lookup]:
+    """The look-ups of programs that a plan of two dry runs needs, none twice.
+
+    Raises `ZigrunkError` if reading a dry run makes more bytes of text than the limit. Each command counts the value of PATH too,
+    since looking its program up holds that.
+    """
     folder = _bytes(cwd)
-    texts = _ask_list(_library.zigrunk_lookups, dry1, len(dry1), dry2, len(dry2), folder, len(folder))
+    texts = _ask_list(
+        _library.zigrunk_lookups_within, dry1, len(dry1), dry2, len(dry2), folder, len(folder), _limit(limit))
     return [Lookup(program, path) for program, path in zip(texts[::2], texts[1::2])]
 
 
@@ -394,7 +511,7 @@ def find(lookup: Lookup, cwd: str) -> Optional[str]:
 
 
 def _rows(call: PlanCall, which: Callable[[Lookup, str], Optional[str]]) -> Iterable[_FoundProgram]:
-    for lookup in lookups(call.dry1, call.dry2, call.cwd):
+    for lookup in lookups(call.dry1, call.dry2, call.cwd, call.limit):
         found = which(lookup, call.cwd)
         yield _FoundProgram(_text(_bytes(lookup.program)), _text(_bytes(lookup.path)), _text(_bytes(found or "")), found is not None, 0)
 
@@ -406,31 +523,35 @@ def _record(call: PlanCall, which: Callable[[Lookup, str], Optional[str]]) -> _P
         _text(_bytes(call.keep_dir or "")),
         *_variables(call.environment), *_array(call.suffixes),
         (_FoundProgram * max(len(rows), 1))(*rows), len(rows),
-        call.keep_dir is not None, int(call.host_compiler), 0,
+        call.keep_dir is not None, int(call.host_compiler), _limit(call.limit),
     )
 
 
 def plan(call: PlanCall, form: Form = Form.JSON, which: Callable[[Lookup, str], Optional[str]] = find) -> str:
     """Plans an nvcc call, and writes the plan in a form. `which` finds a program from the working directory.
 
-    Raises `ZigrunkError` if a dry run can't be read, if a program isn't found, if the suffixes break a rule, or if the form
-    can't represent the plan.
+    Raises `ZigrunkError` if a dry run can't be read, or not within the limit, if a program isn't found, if the suffixes break a
+    rule, or if the form can't represent the plan.
     """
     return _ask_text(_library.zigrunk_plan, ctypes.byref(_record(call, which)), int(form))
 
 
-def _reason(number: int) -> Union[Reason, int, None]:
+def _known(kind: Type[_Number], number: int) -> Union[_Number, int]:
     try:
-        return Reason(number) if number else None
+        return kind(number)
     except ValueError:
         return number
+
+
+def _reason(number: int) -> Union[Reason, int, None]:
+    return _known(Reason, number) if number else None
 
 
 def _command(it: _Command, texts: Sequence[str]) -> Command:
     arguments, variables = (texts[part.offset : part.offset + part.length] for part in (it.arguments, it.variables))
     return Command(
         texts[it.program], tuple(arguments), tuple(zip(variables[::2], variables[1::2])), texts[it.cwd],
-        it.group if it.reason == 0 else None, _reason(it.reason), it.cacheable == 1, it.run, it.line,
+        it.group if it.reason == 0 else None, _known(Reason, it.reason) if it.reason else None, it.cacheable == 1, it.run, it.line,
     )
 
 
@@ -473,6 +594,56 @@ def line(tool: Tool, cwd: str, words: Sequence[str],
     Raises `ZigrunkError` if the line compiles nothing, or if no cache can serve it.
     """
     return _ask_text(_library.zigrunk_line, ctypes.byref(_line_call(tool, cwd, words, environment)))
+
+
+def _line(line: _LineRecord, outputs: Sequence[_Output], texts: Sequence[str]) -> Line:
+    def words(part: _Range) -> Tuple[str, ...]:
+        return tuple(texts[part.offset : part.offset + part.length])
+
+    def optional(part: _Range) -> Optional[str]:
+        return texts[part.offset] if part.length else None
+
+    return Line(
+        texts[line.input],
+        tuple(Output(texts[it.key], texts[it.path], it.optional == 1) for it in outputs),
+        _known(Language, line.language),
+        texts[line.compilation_flag],
+        optional(line.depfile),
+        words(line.dependency_args),
+        words(line.preprocessor_args),
+        words(line.common_args),
+        words(line.arch_args),
+        words(line.unhashed_args),
+        words(line.extra_dist_files),
+        words(line.extra_hash_files),
+        optional(line.too_hard_for_preprocessor_cache_mode),
+        _known(ColorMode, line.color_mode),
+        line.double_dash_input == 1,
+        line.msvc_explicit_language == 1,
+        line.msvc_show_includes == 1,
+        line.profile_generate == 1,
+        line.suppress_rewrite_includes_only == 1,
+        line.uses_external_assembler == 1,
+    )
+
+
+def line_records(tool: Tool, cwd: str, words: Sequence[str],
+                 environment: Union[Mapping[str, str], Sequence[Tuple[str, str]]] = ()) -> Line:
+    """Reads a line of a tool, without the tool's name, and gives what it says as an object.
+
+    Raises `ZigrunkError` as `line` does.
+    """
+    record, sizes = _line_call(tool, cwd, words, environment), (8, 64, 4096)
+    for _ in range(_ATTEMPTS):
+        outputs, ranges, out = (_Output * sizes[0])(), (_Range * sizes[1])(), ctypes.create_string_buffer(sizes[2])
+        answer = _library.zigrunk_line_records(ctypes.byref(record), outputs, sizes[0], ranges, sizes[1], out, sizes[2])
+        wanted = (max(answer.outputs, sizes[0]), max(answer.ranges, sizes[1]), max(answer.length, sizes[2]))
+        if wanted == sizes:
+            data = out.raw[: answer.length]
+            _checked(answer.status, data)
+            return _line(answer.line, outputs[: answer.outputs], _texts(ranges, answer.ranges, data))
+        sizes = wanted
+    raise _unsettled()
 
 
 def line_words(tool: Tool, cwd: str, words: Sequence[str],

@@ -113,7 +113,7 @@ static zigrunk_list_answer records_of(const zigrunk_plan_call *call, buffers *in
     return list;
 }
 
-static zigrunk_list_answer try_plan(uint32_t form, size_t programs, buffers *into) {
+static zigrunk_list_answer try_plan(uint32_t form, size_t programs, size_t limit, buffers *into) {
     zigrunk_found_program rows[] = {row("gcc", "/b", "/b/gcc"), row("cicc", "/b", "/b/cicc"), row("ptxas", "/b", "/b/ptxas")};
     zigrunk_variable variable = {text_of("A"), text_of("B C")};
     zigrunk_text suffix = text_of(".cudafe1.gpu");
@@ -124,32 +124,55 @@ static zigrunk_list_answer try_plan(uint32_t form, size_t programs, buffers *int
     call.suffixes_count = 1;
     call.programs = rows;
     call.programs_count = programs;
+    call.limit = limit;
     return form == RECORDS ? records_of(&call, into) : as_list(zigrunk_plan(&call, form, into->out, sizeof into->out));
 }
 
 static zigrunk_list_answer try_json(buffers *into) {
-    return try_plan(ZIGRUNK_JSON, 3, into);
+    return try_plan(ZIGRUNK_JSON, 3, 0, into);
 }
 
 static zigrunk_list_answer try_ninja(buffers *into) {
-    return try_plan(ZIGRUNK_NINJA, 3, into);
+    return try_plan(ZIGRUNK_NINJA, 3, 0, into);
 }
 
 static zigrunk_list_answer try_records(buffers *into) {
-    return try_plan(RECORDS, 3, into);
+    return try_plan(RECORDS, 3, 0, into);
 }
 
 static zigrunk_list_answer try_refused_records(buffers *into) {
-    return try_plan(RECORDS, 2, into);
+    return try_plan(RECORDS, 2, 0, into);
 }
 
 static zigrunk_list_answer try_refused_plan(buffers *into) {
-    return try_plan(ZIGRUNK_SHELL, 2, into);
+    return try_plan(ZIGRUNK_SHELL, 2, 0, into);
+}
+
+static zigrunk_list_answer try_limited_plan(buffers *into) {
+    return try_plan(ZIGRUNK_TEXT, 3, 1000, into);
+}
+
+static zigrunk_list_answer try_exceeding_plan(buffers *into) {
+    return try_plan(ZIGRUNK_TEXT, 3, 50, into);
+}
+
+static zigrunk_list_answer try_exceeding_records(buffers *into) {
+    return try_plan(RECORDS, 3, 50, into);
 }
 
 static zigrunk_list_answer try_lookups(buffers *into) {
     three more = {{text_of(run), text_of(run), text_of("/w")}};
     return call_lookups(&more, into->ranges, 4096, into->out, sizeof into->out);
+}
+
+static zigrunk_list_answer try_limited_lookups(buffers *into) {
+    limited_runs more = {{{text_of(run), text_of(run), text_of("/w")}}, 200};
+    return call_lookups_within(&more, into->ranges, 4096, into->out, sizeof into->out);
+}
+
+static zigrunk_list_answer try_exceeding_lookups(buffers *into) {
+    limited_runs more = {{{text_of(""), text_of(run), text_of("/w")}}, 50};
+    return call_lookups_within(&more, into->ranges, 4096, into->out, sizeof into->out);
 }
 
 static zigrunk_list_answer try_candidates(buffers *into) {
@@ -173,6 +196,25 @@ static zigrunk_list_answer try_refused_line(buffers *into) {
     line_words words = words_of("k.cpp1.ii");
     zigrunk_line_call call = line_call_of(ZIGRUNK_TOOL_CICC, &words);
     return call_line_words(&call, into->ranges, 4096, into->out, sizeof into->out);
+}
+
+/* A line as records. Their ranges and texts are answered as a list. */
+static zigrunk_list_answer line_records_of(const char *line, buffers *into) {
+    static zigrunk_output outputs[4];
+    line_words words = words_of(line);
+    zigrunk_line_call call = line_call_of(ZIGRUNK_TOOL_CICC, &words);
+    zigrunk_line_answer a = zigrunk_line_records(&call, outputs, 4, into->ranges, 4096, into->out, sizeof into->out);
+    CHECK(a.status == ZIGRUNK_OK ? a.outputs == 1 && a.line.compilation_flag == 1 : a.outputs == 0 && a.line.compilation_flag == 0);
+    zigrunk_list_answer list = {a.status, a.ranges, a.length};
+    return list;
+}
+
+static zigrunk_list_answer try_line_records(buffers *into) {
+    return line_records_of("-arch sm_75 --module_id_file_name k.id k.cpp1.ii -o k.ptx", into);
+}
+
+static zigrunk_list_answer try_refused_line_records(buffers *into) {
+    return line_records_of("-arch", into);
 }
 
 static zigrunk_list_answer try_nvcc_line(buffers *into) {
@@ -201,13 +243,20 @@ int main(void) {
     try_all("JSON", try_json);
     try_all("Ninja", try_ninja);
     try_all("refused plan", try_refused_plan);
+    try_all("plan within a limit", try_limited_plan);
+    try_all("plan over a limit", try_exceeding_plan);
     try_all("records", try_records);
     try_all("refused records", try_refused_records);
+    try_all("records over a limit", try_exceeding_records);
     try_all("look-ups", try_lookups);
+    try_all("look-ups within a limit", try_limited_lookups);
+    try_all("look-ups over a limit", try_exceeding_lookups);
     try_all("candidates", try_candidates);
     try_all("line", try_line);
     try_all("written line", try_line_words);
     try_all("refused line", try_refused_line);
+    try_all("line as records", try_line_records);
+    try_all("refused line as records", try_refused_line_records);
     try_all("nvcc line", try_nvcc_line);
     try_all("passed line", try_passed_line);
     try_all("canonical names", try_remap);

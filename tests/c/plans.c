@@ -141,9 +141,6 @@ static void check_bad_numbers(void) {
         CHECK(a.status == ZIGRUNK_BAD_NUMBER && is_text(&a, text));
         release(a);
     }
-    call.reserved = 1;
-    refuses(&call, ZIGRUNK_BAD_NUMBER, text);
-    call.reserved = 0;
     call.keeps = 2;
     refuses(&call, ZIGRUNK_BAD_NUMBER, text);
     call.keeps = 0;

@@ -16,6 +16,20 @@ static inline zigrunk_list_answer call_lookups(const void *more, zigrunk_range *
         out, out_size);
 }
 
+/* What zigrunk_lookups_within takes besides its buffers. */
+typedef struct limited_runs {
+    three texts;
+    size_t limit;
+} limited_runs;
+
+static inline zigrunk_list_answer call_lookups_within(const void *more, zigrunk_range *ranges, size_t ranges_size, uint8_t *out,
+    size_t out_size) {
+    const limited_runs *runs = more;
+    const zigrunk_text *t = runs->texts.texts;
+    return zigrunk_lookups_within(t[0].bytes, t[0].length, t[1].bytes, t[1].length, t[2].bytes, t[2].length, runs->limit, ranges,
+        ranges_size, out, out_size);
+}
+
 static inline zigrunk_list_answer call_candidates(const void *more, zigrunk_range *ranges, size_t ranges_size, uint8_t *out,
     size_t out_size) {
     const zigrunk_text *t = ((const three *)more)->texts;
@@ -37,6 +51,11 @@ static inline zigrunk_text_answer call_plan(const void *more, uint8_t *out, size
 static inline answer lookups(zigrunk_text dry1, zigrunk_text dry2, zigrunk_text cwd) {
     three more = {{dry1, dry2, cwd}};
     return ask_list(call_lookups, &more);
+}
+
+static inline answer lookups_within(zigrunk_text dry1, zigrunk_text dry2, zigrunk_text cwd, size_t limit) {
+    limited_runs more = {{{dry1, dry2, cwd}}, limit};
+    return ask_list(call_lookups_within, &more);
 }
 
 static inline answer candidates(zigrunk_text program, zigrunk_text path, zigrunk_text cwd) {

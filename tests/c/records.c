@@ -1,5 +1,6 @@
 /* Plans as records: small ones, refusals, and the plans of dry runs in files: `records FOLDER NAME..` compares all that the
  * records say of a plan with the JSON form of the same plan. */
+#include "cursor.h"
 #include "records.h"
 
 static const char run1[] = "#$ PATH=/b:/c\n#$ gcc -D__NVCC__ -E k.cu -o k.cpp1.ii\n#$ rm k.o\n#$ cicc k.cpp1.ii -o k.ptx\n";
@@ -15,59 +16,6 @@ static zigrunk_plan_call small_call(void) {
     call.programs = rows;
     call.programs_count = 3;
     return call;
-}
-
-/* The rest of a JSON text that is compared from its start to its end. */
-typedef struct cursor {
-    const char *at;
-    size_t left;
-} cursor;
-
-/* Compares with what comes next, and moves behind it. */
-static void next_is(cursor *c, const void *bytes, size_t length) {
-    int is = length <= c->left && memcmp(c->at, bytes, length) == 0;
-    CHECK(is);
-    c->at += is ? length : 0;
-    c->left -= is ? length : 0;
-}
-
-static void next_text(cursor *c, const char *text) {
-    next_is(c, text, strlen(text));
-}
-
-/* Moves to the first place where a text is. */
-static void skip_to(cursor *c, const char *text) {
-    while (c->left > 0 && (c->left < strlen(text) || memcmp(c->at, text, strlen(text)) != 0)) {
-        c->at++;
-        c->left--;
-    }
-}
-
-/* A text without other control characters than these. */
-static void next_string(cursor *c, zigrunk_text text) {
-    next_text(c, "\"");
-    for (size_t i = 0; i < text.length; i++) {
-        switch (text.bytes[i]) {
-        case '"':
-            next_text(c, "\\\"");
-            break;
-        case '\\':
-            next_text(c, "\\\\");
-            break;
-        case '\n':
-            next_text(c, "\\n");
-            break;
-        default:
-            next_is(c, text.bytes + i, 1);
-        }
-    }
-    next_text(c, "\"");
-}
-
-static void next_number(cursor *c, size_t number) {
-    char digits[32];
-    snprintf(digits, sizeof digits, "%zu", number);
-    next_text(c, digits);
 }
 
 /* The texts of a range, as an array of strings. */
@@ -228,7 +176,7 @@ static void refuses(const zigrunk_plan_call *call, int32_t status) {
 static void check_refusals(void) {
     static const zigrunk_text bad = {(const uint8_t *)"a\xFF", 2};
     zigrunk_plan_call call = small_call();
-    call.reserved = 1;
+    rows[0].reserved = 1;
     refuses(&call, ZIGRUNK_BAD_NUMBER);
     call = small_call();
     call.keeps = 2;

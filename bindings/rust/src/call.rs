@@ -1,5 +1,7 @@
 //! What to plan, and plans as text.
 
+use std::num::NonZeroUsize;
+
 use crate::sys::{self, Text};
 use crate::{buffers, Error, FoundProgram};
 
@@ -60,6 +62,9 @@ pub struct PlanCall<'a> {
     pub programs: &'a [FoundProgram],
     /// The compiler of host code.
     pub host_compiler: HostCompiler,
+    /// How many bytes of text reading each dry run may make. Without a limit, 350 bytes of variables that refer to each other can
+    /// turn into gigabytes: give one if someone else wrote the dry runs.
+    pub limit: Option<NonZeroUsize>,
 }
 
 impl PlanCall<'_> {
@@ -83,7 +88,7 @@ impl PlanCall<'_> {
             programs_count: programs.len(),
             keeps: self.keep_dir.is_some().into(),
             host_compiler: self.host_compiler as u32,
-            reserved: 0,
+            limit: sys::limit(self.limit),
         })
     }
 
@@ -107,8 +112,8 @@ fn row(program: &FoundProgram) -> sys::FoundProgram<'_> {
 ///
 /// # Errors
 ///
-/// [`Error::BadSuffixes`], [`Error::BadDryRun`] and [`Error::NotFound`] for the first bad line of the first run or of the
-/// second, [`Error::Unwritable`] if the form can't represent the plan, [`Error::OutOfMemory`].
+/// [`Error::BadSuffixes`], [`Error::BadDryRun`], [`Error::NotFound`] and [`Error::OverLimit`] for the first bad line of the first
+/// run or of the second, [`Error::Unwritable`] if the form can't represent the plan, [`Error::OutOfMemory`].
 pub fn plan_text(call: &PlanCall<'_>, form: Form) -> Result<String, Error> {
     let variables: usize = call.variables.iter().map(|(name, value)| name.len() + value.len() + 8).sum();
     let estimate = call.dry_length() * 4 + variables * 16;

@@ -26,6 +26,8 @@ pub enum Error {
     BadLine(String),
     /// The line goes to nvcc as it is: the message has the reason.
     ToNvcc(String),
+    /// A line of a dry run exceeds the limit of the call: the message says which.
+    OverLimit(String),
     /// The answer didn't fit into buffers of the sizes that the call itself had asked for, several times. The library can't cause
     /// that: something changes the memory that the call reads, such as a file that is mapped into memory.
     Unsettled,
@@ -51,6 +53,7 @@ impl Error {
             8 => Error::Unwritable(message),
             9 => Error::BadLine(message),
             10 => Error::ToNvcc(message),
+            11 => Error::OverLimit(message),
             _ => Error::Other { status, message },
         }
     }
@@ -69,6 +72,7 @@ impl Error {
             Error::Unwritable(_) => 8,
             Error::BadLine(_) => 9,
             Error::ToNvcc(_) => 10,
+            Error::OverLimit(_) => 11,
             Error::Unsettled => -1,
             Error::Other { status, .. } => *status,
         }
@@ -88,6 +92,7 @@ impl Error {
             | Error::Unwritable(message)
             | Error::BadLine(message)
             | Error::ToNvcc(message)
+            | Error::OverLimit(message)
             | Error::Other { message, .. } => message,
             Error::Unsettled => "the answer grew with each call",
         }

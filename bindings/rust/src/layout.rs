@@ -40,7 +40,7 @@ records! {
     "zigrunk_found_program" sys::FoundProgram<'_> { program, path, found, is_found, reserved }
     "zigrunk_plan_call" sys::PlanCall<'_> {
         dry1, dry2, cwd, tmp, flag, keep_dir, variables, variables_count, suffixes, suffixes_count, programs, programs_count, keeps,
-        host_compiler, reserved
+        host_compiler, limit
     }
     "zigrunk_line_call" sys::LineCall<'_> { cwd, words, words_count, variables, variables_count, tool, reserved }
     "zigrunk_nvcc_call" sys::NvccCall<'_> { cwd, tmp, nvcc, words, words_count, variables, variables_count, reserved }
@@ -50,6 +50,13 @@ records! {
     "zigrunk_group" sys::Group { commands, stage, reserved }
     "zigrunk_command" sys::Command { arguments, variables, program, cwd, group, run, line, reason, cacheable }
     "zigrunk_records_answer" sys::RecordsAnswer { status, groups, commands, ranges, length }
+    "zigrunk_line_record" sys::LineRecord {
+        input, compilation_flag, depfile, dependency_args, preprocessor_args, common_args, arch_args, unhashed_args, extra_dist_files,
+        extra_hash_files, too_hard_for_preprocessor_cache_mode, language, color_mode, double_dash_input, msvc_explicit_language,
+        msvc_show_includes, profile_generate, suppress_rewrite_includes_only, uses_external_assembler
+    }
+    "zigrunk_output" sys::Output { key, path, optional, reserved }
+    "zigrunk_line_answer" sys::LineAnswer { status, outputs, ranges, length, line }
 }
 
 /// The folder of the header: the library's, or the repository's.

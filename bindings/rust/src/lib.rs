@@ -38,6 +38,7 @@ mod call;
 mod error;
 #[cfg(test)]
 mod layout;
+mod line;
 mod plan;
 mod programs;
 mod sys;
@@ -47,8 +48,11 @@ mod words;
 
 pub use call::{plan_text, Form, HostCompiler, PlanCall};
 pub use error::Error;
+pub use line::{line_records, ColorMode, Language, Line, Output};
 pub use plan::{plan, Command, Commands, Group, Groups, Plan, Reason, Stage, Variables};
-pub use programs::{candidates, find_program, find_programs, lookups, FoundProgram, Lookup};
+pub use programs::{
+    candidates, find_program, find_programs, find_programs_within, lookups, lookups_within, FoundProgram, Lookup,
+};
 pub use texts::{Texts, TextsIter};
 pub use tools::{line, line_words, nvcc_line, remap, LineCall, NvccCall, NvccLine, Tool};
 pub use words::{quote, split};

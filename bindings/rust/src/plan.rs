@@ -50,8 +50,8 @@ pub struct Plan {
 ///
 /// # Errors
 ///
-/// [`Error::BadSuffixes`], [`Error::BadDryRun`] and [`Error::NotFound`] for the first bad line of the first run or of the
-/// second, [`Error::OutOfMemory`].
+/// [`Error::BadSuffixes`], [`Error::BadDryRun`], [`Error::NotFound`] and [`Error::OverLimit`] for the first bad line of the first
+/// run or of the second, [`Error::OutOfMemory`].
 pub fn plan(call: &PlanCall<'_>) -> Result<Plan, Error> {
     // SAFETY: the record and all that it points to live through the call.
     call.with_record(|record| buffers::settled(estimate(call), |sizes| unsafe { try_plan(record, sizes) })?)

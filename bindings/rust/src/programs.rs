@@ -1,6 +1,7 @@
 //! Finding the programs that dry runs name.
 
 use std::ffi::{c_char, c_int, CString};
+use std::num::NonZeroUsize;
 use std::path::Path;
 
 use crate::{buffers, sys, Error, Texts};
@@ -29,11 +30,35 @@ pub struct FoundProgram {
 ///
 /// [`Error::OutOfMemory`]. A line that can't be read is an error of [`plan_text`](crate::plan_text), not of this call.
 pub fn lookups(dry1: &[u8], dry2: &[u8], cwd: &str) -> Result<Vec<Lookup>, Error> {
+    lookups_within(dry1, dry2, cwd, None)
+}
+
+/// Lists the same look-ups of dry runs that someone else wrote, if reading each makes at most `limit` bytes of text. Each command
+/// counts the value of `PATH` too, since looking its program up holds that.
+///
+/// # Errors
+///
+/// [`Error::OverLimit`] if a line exceeds the limit, [`Error::OutOfMemory`].
+pub fn lookups_within(dry1: &[u8], dry2: &[u8], cwd: &str, limit: Option<NonZeroUsize>) -> Result<Vec<Lookup>, Error> {
+    let limit = sys::limit(limit);
     // SAFETY: the texts are slices, and the two buffers are exclusive.
     let texts = unsafe {
         buffers::list(64, 4096, |ranges, count, out, size| {
             let (first, second, folder) = (dry1.as_ptr(), dry2.as_ptr(), cwd.as_ptr());
-            sys::zigrunk_lookups(first, dry1.len(), second, dry2.len(), folder, cwd.len(), ranges, count, out, size)
+            let (first_length, second_length, folder_length) = (dry1.len(), dry2.len(), cwd.len());
+            sys::zigrunk_lookups_within(
+                first,
+                first_length,
+                second,
+                second_length,
+                folder,
+                folder_length,
+                limit,
+                ranges,
+                count,
+                out,
+                size,
+            )
         })
     }?;
     let mut texts = texts.iter().map(String::from);
@@ -73,8 +98,22 @@ pub fn find_program(lookup: &Lookup, cwd: &str) -> Result<Option<String>, Error>
 ///
 /// [`Error::OutOfMemory`].
 pub fn find_programs(dry1: &[u8], dry2: &[u8], cwd: &str) -> Result<Vec<FoundProgram>, Error> {
+    find_programs_within(dry1, dry2, cwd, None)
+}
+
+/// Finds the same programs of dry runs that someone else wrote, by [`lookups_within`].
+///
+/// # Errors
+///
+/// [`Error::OverLimit`] if a line exceeds the limit, [`Error::OutOfMemory`].
+pub fn find_programs_within(
+    dry1: &[u8],
+    dry2: &[u8],
+    cwd: &str,
+    limit: Option<NonZeroUsize>,
+) -> Result<Vec<FoundProgram>, Error> {
     let find = |lookup| Ok(FoundProgram { found: find_program(&lookup, cwd)?, lookup });
-    lookups(dry1, dry2, cwd)?.into_iter().map(find).collect()
+    lookups_within(dry1, dry2, cwd, limit)?.into_iter().map(find).collect()
 }
 
 /// Whether a path names a file that this process may run.

@@ -1,6 +1,7 @@
 //! The declarations of `zigrunk.h`. A test compares the records with those of the header.
 
 use std::marker::PhantomData;
+use std::num::NonZeroUsize;
 
 /// A text of the caller.
 #[repr(C)]
@@ -36,6 +37,11 @@ pub(crate) fn variables(pairs: &[(String, String)]) -> Vec<Variable<'_>> {
     pairs.iter().map(|(name, value)| Variable { name: name.as_str().into(), value: value.as_str().into() }).collect()
 }
 
+/// A limit as a number: 0 if there is none.
+pub(crate) fn limit(limit: Option<NonZeroUsize>) -> usize {
+    limit.map_or(0, NonZeroUsize::get)
+}
+
 /// A row of the table that answers look-ups.
 #[repr(C)]
 #[derive(Clone, Copy)]
@@ -65,7 +71,7 @@ pub(crate) struct PlanCall<'a> {
     pub(crate) programs_count: usize,
     pub(crate) keeps: u32,
     pub(crate) host_compiler: u32,
-    pub(crate) reserved: u64,
+    pub(crate) limit: usize,
 }
 
 /// A line of a tool.
@@ -155,6 +161,52 @@ pub(crate) struct RecordsAnswer {
     pub(crate) length: usize,
 }
 
+/// What a line says.
+#[repr(C)]
+#[derive(Clone, Copy, PartialEq, Eq)]
+pub(crate) struct LineRecord {
+    pub(crate) input: usize,
+    pub(crate) compilation_flag: usize,
+    pub(crate) depfile: Range,
+    pub(crate) dependency_args: Range,
+    pub(crate) preprocessor_args: Range,
+    pub(crate) common_args: Range,
+    pub(crate) arch_args: Range,
+    pub(crate) unhashed_args: Range,
+    pub(crate) extra_dist_files: Range,
+    pub(crate) extra_hash_files: Range,
+    pub(crate) too_hard_for_preprocessor_cache_mode: Range,
+    pub(crate) language: u32,
+    pub(crate) color_mode: u32,
+    pub(crate) double_dash_input: u32,
+    pub(crate) msvc_explicit_language: u32,
+    pub(crate) msvc_show_includes: u32,
+    pub(crate) profile_generate: u32,
+    pub(crate) suppress_rewrite_includes_only: u32,
+    pub(crate) uses_external_assembler: u32,
+}
+
+/// An output of a line.
+#[repr(C)]
+#[derive(Clone, Copy, PartialEq, Eq)]
+pub(crate) struct Output {
+    pub(crate) key: usize,
+    pub(crate) path: usize,
+    pub(crate) optional: u32,
+    pub(crate) reserved: u32,
+}
+
+/// The answer of a call that writes what a line says as records.
+#[repr(C)]
+#[derive(Clone, Copy)]
+pub(crate) struct LineAnswer {
+    pub(crate) status: i32,
+    pub(crate) outputs: usize,
+    pub(crate) ranges: usize,
+    pub(crate) length: usize,
+    pub(crate) line: LineRecord,
+}
+
 extern "C" {
     pub(crate) fn zigrunk_abi_version() -> u32;
     pub(crate) fn zigrunk_version(out: *mut u8, out_size: usize) -> TextAnswer;
@@ -169,6 +221,15 @@ extern "C" {
     ) -> ListAnswer;
     pub(crate) fn zigrunk_quote(words: *const Text<'_>, words_count: usize, out: *mut u8, out_size: usize) -> TextAnswer;
     pub(crate) fn zigrunk_line(call: *const LineCall<'_>, out: *mut u8, out_size: usize) -> TextAnswer;
+    pub(crate) fn zigrunk_line_records(
+        call: *const LineCall<'_>,
+        outputs: *mut Output,
+        outputs_size: usize,
+        ranges: *mut Range,
+        ranges_size: usize,
+        out: *mut u8,
+        out_size: usize,
+    ) -> LineAnswer;
     pub(crate) fn zigrunk_line_words(
         call: *const LineCall<'_>,
         ranges: *mut Range,
@@ -193,13 +254,14 @@ extern "C" {
         out: *mut u8,
         out_size: usize,
     ) -> ListAnswer;
-    pub(crate) fn zigrunk_lookups(
+    pub(crate) fn zigrunk_lookups_within(
         dry1: *const u8,
         dry1_length: usize,
         dry2: *const u8,
         dry2_length: usize,
         cwd: *const u8,
         cwd_length: usize,
+        limit: usize,
         ranges: *mut Range,
         ranges_size: usize,
         out: *mut u8,

@@ -37,6 +37,11 @@ impl Texts {
         self.ranges.get(number).map(|range| cut(&self.all, *range))
     }
 
+    /// The texts that a record of the list names.
+    pub(crate) fn part(&self, range: Range) -> TextsIter<'_> {
+        TextsIter::new(&self.ranges[range.offset..range.offset + range.length], &self.all)
+    }
+
     /// The texts in order.
     #[must_use]
     pub fn iter(&self) -> TextsIter<'_> {

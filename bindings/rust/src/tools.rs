@@ -36,7 +36,7 @@ pub struct LineCall<'a> {
 
 impl LineCall<'_> {
     /// Passes the call as the record of `zigrunk.h`.
-    fn with_record<R>(&self, take: impl FnOnce(&sys::LineCall<'_>) -> R) -> R {
+    pub(crate) fn with_record<R>(&self, take: impl FnOnce(&sys::LineCall<'_>) -> R) -> R {
         let (words, variables) = (texts(self.words), sys::variables(self.variables));
         take(&sys::LineCall {
             cwd: self.cwd.into(),
@@ -50,7 +50,7 @@ impl LineCall<'_> {
     }
 
     /// Room for a path in front of each word.
-    fn estimate(&self) -> usize {
+    pub(crate) fn estimate(&self) -> usize {
         self.words.iter().map(|word| word.len() + self.cwd.len() + 8).sum()
     }
 }
@@ -60,7 +60,7 @@ fn texts<S: AsRef<str>>(words: &[S]) -> Vec<Text<'_>> {
 }
 
 /// Reads a line of a tool and writes what it says as JSON: its input, its outputs, and its words by what they are for.
-/// zigrunk.h(3) lists the members.
+/// zigrunk.h(3) lists the members. [`line_records`](crate::line_records) gives the same as a value.
 ///
 /// # Errors
 ///

@@ -1,6 +1,6 @@
 //! Lines of tools, and canonical names.
 
-use zigrunk::{line, line_words, nvcc_line, remap, Error, LineCall, NvccCall, Tool};
+use zigrunk::{line, line_records, line_words, nvcc_line, remap, ColorMode, Error, Language, LineCall, NvccCall, Output, Tool};
 
 fn words(text: &str) -> Vec<String> {
     text.split(' ').map(String::from).collect()
@@ -16,6 +16,37 @@ fn a_line_of_cicc() {
     for tool in [Tool::Ptxas, Tool::CudaFe, Tool::Nvcc, Tool::Nvc, Tool::Nvcxx] {
         assert!(matches!(line_words(&LineCall { tool, words: &[], ..call }), Err(Error::BadLine(_))), "{tool:?}");
     }
+}
+
+#[test]
+fn a_line_of_nvcc_as_a_value() {
+    let given = words("-MD -MF k.d -c k.cu -o k.o -t 2 -DA -arch sm_75");
+    let call = LineCall { tool: Tool::Nvcc, cwd: "/w", words: &given, variables: &[] };
+    let line = line_records(&call).unwrap();
+    assert_eq!((line.input(), line.language(), line.compilation_flag()), ("k.cu", Language::Cuda, "-c"));
+    let outputs = [Output { key: "d", path: "k.d", is_optional: false }, Output { key: "obj", path: "k.o", is_optional: false }];
+    assert!(line.outputs().eq(outputs) && line.outputs().len() == 2);
+    assert!(line.dependency_args().eq(["-MD", "-MF", "k.d", "-MT", "k.o"]) && line.unhashed_args().eq(["-t2"]));
+    assert!(line.preprocessor_args().any(|word| word == "-DA"));
+    assert_eq!((line.color_mode(), line.double_dash_input(), line.depfile()), (ColorMode::Auto, false, None));
+    assert!(!line.msvc_show_includes() && line.too_hard_for_preprocessor_cache_mode().is_none());
+    assert!(line == line.clone() && format!("{line:?}").contains(r#"input: "k.cu""#));
+    assert_ne!(line_records(&LineCall { words: &words("-c j.cu"), ..call }).unwrap(), line);
+}
+
+#[test]
+fn lines_of_device_tools_as_values() {
+    let given = words("--device-c --module_id_file_name m k.cpp1.ii -o k.ptx");
+    let call = LineCall { tool: Tool::Cicc, cwd: "/w", words: &given, variables: &[] };
+    let line = line_records(&call).unwrap();
+    assert_eq!((line.language(), line.color_mode()), (Language::Ptx, ColorMode::Off));
+    assert!(line.common_args().eq(["--device-c", "--module_id_file_name", "m"]) && line.arch_args().len() == 0);
+    assert!(line.extra_hash_files().eq(["/w/m"]) && line.extra_dist_files().eq(["/w/m"]));
+    assert!(matches!(line_records(&LineCall { tool: Tool::CudaFe, ..call }).map(|line| line.language()), Ok(Language::CudaFe)));
+    let refused = line_records(&LineCall { words: &[], ..call });
+    assert_eq!(refused, Err(Error::BadLine("not a compilation".into())));
+    let long: Vec<String> = (0..2000).map(|number| format!("-DNAME_{number}")).chain(given.clone()).collect();
+    assert_eq!(line_records(&LineCall { words: &long, ..call }).unwrap().common_args().len(), 2003);
 }
 
 #[test]

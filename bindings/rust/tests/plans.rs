@@ -1,11 +1,12 @@
 //! Plans: of real calls, with all settings, and of bad ones.
 
 use std::fs;
+use std::num::NonZeroUsize;
 use std::path::PathBuf;
 
 use zigrunk::{
-    candidates, find_programs, lookups, plan, plan_text, Command, Error, Form, FoundProgram, HostCompiler, Plan, PlanCall,
-    Reason, Stage,
+    candidates, find_programs, find_programs_within, lookups, lookups_within, plan, plan_text, Command, Error, Form,
+    FoundProgram, HostCompiler, Plan, PlanCall, Reason, Stage,
 };
 
 const RUN: &[u8] = b"#$ PATH=/b\n#$ gcc -D__NVCC__ -E k.cu -o k.cpp1.ii\n#$ cicc --x k.gpu k.cpp1.ii -o k.ptx\n";
@@ -191,4 +192,37 @@ fn threads_may_call() {
             scope.spawn(|| (0..50).for_each(|_| assert_eq!(plan_text(&call(RUN, &programs), Form::Json).unwrap(), expected)));
         }
     });
+}
+
+/// The error of a line that exceeds a limit.
+fn over_limit(run: usize, line: usize, limit: usize) -> Error {
+    Error::OverLimit(format!("run {run} line {line}: over the limit of {limit} bytes"))
+}
+
+#[test]
+fn limits_are_exact() {
+    let run: &[u8] = b"#$ PATH=/b\n#$ gcc -D__NVCC__ x.i\n";
+    let programs = first_candidates(run, run);
+    let limited = |limit| PlanCall { limit: NonZeroUsize::new(limit), ..call(run, &programs) };
+    assert_eq!(plan(&limited(30)).unwrap(), plan(&limited(0)).unwrap());
+    assert_eq!(plan(&limited(29)), Err(over_limit(1, 1, 29)));
+    assert_eq!(plan_text(&limited(29), Form::Json), Err(over_limit(1, 1, 29)));
+    assert_eq!(plan(&PlanCall { dry1: b"", ..limited(29) }), Err(over_limit(2, 1, 29)));
+    assert_eq!(over_limit(2, 1, 29).status(), 11);
+    let asked = |limit| lookups_within(run, run, "/w", NonZeroUsize::new(limit));
+    assert_eq!(asked(29), lookups(run, run, "/w"));
+    assert_eq!(asked(28), Err(over_limit(1, 1, 28)));
+    assert_eq!(find_programs_within(run, run, "/w", NonZeroUsize::new(28)), Err(over_limit(1, 1, 28)));
+}
+
+#[test]
+fn a_text_that_explodes_is_refused() {
+    let mut run = String::from("#$ PATH=/b\n");
+    for names in ('A'..='Z').collect::<Vec<_>>().windows(2) {
+        run += &format!("#$ {0}=${1}.${1}.\n", names[0], names[1]);
+    }
+    run += "#$ $A.\n";
+    let limited = PlanCall { limit: NonZeroUsize::new(2 << 20), ..call(run.as_bytes(), &[]) };
+    assert_eq!(plan(&limited), Err(over_limit(1, 26, 2 << 20)));
+    assert_eq!(plan_text(&limited, Form::Shell), Err(over_limit(1, 26, 2 << 20)));
 }

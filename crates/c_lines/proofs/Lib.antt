@@ -1,1 +1,5 @@
+pub mod FormsAgree
+pub mod LineAllOrNothing
 pub mod LineJsonLemmas
+pub mod LineReading
+pub mod RecordedLineLemmas

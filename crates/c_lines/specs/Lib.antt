@@ -1,4 +1,8 @@
 pub mod LineCalls
 pub mod LineJson
+pub mod LineRecordCalls
+pub mod LineRecordLaws
+pub mod LineRecords
+pub mod LineRecordsRead
 pub mod Lines
 pub mod NvccOutline

@@ -1,14 +1,20 @@
-//! The calls on lines of tools over memory that a C program owns: what a line says, the words that it is written back as, and
-//! what to run for a line of nvcc.
+//! The calls on lines of tools over memory that a C program owns: what a line says, as JSON or as records, the words that it is
+//! written back as, and what to run for a line of nvcc.
 //!
 //! `c_texts` says what holds of all calls. The crate `zigrunk_c` exports these to C, one function for each.
 #![tactic(auto)]
 
+pub mod laws;
 mod line_call;
 mod line_json;
+mod line_record;
 mod lines;
 mod nvcc_outline;
+mod recorded_line;
+mod recording;
 
 pub use line_call::LineCall;
+pub use line_record::{LineAnswer, LineRecord, OutputRecord};
 pub use lines::{line, line_words};
 pub use nvcc_outline::{NvccLineCall, nvcc_line};
+pub use recording::line_records;

@@ -48,8 +48,8 @@ fn nvhpc(nvcplusplus: bool) -> Nvhpc
     }
 }
 
-// What a tool reads a line as.
-fn read_by(
+/// What a tool reads a line as.
+pub(crate) fn read_by(
     alloc: Global,
     tool: LineTool,
     line: &Line<'_>,
@@ -79,16 +79,20 @@ fn not_cached(alloc: Global, text: &str, word: &Option<Text>) -> Result<String, 
     }
 }
 
-// The refusal of a line that no cache can serve.
-fn uncached(alloc: Global, text: &str, word: &Option<Text>) -> Result<Outcome, AllocError>
+/// The refusal of a line that no cache can serve.
+pub(crate) fn uncached(
+    alloc: Global,
+    text: &str,
+    word: &Option<Text>,
+) -> Result<Outcome, AllocError>
     ensures { IfOk result (λ outcome. outcome ≡ spec.bad_line (spec.not_cached text.now word.now)) }
 {
     let message = not_cached(alloc, text, word)?;
     Ok(refused_with(alloc, Status::BadLine, message))
 }
 
-// The refusal of a line that compiles nothing.
-fn no_compilation(alloc: Global) -> Result<Outcome, AllocError>
+/// The refusal of a line that compiles nothing.
+pub(crate) fn no_compilation(alloc: Global) -> Result<Outcome, AllocError>
     ensures { IfOk result (λ outcome. outcome ≡ spec.bad_line spec.no_compilation) }
 {
     let message = String::from_str(alloc, "not a compilation")?;

@@ -1,3 +1,4 @@
 pub mod AllOrNothing
+pub mod LimitLemmas
 pub mod RecordLemmas
 pub mod RecordReading

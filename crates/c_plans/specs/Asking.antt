@@ -7,6 +7,7 @@ use Rattle.program_lookups.specs.Candidates.{candidates_of}
 use Rattle.c_texts.specs.Failures.{if_utf8}
 use Rattle.c_texts.specs.Outcomes.{Outcome, of_texts}
 use Rattle.c_texts.specs.Memory.{text_of}
+use Rattle.c_plans.specs.Limits.{excess_of, unless_excess}
 
 -- the texts of a look-up: the program, and the value of `PATH`
 abbrev pub texts_of : Lookup → List (List ℕ)
@@ -19,6 +20,14 @@ lookups_from dry1 dry2 cwd = of_texts (flat_map texts_of (asked_of_both dry1 dry
 -- the same, if the directory is UTF-8
 abbrev pub lookups_outcome : List ℕ → List ℕ → List ℕ → Outcome
 lookups_outcome dry1 dry2 cwd = if_utf8 (text_of cwd) (lookups_from dry1 dry2)
+
+-- the same within a limit
+abbrev pub lookups_within : ℕ → List ℕ → List ℕ → List ℕ → Outcome
+lookups_within limit dry1 dry2 cwd = unless_excess limit (excess_of limit cwd dry1 dry2) (lookups_from dry1 dry2 cwd)
+
+-- the same, if the directory is UTF-8
+abbrev pub limited_lookups_outcome : ℕ → List ℕ → List ℕ → List ℕ → Outcome
+limited_lookups_outcome limit dry1 dry2 cwd = if_utf8 (text_of cwd) (lookups_within limit dry1 dry2)
 
 -- the paths of a look-up from a working directory
 abbrev pub candidates_from : List ℕ → List ℕ → List ℕ → Outcome

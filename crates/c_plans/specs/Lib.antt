@@ -1,4 +1,6 @@
 pub mod Asking
+pub mod LimitLaws
+pub mod Limits
 pub mod PlanCalls
 pub mod PlanForms
 pub mod PlanRecords

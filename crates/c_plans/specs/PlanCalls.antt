@@ -22,9 +22,9 @@ host_of n = if n == 0 then Some Gcc else if n == 1 then Some Msvc else if n == 2
 abbrev pub has_row_numbers : FoundProgram → Bool
 has_row_numbers row = nat_le row.is_found 1 && row.reserved == 0
 
--- the same of a call and all its rows
+-- the same of a call and all its rows. Every limit has a meaning
 abbrev pub has_numbers : PlanCall → Bool
-has_numbers call = nat_le call.keeps 1 && call.reserved == 0 && list_all has_row_numbers call.lookups.now
+has_numbers call = nat_le call.keeps 1 && list_all has_row_numbers call.lookups.now
 
 -- the texts of a call but those of its tables
 pub record Texts : Type 0 where

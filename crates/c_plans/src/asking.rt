@@ -5,8 +5,9 @@ ghost use Rattle.std.specs.List.{flat_map};
 ghost use Rattle.c_texts.specs.Outcomes.{GivesList, with_texts};
 ghost use Rattle.c_plans.specs.Asking as spec;
 
+use crate::limits::{excess_of, over_limit};
 use c_texts::{ListAnswer, Outcome, Range, Status, give_list, refused, text_of};
-use program_lookups::{Lookup, asked_lookups_of_both};
+use program_lookups::{Excess, Lookup, asked_lookups_of_both};
 use std::alloc::{AllocError, Global};
 
 // Adds the texts of look-ups.
@@ -30,17 +31,34 @@ fn lookups_from(alloc: Global, dry1: &[u8], dry2: &[u8], cwd: &str) -> Result<Ou
     Ok(outcome)
 }
 
+// The same within a limit.
+fn lookups_fitting(
+    alloc: Global,
+    dry1: &[u8],
+    dry2: &[u8],
+    cwd: &str,
+    limit: usize,
+) -> Result<Outcome, AllocError>
+    ensures { IfOk result (λ outcome. outcome ≡ spec.lookups_within limit dry1.now dry2.now cwd.now) }
+{
+    match excess_of(alloc, limit, dry1, dry2, cwd)? {
+        Some(Excess { run, line }) => over_limit(alloc, limit, run, line),
+        None => lookups_from(alloc, dry1, dry2, cwd),
+    }
+}
+
 // The same, of a working directory that may be no text.
 fn lookups_outcome(
     alloc: Global,
     dry1: &[u8],
     dry2: &[u8],
     cwd: &[u8],
+    limit: usize,
 ) -> Result<Outcome, AllocError>
-    ensures { IfOk result (λ outcome. outcome ≡ spec.lookups_outcome dry1.now dry2.now cwd.now) }
+    ensures { IfOk result (λ outcome. outcome ≡ spec.limited_lookups_outcome limit dry1.now dry2.now cwd.now) }
 {
     match text_of(cwd) {
-        Some(cwd) => lookups_from(alloc, dry1, dry2, cwd),
+        Some(cwd) => lookups_fitting(alloc, dry1, dry2, cwd, limit),
         None => refused(alloc, Status::NotUtf8),
     }
 }
@@ -57,7 +75,23 @@ pub fn lookups(
 ) -> ListAnswer
     ensures { GivesList (spec.lookups_outcome dry1.now dry2.now cwd.now) result ranges.old ranges.new out.old out.new }
 {
-    give_list(lookups_outcome(alloc, dry1, dry2, cwd), ranges, out)
+    lookups_within(alloc, dry1, dry2, cwd, 0, ranges, out)
+}
+
+/// The same, of dry runs that someone else wrote: refuses them if a line of one exceeds `limit`, as
+/// `program_lookups::excess_of` counts. A limit of 0 is none.
+pub fn lookups_within(
+    alloc: Global,
+    dry1: &[u8],
+    dry2: &[u8],
+    cwd: &[u8],
+    limit: usize,
+    ranges: &mut [Range],
+    out: &mut [u8],
+) -> ListAnswer
+    ensures { GivesList (spec.limited_lookups_outcome limit dry1.now dry2.now cwd.now) result ranges.old ranges.new out.old out.new }
+{
+    give_list(lookups_outcome(alloc, dry1, dry2, cwd, limit), ranges, out)
 }
 
 // The paths of a look-up.

@@ -1,7 +1,14 @@
-//! What holds of all answers with records.
+//! What holds of limits, and of all answers with records.
 
+ghost use Rattle.c_plans.specs.LimitLaws as limits;
 ghost use Rattle.c_plans.specs.RecordLaws as records;
 ghost use Rattle.c_plans.specs.RecordsRead as read;
+
+/// A limit of 0 is none: planning and look-ups answer what they do without a limit.
+pub fn no_limit()
+    ensures plans { limits.PlansWithoutLimit }
+    ensures lookups { limits.LookupsWithoutLimit }
+{}
 
 /// The records and texts of a plan are read back as that plan, so plans that differ have different ones.
 pub fn records_determine()

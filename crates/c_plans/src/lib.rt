@@ -6,6 +6,7 @@
 
 mod asking;
 pub mod laws;
+mod limits;
 mod plan_call;
 mod plan_entries;
 mod plan_forms;
@@ -16,7 +17,7 @@ mod recorded;
 mod refusal;
 mod renaming;
 
-pub use asking::{candidates, lookups};
+pub use asking::{candidates, lookups, lookups_within};
 pub use plan_call::{FoundProgram, PlanCall};
 pub use planned_records::plan_records;
 pub use planning::plan;

@@ -54,8 +54,9 @@ pub struct PlanCall<'a> {
     pub keeps: u32,
     /// The number of the host compiler.
     pub host_compiler: u32,
-    /// 0.
-    pub reserved: u64,
+    /// How many bytes reading a dry run may make, as `dry_runs::read_dry_run_within` counts them; 0 for any number. Each run
+    /// has all of them.
+    pub limit: usize,
 }
 
 /// The host compiler with a number.
@@ -78,11 +79,11 @@ fn have_numbers(rows: &[FoundProgram<'_>]) -> bool
         .all(|row| row.is_found <= 1 && row.reserved == 0)
 }
 
-/// Whether the flags and the reserved numbers of a call have a meaning.
+/// Whether the flags of a call, and the reserved numbers of its rows, have a meaning.
 pub(crate) fn has_numbers(call: &PlanCall<'_>) -> bool
     ensures { result ≡ spec.has_numbers call.now }
 {
-    call.keeps <= 1 && call.reserved == 0 && have_numbers(call.lookups)
+    call.keeps <= 1 && have_numbers(call.lookups)
 }
 
 /// The texts of a call but those of its tables.

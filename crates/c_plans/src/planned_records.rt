@@ -1,22 +1,24 @@
 //! Planning the two dry runs of a call, as records.
 
 ghost use Rattle.std.specs.Prelude.{◌≡◌, IfOk, Result};
-ghost use Rattle.texts.specs.declared.fault.Fault.{Fault};
-ghost use Rattle.texts.specs.Fault.{UnlessMemory, UnlessMemoryIs};
+ghost use Rattle.dry_runs.specs.declared.limit.LimitedFault.{LimitedFault};
+ghost use Rattle.dry_runs.specs.Limit.{UnlessMemoryWithin};
 ghost use Rattle.command_groups.specs.declared.origins.PlanWithOrigins.{PlanWithOrigins};
-ghost use Rattle.c_texts.specs.Failures.{failed};
 ghost use Rattle.c_texts.specs.Outcomes as outcomes;
+ghost use Rattle.c_plans.specs.Limits.{UnlessMemoryIsWithin, failed_within};
 ghost use Rattle.c_plans.specs.PlanRecords as spec;
 ghost use Rattle.c_plans.specs.Records as records;
 
+use crate::limits::failed_within;
 use crate::plan_call::{PlanCall, has_numbers, host_of, tables_of, texts_of};
 use crate::plan_entries::records_of;
 use crate::planning::planned;
 use crate::record::{CommandRecord, GroupRecord, RecordsAnswer};
 use crate::recorded::{Recorded, give_records};
-use c_texts::{Range, Status, refused, refused_with, status_of};
+use c_texts::{Range, Status, refused};
 use command_groups::PlanWithOrigins;
 use compilers::compiler::NvccHostCompiler;
+use dry_runs::LimitedFault;
 use std::alloc::{AllocError, Global};
 use texts::fault::Fault;
 
@@ -28,24 +30,28 @@ fn refused_records(alloc: Global, status: Status) -> Result<Recorded, AllocError
     Ok(Recorded::of_outcome(alloc, outcome))
 }
 
-// A fault: its status and its message.
-fn failed_records(alloc: Global, fault: &Fault) -> Result<Recorded, AllocError>
-    ensures { IfOk result (λ recorded. UnlessMemoryIs fault.now (recorded ≡ records.without_records (failed fault.now))) }
+// A fault of reading within a limit: its status and its message.
+fn failed_records(alloc: Global, limit: usize, fault: &LimitedFault) -> Result<Recorded, AllocError>
+    ensures { IfOk result (λ recorded. UnlessMemoryIsWithin fault.now
+        (recorded ≡ records.without_records (failed_within limit fault.now))) }
 {
-    let text = fault.message(alloc)?;
-    let outcome = refused_with(alloc, status_of(fault), text);
+    let outcome = failed_within(alloc, limit, fault)?;
     Ok(Recorded::of_outcome(alloc, outcome))
 }
 
-// A plan as records, or the fault of a plan that there isn't.
-fn recorded(alloc: Global, plan: Result<PlanWithOrigins, Fault>) -> Result<Recorded, AllocError>
-    ensures { (expected : Result PlanWithOrigins Fault) → UnlessMemory plan expected
-        → IfOk result (λ recorded. recorded ≡ spec.recorded expected) }
+// A plan as records, or the fault of a plan that there isn't within a limit.
+fn recorded(
+    alloc: Global,
+    limit: usize,
+    plan: Result<PlanWithOrigins, LimitedFault>,
+) -> Result<Recorded, AllocError>
+    ensures { (expected : Result PlanWithOrigins LimitedFault) → UnlessMemoryWithin plan expected
+        → IfOk result (λ recorded. recorded ≡ spec.recorded limit expected) }
 {
     match plan {
         Ok(plan) => records_of(alloc, &plan),
-        Err(Fault::Memory) => Err(AllocError),
-        Err(fault) => failed_records(alloc, &fault),
+        Err(LimitedFault::Fault(Fault::Memory)) => Err(AllocError),
+        Err(fault) => failed_records(alloc, limit, &fault),
     }
 }
 
@@ -63,7 +69,8 @@ fn records_with(
     let Some(tables) = tables_of(alloc, texts.cwd, call)? else {
         return refused_records(alloc, Status::NotUtf8);
     };
-    recorded(alloc, planned(alloc, call, host, texts, &tables))
+    let plan = planned(alloc, call, host, texts, &tables);
+    recorded(alloc, call.limit, plan)
 }
 
 // A call.

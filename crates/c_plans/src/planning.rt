@@ -1,35 +1,39 @@
 //! Planning the two dry runs of a call.
 
 ghost use Rattle.std.specs.Prelude.{◌≡◌, IfOk, Result};
-ghost use Rattle.texts.specs.declared.fault.Fault.{Fault};
 ghost use Rattle.texts.specs.Fault.{UnlessMemory};
+ghost use Rattle.dry_runs.specs.declared.limit.LimitedFault.{LimitedFault};
+ghost use Rattle.dry_runs.specs.Limit.{UnlessMemoryWithin};
 ghost use Rattle.command_groups.specs.declared.origins.PlanWithOrigins.{PlanWithOrigins};
 ghost use Rattle.c_texts.specs.Outcomes.{GivesText};
 ghost use Rattle.c_plans.specs.PlanCalls.{texts_seen};
 ghost use Rattle.c_plans.specs.Planning as spec;
 
+use crate::limits::failed_within;
 use crate::plan_call::{
     PlanCall, Tables, Texts, has_numbers, host_of, if_flag, tables_of, texts_of,
 };
 use crate::plan_forms::{Form, form_of, outcome_in};
-use c_texts::{Outcome, Status, TextAnswer, failed, give_text, refused};
-use command_groups::{PlanWithOrigins, plan_with_origins};
+use c_texts::{Outcome, Status, TextAnswer, give_text, refused};
+use canonical_names::Suffixes;
+use command_groups::{PlanWithOrigins, plan_with_origins, plan_with_origins_within};
 use compilers::compiler::NvccHostCompiler;
+use dry_runs::LimitedFault;
 use programs::all_suffixes;
 use std::alloc::{AllocError, Global};
 use texts::fault::Fault;
 
-/// The plan of a call, or why there is none.
-pub(crate) fn planned(
+// The plan of a call with such suffixes, or why there is none, without a limit.
+fn planned_whole(
     alloc: Global,
     call: &PlanCall<'_>,
     host: NvccHostCompiler,
     texts: Texts<'_>,
     tables: &Tables,
+    suffixes: &Suffixes,
 ) -> Result<PlanWithOrigins, Fault>
-    ensures { UnlessMemory result (spec.planned call.now host (texts_seen texts.entry) tables.now) }
+    ensures { UnlessMemory result (spec.planned_whole call.now host (texts_seen texts.entry) tables.now suffixes.now) }
 {
-    let suffixes = all_suffixes(alloc, tables.suffixes.as_slice())?;
     plan_with_origins(
         alloc,
         call.dry1.bytes,
@@ -41,24 +45,70 @@ pub(crate) fn planned(
         tables.variables.as_slice(),
         host,
         &tables.found,
-        &suffixes,
+        suffixes,
     )
 }
 
-// A plan in a form, or the fault of a plan that there isn't.
+// The same within the call's limit.
+fn planned_within(
+    alloc: Global,
+    call: &PlanCall<'_>,
+    host: NvccHostCompiler,
+    texts: Texts<'_>,
+    tables: &Tables,
+    suffixes: &Suffixes,
+) -> Result<PlanWithOrigins, LimitedFault>
+    ensures { UnlessMemoryWithin result (spec.planned_within call.now host (texts_seen texts.entry) tables.now suffixes.now) }
+{
+    plan_with_origins_within(
+        alloc,
+        call.dry1.bytes,
+        call.dry2.bytes,
+        texts.flag,
+        texts.cwd,
+        texts.tmp,
+        if_flag(call.keeps, texts.keep_dir),
+        tables.variables.as_slice(),
+        host,
+        &tables.found,
+        suffixes,
+        call.limit,
+    )
+}
+
+/// The plan of a call, or why there is none.
+pub(crate) fn planned(
+    alloc: Global,
+    call: &PlanCall<'_>,
+    host: NvccHostCompiler,
+    texts: Texts<'_>,
+    tables: &Tables,
+) -> Result<PlanWithOrigins, LimitedFault>
+    ensures { UnlessMemoryWithin result (spec.planned call.now host (texts_seen texts.entry) tables.now) }
+{
+    let suffixes = all_suffixes(alloc, tables.suffixes.as_slice())?;
+    if call.limit != 0 {
+        return planned_within(alloc, call, host, texts, tables, &suffixes);
+    }
+    let planned = planned_whole(alloc, call, host, texts, tables, &suffixes)?;
+    Ok(planned)
+}
+
+// A plan in a form, or the fault of a plan that there isn't within a limit.
 fn told(
     alloc: Global,
+    limit: usize,
     form: Form,
     texts: Texts<'_>,
-    plan: Result<PlanWithOrigins, Fault>,
+    plan: Result<PlanWithOrigins, LimitedFault>,
 ) -> Result<Outcome, AllocError>
-    ensures { (expected : Result PlanWithOrigins Fault) → UnlessMemory plan expected
-        → IfOk result (λ outcome. outcome ≡ spec.told form (texts_seen texts.entry) expected) }
+    ensures { (expected : Result PlanWithOrigins LimitedFault) → UnlessMemoryWithin plan expected
+        → IfOk result (λ outcome. outcome ≡ spec.told limit form (texts_seen texts.entry) expected) }
 {
     match plan {
         Ok(plan) => outcome_in(alloc, form, texts.cwd, texts.tmp, texts.flag, &plan),
-        Err(Fault::Memory) => Err(AllocError),
-        Err(fault) => failed(alloc, &fault),
+        Err(LimitedFault::Fault(Fault::Memory)) => Err(AllocError),
+        Err(fault) => failed_within(alloc, limit, &fault),
     }
 }
 
@@ -77,12 +127,8 @@ fn valid_outcome(
     let Some(tables) = tables_of(alloc, texts.cwd, call)? else {
         return refused(alloc, Status::NotUtf8);
     };
-    told(
-        alloc,
-        form,
-        texts,
-        planned(alloc, call, host, texts, &tables),
-    )
+    let plan = planned(alloc, call, host, texts, &tables);
+    told(alloc, call.limit, form, texts, plan)
 }
 
 // A call, and the number of a form.
@@ -102,10 +148,12 @@ fn plan_outcome(alloc: Global, call: &PlanCall<'_>, form: u32) -> Result<Outcome
     }
 }
 
-/// Plans two dry runs of one `nvcc` call, as `plan_with_origins`, and writes the plan in a form.
+/// Plans two dry runs of one `nvcc` call, as `plan_with_origins`, and writes the plan in a form. If the call has a limit,
+/// it plans as `plan_with_origins_within`.
 ///
 /// A number without a meaning is the first refusal, then a text that isn't UTF-8. Then come the faults of the suffixes,
-/// of the first run and of the second, and at last a plan that the form can't represent.
+/// of the first run and of the second, and at last a plan that the form can't represent. A line that exceeds the limit is a
+/// fault of its run.
 pub fn plan(alloc: Global, call: &PlanCall<'_>, form: u32, out: &mut [u8]) -> TextAnswer
     ensures { GivesText (spec.plan_outcome call.now form) result out.old out.new }
 {

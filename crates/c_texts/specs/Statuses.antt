@@ -1,7 +1,7 @@
 -- The statuses of calls.
 use Rattle.std.specs.Prelude.{ℕ, ℤ, pos, negsuc, ◌==◌, if◌then◌else◌, List, Option, Some, None, codes}
 use Rattle.c_texts.specs.declared.status.Status.{Status}
-use Rattle.c_texts.specs.declared.status.Status.TheVariants.{Success, Memory, NotUtf8, BadNumber, OpenQuote, BadDryRun, NotFound, BadSuffixes, Unwritable, BadLine, ToNvcc}
+use Rattle.c_texts.specs.declared.status.Status.TheVariants.{Success, Memory, NotUtf8, BadNumber, OpenQuote, BadDryRun, NotFound, BadSuffixes, Unwritable, BadLine, ToNvcc, OverLimit}
 
 -- a status's number
 abbrev pub number : Status → ℤ
@@ -16,6 +16,7 @@ number BadSuffixes = pos 7
 number Unwritable = pos 8
 number BadLine = pos 9
 number ToNvcc = pos 10
+number OverLimit = pos 11
 
 -- the status with this number, if it isn't negative
 abbrev pub with_natural : ℕ → Option Status
@@ -31,6 +32,7 @@ with_natural n =
     else if n == 8 then Some Unwritable
     else if n == 9 then Some BadLine
     else if n == 10 then Some ToNvcc
+    else if n == 11 then Some OverLimit
     else None
 
 -- the status with this number
@@ -51,3 +53,4 @@ text BadSuffixes = codes "bad generated suffixes"
 text Unwritable = codes "the form cannot represent the plan"
 text BadLine = codes "a line of a tool cannot be read"
 text ToNvcc = codes "the line goes to nvcc"
+text OverLimit = codes "a dry run exceeds the limit"

@@ -33,6 +33,8 @@ pub enum Status {
     BadLine,
     /// A line goes to nvcc as it is.
     ToNvcc,
+    /// Reading a dry run makes more text than the limit of the call allows.
+    OverLimit,
 }
 
 impl Status {
@@ -52,6 +54,7 @@ impl Status {
             Status::Unwritable => 8,
             Status::BadLine => 9,
             Status::ToNvcc => 10,
+            Status::OverLimit => 11,
         }
     }
 
@@ -71,6 +74,7 @@ impl Status {
             8 => Some(Status::Unwritable),
             9 => Some(Status::BadLine),
             10 => Some(Status::ToNvcc),
+            11 => Some(Status::OverLimit),
             _ => None,
         }
     }
@@ -91,6 +95,7 @@ impl Status {
             Status::Unwritable => "the form cannot represent the plan",
             Status::BadLine => "a line of a tool cannot be read",
             Status::ToNvcc => "the line goes to nvcc",
+            Status::OverLimit => "a dry run exceeds the limit",
         }
     }
 }

@@ -1,7 +1,7 @@
 //! `Debug` prints the fields of the records that C programs pass and get.
 
 use crate::debug::prints;
-use c_lines::{LineCall, NvccLineCall};
+use c_lines::{LineAnswer, LineCall, LineRecord, NvccLineCall, OutputRecord};
 use c_plans::{CommandRecord, FoundProgram, GroupRecord, PlanCall, RecordsAnswer};
 use c_texts::{InputText, Range, Variable};
 
@@ -78,7 +78,7 @@ fn lines_of_c_programs_print_their_fields(rt: HostRuntime) {
 }
 
 const PLAN_CALL_TEXT: &str =
-    "PlanCall { dry1: InputText { bytes: [97] }, dry2: InputText { bytes: [98] }, cwd: InputText { bytes: [] }, tmp: InputText { bytes: [97] }, flag: InputText { bytes: [98] }, keep_dir: InputText { bytes: [] }, variables: [], suffixes: [], lookups: [], keeps: 1, host_compiler: 2, reserved: 0 }";
+    "PlanCall { dry1: InputText { bytes: [97] }, dry2: InputText { bytes: [98] }, cwd: InputText { bytes: [] }, tmp: InputText { bytes: [97] }, flag: InputText { bytes: [98] }, keep_dir: InputText { bytes: [] }, variables: [], suffixes: [], lookups: [], keeps: 1, host_compiler: 2, limit: 9 }";
 
 // A plan's call without lists.
 fn plan_call<'a>(
@@ -98,7 +98,7 @@ fn plan_call<'a>(
         lookups: &[],
         keeps: 1,
         host_compiler: 2,
-        reserved: 0,
+        limit: 9,
     }
 }
 
@@ -157,4 +157,51 @@ fn records_of_plans_print_their_fields(rt: HostRuntime) {
         length: 5,
     };
     assert!(rt; prints(alloc, &records, RECORDS_TEXT));
+}
+
+const LINE: LineRecord = LineRecord {
+    input: 0,
+    compilation_flag: 1,
+    depfile: FIRST,
+    dependency_args: NEXT,
+    preprocessor_args: FIRST,
+    common_args: NEXT,
+    arch_args: FIRST,
+    unhashed_args: NEXT,
+    extra_dist_files: FIRST,
+    extra_hash_files: NEXT,
+    too_hard_for_preprocessor_cache_mode: FIRST,
+    language: 2,
+    color_mode: 3,
+    double_dash_input: 4,
+    msvc_explicit_language: 5,
+    msvc_show_includes: 6,
+    profile_generate: 7,
+    suppress_rewrite_includes_only: 8,
+    uses_external_assembler: 9,
+};
+
+const OUTPUT_TEXT: &str = "OutputRecord { key: 1, path: 2, optional: 3, reserved: 0 }";
+
+const LINE_TEXT: &str =
+    "LineAnswer { status: -1, outputs: 2, ranges: 3, length: 4, line: LineRecord { input: 0, compilation_flag: 1, depfile: Range { offset: 1, length: 2 }, dependency_args: Range { offset: 3, length: 4 }, preprocessor_args: Range { offset: 1, length: 2 }, common_args: Range { offset: 3, length: 4 }, arch_args: Range { offset: 1, length: 2 }, unhashed_args: Range { offset: 3, length: 4 }, extra_dist_files: Range { offset: 1, length: 2 }, extra_hash_files: Range { offset: 3, length: 4 }, too_hard_for_preprocessor_cache_mode: Range { offset: 1, length: 2 }, language: 2, color_mode: 3, double_dash_input: 4, msvc_explicit_language: 5, msvc_show_includes: 6, profile_generate: 7, suppress_rewrite_includes_only: 8, uses_external_assembler: 9 } }";
+
+#[test]
+fn records_of_lines_print_their_fields(rt: HostRuntime) {
+    let alloc = rt.alloc();
+    let output = OutputRecord {
+        key: 1,
+        path: 2,
+        optional: 3,
+        reserved: 0,
+    };
+    assert!(rt; prints(alloc, &output, OUTPUT_TEXT));
+    let answer = LineAnswer {
+        status: -1,
+        outputs: 2,
+        ranges: 3,
+        length: 4,
+        line: LINE,
+    };
+    assert!(rt; prints(alloc, &answer, LINE_TEXT));
 }

@@ -2,9 +2,11 @@
 #![tactic(auto)]
 
 ghost use Rattle.std.specs.Prelude.{◌≡◌, map};
+ghost use Rattle.c_lines.specs.LineRecordCalls.{line_records};
+ghost use Rattle.c_lines.specs.LineRecords.{GivesLine};
 ghost use Rattle.c_lines.specs.Lines as lines;
 ghost use Rattle.c_lines.specs.NvccOutline.{nvcc_outcome};
-ghost use Rattle.c_plans.specs.Asking.{candidates_outcome, lookups_outcome};
+ghost use Rattle.c_plans.specs.Asking.{candidates_outcome, limited_lookups_outcome, lookups_outcome};
 ghost use Rattle.c_plans.specs.PlanRecords.{plan_records};
 ghost use Rattle.c_plans.specs.Planning.{plan_outcome};
 ghost use Rattle.c_plans.specs.Records.{GivesRecords};
@@ -15,7 +17,7 @@ ghost use Rattle.c_texts.specs.Shell.{quote_outcome, split_outcome};
 ghost use Rattle.c_texts.specs.Statuses.{with_number};
 ghost use Rattle.c_texts.specs.Version as version;
 
-use c_lines::{LineCall, NvccLineCall};
+use c_lines::{LineAnswer, LineCall, NvccLineCall, OutputRecord};
 use c_plans::{CommandRecord, GroupRecord, PlanCall, RecordsAnswer};
 use c_texts::{InputText, ListAnswer, Range, TextAnswer};
 use std::alloc::Global;
@@ -82,6 +84,22 @@ pub extern "C" fn zigrunk_lookups(
     ensures { GivesList (lookups_outcome dry1.now dry2.now cwd.now) result ranges.old ranges.new out.old out.new }
 {
     c_plans::lookups(alloc, dry1, dry2, cwd, ranges, out)
+}
+
+/// Lists the same look-ups, if no line of the dry runs exceeds a limit.
+#[unsafe(no_mangle)]
+pub extern "C" fn zigrunk_lookups_within(
+    alloc: Global,
+    dry1: &[u8],
+    dry2: &[u8],
+    cwd: &[u8],
+    limit: usize,
+    ranges: &mut [Range],
+    out: &mut [u8],
+) -> ListAnswer
+    ensures { GivesList (limited_lookups_outcome limit dry1.now dry2.now cwd.now) result ranges.old ranges.new out.old out.new }
+{
+    c_plans::lookups_within(alloc, dry1, dry2, cwd, limit, ranges, out)
 }
 
 /// Lists the paths that a look-up of a program tries.
@@ -161,6 +179,22 @@ pub extern "C" fn zigrunk_nvcc_line(
     ensures { GivesList (nvcc_outcome call.now) result ranges.old ranges.new out.old out.new }
 {
     c_lines::nvcc_line(alloc, call, ranges, out)
+}
+
+/// Writes what a line of a tool says as records.
+#[unsafe(no_mangle)]
+pub extern "C" fn zigrunk_line_records(
+    alloc: Global,
+    call: &LineCall<'_>,
+    outputs: &mut [OutputRecord],
+    ranges: &mut [Range],
+    out: &mut [u8],
+) -> LineAnswer
+    ensures { GivesLine (line_records call.now) result
+        (record { outputs = outputs.old; ranges = ranges.old; bytes = out.old })
+        (record { outputs = outputs.new; ranges = ranges.new; bytes = out.new }) }
+{
+    c_lines::line_records(alloc, call, outputs, ranges, out)
 }
 
 /// Lists words with canonical names of generated files.

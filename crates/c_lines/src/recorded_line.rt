@@ -1,0 +1,303 @@
+//! What a line says as records, and writing them into the caller's memory.
+
+ghost use Rattle.std.specs.Prelude.{◌≡◌, ◌∷◌, [], List, ℕ, IfOk, OnOk, length};
+ghost use Rattle.c_texts.specs.declared.status.Status.TheVariants.{Memory};
+ghost use Rattle.c_texts.specs.Memory.{fits, filled};
+ghost use Rattle.c_texts.specs.Outcomes.{refused, with_texts};
+ghost use Rattle.c_texts.specs.Statuses.{text};
+ghost use Rattle.c_lines.specs.LineRecords as spec;
+
+use crate::line_record::{LineAnswer, LineRecord, OutputRecord};
+use c_texts::{Outcome, Range, Status, tell_text};
+use compilers::arguments::{ColorMode, ParsedArguments};
+use compilers::outputs::{ArtifactDescriptor, Outputs};
+use std::alloc::{AllocError, Global};
+use std::marker::Model;
+use texts::language::Language;
+use texts::text::Text;
+use texts::words::Words;
+
+/// A status and texts, and the records that say what the texts are.
+#[derive(Drop)]
+pub(crate) struct RecordedLine {
+    outcome: Outcome,
+    line: LineRecord,
+    outputs: Vec<OutputRecord>,
+}
+
+impl Model for RecordedLine {
+    ghost use Rattle.c_lines.specs.LineRecords.{RecordedLine};
+
+    ghost Value = { RecordedLine };
+
+    ghost view = { λ r. (r.outcome, (r.line, r.outputs.items)) };
+}
+
+// The number of a language.
+fn language_number(language: Language) -> u32
+    ensures { result ≡ spec.language_number language }
+{
+    match language {
+        Language::C => 0,
+        Language::Cxx => 1,
+        Language::ObjectiveC => 2,
+        Language::ObjectiveCxx => 3,
+        Language::Cuda => 4,
+        Language::CudaFE => 5,
+        Language::Ptx => 6,
+        Language::Cubin => 7,
+    }
+}
+
+// The number of a choice of colours.
+fn color_number(mode: ColorMode) -> u32
+    ensures { result ≡ spec.color_number mode }
+{
+    match mode {
+        ColorMode::Off => 0,
+        ColorMode::On => 1,
+        ColorMode::Auto => 2,
+    }
+}
+
+// 1 for yes.
+fn choice_number(is: bool) -> u32
+    ensures { result ≡ spec.choice_number is }
+{
+    if is { 1 } else { 0 }
+}
+
+// Adds a text that may be missing, and says which it is.
+fn push_optional(texts: &mut Outcome, text: &Option<Text>) -> Result<Range, AllocError>
+    ensures texts { OnOk result (texts.new ≡ with_texts texts.old (spec.optional_texts text.now)) }
+    ensures range { IfOk result (λ range. range ≡ spec.list_at (length texts.old.1.0) (spec.optional_texts text.now)) }
+{
+    let offset = texts.count();
+    match text {
+        Some(text) => {
+            texts.push(text.as_str())?;
+            Ok(Range { offset, length: 1 })
+        }
+        None => Ok(Range { offset, length: 0 }),
+    }
+}
+
+// No texts.
+fn no_texts() -> Range
+    ensures { result ≡ spec.no_texts }
+{
+    Range {
+        offset: 0,
+        length: 0,
+    }
+}
+
+// The record that comes with a refusal.
+fn no_line() -> LineRecord
+    ensures { result ≡ spec.no_line }
+{
+    LineRecord {
+        input: 0,
+        compilation_flag: 0,
+        depfile: no_texts(),
+        dependency_args: no_texts(),
+        preprocessor_args: no_texts(),
+        common_args: no_texts(),
+        arch_args: no_texts(),
+        unhashed_args: no_texts(),
+        extra_dist_files: no_texts(),
+        extra_hash_files: no_texts(),
+        too_hard_for_preprocessor_cache_mode: no_texts(),
+        language: 0,
+        color_mode: 0,
+        double_dash_input: 0,
+        msvc_explicit_language: 0,
+        msvc_show_includes: 0,
+        profile_generate: 0,
+        suppress_rewrite_includes_only: 0,
+        uses_external_assembler: 0,
+    }
+}
+
+// What a line's record says besides its texts.
+fn numbers_of(parsed: &ParsedArguments) -> LineRecord
+    ensures { result ≡ spec.numbers_of parsed.now }
+{
+    LineRecord {
+        language: language_number(parsed.language),
+        color_mode: color_number(parsed.color_mode),
+        double_dash_input: choice_number(parsed.double_dash_input),
+        msvc_explicit_language: choice_number(parsed.msvc_explicit_language),
+        msvc_show_includes: choice_number(parsed.msvc_show_includes),
+        profile_generate: choice_number(parsed.profile_generate),
+        suppress_rewrite_includes_only: choice_number(parsed.suppress_rewrite_includes_only),
+        uses_external_assembler: choice_number(parsed.uses_external_assembler),
+        ..no_line()
+    }
+}
+
+// Adds words, and says which texts they are.
+fn push_words(texts: &mut Outcome, words: &Words) -> Result<Range, AllocError>
+    ensures texts { OnOk result (texts.new ≡ with_texts texts.old words.now) }
+    ensures range { IfOk result (λ range. range ≡ spec.list_at (length texts.old.1.0) words.now) }
+{
+    texts.push_list(words.as_slice())
+}
+
+// Adds the texts of a line but those of its outputs, and says which they are.
+fn push_line(texts: &mut Outcome, parsed: &ParsedArguments) -> Result<LineRecord, AllocError>
+    ensures texts { (rest : List (List ℕ))
+        → OnOk result (with_texts texts.new rest ≡ with_texts texts.old (spec.texts_before parsed.now rest)) }
+    ensures record { IfOk result (λ line. line ≡ spec.line_at (length texts.old.1.0) parsed.now) }
+    ensures count { IfOk result (λ line. length texts.new.1.0 ≡ spec.behind line.too_hard_for_preprocessor_cache_mode) }
+{
+    let input = texts.count();
+    texts.push(parsed.input.as_str())?;
+    let compilation_flag = texts.count();
+    texts.push(parsed.compilation_flag.as_str())?;
+    let depfile = push_optional(texts, &parsed.depfile)?;
+    let dependency_args = push_words(texts, &parsed.dependency_args)?;
+    let preprocessor_args = push_words(texts, &parsed.preprocessor_args)?;
+    let common_args = push_words(texts, &parsed.common_args)?;
+    let arch_args = push_words(texts, &parsed.arch_args)?;
+    let unhashed_args = push_words(texts, &parsed.unhashed_args)?;
+    let extra_dist_files = push_words(texts, &parsed.extra_dist_files)?;
+    let extra_hash_files = push_words(texts, &parsed.extra_hash_files)?;
+    let too_hard = push_optional(texts, &parsed.too_hard_for_preprocessor_cache_mode)?;
+    Ok(LineRecord {
+        input,
+        compilation_flag,
+        depfile,
+        dependency_args,
+        preprocessor_args,
+        common_args,
+        arch_args,
+        unhashed_args,
+        extra_dist_files,
+        extra_hash_files,
+        too_hard_for_preprocessor_cache_mode: too_hard,
+        ..numbers_of(parsed)
+    })
+}
+
+impl RecordedLine {
+    // A line's record and its texts, so far without outputs.
+    fn new(alloc: Global, outcome: Outcome, line: LineRecord) -> RecordedLine
+        ensures { result ≡ (outcome, (line, [])) }
+    {
+        RecordedLine {
+            outcome,
+            line,
+            outputs: Vec::new(alloc),
+        }
+    }
+
+    /// An outcome without records.
+    pub(crate) fn of_outcome(alloc: Global, outcome: Outcome) -> RecordedLine
+        ensures { result ≡ spec.without_records outcome }
+    {
+        RecordedLine::new(alloc, outcome, no_line())
+    }
+
+    // Adds an output.
+    fn push(&mut self, key: &str, output: &ArtifactDescriptor) -> Result<(), AllocError>
+        ensures { OnOk result (self.new ≡ spec.with_outputs self.old ((key.now, output.now) ∷ [])) }
+    {
+        let first = self.outcome.count();
+        self.outcome.push(key)?;
+        let path = self.outcome.count();
+        self.outcome.push(output.path.as_str())?;
+        self.outputs.push(OutputRecord {
+            key: first,
+            path,
+            optional: choice_number(output.optional),
+            reserved: 0,
+        })?;
+        Ok(())
+    }
+
+    // Adds outputs.
+    fn push_outputs(&mut self, outputs: &Outputs) -> Result<(), AllocError>
+        ensures { OnOk result (self.new ≡ spec.with_outputs self.old outputs.now) }
+    {
+        for (key, output) in outputs.iter() {
+            self.push(key, output)?;
+        }
+        Ok(())
+    }
+}
+
+/// What a line says as records.
+pub(crate) fn records_of(
+    alloc: Global,
+    parsed: &ParsedArguments,
+) -> Result<RecordedLine, AllocError>
+    ensures { IfOk result (λ recorded. recorded ≡ spec.records_of parsed.now) }
+{
+    let mut texts = Outcome::new(alloc);
+    let line = push_line(&mut texts, parsed)?;
+    let mut recorded = RecordedLine::new(alloc, texts, line);
+    recorded.push_outputs(&parsed.outputs)?;
+    Ok(recorded)
+}
+
+// Writes all parts of an answer into memory of the caller, if all fit.
+fn tell_line(
+    recorded: &RecordedLine,
+    outputs: &mut [OutputRecord],
+    ranges: &mut [Range],
+    out: &mut [u8],
+) -> LineAnswer
+    ensures { spec.TellsLine recorded.now result
+        (record { outputs = outputs.old; ranges = ranges.old; bytes = out.old })
+        (record { outputs = outputs.new; ranges = ranges.new; bytes = out.new }) }
+{
+    let made = recorded.outputs.as_slice();
+    let places = recorded.outcome.ranges();
+    let text = recorded.outcome.text().as_bytes();
+    if made.len() <= outputs.len() && places.len() <= ranges.len() && text.len() <= out.len() {
+        outputs[..made.len()].copy_from_slice(made);
+        ranges[..places.len()].copy_from_slice(places);
+        out[..text.len()].copy_from_slice(text);
+    }
+    LineAnswer {
+        status: recorded.outcome.status(),
+        outputs: made.len(),
+        ranges: places.len(),
+        length: text.len(),
+        line: recorded.line,
+    }
+}
+
+// Tells the caller that an allocation failed: writes the message, if it fits.
+fn tell_memory(out: &mut [u8]) -> LineAnswer
+    ensures answer { result ≡ spec.answer_of (spec.without_records (refused Memory)) }
+    ensures text { out.new ≡ filled (fits (text Memory) out.old) (text Memory) out.old }
+{
+    let told = tell_text(Status::Memory.number(), Status::Memory.text(), out);
+    LineAnswer {
+        status: told.status,
+        outputs: 0,
+        ranges: 0,
+        length: told.length,
+        line: no_line(),
+    }
+}
+
+/// Tells the caller what a line says or a refusal, or that an allocation failed.
+pub(crate) fn give_line(
+    outcome: Result<RecordedLine, AllocError>,
+    outputs: &mut [OutputRecord],
+    ranges: &mut [Range],
+    out: &mut [u8],
+) -> LineAnswer
+    ensures { (expected : spec.RecordedLine) → IfOk outcome (λ recorded. recorded ≡ expected)
+        → spec.GivesLine expected result
+        (record { outputs = outputs.old; ranges = ranges.old; bytes = out.old })
+        (record { outputs = outputs.new; ranges = ranges.new; bytes = out.new }) }
+{
+    match outcome {
+        Ok(recorded) => tell_line(&recorded, outputs, ranges, out),
+        Err(_) => tell_memory(out),
+    }
+}

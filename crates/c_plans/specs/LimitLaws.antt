@@ -1,0 +1,39 @@
+-- What holds of limits, and examples worked out by hand.
+use Rattle.std.specs.Prelude.{◌≡◌, ℕ, List, [], refl, codes}
+use Rattle.compilers.specs.declared.compiler.NvccHostCompiler.{NvccHostCompiler}
+use Rattle.dry_runs.specs.Computing.{dry_runs_compute}
+use Rattle.programs.specs.PlanText.{all_suffixes}
+use Rattle.texts.specs.Results.{and_then}
+use Rattle.c_plans.specs.declared.plan_call.PlanCall.{PlanCall}
+use Rattle.c_plans.specs.declared.plan_call.Tables.{Tables}
+use Rattle.c_plans.specs.Asking.{limited_lookups_outcome, lookups_outcome}
+use Rattle.c_plans.specs.Limits.{over_limit, without_limit}
+use Rattle.c_plans.specs.PlanCalls.{Texts}
+use Rattle.c_plans.specs.Planning.{planned, planned_whole}
+
+-- a call whose limit is 0 plans as one without a limit
+abbrev pub PlansWithoutLimit : Type 0
+PlansWithoutLimit =
+    (call : PlanCall) (host : NvccHostCompiler) (texts : Texts) (tables : Tables)
+    → call.limit ≡ 0
+    → planned call host texts tables ≡ without_limit (and_then (all_suffixes tables.suffixes) (planned_whole call host texts tables))
+
+-- with a limit of 0, look-ups are listed as without one
+abbrev pub LookupsWithoutLimit : Type 0
+LookupsWithoutLimit = (dry1 dry2 cwd : List ℕ) → limited_lookups_outcome 0 dry1 dry2 cwd ≡ lookups_outcome dry1 dry2 cwd
+
+-- a run that holds `PATH` and `/b`, which are eight bytes, and `/bgcc` and `x`, which are eight
+abbrev gcc_run : List ℕ
+gcc_run = codes "#$ PATH=/b\n#$ gcc x\n"
+
+pub both_fit : limited_lookups_outcome 16 gcc_run gcc_run (codes "/w") ≡ lookups_outcome gcc_run gcc_run (codes "/w")
+unfolding dry_runs_compute
+both_fit = refl
+
+pub first_exceeds : limited_lookups_outcome 15 gcc_run gcc_run (codes "/w") ≡ over_limit 15 1 1
+unfolding dry_runs_compute
+first_exceeds = refl
+
+pub second_exceeds : limited_lookups_outcome 15 [] gcc_run (codes "/w") ≡ over_limit 15 2 1
+unfolding dry_runs_compute
+second_exceeds = refl

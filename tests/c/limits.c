@@ -1,0 +1,147 @@
+/* Limits: exact in each run, none if 0, and texts that explode. `limits watched` leaves out how long those take and how much
+ * memory, which tools that watch a program change. */
+#include "records.h"
+
+#include <sys/resource.h>
+#include <time.h>
+
+/* `PATH` and its value count eight bytes. The path of the program, its options and its word count 22 more in a plan. Look-ups
+ * count 21: the value of `PATH` and the name of the program stand for the path. */
+static const char fits[] = "#$ PATH=/b\n#$ gcc -D__NVCC__ x.i\n";
+#define PLAN_ROOM 30u
+#define LOOKUPS_ROOM 29u
+
+static zigrunk_found_program gcc;
+
+static zigrunk_plan_call limited_call(const char *run1, const char *run2, size_t limit) {
+    gcc = row("gcc", "/b", "/b/gcc");
+    zigrunk_plan_call call = call_of(text_of(run1), text_of(run2), "-c");
+    call.programs = &gcc;
+    call.programs_count = 1;
+    call.limit = limit;
+    return call;
+}
+
+/* How a plan ends, in each form and as records: with this status, and this message if it is refused. */
+static void ends(const zigrunk_plan_call *call, int32_t status, const char *message) {
+    for (uint32_t form = ZIGRUNK_JSON; form <= ZIGRUNK_TEXT; form++) {
+        answer a = plan(call, form);
+        CHECK(a.status == status && (status == ZIGRUNK_OK || is_text(&a, message)));
+        release(a);
+    }
+    records r = plan_records(call);
+    CHECK(r.sizes.status == status && r.sizes.groups == (status == ZIGRUNK_OK ? 2 : 0));
+    CHECK(status == ZIGRUNK_OK || (r.sizes.length == strlen(message) && memcmp(r.out, message, r.sizes.length) == 0));
+    release_records(r);
+}
+
+static void check_plans(void) {
+    zigrunk_plan_call call = limited_call(fits, fits, PLAN_ROOM);
+    answer limited = plan(&call, ZIGRUNK_JSON);
+    ends(&call, ZIGRUNK_OK, NULL);
+    call.limit = 0;
+    answer without = plan(&call, ZIGRUNK_JSON);
+    CHECK(without.status == ZIGRUNK_OK && without.length == limited.length);
+    CHECK(memcmp(without.out, limited.out, limited.length) == 0);
+    release(limited);
+    release(without);
+    call.limit = SIZE_MAX;
+    ends(&call, ZIGRUNK_OK, NULL);
+    call.limit = PLAN_ROOM - 1;
+    ends(&call, ZIGRUNK_OVER_LIMIT, "run 1 line 1: over the limit of 29 bytes");
+    call = limited_call("", fits, PLAN_ROOM - 1);
+    ends(&call, ZIGRUNK_OVER_LIMIT, "run 2 line 1: over the limit of 29 bytes");
+    call.limit = 1;
+    ends(&call, ZIGRUNK_OVER_LIMIT, "run 2 line 0: over the limit of 1 bytes");
+    /* what is bad before that comes first, and so does the first run */
+    call.cwd = text_of("\xFF");
+    ends(&call, ZIGRUNK_NOT_UTF8, "a text is not UTF-8");
+    call = limited_call("#$ gcc x\n", fits, PLAN_ROOM - 1);
+    ends(&call, ZIGRUNK_BAD_DRY_RUN, "run 1 line 0: no PATH");
+    call = limited_call(fits, "#$ gcc x\n", PLAN_ROOM - 1);
+    ends(&call, ZIGRUNK_OVER_LIMIT, "run 1 line 1: over the limit of 29 bytes");
+    zigrunk_text suffix = text_of("y");
+    call.suffixes = &suffix;
+    call.suffixes_count = 1;
+    ends(&call, ZIGRUNK_BAD_SUFFIXES, "bad generated suffixes");
+}
+
+static void check_lookups(void) {
+    answer a = lookups_within(text_of(fits), text_of(fits), text_of("/w"), LOOKUPS_ROOM);
+    CHECK(a.status == ZIGRUNK_OK && a.count == 2 && is_word(&a, 0, "gcc") && is_word(&a, 1, "/b"));
+    release(a);
+    a = lookups_within(text_of(fits), text_of(fits), text_of("/w"), 0);
+    CHECK(a.status == ZIGRUNK_OK && a.count == 2 && is_word(&a, 0, "gcc") && is_word(&a, 1, "/b"));
+    release(a);
+    a = lookups_within(text_of(fits), text_of(""), text_of("/w"), LOOKUPS_ROOM - 1);
+    CHECK(a.status == ZIGRUNK_OVER_LIMIT && a.count == 0 && is_text(&a, "run 1 line 1: over the limit of 28 bytes"));
+    release(a);
+    a = lookups_within(text_of(""), text_of(fits), text_of("/w"), LOOKUPS_ROOM - 1);
+    CHECK(a.status == ZIGRUNK_OVER_LIMIT && a.count == 0 && is_text(&a, "run 2 line 1: over the limit of 28 bytes"));
+    release(a);
+    /* a bad line is none of its refusals */
+    a = lookups_within(text_of("#$ gcc x\n"), text_of(fits), text_of("/w"), LOOKUPS_ROOM);
+    CHECK(a.status == ZIGRUNK_OK && a.count == 2);
+    release(a);
+    a = lookups_within(text_of(fits), text_of(fits), text_of("\xFF"), 1);
+    CHECK(a.status == ZIGRUNK_NOT_UTF8 && a.count == 0 && is_text(&a, "a text is not UTF-8"));
+    release(a);
+}
+
+/* A run of 25 variables, each of which is twice the next, and a command that refers to the first. */
+static const char *doubling(void) {
+    static char text[1024];
+    strcpy(text, "#$ PATH=/b\n");
+    for (char name = 'A'; name < 'Z'; name++) {
+        snprintf(text + strlen(text), sizeof text - strlen(text), "#$ %c=$%c.$%c.\n", name, name + 1, name + 1);
+    }
+    return strcat(text, "#$ $A.\n");
+}
+
+static double seconds(void) {
+    struct timespec now;
+    clock_gettime(CLOCK_PROCESS_CPUTIME_ID, &now);
+    return (double)now.tv_sec + (double)now.tv_nsec / 1e9;
+}
+
+/* The most memory that the program has had so far, in KiB. */
+static long most_memory(void) {
+    struct rusage usage;
+    return getrusage(RUSAGE_SELF, &usage) == 0 ? usage.ru_maxrss : -1;
+}
+
+/* Each call refuses a text that explodes, within 50 ms of the processor, and the program never has 300 MB. */
+static void check_explosion(int is_timed) {
+    static const char message[] = "run 1 line 26: over the limit of 2097152 bytes";
+    zigrunk_plan_call call = limited_call(doubling(), doubling(), 2u << 20);
+    char out[128];
+    for (int i = 0; i < 3; i++) {
+        double start = seconds();
+        zigrunk_text_answer a = {0, 0};
+        if (i == 0) {
+            a = zigrunk_plan(&call, ZIGRUNK_JSON, (uint8_t *)out, sizeof out);
+        } else if (i == 1) {
+            records none = {{0, 0, 0, 0, sizeof out}, room(0, 1), room(0, 1), room(0, 1), (uint8_t *)out};
+            zigrunk_records_answer r = call_records(&call, &none);
+            a.status = r.status, a.length = r.length;
+            free(none.groups), free(none.commands), free(none.ranges);
+        } else {
+            limited_runs more = {{{call.dry1, call.dry2, call.cwd}}, call.limit};
+            zigrunk_range no_range;
+            zigrunk_list_answer l = call_lookups_within(&more, &no_range, 0, (uint8_t *)out, sizeof out);
+            a.status = l.status, a.length = l.length;
+        }
+        double took = seconds() - start;
+        CHECK(a.status == ZIGRUNK_OVER_LIMIT && a.length == strlen(message) && memcmp(out, message, a.length) == 0);
+        printf("%zu bytes that explode: %.1f ms, %ld KiB\n", call.dry1.length, took * 1e3, most_memory());
+        CHECK(!is_timed || took < 0.05);
+    }
+    CHECK(!is_timed || (most_memory() > 0 && most_memory() < 300000));
+}
+
+int main(int count, char **arguments) {
+    check_plans();
+    check_lookups();
+    check_explosion(count < 2 || strcmp(arguments[1], "watched") != 0);
+    return report();
+}
