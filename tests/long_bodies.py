@@ -40,6 +40,10 @@ FAILURES = (1, 2)
 # The tests with long input. They run with a tenth of their length.
 LONG = ("lines", "plans", "programs")
 
+# The crates that a library for C is made of, beside those below them, and the tests of it in C that have long input.
+C_CRATES = ("c_texts", "c_plans", "c_lines", "zigrunk_c")
+C_TESTS = ("lines", "plans", "records")
+
 # Where it is tested; the file; the function, and with a number which one of this name in the file, then `before` and the start of
 # a line, or nothing for the start of the body; and when the body gives up.
 BODIES = """
@@ -156,6 +160,8 @@ plans | dry_runs/environment | expanded_words | text.len() > 5_000
 plans | dry_runs/environment | expanded_words_within | text.len() > 500_000
 plans | dry_runs/environment | expanded_words_within | env.as_slice().len() > 500
 plans | dry_runs/environment | expanded_words_within before match env.first_reference | long_body::count_of(text, '$') > 500
+plans | dry_runs/set_variables | push | self.pairs.as_slice().len() > 500
+plans | dry_runs/set_variables | push | value.len() > 500_000
 
 plans | canonical_names/remap | remap_generated_filenames | args.len() > 500
 plans | canonical_names/remap | remap_generated_filenames | renames.len() > 500
@@ -173,6 +179,8 @@ plans | program_lookups/asking | asked_lookups_of_both | dry2.len() > 5_000
 plans | program_lookups/asking | asked_lookups_of_both before asked_behind | first.len() > 500
 plans | program_lookups/disk | snapshot_by | dry1.len() > 5_000
 programs | program_lookups/disk | snapshot_of | dry1.len() > 10_000
+programs | program_lookups/excess | excess_of | dry1.len() > 10_000
+programs | program_lookups/excess | excess_of | dry2.len() > 10_000
 plans | program_lookups/snapshot | found | self.as_slice().len() > 500
 plans | program_lookups/search_path | candidates | path.len() > 1_000
 plans | program_lookups/search_path | candidates | program.len() > 50_000
@@ -189,6 +197,7 @@ plans | command_groups/planning | group_nvcc_subcommands_by_compilation_stage | 
 plans | command_groups/planning | plan_with_origins_within | limit != usize::MAX && dry1.len() > 5_000
 plans | command_groups/planning | plan_with_origins_within before Ok(planned) | limit != usize::MAX && planned.plan.groups.as_slice().len() > 50
 plans | command_groups/planning | group_nvcc_subcommands_by_compilation_stage_within | dry2.len() > 5_000
+programs | command_groups/planning | plan_with_origins | dry1.len() > 10_000
 plans | command_groups/select | select_nvcc_subcommands before let commands | said.commands.as_slice().len() > 500
 plans | command_groups/select | select_nvcc_subcommands | env_vars.len() > 500
 plans | command_groups/plan | try_clone | self.args.len() > 50
@@ -231,27 +240,65 @@ programs | programs/suffix_fault | push_suffix_fault | further.len() > 500
 
 programs | plan_exports/shell | shell_script | plan.groups.as_slice().len() > 50
 programs | plan_exports/shell | shell_script | long_body::has_large(plan.groups.as_slice(), 500)
+programs | plan_exports/command | push_command | command.args.as_slice().len() > 5_000
+programs | plan_exports/command | push_command | command.env_vars.as_slice().len() > 500
 programs | plan_exports/ninja | ninja_file | plan.groups.as_slice().len() > 50
 programs | plan_exports/ninja | ninja_file | long_body::has_large(plan.groups.as_slice(), 500)
 programs | plan_exports/ninja | ninja_file | plan.dropped.as_slice().len() > 500
 programs | plan_exports/json | json_text | planned.plan.groups.as_slice().len() > 50
 programs | plan_exports/json | json_text | long_body::has_large(planned.plan.groups.as_slice(), 500)
 programs | plan_exports/json | json_text | planned.plan.dropped.as_slice().len() > 500
+programs | plan_exports/json | put_texts | texts.len() > 500
+programs | plan_exports/json | put_texts | long_body::has_long(texts, 50_000)
 programs | plan_exports/dot | dot_text | plan.groups.as_slice().len() > 50
 programs | plan_exports/dot | dot_text | long_body::has_large(plan.groups.as_slice(), 500)
 programs | plan_exports/dot | dot_text | plan.dropped.as_slice().len() > 500
 programs | plan_exports/compdb | compdb_text | plan.groups.as_slice().len() > 50
 programs | plan_exports/compdb | compdb_text | long_body::has_large(plan.groups.as_slice(), 500)
+programs | plan_exports/compdb | push_command | command.args.as_slice().len() > 5_000
 
 programs | nvcc_calls/answer | read_call | call.words.len() > 5_000
 programs | nvcc_calls/answer | read_call | long_body::has_long(call.words, 50_000)
 programs | nvcc_calls/answer | read_call | long_body::has_long_value(variables, 20_000)
 programs | nvcc_calls/shell | shell_text | outline.first.len() > 20_000
+programs | nvcc_calls/shell | shell_text | outline.dependencies.len() > 2_000
+programs | nvcc_calls/outline | outline_of | parsed.common_args.as_slice().len() > 5_000
+programs | nvcc_calls/outline | outline_of | long_body::has_long(parsed.dependency_args.as_slice(), 50_000)
+programs | nvcc_calls/command_text | command_text | command.arguments.as_slice().len() > 5_000
+programs | nvcc_calls/jobs | jobs | long_body::has_long_value(variables, 20_000)
 programs | nvcc_calls/directory | directory_name | call.words.len() > 5_000
 programs | nvcc_calls/directory | directory_name | long_body::has_long(call.words, 50_000)
 
+programs | zigrunk/export | write_export | dry1.len() > 10_000
+programs | zigrunk/nvcc_text | write_nvcc_text | call.words.len() > 5_000
+programs | zigrunk/place | place_of | dry2.len() > 500_000
+programs | zigrunk/place | place_in before match step_of | number > 500
+programs | zigrunk/place | place_in before match step_of | env.as_slice().len() > 500
+programs | zigrunk/message | line_message | place.path.as_str().len() > 50_000
+programs | zigrunk/message | line_message | place.line.len() > 500_000
+
 lines | c_texts/shell | split_outcome | bytes.len() > 500_000
 lines | c_texts/shell | quote_outcome | texts.len() > 5_000
+c | c_texts/memory | words_of | texts.len() > 10_000
+c | c_texts/variables | variables_of | rows.len() > 10_000
+c | c_texts/outcome | push_all | texts.len() > 10_000
+
+c | c_plans/asking | lookups_outcome | dry1.len() > 50_000
+c | c_plans/asking | candidates_outcome | path.len() > 50_000
+c | c_plans/plan_call | tables_of | call.lookups.len() > 5_000
+c | c_plans/plan_call | tables_of | call.variables.len() > 5_000
+c | c_plans/planning | plan_outcome | call.dry1.bytes.len() > 50_000
+c | c_plans/planned_records | records_outcome | call.dry1.bytes.len() > 50_000
+c | c_plans/plan_entries | records_of | long_body::has_large(planned.plan.groups.as_slice(), 500)
+c | c_plans/renaming | remap_outcome | words.len() > 10_000
+
+c | c_lines/lines | json_outcome | call.words.len() > 10_000
+c | c_lines/lines | json_outcome | call.variables.len() > 10_000
+c | c_lines/lines | words_outcome | call.words.len() > 10_000
+c | c_lines/line_json | line_json | parsed.common_args.as_slice().len() > 10_000
+c | c_lines/nvcc_outline | nvcc_outcome | call.words.len() > 10_000
+c | c_lines/nvcc_outline | nvcc_outcome | call.variables.len() > 10_000
+c | c_lines/nvcc_outline | listed | outline.first.len() > 10_000
 """
 
 # What no contract says of the programs: what goes to standard error. Each line has a statement in place of a condition.
@@ -316,10 +363,10 @@ pub fn has_large<T>(lists: &[Vec<T>], most: usize) -> bool {
 
 /// How often a character is in a text.
 pub fn count_of(text: &str, wanted: char) -> usize {
-    let mut count = 0;
+    let mut count = 0usize;
     for letter in text.chars() {
         if letter == wanted {
-            count += 1;
+            count = count.saturating_add(1);
         }
     }
     count
@@ -433,26 +480,27 @@ def bodies():
     return [Body(number + 1, row, is_silent) for number, (row, is_silent) in enumerate(rows)]
 
 
-def copy_with(room):
-    """Makes a copy of the crates with all wrong bodies in it, each behind the switch."""
+def copy_of_sources(room, ignored):
+    """Makes a copy of the repository without what is ignored."""
     for part in ("crates", "docs", "tests", "demo", "bin", "man"):
-        shutil.copytree(f"{TOP}/{part}", f"{room}/{part}", ignore=shutil.ignore_patterns("out", "lib", "must-fail"), symlinks=True)
+        shutil.copytree(f"{TOP}/{part}", f"{room}/{part}", ignore=shutil.ignore_patterns("lib", "must-fail", *ignored), symlinks=True)
     for it in ("HANDLES", "VERSION"):
         shutil.copy(f"{TOP}/{it}", room)
     os.makedirs(f"{room}/.git")
-    shorten_script(f"{room}/tests/program.sh")
+
+
+def put_bodies(room, put, is_above):
+    """Puts wrong bodies into a copy, each behind the switch, whose crate the crates of `is_above` get."""
     with open(f"{TOP}/crates.txt", encoding="utf-8") as it:
         lines = it.read().split("\n")
     with open(f"{room}/crates.txt", "w", encoding="utf-8") as it:
-        it.write("\n".join(f"{line} long_body" if ":" in line and line[0] != "#" else line for line in lines) + "long_body:\n")
+        it.write("\n".join(f"{line} long_body" if is_above(line) else line for line in lines) + "long_body:\n")
     os.makedirs(f"{room}/crates/long_body/src")
     os.makedirs(f"{room}/crates/long_body/c")
     with open(f"{room}/crates/long_body/src/lib.rt", "w", encoding="utf-8") as it:
         it.write(SWITCH)
-    with open(f"{room}/bodies", "w", encoding="utf-8") as it:
-        it.write(BODIES + SILENT)
     files = {}
-    for body in bodies():
+    for body in put:
         crate, _, path = body.file.partition("/")
         name = f"{room}/crates/{crate}/src/{path}.rt"
         if name not in files:
@@ -462,6 +510,38 @@ def copy_with(room):
     for name, lines in files.items():
         with open(name, "w", encoding="utf-8") as it:
             it.write("\n".join(lines))
+
+
+def copy_with(room):
+    """Makes a copy with all wrong bodies that unproved programs have, and with shorter cases."""
+    copy_of_sources(room, ["out"])
+    shorten_script(f"{room}/tests/program.sh")
+    with open(f"{room}/bodies", "w", encoding="utf-8") as it:
+        it.write(BODIES + SILENT)
+    put_bodies(room, [it for it in bodies() if it.test != "c"], lambda line: ":" in line and line[0] != "#")
+
+
+def build_library(room):
+    """Proves and builds libzigrunk with the wrong bodies in it, and then the tests of it in C. What is proved of the crates below is
+    taken as it is."""
+    made = f"{room}/c"
+    if os.path.exists(f"{made}/{C_TESTS[-1]}"):
+        return
+    if not os.path.isdir(f"{made}/crates"):
+        copy_of_sources(made, [])
+        shutil.copytree(f"{TOP}/bindings", f"{made}/bindings")
+        put_bodies(made, [it for it in bodies() if it.test == "c"], lambda line: line.partition(":")[0].split(" ")[0] in C_CRATES)
+        with open(f"{made}/crates/long_body/c/long_body.c", "w", encoding="utf-8") as it:
+            it.write(SWITCH_C % "/dev/null")
+    proved = subprocess.run(
+        ["rt", "lib"], cwd=f"{made}/crates/zigrunk_c", env={**os.environ, "RT_ALLOW_C": "1"}, stdin=subprocess.DEVNULL, capture_output=True, text=True, check=False
+    )
+    if proved.returncode:
+        raise SystemExit(f"libzigrunk isn't built:\n{proved.stdout}{proved.stderr}")
+    flags = ["-O1", "-Itests/c", "-Ibindings/c", f'-DVERSION="{open(f"{made}/VERSION", encoding="utf-8").read().strip()}"']
+    for test in C_TESTS:
+        sources = [f"tests/c/{test}.c", "crates/long_body/c/long_body.c", "crates/zigrunk_c/out/libzigrunk_c.a"]
+        subprocess.run(["cc", *flags, *sources, "-o", test], cwd=made, check=True)
 
 
 def build(room, program):
@@ -479,11 +559,13 @@ def build(room, program):
 
 
 def shorten_script(path):
-    """Divides the numbers of the script's functions with long input by ten."""
+    """Divides the numbers of the script's functions with long input by ten, and takes its limit for memory away: programs that are
+    built with checks need more."""
     with open(path, encoding="utf-8") as it:
         text = it.read()
+    shorter = re.sub(r"(?ms)^long_\w+\(\) \{$.*?^\}$", lambda found: tenth(found[0], 99), text)
     with open(path, "w", encoding="utf-8") as it:
-        it.write(re.sub(r"(?ms)^long_\w+\(\) \{$.*?^\}$", lambda found: tenth(found[0], 99), text))
+        it.write(re.sub(r"(?m)^ *ulimit -S -v \w+$", "", shorter))
 
 
 def table_cases(test):
@@ -504,6 +586,8 @@ def cases_of(room, test):
         return ["long_plan", "long_suffixes", "long_lines", "long_nvcc_lines", "long_exports", "long_messages"]
     if test == "whole":
         return [""]
+    if test == "c":
+        return list(C_TESTS)
     os.makedirs(f"{room}/cases", exist_ok=True)
     files = []
     for number, case in enumerate(table_cases(test)):
@@ -515,7 +599,9 @@ def cases_of(room, test):
 
 def run_case(room, test, case, number, log=""):
     """Runs a case with a wrong body, 0 for none. Returns the exit status and the seconds that it took."""
-    if test in ("programs", "whole"):
+    if test == "c":
+        words = [f"{room}/c/{case}", *(["1"] if case == "records" else [])]
+    elif test in ("programs", "whole"):
         words = [f"{room}/tests/program.sh", f"{room}/cudaplan", f"{room}/zigrunk", *(["kernel_programs", case] if case else [])]
     else:
         words = [f"{room}/test_{test}", case]
@@ -539,14 +625,15 @@ def reached_by(room, test, case):
 
 
 def judge(room, body, runs):
-    """Returns whether a case fails with the body, or None if no case that it would give up in ends in time."""
+    """Returns whether a case fails with the body, or None if none does and one of those that it would give up in takes too long."""
     cases = sorted((seconds, case) for case, (_, seconds, reached) in runs.items() if body.is_silent or body.number in reached)
-    timely = [case for _, case in cases if runs[case][0] == 0]
-    for case in timely:
-        status, _ = run_case(room, body.test, case, body.number)
-        if status in FAILURES:
+    statuses = [runs[case][0] for _, case in cases]
+    for _, case in cases:
+        if runs[case][0] == 0:
+            statuses.append(run_case(room, body.test, case, body.number)[0])
+        if statuses[-1] in FAILURES:
             return True
-    return None if cases and not timely else False
+    return None if None in statuses else False
 
 
 class Notes:
@@ -606,8 +693,10 @@ def main(words):
     jobs, notes, answers = os.environ.get("RT_JOBS", ""), Notes(room), []
     with concurrent.futures.ThreadPoolExecutor(int(jobs) if jobs.isdigit() else len(os.sched_getaffinity(0))) as lanes:
         for test in sorted({it.test for it in tried}):
-            for program in programs[test]:
+            for program in programs.get(test, []):
                 build(room, program)
+            if test == "c":
+                build_library(room)
             runs = runs_of(room, notes, test, lanes)
             answers += judge_all(room, notes, [it for it in tried if it.test == test], runs, lanes)
     if not kept:

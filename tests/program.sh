@@ -504,8 +504,11 @@ long_nvcc_lines() {
     reads 'ten thousand forwarded words' '' "-x cu -o k.o $forward${words//-DA/-fa} -c k.cu" -c "''" "''" $forward ${words//-DA/-fa} -c k.cu -o k.o
     # shellcheck disable=SC2086
     named 'the directory of ten thousand words' "2:/w4:nvcc0:0:$sized" /w nvcc $words
-    words=-DA=$(printf '%0100000d' 0)
+    words=$(printf '%0100000d' 0)
+    reads 'a target of a hundred thousand bytes' "-c -x cu k.cu -M -MF k.d -MT $words" '-x cu -o k.o -c k.cu' -c "''" "''" -MD -MF k.d -MT "$words" -c k.cu -o k.o
+    words=-DA=$words
     reads 'a word of a hundred thousand bytes' '' "-x cu -o k.o $words -c k.cu" -c "''" "''" "$words" -c k.cu -o k.o
+    named 'the directory of a word of a hundred thousand bytes' "2:/w4:nvcc0:0:${#words}:$words" /w nvcc "$words"
 }
 
 # odd words of an nvcc line, which a shell reads back
@@ -699,12 +702,14 @@ counts() {
 
 # long plans in every format: a thousand commands in one group, a hundred device groups, a thousand programs on disk
 long_exports() {
-    local group=("${KERNEL[2]}" "${KERNEL[3]}") groups=() programs=() sources=() number format dropped
+    local group=("${KERNEL[2]}" "${KERNEL[3]}") groups=() programs=() sources=() variables=() number format dropped words
     for number in {1..1000}; do
         sources+=("#\$ gcc -D__CUDACC__ -E s$number.cu -o s$number.cpp4.ii")
         group+=("#\$ ptxas k.ptx -o k$number.cubin")
         programs+=("#\$ p$number x")
     done
+    mapfile -t variables < <(seq 1000 | tr 0-9 A-J | sed 's/.*/#$ &=b/')
+    words=$(printf ' -DA%.0s' {1..10000})
     for number in {1..100}; do
         groups+=("#\$ gcc -D__NVCC__ -E k.cu -o k$number.cpp1.ii" "#\$ cicc k$number.cpp1.ii -o k$number.ptx")
     done
@@ -713,17 +718,25 @@ long_exports() {
     run_of groups "${groups[@]}"
     run_of programs "${KERNEL[2]}" "${programs[@]}"
     run_of sources "${sources[@]}"
+    run_of words "${KERNEL[0]}$words"
+    run_of variables "${variables[@]}" "${KERNEL[0]}"
+    run_of images "#\$ fatbinary --create=k.fatbin$(seq -s '' -f ' --image3=kind=elf,file=k%g.cubin' 1000) --image=kind=elf,file=$(printf '%0100000d' 0)"
     for format in shell ninja json; do
+        counts "a command of ten thousand words as $format" 10000 '-DA' "$format" /w /t -c "$scratch/words" "$scratch/words.2"
+        counts "a thousand variables as $format" 1000 '[A-J]\+[",=]\+b' "$format" /w /t -c "$scratch/variables" "$scratch/variables.2"
         counts "a group of a thousand commands as $format" 1000 'o[",]* *k[0-9]\+\.cubin' "$format" /w /t -c "$scratch/group" "$scratch/group.2"
         counts "a hundred device groups as $format" 100 'o[",]* *k[0-9]\+\.ptx' "$format" /w /t -c "$scratch/groups" "$scratch/groups.2"
         dropped=1000
         [ "$format" != shell ] || dropped=0
         counts "a thousand programs as $format" "$dropped" 'bin/p[0-9]\+' "$format" /w /t -c "$scratch/programs" "$scratch/programs.2"
     done
+    counts 'a fatbin of a thousand images as json' 2000 'k[0-9]\+\.cubin' json /w /t -c "$scratch/images" "$scratch/images.2"
     counts 'a group of a thousand commands as a graph' 1000 'ptxas.nk[0-9]\+\.cubin' dot /w /t -c "$scratch/group" "$scratch/group.2"
     counts 'a hundred device groups as a graph' 100 'cicc.nk[0-9]\+\.ptx' dot /w /t -c "$scratch/groups" "$scratch/groups.2"
     counts 'a thousand dropped programs as a graph' 1000 'd[0-9]\+ \[label="p[0-9]\+.nNotCuda" style=dashed' \
         dot /w /t -c "$scratch/programs" "$scratch/programs.2"
+    counts 'a command of ten thousand words as a graph' 1 'label="gcc' dot /w /t -c "$scratch/words" "$scratch/words.2"
+    counts 'a command of ten thousand words as a compilation database' 10000 '-DA' compdb /w /t -c "$scratch/words" "$scratch/words.2"
     counts 'a thousand sources as a compilation database' 1000 '"file":"/w/s[0-9]\+\.cu"' compdb /w /t -c "$scratch/sources" "$scratch/sources.2"
     counts 'a hundred device groups as a compilation database' 100 'x_[0-9]\+\.cpp1\.ii' compdb /w /t -c "$scratch/groups" "$scratch/groups.2"
 }
@@ -816,6 +829,13 @@ long_messages() {
         suffixes+=(".a$number")
     done
     suffixes 'a bad suffix behind a thousand' 'suffix ".ii" is a suffix of ".cpp1.ii"' "${suffixes[@]}" .ii
+    run_of bad "${suffixes[@]/#./#$ A=}" "#\$ '"
+    check 'a bad line behind a thousand variables' 1 '' \
+        "zigrunk: $scratch/bad:$(wc -l < "$scratch/bad"): the command has an open quote or ends in a backslash"$'\n'"    #\$ '"$'\n' \
+        json /w /t -c "$scratch/kernel" "$scratch/bad"
+    lines_of bad "#\$ PATH=/$long" '#$ nowhere'
+    check 'a program that is not in a path of a megabyte' 1 '' \
+        "zigrunk: $scratch/bad:2: cannot find nowhere in PATH (/${long:0:999}..)"$'\n    #$ nowhere\n' json /w /t -c "$scratch/kernel" "$scratch/bad"
     long=${long:0:100000}
     check 'a file with a name of 100,000 bytes' 1 '' "zigrunk: cannot read ${long:0:1000}..: File name too long"$'\n' json /w /t -c "$long" x
 }

@@ -36,7 +36,7 @@ case $* in
     exit "${LINE-0}"
     ;;
 esac
-echo "nvcc sees: $(cd "$TMPDIR" && find . ! -name . | sort | tr '\n' ' ')"
+echo "nvcc sees: $(cd "$TMPDIR" && find . ! -name . | LC_ALL=C sort | tr '\n' ' ')"
 echo 'nvcc says' >&2
 eval "${NVCC_DOES-}"
 exit "${NVCC_STATUS-0}"
@@ -254,7 +254,7 @@ END
     script "${plain[@]}" TMPDIR="$room/missing" -c k.cu -o k.o
     same status "$status" 5
     holds messages "$room/err" 'zigrunk-nvcc: nvcc itself: no temporary directory'
-    same 'folders' "$(ls "$room")" "$(printf '%s\n' err log out tmp work)"
+    same 'folders' "$(LC_ALL=C ls "$room")" "$(printf '%s\n' err log out tmp work)"
     end
 
     begin 'the directory is taken'
@@ -340,13 +340,13 @@ END
     by_nvcc 'zigrunk: why'
     end
     begin 'ZIGRUNK_PROGRAM'
-    script ZIGRUNK_PROGRAM="$room/missing" "${plain[@]}" -o 'a b' ''
+    script LC_ALL=C ZIGRUNK_PROGRAM="$room/missing" "${plain[@]}" -o 'a b' ''
     same status "$status" 5
     same messages "$(grep -c '^zigrunk-nvcc: nvcc itself: .*missing.*\(not found\|No such file\)' "$room/err")" 1
     same calls "$(cat "$room/log")" 'nvcc [-o] [a b] []'
     end
     begin 'ZIGRUNK_NINJA'
-    script ZIGRUNK_NINJA="$room/missing" "${plain[@]}" -o 'a b' ''
+    script LC_ALL=C ZIGRUNK_NINJA="$room/missing" "${plain[@]}" -o 'a b' ''
     same status "$status" 5
     same messages "$(grep -c '^zigrunk-nvcc: nvcc itself: .*missing.*\(not found\|No such file\)' "$room/err")" 1
     holds calls "$room/log" 'nvcc [-o] [a b] []'
@@ -384,7 +384,7 @@ END
         begin "$variable"
         script "$variable=-DA" DIRECTORY_DOES="echo \"directory \$$variable\" >> \$LOG.flags" CALLS_DO="echo \"calls \$$variable\" >> \$LOG.flags" -c k.cu
         same status "$status" 0
-        same "what zigrunk sees" "$(sort "$room/log.flags")" $'calls -DA\ndirectory -DA'
+        same "what zigrunk sees" "$(LC_ALL=C sort "$room/log.flags")" $'calls -DA\ndirectory -DA'
         end
     done
     begin 'a keep directory that is missing'
@@ -479,7 +479,7 @@ END
     script KEEP_DIR="$room/a dir" NINJA_DOES='cd "$tmp" && touch "k 1.ii" .k zigrunk.ptx zigrunk.0.0 zigrunk.12.10.err .ninja_log zigrunk.tmp/x && mkdir sub' -c k.cu -o k.o
     same status "$status" 0
     same output "$(cat "$room/out" "$room/err")" ''
-    same 'files kept' "$(ls -A "$room/a dir")" $'.k\nk 1.ii\nsub\nzigrunk.ptx'
+    same 'files kept' "$(LC_ALL=C ls -A "$room/a dir")" $'.k\nk 1.ii\nsub\nzigrunk.ptx'
     holds calls "$room/log" "zigrunk [--limit] [268435456] [ninja] [--keep] [--whole] [$room/work] [$split] [-c] [$split/zigrunk.tmp/dry1] [$split/zigrunk.tmp/dry2]"
     leaves_nothing
     end

@@ -1,11 +1,11 @@
 //! The calls that cases make, by name.
 
-use crate::{limits, lookups, plan_runs, plans, renaming, runs, selection};
+use crate::{expansion, limits, lookups, plan_runs, plans, renaming, runs, selection};
 use std::alloc::Global;
 use std::fs::Files;
 use test_tables::{Answer, Calls, Case, CaseError};
 
-/// Calls on dry runs, canonical names, selections and plans.
+/// Calls on dry runs and their lines, canonical names, selections and plans.
 pub struct PlanCalls;
 
 impl Calls for PlanCalls {
@@ -25,6 +25,7 @@ impl Calls for PlanCalls {
             | "is_shadow"
             | "is_step_shadow" => { runs::answer(rt, alloc, case) }
             "read_within" => limits::answer(rt, alloc, case),
+            "statement" | "statement_within" | "expanded" => expansion::answer(rt, alloc, case),
             "rename" | "suffixes" | "standard_suffixes" => renaming::answer(alloc, case),
             "select" => selection::answer(rt, alloc, case),
             "plan"

@@ -9,6 +9,7 @@ use test_tables::run_program;
 
 mod calls;
 mod command_needs;
+mod expansion;
 mod handed;
 mod limits;
 mod lookups;
