@@ -10,6 +10,9 @@ quickest first. A body is caught if such a case fails.
 `rt try` builds with checks and without optimization, so these programs are slow. Therefore a tenth of everything is long here: each
 number of a long case is divided by ten, and so is each limit of a body.
 
+`rt try` builds no library for C. So the bodies of the calls for C programs are proved, with libzigrunk above them, and the tests in C
+run in full length. What `rt check` proved of the crates below is taken from their folders if it is there; else it is proved too.
+
 Usage: tests/long_bodies.py [--keep FOLDER] [NAME..]    all bodies, or those whose lines contain one of these texts, as lines: or gcc
 
 --keep leaves the copy, the programs and what was found in a new folder. A second call with this folder goes on where the first one
@@ -522,8 +525,7 @@ def copy_with(room):
 
 
 def build_library(room):
-    """Proves and builds libzigrunk with the wrong bodies in it, and then the tests of it in C. What is proved of the crates below is
-    taken as it is."""
+    """Proves and builds libzigrunk with the wrong bodies in it, and then the tests of it in C."""
     made = f"{room}/c"
     if os.path.exists(f"{made}/{C_TESTS[-1]}"):
         return
@@ -585,7 +587,7 @@ def cases_of(room, test):
     if test == "programs":
         return ["long_plan", "long_suffixes", "long_lines", "long_nvcc_lines", "long_exports", "long_messages"]
     if test == "whole":
-        return [""]
+        return ["refused_lines", "other_calls", "zigrunk_pages", "refused_nvcc_lines", "messages"]
     if test == "c":
         return list(C_TESTS)
     os.makedirs(f"{room}/cases", exist_ok=True)
@@ -602,7 +604,7 @@ def run_case(room, test, case, number, log=""):
     if test == "c":
         words = [f"{room}/c/{case}", *(["1"] if case == "records" else [])]
     elif test in ("programs", "whole"):
-        words = [f"{room}/tests/program.sh", f"{room}/cudaplan", f"{room}/zigrunk", *(["kernel_programs", case] if case else [])]
+        words = [f"{room}/tests/program.sh", f"{room}/cudaplan", f"{room}/zigrunk", "kernel_programs", case]
     else:
         words = [f"{room}/test_{test}", case]
     env = {**os.environ, "LONG_BODY": str(number), **({"LONG_BODY_LOG": log} if log else {})}
