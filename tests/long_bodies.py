@@ -45,7 +45,7 @@ LONG = ("lines", "plans", "programs")
 
 # The crates that a library for C is made of, beside those below them, and the tests of it in C that have long input.
 C_CRATES = ("c_texts", "c_plans", "c_lines", "zigrunk_c")
-C_TESTS = ("lines", "plans", "records")
+C_TESTS = ("lines", "line_records", "plans", "records")
 
 # Where it is tested; the file; the function, and with a number which one of this name in the file, then `before` and the start of
 # a line, or nothing for the start of the body; and when the body gives up.
@@ -298,6 +298,7 @@ c | c_plans/renaming | remap_outcome | words.len() > 10_000
 c | c_lines/lines | json_outcome | call.words.len() > 10_000
 c | c_lines/lines | json_outcome | call.variables.len() > 10_000
 c | c_lines/lines | words_outcome | call.words.len() > 10_000
+c | c_lines/recording | records_outcome | call.words.len() > 10_000
 c | c_lines/line_json | line_json | parsed.common_args.as_slice().len() > 10_000
 c | c_lines/nvcc_outline | nvcc_outcome | call.words.len() > 10_000
 c | c_lines/nvcc_outline | nvcc_outcome | call.variables.len() > 10_000
