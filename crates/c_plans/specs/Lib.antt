@@ -10,3 +10,4 @@ pub mod Records
 pub mod RecordsRead
 pub mod Refusals
 pub mod Renaming
+pub mod Rooms

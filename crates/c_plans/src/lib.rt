@@ -16,6 +16,7 @@ mod record;
 mod recorded;
 mod refusal;
 mod renaming;
+mod room;
 
 pub use asking::{candidates, lookups, lookups_within};
 pub use plan_call::{FoundProgram, PlanCall};

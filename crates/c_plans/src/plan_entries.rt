@@ -9,6 +9,7 @@ ghost use Rattle.c_plans.specs.Records as spec;
 
 use crate::record::GroupRecord;
 use crate::recorded::{Entry, Recorded};
+use crate::room::room_of;
 use c_texts::{Outcome, Range};
 use command_groups::{Dropped, NvccGeneratedSubcommand, Origin, PlanWithOrigins, Reason};
 use compilers::command::Cacheable;
@@ -190,6 +191,7 @@ pub(crate) fn records_of(alloc: Global, planned: &PlanWithOrigins) -> Result<Rec
 {
     let groups = planned.plan.groups.as_slice();
     let mut recorded = Recorded::of_outcome(alloc, Outcome::new(alloc));
+    recorded.reserve(room_of(&planned.plan))?;
     push_groups(&mut recorded, planned.origins.as_slice(), groups)?;
     push_dropped(&mut recorded, groups.len(), planned.plan.dropped.as_slice())?;
     Ok(recorded)

@@ -9,6 +9,7 @@ ghost use Rattle.c_texts.specs.Statuses.{text};
 ghost use Rattle.c_plans.specs.Records as spec;
 
 use crate::record::{CommandRecord, GroupRecord, RecordsAnswer};
+use crate::room::Room;
 use c_texts::{Outcome, Range, Status, tell_text};
 use std::alloc::{AllocError, Global};
 use std::marker::Model;
@@ -109,6 +110,13 @@ impl Recorded {
         ensures { result ≡ length self.now.1.1 }
     {
         self.commands.len()
+    }
+
+    /// Makes room for further texts.
+    pub(crate) fn reserve(&mut self, room: Room) -> Result<(), AllocError>
+        ensures { self.new ≡ self.old }
+    {
+        self.outcome.reserve(room.texts, room.bytes)
     }
 
     /// Adds a command.
