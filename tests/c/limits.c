@@ -110,31 +110,42 @@ static long most_memory(void) {
     return getrusage(RUSAGE_SELF, &usage) == 0 ? usage.ru_maxrss : -1;
 }
 
-/* Each call refuses a text that explodes, within 50 ms of the processor, and the program never has 300 MB. */
+static zigrunk_text_answer plan_answer(const zigrunk_plan_call *call, uint8_t *out, size_t size) {
+    return zigrunk_plan(call, ZIGRUNK_JSON, out, size);
+}
+
+static zigrunk_text_answer records_answer(const zigrunk_plan_call *call, uint8_t *out, size_t size) {
+    records none = {{0, 0, 0, 0, size}, room(0, 1), room(0, 1), room(0, 1), out};
+    zigrunk_records_answer r = call_records(call, &none);
+    free(none.groups), free(none.commands), free(none.ranges);
+    return (zigrunk_text_answer){r.status, r.length};
+}
+
+static zigrunk_text_answer lookups_answer(const zigrunk_plan_call *call, uint8_t *out, size_t size) {
+    limited_runs more = {{{call->dry1, call->dry2, call->cwd}}, call->limit};
+    zigrunk_range no_range;
+    zigrunk_list_answer l = call_lookups_within(&more, &no_range, 0, out, size);
+    return (zigrunk_text_answer){l.status, l.length};
+}
+
+/* Each call refuses a text that explodes in less than 50 ms of the processor, and the program never has 300 MB. The fastest of
+ * three calls counts, since other work may share the core. */
 static void check_explosion(int is_timed) {
+    static zigrunk_text_answer (*const calls[])(const zigrunk_plan_call *, uint8_t *, size_t) = {plan_answer, records_answer, lookups_answer};
     static const char message[] = "run 1 line 26: over the limit of 2097152 bytes";
     zigrunk_plan_call call = limited_call(doubling(), doubling(), 2u << 20);
-    char out[128];
     for (int i = 0; i < 3; i++) {
-        double start = seconds();
-        zigrunk_text_answer a = {0, 0};
-        if (i == 0) {
-            a = zigrunk_plan(&call, ZIGRUNK_JSON, (uint8_t *)out, sizeof out);
-        } else if (i == 1) {
-            records none = {{0, 0, 0, 0, sizeof out}, room(0, 1), room(0, 1), room(0, 1), (uint8_t *)out};
-            zigrunk_records_answer r = call_records(&call, &none);
-            a.status = r.status, a.length = r.length;
-            free(none.groups), free(none.commands), free(none.ranges);
-        } else {
-            limited_runs more = {{{call.dry1, call.dry2, call.cwd}}, call.limit};
-            zigrunk_range no_range;
-            zigrunk_list_answer l = call_lookups_within(&more, &no_range, 0, (uint8_t *)out, sizeof out);
-            a.status = l.status, a.length = l.length;
+        double least = 1e9;
+        for (int times = 0; times < (is_timed ? 3 : 1); times++) {
+            char out[128];
+            double start = seconds();
+            zigrunk_text_answer a = calls[i](&call, (uint8_t *)out, sizeof out);
+            double took = seconds() - start;
+            least = took < least ? took : least;
+            CHECK(a.status == ZIGRUNK_OVER_LIMIT && a.length == strlen(message) && memcmp(out, message, a.length) == 0);
         }
-        double took = seconds() - start;
-        CHECK(a.status == ZIGRUNK_OVER_LIMIT && a.length == strlen(message) && memcmp(out, message, a.length) == 0);
-        printf("%zu bytes that explode: %.1f ms, %ld KiB\n", call.dry1.length, took * 1e3, most_memory());
-        CHECK(!is_timed || took < 0.05);
+        printf("%zu bytes that explode: %.1f ms, %ld KiB\n", call.dry1.length, least * 1e3, most_memory());
+        CHECK(!is_timed || least < 0.05);
     }
     CHECK(!is_timed || (most_memory() > 0 && most_memory() < 300000));
 }

@@ -93,9 +93,9 @@ abbrev pub call_of : List (List ℕ) → Option CallOf
 call_of [] = None
 call_of (verb ∷ words) = named_call verb words
 
--- the limit of a call that names none, in bytes: 4 MiB
+-- the limit of a call that names none, in bytes: 2 MiB
 abbrev pub default_limit : ℕ
-default_limit = 4194304
+default_limit = 2097152
 
 -- a call with its limit
 abbrev pub with_limit : Option CallOf → ℕ → Option (ℕ × CallOf)

@@ -33,8 +33,8 @@ help_text =
     codes "                    word a line." ∷
     codes "plan                Write the plan of two dry runs as text." ∷
     codes "--limit             Stop if reading a dry run makes over so many bytes of text:" ∷
-    codes "                    its variables can make a short one explode. It is 4194304" ∷
-    codes "                    (4 MiB) if not given." ∷
+    codes "                    its variables can make a short one explode. It is 2097152" ∷
+    codes "                    (2 MiB) if not given." ∷
     [] ∷
     codes "CWD is the working directory, TMP the temporary directory, FLAG the compilation" ∷
     codes "flag, as -c. DRY1 or DRY2 may be -, which is standard input. Each SUFFIX names" ∷

@@ -49,8 +49,8 @@ pub enum Call<'a> {
     Version,
 }
 
-/// The limit of a call that names none, in bytes: 4 MiB. The dry runs of a real call hold some hundred KiB.
-const DEFAULT_LIMIT: usize = 4_194_304;
+/// The limit of a call that names none, in bytes: 2 MiB. The dry runs of a real call hold some hundred KiB.
+const DEFAULT_LIMIT: usize = 2_097_152;
 
 // The format of a name.
 fn format_named(name: &str) -> Option<Format>

@@ -36,8 +36,8 @@ line                Read a line of cicc, ptxas or cudafe++ and write it back, on
                     word a line.
 plan                Write the plan of two dry runs as text.
 --limit             Stop if reading a dry run makes over so many bytes of text:
-                    its variables can make a short one explode. It is 4194304
-                    (4 MiB) if not given.
+                    its variables can make a short one explode. It is 2097152
+                    (2 MiB) if not given.
 
 CWD is the working directory, TMP the temporary directory, FLAG the compilation
 flag, as -c. DRY1 or DRY2 may be -, which is standard input. Each SUFFIX names
