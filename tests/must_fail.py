@@ -4,16 +4,17 @@
 Usage: tests/must_fail.py [CRATE..]                   all crates, or those named; builds the libraries below them first
        tests/must_fail.py --gate FOLDER LOG           beside an `rt ci` that runs in FOLDER and writes to LOG
 
-`rt must-fail` tries the same files one after the other, each in a check of the whole crate. This script tries all of a crate in
-one check, which takes a third of the time. The result is the same: a function is proved against the contracts of what it calls,
-never against their bodies, so a wrong body can't make another function's proof fail. The check names functions that call a wrong
-one, and that doesn't count as a rejection. An edit of a table or a definition is tried alone.
+`rt must-fail` tries the same files one after the other, each in a check of the whole crate. This script tries up to a dozen of a
+crate in one check, which takes a third of the time. The result is the same: a function is proved against the contracts of what it
+calls, never against their bodies, so a wrong body can't make another function's proof fail. The check names functions that call a
+wrong one, and that doesn't count as a rejection. An edit of a table or a definition is tried alone.
 
 An edit has lines 'file:', 'old:' and 'new:', and a line 'refused:' with the function whose goals have to stay open, by its path
 in the crate. An edit fails if another function rejects it, if it can't be read, or if it is rejected only because a proof names
 something that it removed.
 
-RT_JOBS is the number of crates to try at a time, by default the number of processors. The last line is 'N passed, M failed'.
+RT_JOBS is the number of checks at a time, by default the number of processors. Beside `rt ci`, about half as many run until it has
+ended, for the memory of both. The last line is 'N passed, M failed'.
 """
 
 import os
@@ -31,6 +32,8 @@ import rtlib  # the kit's own: what it passes to its prover for a crate
 
 TOP = os.path.realpath(f"{os.path.dirname(os.path.realpath(__file__))}/..")
 PARTS = ("src", "specs", "proofs")
+# The most wrong bodies of one check: when `rt ci` has ended, a crate with more of them shouldn't keep only one processor busy.
+MOST = 12
 # The check's message for a proof that names something that an edit removed.
 NAMES_WHAT_WENT = re.compile(r"has no field|is not in scope|has no `|was not admitted|is not admitted")
 
@@ -96,6 +99,8 @@ def tried_together(left, texts):
     """Returns those of these wrong bodies that one check can try, and the crate's texts with them."""
     together = []
     for it in left:
+        if len(together) == MOST:
+            break
         with_it = it.edited(texts)
         if with_it is None or it.function in [other.function for other in together]:
             continue
@@ -149,30 +154,79 @@ def judged(crate, body, texts, lines):
     return False, f"NOT REFUSED by {body.function}: {status[:200]} {' '.join(errors)[:200]}"
 
 
-def try_crate(crate, say):
-    """Tries a crate's wrong bodies. Returns how many are rejected and how many aren't."""
-    texts, left, refused, failed = texts_of(crate.folder), wrong_bodies(crate.name), 0, 0
+class Attempt:
+    """Wrong bodies of a crate that one check tries together, and the crate's texts without and with them. Without the latter, they
+    can't be tried."""
+
+    def __init__(self, crate, bodies, texts, edited):
+        self.crate, self.bodies, self.texts, self.edited = crate, bodies, texts, edited
+
+    def judge(self, say):
+        """Tries them. Returns how many are rejected and how many aren't."""
+        lines = said_of(self.crate, self.edited, [it.function for it in self.bodies]) if self.edited else []
+        refused = 0
+        for it in self.bodies:
+            is_refused, why = judged(self.crate.name, it, self.texts, lines) if self.edited else (False, "BAD EDIT: an 'old:' text isn't in its file exactly once")
+            say(f"must-fail {it.name}: {why}")
+            refused += is_refused
+        return refused, len(self.bodies) - refused
+
+
+def attempts_of(crate):
+    texts, left, attempts = texts_of(crate.folder), wrong_bodies(crate.name), []
     while left:
         together, edited = tried_together(left, texts)
-        lines = said_of(crate, edited, [it.function for it in together]) if together else []
-        for it in together or left:
-            is_refused, why = judged(crate.name, it, texts, lines) if together else (False, "BAD EDIT: an 'old:' text isn't in its file exactly once")
-            say(f"must-fail {it.name}: {why}")
-            refused, failed = refused + is_refused, failed + (not is_refused)
+        attempts.append(Attempt(crate, together or left, texts, edited if together else None))
         left = [it for it in left if it not in together] if together else []
-    return refused, failed
+    return attempts
 
 
-def is_proved(crate, log):
-    """Waits until `rt ci` says that the crate is proved, or ends."""
-    while True:
-        with open(log, encoding="utf-8", errors="replace") as it:
-            text = it.read()
-        if f"rt: {crate} proved\n" in text:
-            return True
-        if f"rt: {crate} NOT PROVED" in text or re.search(r"^\d+ passed, \d+ failed$", text, re.M):
-            return False
-        time.sleep(1)
+class Queue:
+    """The attempts that are left, those of the libraries below first. With the log of `rt ci`, an attempt waits until its crate is
+    proved."""
+
+    def __init__(self, attempts, log, say):
+        self.attempts, self.log, self.say, self.lock = attempts, log, say, threading.Lock()
+        self.refused = self.failed = 0
+
+    def logged(self):
+        if not self.log:
+            return ""
+        with open(self.log, encoding="utf-8", errors="replace") as it:
+            return it.read()
+
+    def next(self, logged):
+        """Takes the first attempt whose crate is proved, by what was logged. Returns None if there is none."""
+        with self.lock:
+            found = next((it for it in self.attempts if not self.log or f"rt: {it.crate.name} proved\n" in logged), None)
+            if found:
+                self.attempts.remove(found)
+            return found
+
+    def count(self, refused, failed):
+        with self.lock:
+            self.refused, self.failed = self.refused + refused, self.failed + failed
+
+    def give_up(self):
+        """Counts what is left when `rt ci` has ended: its crates aren't proved."""
+        with self.lock:
+            left, self.attempts = self.attempts, []
+        for it in left:
+            self.say(f"must-fail {it.crate.name}: not tried, the crate isn't proved")
+            self.count(0, len(it.bodies))
+
+    def work(self, waits):
+        """Tries one attempt after the other. A worker that waits begins when `rt ci` has ended."""
+        while self.attempts:
+            logged = self.logged()
+            has_ended = not self.log or re.search(r"^\d+ passed, \d+ failed$", logged, re.M)
+            attempt = None if waits and not has_ended else self.next(logged)
+            if attempt:
+                self.count(*attempt.judge(self.say))
+            elif has_ended:
+                self.give_up()
+            else:
+                time.sleep(1)
 
 
 def main(words):
@@ -192,23 +246,19 @@ def main(words):
         with printing:
             print(text, flush=True)
 
-    def work(crate):
-        if log and not is_proved(crate.name, log):
-            say(f"must-fail {crate.name}: not tried, the crate isn't proved")
-            return 0, len(wrong_bodies(crate.name))
-        return try_crate(crate, say)
-
     if not log:
         for it in crates:
             if subprocess.run(["rt", "check", "--only", ""], cwd=it.folder, stdout=subprocess.DEVNULL).returncode:
                 print(f"the libraries below {it.name} can't be built: run rt check there", file=sys.stderr)
                 return 2
     jobs = os.environ.get("RT_JOBS", "")
-    with ThreadPoolExecutor(int(jobs) if jobs.isdigit() else len(os.sched_getaffinity(0))) as lanes:
-        counts = list(lanes.map(work, crates))
-    refused, failed = sum(it[0] for it in counts), sum(it[1] for it in counts)
-    print(f"{refused} passed, {failed} failed")
-    return 1 if failed else 0
+    jobs = int(jobs) if jobs.isdigit() else len(os.sched_getaffinity(0))
+    queue = Queue([attempt for it in crates for attempt in attempts_of(it)], log, say)
+    with ThreadPoolExecutor(jobs) as lanes:
+        for it in [lanes.submit(queue.work, bool(log) and it >= (jobs + 2) // 2) for it in range(jobs)]:
+            it.result()
+    print(f"{queue.refused} passed, {queue.failed} failed")
+    return 1 if queue.failed else 0
 
 
 if __name__ == "__main__":
