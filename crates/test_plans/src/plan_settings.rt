@@ -12,7 +12,6 @@ use dry_runs::{FirstDir, LimitedFault};
 use programs::{Stop as PlanStop, write_plan};
 use std::alloc::{AllocError, Global};
 use test_tables::{Case, CaseError};
-use texts::fault::Fault;
 use texts::text::Text;
 use texts::variables::Variables;
 use texts::words::Words;
@@ -25,8 +24,8 @@ pub struct PlanSettings<'a> {
     flag: &'a str,
     keep_dir: Option<String>,
     host_compiler: NvccHostCompiler,
-    /// The most bytes that each dry run may hold, if the case names a limit.
-    pub limit: Option<usize>,
+    // The most bytes that each dry run may hold, if the case names a limit.
+    limit: Option<usize>,
     /// The dry runs, suffixes and variables.
     pub handed: Handed,
     /// The file with the plan's text; empty if the case names none.
@@ -95,52 +94,29 @@ impl<'a> PlanSettings<'a> {
         Ok(())
     }
 
-    /// The plan of two dry runs.
+    /// The plan of two dry runs. If the case names a limit, they are read within it.
     pub fn plan(
         &self,
         alloc: Global,
         first: &[u8],
         second: &[u8],
         suffixes: &Suffixes,
-    ) -> Result<Plan, Fault> {
-        group_nvcc_subcommands_by_compilation_stage(
-            alloc,
-            first,
-            second,
-            self.flag,
-            self.cwd,
-            self.tmp,
-            self.keep_dir.as_deref(),
-            self.handed.env_vars.as_slice(),
-            self.host_compiler,
-            &FirstDir,
-            suffixes,
-        )
-    }
-
-    /// The plan of two dry runs that are read within a limit.
-    pub fn plan_within(
-        &self,
-        alloc: Global,
-        first: &[u8],
-        second: &[u8],
-        suffixes: &Suffixes,
-        limit: usize,
     ) -> Result<Plan, LimitedFault> {
-        group_nvcc_subcommands_by_compilation_stage_within(
-            alloc,
-            first,
-            second,
-            self.flag,
-            self.cwd,
-            self.tmp,
-            self.keep_dir.as_deref(),
-            self.handed.env_vars.as_slice(),
-            self.host_compiler,
-            &FirstDir,
-            suffixes,
-            limit,
-        )
+        let (cwd, tmp, flag, host) = (self.cwd, self.tmp, self.flag, self.host_compiler);
+        let (keep_dir, env_vars) = (self.keep_dir.as_deref(), self.handed.env_vars.as_slice());
+        match self.limit {
+            None => {
+                let plan = group_nvcc_subcommands_by_compilation_stage(
+                    alloc, first, second, flag, cwd, tmp, keep_dir, env_vars, host, &FirstDir,
+                    suffixes,
+                )?;
+                Ok(plan)
+            }
+            Some(limit) => group_nvcc_subcommands_by_compilation_stage_within(
+                alloc, first, second, flag, cwd, tmp, keep_dir, env_vars, host, &FirstDir,
+                suffixes, limit,
+            ),
+        }
     }
 
     /// The nvcc call, with `num_parallel` device groups at once.

@@ -12,7 +12,6 @@ use programs::Stop as PlanStop;
 use std::alloc::{AllocError, Global};
 use std::fs::Files;
 use test_tables::{Answer, Case, CaseError, debugged};
-use texts::fault::Fault;
 
 fn is_cloned(alloc: Global, command: &NvccGeneratedSubcommand) -> Result<bool, AllocError> {
     let clone = command.try_clone(alloc)?;
@@ -124,15 +123,7 @@ fn of_good_plan(alloc: Global, call: &str, plan: &Plan) -> Result<Answer, CaseEr
 }
 
 // Makes a call on a plan, unless it is an error.
-fn of_plan(alloc: Global, call: &str, plan: &Result<Plan, Fault>) -> Result<Answer, CaseError> {
-    match plan {
-        Err(fault) => refused_at(alloc, fault),
-        Ok(plan) => of_good_plan(alloc, call, plan),
-    }
-}
-
-// Makes a call on a plan within a limit, unless it is an error.
-fn of_plan_within(
+fn of_plan(
     alloc: Global,
     call: &str,
     plan: &Result<Plan, LimitedFault>,
@@ -207,22 +198,6 @@ fn made(
     answer
 }
 
-// Makes a call on a plan whose dry runs are read within a limit.
-fn made_within(
-    alloc: Global,
-    call: &str,
-    settings: &PlanSettings<'_>,
-    first: &[u8],
-    second: &[u8],
-    limit: usize,
-) -> Result<Answer, CaseError> {
-    let suffixes = settings.handed.suffixes(alloc)?;
-    let plan = settings.plan_within(alloc, first, second, &suffixes, limit);
-    let answer = of_plan_within(alloc, call, &plan);
-    drop(plan);
-    answer
-}
-
 // Makes a call on the plan of two dry runs.
 fn planned<R: Files>(
     rt: &R,
@@ -235,10 +210,7 @@ fn planned<R: Files>(
     if call == "plan_text" {
         return printed(rt, alloc, settings, first, second);
     }
-    match settings.limit {
-        Some(limit) => made_within(alloc, call, settings, first, second, limit),
-        None => made(alloc, call, settings, first, second),
-    }
+    made(alloc, call, settings, first, second)
 }
 
 // Makes a call on one dry run, taken twice, or on two.
