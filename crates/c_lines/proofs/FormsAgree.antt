@@ -4,7 +4,8 @@ use Rattle.cuda_below.specs.Compiler.{Reading, accepted, cannot_cache, not_compi
 use Rattle.c_texts.specs.declared.status.Status.{Status}
 use Rattle.c_lines.specs.declared.line_call.LineTool.{LineTool}
 use Rattle.c_lines.specs.LineCalls.{Line, line_in}
-use Rattle.c_lines.specs.LineRecordCalls.{parsed_of, parsed_at, as_json, FormsAgree}
+use Rattle.c_lines.specs.LineRecordCalls.{parsed_of, parsed_at, as_json}
+use Rattle.c_lines.specs.LineRecordLaws.{FormsAgree}
 use Rattle.c_lines.specs.Lines.{read_by, if_accepted, json_of, json_by, on_line}
 
 of-reading : (reading : Reading) → if_accepted reading json_of ≡ as_json (parsed_of reading)

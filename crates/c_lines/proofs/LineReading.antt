@@ -1,38 +1,27 @@
 -- The arguments of a line are read back from its records.
-use Rattle.std.proofs.Common.{◌≡◌, ◌++◌, ◌+◌, ◌∷◌, [], ℕ, List, Bool, true, false, Option, Some, None, map, length, take, drop, get_or, refl, sym, ap, ◌∙◌, arith}
+use Rattle.std.proofs.Common.{◌≡◌, ◌++◌, ◌+◌, ◌∷◌, [], ℕ, List, Bool, Option, Some, None, map, length, take, drop, get_or, refl, sym, ap, ◌∙◌, arith}
 use Rattle.std.specs.List.{flat_map}
 use Rattle.std.proofs.Math.Seq.{drop-append_seam, take-append_seam}
 use Rattle.std.proofs.lemmas.List.{drop-drop, get_or-drop}
 use Rattle.compilers.specs.declared.arguments.ColorMode.{ColorMode}
-use Rattle.compilers.specs.declared.arguments.ColorMode.TheVariants.{Off, On, Auto}
 use Rattle.compilers.specs.declared.arguments.ParsedArguments.{ParsedArguments}
 use Rattle.compilers.specs.declared.outputs.ArtifactDescriptor.{ArtifactDescriptor}
 use Rattle.texts.specs.declared.language.Language.{Language}
-use Rattle.texts.specs.declared.language.Language.TheVariants.{C, Cxx, ObjectiveC, ObjectiveCxx, Cuda, CudaFE, Ptx, Cubin}
 use Rattle.c_texts.proofs.RangeLemmas.{cut_behind}
 use Rattle.c_lines.specs.LineRecords.{language_number, color_number, choice_number, optional_texts, output_texts, texts_of, behind, line_at, outputs_at}
-use Rattle.c_lines.specs.LineRecordsRead.{language_of, color_of, choice_of, optional_of, output_of, arguments_of, arguments_in, RecordsReadBack, RecordsAreOneToOne}
+use Rattle.c_lines.specs.LineRecordLaws.{RecordsReadBack, RecordsAreOneToOne}
+use Rattle.c_lines.specs.LineRecordsRead.{language_of, color_of, choice_of, optional_of, output_of, arguments_of, arguments_in}
 
 -- ---- numbers
 
 language-is : (language : Language) → language_of (language_number language) ≡ language
-language-is C = refl
-language-is Cxx = refl
-language-is ObjectiveC = refl
-language-is ObjectiveCxx = refl
-language-is Cuda = refl
-language-is CudaFE = refl
-language-is Ptx = refl
-language-is Cubin = refl
+language-is language = grind arith
 
 color-is : (mode : ColorMode) → color_of (color_number mode) ≡ mode
-color-is Off = refl
-color-is On = refl
-color-is Auto = refl
+color-is mode = grind arith
 
 choice-is : (is : Bool) → choice_of (choice_number is) ≡ is
-choice-is true = refl
-choice-is false = refl
+choice-is is = grind arith
 
 -- ---- texts
 

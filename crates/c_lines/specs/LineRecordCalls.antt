@@ -1,5 +1,5 @@
 -- The call that writes what a line says as records.
-use Rattle.std.specs.Prelude.{◌≡◌, Result, Ok, Err}
+use Rattle.std.specs.Prelude.{Result, Ok, Err}
 use Rattle.compilers.specs.declared.arguments.ParsedArguments.{ParsedArguments}
 use Rattle.cuda_below.specs.Compiler.{Reading, accepted, cannot_cache, not_compilation}
 use Rattle.c_texts.specs.declared.status.Status.{Status}
@@ -8,7 +8,7 @@ use Rattle.c_lines.specs.declared.line_call.LineCall.{LineCall}
 use Rattle.c_lines.specs.declared.line_call.LineTool.{LineTool}
 use Rattle.c_lines.specs.LineCalls.{Line, line_in}
 use Rattle.c_lines.specs.LineRecords.{RecordedLine, records_of, without_records}
-use Rattle.c_lines.specs.Lines.{read_by, bad_line, not_cached, no_compilation, json_of, json_outcome}
+use Rattle.c_lines.specs.Lines.{read_by, bad_line, not_cached, no_compilation, json_of}
 
 -- the arguments that a line was read as, or the refusal of a line that has none
 abbrev pub parsed_of : Reading → Result ParsedArguments Outcome
@@ -37,7 +37,3 @@ line_records call = recorded (parsed_in call)
 abbrev pub as_json : Result ParsedArguments Outcome → Outcome
 as_json (Ok p) = json_of p
 as_json (Err refusal) = refusal
-
--- JSON and records are of the same arguments, and have the same refusals
-abbrev pub FormsAgree : Type 0
-FormsAgree = (call : LineCall) → json_outcome call ≡ as_json (parsed_in call)

@@ -1,5 +1,5 @@
 -- The arguments of a line are read back from its records.
-use Rattle.std.specs.Prelude.{◌≡◌, ℕ, List, [], ◌∷◌, ◌==◌, not, Bool, if◌then◌else◌, map, take, drop, get_or, Option, Some, None}
+use Rattle.std.specs.Prelude.{ℕ, List, [], ◌∷◌, ◌==◌, not, Bool, if◌then◌else◌, map, take, drop, get_or, Option, Some, None}
 use Rattle.compilers.specs.declared.arguments.ColorMode.{ColorMode}
 use Rattle.compilers.specs.declared.arguments.ColorMode.TheVariants.{Off, On, Auto}
 use Rattle.compilers.specs.declared.arguments.ParsedArguments.{ParsedArguments}
@@ -10,7 +10,7 @@ use Rattle.c_texts.specs.declared.memory.Range.{Range}
 use Rattle.c_texts.specs.Memory.{cut}
 use Rattle.c_lines.specs.declared.line_record.LineRecord.{LineRecord}
 use Rattle.c_lines.specs.declared.line_record.OutputRecord.{OutputRecord}
-use Rattle.c_lines.specs.LineRecords.{RecordedLine, records_of}
+use Rattle.c_lines.specs.LineRecords.{RecordedLine}
 
 -- what numbers mean
 abbrev pub language_of : ℕ → Language
@@ -71,11 +71,3 @@ arguments_of texts line outputs = record {
 -- arguments from records
 abbrev pub arguments_in : RecordedLine → ParsedArguments
 arguments_in recorded = arguments_of (map (cut recorded.0.1.1) recorded.0.1.0) recorded.1.0 recorded.1.1
-
--- the records of arguments are read back as these arguments
-abbrev pub RecordsReadBack : Type 0
-RecordsReadBack = (p : ParsedArguments) → arguments_in (records_of p) ≡ p
-
--- two lines with the same records and texts have the same arguments
-abbrev pub RecordsAreOneToOne : Type 0
-RecordsAreOneToOne = (one other : ParsedArguments) → records_of one ≡ records_of other → one ≡ other

@@ -1,23 +1,21 @@
-//! What holds of all answers with records of a line.
+//! What holds of all records of a line, and of all answers with them.
 
-ghost use Rattle.c_lines.specs.LineRecordCalls as calls;
-ghost use Rattle.c_lines.specs.LineRecordLaws as records;
-ghost use Rattle.c_lines.specs.LineRecordsRead as read;
+ghost use Rattle.c_lines.specs.LineRecordLaws as spec;
 
 /// The records and texts of a line are read back as its arguments, so lines with different arguments have different ones.
 pub fn records_determine()
-    ensures read_back { read.RecordsReadBack }
-    ensures one_to_one { read.RecordsAreOneToOne }
+    ensures read_back { spec.RecordsReadBack }
+    ensures one_to_one { spec.RecordsAreOneToOne }
 {}
 
 /// What `c_texts::laws::whole_answers` says, of records of a line: of the three buffers, all or none is written.
 pub fn whole_records()
-    ensures answers { records.AnswersAreTheSame }
-    ensures written { records.AnswersAreWritten }
-    ensures too_small { records.NothingIsWritten }
+    ensures answers { spec.AnswersAreTheSame }
+    ensures written { spec.AnswersAreWritten }
+    ensures too_small { spec.NothingIsWritten }
 {}
 
 /// [`line`](crate::line) and [`line_records`](crate::line_records) write the same arguments, or refuse a call with the same status and text.
 pub fn forms_agree()
-    ensures { calls.FormsAgree }
+    ensures { spec.FormsAgree }
 {}
