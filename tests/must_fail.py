@@ -4,10 +4,14 @@
 Usage: tests/must_fail.py [CRATE..]                   all crates, or those named; builds the libraries below them first
        tests/must_fail.py --gate FOLDER LOG           beside an `rt ci` that runs in FOLDER and writes to LOG
 
-`rt must-fail` tries the same files one after the other, each in a check of the whole crate. This script tries up to a dozen of a
-crate in one check, which takes a third of the time. The result is the same: a function is proved against the contracts of what it
-calls, never against their bodies, so a wrong body can't make another function's proof fail. The check names functions that call a
-wrong one, and that doesn't count as a rejection. An edit of a table or a definition is tried alone.
+`rt must-fail` tries the same files one after the other, each in a check of the whole crate. This script tries all of a crate in two
+runs. The result is the same: a function is proved against the contracts of what it calls, never against their bodies, so a wrong
+body can't make another function's proof fail.
+
+- Most functions have no written answers: `search` proves each goal. `rattle check --start` searches for the goals of these functions
+  alone, and writes a hole for each that it doesn't prove. That takes half the time of a check, which proves again all that they call.
+- A check tries the others. It names functions that call a wrong one, and that doesn't count as a rejection. A second edit of a
+  function takes a second check. An edit of a table or a definition is tried alone.
 
 An edit has lines 'file:', 'old:' and 'new:', and a line 'refused:' with the function whose goals have to stay open, by its path
 in the crate. An edit fails if another function rejects it, if it can't be read, or if it is rejected only because a proof names
@@ -32,8 +36,6 @@ import rtlib  # the kit's own: what it passes to its prover for a crate
 
 TOP = os.path.realpath(f"{os.path.dirname(os.path.realpath(__file__))}/..")
 PARTS = ("src", "specs", "proofs")
-# The most wrong bodies of one check: when `rt ci` has ended, a crate with more of them shouldn't keep only one processor busy.
-MOST = 12
 # The check's message for a proof that names something that an edit removed.
 NAMES_WHAT_WENT = re.compile(r"has no field|is not in scope|has no `|was not admitted|is not admitted")
 
@@ -95,41 +97,56 @@ def wrong_bodies(crate):
     return [WrongBody(crate, f"{folder}/{it}") for it in sorted(os.listdir(folder)) if it.endswith(".edit")]
 
 
+def is_searched(body, texts):
+    """Returns whether a wrong body is in a function that has no written answers, so that `search` alone proves each of its goals."""
+    folder = f"proofs/{body.function.replace('::', '/')}"
+    return bool(body.bodies(texts)) and not {f"{folder}/Answers.antt", f"{folder}/Proof.antt"} & set(texts)
+
+
 def tried_together(left, texts):
-    """Returns those of these wrong bodies that one check can try, and the crate's texts with them."""
-    together = []
+    """Returns those of these wrong bodies that one run can try, and the crate's texts with them. All are searched, or none is."""
+    together, edited, searched = [], texts, is_searched(left[0], texts)
     for it in left:
-        if len(together) == MOST:
-            break
-        with_it = it.edited(texts)
-        if with_it is None or it.function in [other.function for other in together]:
+        with_it = it.edited(edited)
+        if with_it is None or it.function in [other.function for other in together] or is_searched(it, texts) != searched:
             continue
         if it.bodies(texts):
-            together, texts = [*together, it], with_it
+            together, edited = [*together, it], with_it
         elif not together:
             return [it], with_it
-    return together, texts
+    return together, edited
 
 
-def said_of(crate, texts, functions):
-    """Checks these functions of the crate with these texts. Returns the check's output, up to its suggestions for open goals."""
-    with tempfile.TemporaryDirectory(prefix="must-fail-") as room:
-        for path, text in texts.items():
-            os.makedirs(os.path.dirname(f"{room}/{path}"), exist_ok=True)
-            with open(f"{room}/{path}", "w", encoding="utf-8") as it:
-                it.write(text)
-        words = [*rtlib.guarded(), rtlib.RATTLE, "check", *crate.words(["--jobs", "1"], keeps=False)]
-        for it in functions:
-            words += ["--only", it]
-        lines, waited = [], {f"fn {crate.name}::{it}" for it in functions}
-        with subprocess.Popen(words, cwd=room, stdin=subprocess.DEVNULL, stdout=subprocess.PIPE, stderr=subprocess.STDOUT, text=True, errors="replace") as check:
-            for line in check.stdout:
-                lines.append(line.rstrip("\n"))
-                waited.discard(line.partition(": ")[0])
-                if not waited:
-                    check.kill()
-                    break
-        return lines
+def said_of(room, crate, words, functions):
+    """Runs `rattle check` with these words on the crate's texts in this folder. Returns what it prints, up to its suggestions for open
+    goals if it says of each of these functions whether it is proved."""
+    words = [*rtlib.guarded(), rtlib.RATTLE, "check", *crate.words(["--jobs", "1"], keeps=False), *words]
+    lines, waited = [], {f"fn {crate.name}::{it}" for it in functions}
+    with subprocess.Popen(words, cwd=room, stdin=subprocess.DEVNULL, stdout=subprocess.PIPE, stderr=subprocess.STDOUT, text=True, errors="replace") as check:
+        for line in check.stdout:
+            lines.append(line.rstrip("\n"))
+            waited.discard(line.partition(": ")[0])
+            if functions and not waited:
+                check.kill()
+                break
+    return lines
+
+
+def judged_by_search(room, crate, body, lines):
+    """Returns whether `search` leaves a goal of a wrong body's function open, and the message to print, or None if the function can't
+    be started."""
+    wrote = f"{room}/proofs/{body.function.replace('::', '/')}/Answers.antt"
+    if os.path.isfile(wrote):
+        with open(wrote, encoding="utf-8") as it:
+            holes = re.findall(r"^(\S+)(?: \S+)* = \?$", it.read(), re.M)
+        if holes:
+            return True, f"refused by {body.function}: {', '.join(f'`{it}`' for it in holes)}"
+    told = next((it for it in lines if f"`{crate}::{body.function}`" in it), "")
+    if "rattle has no file to start" in told:
+        return None
+    if "nothing is left to choose or to answer" in told:
+        return False, f"NOT REFUSED by {body.function}: `search` proves each goal"
+    return False, f"BAD EDIT: no proof of {body.function} was tried: {told or ' / '.join(lines[:3])[:400]}"
 
 
 def judged(crate, body, texts, lines):
@@ -155,21 +172,52 @@ def judged(crate, body, texts, lines):
 
 
 class Attempt:
-    """Wrong bodies of a crate that one check tries together, and the crate's texts without and with them. Without the latter, they
+    """Wrong bodies of a crate that one run tries together, and the crate's texts without and with them. Without the latter, they
     can't be tried."""
 
     def __init__(self, crate, bodies, texts, edited):
         self.crate, self.bodies, self.texts, self.edited = crate, bodies, texts, edited
 
+    def write(self, room):
+        for path, text in self.edited.items():
+            os.makedirs(os.path.dirname(f"{room}/{path}"), exist_ok=True)
+            with open(f"{room}/{path}", "w", encoding="utf-8") as it:
+                it.write(text)
+
+    def searched(self):
+        """Has `rattle check --start` search for the goals of these wrong bodies. It can't start a function in a file with a `ghost use`
+        of a module."""
+        with tempfile.TemporaryDirectory(prefix="must-fail-") as room:
+            self.write(room)
+            lines = said_of(room, self.crate, [word for it in self.bodies for word in ("--start", it.function)], [])
+            return [judged_by_search(room, self.crate.name, it, lines) for it in self.bodies]
+
+    def checked(self, bodies):
+        """Checks the functions of these wrong bodies, with all wrong bodies of this run in the crate."""
+        functions = [it.function for it in bodies]
+        with tempfile.TemporaryDirectory(prefix="must-fail-") as room:
+            self.write(room)
+            lines = said_of(room, self.crate, [word for it in functions for word in ("--only", it)], functions)
+            return [judged(self.crate.name, it, self.texts, lines) for it in bodies]
+
+    def verdicts(self):
+        """Tries them. Returns for each whether it is rejected, and the message to print."""
+        if not self.edited:
+            return [(False, "BAD EDIT: an 'old:' text isn't in its file exactly once") for _ in self.bodies]
+        if not is_searched(self.bodies[0], self.texts):
+            return self.checked(self.bodies)
+        found = self.searched()
+        left = [it for it, verdict in zip(self.bodies, found) if verdict is None]
+        by_check = iter(self.checked(left) if left else [])
+        return [verdict or next(by_check) for verdict in found]
+
     def judge(self, say):
         """Tries them. Returns how many are rejected and how many aren't."""
-        lines = said_of(self.crate, self.edited, [it.function for it in self.bodies]) if self.edited else []
-        refused = 0
-        for it in self.bodies:
-            is_refused, why = judged(self.crate.name, it, self.texts, lines) if self.edited else (False, "BAD EDIT: an 'old:' text isn't in its file exactly once")
-            say(f"must-fail {it.name}: {why}")
-            refused += is_refused
-        return refused, len(self.bodies) - refused
+        verdicts = self.verdicts()
+        for body, (_, why) in zip(self.bodies, verdicts):
+            say(f"must-fail {body.name}: {why}")
+        refused = sum(is_refused for is_refused, _ in verdicts)
+        return refused, len(verdicts) - refused
 
 
 def attempts_of(crate):
