@@ -53,11 +53,11 @@ fn print(groups: &[Group]) -> Result<(), zigrunk::Error> {
         for Subcommand { program, arguments, variables, cwd, cacheable } in &group.commands {
             let cached = if *cacheable { "cached" } else { "run" };
             println!(
-                "    {cached} in {}, {} variables: {} {}",
+                "    {cached} in {}: {} {} (variables: {})",
                 cwd.display(),
-                variables.len(),
                 program.display(),
-                quote(arguments)?
+                quote(arguments)?,
+                variables.len()
             );
         }
     }
