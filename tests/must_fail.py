@@ -10,8 +10,9 @@ body can't make another function's proof fail.
 
 - Most functions have no written answers: `search` proves each goal. `rattle check --start` searches for the goals of these functions
   alone, and writes a hole for each that it doesn't prove. That takes half the time of a check, which proves again all that they call.
-- A check tries the others. It names functions that call a wrong one, and that doesn't count as a rejection. A second edit of a
-  function takes a second check. An edit of a table or a definition is tried alone.
+- A check tries the others, and the few functions that `--start` can't start. It names functions that call a wrong one, and that
+  doesn't count as a rejection.
+- A second edit of a function takes another run. An edit of a table or a definition is tried alone.
 
 An edit has lines 'file:', 'old:' and 'new:', and a line 'refused:' with the function whose goals have to stay open, by its path
 in the crate. An edit fails if another function rejects it, if it can't be read, or if it is rejected only because a proof names
@@ -104,7 +105,10 @@ def is_searched(body, texts):
 
 
 def tried_together(left, texts):
-    """Returns those of these wrong bodies that one run can try, and the crate's texts with them. All are searched, or none is."""
+    """Returns those of these wrong bodies that one run can try, and the crate's texts with them. All are searched, or none is. If the
+    first can't be tried, returns it alone, and None."""
+    if left[0].edited(texts) is None:
+        return [left[0]], None
     together, edited, searched = [], texts, is_searched(left[0], texts)
     for it in left:
         with_it = it.edited(edited)
@@ -224,8 +228,8 @@ def attempts_of(crate):
     texts, left, attempts = texts_of(crate.folder), wrong_bodies(crate.name), []
     while left:
         together, edited = tried_together(left, texts)
-        attempts.append(Attempt(crate, together or left, texts, edited if together else None))
-        left = [it for it in left if it not in together] if together else []
+        attempts.append(Attempt(crate, together, texts, edited))
+        left = [it for it in left if it not in together]
     return attempts
 
 
