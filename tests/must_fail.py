@@ -189,8 +189,8 @@ class Attempt:
                 it.write(text)
 
     def searched(self):
-        """Has `rattle check --start` search for the goals of these wrong bodies. It can't start a function in a file with a `ghost use`
-        of a module."""
+        """Has `rattle check --start` search for the goals of these wrong bodies. It can't start a function in a file with a `ghost use .. as`
+        of a module that a library re-exports."""
         with tempfile.TemporaryDirectory(prefix="must-fail-") as room:
             self.write(room)
             lines = said_of(room, self.crate, [word for it in self.bodies for word in ("--start", it.function)], [])
