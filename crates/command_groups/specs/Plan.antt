@@ -23,7 +23,8 @@ pub record PlanSetting : Type 0 where
 abbrev pub folder_of_run : PlanSetting → ℕ → List ℕ
 folder_of_run s run = if run == 1 then s.tmp else s.cwd
 
--- the environment of a stage: host compilers are told, by one more pair at the end, that they compile for CUDA
+-- The environment of a stage. The last host compile gets one more pair at the end. The compiler doesn't look at it: sccache's server
+-- does, and counts this compilation in its statistics as CUDA, though its line is one of C++.
 abbrev pub environment_of : Stage → List (List ℕ × List ℕ) → List (List ℕ × List ℕ)
 environment_of linking environment = environment
 environment_of splitting environment = environment

@@ -52,13 +52,14 @@ abbrev pub without_first_word : List ℕ → List (List ℕ) → List (List ℕ)
 without_first_word word [] = []
 without_first_word word (w ∷ ws) = if bytes_eq word w then ws else w ∷ without_first_word word ws
 
--- cudafe++'s words: where they don't say that the module id file is made, that is said right before the first option that
--- names the file
+-- cudafe++'s words: if they lack `--gen_module_id_file`, it comes right before the first option that names the file. nvcc before
+-- CUDA 12.0 doesn't write it: there a cicc makes the file, and cudafe++ comes last. A plan runs cudafe++ first, so cudafe++ makes it.
 abbrev pub cudafe_edit : List (List ℕ) → List (List ℕ)
 cudafe_edit words =
     if has_word (codes "--gen_module_id_file") words then words else with_word_before (codes "--gen_module_id_file") (codes "--module_id_file_name") words
 
--- cicc's words: where objects are made, they lose the first word that says that the module id file is made
+-- cicc's words: if the call makes objects, they lose the first `--gen_module_id_file`. nvcc before CUDA 12.8 writes it. But for an
+-- object cudafe++ makes the file, and cicc must not make it again.
 abbrev pub cicc_edit : List ℕ → List (List ℕ) → List (List ℕ)
 cicc_edit flag words = if makes_objects flag then without_first_word (codes "--gen_module_id_file") words else words
 
@@ -88,7 +89,8 @@ pub data Stage : Type 0 where
   host_compiling : Stage
   foreign : Stage
 
--- the beginnings of words that define a macro of CUDA's
+-- The beginnings of words that define a macro of CUDA's. Each line that nvcc writes for the host compiler has such a word. A line
+-- without one compiles nothing, as `rm x_dlink.reg.c`, or runs a program of a newer toolkit that sccache doesn't know.
 abbrev pub cuda_macros : List (List ℕ)
 cuda_macros = codes "-D__CUDACC__" ∷ codes "-D__NVCC__" ∷ codes "-D__CUDA_ARCH__" ∷ codes "-D__CUDA_ARCH_LIST__" ∷ []
 
@@ -151,7 +153,13 @@ abbrev pub opens : Stage → Option (List ℕ)
 opens (preprocessing name) = name
 opens _ = None
 
--- whether the outputs of a stage may come from a cache
+-- Whether the outputs of a stage may come from a cache.
+--
+-- cudafe++'s have to since CUDA 12.8: cicc reads the module id file, which can be another one at each run (if the source defines no
+-- external name, the id ends in the process number). So without the cached file no later cicc would be found in the cache.
+--
+-- The last host compile is cached in place of the whole nvcc call. A key of the whole call would need the output of `nvcc -E`, which
+-- always defines `__CUDA_ARCH__`: code under `#ifndef __CUDA_ARCH__` isn't in it, so a change there would go unseen.
 abbrev pub cacheable_mark : Stage → Cacheable
 cacheable_mark linking = No
 cacheable_mark splitting = Yes

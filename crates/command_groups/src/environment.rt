@@ -73,7 +73,7 @@ fn marked(alloc: Global, name: &str, env_vars: &Variables) -> Result<Variables, 
 pub struct Environments {
     // What most commands have.
     plain: Variables,
-    // What host compilers have: one more pair marks that they compile for CUDA.
+    // What host compilers have: by one more pair sccache's server counts them as CUDA.
     marked: Variables,
 }
 

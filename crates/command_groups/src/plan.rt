@@ -43,7 +43,7 @@ impl NvccGeneratedSubcommand {
 /// Why a command of a dry run is in no group.
 #[derive(Clone, Copy, Debug, PartialEq)]
 pub enum Reason {
-    /// A program other than nvcc's own tools, without a word that defines a CUDA macro.
+    /// A program other than nvcc's own tools, without a word that defines a CUDA macro, such as `rm x_dlink.reg.c`.
     NotCuda,
     /// A cicc command whose input no preprocess step before it makes.
     NoCiccGroup,

@@ -256,7 +256,8 @@ pub fn plan_with_origins<W: Which>(
 ///   or `-D__CUDA_ARCH_LIST__` is `NotCuda`. With such a word and `-E`, or `-P` if `host_compiler` is `Msvc`, it is a
 ///   preprocess step: if the word after its first `-o` has a file name that ends in `.cpp1.ii`, the step opens a device
 ///   group of that name and goes to it, else it goes to the front group. Any other one compiles host code: it goes to
-///   the final group, and has the variable `__SCCACHE_THIS_IS_A_CUDA_COMPILATION__`, empty, last in its environment.
+///   the final group, and has the variable `__SCCACHE_THIS_IS_A_CUDA_COMPILATION__`, empty, last in its environment:
+///   sccache's server then counts the compilation as CUDA.
 /// - cicc goes to the device group that its first `.cpp1.ii` word names, or is `NoCiccGroup`. If `compilation_flag`
 ///   asks for an object, it loses its first `--gen_module_id_file`.
 /// - ptxas goes to the first device group with a cicc whose last word is ptxas's first `.ptx` word, or is

@@ -140,8 +140,9 @@ fn cicc_words(flag: &str, words: Vec<String>) -> Vec<String>
 
 /// The words of a program of a kind, as a plan runs them under a compilation flag.
 ///
-/// Adds `--gen_module_id_file` to cudafe++ if a word names that file. If the flag asks for an object, removes it from
-/// cicc, which then reads the file that cudafe++ makes. sccache 0.19.0 makes the same changes.
+/// Adds `--gen_module_id_file` to cudafe++ if a word names that file: nvcc before CUDA 12.0 doesn't write it, and a plan
+/// runs cudafe++ first. If the flag asks for an object, removes it from cicc, which then reads the file that cudafe++
+/// makes: nvcc before CUDA 12.8 writes it. sccache 0.19.0 makes the same changes.
 pub fn edited_words(
     alloc: Global,
     kind: ProgramKind,

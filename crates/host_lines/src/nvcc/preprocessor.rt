@@ -32,6 +32,9 @@ use texts::words::Words;
 /// host compiler's line numbers: `-Xcompiler=-P` (gcc), `-Xcompiler=-EP` (MSVC), or the empty word for nvhpc, which
 /// has no such option. Both get `env_vars` without `NVCC_PREPEND_FLAGS` and `NVCC_APPEND_FLAGS`.
 ///
+/// The code isn't enough for a cache's key of the whole call: `nvcc -E` always defines `__CUDA_ARCH__`, so a change in
+/// host code under `#ifndef __CUDA_ARCH__` doesn't show. Plan the call, and cache its commands.
+///
 /// Refuses a language that nvcc can't preprocess: `NoPreprocess`.
 pub fn preprocess(
     alloc: Global,
