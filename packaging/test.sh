@@ -6,42 +6,17 @@
 #   packaging/test.sh [ROOT..]     ROOT: a release of Debian, or the folder of a root, which is copied; by default three releases
 set -u
 cd "$(dirname "$0")/.." || exit 1
-if [ "$(id -u)" -ne 0 ] || ! command -v debootstrap > /dev/null; then
-    echo 'the package is not tried: that needs root and debootstrap'
-    echo '0 passed, 0 failed'
-    exit 0
-fi
+. tests/lib.sh
+[ "$(id -u)" -eq 0 ] || skip_all 'the package' 'that needs root'
+require 'the package' debootstrap
 package=$(echo dist/*.deb)
 if [ ! -f "$package" ]; then
-    echo 'there is no dist/*.deb; make dist makes it'
-    echo '0 passed, 1 failed'
-    exit 1
+    count 'dist/*.deb' 'there is none; make dist makes it'
+    summary
+    exit
 fi
 version=$(cat VERSION)
-scratch=$(mktemp -d)
 trap 'rm -rf --one-file-system "$scratch"' EXIT
-passed=0
-failed=0
-
-# check NAME COMMAND..: counts a command that has to succeed.
-check() {
-    local name=$1
-    shift
-    if "$@" > "$scratch/said" 2>&1; then
-        passed=$((passed + 1))
-    else
-        failed=$((failed + 1))
-        echo "failed: $name"
-        tail -n 20 "$scratch/said"
-    fi
-}
-
-# says TEXT COMMAND..: whether a command prints exactly this text.
-says() {
-    local text=$1
-    shift
-    [ "$("$@")" = "$text" ]
-}
 
 # no_mention COMMAND..: whether a command succeeds and prints nothing about this project.
 no_mention() {
@@ -63,7 +38,7 @@ for release in "$@"; do
     if [ -d "$release" ]; then
         cp -a --one-file-system "$release" "$root"
     elif ! debootstrap --variant=minbase "$release" "$root" > "$scratch/said" 2>&1; then
-        echo "$release is skipped: $(tail -n 1 "$scratch/said")"
+        skip "$release" "$(tail -n 1 "$scratch/said")"
         continue
     fi
     cp "$package" crates/test_plans/data/dry_runs/one_target.dry* "$root/root"
@@ -75,31 +50,30 @@ for release in "$@"; do
     inside=(chroot "$root" env -C /root DEBIAN_FRONTEND=noninteractive LC_ALL=C)
     check "$release: apt-get update" "${inside[@]}" apt-get update
     check "$release: the package installs" "${inside[@]}" apt-get install -y --no-install-recommends "/root/${package##*/}"
-    check "$release: the version" says "zigrunk $version" "${inside[@]}" zigrunk --version
+    check "$release: the version" prints "zigrunk $version" "${inside[@]}" zigrunk --version
     check "$release: a plan" "${inside[@]}" cudaplan plan /w /t -c one_target.dry1 one_target.dry2
-    check "$release: both dry runs of a call" says "$dry_runs" "${inside[@]}" sh -c "$first_commands"
+    check "$release: both dry runs of a call" prints "$dry_runs" "${inside[@]}" sh -c "$first_commands"
     check "$release: a plan as JSON" "${inside[@]}" zigrunk json /root /root/t -c one_target.dry1 one_target.dry2
     check "$release: a plan that Ninja runs" "${inside[@]}" sh -c \
         'zigrunk ninja /root /root/t -c one_target.dry1 one_target.dry2 > build.ninja && ninja'
-    check "$release: zigrunk-nvcc, for a call that isn't split" says '--preprocess k.cu' "${inside[@]}" \
+    check "$release: zigrunk-nvcc, for a call that isn't split" prints '--preprocess k.cu' "${inside[@]}" \
         env ZIGRUNK_NVCC=echo zigrunk-nvcc --preprocess k.cu
     check "$release: what the library needs" all_found "${inside[@]}" ldd -r /usr/lib/libzigrunk.so.1
     check "$release: a compiler" "${inside[@]}" apt-get install -y --no-install-recommends gcc libc6-dev pkg-config
     # shellcheck disable=SC2016 # for sh
     check "$release: the example in C" "${inside[@]}" sh -c \
         'cc -o example /usr/share/zigrunk/c/example.c $(pkg-config --cflags --libs zigrunk)'
-    check "$release: what it prints" says $'0: a\n1: \'b c\'' "${inside[@]}" ./example 'a "b c"'
+    check "$release: what it prints" prints $'0: a\n1: \'b c\'' "${inside[@]}" ./example 'a "b c"'
     check "$release: the example with the archive" "${inside[@]}" \
         cc -o archived /usr/share/zigrunk/c/example.c /usr/lib/libzigrunk.a
-    check "$release: what that prints" says $'0: a\n1: \'b c\'' "${inside[@]}" ./archived 'a "b c"'
+    check "$release: what that prints" prints $'0: a\n1: \'b c\'' "${inside[@]}" ./archived 'a "b c"'
     # shellcheck disable=SC2016 # for sh
     check "$release: a plan by a program in C" "${inside[@]}" sh -c 'cc -o plan /usr/share/zigrunk/c/plan.c \
         $(pkg-config --cflags --libs zigrunk) && ./plan /root /root/t -c one_target.dry1 one_target.dry2 > script &&
         grep -q cicc script && sh -n script'
     check "$release: removing it" "${inside[@]}" apt-get purge -y zigrunk
-    check "$release: nothing stays" says '' find "$root/usr" "$root/etc" "$root/var" -name '*zigrunk*' -o -name '*cudaplan*'
+    check "$release: nothing stays" prints '' find "$root/usr" "$root/etc" "$root/var" -name '*zigrunk*' -o -name '*cudaplan*'
     check "$release: the linker has forgotten it" no_mention "${inside[@]}" ldconfig -p
     echo "$release took $((SECONDS - started)) s, with glibc $("${inside[@]}" ldd --version | sed -n '1s/.* //p')"
 done
-echo "$passed passed, $failed failed"
-[ "$failed" -eq 0 ]
+summary

@@ -4,20 +4,15 @@
 #
 #   tests/batch.sh [SCRIPT]    SCRIPT is bin/zigrunk-batch, unless given
 #
-# SHELLS, if set, names the shells instead, as SHELLS='dash bash'. STOP_EARLY, if set, ends the run at the first failure.
+# SHELLS names other shells, and STOP_EARLY ends the run at the first failure (tests/lib.sh).
 # shellcheck disable=SC2016 # the stand-ins expand what cases give them
 cd "$(dirname "$0")/.." || exit 1
 script=$(realpath "${1:-bin/zigrunk-batch}")
-scratch=$(mktemp -d)
+. tests/lib.sh
 trap 'kill $(jobs -p) 2> /dev/null; rm -rf "$scratch"' EXIT
 unset NVCC_PREPEND_FLAGS NVCC_APPEND_FLAGS CDPATH MAKEFLAGS "${!ZIGRUNK@}"
 user=$(id -u)
-passed=0 failed=0
-if ! command -v ninja > /dev/null; then
-    echo 'zigrunk-batch: skipped, ninja is not on the path'
-    echo '0 passed, 0 failed'
-    exit 0
-fi
+require zigrunk-batch ninja
 
 # The stand-ins. Each line of a source is a command of its plan: the first in a group of its own, the others side by side after it.
 # A source whose name begins with 'whole' can't be split.
@@ -76,16 +71,6 @@ chmod +x "$scratch"/bin/*
 mkdir "$scratch/opt" && ln -s ../bin/nvcc "$scratch/opt/nvcc"
 export PATH=$scratch/bin:$PATH
 
-# begin NAME: a case of its own folder, from which the script runs.
-begin() {
-    name=$1
-    room=$scratch/$one/room
-    rm -rf "$room"
-    mkdir -p "$room/work" "$room/tmp"
-    cd "$room/work" || exit 1
-    problems=''
-}
-
 # write NAME LINE..: a source with these lines.
 write() {
     printf '%s\n' "${@:2}" > "$1"
@@ -103,39 +88,16 @@ batch() {
     status=$?
 }
 
-# same WHAT GOT WANTED: a problem, unless the texts are alike.
-same() {
-    [ "$2" = "$3" ] || problems+="  $1: '$2', not '$3'"$'\n'
-}
-
 # logged PATTERN: how many lines of the log match.
 logged() {
     grep -c -e "$1" "$room/log"
 }
 
-# leaves_nothing: a problem, unless the folder for temporary files is empty.
-leaves_nothing() {
-    same 'files left' "$(cd "$room/tmp" && find . -mindepth 1)" ''
-}
-
-# end: counts the case.
+# end: counts the case, which has to leave nothing.
 end() {
     leaves_nothing
-    cd "$scratch" || exit 1
     list=''
-    if [ -z "$problems" ]; then
-        passed=$((passed + 1))
-    else
-        failed=$((failed + 1))
-        printf '%s: %s:\n%s' "${shell[*]}" "$name" "$problems"
-        [ -z "${STOP_EARLY-}" ] || finish
-    fi
-}
-
-# finish: notes the counts of this shell, and ends its process.
-finish() {
-    echo "$passed $failed" > "$scratch/$one/counts"
-    exit
+    end_case
 }
 
 lists() {
@@ -437,20 +399,5 @@ cases() {
     stops TERM 143 plans 3
 }
 
-read -ra shells <<< "${SHELLS-dash bash busybox}"
-tried=()
-for one in "${shells[@]}"; do
-    command -v "$one" > /dev/null || continue
-    shell=("$one")
-    [ "$one" != busybox ] || shell=(busybox sh)
-    mkdir "$scratch/$one"
-    tried+=("$one")
-    (cases; finish) &
-done
-wait
-for one in "${tried[@]}"; do
-    read -r good bad 2> /dev/null < "$scratch/$one/counts" || good=0 bad=1
-    passed=$((passed + good)) failed=$((failed + bad))
-done
-echo "$passed passed, $failed failed"
-[ "$failed" -eq 0 ]
+by_shells cases
+summary

@@ -9,30 +9,7 @@
 # A tool that isn't installed is named on a line, and what it would test is left out.
 set -u
 cd "$(dirname "$0")/.." || exit 1
-scratch=$(mktemp -d)
-trap 'rm -rf "$scratch"' EXIT
-passed=0
-failed=0
-
-# check NAME COMMAND..: counts a command that has to succeed, and shows what it printed if it fails.
-check() {
-    local name=$1
-    shift
-    if "$@" > "$scratch/said" 2>&1; then
-        passed=$((passed + 1))
-    else
-        failed=$((failed + 1))
-        echo "failed: $name"
-        tail -n 30 "$scratch/said"
-    fi
-}
-
-# prints TEXT COMMAND..: whether a command prints exactly this text.
-prints() {
-    local text=$1
-    shift
-    diff <(echo "$text") <("$@")
-}
+. tests/lib.sh
 
 # has TOOL..: whether all of these are installed. Says so if not, once for each.
 has() {
@@ -222,19 +199,14 @@ crate() {
     echo "the crate for Rust took $((SECONDS - start)) s"
 }
 
-# same: both builds give the same answers, byte for byte.
-same() {
-    cmp "$scratch/llvm/programs/answers" "$scratch/rattle/programs/answers"
-}
-
 check 'the declared calls' declared
 mkdir "$scratch/archives"
 if [ "${1-}" = --built ]; then
     cp "$2" "$scratch/archives/built.a"
 elif ! tests/static_library.py "${1:-.}" "$scratch/archives"; then
-    echo 'the archives cannot be built'
-    echo "$passed passed, $((failed + 1)) failed"
-    exit 1
+    count 'the archives' 'they cannot be built'
+    summary
+    exit
 elif [ -n "${2-}" ]; then
     check 'the archive for an installation' install -D -m 644 "$scratch/archives/llvm.a" "$2"
 fi
@@ -247,11 +219,10 @@ for archive in "$scratch"/archives/*.a; do
 done
 library=$scratch/llvm
 [ -d "$library" ] || library=$scratch/built
-[ ! -d "$scratch/rattle" ] || check 'both builds give the same answers' same
+[ ! -d "$scratch/rattle" ] || check 'both builds give the same answers' cmp "$scratch/llvm/programs/answers" "$scratch/rattle/programs/answers"
 watched "$library"
 shared "$library"
 python "$library"
 crate "$library"
 
-echo "$passed passed, $failed failed"
-[ "$failed" -eq 0 ]
+summary

@@ -7,36 +7,26 @@
 #
 # SCCACHE names sccache, if it isn't the one on the path. Versions before 0.9 don't know cicc, ptxas and cudafe++.
 cd "$(dirname "$0")/.." || exit 1
-
-# skip REASON: ends with nothing tried.
-skip() {
-    echo "sccache: skipped, $1"
-    echo '0 passed, 0 failed'
-    exit 0
-}
-
-for tool in nvcc "${ZIGRUNK_NINJA:-ninja}" python3 "${SCCACHE:-sccache}"; do
-    command -v "$tool" > /dev/null || skip "$tool is not on the path"
-done
+. tests/lib.sh
+require sccache nvcc "${ZIGRUNK_NINJA:-ninja}" python3 "${SCCACHE:-sccache}"
 sccache=$(command -v "${SCCACHE:-sccache}")
-version=$("$sccache" --version) || skip "$sccache doesn't run"
-[[ ! $version =~ ^sccache\ 0\.[0-8]\. ]] || skip "$version doesn't know nvcc's commands; 0.9 or later does"
+version=$("$sccache" --version) || skip_all sccache "$sccache doesn't run"
+[[ ! $version =~ ^sccache\ 0\.[0-8]\. ]] || skip_all sccache "$version doesn't know nvcc's commands; 0.9 or later does"
 wrapper=$PWD/bin/zigrunk-nvcc
 ZIGRUNK_PROGRAM=$(realpath "${1:-${ZIGRUNK_PROGRAM:-crates/zigrunk/out/zigrunk}}")
-scratch=$(mktemp -d)
 trap '"$sccache" --stop-server > /dev/null 2>&1; rm -rf "$scratch"' EXIT
 unset "${!SCCACHE_@}" NVCC_PREPEND_FLAGS NVCC_APPEND_FLAGS
 export ZIGRUNK_PROGRAM ZIGRUNK_LAUNCHER=$sccache
 export SCCACHE_SERVER_PORT=$((20000 + RANDOM)) SCCACHE_IDLE_TIMEOUT=600 SCCACHE_CONF=/dev/null
 targets=(-gencode 'arch=compute_75,code=sm_75' -gencode 'arch=compute_80,code=sm_80')
 
-# count NAME: a number of sccache's statistics, over all languages.
-count() {
+# statistic NAME: a number of sccache's, over all languages.
+statistic() {
     "$sccache" --show-stats --stats-format json |
         python3 -c 'import json, sys; print(sum(json.load(sys.stdin)["stats"][sys.argv[1]]["counts"].values()))' "$1"
 }
 
-# build NAME WORD..: compiles all sources by a tool, and prints how it went. Leaves the numbers of hits and misses.
+# build NAME WORD..: a case: a tool compiles all sources. Prints how it went, and leaves the numbers of hits and misses.
 build() {
     local name=$1 statuses='' start=$EPOCHREALTIME source took
     shift
@@ -46,27 +36,14 @@ build() {
         statuses+=" $?"
     done
     took=$((${EPOCHREALTIME/./} - ${start/./}))
-    hits=$(count cache_hits) misses=$(count cache_misses)
+    hits=$(statistic cache_hits) misses=$(statistic cache_misses)
     printf '%-32s statuses%s, %s hits, %s misses, %d.%02d s\n' "$name" "$statuses" "$hits" "$misses" \
         $((took / 1000000)) $((took % 1000000 / 10000))
-    [ "$statuses" = ' 0 0 0' ]
+    same "statuses of $name" "$statuses" ' 0 0 0'
 }
 
-# check WHAT COMMAND..: counts whether a command succeeds.
-passed=0 failed=0
-check() {
-    local what=$1
-    shift
-    if "$@"; then
-        passed=$((passed + 1))
-    else
-        failed=$((failed + 1))
-        echo "sccache: $what"
-    fi
-}
-
-# begin NAME: an empty cache, and the sources in a folder of their own.
-begin() {
+# start_empty NAME: an empty cache, and the sources in a folder of their own.
+start_empty() {
     "$sccache" --stop-server > /dev/null 2>&1
     mkdir -p "$scratch/$1"
     cd "$scratch/$1" || exit 1
@@ -74,22 +51,21 @@ begin() {
         printf '%s\n' '#include <cstdio>' "__global__ void $source(int* values) { values[threadIdx.x] += ${#source}; }" \
             "void run_$source(int* values) { $source<<<1, 32>>>(values); }" > "$source.cu"
     done
-    SCCACHE_DIR=$scratch/$1/cache "$sccache" --start-server > "$scratch/server" 2>&1 || skip "$(tail -n 1 "$scratch/server")"
+    SCCACHE_DIR=$scratch/$1/cache "$sccache" --start-server > "$scratch/server" 2>&1 || skip_all sccache "$(tail -n 1 "$scratch/server")"
 }
 
-begin nvcc
-check 'a build by sccache nvcc fails' build 'sccache nvcc' "$sccache" nvcc
-check 'a build by sccache nvcc fails' build 'sccache nvcc, again' "$sccache" nvcc
-begin zigrunk-nvcc
-check 'a build by zigrunk-nvcc fails' build 'zigrunk-nvcc' "$wrapper"
+start_empty nvcc
+build 'sccache nvcc' "$sccache" nvcc
+build 'sccache nvcc, again' "$sccache" nvcc
+start_empty zigrunk-nvcc
+build 'zigrunk-nvcc' "$wrapper"
 mkdir first
 mv ./*.o first
-check 'a build by zigrunk-nvcc fails' build 'zigrunk-nvcc, again' "$wrapper"
+build 'zigrunk-nvcc, again' "$wrapper"
 # three sources, each with two cicc and two ptxas, one cudafe++ and one host compiler
-check "of 18 cacheable commands $hits are hits, and $misses misses" test "$hits $misses" = '18 0'
+same 'hits and misses of 18 cacheable commands' "$hits $misses" '18 0'
 for source in one two three; do
-    check "$source.o differs" cmp "$source.o" "first/$source.o"
+    check "$source.o of both builds" cmp "$source.o" "first/$source.o"
 done
 cd "$scratch" || exit 1
-echo "$passed passed, $failed failed"
-[ "$failed" -eq 0 ]
+summary

@@ -4,22 +4,16 @@
 #
 #   tests/cluster.sh [PROGRAM]    PROGRAM is the zigrunk that `make build` leaves, unless given
 cd "$(dirname "$0")/.." || exit 1
-skip() {
-    echo "cluster: skipped, $1"
-    echo '0 passed, 0 failed'
-    exit 0
-}
-for tool in slurmctld slurmd munged sbatch salloc nvcc ninja objcopy; do
-    command -v "$tool" > /dev/null || skip "$tool is not on the path"
-done
-[ "$(id -u)" = 0 ] || skip 'starting a Slurm of its own takes root'
-[ "$(nproc)" -ge 3 ] || skip 'three nodes take three cores'
+. tests/lib.sh
+require cluster slurmctld slurmd munged sbatch salloc nvcc ninja objcopy
+[ "$(id -u)" = 0 ] || skip_all cluster 'starting a Slurm of its own takes root'
+[ "$(nproc)" -ge 3 ] || skip_all cluster 'three nodes take three cores'
 ZIGRUNK_PROGRAM=$(realpath "${1:-${ZIGRUNK_PROGRAM:-crates/zigrunk/out/zigrunk}}")
-[ -x "$ZIGRUNK_PROGRAM" ] || skip 'make build makes zigrunk first'
+[ -x "$ZIGRUNK_PROGRAM" ] || skip_all cluster 'make build makes zigrunk first'
 unset NVCC_PREPEND_FLAGS NVCC_APPEND_FLAGS MAKEFLAGS "${!SLURM@}" "${!SBATCH@}"
 unset ZIGRUNK_RUNNER ZIGRUNK_LAUNCHER ZIGRUNK_PLAN ZIGRUNK_JOBS
 examples=$PWD/examples
-scratch=$(mktemp -d) && chmod 755 "$scratch"
+chmod 755 "$scratch"
 run=$scratch/run
 mkdir "$run" "$scratch/work" "$scratch/tmp"
 export ZIGRUNK_PROGRAM ZIGRUNK_TMP=$scratch/tmp PATH=$PWD/bin:$PATH
@@ -27,17 +21,6 @@ export ZIGRUNK_PROGRAM ZIGRUNK_TMP=$scratch/tmp PATH=$PWD/bin:$PATH
 . tests/cluster/ssh.bash
 trap 'stop_ssh; stop_slurm; rm -rf "$scratch"' EXIT
 trap 'exit 130' HUP INT TERM
-passed=0 failed=0
-
-# same WHAT GOT WANTED
-same() {
-    if [ "$2" = "$3" ]; then
-        passed=$((passed + 1))
-    else
-        failed=$((failed + 1))
-        printf "cluster: %s: '%s', not '%s'\n" "$@"
-    fi
-}
 
 # timed COMMAND WORD..: runs it; its seconds are $seconds, in tenths. It may set the time of its end, $end.
 timed() {
@@ -237,8 +220,7 @@ by_ssh() {
     stop_ssh
 }
 
-start_slurm || skip 'Slurm does not start'
+start_slurm || skip_all cluster 'Slurm does not start'
 cd "$scratch/work" && sources || exit 1
 for part in ${PARTS:-by_array by_batch_form compile_error killed_node cancelled sleeping_batch sleeping_array costs by_ssh}; do "$part"; done
-echo "$passed passed, $failed failed"
-[ "$failed" = 0 ]
+summary

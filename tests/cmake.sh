@@ -5,19 +5,12 @@
 #
 #   tests/cmake.sh [PROGRAM]     PROGRAM is the zigrunk that `make build` leaves, unless given
 cd "$(dirname "$0")/.." || exit 1
-for tool in cmake nvcc "${ZIGRUNK_NINJA:-ninja}" make objcopy; do
-    if ! command -v "$tool" > /dev/null; then
-        echo "CMake projects: skipped, $tool is not on the path"
-        echo '0 passed, 0 failed'
-        exit 0
-    fi
-done
+. tests/lib.sh
+require 'CMake projects' cmake nvcc "${ZIGRUNK_NINJA:-ninja}" make objcopy
 wrapper=$PWD/bin/zigrunk-nvcc
 headers=$PWD/tests/small
 ZIGRUNK_PROGRAM=$(realpath "${1:-${ZIGRUNK_PROGRAM:-crates/zigrunk/out/zigrunk}}")
 export ZIGRUNK_PROGRAM
-scratch=$(mktemp -d)
-trap 'rm -rf "$scratch"' EXIT
 unset NVCC_PREPEND_FLAGS NVCC_APPEND_FLAGS MAKEFLAGS CUDAFLAGS CUDACXX
 mkdir "$scratch/launchers"
 
@@ -107,16 +100,9 @@ project() {
 project Ninja &
 project 'Unix Makefiles' &
 wait
-passed=0 failed=0
 for generator in Ninja 'Unix Makefiles'; do
     for way in compiler launcher; do
-        if [ -s "$scratch/$generator/$way.differences" ]; then
-            echo "CMake, $generator, zigrunk-nvcc as $way: $(cat "$scratch/$generator/$way.differences")"
-            failed=$((failed + 1))
-        else
-            passed=$((passed + 1))
-        fi
+        count "CMake, $generator, zigrunk-nvcc as $way" "$(cat "$scratch/$generator/$way.differences")"
     done
 done
-echo "$passed passed, $failed failed"
-[ "$failed" -eq 0 ]
+summary

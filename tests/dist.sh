@@ -4,23 +4,7 @@
 # is "N passed, M failed".
 set -u
 cd "$(dirname "$0")/.." || exit 1
-scratch=$(mktemp -d)
-trap 'rm -rf "$scratch"' EXIT
-passed=0
-failed=0
-
-# check NAME COMMAND..: counts a command that has to succeed.
-check() {
-    local name=$1
-    shift
-    if "$@" > "$scratch/said" 2>&1; then
-        passed=$((passed + 1))
-    else
-        failed=$((failed + 1))
-        echo "failed: $name"
-        cat "$scratch/said"
-    fi
-}
+. tests/lib.sh
 
 # newest_glibc FILE: the newest version of glibc that a file's symbols ask for.
 newest_glibc() {
@@ -39,44 +23,40 @@ both_have() {
     [ -s "$here/share/man/man3/zigrunk.h.3" ] && [ -s "$scratch/deb/usr/share/man/man3/zigrunk.h.3.gz" ]
 }
 
-if command -v dpkg-deb > /dev/null && command -v objdump > /dev/null; then
-    version=$(cat VERSION)
-    here="$scratch/un packed"
-    mkdir "$here"
-    check 'the packages' packaging/dist.sh
-    check 'their checksums' cp dist/SHA256SUMS "$scratch"
-    check 'the packages again' packaging/dist.sh
-    check 'the same bytes' cmp dist/SHA256SUMS "$scratch/SHA256SUMS"
-    check 'good checksums' sh -c 'cd dist && sha256sum -c SHA256SUMS'
-    check 'unpacking the tarball' tar -x -C "$here" --strip-components=1 -f "dist/zigrunk-$version-x86_64-linux.tar.gz"
-    check 'unpacking the Debian package' dpkg-deb -x "dist/zigrunk_${version}_amd64.deb" "$scratch/deb"
-    check 'the version of the Debian package' test "$(dpkg-deb -f dist/*.deb Version)" = "$version"
-    check 'the lines of README' test "$(wc -l < "$here/README")" -le 20
-    check 'the library in both' both_have
-    for program in cudaplan zigrunk; do
-        # shellcheck disable=SC2016 # for sh
-        check "$program needs no library" sh -c '! objdump -p "$1" | grep -q NEEDED' _ "$here/bin/$program"
-    done
-    check 'its version' test "$("$here/bin/zigrunk" --version)" = "zigrunk $version"
-    glibc=$(newest_glibc "$scratch/deb/usr/lib/libzigrunk.so.1")
-    check 'libzigrunk.so.1 asks for a version of glibc' test -n "$glibc"
-    check 'it is at most 2.31' sh -c 'printf "%s\n" "$1" 2.31 | sort -C -V' _ "$glibc"
-    check 'README names it' grep -qF "glibc $glibc" <(tr '\n' ' ' < "$here/README")
-    check 'Depends names it' grep -qF "libc6 (>= $glibc), " <(dpkg-deb -f dist/*.deb Depends)
-    if command -v cc > /dev/null; then
-        check 'the example with the library of the tarball' cc -o "$scratch/example" "$here/share/zigrunk/c/example.c" \
-            -I"$here/include" -L"$here/lib" -lzigrunk
-        check 'what it prints' test "$(LD_LIBRARY_PATH=$here/lib "$scratch/example" 'a b')" = $'0: a\n1: b'
-    else
-        echo 'skipped: the example, without cc'
-    fi
-    if command -v lintian > /dev/null; then
-        check 'lintian' lintian --fail-on error --allow-root dist/*.deb
-    else
-        echo 'skipped: what needs lintian, which is not installed'
-    fi
+require 'the packages' dpkg-deb objdump
+version=$(cat VERSION)
+here="$scratch/un packed"
+mkdir "$here"
+check 'the packages' packaging/dist.sh
+check 'their checksums' cp dist/SHA256SUMS "$scratch"
+check 'the packages again' packaging/dist.sh
+check 'the same bytes' cmp dist/SHA256SUMS "$scratch/SHA256SUMS"
+check 'good checksums' sh -c 'cd dist && sha256sum -c SHA256SUMS'
+check 'unpacking the tarball' tar -x -C "$here" --strip-components=1 -f "dist/zigrunk-$version-x86_64-linux.tar.gz"
+check 'unpacking the Debian package' dpkg-deb -x "dist/zigrunk_${version}_amd64.deb" "$scratch/deb"
+check 'the version of the Debian package' test "$(dpkg-deb -f dist/*.deb Version)" = "$version"
+check 'the lines of README' test "$(wc -l < "$here/README")" -le 20
+check 'the library in both' both_have
+for program in cudaplan zigrunk; do
+    # shellcheck disable=SC2016 # for sh
+    check "$program needs no library" sh -c '! objdump -p "$1" | grep -q NEEDED' _ "$here/bin/$program"
+done
+check 'its version' test "$("$here/bin/zigrunk" --version)" = "zigrunk $version"
+glibc=$(newest_glibc "$scratch/deb/usr/lib/libzigrunk.so.1")
+check 'libzigrunk.so.1 asks for a version of glibc' test -n "$glibc"
+check 'it is at most 2.31' sh -c 'printf "%s\n" "$1" 2.31 | sort -C -V' _ "$glibc"
+check 'README names it' grep -qF "glibc $glibc" <(tr '\n' ' ' < "$here/README")
+check 'Depends names it' grep -qF "libc6 (>= $glibc), " <(dpkg-deb -f dist/*.deb Depends)
+if command -v cc > /dev/null; then
+    check 'the example with the library of the tarball' cc -o "$scratch/example" "$here/share/zigrunk/c/example.c" \
+        -I"$here/include" -L"$here/lib" -lzigrunk
+    check 'what it prints' test "$(LD_LIBRARY_PATH=$here/lib "$scratch/example" 'a b')" = $'0: a\n1: b'
 else
-    echo 'skipped: the packages, without dpkg-deb or objdump'
+    echo 'skipped: the example, without cc'
 fi
-echo "$passed passed, $failed failed"
-[ "$failed" -eq 0 ]
+if command -v lintian > /dev/null; then
+    check 'lintian' lintian --fail-on error --allow-root dist/*.deb
+else
+    echo 'skipped: what needs lintian, which is not installed'
+fi
+summary

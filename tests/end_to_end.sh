@@ -15,9 +15,8 @@ cd "$(dirname "$0")/.." || exit 1
 all=''
 [ "${1-}" != --all ] || { all=yes && shift; }
 program=$(realpath -m "${1:-crates/zigrunk/out/zigrunk}")
-scratch=$(mktemp -d)
+. tests/lib.sh
 trap 'kill $(jobs -p) 2> /dev/null; rm -rf "$scratch"' EXIT
-passed=0 failed=0
 declare -A parts
 started=()
 
@@ -47,14 +46,7 @@ finish() {
     local said=$scratch/$1.said status
     wait "${parts[$1]}"
     status=$?
-    if [[ $(tail -n 1 "$said") =~ ^([0-9]+)\ passed,\ ([0-9]+)\ failed$ ]] && [ $((BASH_REMATCH[2] > 0)) = $((status > 0)) ]; then
-        passed=$((passed + BASH_REMATCH[1]))
-        failed=$((failed + BASH_REMATCH[2]))
-        sed '$d' "$said"
-    else
-        failed=$((failed + 1))
-        cat "$said"
-    fi
+    if add "$status" "$said"; then sed '$d' "$said"; else cat "$said"; fi
 }
 
 # interrupt SIGNAL STATUS: a signal to the script alone, while it compiles for several targets. Prints what is wrong, or 'slow' if
@@ -91,26 +83,15 @@ interrupt() {
 # interrupts SIGNAL..: each signal is one test. Other work may slow a build that stops, so one that stops slowly gets another try, and
 # four of five may be slow. Nothing else may be wrong in any.
 interrupts() {
-    local good=0 bad=0 signal problems
+    local signal problems
     for signal; do
         for _ in 1 2 3 4 5; do
             problems=$(interrupt "$signal" $((128 + $(kill -l "$signal"))))
             [ "$problems" = slow ] || break
         done
-        if [ -z "$problems" ]; then
-            good=$((good + 1))
-        else
-            bad=$((bad + 1))
-            echo "the signal $signal: ${problems/#slow/it takes more than a second, five times}"
-        fi
+        count "the signal $signal" "${problems/#slow/it takes more than a second, five times}"
     done
-    echo "$good passed, $bad failed"
-    [ "$bad" = 0 ]
-}
-
-# options: the table of nvcc's options against `nvcc --help`, as one test.
-options() {
-    if tests/nvcc_options.sh; then echo '1 passed, 0 failed'; else echo '0 passed, 1 failed' && return 1; fi
+    summary
 }
 
 # missing: the first program that calls of nvcc need and the path lacks.
@@ -123,7 +104,7 @@ missing() {
 
 start script tests/script.sh
 start batch tests/batch.sh
-start options options
+start options tests/nvcc_options.sh
 lacking=$(missing)
 if [ -n "$lacking" ]; then
     echo "calls of nvcc: skipped, $lacking is not on the path"
@@ -145,5 +126,4 @@ else
 fi
 for part in "${started[@]}"; do finish "$part"; done
 for part in "${started[@]}"; do cat "$scratch/$part.took"; done
-echo "$passed passed, $failed failed"
-[ "$failed" -eq 0 ]
+summary

@@ -4,37 +4,14 @@
 # "N passed, M failed".
 set -u
 cd "$(dirname "$0")/.." || exit 1
+. tests/lib.sh
 if ! .ci/built check programs || ! .ci/built check library; then
-    echo 'crates/*/out lack what these sources make; make build and make lib prove and build it'
-    echo '0 passed, 1 failed'
-    exit 1
+    count 'crates/*/out' 'it lacks what these sources make; make build and make lib prove and build it'
+    summary
+    exit
 fi
 top=$PWD
-scratch=$(mktemp -d)
-trap 'rm -rf "$scratch"' EXIT
 root="$scratch/in here"
-passed=0
-failed=0
-
-# check NAME COMMAND..: counts a command that has to succeed.
-check() {
-    local name=$1
-    shift
-    if "$@" > "$scratch/said" 2>&1; then
-        passed=$((passed + 1))
-    else
-        failed=$((failed + 1))
-        echo "failed: $name"
-        cat "$scratch/said"
-    fi
-}
-
-# prints TEXT COMMAND..: whether a command prints exactly this text.
-prints() {
-    local text=$1
-    shift
-    [ "$("$@")" = "$text" ]
-}
 
 # exports: the calls that the library exports, each on a line.
 exports() {
@@ -53,8 +30,8 @@ page_statuses() {
     sed -n '/^\.SH ERRORS/,/^\.SH VERSIONS/s/^\.B \(ZIGRUNK_[A-Z_0-9]*\)$/\1/p' "$top/man/zigrunk.h.3"
 }
 
-# same COMMAND OTHER: whether two functions print the same.
-same() {
+# alike COMMAND OTHER: whether two functions print the same.
+alike() {
     diff <("$1") <("$2")
 }
 
@@ -62,8 +39,8 @@ twice() { exports && exports; }
 # a comment may follow the number
 statuses() { sed -n '/^\/\* Statuses/,/^$/s/^#define \(ZIGRUNK_[A-Z_0-9]*\) [0-9].*/\1/p' "$top/bindings/c/zigrunk.h"; }
 
-check 'the man page declares and describes the calls of the library' same page_calls twice
-check 'the man page lists the statuses of the header' same page_statuses statuses
+check 'the man page declares and describes the calls of the library' alike page_calls twice
+check 'the man page lists the statuses of the header' alike page_statuses statuses
 
 # records: the records that a file defines, with their fields.
 records() {
@@ -79,7 +56,7 @@ missing_numbers() {
         grep -q "\<$name\>" "$top/man/zigrunk.h.3" || echo "$name"
     done
 }
-check 'the man page has the records of the header' same page_records header_records
+check 'the man page has the records of the header' alike page_records header_records
 check 'the man page names the numbers of the header' prints '' missing_numbers
 # VERSION is the one place for the version number. The packages take it from there; here are the pages and what is installed.
 version=$(cat VERSION)
@@ -91,7 +68,7 @@ check 'the version of the crate for Rust' grep -qx "version = \"$version\"" bind
 check 'the version of the changelog' grep -qF "## [$version]" CHANGELOG.md
 check 'make install' make -s install DESTDIR="$root" PREFIX=/usr
 check 'a second make install proves nothing' make -s install DESTDIR="$root" PREFIX=/usr
-check 'it said nothing' test ! -s "$scratch/said"
+same 'what it said' "$(cat "$scratch/said")" ''
 PATH=$root/usr/bin:$PATH
 mkdir "$scratch/work"
 cd "$scratch/work" || exit 1
@@ -175,5 +152,4 @@ check 'it installs no program' test ! -e "$scratch/a library/bin"
 check 'make uninstall' make -s uninstall DESTDIR="$root" PREFIX=/usr
 check 'make uninstall of the library' make -s uninstall DESTDIR="$scratch/" PREFIX='a library'
 check 'nothing stays' prints '' find "$root" "$scratch/a library" ! -type d
-echo "$passed passed, $failed failed"
-[ "$failed" -eq 0 ]
+summary

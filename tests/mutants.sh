@@ -6,26 +6,22 @@
 #
 # An edit is a line that names it, a line 'old: TEXT' and a line 'new: TEXT'. The old text stands in one place of the script.
 cd "$(dirname "$0")/.." || exit 1
-scratch=$(mktemp -d)
-trap 'rm -rf "$scratch"' EXIT
+. tests/lib.sh
 text=$(cat bin/zigrunk-nvcc)
 only=${1-}
-passed=0 failed=0
 
 # try NAME OLD NEW: one edit.
 try() {
     local file=$scratch/$((passed + failed))
     if [ "${text/"$2"/}" = "$text" ]; then
-        echo "$1: the script has no '$2'"
-        failed=$((failed + 1))
+        count "$1" "the script has no '$2'"
         return
     fi
     printf '%s\n' "${text/"$2"/$3}" > "$file"
     if SHELLS=${SHELLS-dash} STOP_EARLY=1 tests/script.sh "$file" > "$scratch/said" 2>&1; then
-        echo "$1: no test fails"
-        failed=$((failed + 1))
+        count "$1" 'no test fails'
     else
-        passed=$((passed + 1))
+        count "$1" ''
     fi
 }
 
@@ -389,5 +385,4 @@ always 0
 old: exit "$status"
 new: exit
 END
-echo "$passed passed, $failed failed"
-[ "$failed" -eq 0 ]
+summary

@@ -5,31 +5,13 @@
 #
 #   tests/needs.sh [PROGRAM]    PROGRAM is the zigrunk that `make build` leaves, unless given
 cd "$(dirname "$0")/.." || exit 1
-for tool in nvcc "${ZIGRUNK_NINJA:-ninja}"; do
-    if ! command -v "$tool" > /dev/null; then
-        echo "needs of commands: skipped, $tool is not on the path"
-        echo '0 passed, 0 failed'
-        exit 0
-    fi
-done
+. tests/lib.sh
+require 'needs of commands' nvcc "${ZIGRUNK_NINJA:-ninja}"
 wrapper=$PWD/bin/zigrunk-nvcc
 headers=$PWD/tests/small
 ZIGRUNK_PROGRAM=$(realpath "${1:-${ZIGRUNK_PROGRAM:-crates/zigrunk/out/zigrunk}}")
 export ZIGRUNK_PROGRAM ZIGRUNK_EXPLAIN=1 ZIGRUNK_JOBS=8
-scratch=$(mktemp -d)
-trap 'rm -rf "$scratch"' EXIT
 unset NVCC_PREPEND_FLAGS NVCC_APPEND_FLAGS MAKEFLAGS ZIGRUNK_RUNNER ZIGRUNK_LAUNCHER ZIGRUNK_TMP ZIGRUNK_PLAN
-passed=0 failed=0
-
-# judge NAME PROBLEM: counts a case, which has passed if there is no problem.
-judge() {
-    if [ -z "$2" ]; then
-        passed=$((passed + 1))
-    else
-        failed=$((failed + 1))
-        echo "$1: $2"
-    fi
-}
 
 cd "$scratch" || exit 1
 mkdir tmp
@@ -69,8 +51,7 @@ for run in {1..20}; do
     else
         [ -e keys.held ] || problem+=' no command is held back'
     fi
-    judge "a fatbin for six targets, build $run" "$problem"
+    count "a fatbin for six targets, build $run" "$problem"
 done
 
-echo "$passed passed, $failed failed"
-[ "$failed" -eq 0 ]
+summary

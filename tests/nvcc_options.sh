@@ -1,20 +1,19 @@
-#!/bin/sh
-# Prints each option that `nvcc --help` of the installed nvcc lists and that the table of crates/nvcc_words lacks. Fails if there is one,
-# or if the help lists fewer than a hundred.
+#!/usr/bin/env bash
+# Prints each option that `nvcc --help` of the installed nvcc lists and that the table of crates/nvcc_words lacks. It fails if there is
+# one, or if the help lists fewer than a hundred. The last line is 'N passed, M failed'.
+#
+#   tests/nvcc_options.sh [NVCC]
 set -u
+cd "$(dirname "$0")/.." || exit 1
+. tests/lib.sh
 nvcc=${1:-nvcc}
-table=$(dirname "$0")/../crates/nvcc_words/src/options.rt
-if ! command -v "$nvcc" > /dev/null; then
-    echo 'nvcc_options: skipped, there is no nvcc'
-    exit 0
-fi
-listed=0 missing=0
+table=crates/nvcc_words/src/options.rt
+require "the table of nvcc's options" "$nvcc"
+listed=0 lacks=''
 for name in $("$nvcc" --help | sed -n 's/^\(--[^ ]*\).*(\(-[^ ()]*\)) *$/\1 \2/p; s/^\(--[^ ]*\)  *--[^ ]* *$/\1/p'); do
     listed=$((listed + 1))
-    if ! grep -q -- "\"$name\"" "$table"; then
-        echo "nvcc_options: the table lacks $name"
-        missing=$((missing + 1))
-    fi
+    grep -q -- "\"$name\"" "$table" || lacks+=" $name"
 done
-[ "$listed" -ge 100 ] || echo "nvcc_options: nvcc --help lists only $listed names"
-[ "$missing" -eq 0 ] && [ "$listed" -ge 100 ]
+[ "$listed" -ge 100 ] || lacks+=" all but $listed options of nvcc --help"
+count "the table of nvcc's options" "${lacks:+it lacks$lacks}"
+summary

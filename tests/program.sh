@@ -13,10 +13,7 @@ program=$(realpath "${1:-crates/cudaplan/out/cudaplan}")
 zigrunk=$(realpath "${2:-crates/zigrunk/out/zigrunk}")
 wanted=("${@:3}")
 data=crates/test_plans/data/dry_runs
-scratch=$(mktemp -d)
-trap 'rm -rf "$scratch"' EXIT
-passed=0
-failed=0
+. tests/lib.sh
 
 readonly USAGE=$'usage: cudaplan line TOOL CWD WORD.. | plan CWD TMP FLAG DRY1 DRY2 SUFFIX..\n'
 readonly NO_COMPILATION=$'cudaplan: not a compilation\n'
@@ -26,22 +23,19 @@ readonly CANNOT_WRITE=$'cudaplan: cannot write\n'
 judge() {
     printf '%s' "$3" > "$scratch/want_out"
     printf '%s' "$4" > "$scratch/want_err"
-    local got
+    local got problem=''
     got=$(cat "$scratch/status")
     if [ "$got" != "$2" ]; then
-        echo "$1: status $got, not $2"
+        problem="status $got, not $2"
     elif ! cmp -s "$scratch/out" "$scratch/want_out"; then
-        echo "$1: standard output differs"
+        problem='standard output differs'
     elif ! cmp -s "$scratch/err" "$scratch/want_err"; then
-        echo "$1: standard error differs"
-    else
-        passed=$((passed + 1))
-        return
+        problem='standard error differs'
     fi
-    failed=$((failed + 1))
+    count "$1" "$problem"
 }
 
-# check NAME STATUS OUT ERR WORD..: a call with these words.
+# check NAME STATUS OUT ERR WORD..: a call with these words. Here it takes the place of the check of tests/lib.sh.
 check() {
     local name=$1 status=$2 out=$3 err=$4
     shift 4
@@ -652,13 +646,13 @@ plan_views() {
 
 # the JSON of real plans, by its schema
 plan_schema() {
-    if tests/schema.py "$program" > "$scratch/schema"; then
-        grep skipped "$scratch/schema"
-        passed=$((passed + 1))
-    else
-        cat "$scratch/schema"
-        failed=$((failed + 1))
-    fi
+    local said
+    said=$(tests/schema.py "$program") || said+=$'\n'"status $?"
+    case $said in
+    *' skipped'*) echo "$said" ;;
+    *' passed, 0 failed') count 'the JSON of real plans' '' ;;
+    *) count 'the JSON of real plans' "$said" ;;
+    esac
 }
 
 # plans that have to be whole
@@ -1036,5 +1030,4 @@ run \
     nvcc_lines jobs_at_once directories forms_of_cudaplan long_nvcc_lines odd_nvcc_words refused_nvcc_lines kernel_programs \
     plan_scripts plan_files plan_views plan_schema whole_plans unfit_files statuses long_exports refused_exports limits messages \
     long_messages escapes standard_input zigrunk_pages
-echo "$passed passed, $failed failed"
-[ "$failed" -eq 0 ]
+summary

@@ -4,15 +4,14 @@
 #
 #   tests/script.sh [SCRIPT]    SCRIPT is bin/zigrunk-nvcc, unless given
 #
-# SHELLS, if set, names the shells instead, as SHELLS='dash bash'. STOP_EARLY, if set, ends the run at the first failure.
+# SHELLS names other shells, and STOP_EARLY ends the run at the first failure (tests/lib.sh).
 # shellcheck disable=SC2016 # the stand-ins expand what cases give them
 cd "$(dirname "$0")/.." || exit 1
 script=$(realpath "${1:-bin/zigrunk-nvcc}")
-scratch=$(mktemp -d)
+. tests/lib.sh
 trap 'kill $(jobs -p) 2> /dev/null; rm -rf "$scratch"' EXIT
 unset NVCC_PREPEND_FLAGS NVCC_APPEND_FLAGS CDPATH MAKEFLAGS "${!ZIGRUNK@}"
 user=$(id -u)
-passed=0 failed=0
 
 # The stand-ins. Each logs what it gets, and does what a case says in a variable of its own.
 mkdir "$scratch/bin"
@@ -82,15 +81,6 @@ END
 chmod +x "$scratch"/bin/*
 export PATH=$scratch/bin:$PATH
 
-# begin NAME: a case of its own folder, from which the script runs.
-begin() {
-    name=$1
-    rm -rf "$room"
-    mkdir -p "$room/work" "$room/tmp"
-    cd "$room/work" || exit 1
-    problems=''
-}
-
 # script [NAME=VALUE..] WORD..: runs the script with these variables and words.
 script() {
     local settings=()
@@ -103,11 +93,6 @@ script() {
     status=$?
 }
 
-# same WHAT GOT WANTED: a problem, unless the texts are alike.
-same() {
-    [ "$2" = "$3" ] || problems+="  $1: '$2', not '$3'"$'\n'
-}
-
 # holds WHAT FILE LINE: a problem, unless the file has this line.
 holds() {
     grep -qxF -e "$3" "$2" || problems+="  $1: no line '$3' in '$(cat "$2")'"$'\n'
@@ -116,11 +101,6 @@ holds() {
 # lacks WHAT FILE TEXT: a problem if the file has this text.
 lacks() {
     ! grep -qF -e "$3" "$2" || problems+="  $1: '$3' is in '$(cat "$2")'"$'\n'
-}
-
-# leaves_nothing: a problem, unless the folder for temporary files is empty.
-leaves_nothing() {
-    same 'files left' "$(ls -A "$room/tmp")" ''
 }
 
 # by_nvcc REASON: a problem, unless nvcc itself made the call, with the status 5, for this reason.
@@ -133,20 +113,7 @@ by_nvcc() {
 
 # end: counts the case.
 end() {
-    cd "$scratch" || exit 1
-    if [ -z "$problems" ]; then
-        passed=$((passed + 1))
-    else
-        failed=$((failed + 1))
-        printf '%s: %s:\n%s' "${shell[*]}" "$name" "$problems"
-        [ -z "${STOP_EARLY-}" ] || finish
-    fi
-}
-
-# finish: notes the counts of this shell, and ends its process.
-finish() {
-    echo "$passed $failed" > "$scratch/$choice/counts"
-    exit
+    end_case
 }
 
 cases() {
@@ -571,25 +538,5 @@ ended() {
     [ $((SECONDS - began)) -le 8 ] || problems+='  it ends late'$'\n'
 }
 
-tried=()
-for choice in ${SHELLS-dash bash busybox}; do
-    case $choice in
-    busybox) shell=(busybox sh) ;;
-    *) shell=("$choice") ;;
-    esac
-    if command -v "${shell[0]}" > /dev/null; then
-        tried+=("$choice")
-        room=$scratch/$choice/room
-        mkdir "$scratch/$choice"
-        (cases; finish) &
-    else
-        echo "${shell[*]}: skipped, it is not on the path"
-    fi
-done
-wait
-for choice in "${tried[@]}"; do
-    read -r good bad 2> /dev/null < "$scratch/$choice/counts" || good=0 bad=1
-    passed=$((passed + good)) failed=$((failed + bad))
-done
-echo "$passed passed, $failed failed"
-[ "$failed" -eq 0 ]
+by_shells cases
+summary

@@ -3,20 +3,8 @@
 # Prints a line for each check that fails, and last 'N passed, M failed'; the status is 1 if one failed.
 cd "$(dirname "$0")/../.." || exit 1
 attempts=$PWD/examples/attempts.bash
-scratch=$(mktemp -d)
-trap 'rm -rf "$scratch"' EXIT
+. tests/lib.sh
 cd "$scratch" || exit 1
-passed=0 failed=0
-
-# same WHAT GOT WANTED
-same() {
-    if [ "$2" = "$3" ]; then
-        passed=$((passed + 1))
-    else
-        failed=$((failed + 1))
-        printf "attempts: %s: '%s', not '%s'\n" "$@"
-    fi
-}
 
 # run_plan FOLDER RUNNER: runs what nvcc's dry run prints, each command with this runner.
 run_plan() {
@@ -149,5 +137,4 @@ failures
 forms
 same 'half files that a reader saw' "$(torn "$attempts")" 0
 same 'half files without the script' "$([ "$(torn '')" -gt 0 ] && echo some)" some
-echo "$passed passed, $failed failed"
-[ "$failed" = 0 ]
+summary

@@ -1,0 +1,148 @@
+# What the test scripts share: a folder for their files, $scratch, cases, counts and the last line. A script sources it from the top of
+# the repository, and ends with `summary`. Each case is counted once: by `check`, `same`, `count` or `end_case`.
+# shellcheck shell=bash
+
+scratch=$(mktemp -d)
+trap 'rm -rf "$scratch"' EXIT
+passed=0
+failed=0
+skipped=0
+
+# count NAME PROBLEM: counts a case, which has passed if there is no problem.
+count() {
+    if [ -z "$2" ]; then
+        passed=$((passed + 1))
+    else
+        failed=$((failed + 1))
+        printf '%s: %s\n' "$1" "$2"
+    fi
+}
+
+# check NAME COMMAND..: a case: the command has to succeed. What it prints is in $scratch/said, and its end is shown if it fails.
+check() {
+    local problem=''
+    "${@:2}" > "$scratch/said" 2>&1 || problem=failed$'\n'$(tail -n 30 "$scratch/said")
+    count "$1" "$problem"
+}
+
+# prints TEXT COMMAND..: whether a command prints exactly this text.
+prints() {
+    diff <(printf '%s\n' "$1") <(printf '%s\n' "$("${@:2}")")
+}
+
+# same WHAT GOT WANTED: a problem of the case that has begun, unless the texts are alike. Elsewhere it is a case of its own.
+same() {
+    local problem=''
+    [ "$2" = "$3" ] || problem="'$2', not '$3'"
+    if [ -z "${problems+set}" ]; then
+        count "$1" "$problem"
+    elif [ -n "$problem" ]; then
+        problems+="  $1: $problem"$'\n'
+    fi
+}
+
+# skip WHAT REASON: counts what can't be tried here, and says why.
+skip() {
+    skipped=$((skipped + 1))
+    echo "$1: skipped, $2"
+}
+
+# skip_all WHAT REASON: ends the script, since nothing can be tried here.
+skip_all() {
+    skip "$@"
+    summary
+    exit
+}
+
+# require WHAT TOOL..: ends the script if a tool isn't on the path.
+require() {
+    local tool
+    for tool in "${@:2}"; do
+        command -v "$tool" > /dev/null || skip_all "$1" "$tool is not on the path"
+    done
+}
+
+# add STATUS FILE: adds what another script counted, by the last line of its output. It returns 1, and counts a failure, if there is no
+# such line, if it doesn't fit the status, or if no case ran and none was skipped.
+add() {
+    local line good bad
+    line=$(tail -n 1 "$2")
+    if [[ $line =~ ^([0-9]+)\ passed,\ ([0-9]+)\ failed(,\ [1-9][0-9]*\ skipped)?$ ]]; then
+        good=${BASH_REMATCH[1]} bad=${BASH_REMATCH[2]}
+        if [ $((bad > 0)) = $(($1 > 0)) ] && [ "$((good + bad))${BASH_REMATCH[3]-}" != 0 ]; then
+            passed=$((passed + good)) failed=$((failed + bad))
+            return
+        fi
+    fi
+    failed=$((failed + 1))
+    return 1
+}
+
+# summary: prints the last line. Returns 1 if a case failed, or if there was none.
+summary() {
+    if [ $((passed + failed + skipped)) -eq 0 ]; then
+        failed=1
+        echo 'no case ran'
+    fi
+    if [ "$skipped" -eq 0 ]; then
+        echo "$passed passed, $failed failed"
+    else
+        echo "$passed passed, $failed failed, $skipped skipped"
+    fi
+    [ "$failed" -eq 0 ]
+}
+
+# Tests of a shell script, which several shells run. A case has a folder of its own, $room.
+
+# by_shells FUNCTION: calls a function for each of dash, bash and busybox sh that is installed, side by side, and adds their counts. The
+# words of $shell start the shell. SHELLS, if set, names the shells instead, as SHELLS='dash bash'. STOP_EARLY, if set, ends the
+# cases of a shell at the first failure.
+by_shells() {
+    local choice tried=() good bad
+    for choice in ${SHELLS-dash bash busybox}; do
+        shell=("$choice")
+        [ "$choice" != busybox ] || shell=(busybox sh)
+        if ! command -v "$choice" > /dev/null; then
+            echo "${shell[*]}: skipped, it is not on the path"
+            continue
+        fi
+        tried+=("$choice")
+        room=$scratch/$choice/room
+        mkdir "$scratch/$choice"
+        ("$1"; end_shell) &
+    done
+    wait
+    for choice in "${tried[@]}"; do
+        read -r good bad 2> /dev/null < "$scratch/$choice/counts" && [ $((good + bad)) -gt 0 ] || good=0 bad=1
+        passed=$((passed + good)) failed=$((failed + bad))
+    done
+}
+
+# end_shell: notes the counts of this shell, and ends its process.
+end_shell() {
+    echo "$passed $failed" > "${room%/*}/counts"
+    exit
+}
+
+# begin NAME: begins a case, whose working directory is $room/work.
+begin() {
+    name=$1
+    problems=''
+    rm -rf "$room"
+    mkdir -p "$room/work" "$room/tmp"
+    cd "$room/work" || exit 1
+}
+
+# end_case: counts the case that has begun.
+end_case() {
+    local found=${problems:+$'\n'}${problems%$'\n'}
+    cd "$scratch" || exit 1
+    unset problems
+    count "${shell[*]}: $name" "$found"
+    [ -z "$found" ] || [ -z "${STOP_EARLY-}" ] || end_shell
+}
+
+# leaves_nothing: a problem, unless the folder for temporary files is empty.
+leaves_nothing() {
+    same 'files left' "$(ls -A "$room/tmp")" ''
+}
