@@ -57,6 +57,33 @@ new: *)
 nvcc stays among the words
 old: nvcc=$1 && shift
 new: nvcc=$1
+it calls itself
+old: if own "$found" ||
+new: if
+only itself is no nvcc
+old:  || [ "${0##*/} $nvcc" = 'nvcc nvcc' ]; then
+new: ; then
+a wrapper of it is called again and again
+old:     *":$1:"*) ;;
+new:     x) ;;
+a call that came from it is split
+old: [ -z "${ZIGRUNK_INSIDE-}" ] || {
+new: true || {
+what it calls doesn't know where it came from
+old: export ZIGRUNK_INSIDE=":$found:"
+new: :
+the first nvcc of PATH
+old: before=${before:-$behind} behind=''
+new: :
+a loop has no message
+old: PATH has no other nvcc" >&2 && exit 127
+new: PATH has no other nvcc" && exit 127
+a missing nvcc has no message
+old: [ -n "$found${ZIGRUNK_RUNNER-}" ] ||
+new: true ||
+nvcc has to be here if a runner runs it
+old: [ -n "$found${ZIGRUNK_RUNNER-}" ] ||
+new: [ -n "$found" ] ||
 TMPDIR is ignored
 old: ${TMPDIR:-/tmp}
 new: /tmp

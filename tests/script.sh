@@ -89,7 +89,7 @@ script() {
         shift
     done
     rm -f "$room/log"
-    env LOG="$room/log" TMPDIR="$room/tmp" "${settings[@]}" "${shell[@]}" "$script" "$@" > "$room/out" 2> "$room/err"
+    env LOG="$room/log" TMPDIR="$room/tmp" "${settings[@]}" timeout 60 "${shell[@]}" "${as:-$script}" "$@" > "$room/out" 2> "$room/err"
     status=$?
 }
 
@@ -109,6 +109,13 @@ by_nvcc() {
     same output "$(cat "$room/out")" "nvcc sees: ${sees-}"
     same messages "$(cat "$room/err")" "zigrunk-nvcc: nvcc itself: $1"$'\nnvcc says'
     leaves_nothing
+}
+
+# installed COMMAND..: puts the script into a folder of the case, as nvcc.
+installed() {
+    mkdir "$room/bin"
+    "$@" "$script" "$room/bin/nvcc"
+    chmod +x "$room/bin/nvcc"
 }
 
 # end: counts the case.
@@ -206,7 +213,7 @@ END
 
     begin 'no TMPDIR'
     script TMPDIR= -c k.cu -o k.o
-    holds calls "$room/log" "ninja [-f] [/tmp/zigrunk-$user/zigrunk-name/zigrunk.tmp/ninja]"
+    same 'where' "$(grep -c "^ninja \[-f\] \[/tmp/zigrunk[^/]*\(/zigrunk-name\)\?/zigrunk.tmp/ninja\]$" "$room/log")" 1
     end
 
     begin 'a relative TMPDIR, and CDPATH'
@@ -317,6 +324,56 @@ END
     same status "$status" 5
     same messages "$(grep -c '^zigrunk-nvcc: nvcc itself: .*missing.*\(not found\|No such file\)' "$room/err")" 1
     holds calls "$room/log" 'nvcc [-o] [a b] []'
+    leaves_nothing
+    end
+
+    begin 'installed as nvcc, by a link'
+    installed ln -s
+    as=$room/bin/nvcc script PATH="$room/bin:$PATH" -c k.cu -o k.o
+    same status "$status" 0
+    holds calls "$room/log" "zigrunk [directory] [$room/work] [$scratch/bin/nvcc] [-c] [k.cu] [-o] [k.o]"
+    as=$room/bin/nvcc script PATH="$room/bin:$PATH" "${plain[@]}" REASON=why -o 'a b' ''
+    by_nvcc 'zigrunk: why'
+    script PATH="$room/bin:$PATH" -c k.cu -o k.o
+    holds 'calls by its own name' "$room/log" "zigrunk [directory] [$room/work] [$scratch/bin/nvcc] [-c] [k.cu] [-o] [k.o]"
+    script PATH="$room/bin:$PATH" "$room/bin/nvcc" -c k.cu -o k.o
+    holds 'calls as a launcher' "$room/log" "zigrunk [directory] [$room/work] [$scratch/bin/nvcc] [-c] [k.cu] [-o] [k.o]"
+    end
+    begin 'installed as nvcc, by a copy'
+    installed cp
+    script PATH="$room/bin:$PATH" ZIGRUNK_EXPLAIN=1 -c k.cu -o k.o
+    same 'status and messages' "$status$(cat "$room/err")" 0
+    same 'dry runs, and calls of zigrunk' "$(grep -c '^nvcc .--dryrun' "$room/log") $(grep -c '^zigrunk' "$room/log")" '3 3'
+    end
+    begin 'a wrapper of it is the nvcc'
+    mkdir "$room/bin"
+    printf '%s\n' '#!/bin/sh' "exec $script \"\$@\"" > "$room/bin/nvcc" && chmod +x "$room/bin/nvcc"
+    for settings in "PATH=$room/bin:$PATH" "ZIGRUNK_NVCC=$room/bin/nvcc"; do
+        script "$settings" -c k.cu -o k.o
+        same "status with $settings" "$status$(cat "$room/err")" 0
+        same 'dry runs, and calls of zigrunk' "$(grep -c '^nvcc .--dryrun' "$room/log") $(grep -c '^zigrunk' "$room/log")" '3 3'
+        script "$settings" "${plain[@]}" REASON=why -o 'a b' ''
+        by_nvcc 'zigrunk: why'
+        same 'one call' "$(grep -v '^zigrunk' "$room/log")" 'nvcc [-o] [a b] []'
+    done
+    end
+    begin 'the next nvcc is the one behind it'
+    installed ln -s
+    mkdir "$room/before" && ln -s "$scratch/bin/nvcc" "$room/before/nvcc"
+    as=$room/bin/nvcc script PATH="$room/before:$room/bin:$PATH" -c k.cu -o k.o
+    holds calls "$room/log" "zigrunk [directory] [$room/work] [$scratch/bin/nvcc] [-c] [k.cu] [-o] [k.o]"
+    end
+    begin 'there is no other nvcc'
+    installed ln -s
+    ln -s "$(command -v "${shell[0]}")" "$room/bin" && ln -s "$(command -v timeout)" "$room/bin"
+    as=$room/bin/nvcc script PATH="$room/bin" -c k.cu -o k.o
+    same 'status and messages' "$status $(cat "$room/err")" '127 zigrunk-nvcc: nvcc is zigrunk-nvcc itself, and PATH has no other nvcc'
+    end
+    begin 'there is no nvcc'
+    script ZIGRUNK_NVCC="$room/missing" REASON=why -c k.cu
+    same 'status and messages' "$status $(cat "$room/err")" "127 zigrunk-nvcc: cannot find $room/missing in PATH"
+    script ZIGRUNK_NVCC="$room/missing" REASON=why ZIGRUNK_RUNNER='echo by' -c k.cu
+    same 'status and output of the runner' "$status $(cat "$room/out" "$room/err")" "0 by $room/missing -c k.cu"
     leaves_nothing
     end
 
