@@ -7,7 +7,7 @@
     --only TEXT                 only the calls whose lines contain TEXT
     --keep FOLDER               keep each call's files below FOLDER
     --scratch FOLDER            make the calls below FOLDER
-    --jobs N                    N calls at once
+    --jobs N                    N calls at once, 1 by default
     --json FILE                 write a record of each call
     --all                       print the calls that pass too
 
@@ -34,7 +34,8 @@ something differs that the line doesn't name, nvcc makes the call once more: wha
 nvcc includes cuda_runtime.h in every source, and gcc looks for it first where it runs. So a small one in the work folder takes the
 toolkit's place for both tools, and a call takes a fifth of the processor's time.
 
-The last line is 'N passed, M failed'.
+The last line is 'N passed, M failed'. Two tools that always fail alike show nothing. So it is a failure too if no call was made, if
+most fail by both tools, if none compiles anything, or if none is split; with --only, that a call was made is enough.
 """
 import argparse
 import concurrent.futures
@@ -47,7 +48,11 @@ import subprocess
 import sys
 import tempfile
 import time
+from collections.abc import Iterable, Iterator
 from pathlib import Path
+from typing import Literal, TypedDict
+
+from runner import Counts
 
 SMALL_HEADER = (Path(__file__).resolve().parent / "small/cuda_runtime.h").read_text()
 SOURCES = {
@@ -83,14 +88,28 @@ SOURCES = {
 LAUNCHER = '#!/bin/sh\nprintf "%s\\n" "${1##*/}" >> "$COMPARE_LOG"\nexec "$@"\n'
 FIELDS = {"name", "setup", "after", "cwd", "tmp", "ours", "headers", "how", "launched", "differs"}
 OLD = 1_600_000_000
+# A kind, which is in capitals if it is a failure, and a text.
+Difference = tuple[str, str]
 
 
 class Call:
     """A line of a file of calls."""
 
-    def __init__(self, line, number):
+    name: str
+    setup: str
+    after: str
+    cwd: str
+    tmp: str
+    ours: str
+    headers: str
+    how: str
+    launched: str
+    differs: str
+
+    def __init__(self, line: str, number: int) -> None:
         self.line, self.number = line, number
-        self.env, self.unset = {}, []
+        self.env: dict[str, str] = {}
+        self.unset: list[str] = []
         for field in FIELDS:
             setattr(self, field, "")
         words = shell_words(line)
@@ -109,12 +128,30 @@ class Call:
         self.name = self.name or " ".join(words)
 
 
-def shell_words(line):
+class Ran(TypedDict):
+    """What a call by one of the tools did."""
+
+    status: int | str
+    out: str
+    err: str
+    made: dict[str, bytes]
+    gone: list[str]
+    left: list[str]
+    launched: str
+    reason: str | None
+    seconds: float
+    after: str
+
+
+Compared = tuple[Call, Ran, Ran, list[Difference], list[Difference]]
+
+
+def shell_words(line: str) -> list[str]:
     out = subprocess.run(["bash", "-c", "set -f; printf '%s\\0' " + line], capture_output=True, check=True).stdout
     return [word.decode("utf-8", "surrogateescape") for word in out.split(b"\0")[:-1]]
 
 
-def write_sources(folder, headers):
+def write_sources(folder: Path, headers: str) -> None:
     for name, text in SOURCES.items():
         if text is SMALL_HEADER and headers == "toolkit":
             continue
@@ -124,7 +161,7 @@ def write_sources(folder, headers):
         os.utime(path, (OLD, OLD))
 
 
-def state(path):
+def state(path: Path) -> str:
     """What a path holds, as a text that changes if it does."""
     try:
         return "link " + os.readlink(path) if path.is_symlink() else hashlib.sha256(path.read_bytes()).hexdigest()
@@ -132,7 +169,7 @@ def state(path):
         return f"unreadable {error.errno}"
 
 
-def tree(folder):
+def tree(folder: Path) -> dict[str, str]:
     """The files and empty folders below a folder, and what they hold."""
     found = {}
     for root, folders, files in os.walk(folder):
@@ -146,7 +183,7 @@ def tree(folder):
     return found
 
 
-def normal(text, base):
+def normal(text: str, base: Path) -> str:
     """A text without what differs between two calls of nvcc: names of temporary files, and times."""
     text = text.replace(str(base), "BASE")
     text = re.sub(r"(BASE/tmp|/tmp)/(zigrunk[-.]\w+(/zigrunk-\w+)?|tmpxft[^/ ]*?-\d+)[/_]?", "", text)
@@ -156,7 +193,7 @@ def normal(text, base):
     return re.sub(r", [0-9.]+ , ms", ", N , ms", text)
 
 
-def environment(call, base, log):
+def environment(call: Call, base: Path, log: Path) -> dict[str, str]:
     env = {name: value for name, value in os.environ.items() if not name.startswith("NVCC_")}
     env.update(TMPDIR=str(base / "work" / call.tmp if call.tmp else base / "tmp"), WORK=str(base / "work"))
     env.update(ZIGRUNK_EXPLAIN="1", ZIGRUNK_LAUNCHER=str(base / "launcher"), COMPARE_LOG=str(log))
@@ -166,13 +203,14 @@ def environment(call, base, log):
     return env
 
 
-def start(tool, call, base, env):
+def start(tool: str, call: Call, base: Path, env: dict[str, str]) -> tuple[int | str, str, str, float]:
     """The status of a call, what it printed, and the seconds that it took."""
     words = [word.replace("@WORK@", str(base / "work")) for word in call.words]
     argv = [tool, *words]
     if call.ours and env.get("TOOL"):
         argv = ["bash", "-c", call.ours, tool, *words]
     began = time.time()
+    status: int | str
     try:
         ran = subprocess.run(argv, cwd=base / "work" / call.cwd, env=env, stdin=subprocess.DEVNULL, capture_output=True, timeout=500)
         status, out, err = ran.returncode, ran.stdout, ran.stderr
@@ -183,11 +221,11 @@ def start(tool, call, base, env):
     return status, out.decode("utf-8", "replace"), err.decode("utf-8", "replace"), time.time() - began
 
 
-def content(path, what):
+def content(path: Path, what: str) -> bytes:
     return what.encode() if what == "folder" or what.startswith(("link", "unreadable")) else path.read_bytes()
 
 
-def keep_files(keep, call, kind, work, out, err):
+def keep_files(keep: Path, call: Call, kind: str, work: Path, out: str, err: str) -> None:
     folder = keep / str(call.number)
     shutil.rmtree(folder / kind, ignore_errors=True)
     folder.mkdir(parents=True, exist_ok=True)
@@ -196,7 +234,7 @@ def keep_files(keep, call, kind, work, out, err):
     (folder / f"{kind}.err").write_text(err)
 
 
-def run(tool, kind, call, base, keep):
+def run(tool: str, kind: str, call: Call, base: Path, keep: Path | None) -> Ran:
     """A call by one of the tools, as a record of what is compared."""
     work, tmp, log = base / "work", base / "tmp", base / f"{kind}.log"
     for folder in (work, tmp):
@@ -231,20 +269,20 @@ def run(tool, kind, call, base, keep):
         "gone": [name for name in before if name not in after],
         "left": sorted(normal(str(path.relative_to(tmp)), base) for path in tmp.rglob("*")) if tmp.exists() else [],
         "launched": " ".join(f"{name}:{launched.count(name)}" for name in sorted(set(launched))),
-        "reason": reason and reason.group(1),
+        "reason": reason.group(1) if reason else None,
         "seconds": seconds,
         "after": said_after,
     }
 
 
-def stripped(data, base):
+def stripped(data: bytes, base: Path) -> bytes | None:
     given, made = base / "given", base / "made"
     given.write_bytes(data)
     ran = subprocess.run(["objcopy", "--strip-unneeded", str(given), str(made)], capture_output=True)
     return made.read_bytes() if ran.returncode == 0 else None
 
 
-def symbols(data, base):
+def symbols(data: bytes, base: Path) -> str:
     path = base / "given"
     path.write_bytes(data)
     names = subprocess.run(["nm", "-S", str(path)], capture_output=True, text=True).stdout
@@ -252,7 +290,7 @@ def symbols(data, base):
     return re.sub(r"tmpxft\w+|x_0", "N", names + sizes)
 
 
-def likeness(one, other, base):
+def likeness(one: bytes, other: bytes, base: Path) -> str:
     """How two files are alike: 'bytes', 'stripped', 'symbols' or 'text'; else ''."""
     if one == other:
         return "bytes"
@@ -267,7 +305,7 @@ def likeness(one, other, base):
         return ""
 
 
-def file_differences(want, got, base):
+def file_differences(want: dict[str, bytes], got: dict[str, bytes], base: Path) -> Iterator[Difference]:
     for name in sorted(set(want) | set(got)):
         if name not in got:
             yield "FILE-LACKS", name
@@ -279,7 +317,7 @@ def file_differences(want, got, base):
             yield "CONTENT", name
 
 
-def said_differences(want, got):
+def said_differences(want: Ran, got: Ran) -> Iterator[Difference]:
     if (want["out"], want["err"]) == (got["out"], got["err"]):
         return
     wanted, given = (sorted((said["out"] + said["err"]).splitlines()) for said in (want, got))
@@ -291,20 +329,21 @@ def said_differences(want, got):
         yield "SAID", f"lacks {lacks}, has {extra} ({len(wanted)} and {len(given)} lines)"
 
 
-def differences(want, got, base):
-    """What differs, as pairs of a kind and a text. A kind in capitals is a failure."""
-    found = []
+def differences(want: Ran, got: Ran, base: Path) -> list[Difference]:
+    """What differs between two runs of a call."""
+    found: list[Difference] = []
     if want["status"] != got["status"]:
         found.append(("STATUS", f"{got['status']}, not {want['status']}"))
     found += file_differences(want["made"], got["made"], base)
     found += said_differences(want, got)
-    for field in ("gone", "left", "after"):
+    fields: tuple[Literal["gone", "left", "after"], ...] = ("gone", "left", "after")
+    for field in fields:
         if want[field] != got[field]:
             found.append((field.upper(), f"{got[field]}, not {want[field]}"[:300]))
     return found
 
 
-def claims(call, got):
+def claims(call: Call, got: Ran) -> Iterator[Difference]:
     """What a line says of our call that isn't so."""
     how = "nvcc" if got["reason"] else "split"
     if call.how and call.how != how:
@@ -313,12 +352,12 @@ def claims(call, got):
         yield "LAUNCHED", f"'{got['launched']}', not '{call.launched}'"
 
 
-def loud(found):
+def loud(found: Iterable[Difference]) -> set[str]:
     """The kinds of differences that are failures, unless the line names them."""
     return {kind for kind, _ in found if kind.isupper()}
 
 
-def compare(call, args):
+def compare(call: Call, args: argparse.Namespace) -> Compared:
     """A call by both tools: the records, what differs, and what differs between nvcc and nvcc."""
     base = Path(tempfile.mkdtemp(prefix="compare.", dir=args.scratch))
     keep = Path(args.keep) if args.keep else None
@@ -326,7 +365,7 @@ def compare(call, args):
         want = run(args.nvcc, "nvcc", call, base, keep)
         got = run(args.ours, "ours", call, base, keep)
         found = differences(want, got, base)
-        noise = []
+        noise: list[Difference] = []
         if not loud(found) <= set(call.differs.split(",")):
             noise = differences(want, run(args.nvcc, "noise", call, base, keep), base)
             found = [one for one in found if one not in noise or one[0] == "STATUS"]
@@ -336,7 +375,8 @@ def compare(call, args):
         shutil.rmtree(base, ignore_errors=True)
 
 
-def show(verdict, call, want, got, found, noise):
+def show(verdict: str, compared: Compared) -> None:
+    call, want, got, found, noise = compared
     how = f"nvcc: {got['reason'][:90]}" if got["reason"] else f"split: {got['launched']}"
     print(f"{call.number:3} {verdict} {want['seconds']:.2f} s, {got['seconds']:.2f} s  {call.line[:150]}  [{how}]")
     for kind, text in found:
@@ -346,51 +386,74 @@ def show(verdict, call, want, got, found, noise):
     sys.stdout.flush()
 
 
-def options():
+def path_of(name: str) -> str:
+    """The path of a tool. Calls run in other folders, so it is absolute."""
+    if found := shutil.which(name):
+        return os.path.abspath(found)
+    raise argparse.ArgumentTypeError(f"there is no program {name}")
+
+
+def options() -> argparse.Namespace:
     parser = argparse.ArgumentParser(usage=__doc__)
     parser.add_argument("files", nargs="+")
-    parser.add_argument("--nvcc", default=shutil.which("nvcc"))
-    parser.add_argument("--ours", default=str(Path(__file__).resolve().parent.parent / "bin/zigrunk-nvcc"))
+    parser.add_argument("--nvcc", type=path_of, default="nvcc")
+    parser.add_argument("--ours", type=path_of, default=str(Path(__file__).resolve().parent.parent / "bin/zigrunk-nvcc"))
     parser.add_argument("--only", default="")
     parser.add_argument("--keep")
-    parser.add_argument("--scratch")
+    parser.add_argument("--scratch", type=lambda name: os.path.abspath(name))
     parser.add_argument("--jobs", type=int, default=1)
     parser.add_argument("--json")
     parser.add_argument("--all", action="store_true")
     return parser.parse_args()
 
 
-def read_calls(args):
+def read_calls(args: argparse.Namespace) -> list[Call]:
     lines = [line for name in args.files for line in Path(name).read_text().splitlines()]
     calls = [Call(line, number) for number, line in enumerate((line for line in lines if line and line[0] != "#"), 1)]
     return [call for call in calls if args.only in call.line]
 
 
-def longest_first(calls):
+def longest_first(calls: list[Call]) -> list[Call]:
     """The calls, those for many targets first, so that none of them runs alone at the end."""
     return sorted(calls, key=lambda call: "-arch=all" not in call.line)
 
 
-def main():
+def shows_nothing(calls: int, failing: int, compiling: int, split: int) -> Iterator[str]:
+    """Why so many calls show nothing, though they are alike: by how many fail by both tools, make a file by nvcc, and are split."""
+    if failing * 2 > calls:
+        yield f"{failing} of {calls} calls fail by both tools"
+    if not compiling:
+        yield "no call compiles anything"
+    if not split:
+        yield "no call is split"
+
+
+def main() -> int:
     args = options()
     calls = longest_first(read_calls(args))
-    records, failed, split = [], 0, 0
+    counts, records = Counts(), []
+    failing = compiling = split = 0
     with concurrent.futures.ThreadPoolExecutor(args.jobs) as pool:
-        for call, want, got, found, noise in pool.map(lambda one: compare(one, args), calls):
+        for compared in pool.map(lambda one: compare(one, args), calls):
+            call, want, got, found, noise = compared
             kinds = loud(found)
             verdict = "same" if not kinds else "documented" if kinds <= set(call.differs.split(",")) else "DIFFERS"
-            failed += verdict == "DIFFERS"
+            counts.passed += verdict != "DIFFERS"
+            counts.failed += verdict == "DIFFERS"
+            failing += want["status"] != 0 and got["status"] != 0
+            compiling += want["status"] == 0 and bool(want["made"])
             split += not got["reason"]
             if args.all or verdict == "DIFFERS":
-                show(verdict, call, want, got, found, noise)
+                show(verdict, compared)
             records.append({"line": call.line, "verdict": verdict, "reason": got["reason"], "launched": got["launched"],
                             "status": [want["status"], got["status"]], "differences": found, "noise": noise,
                             "seconds": [want["seconds"], got["seconds"]]})
     if args.json:
         Path(args.json).write_text(json.dumps(records, indent=1))
     print(f"{split} of {len(calls)} calls were split")
-    print(f"{len(calls) - failed} passed, {failed} failed")
-    return failed != 0
+    if calls and not args.only and (nothing := [*shows_nothing(len(calls), failing, compiling, split)]):
+        counts.case("", nothing)
+    return counts.summary()
 
 
 if __name__ == "__main__":

@@ -135,10 +135,10 @@ begin() {
 
 # end_case: counts the case that has begun.
 end_case() {
-    local found=${problems:+$'\n'}${problems%$'\n'}
+    local found=${problems%$'\n'}
     cd "$scratch" || exit 1
     unset problems
-    count "${shell[*]}: $name" "$found"
+    count "${shell[*]}: $name" "${found#  }"
     [ -z "$found" ] || [ -z "${STOP_EARLY-}" ] || end_shell
 }
 

@@ -1,0 +1,92 @@
+#!/usr/bin/env bash
+# Tests that the tests can't pass without showing something: what tests/lib.sh and tests/runner.py count, and tests/compare_calls.py with
+# stand-ins for nvcc and zigrunk-nvcc. Prints a line for each case that fails, and last 'N passed, M failed'.
+set -u
+cd "$(dirname "$0")/.." || exit 1
+. tests/lib.sh
+
+# ends NAME STATUS TEXT COMMAND..: a case: how a command ends, and the end of what it prints.
+ends() {
+    local said status
+    said=$("${@:4}" 2>&1)
+    status=$?
+    [[ $status == "$2" && $said == *"$3" ]] && said='' || said="status $status, not $2, and '$said' doesn't end in '$3'"
+    count "$1" "$said"
+}
+
+# by_library COMMANDS: runs commands of tests/lib.sh. They find a file with a last line, written by `last STATUS LINE`.
+by_library() {
+    # shellcheck disable=SC2016 # for bash
+    bash -c '. tests/lib.sh; last() { echo "$2" > "$scratch/it"; add "$1" "$scratch/it"; }; '"$1"
+}
+
+ends 'a script without a case' 1 $'no case ran\n0 passed, 1 failed' by_library summary
+ends 'a script with cases' 1 $'second: wrong\n1 passed, 1 failed' by_library 'count first ""; count second wrong; summary'
+ends 'cases that all pass' 0 '2 passed, 0 failed' by_library 'check one true; same two x x; summary'
+ends 'a command that fails' 1 $'one: failed\nwhy\n0 passed, 1 failed' by_library 'check one sh -c "echo why; exit 3"; summary'
+ends 'texts that differ' 1 $'one: \'x\', not \'y\'\n0 passed, 1 failed' by_library 'same one x y; summary'
+ends 'a script that is skipped' 0 '0 passed, 0 failed, 1 skipped' by_library 'require it no-such-tool; echo on'
+# shellcheck disable=SC2016 # for bash
+ends 'a case of several texts' 1 $'sh: it: one: \'x\', not \'y\'\n  two: \'x\', not \'z\'\n0 passed, 1 failed' \
+    by_library 'shell=(sh); room=$scratch/room; begin it; same one x y; same two x z; same three x x; end_case; summary'
+ends 'counts of another script' 1 '4 passed, 2 failed' by_library 'last 1 "4 passed, 2 failed"; summary'
+ends 'another script that is skipped' 0 '1 passed, 0 failed' by_library 'count it ""; last 0 "0 passed, 0 failed, 1 skipped"; summary'
+ends 'another script without a case' 1 '0 passed, 1 failed' by_library 'last 0 "0 passed, 0 failed"; summary'
+ends 'another script without a last line' 1 '0 passed, 1 failed' by_library 'last 0 "all is well"; summary'
+ends 'a status of 1 without a failure' 1 '0 passed, 1 failed' by_library 'last 1 "4 passed, 0 failed"; summary'
+ends 'a status of 0 with a failure' 1 '0 passed, 1 failed' by_library 'last 0 "4 passed, 2 failed"; summary'
+
+# by_module CODE: runs code of Python that uses tests/runner.py.
+by_module() {
+    PYTHONPATH=tests PYTHONDONTWRITEBYTECODE=1 python3 -c "import runner, sys; counts = runner.Counts(); $1; sys.exit(counts.summary())"
+}
+
+# The stand-ins: what is compiled is copied, through TMPDIR.
+cat > "$scratch/nvcc" << 'END_OF_NVCC'
+#!/bin/sh
+set -e
+[ "$1" != --version ] || exit 0
+cp "$2" "$TMPDIR/it"
+mv "$TMPDIR/it" "$4"
+END_OF_NVCC
+{
+    cat "$scratch/nvcc"
+    # shellcheck disable=SC2016 # for sh
+    echo '[ -z "$WORSE" ] || echo more >> "$4"; [ -z "$WHOLE" ] || echo "zigrunk-nvcc: nvcc itself: $WHOLE" >&2'
+} > "$scratch/ours"
+chmod +x "$scratch/nvcc" "$scratch/ours"
+compile='-c kernel.cu -o k.o'
+fail='-c missing.cu -o k.o'
+
+# compares [NAME=VALUE..] OPTIONS.. LINE LINE LINE: compares three calls.
+compares() {
+    printf '%s\n' "${@: -3}" > "$scratch/calls"
+    env WORSE= WHOLE= PYTHONDONTWRITEBYTECODE=1 tests/compare_calls.py --nvcc "$scratch/nvcc" --ours "$scratch/ours" "${@:1:$# - 3}" "$scratch/calls"
+}
+
+# in_scratch COMMAND..: runs a command of tests/compare_calls.py where a relative scratch folder is.
+in_scratch() {
+    local tests=$PWD/tests
+    mkdir "$scratch/here" "$scratch/here/room"
+    printf '%s\n' "$compile" "$compile" "$compile" > "$scratch/here/calls"
+    (cd "$scratch/here" && env WORSE= WHOLE= PYTHONDONTWRITEBYTECODE=1 "$tests/compare_calls.py" --nvcc ../nvcc --ours ../ours --scratch room calls)
+}
+
+if command -v python3 > /dev/null; then
+    ends 'a module without a case' 1 $'no case ran\n0 passed, 1 failed' by_module pass
+    ends 'a module with cases' 1 $'second: wrong\n1 passed, 1 failed' by_module 'counts.case("first", []); counts.case("second", ["wrong"])'
+    ends 'calls that compile' 0 $'3 of 3 calls were split\n3 passed, 0 failed' compares "$compile" "$fail" "$compile"
+    ends 'a call that differs' 1 '2 passed, 1 failed' compares "$compile" "@env=WORSE=yes $compile" "$compile"
+    ends 'most calls fail by both tools' 1 $'2 of 3 calls fail by both tools\n3 passed, 1 failed' compares "$compile" "$fail" "$fail"
+    ends 'no call compiles' 1 $'no call compiles anything\n3 passed, 1 failed' compares --version --version --version
+    ends 'no call is split' 1 $'no call is split\n3 passed, 1 failed' \
+        compares "@env=WHOLE=why $compile" "@env=WHOLE=why $compile" "@env=WHOLE=why $compile"
+    ends 'a chosen call that fails' 0 '1 passed, 0 failed' compares --only missing "$compile" "$fail" "$compile"
+    ends 'no chosen call' 1 $'no case ran\n0 passed, 1 failed' compares --only nothing "$compile" "$fail" "$compile"
+    ends 'a list without a call' 1 $'no case ran\n0 passed, 1 failed' compares '' '# nothing' ''
+    ends 'a nvcc that is missing' 2 "there is no program $scratch/none" compares --nvcc "$scratch/none" "$compile" "$compile" "$compile"
+    ends 'relative paths' 0 '3 passed, 0 failed' in_scratch
+else
+    skip 'tests in Python' 'python3 is not on the path'
+fi
+summary
