@@ -4,7 +4,8 @@
 FOLDER is the repository, or a copy of its crates/test_lines and crates/test_plans. The README of test_lines' data says how
 cases are written. Each case that a call of zigrunk.h answers too is made by the binding for Python, and the answer has to be
 what the case expects. Prints a line for each wrong answer, then how many cases of each kind it made and how many have no call
-in C. The status is 1 if an answer is wrong, if one of wrong_cases.txt is taken for right, or if too few cases were made.
+in C, and last 'N passed, M failed': a case that it makes, a kind or a file counts once. The status is 1 if an answer is wrong, if one
+of wrong_cases.txt is taken for right, or if too few cases were made.
 ZIGRUNK_LIBRARY has to name the shared object, and PYTHONPATH the binding's folder."""
 
 import collections
@@ -13,8 +14,11 @@ import json
 import os
 import re
 import sys
+from collections.abc import Callable, Iterator
+from typing import Any
 
 import zigrunk
+from runner import Counts
 from zigrunk import Status, Tool
 
 ROOT = os.path.abspath(sys.argv[1] if len(sys.argv) > 1 else os.path.join(os.path.dirname(__file__), ".."))
@@ -24,14 +28,15 @@ STANDARD = [".cpp1.ii", ".cpp4.ii", ".cudafe1.c", ".cudafe1.cpp", ".cudafe1.stub
 TOOLS = {"cicc": Tool.CICC, "cudafe++": Tool.CUDAFE, "ptxas": Tool.PTXAS, "nvcc": Tool.NVCC, "nvc": Tool.NVC, "nvc++": Tool.NVCXX}
 LANGUAGES = {"C": "c", "Cxx": "c++", "ObjectiveC": "objc", "ObjectiveCxx": "objc++", "Cuda": "cuda", "CudaFE": "cuda", "Ptx": "ptx",
              "Cubin": "cubin"}
-LANGUAGE_FACTS = {zigrunk.Language.C: "C", zigrunk.Language.CXX: "Cxx", zigrunk.Language.OBJC: "ObjectiveC",
-                  zigrunk.Language.OBJCXX: "ObjectiveCxx", zigrunk.Language.CUDA: "Cuda", zigrunk.Language.CUDAFE: "CudaFE",
-                  zigrunk.Language.PTX: "Ptx", zigrunk.Language.CUBIN: "Cubin"}
+LANGUAGE_FACTS: dict[int, str] = {
+    zigrunk.Language.C: "C", zigrunk.Language.CXX: "Cxx", zigrunk.Language.OBJC: "ObjectiveC", zigrunk.Language.OBJCXX: "ObjectiveCxx",
+    zigrunk.Language.CUDA: "Cuda", zigrunk.Language.CUDAFE: "CudaFE", zigrunk.Language.PTX: "Ptx", zigrunk.Language.CUBIN: "Cubin"}
 # the outputs of a line in the order of facts
 KEYS = ["obj", "d", "--gen_c_file_name", "--gen_device_file_name", "--module_id_file_name", "--stub_file_name"]
 HOSTS = {"gcc": zigrunk.HostCompiler.GCC, "msvc": zigrunk.HostCompiler.MSVC, "nvhpc": zigrunk.HostCompiler.NVHPC}
-REASONS = {zigrunk.Reason.NOT_CUDA: "NotCuda", zigrunk.Reason.NO_CICC_GROUP: "NoCiccGroup",
-           zigrunk.Reason.NO_PTXAS_GROUP: "NoPtxasGroup", zigrunk.Reason.SUPERSEDED: "Superseded"}
+REASONS: dict[int | None, str] = {
+    zigrunk.Reason.NOT_CUDA: "NotCuda", zigrunk.Reason.NO_CICC_GROUP: "NoCiccGroup", zigrunk.Reason.NO_PTXAS_GROUP: "NoPtxasGroup",
+    zigrunk.Reason.SUPERSEDED: "Superseded"}
 # what the messages of a dry run, a look-up and a list of suffixes are; the others are of a line
 FAULTS = [(r"run \d+ line \d+: (not UTF-8|no PATH)|Could not (parse|split) shell line", Status.BAD_DRY_RUN),
           (r".*: not found", Status.NOT_FOUND), ("bad generated suffixes", Status.BAD_SUFFIXES), (".*", Status.BAD_LINE)]
@@ -44,17 +49,24 @@ WHOLE = {"candidates": 7, "c_quote": 4, "c_split": 8, "files": 6, "lookups": 4, 
          "reread": 14, "split": 77}
 PART = {"normal_form": 120, "read": 60, "read_within": 24, "suffixes": 18, "write": 74}
 
+# What a case expects, a list for each fact; a value of JSON, by its members; a status, and the answer or the message; and a kind, the
+# expected answer and the answer.
+Facts = list[list[str]]
+Json = dict[str, Any]
+Answer = tuple[int, Any]
+Result = tuple[str, object, object]
 
-def unescaped(text, number):
+
+def unescaped(text: str, number: int) -> str:
     """The word that a text with escapes means, in the repetition with this number."""
     if "%" not in text:
         return text
     return re.sub("%(.)", lambda it: str(number + int(it[1])) if it[1] in "01" else ESCAPES[it[1]], text)
 
 
-def words_of(text, number=0):
+def words_of(text: str, number: int = 0) -> list[str]:
     """The words of a case's text."""
-    words = []
+    words: list[str] = []
     for part in text.split(" "):
         if part.startswith("%*"):
             count, word = part[2:].split("*", 1)
@@ -72,21 +84,22 @@ def words_of(text, number=0):
 class Case:
     """A case: a call, its settings and words, and the expected facts."""
 
-    def __init__(self, folder, file, number, line):
+    def __init__(self, folder: str, file: str, number: int, line: str) -> None:
         question, _, answer = line.partition(" => ")
         settings, _, words = question.removesuffix(" :").partition(" : ")
         self.call, _, settings = settings.partition(" ")
         self.folder, self.file, self.number = folder, file, number
-        self.settings, self.words, self.facts = words_of(settings), words_of(words), []
+        self.settings, self.words = words_of(settings), words_of(words)
+        self.facts: Facts = []
         if answer:
             self.read_facts(answer, 0)
 
-    def read_facts(self, text, number):
+    def read_facts(self, text: str, number: int) -> None:
         self.facts += [words_of(fact, number) for fact in text.split(" ; ")]
 
-    def add(self, line):
+    def add(self, line: str) -> None:
         """Takes an indented line."""
-        count = 1
+        count = "1"
         if line.startswith("*"):
             count, line = line[1:].split(" ", 1)
         for number in range(int(count)):
@@ -98,9 +111,9 @@ class Case:
                 self.read_facts(line, number)
 
 
-def cases_of(folder, file):
+def cases_of(folder: str, file: str) -> list[Case]:
     """The cases of a file."""
-    cases = []
+    cases: list[Case] = []
     with open(os.path.join(folder, file), encoding="utf-8", newline="") as text:
         for number, line in enumerate(text.read().split("\n"), 1):
             line = line.removesuffix("\r")
@@ -111,7 +124,7 @@ def cases_of(folder, file):
     return cases
 
 
-def told(call, *arguments, **more):
+def told(call: Callable[..., object], *arguments: object, **more: object) -> Answer:
     """What a call answers: its status, and the answer or the message."""
     try:
         return Status.OK, call(*arguments, **more)
@@ -119,13 +132,13 @@ def told(call, *arguments, **more):
         return error.number, str(error)
 
 
-def fault(words):
+def fault(words: list[str]) -> Answer:
     """The status and the message of a fact `fault`."""
     message = " ".join(words)
     return next(status for form, status in FAULTS if re.fullmatch(form, message, re.DOTALL)), message
 
 
-def refused(case, limit=None):
+def refused(case: Case, limit: object = None) -> Answer | None:
     """The status and the message of a case that is refused, or None. The library's message names the limit too."""
     name, *words = case.facts[0]
     if name == "too-long":
@@ -133,9 +146,10 @@ def refused(case, limit=None):
     return fault(words) if name == "fault" else None
 
 
-def split_settings(settings):
+def split_settings(settings: list[str]) -> tuple[list[tuple[str, str]], dict[str, list[str]]]:
     """The variables among settings, and the others as lists by name."""
-    variables, others = [], collections.defaultdict(list)
+    variables: list[tuple[str, str]] = []
+    others: dict[str, list[str]] = collections.defaultdict(list)
     for setting in settings:
         name, _, value = setting.partition("=")
         if name.startswith("$"):
@@ -145,9 +159,9 @@ def split_settings(settings):
     return variables, others
 
 
-def parts_of(words):
+def parts_of(words: list[str]) -> list[list[str]]:
     """Splits words into lists at each `||`."""
-    parts = [[]]
+    parts: list[list[str]] = [[]]
     for word in words:
         if word == "||":
             parts.append([])
@@ -156,7 +170,7 @@ def parts_of(words):
     return parts
 
 
-def dry_run(words):
+def dry_run(words: list[str]) -> bytes:
     """The bytes of a dry run: words with blanks between them, but none behind a newline or beside a byte."""
     run, blank = bytearray(), b""
     for word in words:
@@ -169,21 +183,21 @@ def dry_run(words):
     return bytes(run)
 
 
-def dry_runs(case, others):
+def dry_runs(case: Case, others: dict[str, list[str]]) -> list[bytes]:
     """The dry runs of a case: of files beside the cases, or of its words."""
     if others["file"]:
         return [open(os.path.join(case.folder, name), "rb").read() for name in others["file"]]
     return [dry_run(part) for part in parts_of(case.words)]
 
 
-def further(suffixes):
+def further(suffixes: list[str]) -> list[str] | None:
     """The suffixes behind the standard ones, or None if these don't come first."""
     if not suffixes:
         return []
     return [it for name in suffixes[1:] for it in (STANDARD if name == "standard" else [name])] if suffixes[0] == "standard" else None
 
 
-def first_dir(lookup, cwd):
+def first_dir(lookup: zigrunk.Lookup, cwd: str) -> str | None:
     """Where test_plans expects a program: a path counts from the directory, a name is in the first part of PATH."""
     part = lookup.path.split(":")[0] if "/" not in lookup.program else cwd
     if part == "" and "/" not in lookup.program:
@@ -194,21 +208,21 @@ def first_dir(lookup, cwd):
 # ---- words ----
 
 
-def split(case):
-    expected = (Status.OK, case.facts[0][1:]) if case.facts[0][0] == "words" else (Status.OPEN_QUOTE, OPEN_QUOTE)
+def split(case: Case) -> list[Result]:
+    expected: Answer = (Status.OK, case.facts[0][1:]) if case.facts[0][0] == "words" else (Status.OPEN_QUOTE, OPEN_QUOTE)
     if case.facts[0][0] == "status":
         expected = int(case.facts[0][1]), " ".join(case.facts[1][1:])
     return [(case.call, expected, told(zigrunk.split, case.settings[0]))]
 
 
-def quote(case):
+def quote(case: Case) -> list[Result]:
     return [(case.call, (Status.OK, case.facts[0][1]), told(zigrunk.quote, case.settings))]
 
 
 # ---- lines ----
 
 
-def refusal(facts):
+def refusal(facts: Facts) -> str | None:
     """The message of a line that isn't read, or None."""
     if facts[0] == ["not", "a", "compilation"]:
         return "not a compilation"
@@ -217,7 +231,7 @@ def refusal(facts):
     return None
 
 
-def facts_of_line(said):
+def facts_of_line(said: Json) -> Facts:
     """What the JSON of a line says, as facts."""
     facts = [[said["language"], said["input"]]]
     facts += [["dashes"]] if said["double_dash_input"] else []
@@ -238,20 +252,22 @@ def facts_of_line(said):
     return facts + ([["too-hard", too_hard]] if too_hard is not None else [])
 
 
-def members_of(line):
+def members_of(line: zigrunk.Line) -> Json:
     """The records of a line, as the JSON form has them."""
-    members = dataclasses.asdict(line) | {"version": 1, "color_mode": line.color_mode.name.lower()}
+    members = dataclasses.asdict(line) | {"version": 1, "color_mode": zigrunk.ColorMode(line.color_mode).name.lower()}
     members["language"] = LANGUAGES[LANGUAGE_FACTS[line.language]]
-    return json.loads(json.dumps(members))
+    plain: Json = json.loads(json.dumps(members))
+    return plain
 
 
-def parse(case):
+def parse(case: Case) -> list[Result]:
     tool, cwd, *settings = case.settings
     if tool not in TOOLS:
         return []
     line = TOOLS[tool], cwd, case.words, split_settings(settings)[0]
     (status, said), (records_status, records) = told(zigrunk.line, *line), told(zigrunk.line_records, *line)
     message = refusal(case.facts)
+    expected: Answer
     if message is not None:
         expected = Status.BAD_LINE, message
         return [("parse", expected, (status, said)), ("parse as records", expected, (records_status, records))]
@@ -260,11 +276,11 @@ def parse(case):
     if records_status == Status.OK:
         # the records tell more languages apart than the JSON form, and say the same else
         facts = facts_of_line(members_of(records) | {"language": LANGUAGE_FACTS[records.language]})
-        records = facts if members_of(records) == json.loads(said) else ["not what the JSON form says", records]
+        records = facts if members_of(records) == json.loads(said) else [["not what the JSON form says", records]]
     return [("parse", expected, got), ("parse as records", (Status.OK, case.facts), (records_status, records))]
 
 
-def line_of(case):
+def line_of(case: Case) -> tuple[Tool, str, list[str], list[tuple[str, str]]] | None:
     """The arguments of a call on a line that C can make, or None. C replaces no part of what the line says."""
     tool, cwd, *settings = case.settings
     variables, others = split_settings(settings)
@@ -273,7 +289,7 @@ def line_of(case):
     return TOOLS[tool], cwd, case.words, variables
 
 
-def own_input(line, canonical, words):
+def own_input(line: tuple[Tool, str, list[str], list[tuple[str, str]]], canonical: list[str], words: list[str]) -> list[str]:
     """Expected words with the line's own path of the input, which C writes, in the place of the canonical one at the end."""
     if line[0] != Tool.NVCC or words[-1:] != canonical:
         return words
@@ -281,11 +297,12 @@ def own_input(line, canonical, words):
     return words[:-1] + [own] if own in line[2] else words
 
 
-def write(case):
+def write(case: Case) -> list[Result]:
     line = line_of(case)
     if line is None:
         return []
     name, *words = case.facts[0]
+    expected: Answer
     if name == "fault":
         expected = fault(words)
     elif refusal(case.facts) is not None:
@@ -295,7 +312,7 @@ def write(case):
     return [("write", expected, told(zigrunk.line_words, *line))]
 
 
-def reread(case):
+def reread(case: Case) -> list[Result]:
     line = line_of(case)
     if line is None:
         return []
@@ -306,7 +323,7 @@ def reread(case):
     return [("reread", case.facts, [["yes" if same else "no"]])]
 
 
-def dry_run_of(cwd, words):
+def dry_run_of(cwd: str, words: list[str]) -> Answer:
     """The command of the first dry run of a normal form, by its two other calls: their answers are the cases of lines."""
     status, written = told(zigrunk.line_words, Tool.NVCC, cwd, words)
     if status != Status.OK:
@@ -317,16 +334,17 @@ def dry_run_of(cwd, words):
     return status, f"( unset NVCC_PREPEND_FLAGS NVCC_APPEND_FLAGS; cd {zigrunk.quote([cwd])} && {command} )"
 
 
-def files_of(command):
+def files_of(command: str) -> list[str]:
     """The input and the output of a dry run's command, by their paths from /w."""
     words = zigrunk.split(command)
     return [it.removeprefix("/w/") for it in (words[words.index("--dryrun") - 1], words[words.index("-o") + 1])]
 
 
-def normal_form(case):
+def normal_form(case: Case) -> list[Result]:
     status, said = told(zigrunk.nvcc_line, "/w", "/t", "nvcc", case.words, split_settings(case.settings)[0])
     got = (status, [said.flag, *files_of(said.first_dry_run), said.first_dry_run] if status == Status.OK else said)
     name, *words = case.facts[0]
+    expected: Answer
     if name == "pass":
         expected = Status.TO_NVCC, "goes to nvcc: " + " ".join(words)
     elif told(zigrunk.line, Tool.NVCC, "/w", case.facts[1][1:])[0] == Status.BAD_LINE:
@@ -341,7 +359,7 @@ def normal_form(case):
 # ---- plans ----
 
 
-def records_facts(plan, whole):
+def records_facts(plan: zigrunk.Plan, whole: bool) -> Facts:
     """The records of a plan, as facts."""
     facts = []
     for number, group in enumerate(plan.groups):
@@ -357,7 +375,7 @@ def records_facts(plan, whole):
     return facts if stages == [0] + [1] * (len(stages) - 2) + [2] else [["stages", *map(str, stages)]]
 
 
-def json_facts(plan, whole):
+def json_facts(plan: Json, whole: bool) -> Facts:
     """The JSON of a plan, as facts."""
     facts = []
     for number in range(plan["groups"]):
@@ -371,7 +389,7 @@ def json_facts(plan, whole):
     return facts
 
 
-def text_of_facts(facts):
+def text_of_facts(facts: Facts) -> str:
     """A plan's text, by the facts of the plan."""
     text = ""
     for name, *words in facts:
@@ -384,7 +402,7 @@ def text_of_facts(facts):
     return text
 
 
-def plan_call(case, suffixes, others, variables):
+def plan_call(case: Case, suffixes: list[str], others: dict[str, list[str]], variables: list[tuple[str, str]]) -> zigrunk.PlanCall:
     first, *second = dry_runs(case, others)
     cwd, tmp, flag = case.settings[:3]
     keep = others["keep"][-1] if others["keep"] else None
@@ -393,7 +411,7 @@ def plan_call(case, suffixes, others, variables):
     return zigrunk.PlanCall(first, second[0] if second else first, cwd, tmp, flag, keep, variables, suffixes, host, limit)
 
 
-def plan(case):
+def plan(case: Case) -> list[Result]:
     variables, others = split_settings(case.settings[3:])
     suffixes = further(others["suffix"])
     if suffixes is None:
@@ -404,15 +422,16 @@ def plan(case):
     expected = refused(case, call.limit)
     if expected is not None:
         return [("plan as records", expected, records), ("plan as JSON", expected, text), ("plan as text", expected, lines)]
-    return [
+    results: list[Result] = [
         ("plan as records", (Status.OK, case.facts), (records[0], records_facts(records[1], whole) if records[0] == 0 else records[1])),
         ("plan as JSON", (Status.OK, case.facts), (text[0], json_facts(json.loads(text[1]), whole) if text[0] == 0 else text[1])),
         # a text has no environments
         ("plan as text", (Status.OK, text_of_facts(case.facts)), lines),
-    ][: 2 if case.file == WRONG and whole else 3]
+    ]
+    return results[:2] if case.file == WRONG and whole else results
 
 
-def plan_text(case):
+def plan_text(case: Case) -> list[Result]:
     variables, others = split_settings(case.settings[3:])
     suffixes = [it for name in others["suffix"] for it in (STANDARD if name == "standard" else [name])]
     status, text = told(zigrunk.plan, plan_call(case, suffixes, others, variables), zigrunk.Form.TEXT, first_dir)
@@ -426,7 +445,7 @@ def plan_text(case):
     return [("plan_text", (Status.OK, case.facts), (status, got))]
 
 
-def files_and_needs(case):
+def files_and_needs(case: Case) -> list[Result]:
     variables, others = split_settings(case.settings[3:])
     suffixes = further(others["suffix"])
     if suffixes is None:
@@ -445,7 +464,7 @@ def files_and_needs(case):
     return [(case.call, case.facts, facts)]
 
 
-def read(case):
+def read(case: Case) -> list[Result]:
     """A dry run that can't be read, as one of the two of a plan. The other is empty."""
     number, cwd, *settings = case.settings
     if case.facts[0][0] != "fault" or number not in ("1", "2"):
@@ -455,7 +474,7 @@ def read(case):
     return [("read", fault(case.facts[0][1:]), told(zigrunk.plan_records, call, first_dir))]
 
 
-def read_within(case):
+def read_within(case: Case) -> list[Result]:
     """A dry run that is read within a limit, as one of the two of a plan: whether it fits, and else what is said. The other is empty."""
     number, cwd, limit, *settings = case.settings
     if limit == "0" or number not in ("1", "2"):
@@ -469,7 +488,7 @@ def read_within(case):
     return [("read_within", expected, (status, plan))]
 
 
-def rename(case):
+def rename(case: Case) -> list[Result]:
     suffixes = further(split_settings(case.settings)[1]["suffix"])
     if suffixes is None:
         return []
@@ -480,7 +499,7 @@ def rename(case):
     return [("rename", (Status.OK, case.facts), (status, got))]
 
 
-def suffixes(case):
+def suffixes(case: Case) -> list[Result]:
     more = further(case.settings)
     if not case.settings or more is None:
         return []
@@ -488,15 +507,16 @@ def suffixes(case):
     return [("suffixes", expected, told(zigrunk.remap, [], more))]
 
 
-def candidates(case):
+def candidates(case: Case) -> list[Result]:
     program, path, cwd = case.settings
     return [("candidates", (Status.OK, case.facts[0][1:]), told(zigrunk.candidates, zigrunk.Lookup(program, path), cwd))]
 
 
-def lookups(case):
+def lookups(case: Case) -> list[Result]:
     cwd, folder, *settings = case.settings
     got = []
-    for lookup in zigrunk.lookups(*dry_runs(case, split_settings(settings)[1]), cwd):
+    first, second = dry_runs(case, split_settings(settings)[1])
+    for lookup in zigrunk.lookups(first, second, cwd):
         there = [path for path in zigrunk.candidates(lookup, cwd) if path.rpartition("/")[0] == folder]
         got.append(["finds", lookup.program, there[0]] if there else ["misses", lookup.program])
     return [("lookups", case.facts, got)]
@@ -505,12 +525,12 @@ def lookups(case):
 CALLS = {
     "split": split, "c_split": split, "quote": quote, "c_quote": quote, "parse": parse, "write": write, "write_whole": write,
     "reread": reread, "normal_form": normal_form, "plan": plan, "plan_whole": plan, "plan_text": plan_text,
-    "files": files_and_needs, "needs": files_and_needs, "read": read, "read_whole": read, "read_within": read_within, "rename": rename, "suffixes": suffixes,
-    "candidates": candidates, "lookups": lookups,
+    "files": files_and_needs, "needs": files_and_needs, "read": read, "read_whole": read, "read_within": read_within, "rename": rename,
+    "suffixes": suffixes, "candidates": candidates, "lookups": lookups,
 }
 
 
-def answers(case):
+def answers(case: Case) -> list[Result]:
     """What a call of C answers to a case: a kind, the expected answer and the answer, for each way to make it."""
     try:
         return CALLS[case.call](case) if case.call in CALLS else []
@@ -521,44 +541,47 @@ def answers(case):
 class Report:
     """How many cases were made, by kind, and what went wrong."""
 
-    def __init__(self):
-        self.made, self.found_wrong = collections.Counter(), collections.Counter()
-        self.cases = self.without = self.failures = 0
+    def __init__(self) -> None:
+        self.made: collections.Counter[str] = collections.Counter()
+        self.found_wrong: collections.Counter[str] = collections.Counter()
+        self.counts = Counts()
+        self.cases = self.without = 0
 
-    def fail(self, text):
-        self.failures += 1
-        print(text if len(text) < 2000 else text[:2000] + " ..")
-
-    def take(self, case):
-        self.cases += 1
-        results = answers(case)
-        self.without += not results
+    def findings(self, case: Case, results: list[Result]) -> Iterator[str]:
         for kind, expected, got in results:
             if case.file != WRONG:
                 self.made[kind] += 1
                 if expected != got:
-                    self.fail(f"{case.file}:{case.number}: {kind}: expected {expected}, but got {got!r}")
+                    yield f"{kind}: expected {expected}, but got {got!r}"
             elif expected != got:
                 self.found_wrong[kind] += 1
             elif kind in WHOLE:
-                self.fail(f"{case.file}:{case.number}: {kind}: right, but meant to be wrong: {got!r}")
+                yield f"{kind}: right, but meant to be wrong: {got!r}"
 
-    def finish(self):
+    def take(self, case: Case) -> None:
+        self.cases += 1
+        results = answers(case)
+        if not results:
+            self.without += 1
+            return
+        found = self.findings(case, results)
+        self.counts.case(f"{case.file}:{case.number}", [it if len(it) < 2000 else it[:2000] + " .." for it in found])
+
+    def finish(self) -> int:
         for kind, least in {**WHOLE, **PART}.items():
-            if self.made[kind] < least:
-                self.fail(f"{kind}: only {self.made[kind]} cases, but there were {least}")
+            print(f"{kind}: {self.made[kind]}, and {self.found_wrong[kind]} found to be wrong")
+            found = [f"only {self.made[kind]} cases, but there were {least}"] * (self.made[kind] < least)
             # no wrong list of suffixes begins with the standard ones
             if not self.found_wrong[kind] and kind != "suffixes":
-                self.fail(f"{kind}: no case of {WRONG} was found to be wrong")
-            print(f"{kind}: {self.made[kind]}, and {self.found_wrong[kind]} found to be wrong")
+                found.append(f"no case of {WRONG} was found to be wrong")
+            self.counts.case(kind, found)
         for kind in self.made.keys() - WHOLE.keys() - PART.keys():
-            self.fail(f"{kind}: a kind without a least number")
-        made = self.cases - self.without
-        print(f"{self.cases} cases: {made} made through C, {self.without} without a call in C, {self.failures} failures")
-        return 1 if self.failures else 0
+            self.counts.case(kind, ["a kind without a least number"])
+        print(f"{self.cases} cases: {self.cases - self.without} made through C, {self.without} without a call in C")
+        return self.counts.summary()
 
 
-def main():
+def main() -> int:
     report = Report()
     for program in "test_lines", "test_plans":
         crate = os.path.join(ROOT, "crates", program)
@@ -568,8 +591,8 @@ def main():
             files = names.read().split()
         for file in files:
             cases = cases_of(os.path.join(crate, "data"), file)
-            if str(len(cases)) != counts.get(file):
-                report.fail(f"{file}: {len(cases)} cases, but {program} has {counts.get(file)}")
+            differs = str(len(cases)) != counts.get(file)
+            report.counts.case(file, [f"{len(cases)} cases, but {program} has {counts.get(file)}"] * differs)
             for case in cases:
                 report.take(case)
     return report.finish()

@@ -257,7 +257,7 @@ def run(tool: str, kind: str, call: Call, base: Path, keep: Path | None) -> Ran:
         said_after = normal(ran.stdout + ran.stderr, base)
     reason = re.search(r"^zigrunk-nvcc: nvcc itself: (.*)\n", err, re.M)
     if reason:
-        err = err[: reason.start()] + err[reason.end() :]
+        err = err[: reason.start()] + err[reason.end():]
     if keep:
         keep_files(keep, call, kind, work, out, err)
     launched = sorted(log.read_text().splitlines()) if log.exists() else []

@@ -7,46 +7,49 @@ Prints a line for each finding, and last 'N passed, M failed': a page or a kind 
 import os
 import re
 import sys
+from collections.abc import Iterable, Iterator
+
+from runner import Counts
 
 TOP = os.path.realpath(f"{os.path.dirname(os.path.realpath(__file__))}/..")
 PAGES = ["README.md", "CHANGELOG.md", "CONTRIBUTING.md", *(f"docs/{name}" for name in sorted(os.listdir(f"{TOP}/docs")) if name.endswith(".md"))]
 
 
-def text_of(path):
+def text_of(path: str) -> str:
     with open(f"{TOP}/{path}", encoding="utf-8") as file:
         return file.read()
 
 
-def files_below(folder, suffix):
+def files_below(folder: str, suffix: str) -> list[str]:
     """Returns the files below a folder with a suffix, as paths below it without the suffix."""
-    found = []
+    found: list[str] = []
     for place, _, names in os.walk(f"{TOP}/{folder}"):
         found += [os.path.relpath(f"{place}/{name}", f"{TOP}/{folder}").removesuffix(suffix) for name in names if name.endswith(suffix)]
     return sorted(found)
 
 
-def words_in_code(text):
+def words_in_code(text: str) -> list[str]:
     return re.findall(r"`([^`\n]+)`", text)
 
 
-def crates():
+def crates() -> list[str]:
     lines = (line.split("#")[0] for line in text_of("crates.txt").splitlines())
     return [line.split(":")[0].split()[0] for line in lines if ":" in line]
 
 
-def sources_of(crate):
+def sources_of(crate: str) -> list[str]:
     return [name for name in files_below(f"crates/{crate}/src", ".rt") if name not in ("lib", "main")]
 
 
-def specs_of(crate):
+def specs_of(crate: str) -> list[str]:
     return [name.replace("/", ".") for name in files_below(f"crates/{crate}/specs", ".antt") if name != "Lib"]
 
 
-def anchor(heading):
+def anchor(heading: str) -> str:
     return re.sub(r"[^\w\- ]", "", heading.strip().lower()).replace(" ", "-")
 
 
-def links(page):
+def links(page: str) -> Iterator[str]:
     """Links to files and headings that aren't there."""
     text = re.sub(r"```.*?```", "", text_of(page), flags=re.DOTALL)
     for link in re.findall(r"\]\(([^)]+)\)", text):
@@ -60,9 +63,9 @@ def links(page):
             yield f"no such heading: {link}"
 
 
-def calling():
+def calling() -> Iterator[str]:
     """Lines of quoted code that aren't in the sources of the callers."""
-    def lines(text):
+    def lines(text: str) -> list[str]:
         return [" ".join(line.split()) for line in text.splitlines() if line.strip()]
 
     there = {line for name in files_below("crates/test_callers/src", ".rt") for line in lines(text_of(f"crates/test_callers/src/{name}.rt"))}
@@ -72,7 +75,7 @@ def calling():
                 yield f"CALLING quotes a line that test_callers lacks: {line}"
 
 
-def architecture():
+def architecture() -> Iterator[str]:
     """Crates and files that ARCHITECTURE lacks, and files that it names but aren't there."""
     text = text_of("docs/ARCHITECTURE.md")
     tables = dict(re.findall(r"^`(\w+)`\n\n((?:\|.*\n)+)", text, re.MULTILINE))
@@ -93,10 +96,10 @@ def architecture():
         parents = {name.split("/")[0] for name in sources if "/" in name}
         for kind, there, words in (("source", sources, in_tables[0]), ("specs", specs, in_tables[1])):
             yield from (f"ARCHITECTURE lacks {crate}'s {kind} {name}" for name in there if name not in words and name not in parents)
-            yield from (f"ARCHITECTURE names {crate}'s {kind} {word}, which isn't there" for word in words if word not in there and word not in elsewhere)
+            yield from (f"ARCHITECTURE names {crate}'s {kind} {word}, which isn't there" for word in words - {*there} - elsewhere)
 
 
-def definitions():
+def definitions() -> Iterator[str]:
     """Files of specs that DEFINITIONS names but aren't there."""
     for paragraph in re.findall(r"^(`\w+`: (?:.+\n)+)", text_of("docs/DEFINITIONS.md"), re.MULTILINE):
         crate = ""
@@ -108,7 +111,7 @@ def definitions():
                             if not word.startswith("declared.") and word not in specs_of(crate))
 
 
-def words(page):
+def words(page: str) -> Iterator[str]:
     """Words in code that no source and no definition has."""
     there = {*crates()}
     for crate in crates():
@@ -121,7 +124,7 @@ def words(page):
             yield f"{page} names {word}, which isn't there"
 
 
-def version():
+def version() -> Iterator[str]:
     """Places whose version isn't that of VERSION."""
     number = text_of("VERSION").strip()
     places = {"CHANGELOG.md": f"## [{number}]", "crates/zigrunk/src/page.rt": f"zigrunk {number}\\n",
@@ -129,17 +132,14 @@ def version():
     yield from (f"{place} lacks {text!r}" for place, text in places.items() if text not in text_of(place))
 
 
-def main():
-    checks = [(links, page) for page in PAGES] + [(calling,), (architecture,), (definitions,), (version,)]
-    checks += [(words, page) for page in ("docs/DEFINITIONS.md", "docs/GUARANTEES.md")]
-    failed = 0
-    for check, *page in checks:
-        found = sorted({*check(*page)})
-        failed += bool(found)
-        for line in found:
-            print(f"{page[0]}: {line}" if check is links else line)
-    print(f"{len(checks) - failed} passed, {failed} failed")
-    return 1 if failed else 0
+def main() -> int:
+    checks: list[tuple[str, Iterable[str]]] = [(page, links(page)) for page in PAGES]
+    checks += [("", check()) for check in (calling, architecture, definitions, version)]
+    checks += [("", words(page)) for page in ("docs/DEFINITIONS.md", "docs/GUARANTEES.md")]
+    counts = Counts()
+    for name, findings in checks:
+        counts.case(name, sorted({*findings}))
+    return counts.summary()
 
 
 if __name__ == "__main__":

@@ -15,8 +15,8 @@ Where a record isn't complete, the command gets exactly what it is known to lack
 With --leave-out, each command also runs without one of its files, once for each file. Then it has to fail or make something else:
 so a record that lacked a file would be noticed, and no record names a file in vain.
 
-Prints a line for each finding, and last 'N passed, M failed'; the status is 1 if one failed. Where nvcc or mount namespaces are
-missing, it prints one line that says so, and the status is 0.
+Prints a line for each finding, and last 'N passed, M failed'; the status is 1 if one failed. Without nvcc or mount namespaces it is
+skipped.
 
     tests/isolated.py [--leave-out] [--only TEXT] [ZIGRUNK]     ZIGRUNK is the program that `make build` leaves, unless given
 """
@@ -29,6 +29,10 @@ import shutil
 import subprocess
 import sys
 import tempfile
+from collections.abc import Callable
+from typing import Any, TypeVar
+
+from runner import Counts, skip_all
 
 TOP = os.path.realpath(f"{os.path.dirname(os.path.realpath(__file__))}/..")
 TWO_TARGETS = "-gencode arch=compute_80,code=sm_80 -gencode arch=compute_90,code=sm_90"
@@ -52,28 +56,33 @@ while [ -n "$1" ]; do mount --rbind "$1" "$root$1" || exit 125; shift; done
 shift
 exec chroot "$root" env -C "$folder" "$@"
 """
+# A value of JSON, by its members.
+Json = dict[str, Any]
+# The contents of files, by their paths.
+Files = dict[str, bytes]
+Result = TypeVar("Result")
 
 
-def with_value(args, option):
+def with_value(args: list[str], option: str) -> list[str]:
     """Returns the values of an option, as the next word or behind `=`."""
     values = [args[place + 1] for place, word in enumerate(args[:-1]) if word == option]
-    return values + [word[len(option) + 1 :] for word in args if word.startswith(f"{option}=")]
+    return values + [word[len(option) + 1:] for word in args if word.startswith(f"{option}=")]
 
 
-def lacking(command, plan, work):
+def lacking(command: Json, plan: Json, work: str) -> list[str]:
     """Returns the files that an incomplete record is known to lack."""
     if command["complete"]:
         return []
     if "-E" in command["args"]:
         return [f"{work}/{name}" for name in SOURCES if name.endswith(".h")]
-    found = []
+    found: list[str] = []
     for other in plan["commands"]:
         option = {"cudafe++": "--stub_file_name", "fatbinary": "--embedded-fatbin"}.get(os.path.basename(other["exe"]))
         found += [os.path.join(other["cwd"], name) for name in with_value(other["args"], option or "-")]
     return found
 
 
-def plan_of(zigrunk, words, base):
+def plan_of(zigrunk: str, words: str, base: str) -> tuple[Json | None, str]:
     """Plans a call of nvcc as zigrunk-nvcc does. Returns the plan, or None and why there is none."""
     script = """calls=$("$0" calls "$PWD" "$1" nvcc $2) && eval "$calls" && eval "$first_dry_run" > /dev/null 2> "$3/dry1" &&
 eval "$second_dry_run" > /dev/null 2> "$3/dry2" && "$0" json --whole "$PWD" "$1" "$flag" "$3/dry1" "$3/dry2"
@@ -84,11 +93,11 @@ eval "$second_dry_run" > /dev/null 2> "$3/dry2" && "$0" json --whole "$PWD" "$1"
     return (json.loads(ran.stdout), "") if ran.returncode == 0 else (None, f"no plan: {ran.stderr.strip()}")
 
 
-def in_threads(plan, run):
+def in_threads(plan: Json, run: Callable[[Json], Result]) -> list[Result]:
     """Runs a function for each command, each after those that the command needs. Returns the results in plan order."""
-    jobs = []
+    jobs: list[concurrent.futures.Future[Result]] = []
 
-    def wait_and_run(command):
+    def wait_and_run(command: Json) -> Result:
         for need in command["needs"]:
             jobs[need].result()
         return run(command)
@@ -99,14 +108,14 @@ def in_threads(plan, run):
     return [job.result() for job in jobs]
 
 
-def started(words, command, base, folder):
+def started(words: list[str], command: Json, base: str, folder: str) -> tuple[int, str]:
     """Runs words with a command's variables and nothing else. Returns the status and what is printed on standard error."""
     env = dict(command["env"]) | {"TMPDIR": f"{base}/scratch"}
     ran = subprocess.run(words, cwd=folder, env=env, stdin=subprocess.DEVNULL, capture_output=True, check=False)
     return ran.returncode, ran.stderr.decode("utf-8", "replace").strip()
 
 
-def mounted(command):
+def mounted(command: Json) -> list[str]:
     """Returns the folders that a command's root has: the system, and the toolkit and the program if they are elsewhere."""
     folders = [f"/{name}" for name in SYSTEM if os.path.isdir(f"/{name}") and not os.path.islink(f"/{name}")]
     for path in (dict(command["env"]).get("TOP", "/usr"), f"{os.path.dirname(command['exe'])}/.."):
@@ -116,7 +125,7 @@ def mounted(command):
     return folders
 
 
-def make_root(root, command, base, files):
+def make_root(root: str, command: Json, base: str, files: Files) -> None:
     """Makes a root folder with these files of the call, and empty folders for what is written."""
     for name in SYSTEM:
         if os.path.islink(f"/{name}"):
@@ -131,7 +140,7 @@ def make_root(root, command, base, files):
             file.write(content)
 
 
-def isolated(command, base, files):
+def isolated(command: Json, base: str, files: Files) -> tuple[int, str, Files]:
     """Runs a command where only these files are. Returns the status, what it says, and the files that it makes or changes."""
     with tempfile.TemporaryDirectory(dir=base) as root:
         make_root(root, command, base, files)
@@ -141,18 +150,18 @@ def isolated(command, base, files):
         return status, said, made
 
 
-def files_below(root, base):
+def files_below(root: str, base: str) -> Files:
     """Returns the files of the call's two folders below a root: their contents by their paths."""
     found = {}
     for folder in ("work", "tmp"):
         for at, _, names in os.walk(f"{root}{base}/{folder}"):
             for name in names:
                 with open(f"{at}/{name}", "rb") as file:
-                    found[f"{at}/{name}"[len(root) :]] = file.read()
+                    found[f"{at}/{name}"[len(root):]] = file.read()
     return found
 
 
-def differences(command, ran, wanted):
+def differences(command: Json, ran: tuple[int, str, Files], wanted: Files) -> list[str]:
     """Returns what is wrong with a command that ran alone: by its record, and by the files of the ordinary run."""
     status, said, made = ran
     found = [f"status {status}: {said[:300]}"] if status else []
@@ -166,18 +175,18 @@ def differences(command, ran, wanted):
     return found
 
 
-def normal(plan):
+def normal(plan: Json) -> None:
     """Writes the paths of a plan's records without `..`."""
     for command in plan["commands"]:
         for field in ("reads", "writes", "may_write"):
             command[field] = [os.path.normpath(path) for path in command[field]]
 
 
-def without_one(inputs, base, wanted):
+def without_one(inputs: list[tuple[Json, Files]], base: str, wanted: Files) -> tuple[int, list[str]]:
     """Runs each command without one of its files, for each file. Returns how many runs there were, and what changes nothing."""
     cases = [(command, files, path) for command, files in inputs for path in files]
 
-    def run(case):
+    def run(case: tuple[Json, Files, str]) -> list[str]:
         command, files, left_out = case
         ran = isolated(command, base, {path: content for path, content in files.items() if path != left_out})
         same = not differences(command, ran, wanted)
@@ -187,15 +196,15 @@ def without_one(inputs, base, wanted):
         return len(cases), [one for found in pool.map(run, cases) for one in found]
 
 
-def label(command):
+def label(command: Json) -> str:
     return f"command {command['id']} ({os.path.basename(command['exe'])})"
 
 
-def each_alone(plan, base, store, wanted):
+def each_alone(plan: Json, base: str, store: Files, wanted: Files) -> tuple[list[str], list[tuple[Json, Files]]]:
     """Runs each command alone, and puts what it makes into the store. Returns the findings, and each command's files."""
-    inputs = []
+    inputs: list[tuple[Json, Files]] = []
 
-    def run(command):
+    def run(command: Json) -> list[str]:
         paths = [*command["reads"], *lacking(command, plan, f"{base}/work")]
         files = {path: store[path] for path in paths if path in store}
         ran = isolated(command, base, files)
@@ -207,7 +216,7 @@ def each_alone(plan, base, store, wanted):
     return [one for found in in_threads(plan, run) for one in found], inputs
 
 
-def check(words, zigrunk, leave_out, base):
+def check(words: str, zigrunk: str, leave_out: bool, base: str) -> tuple[list[str], int]:
     """Returns what is wrong with a call, and how many commands ran without one of their files."""
     for folder in ("work", "tmp", "scratch"):
         os.mkdir(f"{base}/{folder}")
@@ -231,7 +240,7 @@ def check(words, zigrunk, leave_out, base):
     return found, runs
 
 
-def unavailable():
+def unavailable() -> str:
     """Says why nothing can be tested here; empty if it can."""
     if not shutil.which("nvcc"):
         return "nvcc is not on the path"
@@ -241,29 +250,25 @@ def unavailable():
     return ""
 
 
-def main():
+def main() -> int:
     parser = argparse.ArgumentParser(usage=__doc__, allow_abbrev=False)
     parser.add_argument("--leave-out", action="store_true")
     parser.add_argument("--only", default="")
     parser.add_argument("zigrunk", nargs="?", default=f"{TOP}/crates/zigrunk/out/zigrunk")
     args = parser.parse_args()
     if why := unavailable():
-        print(f"isolated commands: skipped, {why}\n0 passed, 0 failed")
-        return 0
+        return skip_all("isolated commands", why)
     for name in ("NVCC_PREPEND_FLAGS", "NVCC_APPEND_FLAGS"):
         os.environ.pop(name, None)
-    passed = failed = 0
+    counts = Counts()
     for words in CALLS:
         if args.only in words:
             with tempfile.TemporaryDirectory() as base:
                 found, runs = check(words, os.path.realpath(args.zigrunk), args.leave_out, os.path.realpath(base))
-            for finding in found:
-                print(f"nvcc {words}: {finding}")
+            counts.case(f"nvcc {words}", found)
             if args.leave_out and not found:
                 print(f"nvcc {words}: each of {runs} files is needed")
-            passed, failed = passed + (not found), failed + bool(found)
-    print(f"{passed} passed, {failed} failed")
-    return 1 if failed else 0
+    return counts.summary()
 
 
 if __name__ == "__main__":

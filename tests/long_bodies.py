@@ -17,8 +17,8 @@ Usage: tests/long_bodies.py [--keep FOLDER] [NAME..]    all bodies, or those who
 
 --keep leaves the copy, the programs and what was found in a new folder. A second call with this folder goes on where the first one
 ended. RT_JOBS is the number of tests to run at a time, by default the number of processors. It prints a line for each body that
-isn't caught, and last 'N of M judged: K caught, L not caught'; the status is 1 if one isn't caught or judged. A body is not judged
-if each case that reaches it takes longer than SECONDS. It isn't part of the gate.
+isn't caught, then 'N of M judged: K caught, L not caught', and last 'N passed, M failed'; the status is 1 if one isn't caught or judged.
+A body is not judged if each case that reaches it takes longer than SECONDS. It isn't part of the gate.
 """
 
 import concurrent.futures
@@ -31,6 +31,11 @@ import subprocess
 import sys
 import tempfile
 import time
+from collections.abc import Callable, Iterator
+from concurrent.futures import Executor
+from typing import Any
+
+from runner import Counts
 
 TOP = os.path.realpath(f"{os.path.dirname(os.path.realpath(__file__))}/..")
 
@@ -46,6 +51,10 @@ LONG = ("lines", "plans", "programs")
 # The crates that a library for C is made of, beside those below them, and the tests of it in C that have long input.
 C_CRATES = ("c_texts", "c_plans", "c_lines", "zigrunk_c")
 C_TESTS = ("lines", "line_records", "plans", "records")
+
+# A run of a case: its status, the seconds that it took, and the numbers of the bodies that would give up in it. And the runs by case.
+Run = tuple[int | None, float, list[int]]
+Runs = dict[str, Run]
 
 # Where it is tested; the file; the function, and with a number which one of this name in the file, then `before` and the start of
 # a line, or nothing for the start of the body; and when the body gives up.
@@ -434,11 +443,11 @@ __attribute__((constructor)) static void start(void) {
 """
 
 
-def tenth(text, least):
+def tenth(text: str, least: int) -> str:
     """Returns a text with a tenth of each number that is at least `least`, unless it says where a text is cut, as in `${text:0:120}`.
     A number that ends in 1 is one more than a count, and one that begins with 0 is the width of a number."""
 
-    def shorter(found):
+    def shorter(found: re.Match[str]) -> str:
         number = int(found[0].replace("_", ""))
         return found[0] if number < least else "0" * (found[0][0] == "0") + str(number // 10 + (number % 10 == 1))
 
@@ -448,7 +457,7 @@ def tenth(text, least):
 class Body:
     """A wrong body: its number, where it is tested, where it stands, and when it gives up or what it does."""
 
-    def __init__(self, number, row, is_silent):
+    def __init__(self, number: int, row: str, is_silent: bool) -> None:
         self.number, self.is_silent = number, is_silent
         self.test, self.file, self.place, self.condition = [it.strip() for it in row.split(" | ")]
         if self.test in LONG:
@@ -458,13 +467,13 @@ class Body:
         self.function, _, nth = head.partition(" ")
         self.nth = int(nth or "1")
 
-    def put_into(self, lines):
+    def put_into(self, lines: list[str]) -> None:
         """Puts the statement into the lines of its file."""
         found = [at for at, it in enumerate(lines) if re.match(rf" *(pub(\(\w+\))? )?fn {self.function}\b", it)]
         if len(found) < self.nth:
             raise SystemExit(f"no such function: {self.name}")
-        indent = re.match(" *", lines[found[self.nth - 1]])[0]
         at = found[self.nth - 1]
+        indent = lines[at][:-len(lines[at].lstrip(" "))]
         while lines[at] != f"{indent}{{" and not re.match(rf"{indent}(\)|.*fn ).*\{{$", lines[at]):
             at += 1
         if self.before:
@@ -479,12 +488,12 @@ class Body:
             lines.insert(at + 1, f"long_body::refuse({self.number}, {self.condition})?;")
 
 
-def bodies():
+def bodies() -> list[Body]:
     rows = [(it, False) for it in BODIES.split("\n") if it] + [(it, True) for it in SILENT.split("\n") if it]
     return [Body(number + 1, row, is_silent) for number, (row, is_silent) in enumerate(rows)]
 
 
-def copy_of_sources(room, ignored):
+def copy_of_sources(room: str, ignored: list[str]) -> None:
     """Makes a copy of the repository without what is ignored."""
     for part in ("crates", "docs", "tests", "demo", "bin", "man"):
         shutil.copytree(f"{TOP}/{part}", f"{room}/{part}", ignore=shutil.ignore_patterns("lib", "must-fail", *ignored), symlinks=True)
@@ -493,7 +502,7 @@ def copy_of_sources(room, ignored):
     os.makedirs(f"{room}/.git")
 
 
-def put_bodies(room, put, is_above):
+def put_bodies(room: str, put: list[Body], is_above: Callable[[str], bool]) -> None:
     """Puts wrong bodies into a copy, each behind the switch, whose crate the crates of `is_above` get."""
     with open(f"{TOP}/crates.txt", encoding="utf-8") as it:
         lines = it.read().split("\n")
@@ -503,7 +512,7 @@ def put_bodies(room, put, is_above):
     os.makedirs(f"{room}/crates/long_body/c")
     with open(f"{room}/crates/long_body/src/lib.rt", "w", encoding="utf-8") as it:
         it.write(SWITCH)
-    files = {}
+    files: dict[str, list[str]] = {}
     for body in put:
         crate, _, path = body.file.partition("/")
         name = f"{room}/crates/{crate}/src/{path}.rt"
@@ -516,7 +525,7 @@ def put_bodies(room, put, is_above):
             it.write("\n".join(lines))
 
 
-def copy_with(room):
+def copy_with(room: str) -> None:
     """Makes a copy with all wrong bodies that unproved programs have, and with shorter cases."""
     copy_of_sources(room, ["out"])
     shorten_script(f"{room}/tests/program.sh")
@@ -525,7 +534,13 @@ def copy_with(room):
     put_bodies(room, [it for it in bodies() if it.test != "c"], lambda line: ":" in line and line[0] != "#")
 
 
-def build_library(room):
+def run_kit(words: list[str], folder: str) -> subprocess.CompletedProcess[str]:
+    """Runs `rt` in a folder of the copy."""
+    env = {**os.environ, "RT_ALLOW_C": "1"}
+    return subprocess.run(["rt", *words], cwd=folder, env=env, stdin=subprocess.DEVNULL, capture_output=True, text=True, check=False)
+
+
+def build_library(room: str) -> None:
     """Proves and builds libzigrunk with the wrong bodies in it, and then the tests of it in C."""
     made = f"{room}/c"
     if os.path.exists(f"{made}/{C_TESTS[-1]}"):
@@ -536,34 +551,30 @@ def build_library(room):
         put_bodies(made, [it for it in bodies() if it.test == "c"], lambda line: line.partition(":")[0].split(" ")[0] in C_CRATES)
         with open(f"{made}/crates/long_body/c/long_body.c", "w", encoding="utf-8") as it:
             it.write(SWITCH_C % "/dev/null")
-    proved = subprocess.run(
-        ["rt", "lib"], cwd=f"{made}/crates/zigrunk_c", env={**os.environ, "RT_ALLOW_C": "1"}, stdin=subprocess.DEVNULL, capture_output=True, text=True, check=False
-    )
+    proved = run_kit(["lib"], f"{made}/crates/zigrunk_c")
     if proved.returncode:
         raise SystemExit(f"libzigrunk isn't built:\n{proved.stdout}{proved.stderr}")
     # the kit's three functions over malloc, realloc and free
-    allocations = f"{os.path.dirname(os.path.realpath(shutil.which('rt')))}/../c/liblibc_c.a"
+    allocations = f"{os.path.dirname(os.path.realpath(shutil.which('rt') or 'rt'))}/../c/liblibc_c.a"
     flags = ["-O1", "-Itests/c", "-Ibindings/c", f'-DVERSION="{open(f"{made}/VERSION", encoding="utf-8").read().strip()}"']
     for test in C_TESTS:
         sources = [f"tests/c/{test}.c", "crates/long_body/c/long_body.c", "crates/zigrunk_c/out/libzigrunk_c.a", allocations]
         subprocess.run(["cc", *flags, *sources, "-o", test], cwd=made, check=True)
 
 
-def build(room, program):
+def build(room: str, program: str) -> str:
     """Builds a program of the copy, unproved, and returns its path."""
     built = f"{room}/{program}"
     if not os.path.exists(built):
         with open(f"{room}/crates/long_body/c/long_body.c", "w", encoding="utf-8") as it:
             it.write(SWITCH_C % built)
-        tried = subprocess.run(
-            ["rt", "try", "--steps", "1"], cwd=f"{room}/crates/{program}", env={**os.environ, "RT_ALLOW_C": "1"}, stdin=subprocess.DEVNULL, capture_output=True, text=True, check=False
-        )
+        tried = run_kit(["try", "--steps", "1"], f"{room}/crates/{program}")
         if not os.path.exists(built):
             raise SystemExit(f"{program} isn't built:\n{tried.stdout}{tried.stderr}")
     return built
 
 
-def shorten_script(path):
+def shorten_script(path: str) -> None:
     """Divides the numbers of the script's functions with long input by ten, and takes its limit for memory away: programs that are
     built with checks need more."""
     with open(path, encoding="utf-8") as it:
@@ -573,11 +584,11 @@ def shorten_script(path):
         it.write(re.sub(r"(?m)^ *ulimit -S -v \w+$", "", shorter))
 
 
-def table_cases(test):
+def table_cases(test: str) -> list[str]:
     """Returns the long cases of a test."""
     with open(f"{TOP}/crates/test_{test}/data/long_cases.txt", encoding="utf-8") as it:
         lines = [line for line in it.read().split("\n") if line and line[0] != "#"]
-    cases = []
+    cases: list[str] = []
     for line in lines:
         if line[0] != " ":
             cases.append("")
@@ -585,7 +596,7 @@ def table_cases(test):
     return cases
 
 
-def cases_of(room, test):
+def cases_of(room: str, test: str) -> list[str]:
     """Returns the cases of a test: for a table a file for each, for the script of the programs its functions."""
     if test == "programs":
         return ["long_plan", "long_suffixes", "long_lines", "long_nvcc_lines", "long_exports", "long_messages"]
@@ -594,7 +605,7 @@ def cases_of(room, test):
     if test == "c":
         return list(C_TESTS)
     os.makedirs(f"{room}/cases", exist_ok=True)
-    files = []
+    files: list[str] = []
     for number, case in enumerate(table_cases(test)):
         files.append(f"{room}/cases/{test}.{number}.txt")
         with open(files[-1], "w", encoding="utf-8") as it:
@@ -602,7 +613,7 @@ def cases_of(room, test):
     return files
 
 
-def run_case(room, test, case, number, log=""):
+def run_case(room: str, test: str, case: str, number: int, log: str = "") -> tuple[int | None, float]:
     """Runs a case with a wrong body, 0 for none. Returns the exit status and the seconds that it took."""
     if test == "c":
         words = [f"{room}/c/{case}", *(["1"] if case == "records" else [])]
@@ -613,12 +624,13 @@ def run_case(room, test, case, number, log=""):
     env = {**os.environ, "LONG_BODY": str(number), **({"LONG_BODY_LOG": log} if log else {})}
     start = time.monotonic()
     with contextlib.suppress(subprocess.TimeoutExpired):
-        ran = subprocess.run(words, cwd=room, env=env, stdin=subprocess.DEVNULL, stdout=subprocess.DEVNULL, stderr=subprocess.DEVNULL, timeout=SECONDS, check=False)
+        none = subprocess.DEVNULL
+        ran = subprocess.run(words, cwd=room, env=env, stdin=none, stdout=none, stderr=none, timeout=SECONDS, check=False)
         return ran.returncode, time.monotonic() - start
     return None, SECONDS
 
 
-def reached_by(room, test, case):
+def reached_by(room: str, test: str, case: str) -> Run:
     """Runs a case without a wrong body. Returns the seconds and the numbers of the bodies that would give up in it."""
     log = f"{room}/cases/log.{test}.{os.path.basename(case)}"
     os.makedirs(f"{room}/cases", exist_ok=True)
@@ -629,7 +641,7 @@ def reached_by(room, test, case):
     return status, seconds, reached
 
 
-def judge(room, body, runs):
+def judge(room: str, body: Body, runs: Runs) -> bool | None:
     """Returns whether a case fails with the body, or None if none does and one of those that it would give up in takes too long."""
     cases = sorted((seconds, case) for case, (_, seconds, reached) in runs.items() if body.is_silent or body.number in reached)
     statuses = [runs[case][0] for _, case in cases]
@@ -644,13 +656,14 @@ def judge(room, body, runs):
 class Notes:
     """What was found out, in a file of the copy: the runs of the cases, and which bodies are caught."""
 
-    def __init__(self, room):
-        self.path, self.known = f"{room}/notes.json", {"runs": {}, "caught": {}}
+    def __init__(self, room: str) -> None:
+        self.path = f"{room}/notes.json"
+        self.known: dict[str, dict[str, Any]] = {"runs": {}, "caught": {}}
         if os.path.exists(self.path):
             with open(self.path, encoding="utf-8") as it:
                 self.known = json.load(it)
 
-    def found(self, kind, key, make):
+    def found(self, kind: str, key: str, make: Callable[[], Any]) -> Any:
         """Returns what is known, or makes it and keeps it."""
         if key not in self.known[kind]:
             self.known[kind][key] = make()
@@ -660,7 +673,7 @@ class Notes:
         return self.known[kind][key]
 
 
-def runs_of(room, notes, test, lanes):
+def runs_of(room: str, notes: Notes, test: str, lanes: Executor) -> Runs:
     """Runs the cases of a test without a wrong body. Returns the runs."""
     cases = cases_of(room, test)
     run = [lanes.submit(reached_by, room, test, case) for case in cases if f"{test} {case}" not in notes.known["runs"]]
@@ -673,17 +686,17 @@ def runs_of(room, notes, test, lanes):
     return runs
 
 
-def judge_all(room, notes, bodies_of_test, runs, lanes):
+def judge_all(room: str, notes: Notes, bodies_of_test: list[Body], runs: Runs, lanes: Executor) -> Iterator[bool | None]:
     """Judges bodies. Returns for each whether it is caught, or None if it isn't judged."""
     run = {it.number: lanes.submit(judge, room, it, runs) for it in bodies_of_test if it.name not in notes.known["caught"]}
     for body in bodies_of_test:
-        is_caught = notes.found("caught", body.name, lambda body=body: run[body.number].result())
+        is_caught: bool | None = notes.found("caught", body.name, lambda: run[body.number].result())
         if not is_caught:
             print(f"{'not judged' if is_caught is None else 'not caught'} in {body.name}", flush=True)
         yield is_caught
 
 
-def main(words):
+def main(words: list[str]) -> int:
     kept = words[1] if words[:1] == ["--keep"] else None
     named = words[2:] if kept else words
     room = os.path.abspath(kept) if kept else tempfile.mkdtemp(prefix="long-bodies-")
@@ -695,7 +708,8 @@ def main(words):
         if it.read() != BODIES + SILENT:
             raise SystemExit(f"{room} has other bodies")
     programs = {"lines": ["test_lines"], "plans": ["test_plans"], "programs": ["cudaplan", "zigrunk"], "whole": ["cudaplan", "zigrunk"]}
-    jobs, notes, answers = os.environ.get("RT_JOBS", ""), Notes(room), []
+    jobs, notes = os.environ.get("RT_JOBS", ""), Notes(room)
+    answers: list[bool | None] = []
     with concurrent.futures.ThreadPoolExecutor(int(jobs) if jobs.isdigit() else len(os.sched_getaffinity(0))) as lanes:
         for test in sorted({it.test for it in tried}):
             for program in programs.get(test, []):
@@ -708,7 +722,9 @@ def main(words):
         shutil.rmtree(room)
     caught, lost = answers.count(True), answers.count(False)
     print(f"{caught + lost} of {len(answers)} judged: {caught} caught, {lost} not caught")
-    return 0 if caught == len(answers) else 1
+    counts = Counts()
+    counts.passed, counts.failed = caught, len(answers) - caught
+    return counts.summary()
 
 
 if __name__ == "__main__":

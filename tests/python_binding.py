@@ -14,7 +14,10 @@ import subprocess
 import sys
 import tempfile
 import unittest
+from collections.abc import Callable
+from typing import Any
 
+import runner
 import zigrunk
 
 FOLDER, NAMES = sys.argv[1], sys.argv[2:]
@@ -22,35 +25,36 @@ EXAMPLE = os.path.join(os.path.dirname(zigrunk.__file__), "examples", "audit.py"
 INCLUDE = os.path.join(os.path.dirname(zigrunk.__file__), "..", "c")
 
 
-def first(lookup, folder):
+def first(lookup: zigrunk.Lookup, folder: str) -> str:
     return zigrunk.candidates(lookup, folder)[0]
 
 
-def read(name, end):
+def read(name: str, end: str) -> bytes:
     with open(f"{FOLDER}/{name}{end}", "rb") as file:
         return file.read()
 
 
 class Calls(unittest.TestCase):
-    def rejects(self, status, message, call, *arguments, **more):
+    def rejects(self, status: zigrunk.Status, message: str, call: Callable[..., object], *arguments: object, **more: object) -> None:
         with self.assertRaises(zigrunk.ZigrunkError) as caught:
             call(*arguments, **more)
         self.assertEqual((caught.exception.number, str(caught.exception)), (status, message))
 
-    def test_words(self):
-        for words in ([], [""], ["a b", "it's", "-DX=\"1\"", "é", "a\0b", "\n"], ["w" * 9000] * 3, ["x"] * 500):
+    def test_words(self) -> None:
+        lists: list[list[str]] = [[], [""], ["a b", "it's", "-DX=\"1\"", "é", "a\0b", "\n"], ["w" * 9000] * 3, ["x"] * 500]
+        for words in lists:
             self.assertEqual(zigrunk.split(zigrunk.quote(words)), words)
         self.rejects(zigrunk.Status.OPEN_QUOTE, "open quote or backslash at the end", zigrunk.split, "a 'b")
         self.rejects(zigrunk.Status.NOT_UTF8, "a text is not UTF-8", zigrunk.quote, ["\udcff"])
 
-    def test_real_calls(self):
+    def test_real_calls(self) -> None:
         self.assertTrue(NAMES)
         for name in NAMES:
             with self.subTest(name):
                 call = zigrunk.PlanCall(read(name, ".dry1"), read(name, ".dry2"), "/w", "/t", read(name, ".flag").decode().strip())
                 self.assertEqual(zigrunk.plan(call, zigrunk.Form.TEXT, first), read(name, ".plan").decode())
 
-    def test_settings(self):
+    def test_settings(self) -> None:
         run = b"#$ PATH=/b\n#$ gcc -D__NVCC__ -E k.cu -o k.cpp1.ii\n#$ cicc --x k.gpu k.cpp1.ii -o k.ptx\n"
         call = zigrunk.PlanCall(run, run, "/w", "/t", environment={"PATH": "/old", "A": "1"}, suffixes=[".gpu"])
         commands = json.loads(zigrunk.plan(call, which=first))["commands"]
@@ -61,7 +65,7 @@ class Calls(unittest.TestCase):
         call.suffixes = ["gpu"]
         self.rejects(zigrunk.Status.BAD_SUFFIXES, "bad generated suffixes", zigrunk.plan, call, which=first)
 
-    def test_records_of_real_calls(self):
+    def test_records_of_real_calls(self) -> None:
         for name in NAMES:
             with self.subTest(name):
                 call = zigrunk.PlanCall(read(name, ".dry1"), read(name, ".dry2"), "/w", "/t", read(name, ".flag").decode().strip(),
@@ -78,12 +82,12 @@ class Calls(unittest.TestCase):
                 self.assertEqual(stages, [zigrunk.Stage.FRONT] + [zigrunk.Stage.DEVICE] * (len(stages) - 2) + [zigrunk.Stage.FINAL])
                 dropped = [{"program": it["exe"], "arguments": tuple(it["args"]), "variables": (), "cwd": "", "group": None,
                             "cacheable": False, "run": it["run"], "line": it["line"] - 1} for it in said["dropped"]]
-                reasons = [it.reason.name.replace("_", "").lower() for it in records.dropped]
+                reasons = [zigrunk.Reason(it.reason or 0).name.replace("_", "").lower() for it in records.dropped]
                 self.assertEqual(reasons, [it["reason"].lower() for it in said["dropped"]])
                 self.assertEqual([dataclasses.asdict(dataclasses.replace(it, reason=None)) for it in records.dropped],
                                  [{**it, "reason": None} for it in dropped])
 
-    def test_records_of_a_small_call(self):
+    def test_records_of_a_small_call(self) -> None:
         run = b"#$ PATH=/b\n#$ gcc -D__NVCC__ -E k.cu -o k.cpp1.ii\n#$ cicc k.cpp1.ii -o k.ptx\n#$ cicc n.ii -o n.ptx\n#$ rm k\n"
         call = zigrunk.PlanCall(run, run, "/w", "/t", environment={"PATH": "/old", "A": "1"})
         plan = zigrunk.plan_records(call, first)
@@ -98,12 +102,12 @@ class Calls(unittest.TestCase):
             zigrunk.Command("/b/cicc", ("n.ii", "-o", "n.ptx"), (), "", None, zigrunk.Reason.NO_CICC_GROUP, False, 1, 3),
             zigrunk.Command("/b/rm", ("k",), (), "", None, zigrunk.Reason.NOT_CUDA, False, 2, 4)))
 
-    def test_records_of_a_long_call(self):
+    def test_records_of_a_long_call(self) -> None:
         run = b"#$ PATH=/b\n" + b"".join(b"#$ cicc k%d.cpp1.ii -o k%d.ptx\n" % (it, it) for it in range(2000))
         call = zigrunk.PlanCall(run, run, "/w", "/t")
         self.assertEqual([it.line for it in zigrunk.plan_records(call, first).dropped], list(range(1, 2001)))
 
-    def test_errors_of_records(self):
+    def test_errors_of_records(self) -> None:
         run = b"#$ PATH=/b\n#$ gcc -D__NVCC__ -c k.cpp\n"
         call = zigrunk.PlanCall(run, run, "/w", "/t")
         self.rejects(zigrunk.Status.NOT_FOUND, "gcc: not found", zigrunk.plan_records, call, lambda lookup, folder: None)
@@ -112,10 +116,10 @@ class Calls(unittest.TestCase):
         call.cwd = "\udcff"
         self.rejects(zigrunk.Status.NOT_UTF8, "a text is not UTF-8", zigrunk.plan_records, call, first)
 
-    def test_an_answer_that_grows(self):
-        calls = []
+    def test_an_answer_that_grows(self) -> None:
+        calls: list[tuple[int, int]] = []
 
-        def growing(ranges, count, out, size):
+        def growing(ranges: Any, count: int, out: Any, size: int) -> Any:
             calls.append((count, size))
             return zigrunk._ListAnswer(0, count, size + 1)
 
@@ -125,10 +129,10 @@ class Calls(unittest.TestCase):
         with self.assertRaises(RuntimeError):
             zigrunk._ask_text(lambda out, size: zigrunk._TextAnswer(0, size + 1))
 
-    def test_a_reason_of_a_later_library(self):
+    def test_a_reason_of_a_later_library(self) -> None:
         self.assertEqual([zigrunk._reason(it) for it in (0, 4, 5)], [None, zigrunk.Reason.SUPERSEDED, 5])
 
-    def test_look_ups(self):
+    def test_look_ups(self) -> None:
         run = b"#$ PATH=/b:c\n#$ cicc k.cpp1.ii\n"
         asked = zigrunk.lookups(run, run, "/w")
         self.assertEqual(asked, [zigrunk.Lookup("cicc", "/b:c")])
@@ -137,12 +141,13 @@ class Calls(unittest.TestCase):
         call = zigrunk.PlanCall(run, run, "/w", "/t")
         self.rejects(zigrunk.Status.NOT_FOUND, "cicc: not found", zigrunk.plan, call, which=lambda lookup, folder: None)
 
-    def test_limits(self):
+    def test_limits(self) -> None:
         run = b"#$ PATH=/b\n#$ gcc -D__NVCC__ x.i\n"
         call = zigrunk.PlanCall(run, run, "/w", "/t", limit=30)
         self.assertEqual(len(zigrunk.plan_records(call, first).commands), 1)
         call.limit = 29
-        for make in zigrunk.plan, zigrunk.plan_records:
+        planners: list[Callable[..., object]] = [zigrunk.plan, zigrunk.plan_records]
+        for make in planners:
             self.rejects(zigrunk.Status.OVER_LIMIT, "run 1 line 1: over the limit of 29 bytes", make, call, which=first)
         call.dry1 = b""
         self.rejects(zigrunk.Status.OVER_LIMIT, "run 2 line 1: over the limit of 29 bytes", zigrunk.plan, call, which=first)
@@ -150,11 +155,12 @@ class Calls(unittest.TestCase):
         self.rejects(zigrunk.Status.OVER_LIMIT, "run 1 line 1: over the limit of 28 bytes", zigrunk.lookups, run, run, "/w", 28)
         for limit in 0, -1, 1 << 64:
             call.limit = limit
-            for make in (lambda: zigrunk.plan(call, which=first)), (lambda: zigrunk.lookups(run, run, "/w", limit)):
+            calls: list[Callable[[], object]] = [lambda: zigrunk.plan(call, which=first), lambda: zigrunk.lookups(run, run, "/w", limit)]
+            for ask in calls:
                 with self.assertRaisesRegex(ValueError, f"a limit of {limit} bytes"):
-                    make()
+                    ask()
 
-    def test_a_text_that_explodes(self):
+    def test_a_text_that_explodes(self) -> None:
         names = "ABCDEFGHIJKLMNOPQRSTUVWXYZ"
         lines = [f"#$ {it}=${other}.${other}." for it, other in zip(names, names[1:])]
         run = "\n".join(["#$ PATH=/b", *lines, "#$ $A.", ""]).encode()
@@ -163,7 +169,7 @@ class Calls(unittest.TestCase):
         self.rejects(zigrunk.Status.OVER_LIMIT, message, zigrunk.plan, call, which=first)
         self.rejects(zigrunk.Status.OVER_LIMIT, message, zigrunk.plan_records, call, which=first)
 
-    def test_lines(self):
+    def test_lines(self) -> None:
         words = "-arch=sm_80 k.ptx -o k.cubin".split()
         self.assertEqual(zigrunk.line_words(zigrunk.Tool.PTXAS, "/w", words), "-arch=sm_80 k.ptx -o /w/k.cubin".split())
         said = json.loads(zigrunk.line(zigrunk.Tool.PTXAS, "/w", words))
@@ -176,7 +182,7 @@ class Calls(unittest.TestCase):
             self.rejects(zigrunk.Status.NOT_UTF8, "a text is not UTF-8", call, zigrunk.Tool.CICC, "/w", ["\udcff"])
         self.rejects(zigrunk.Status.BAD_LINE, 'Missing "ptx" file output', zigrunk.line_words, zigrunk.Tool.CICC, "/w", ["k.cpp1.ii"])
 
-    def test_line_records(self):
+    def test_line_records(self) -> None:
         line = zigrunk.line_records(zigrunk.Tool.NVCC, "/w", "-MD -MF k.d -c k.cu -t 2 -DA".split(), {"NVCC_APPEND_FLAGS": "-o j.o"})
         self.assertEqual((line.input, line.language, line.compilation_flag), ("k.cu", zigrunk.Language.CUDA, "-c"))
         self.assertEqual(line.outputs, (zigrunk.Output("d", "k.d", False), zigrunk.Output("obj", "j.o", False)))
@@ -191,7 +197,7 @@ class Calls(unittest.TestCase):
         differ = {name for name in said if said[name] != members.get(name)}
         self.assertEqual(differ, {"color_mode", "language", "version"})
 
-    def test_nvcc_lines(self):
+    def test_nvcc_lines(self) -> None:
         said = zigrunk.nvcc_line("/w", "/t", "nvcc", ["-c", "k.cu", "-o", "k.o", "-t", "2"])
         self.assertEqual((said.dependencies, said.flag, said.jobs, said.keep_dir), ("", "-c", "2", ""))
         self.assertTrue(said.first_dry_run.endswith("cd /w && nvcc -x cu -o k.o -c k.cu --dryrun --keep )"))
@@ -199,13 +205,13 @@ class Calls(unittest.TestCase):
         reason = "goes to nvcc: its phase isn't split"
         self.rejects(zigrunk.Status.TO_NVCC, reason, zigrunk.nvcc_line, "/w", "/t", "nvcc", ["-E", "k.cu"])
 
-    def test_names(self):
+    def test_names(self) -> None:
         self.assertEqual(zigrunk.remap(["d/k.cpp1.ii", "-I=d/k.cpp1.ii", "k.gpu"]), ["d/x_0.cpp1.ii", "-I=d/x_0.cpp1.ii", "k.gpu"])
         self.assertEqual(zigrunk.remap(["k.gpu"], [".gpu"]), ["x_0.gpu"])
         self.assertEqual(zigrunk.remap([]), [])
         self.rejects(zigrunk.Status.BAD_SUFFIXES, "bad generated suffixes", zigrunk.remap, ["k"], ["gpu"])
 
-    def test_example(self):
+    def test_example(self) -> None:
         for name in NAMES:
             with self.subTest(name):
                 flag = read(name, ".flag").decode().strip()
@@ -219,12 +225,12 @@ class Layout(unittest.TestCase):
     """The records of the module and those of the header, as a C compiler lays them out."""
 
     @staticmethod
-    def records():
+    def records() -> dict[str, Any]:
         """The module's records by their names in the header."""
-        names = {it: "zigrunk" + re.sub("[A-Z]", lambda letter: "_" + letter[0].lower(), it[1:]) for it in dir(zigrunk)}
+        names = {it: "zigrunk" + re.sub("([A-Z])", r"_\1", it[1:]).lower() for it in dir(zigrunk)}
         return {names[it]: getattr(zigrunk, it) for it in names if isinstance(getattr(zigrunk, it), type(ctypes.Structure))}
 
-    def test_fields(self):
+    def test_fields(self) -> None:
         with open(os.path.join(INCLUDE, "zigrunk.h"), encoding="utf-8") as file:
             code = re.sub(r"/\*.*?\*/", "", file.read(), flags=re.DOTALL)
         structs = re.findall(r"typedef struct \w+ \{(.*?)\} (\w+);", code, re.DOTALL)
@@ -233,7 +239,7 @@ class Layout(unittest.TestCase):
         self.assertEqual({name: [field[0] for field in record._fields_] for name, record in self.records().items()}, header)
 
     @unittest.skipUnless(shutil.which("cc"), "needs cc")
-    def test_offsets(self):
+    def test_offsets(self) -> None:
         expected, lines = [], []
         for name, record in self.records().items():
             expected.append(f"{name} {ctypes.sizeof(record)} {ctypes.alignment(record)}")
@@ -251,4 +257,9 @@ class Layout(unittest.TestCase):
 
 
 if __name__ == "__main__":
-    unittest.main(argv=sys.argv[:1])
+    ran = unittest.main(argv=sys.argv[:1], exit=False).result
+    counts = runner.Counts()
+    # a test fails once, whatever its parts
+    counts.failed = len({it.id().partition(" ")[0] for it, _ in [*ran.failures, *ran.errors]})
+    counts.passed = ran.testsRun - counts.failed - len(ran.skipped)
+    sys.exit(counts.summary())

@@ -4,8 +4,7 @@
 The dry runs are those of crates/test_plans/data. Beyond the schema it checks that ids count from 0, that a command needs only
 earlier ones, that lines have the program that the command runs, and that the plan's commands can run in threads.
 
-Prints a line for each finding, and last 'N passed, M failed'; the status is 1 if one failed. Without python3-jsonschema it prints
-one line that says so, and the status is 0.
+Prints a line for each finding, and last 'N passed, M failed'; the status is 1 if one failed. Without python3-jsonschema it is skipped.
 
     tests/schema.py [ZIGRUNK]       the program is the one that `make build` and the gate leave, unless given
 """
@@ -16,29 +15,33 @@ import os
 import subprocess
 import sys
 import tempfile
+from typing import Any
+
+from runner import Counts, skip_all
 
 try:
     import jsonschema
 except ImportError:
-    print("schema: skipped, since python3-jsonschema isn't installed")
-    sys.exit(0)
+    sys.exit(skip_all("schema", "python3-jsonschema isn't installed"))
 
 TOP = os.path.realpath(f"{os.path.dirname(os.path.realpath(__file__))}/..")
 DATA = f"{TOP}/crates/test_plans/data/dry_runs"
+# A value of JSON, by its members.
+Json = dict[str, Any]
 
 
-def pairs():
+def pairs() -> list[str]:
     """Returns the names of the real pairs: those with a flag."""
     return sorted(name.removesuffix(".flag") for name in os.listdir(DATA) if name.endswith(".flag"))
 
 
-def program_words(lines):
+def program_words(lines: list[str]) -> set[str]:
     """Returns the first words of a run's commands."""
     words = (line[3:].split()[0].strip('"') for line in lines if line.startswith("#$ ") and len(line) > 3)
     return {word for word in words if "=" not in word}
 
 
-def with_programs(name, room):
+def with_programs(name: str, room: str) -> list[str]:
     """Copies a pair and lets its PATH name a folder that has its programs. Returns the paths of the copies."""
     folder = f"{room}/bin"
     os.makedirs(folder, exist_ok=True)
@@ -58,7 +61,7 @@ def with_programs(name, room):
     return copies
 
 
-def on_disk(line, folder):
+def on_disk(line: str, folder: str) -> str:
     """A command's line, with its program taken from a folder."""
     if not line.startswith("#$ "):
         return line
@@ -68,7 +71,7 @@ def on_disk(line, folder):
     return f"#$ {folder}/{os.path.basename(first.strip(chr(34)))} {rest}"
 
 
-def findings(plan, runs):
+def findings(plan: Json, runs: list[list[str]]) -> list[str]:
     """Returns what is wrong beyond the schema."""
     found = []
     for place, command in enumerate(plan["commands"]):
@@ -85,12 +88,12 @@ def findings(plan, runs):
     return found
 
 
-def ran_in_threads(plan):
+def ran_in_threads(plan: Json) -> list[int]:
     """Runs a stand-in for each command, as the example of README does. Returns the ids in the order in which they ended."""
-    ended = []
-    jobs = []
+    ended: list[int] = []
+    jobs: list[concurrent.futures.Future[None]] = []
 
-    def run(command):
+    def run(command: Json) -> None:
         for need in command["needs"]:
             jobs[need].result()
         ended.append(command["id"])
@@ -101,7 +104,7 @@ def ran_in_threads(plan):
     return ended
 
 
-def check(name, zigrunk, validator, room):
+def check(name: str, zigrunk: str, validator: Any, room: str) -> list[str]:
     """Returns what is wrong with the JSON of a pair."""
     dry1, dry2 = with_programs(name, room)
     with open(f"{DATA}/{name}.flag", encoding="utf-8") as file:
@@ -123,14 +126,14 @@ def check(name, zigrunk, validator, room):
     return found
 
 
-def refused(validator):
+def refused(validator: Any) -> list[str]:
     """Returns the names of wrong plans that the schema accepts."""
-    command = {
+    command: Json = {
         "args": [], "cacheable": True, "complete": True, "cwd": "/t", "env": [["A", "b"]], "exe": "/b/cicc", "group": 0, "id": 0,
         "line": 1, "may_write": [], "needs": [], "reads": [], "run": 1, "writes": [],
     }
-    plan = {"commands": [command], "cwd": "/w", "dropped": [], "flag": "-c", "groups": 2, "tmp": "/t", "version": 1}
-    wrong = {
+    plan: Json = {"commands": [command], "cwd": "/w", "dropped": [], "flag": "-c", "groups": 2, "tmp": "/t", "version": 1}
+    wrong: dict[str, Json] = {
         "another version": {**plan, "version": 2},
         "a line 0": {**plan, "commands": [{**command, "line": 0}]},
         "a run 0": {**plan, "commands": [{**command, "run": 0}]},
@@ -142,23 +145,20 @@ def refused(validator):
     return accepted if validator.is_valid(plan) else accepted + ["no plan at all"]
 
 
-def main():
+def main() -> int:
     zigrunk = os.path.realpath(sys.argv[1] if len(sys.argv) > 1 else f"{TOP}/crates/zigrunk/out/zigrunk")
     with open(f"{TOP}/docs/plan.schema.json", encoding="utf-8") as file:
         schema = json.load(file)
     jsonschema.Draft202012Validator.check_schema(schema)
     validator = jsonschema.Draft202012Validator(schema)
-    passed = failed = 0
+    counts = Counts()
     with tempfile.TemporaryDirectory() as room:
         results = [(name, check(name, zigrunk, validator, room)) for name in pairs()]
     results.append(("the schema", [f"it accepts {name}" for name in refused(validator)]))
     for name, found in results:
-        for finding in found:
-            print(f"{name}: {finding}")
-        passed += not found
-        failed += bool(found)
-    print(f"{passed} passed, {failed} failed")
-    sys.exit(1 if failed else 0)
+        counts.case(name, found)
+    return counts.summary()
 
 
-main()
+if __name__ == "__main__":
+    sys.exit(main())

@@ -14,11 +14,11 @@ sys.path.insert(0, os.path.dirname(os.path.realpath(shutil.which("rt") or "rt"))
 import rtlib  # the kit's own: what it passes to its prover for a crate
 
 
-def main(words):
+def main(words: list[str]) -> int:
     if len(words) != 2:
         print(__doc__, file=sys.stderr)
         return 2
-    folder, out = map(os.path.realpath, words)
+    folder, out = (os.path.realpath(it) for it in words)
     crate = next(it for it in rtlib.crates_below(folder) if it.name == "zigrunk_c")
     # The second compiler takes what the first one's check kept.
     common = [*crate.words(["--jobs", "2"], keeps=False), "--toolchain", f"{rtlib.KIT}/toolchain", "--incremental", f"{out}/kept"]

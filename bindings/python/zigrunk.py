@@ -147,7 +147,7 @@ class PlanCall:
     """The option that says what nvcc makes, empty if it links."""
     keep_dir: Optional[str] = None
     """The directory that keeps generated files. Without one, they get canonical names."""
-    environment: Union[Mapping[str, str], Sequence[Tuple[str, str]]] = field(default_factory=list)
+    environment: Union[Mapping[str, str], Sequence[Tuple[str, str]]] = field(default_factory=lambda: [])
     """The call's environment variables."""
     suffixes: Sequence[str] = ()
     """Suffixes of generated files, behind the standard ones."""

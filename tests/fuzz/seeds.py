@@ -11,7 +11,7 @@ os.makedirs(folder, exist_ok=True)
 made = 0
 
 
-def write(choices, *texts):
+def write(choices: list[int], *texts: bytes) -> None:
     """Writes an input: two bytes, and texts."""
     global made
     made += 1
@@ -19,7 +19,7 @@ def write(choices, *texts):
         file.write(bytes(choices) + b"\x1e".join(texts))
 
 
-def read(name):
+def read(name: str) -> bytes:
     with open(name, "rb") as file:
         return file.read()
 
@@ -37,7 +37,7 @@ for dry1 in sorted(glob.glob(f"{runs}/*.dry1")):
     write([64 + 16, 1], first, second, b"/w", b"/t", flag.strip())
     write([128, 9], first, second, b"/w", b"/t", flag.strip())
 for table in sorted(glob.glob(f"{top}/crates/test_*/data/*.txt")):
-    group = []
+    group: list[bytes] = []
     for line in read(table).splitlines():
         words = re.split(rb" => | : ", line.strip())
         if line.startswith(b"#") or len(line) > 4000:

@@ -11,7 +11,7 @@ import sys
 import zigrunk
 
 
-def main(words):
+def main(words: list[str]) -> int:
     if len(words) != 5:
         print(__doc__, file=sys.stderr)
         return 2
