@@ -3,7 +3,7 @@ PREFIX ?= /usr/local
 DESTDIR ?=
 target = $(DESTDIR)$(PREFIX)
 
-.PHONY: help demo build lib install install-programs install-library uninstall dist bench fuzz fuzz-library must-fail refused-memory end-to-end odd-calls cache cluster mutants test-install dist-test check-docs test
+.PHONY: help demo build lib install install-programs install-library uninstall dist bench fuzz fuzz-library must-fail refused-memory end-to-end odd-calls cache cluster mutants test-install dist-test check-docs lint test
 
 help:
 	@echo 'make demo             run cudaplan, unproved, on two calls; a minute from a fresh clone'
@@ -23,6 +23,7 @@ help:
 	@echo 'make cluster          build on a Slurm of three nodes that it starts on this machine; needs nvcc, slurm-wlm and munge; root'
 	@echo 'make mutants          check that the tests catch wrong edits of zigrunk-nvcc'
 	@echo 'make check-docs       check links, quoted code and names in the pages, and the version number'
+	@echo 'make lint             check shell, Python and Rust: shellcheck, mypy, flake8, clippy and rustfmt, as far as they are installed'
 	@echo 'make test-install     install into an empty directory, run the programs from there, uninstall'
 	@echo 'make dist             pack the built programs: a tarball, a Debian package and their checksums, in dist/'
 	@echo 'make dist-test        install the Debian package in fresh Debian roots, run it there, remove it; needs root'
@@ -132,6 +133,10 @@ mutants:
 # The pages name files, definitions and calls; this finds names that aren't there.
 check-docs:
 	@tests/docs.py
+
+# What the prover doesn't read.
+lint:
+	@tests/lint.sh
 
 # Proves nothing. Two runs from one commit give the same bytes.
 dist:

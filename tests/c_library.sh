@@ -176,7 +176,7 @@ grouped() {
     done
 }
 
-# crate LIBRARY: the crate for Rust: its tests, its pages, and what clippy says of it. Cargo takes nothing from a network here, and
+# crate LIBRARY: the crate for Rust: its tests and its pages (clippy is in tests/lint.sh). Cargo takes nothing from a network here, and
 # leaves nothing in the repository.
 crate() {
     local library=$1 manifest=(--offline --locked --manifest-path bindings/rust/Cargo.toml) start=$SECONDS
@@ -186,11 +186,6 @@ crate() {
     check 'the script that an example of it writes' script "$library" "$CARGO_TARGET_DIR/debug/examples/shell"
     check 'the groups that its other example prints' grouped "$CARGO_TARGET_DIR/debug/examples/groups"
     check 'the pages of the crate' env RUSTDOCFLAGS='-D warnings' cargo doc --no-deps "${manifest[@]}"
-    if cargo clippy --version > /dev/null 2>&1; then
-        check 'clippy on the crate' cargo clippy --all-targets "${manifest[@]}" -- -D warnings
-    else
-        echo "skipped: clippy on the crate, which isn't installed"
-    fi
     rm "$library/lib/libzigrunk.a"
     check 'the tests with the shared object' env LD_LIBRARY_PATH="$library/lib" cargo test --tests "${manifest[@]}"
     ZIGRUNK_LIB_DIR=$scratch/none cargo build "${manifest[@]}" > "$scratch/without" 2>&1

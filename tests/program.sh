@@ -785,6 +785,7 @@ messages() {
     check 'a file in place of a folder' 1 '' "zigrunk: cannot read $scratch/kernel/x: Not a directory"$'\n' json /w /t -c "$scratch/kernel/x" x
     check 'a file with a newline' 1 '' 'zigrunk: cannot read a\nb: No such file or directory'$'\n' json /w /t -c $'a\nb' x
     bad 'an open quote' "#\$ gcc 'x" 'the command has an open quote or ends in a backslash'
+    # shellcheck disable=SC1003 # a backslash
     bad 'a backslash at the end' '#$ gcc \' 'the command has an open quote or ends in a backslash'
     bad 'a command without words' '#$  ' 'the command has no words'
     bad 'a line that is not UTF-8' $'#$ gcc \xff\x80\x9b\x1b' "the line isn't UTF-8" '#$ gcc \xff\x80\x9b\u{1b}'
@@ -846,8 +847,10 @@ escapes() {
         : > "$scratch/out"
         wrong=ok
         lines_told=0
+        # shellcheck disable=SC2059 # escapes
         printf "#\$ 'x$bytes\n" > "$scratch/byte"
         escaped 2 "$scratch/byte" "$scratch/kernel"
+        # shellcheck disable=SC2059 # escapes
         printf "#\$ PATH=/x${bytes}y\n#\$ x1${bytes}y\n" > "$scratch/byte"
         escaped 2 "$scratch/byte" "$scratch/kernel"
         [ "$code" -eq 0 ] || escaped_words "$bytes"
@@ -862,6 +865,7 @@ escapes() {
 # the same for words of calls with these bytes, in which a slash ends a folder's name
 escaped_words() {
     local text
+    # shellcheck disable=SC2059 # escapes
     printf -v text "x$1."
     text=${text%.}
     escaped 1 "$scratch/$text/x" "$scratch/kernel"

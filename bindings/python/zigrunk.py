@@ -249,7 +249,8 @@ class Line:
     too_hard_for_preprocessor_cache_mode: Optional[str]
     """None, as `depfile`."""
     color_mode: Union[ColorMode, int]
-    """Whether the compiler colours its messages: OFF for a device tool, else AUTO. A number if a later library has a mode that this module doesn't know."""
+    """Whether the compiler colours its messages: OFF for a device tool, else AUTO. A number if a later library has a mode that this
+    module doesn't know."""
     double_dash_input: bool
     """Whether the input comes after `--`."""
     msvc_explicit_language: bool
@@ -442,7 +443,7 @@ def _checked(status: int, text: bytes) -> None:
 
 def _texts(ranges: ctypes.Array[_Range], count: int, data: bytes) -> List[str]:
     used = ctypes.string_at(ranges, count * ctypes.sizeof(_Range))
-    return [data[offset : offset + length].decode("utf-8") for offset, length in struct.iter_unpack("NN", used)]
+    return [data[offset:offset + length].decode("utf-8") for offset, length in struct.iter_unpack("NN", used)]
 
 
 def _ask_text(call: Callable[..., _TextAnswer], *arguments: object) -> str:
@@ -548,7 +549,7 @@ def _reason(number: int) -> Union[Reason, int, None]:
 
 
 def _command(it: _Command, texts: Sequence[str]) -> Command:
-    arguments, variables = (texts[part.offset : part.offset + part.length] for part in (it.arguments, it.variables))
+    arguments, variables = (texts[part.offset:part.offset + part.length] for part in (it.arguments, it.variables))
     return Command(
         texts[it.program], tuple(arguments), tuple(zip(variables[::2], variables[1::2])), texts[it.cwd],
         it.group if it.reason == 0 else None, _known(Reason, it.reason) if it.reason else None, it.cacheable == 1, it.run, it.line,
@@ -574,7 +575,7 @@ def plan_records(call: PlanCall, which: Callable[[Lookup, str], Optional[str]] =
             texts = _texts(ranges, answer.ranges, data)
             made = tuple(_command(it, texts) for it in commands[: answer.commands])
             return Plan(
-                tuple(Group(Stage(it.stage), made[it.commands.offset : it.commands.offset + it.commands.length])
+                tuple(Group(Stage(it.stage), made[it.commands.offset:it.commands.offset + it.commands.length])
                       for it in groups[: answer.groups]),
                 tuple(it for it in made if it.reason is not None),
             )
@@ -598,7 +599,7 @@ def line(tool: Tool, cwd: str, words: Sequence[str],
 
 def _line(line: _LineRecord, outputs: Sequence[_Output], texts: Sequence[str]) -> Line:
     def words(part: _Range) -> Tuple[str, ...]:
-        return tuple(texts[part.offset : part.offset + part.length])
+        return tuple(texts[part.offset:part.offset + part.length])
 
     def optional(part: _Range) -> Optional[str]:
         return texts[part.offset] if part.length else None
