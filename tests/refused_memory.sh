@@ -8,6 +8,8 @@
 # Usage: tests/refused_memory.sh [FILE..]     files of crates/test_lines/data or crates/test_plans/data; all files, and the
 #                                             calls of the programs, unless named
 #
+# The last line is 'N passed, M failed': each failed allocation is a case.
+#
 # Cases with more than MOST allocations (3000, if that isn't set) are left out, since they would take minutes.
 # `make refused-memory` builds the programs and leaves them in out/ of their crates. Each run is a process of its own, into
 # which refuse_nth.c is preloaded.
@@ -24,8 +26,8 @@ for built in "$test_lines" "$test_plans" "$cudaplan" "$zigrunk"; do
         exit 2
     fi
 done
-work=$(mktemp -d)
-trap 'rm -rf "$work"' EXIT
+. tests/lib.sh
+work=$scratch
 cp -r crates/test_lines/data/. crates/test_plans/data/. "$work"
 cd "$work" || exit 2
 cc -shared -fPIC -O2 -o hook.so "$root/tests/refuse_nth.c" -ldl || exit 2
@@ -35,13 +37,19 @@ refused=0
 answered=0
 same=0
 left_out=0
-failed=0
 most=${MOST:-3000}
 
-# wrong TEXT..: notes a failure.
+# wrong TEXT: counts a failure.
 wrong() {
-    echo "failed: $*"
-    failed=$((failed + 1))
+    count failed "$1"
+}
+
+# judged JUDGE NAME N: a case, a run with this failed allocation.
+judged() {
+    local before=$failed
+    refused=$((refused + 1))
+    "$@"
+    passed=$((passed + (failed == before)))
 }
 
 # run_refused N CMD..: runs a command whose Nth allocation fails, or from the Nth on all, if N ends in a minus. Leaves its
@@ -108,8 +116,7 @@ count_up() {
     fi
     counted=$((counted + 1))
     while run_refused "$number" "$@"; [ "$met" = refused ]; do
-        refused=$((refused + 1))
-        "$judge" "$name" "$number"
+        judged "$judge" "$name" "$number"
         number=$((number + 1))
     done
     if [ "$met" != whole ]; then
@@ -123,8 +130,7 @@ call() {
     count_up judge_call "$@"
     shift 2
     while run_refused "$number-" "$@"; [ "$met" = refused ]; do
-        refused=$((refused + 1))
-        judge_call "$name" "$number and all after it"
+        judged judge_call "$name" "$number and all after it"
         number=$((number + 1))
     done
 }
@@ -237,5 +243,5 @@ fi
 for file in "$@"; do
     run_file "$file"
 done
-echo "cases and calls: $counted, left out: $left_out, failed allocations: $refused, answered 'out of memory': $answered, asked again: $same, failed: $failed"
-[ "$failed" -eq 0 ]
+echo "cases and calls: $counted, left out: $left_out, failed allocations: $refused, answered 'out of memory': $answered, asked again: $same"
+summary
