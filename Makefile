@@ -21,7 +21,7 @@ help:
 	@echo 'make odd-calls        the same for 131 calls with odd words'
 	@echo 'make cache            compare rebuilds through sccache with and without zigrunk-nvcc; needs sccache 0.9'
 	@echo 'make cluster          build on a Slurm of three nodes that it starts on this machine; needs nvcc, slurm-wlm and munge; root'
-	@echo 'make mutants          check that the tests catch wrong edits of zigrunk-nvcc'
+	@echo 'make mutants          check that the tests catch wrong edits of zigrunk-nvcc and zigrunk-slot'
 	@echo 'make check-docs       check links, quoted code and names in the pages, and the version number'
 	@echo 'make lint             check shell, Python and Rust: shellcheck, mypy, flake8, clippy and rustfmt, as far as they are installed'
 	@echo 'make test-install     install into an empty directory, run the programs from there, uninstall'
@@ -56,10 +56,12 @@ install-programs:
 	install -D -m 755 crates/zigrunk/out/zigrunk "$(target)/bin/zigrunk"
 	install -D -m 755 bin/zigrunk-nvcc "$(target)/bin/zigrunk-nvcc"
 	install -D -m 755 bin/zigrunk-batch "$(target)/bin/zigrunk-batch"
+	install -D -m 755 bin/zigrunk-slot "$(target)/bin/zigrunk-slot"
 	install -D -m 644 man/zigrunk.1 "$(target)/share/man/man1/zigrunk.1"
 	install -D -m 644 man/zigrunk-nvcc.1 "$(target)/share/man/man1/zigrunk-nvcc.1"
 	install -D -m 644 man/zigrunk-batch.1 "$(target)/share/man/man1/zigrunk-batch.1"
 	ln -sf zigrunk.1 "$(target)/share/man/man1/cudaplan.1"
+	ln -sf zigrunk-nvcc.1 "$(target)/share/man/man1/zigrunk-slot.1"
 	install -D -m 644 completions/zigrunk.bash "$(target)/share/bash-completion/completions/zigrunk"
 	ln -sf zigrunk "$(target)/share/bash-completion/completions/cudaplan"
 	ln -sf zigrunk "$(target)/share/bash-completion/completions/zigrunk-nvcc"
@@ -77,6 +79,7 @@ install-library:
 uninstall:
 	rm -f "$(target)/bin/cudaplan" "$(target)/bin/zigrunk" "$(target)/bin/zigrunk-nvcc" "$(target)/bin/zigrunk-batch"
 	rm -f "$(target)/share/man/man1/zigrunk.1" "$(target)/share/man/man1/zigrunk-nvcc.1" "$(target)/share/man/man1/cudaplan.1"
+	rm -f "$(target)/bin/zigrunk-slot" "$(target)/share/man/man1/zigrunk-slot.1"
 	rm -f "$(target)/share/man/man1/zigrunk-batch.1" "$(target)/share/man/man3/zigrunk.h.3"
 	rm -f "$(target)/share/bash-completion/completions/zigrunk" "$(target)/share/bash-completion/completions/cudaplan"
 	rm -f "$(target)/share/bash-completion/completions/zigrunk-nvcc" "$(target)/share/bash-completion/completions/zigrunk-batch"

@@ -1,5 +1,6 @@
 #!/usr/bin/env bash
-# Tests zigrunk-nvcc: by stand-ins (tests/script.sh, and tests/batch.sh for zigrunk-batch), by calls that nvcc makes too
+# Tests zigrunk-nvcc: by stand-ins (tests/script.sh, tests/slots.sh for many at once, and
+# tests/batch.sh for zigrunk-batch), by calls that nvcc makes too
 # (tests/compare_calls.py), by the installed nvcc's list of options (tests/nvcc_options.sh), by commands that have only their own
 # files (tests/isolated.py), and by signals in the middle of a build. It tests too that such tests fail if they show nothing
 # (tests/runners.sh).
@@ -105,6 +106,7 @@ missing() {
 
 start script tests/script.sh
 start batch tests/batch.sh
+start slots tests/slots.sh
 start options tests/nvcc_options.sh
 start runners tests/runners.sh
 lacking=$(missing)

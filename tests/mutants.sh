@@ -1,35 +1,41 @@
 #!/usr/bin/env bash
-# Makes edits of bin/zigrunk-nvcc, one at a time, and counts those that tests/script.sh catches. Prints a line for each edit that
-# passes, and last 'N passed, M failed', where a caught edit has passed.
+# Makes edits of bin/zigrunk-nvcc and bin/zigrunk-slot, one at a time, and counts those that tests/script.sh or tests/slots.sh catches.
+# Prints a line for each edit that passes, and last 'N passed, M failed', where a caught edit has passed.
 #
 #   tests/mutants.sh [TEXT]    only the edits whose lines contain TEXT
 #
 # An edit is a line that names it, a line 'old: TEXT' and a line 'new: TEXT'. The old text stands in one place of the script.
 cd "$(dirname "$0")/.." || exit 1
 . tests/lib.sh
-text=$(cat bin/zigrunk-nvcc)
 only=${1-}
 
-# try NAME OLD NEW: one edit.
+# try NAME OLD NEW: one edit of the program, which the tests have to catch.
 try() {
-    local file=$scratch/$((passed + failed))
+    local file=$scratch/$program
     if [ "${text/"$2"/}" = "$text" ]; then
         count "$1" "the script has no '$2'"
         return
     fi
     printf '%s\n' "${text/"$2"/$3}" > "$file"
-    if SHELLS=${SHELLS-dash} STOP_EARLY=1 tests/script.sh "$file" > "$scratch/said" 2>&1; then
+    if SHELLS=${SHELLS-dash} STOP_EARLY=1 "$tests" "$scratch/zigrunk-nvcc" > "$scratch/said" 2>&1; then
         count "$1" 'no test fails'
     else
         count "$1" ''
     fi
 }
 
+# tries PROGRAM TESTS: the edits of a program, from standard input.
+tries() {
+    program=$1 tests=$2 text=$(cat "bin/$1")
+    cp bin/zigrunk-nvcc bin/zigrunk-slot "$scratch"
+    while IFS= read -r name && IFS= read -r old && IFS= read -r new; do
+        [[ $name$old$new != *"$only"* ]] || try "$name" "${old#old: }" "${new#new: }"
+    done
+}
+
 shopt -u patsub_replacement 2> /dev/null
-SHELLS=${SHELLS-dash} tests/script.sh || exit 1
-while IFS= read -r name && IFS= read -r old && IFS= read -r new; do
-    [[ $name$old$new != *"$only"* ]] || try "$name" "${old#old: }" "${new#new: }"
-done << 'END'
+SHELLS=${SHELLS-dash} tests/script.sh && tests/slots.sh || exit 1
+tries zigrunk-nvcc tests/script.sh << 'END'
 zigrunk's path is ignored
 old: ${ZIGRUNK_PROGRAM:-zigrunk}
 new: zigrunk
@@ -109,8 +115,11 @@ a message when nothing runs
 old: wait; } 2> /dev/null
 new: wait; }
 the call's directory stays
-old: rm -rf "$tmp"
-new: :
+old: rm -rf ${tmp:+"$tmp"}
+new: rm -rf
+the lock of the call's directory stays
+old:  ${lock:+"$lock"}
+new: 
 the directory above stays
 old: rmdir "$base" 2> /dev/null
 new: :
@@ -187,14 +196,26 @@ all that is below the directory is looked at
 old:  -prune
 new: 
 a taken directory is used
-old: mkdir "$base/$name" 2> /dev/null && tmp=$base/$name
-new: mkdir -p "$base/$name" 2> /dev/null && tmp=$base/$name
-a message for a taken directory
-old: mkdir "$base/$name" 2> /dev/null
-new: mkdir "$base/$name"
+old: 1) exec 9>&- && return 1 ;;
+new: 1) rm -rf "${base:?}/$name" ;;
+a directory that was left is never used again
+old: && rm -rf "${base:?}/$name" &&
+new: &&
+the directory of a batch is used
+old: && left_directory &&
+new: &&
+the directory of a batch that has ended is never used
+old: [ ! -d "${batch:-/dev/null}" ]
+new: [ -z "$batch" ]
+no directory says which batch it is of
+old:  && echo "$folder" > "$own/planned"
+new: 
+a directory without locks is used twice
+old:     mkdir "$base/$name" 2> /dev/null
+new:     mkdir -p "$base/$name" 2> /dev/null
 all three tries are made
-old: tmp=$base/$name && break
-new: tmp=$base/$name
+old: own_directory && break
+new: own_directory
 no random directory
 old: tmp=$(mktemp -d "$temporary/zigrunk.XXXXXX" 2> /dev/null) ||
 new: 
@@ -282,9 +303,9 @@ new: "$own/dry2" "$own/dry1"
 any plan is run
 old: plain "$(printf '%s\n' "$reason" | sed 1q)" "$@"
 new: :
-outputs stay in Ninja's log
-old: s/^  command =
-new: s/^  nothing =
+commands are run without a slot
+old: s/^  command = /  command = ${slot} ${out}
+new: s/^  command = /  command = sh ${out}.sh
 there is no dependency file
 old: build ${tmp}/zigrunk.tmp/depended: dependencies ${tmp}/zigrunk.tmp/dependencies
 new: 
@@ -411,5 +432,51 @@ new:
 always 0
 old: exit "$status"
 new: exit
+END
+tries zigrunk-nvcc tests/slots.sh << 'END'
+Ninja goes on after the script was killed
+old: ${helper:+perl "$helper" --child-of "$$"}
+new: 
+the jobs of make are forgotten
+old:     *' -j'[1-9]*) most=
+new:     *' -j'[1-9]*) :; none=
+the pipe of make isn't used
+old: *,*) [ -p "$pipe" ]
+new: *,*) [ -f "$pipe" ]
+the named pipe of make isn't used
+old: fifo:*) [ -p
+new: fifo:*) [ -f
+the number of slots is ignored
+old: slots=${ZIGRUNK_SLOTS-}
+new: slots=
+END
+tries zigrunk-slot tests/slots.sh << 'END'
+there are no slots
+old: my $slot = $count && slot($count);
+new: 
+a slot is shared
+old: if flock $file, $try
+new: if flock $file, 5
+as many slots as make has jobs, however few processors there are
+old: && $1 < $most
+new: 
+calls with fewer slots hold up the others
+old: "queue-$count"
+new: "queue"
+tokens of make aren't given back
+old:     syswrite $make, $token if
+new:     undef if
+a call has no job of its own
+old:     until (flock $own, $try) {
+new:     while (1) {
+commands go on after Ninja was killed
+old: { syscall $prctl, $parent_death_signal, $numbers{TERM} }
+new: {}
+the status is lost
+old: exit $status;
+new: exit 0;
+the command alone gets a signal
+old: getpgrp == $$ ? -$$ : $child
+new: $child
 END
 summary

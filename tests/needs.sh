@@ -10,7 +10,7 @@ require 'needs of commands' nvcc "${ZIGRUNK_NINJA:-ninja}"
 wrapper=$PWD/bin/zigrunk-nvcc
 headers=$PWD/tests/small
 ZIGRUNK_PROGRAM=$(realpath "${1:-${ZIGRUNK_PROGRAM:-crates/zigrunk/out/zigrunk}}")
-export ZIGRUNK_PROGRAM ZIGRUNK_EXPLAIN=1 ZIGRUNK_JOBS=8
+export ZIGRUNK_PROGRAM ZIGRUNK_EXPLAIN=1 ZIGRUNK_JOBS=8 ZIGRUNK_SLOTS=8
 unset NVCC_PREPEND_FLAGS NVCC_APPEND_FLAGS MAKEFLAGS ZIGRUNK_RUNNER ZIGRUNK_LAUNCHER ZIGRUNK_TMP ZIGRUNK_PLAN
 
 cd "$scratch" || exit 1

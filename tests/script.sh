@@ -147,7 +147,7 @@ END
 
     begin 'the files that Ninja and zigrunk read'
     script NINJA_DOES='cat "$tmp/zigrunk.tmp/ninja" > "$LOG.ninja"; cat "$tmp/zigrunk.tmp/dry1" "$tmp/zigrunk.tmp/dry2" > "$LOG.dry"' -c k.cu -o k.o
-    same 'the file' "$(grep -v '^rule dep\|^  command = sh\|^build ' "$room/log.ninja")" $'the plan\nthe plan\nrule run\n  command = trap : HUP INT TERM; { ${line}; } > ${out}.out 2> ${out}.err'
+    same 'the file' "$(grep -v '^rule dep\|^  command = sh\|^build ' "$room/log.ninja")" "slot = exec perl ${script%/*}/zigrunk-slot '' ''"$'\nthe plan\nthe plan\nrule run\n  command = ${slot} ${out}\n  rspfile = ${out}.sh\n  rspfile_content = ${line}'
     same 'the dry runs' "$(cat "$room/log.dry")" $'#$ cicc k.cpp1.ii -o k.ptx\n#$ cicc k.cpp1.ii -o k.ptx'
     end
 
@@ -235,12 +235,51 @@ END
     mkdir -m 700 "$room/tmp/zigrunk-$user"
     mkdir "$split"
     echo other > "$split/file"
+    exec 5> "$split.lock" && flock 5
     script NINJA_DOES='[ -d "$tmp" ] && stat -c %a "$tmp" > "$LOG.mode"' -c k.cu -o k.o
     same status "$status" 0
     same 'where' "$(sed -n "s,^ninja \[-f\] \[\(.*\)/zigrunk.tmp.ninja\],\1,p" "$room/log" | grep -c "^$room/tmp/zigrunk\.......$")" 1
     same 'mode' "$(cat "$room/log.mode")" 700
     same output "$(cat "$room/out" "$room/err")" ''
-    same 'files left' "$(cd "$room/tmp" && find . -type f)" "./zigrunk-$user/zigrunk-name/file"
+    same 'files left' "$(cd "$room/tmp" && find . -type f | sort | tr '\n' ' ')" "./zigrunk-$user/zigrunk-name.lock ./zigrunk-$user/zigrunk-name/file "
+    exec 5>&-
+    end
+
+    begin 'the directory of a call that was killed'
+    mkdir -m 700 "$room/tmp/zigrunk-$user"
+    mkdir "$split"
+    echo other > "$split/file" && : > "$split.lock"
+    script NINJA_DOES='ls "$tmp" > "$LOG.list"' -c k.cu -o k.o
+    same status "$status" 0
+    holds calls "$room/log" "ninja [-f] [$split/zigrunk.tmp/ninja]"
+    same files "$(cat "$room/log.list")" zigrunk.tmp
+    leaves_nothing
+    end
+
+    if [ "${shell[0]}" != busybox ]; then
+        begin 'a disk without locks'
+        mkdir -m 700 "$room/tmp/zigrunk-$user"
+        mkdir "$room/bin" "$split"
+        printf '%s\n' '#!/bin/sh' 'exit 71' > "$room/bin/flock" && chmod +x "$room/bin/flock"
+        script PATH="$room/bin:$PATH" -c k.cu -o k.o
+        same 'calls there' "$(grep -c "zigrunk-name/zigrunk.tmp/ninja" "$room/log")" 0
+        rmdir "$split"
+        script PATH="$room/bin:$PATH" -c k.cu -o k.o
+        holds calls "$room/log" "ninja [-f] [$split/zigrunk.tmp/ninja]"
+        end
+    fi
+
+    begin 'the directory of a call in two steps'
+    mkdir "$room/batch"
+    script ZIGRUNK_PLAN="$room/batch/plan" -c k.cu -o k.o
+    same 'files left' "$(cd "$room/tmp" && ls -d */*)" "zigrunk-$user/zigrunk-name"
+    script -c k.cu -o k.o
+    same 'calls there' "$(grep -c "zigrunk-name/zigrunk.tmp/ninja" "$room/log")" 0
+    same 'files left' "$(cd "$room/tmp" && ls -d */*)" "zigrunk-$user/zigrunk-name"
+    rm -r "$room/batch"
+    script -c k.cu -o k.o
+    holds calls "$room/log" "ninja [-f] [$split/zigrunk.tmp/ninja]"
+    leaves_nothing
     end
 
     begin 'another call has a directory'

@@ -1,0 +1,247 @@
+#!/usr/bin/env bash
+# Runs many calls of bin/zigrunk-nvcc at once, with Ninja and make, and with stand-ins for nvcc and zigrunk: how many commands run at
+# once, and what is left after calls that are killed.
+# Prints a line for each case that fails, and last 'N passed, M failed'; the status is 1 if one failed.
+#
+#   tests/slots.sh [SCRIPT]    SCRIPT is bin/zigrunk-nvcc, unless given. Its zigrunk-slot is the one beside it
+#
+# STOP_EARLY, if set, ends the run at the first failure.
+# shellcheck disable=SC2016,SC2238 # the stand-ins expand what cases give them; a file is named command
+cd "$(dirname "$0")/.." || exit 1
+script=$(realpath "${1:-bin/zigrunk-nvcc}")
+. tests/lib.sh
+trap 'kill $(jobs -p) 2> /dev/null; rm -rf "$scratch"' EXIT
+unset NVCC_PREPEND_FLAGS NVCC_APPEND_FLAGS CDPATH MAKEFLAGS MFLAGS "${!ZIGRUNK@}"
+require slots ninja make perl flock
+
+# The stand-ins. A plan has a first command, and then three that can run at once. Each notes when it begins and ends.
+mkdir "$scratch/bin"
+cat > "$scratch/bin/zigrunk" << 'END'
+#!/bin/sh
+[ "$1" != --limit ] || shift 2
+case $1 in
+directory) shift && printf 'call-%s\n' "$(printf '%s\n' "$@" | cksum | tr ' ' -)" ;;
+calls)
+    tmp=$3
+    case $* in *whole*) echo 'zigrunk: goes to nvcc: it links' >&2 && exit 3 ;; esac
+    jobs=${ZIGRUNK_JOBS-}
+    case ${MAKEFLAGS-} in *--jobserver*) jobs=1 ;; esac
+    printf '%s\n' 'first_dry_run=:' 'second_dry_run=:' flag=-c "dependencies=''" "keep_dir=''" "jobs='$jobs'"
+    ;;
+ninja)
+    while [ "$1" != "${1#-}" ] || [ "$1" = ninja ]; do shift; done
+    folder=$1 tmp=$2
+    printf '%s\n' "tmp = $tmp" 'builddir = ${tmp}' 'rule run' '  command = ${line} || { code=$$?; echo $$code > ${out}.status; exit $$code; }'
+    for number in 0 1 2 3; do
+        echo "build \${tmp}/zigrunk.0.$number: run$([ "$number" = 0 ] || echo ' ${tmp}/zigrunk.0.0')"
+        echo "  line = ( cd '$folder' && sh ./command '$tmp' ) && touch '$tmp/zigrunk.0.$number'"
+    done
+    ;;
+esac
+END
+printf '%s\n' '#!/bin/sh' ':' > "$scratch/bin/nvcc"
+chmod +x "$scratch"/bin/*
+export PATH=$scratch/bin:$PATH
+
+# begin NAME: a case of its own folder, with slots of its own.
+begin() {
+    name=$1
+    room=$scratch/room.$((passed + failed))
+    mkdir -p "$room/work" "$room/tmp" "$room/run"
+    cd "$room/work" || exit 1
+    export TMPDIR=$room/tmp XDG_RUNTIME_DIR=$room/run LOG=$room/log
+    : > "$LOG"
+    printf '%s\n' 'echo "+ $1" >> "$LOG"' "sleep ${2-0.05}" 'echo "- $1" >> "$LOG"' > command
+    problems=''
+}
+
+# end: counts the case, and whether all it started has ended and left nothing.
+end() {
+    within 20 none_run || problems+="  processes: $(pgrep -af "$room")"$'\n'
+    if [ -z "$problems" ]; then
+        passed=$((passed + 1))
+    else
+        failed=$((failed + 1))
+        printf '%s:\n%s' "$name" "$problems"
+        [ -z "${STOP_EARLY-}" ] || { echo "$passed passed, $failed failed" && exit 1; }
+    fi
+    cd "$scratch" || exit 1
+}
+
+none_run() { ! pgrep -f "$room" > /dev/null; }
+begins() { [ "$(grep -c '^+' "$LOG")" -ge "$1" ]; }
+has() { [ -e "$1" ]; }
+
+# within SECONDS COMMAND..: waits until the command succeeds, and fails if it takes longer.
+within() {
+    local last=$((SECONDS + $1))
+    until "${@:2}"; do
+        [ "$SECONDS" -le "$last" ] || return
+        sleep 0.02
+    done
+}
+
+# same WHAT GOT WANTED: a problem, unless the texts are alike.
+same() {
+    [ "$2" = "$3" ] || problems+="  $1: '$2', not '$3'"$'\n'
+}
+
+# at_most COUNT [LEAST]: a problem if more commands than COUNT ran at once, or never as many as LEAST.
+at_most() {
+    local most
+    most=$(awk '/^[+]/ { if (++now > most) most = now } /^-/ { now-- } END { print most + 0 }' "$LOG")
+    [ "$most" -le "$1" ] || problems+="  $most commands at once, not $1"$'\n'
+    [ "$most" -ge "${2-1}" ] || problems+="  only $most commands at once, not ${2-1}"$'\n'
+}
+
+# graph COUNT: a Ninja file and a Makefile of so many calls, whose recipes begin with $1.
+graph() {
+    printf '%s\n' 'rule call' "  command = $script -c \$in -o \$out && touch \$out" > build.ninja
+    printf 'all: %s\n' "$(seq -f '%g.o' -s ' ' "$1")" > Makefile
+    for number in $(seq "$1"); do
+        : > "$number.cu"
+        echo "build $number.o: call $number.cu" >> build.ninja
+        printf '%s\n' "$number.o: $number.cu" $'\t'"${2-}$script -c \$< -o \$@ && touch \$@" >> Makefile
+    done
+}
+
+begin 'a call alone' 0.4
+graph 1
+ZIGRUNK_SLOTS=3 "$script" -c 1.cu -o 1.o > said 2>&1
+same 'status and messages' "$? $(cat said)" '0 '
+same commands "$(grep -c '^+' "$LOG")" 4
+at_most 3 3
+same 'files left' "$(ls "$room/tmp")" ''
+end
+
+begin 'a call alone takes the processors'
+graph 1
+taskset -c "$(taskset -cp $$ | sed 's/.*[:,-] *//')" "$script" -c 1.cu -o 1.o
+at_most 1
+end
+
+begin 'Ninja with twelve calls'
+graph 12
+ZIGRUNK_SLOTS=2 ninja -j16 > said 2>&1
+same 'status' "$? $(grep -c failed said)" '0 0'
+same commands "$(grep -c '^+' "$LOG")" 48
+at_most 2 2
+same 'files left' "$(ls "$room/tmp")" ''
+end
+
+begin 'calls with fewer slots'
+graph 8
+ZIGRUNK_SLOTS=3 ninja -j8 1.o 2.o 3.o 4.o > said 2>&1 &
+ZIGRUNK_SLOTS=1 ninja -j8 5.o 6.o 7.o 8.o > said.2 2>&1
+same status "$?" 0
+wait "$!"
+same status "$?" 0
+same commands "$(grep -c '^+' "$LOG")" 32
+at_most 3 2
+end
+
+begin 'no limit' 0.3
+graph 4
+ZIGRUNK_SLOTS=0 ZIGRUNK_JOBS=4 ninja -j4 > said 2>&1
+same 'status' "$?" 0
+at_most 12 5
+end
+
+begin 'make without its jobserver'
+graph 12
+make -j3 > said 2>&1
+same 'status' "$?" 0
+same commands "$(grep -c '^+' "$LOG")" 48
+at_most 3 2
+end
+
+begin 'make with its jobserver'
+graph 12 +
+ZIGRUNK_SLOTS=0 make -j3 > said 2>&1
+same 'status and what it says of jobs' "$? $(grep -c 'token\|jobserver' said)" '0 0'
+same commands "$(grep -c '^+' "$LOG")" 48
+at_most 3 2
+end
+
+begin 'a call alone with the jobserver of make' 0.4
+graph 1 +
+ZIGRUNK_SLOTS=0 make -j3 > said 2>&1
+at_most 3 3
+end
+
+begin 'a jobserver that is a named pipe' 0.3
+graph 2
+mkfifo "$room/jobs"
+exec 5<> "$room/jobs"
+printf '+' >&5
+MAKEFLAGS=" -j3 --jobserver-auth=fifo:$room/jobs -- A=b" ZIGRUNK_SLOTS=0 ninja -j2 > said 2>&1
+same 'status' "$?" 0
+same commands "$(grep -c '^+' "$LOG")" 8
+at_most 3 3
+same 'tokens' "$(dd bs=9 count=1 iflag=nonblock if="$room/jobs" 2> /dev/null)" +
+exec 5>&-
+end
+
+begin 'two hundred calls'
+graph 200
+sed -i 's/sleep.*/:/' command
+ninja -j200 > said 2>&1
+same 'status' "$?" 0
+same commands "$(grep -c '^+' "$LOG")" 800
+at_most "$(nproc)"
+same 'files left' "$(ls "$room/tmp")" ''
+end
+
+begin 'calls that are killed'
+graph 12
+export ZIGRUNK_SLOTS=2
+for round in 1 2 3; do
+    for number in $(seq 12); do
+        "$script" -c "$number.cu" -o "$number.o" > "said.$number" 2>&1 &
+    done
+    while [ -n "$(jobs -pr)" ]; do
+        # Scripts are jobs of this shell, and each process of theirs but sleep names a file in the case's folder.
+        mapfile -t victims < <(jobs -pr; pgrep -f "$room")
+        [ "${#victims[@]}" -eq 0 ] || kill -KILL "${victims[RANDOM % ${#victims[@]}]}" 2> /dev/null
+        sleep 0.02
+        mapfile -t victims < <(jobs -pr)
+        ! begins $((round * 12)) || kill -KILL "${victims[@]}"
+    done
+    wait
+done 2> /dev/null
+within 20 none_run || problems+='  commands go on'$'\n'
+: > "$LOG"
+"$script" -c 1.cu -o 1.o > said 2>&1
+same 'status and messages' "$? $(cat said)" '0 '
+at_most 2 2
+unset ZIGRUNK_SLOTS
+end
+
+begin 'the script is killed' 30
+graph 1
+"$script" -c 1.cu -o 1.o > said 2>&1 &
+process=$!
+within 20 begins 1 || problems+='  no command begins'$'\n'
+kill -KILL "$process"
+{ wait "$process"; } 2> /dev/null
+within 3 none_run || problems+='  its commands go on'$'\n'
+same 'directories' "$(find "$room/tmp" -name 'call-*[0-9]' | wc -l)" 1
+directory=$(sed -n 's/^+ //p' "$LOG")
+printf '%s\n' 'echo "+ $1" >> "$LOG"' > command
+"$script" -c 1.cu -o 1.o > said 2>&1
+same 'status and messages' "$? $(cat said)" '0 '
+same 'directories' "$(sed -n 's/^+ //p' "$LOG" | sort -u)" "$directory"
+same 'files left' "$(ls "$room/tmp")" ''
+end
+
+begin 'Ninja is killed' 30
+graph 1
+"$script" -c 1.cu -o 1.o > said 2>&1 &
+within 20 begins 1 || problems+='  no command begins'$'\n'
+ninja=$(pgrep -x ninja -P "$!")
+kill -KILL "$ninja" || problems+='  there is no Ninja'$'\n'
+wait "$!"
+within 3 none_run || problems+='  its commands go on'$'\n'
+end
+
+summary
