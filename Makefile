@@ -3,7 +3,7 @@ PREFIX ?= /usr/local
 DESTDIR ?=
 target = $(DESTDIR)$(PREFIX)
 
-.PHONY: help demo build lib install install-programs install-library uninstall dist bench fuzz fuzz-library must-fail refused-memory end-to-end odd-calls cache cluster mutants test-install dist-test check-docs lint test
+.PHONY: help demo build lib check install install-programs install-library uninstall dist bench fuzz fuzz-library must-fail refused-memory end-to-end odd-calls cache cluster mutants test-install dist-test check-docs lint test
 
 help:
 	@echo 'make demo             run cudaplan, unproved, on two calls; a minute from a fresh clone'
@@ -12,7 +12,8 @@ help:
 	@echo 'make install          install both, the scripts, the man pages and completions; PREFIX=/usr/local, DESTDIR='
 	@echo '                      make install-programs and make install-library install, and build, one of them'
 	@echo 'make uninstall        remove what make install installed, with the same PREFIX and DESTDIR'
-	@echo 'make test             the whole gate; the last line is N passed, M failed'
+	@echo 'make check CRATE=dry_runs   prove one crate over kept libraries, or with FUNCTION=PATH one function of it; no verdict'
+	@echo 'make test             the whole gate; the last line is N passed, M failed; BODIES=all tries all wrong bodies'
 	@echo 'make must-fail        check that the prover rejects the wrong bodies of all crates, or of CRATES="texts dry_runs"'
 	@echo 'make fuzz             run the library on 10,000 random cases of each kind; SEED=1 COUNT=10000 FIRST=0'
 	@echo 'make fuzz-library     fuzz libzigrunk for an hour, guided by coverage; needs clang with libFuzzer; FUZZ_SECONDS=3600'
@@ -39,6 +40,10 @@ build:
 	cd crates/cudaplan && rt check && rt run -- line cicc /w x.cpp1.ii -o x.ptx > /dev/null
 	cd crates/zigrunk && rt check && rt run -- --version > /dev/null
 	@.ci/built record programs
+
+# What you want after each edit. It keeps what it proves outside the clone.
+check:
+	@tests/quick $(CRATE) $(FUNCTION)
 
 # The planner for programs in C, Rust and Python (docs/EMBEDDING.md).
 lib:
@@ -103,7 +108,7 @@ FUZZ_SECONDS ?= 3600
 fuzz-library:
 	tests/fuzz/library.sh out/fuzz $(FUZZ_SECONDS)
 
-# The prover has to reject each wrong body in crates/NAME/must-fail.
+# The prover has to reject each wrong body in crates/NAME/must-fail. It notes in tests/must_fail.tried what it tried.
 must-fail:
 	tests/must_fail.py $(CRATES)
 

@@ -100,9 +100,9 @@ calls() {
     check 'the calls of eight threads' "$programs/threads" 2000
 }
 
-# watched LIBRARY: the same under tools that watch memory and threads.
-watched() {
-    local library=$1 programs=$1/programs
+# memchecked LIBRARY: the same under valgrind.
+memchecked() {
+    local programs=$1/programs
     if has gcc valgrind; then
         check 'the calls under memcheck' valgrind -q --error-exitcode=9 --leak-check=full "$programs/calls" 100
         check 'the plans under memcheck' valgrind -q --error-exitcode=9 --leak-check=full "$programs/plans" "$data" "${real_calls[0]}"
@@ -112,6 +112,11 @@ watched() {
         check 'the records of lines under memcheck' valgrind -q --error-exitcode=9 --leak-check=full "$programs/line_records" 50
         check 'the threads under helgrind' valgrind -q --tool=helgrind --error-exitcode=9 "$programs/threads" 20
     fi
+}
+
+# sanitized LIBRARY: the same with clang's sanitizers.
+sanitized() {
+    local library=$1 programs=$1/programs
     if has clang; then
         check 'calls.c with sanitizers' compiled clang tests/c/calls.c "$programs/sanitized" "$library" -fsanitize=address,undefined -fno-sanitize-recover=all
         check 'the calls under ASan and UBSan' "$programs/sanitized" 1000
@@ -205,19 +210,24 @@ elif ! tests/static_library.py "${1:-.}" "$scratch/archives"; then
 elif [ -n "${2-}" ]; then
     check 'the archive for an installation' install -D -m 644 "$scratch/archives/llvm.a" "$2"
 fi
-headers bindings/c
+lane headers headers bindings/c
 for archive in "$scratch"/archives/*.a; do
     library=$scratch/$(basename "$archive" .a)
     check "the library of $(basename "$archive")" bindings/c/library.sh "$archive" "$library"
     check 'its symbols' symbols "$library/lib"
-    calls "$library"
+    lane "calls_$(basename "$archive" .a)" calls "$library"
 done
 library=$scratch/llvm
 [ -d "$library" ] || library=$scratch/built
+# (the crate's tests take the archive away)
+cp -r "$library" "$scratch/for_rust"
+lane rust crate "$scratch/for_rust"
+lane python python "$library"
+join_lanes
 [ ! -d "$scratch/rattle" ] || check 'both builds give the same answers' cmp "$scratch/llvm/programs/answers" "$scratch/rattle/programs/answers"
-watched "$library"
-shared "$library"
-python "$library"
-crate "$library"
+lane memchecked memchecked "$library"
+lane sanitized sanitized "$library"
+lane shared shared "$library"
+join_lanes
 
 summary

@@ -78,6 +78,33 @@ add() {
     return 1
 }
 
+# lane NAME COMMAND..: starts a command in the background, whose cases have a folder $scratch of their own, below this one.
+lane() {
+    lanes+=("$1")
+    in_lane "$@" > "$scratch/lane.$1.said" 2>&1 &
+    processes+=("$!")
+}
+
+# in_lane NAME COMMAND..: what a lane's process does.
+in_lane() {
+    scratch=$scratch/lane.$1 passed=0 failed=0 skipped=0
+    mkdir "$scratch" && "${@:2}"
+    summary
+}
+lanes=() processes=()
+
+# join_lanes: waits for the lanes, shows what each said, and adds its counts.
+join_lanes() {
+    local number status
+    for number in "${!lanes[@]}"; do
+        wait "${processes[number]}"
+        status=$?
+        add "$status" "$scratch/lane.${lanes[number]}.said" || echo "${lanes[number]} has no counts"
+        sed '$d' "$scratch/lane.${lanes[number]}.said"
+    done
+    lanes=() processes=()
+}
+
 # summary: prints the last line. Returns 1 if a case failed, or if there was none.
 summary() {
     if [ $((passed + failed + skipped)) -eq 0 ]; then

@@ -1,8 +1,9 @@
 #!/usr/bin/env python3
 """Tries the wrong bodies, crates/NAME/must-fail/*.edit: the prover has to reject each.
 
-Usage: tests/must_fail.py [CRATE..]                   all crates, or those named; builds the libraries below them first
-       tests/must_fail.py --gate FOLDER LOG           beside an `rt ci` that runs in FOLDER and writes to LOG
+Usage: tests/must_fail.py [CRATE..]                   all crates, or those named; proves first the libraries below that aren't kept
+       tests/must_fail.py --gate FOLDER LOG           beside an `rt ci` that runs in FOLDER and writes to LOG; there is a file
+                                                      LOG.status once it has ended
 
 `rt must-fail` tries the same files one after the other, each in a check of the whole crate. This script tries all of a crate in two
 runs. The result is the same: a function is proved against the contracts of what it calls, never against their bodies, so a wrong
@@ -18,34 +19,52 @@ An edit has lines 'file:', 'old:' and 'new:', and a line 'refused:' with the fun
 in the crate. An edit fails if another function rejects it, if it can't be read, or if it is rejected only because a proof names
 something that it removed.
 
+tests/must_fail.tried has a digest of each crate whose wrong bodies were all rejected: of its sources and wrong bodies, and of the
+sources below. The gate tries the wrong bodies of every crate with another digest, and twenty of the others, drawn by the commit's hash,
+so that a false record is found out. With BODIES=all in the environment, and without --gate, it tries all. A run that tried all of a
+crate's, all rejected, writes the record anew: in this folder, or in the file that RECORD names.
+
 RT_JOBS is the number of checks at a time, by default the number of processors. Beside `rt ci`, about half as many run until it has
 ended, for the memory of both. The last line is 'N passed, M failed'.
 """
 
+import hashlib
 import os
+import random
 import re
-import shutil
+import resource
 import subprocess
 import sys
 import tempfile
 import threading
 import time
 from concurrent.futures import ThreadPoolExecutor
+from typing import Any, Callable, Dict, List, Optional, Tuple
 
-sys.path.insert(0, os.path.dirname(os.path.realpath(shutil.which("rt") or "rt")))
-import rtlib  # the kit's own: what it passes to its prover for a crate
+import kept
+from kept import PARTS, rtlib
 
 TOP = os.path.realpath(f"{os.path.dirname(os.path.realpath(__file__))}/..")
-PARTS = ("src", "specs", "proofs")
+RECORD = f"{TOP}/tests/must_fail.tried"
+# How many wrong bodies the gate draws from the crates that haven't changed.
+DRAWN = 20
 # The check's message for a proof that names something that an edit removed.
 NAMES_WHAT_WENT = re.compile(r"has no field|is not in scope|has no `|was not admitted|is not admitted")
+
+
+# A crate's files, by their paths below it; a function in one, as a file, a first and a last line; whether a wrong body is rejected, and the
+# message to print.
+Texts = Dict[str, str]
+Place = Tuple[str, int, int]
+Verdict = Tuple[bool, str]
 
 
 class WrongBody:
     """An edit: the function that the prover has to reject, and the texts to replace, each with its file."""
 
-    def __init__(self, crate, file):
-        self.name, self.function, self.pairs = f"{crate}/{os.path.basename(file)}", "", []
+    def __init__(self, crate: str, file: str):
+        self.name, self.function = f"{crate}/{os.path.basename(file)}", ""
+        self.pairs: List[Tuple[str, str, str]] = []
         path = old = ""
         with open(file, encoding="utf-8") as lines:
             for line in lines.read().split("\n"):
@@ -58,7 +77,7 @@ class WrongBody:
                 elif line.startswith("new:"):
                     self.pairs.append((path, old, line.removeprefix("new:").removeprefix(" ")))
 
-    def edited(self, texts):
+    def edited(self, texts: Texts) -> Optional[Texts]:
         """Returns the files' texts with this edit, or None if an 'old:' text isn't in its file exactly once."""
         texts = dict(texts)
         for path, old, new in self.pairs:
@@ -67,10 +86,11 @@ class WrongBody:
             texts[path] = texts[path].replace(old, new)
         return texts
 
-    def bodies(self, texts):
+    def bodies(self, texts: Texts) -> Optional[List[Place]]:
         """Returns where the edited functions are, each as a file, a first and a last line, or None if it edits anything but a
         function with the rejected one's name. (An edit keeps line numbers: both of its texts are one line.)"""
-        head, found = rf"^( *)(?:pub(?:\(\w+\))? )?fn {re.escape(self.function.split('::')[-1])}\b", []
+        head = rf"^( *)(?:pub(?:\(\w+\))? )?fn {re.escape(self.function.split('::')[-1])}\b"
+        found: List[Place] = []
         for path, old, _ in self.pairs:
             text = texts.get(path, "")
             at = text.find(old)
@@ -82,9 +102,9 @@ class WrongBody:
         return found
 
 
-def texts_of(folder):
+def texts_of(folder: str) -> Texts:
     """Returns the texts of a crate's sources, definitions and proofs, by their paths below the crate."""
-    texts = {}
+    texts: Texts = {}
     for part in PARTS:
         for at, _, names in os.walk(f"{folder}/{part}"):
             for name in names:
@@ -93,23 +113,24 @@ def texts_of(folder):
     return texts
 
 
-def wrong_bodies(crate):
+def wrong_bodies(crate: str) -> List[WrongBody]:
     folder = f"{TOP}/crates/{crate}/must-fail"
     return [WrongBody(crate, f"{folder}/{it}") for it in sorted(os.listdir(folder)) if it.endswith(".edit")]
 
 
-def is_searched(body, texts):
+def is_searched(body: WrongBody, texts: Texts) -> bool:
     """Returns whether a wrong body is in a function that has no written answers, so that `search` alone proves each of its goals."""
     folder = f"proofs/{body.function.replace('::', '/')}"
     return bool(body.bodies(texts)) and not {f"{folder}/Answers.antt", f"{folder}/Proof.antt"} & set(texts)
 
 
-def tried_together(left, texts):
+def tried_together(left: List[WrongBody], texts: Texts) -> Tuple[List[WrongBody], Optional[Texts]]:
     """Returns those of these wrong bodies that one run can try, and the crate's texts with them. All are searched, or none is. If the
     first can't be tried, returns it alone, and None."""
     if left[0].edited(texts) is None:
         return [left[0]], None
-    together, edited, searched = [], texts, is_searched(left[0], texts)
+    together: List[WrongBody] = []
+    edited, searched = texts, is_searched(left[0], texts)
     for it in left:
         with_it = it.edited(edited)
         if with_it is None or it.function in [other.function for other in together] or is_searched(it, texts) != searched:
@@ -121,13 +142,14 @@ def tried_together(left, texts):
     return together, edited
 
 
-def said_of(room, crate, words, functions):
+def said_of(room: str, crate: Any, words: List[str], functions: List[str]) -> List[str]:
     """Runs `rattle check` with these words on the crate's texts in this folder. Returns what it prints, up to its suggestions for open
     goals if it says of each of these functions whether it is proved."""
     words = [*rtlib.guarded(), rtlib.RATTLE, "check", *crate.words(["--jobs", "1"], keeps=False), *words]
-    lines, waited = [], {f"fn {crate.name}::{it}" for it in functions}
+    lines: List[str] = []
+    waited = {f"fn {crate.name}::{it}" for it in functions}
     with subprocess.Popen(words, cwd=room, stdin=subprocess.DEVNULL, stdout=subprocess.PIPE, stderr=subprocess.STDOUT, text=True, errors="replace") as check:
-        for line in check.stdout:
+        for line in check.stdout or []:
             lines.append(line.rstrip("\n"))
             waited.discard(line.partition(": ")[0])
             if functions and not waited:
@@ -136,7 +158,7 @@ def said_of(room, crate, words, functions):
     return lines
 
 
-def judged_by_search(room, crate, body, lines):
+def judged_by_search(room: str, crate: str, body: WrongBody, lines: List[str]) -> Optional[Verdict]:
     """Returns whether `search` leaves a goal of a wrong body's function open, and the message to print, or None if the function can't
     be started."""
     wrote = f"{room}/proofs/{body.function.replace('::', '/')}/Answers.antt"
@@ -153,7 +175,7 @@ def judged_by_search(room, crate, body, lines):
     return False, f"BAD EDIT: no proof of {body.function} was tried: {told or ' / '.join(lines[:3])[:400]}"
 
 
-def judged(crate, body, texts, lines):
+def judged(crate: str, body: WrongBody, texts: Texts, lines: List[str]) -> Verdict:
     """Returns whether a goal of its own function rejects a wrong body, and the message to print."""
     named = f"fn {crate}::{body.function}: "
     status = next((it.removeprefix(named) for it in lines if it.startswith(named)), "")
@@ -179,16 +201,16 @@ class Attempt:
     """Wrong bodies of a crate that one run tries together, and the crate's texts without and with them. Without the latter, they
     can't be tried."""
 
-    def __init__(self, crate, bodies, texts, edited):
+    def __init__(self, crate: Any, bodies: List[WrongBody], texts: Texts, edited: Optional[Texts]):
         self.crate, self.bodies, self.texts, self.edited = crate, bodies, texts, edited
 
-    def write(self, room):
-        for path, text in self.edited.items():
+    def write(self, room: str) -> None:
+        for path, text in (self.edited or {}).items():
             os.makedirs(os.path.dirname(f"{room}/{path}"), exist_ok=True)
             with open(f"{room}/{path}", "w", encoding="utf-8") as it:
                 it.write(text)
 
-    def searched(self):
+    def searched(self) -> List[Optional[Verdict]]:
         """Has `rattle check --start` search for the goals of these wrong bodies. It can't start a function in a file with a `ghost use .. as`
         of a module that a library re-exports."""
         with tempfile.TemporaryDirectory(prefix="must-fail-") as room:
@@ -196,7 +218,7 @@ class Attempt:
             lines = said_of(room, self.crate, [word for it in self.bodies for word in ("--start", it.function)], [])
             return [judged_by_search(room, self.crate.name, it, lines) for it in self.bodies]
 
-    def checked(self, bodies):
+    def checked(self, bodies: List[WrongBody]) -> List[Verdict]:
         """Checks the functions of these wrong bodies, with all wrong bodies of this run in the crate."""
         functions = [it.function for it in bodies]
         with tempfile.TemporaryDirectory(prefix="must-fail-") as room:
@@ -204,7 +226,7 @@ class Attempt:
             lines = said_of(room, self.crate, [word for it in functions for word in ("--only", it)], functions)
             return [judged(self.crate.name, it, self.texts, lines) for it in bodies]
 
-    def verdicts(self):
+    def verdicts(self) -> List[Verdict]:
         """Tries them. Returns for each whether it is rejected, and the message to print."""
         if not self.edited:
             return [(False, "BAD EDIT: an 'old:' text isn't in its file exactly once") for _ in self.bodies]
@@ -215,7 +237,7 @@ class Attempt:
         by_check = iter(self.checked(left) if left else [])
         return [verdict or next(by_check) for verdict in found]
 
-    def judge(self, say):
+    def judge(self, say: Callable[[str], None]) -> Tuple[int, int]:
         """Tries them. Returns how many are rejected and how many aren't."""
         verdicts = self.verdicts()
         for body, (_, why) in zip(self.bodies, verdicts):
@@ -224,8 +246,9 @@ class Attempt:
         return refused, len(verdicts) - refused
 
 
-def attempts_of(crate):
-    texts, left, attempts = texts_of(crate.folder), wrong_bodies(crate.name), []
+def attempts_of(crate: Any, left: List[WrongBody]) -> List[Attempt]:
+    """Returns these wrong bodies of a crate as attempts."""
+    texts, attempts = texts_of(crate.folder), []
     while left:
         together, edited = tried_together(left, texts)
         attempts.append(Attempt(crate, together, texts, edited))
@@ -233,21 +256,62 @@ def attempts_of(crate):
     return attempts
 
 
+class Record:
+    """The digests of the crates whose wrong bodies were all rejected, as a file keeps them."""
+
+    def __init__(self, file: str):
+        self.file, self.digests = file, {}  # type: str, Dict[str, str]
+        if os.path.isfile(file):
+            with open(file, encoding="utf-8") as lines:
+                self.digests = {name: digest for name, digest in (it.split() for it in lines)}
+
+    def holds(self, crate: Any) -> bool:
+        return self.digests.get(crate.name) == digest_of(crate)
+
+    def write(self, crates: List[Any]) -> None:
+        """Writes the file anew, with these crates' digests of today."""
+        self.digests.update((it.name, digest_of(it)) for it in crates)
+        there = [it for it in sorted(self.digests) if os.path.isdir(f"{TOP}/crates/{it}/must-fail")]
+        with open(self.file, "w", encoding="utf-8") as it:
+            it.writelines(f"{name} {self.digests[name]}\n" for name in there)
+
+
+def digest_of(crate: Any) -> str:
+    """Returns the digest of a crate's sources and wrong bodies, and of the sources below. A copy has no wrong bodies, so these are read
+    here."""
+    with_bodies = "".join(f"{it.name}{it.function}{it.pairs}" for it in wrong_bodies(crate.name))
+    return hashlib.sha256((kept.digest_of(crate) + with_bodies).encode()).hexdigest()
+
+
+def chosen(crates: List[Any], record: Record) -> Dict[str, List[WrongBody]]:
+    """Returns the wrong bodies that the gate tries, by crate: all of the crates that changed since the record, and some of the others,
+    drawn by the commit's hash."""
+    changed = [it for it in crates if os.environ.get("BODIES") == "all" or not record.holds(it)]
+    bodies = {it.name: wrong_bodies(it.name) for it in crates if it in changed}
+    others = [(it.name, body) for it in crates if it not in changed for body in wrong_bodies(it.name)]
+    commit = subprocess.run(["git", "rev-parse", "HEAD"], cwd=TOP, capture_output=True, text=True).stdout.strip()
+    for name, body in random.Random(commit).sample(others, min(DRAWN, len(others))):
+        bodies.setdefault(name, []).append(body)
+    print(f"wrong bodies: all {sum(len(bodies[it.name]) for it in changed)} of {len(changed)} changed crates, {min(DRAWN, len(others))} of the other {len(others)}, drawn by {commit[:12] or 'no commit'}", flush=True)
+    return bodies
+
+
 class Queue:
     """The attempts that are left, those of the libraries below first. With the log of `rt ci`, an attempt waits until its crate is
     proved."""
 
-    def __init__(self, attempts, log, say):
+    def __init__(self, attempts: List[Attempt], log: str, say: Callable[[str], None]):
         self.attempts, self.log, self.say, self.lock = attempts, log, say, threading.Lock()
         self.refused = self.failed = 0
+        self.doubtful: set[str] = set()
 
-    def logged(self):
+    def logged(self) -> str:
         if not self.log:
             return ""
         with open(self.log, encoding="utf-8", errors="replace") as it:
             return it.read()
 
-    def next(self, logged):
+    def next(self, logged: str) -> Optional[Attempt]:
         """Takes the first attempt whose crate is proved, by what was logged. Returns None if there is none."""
         with self.lock:
             found = next((it for it in self.attempts if not self.log or f"rt: {it.crate.name} proved\n" in logged), None)
@@ -255,33 +319,35 @@ class Queue:
                 self.attempts.remove(found)
             return found
 
-    def count(self, refused, failed):
+    def count(self, crate: str, refused: int, failed: int) -> None:
         with self.lock:
             self.refused, self.failed = self.refused + refused, self.failed + failed
+            self.doubtful |= {crate} if failed else set()
 
-    def give_up(self):
+    def give_up(self) -> None:
         """Counts what is left when `rt ci` has ended: its crates aren't proved."""
         with self.lock:
             left, self.attempts = self.attempts, []
         for it in left:
             self.say(f"must-fail {it.crate.name}: not tried, the crate isn't proved")
-            self.count(0, len(it.bodies))
+            self.count(it.crate.name, 0, len(it.bodies))
 
-    def work(self, waits):
+    def work(self, waits: bool) -> None:
         """Tries one attempt after the other. A worker that waits begins when `rt ci` has ended."""
         while self.attempts:
+            # (it ends first, and then what it logged last is read)
+            has_ended = not self.log or os.path.exists(f"{self.log}.status")
             logged = self.logged()
-            has_ended = not self.log or re.search(r"^\d+ passed, \d+ failed$", logged, re.M)
             attempt = None if waits and not has_ended else self.next(logged)
             if attempt:
-                self.count(*attempt.judge(self.say))
+                self.count(attempt.crate.name, *attempt.judge(self.say))
             elif has_ended:
                 self.give_up()
             else:
                 time.sleep(1)
 
 
-def main(words):
+def main(words: List[str]) -> int:
     folder, log = (words[1], words[2]) if words[:1] == ["--gate"] and len(words) == 3 else (TOP, "")
     named = [] if log else words
     with_edits = [it for it in os.listdir(f"{TOP}/crates") if os.path.isdir(f"{TOP}/crates/{it}/must-fail")]
@@ -294,23 +360,29 @@ def main(words):
     rtlib.guarded()
     printing = threading.Lock()
 
-    def say(text):
+    def say(text: str) -> None:
         with printing:
             print(text, flush=True)
 
-    if not log:
-        for it in crates:
-            if subprocess.run(["rt", "check", "--only", ""], cwd=it.folder, stdout=subprocess.DEVNULL).returncode:
-                print(f"the libraries below {it.name} can't be built: run rt check there", file=sys.stderr)
-                return 2
-    jobs = os.environ.get("RT_JOBS", "")
-    jobs = int(jobs) if jobs.isdigit() else len(os.sched_getaffinity(0))
-    queue = Queue([attempt for it in crates for attempt in attempts_of(it)], log, say)
+    number = os.environ.get("RT_JOBS", "")
+    jobs = int(number) if number.isdigit() else len(os.sched_getaffinity(0))
+    if not log and not kept.build_below(crates, jobs, say):
+        print("a library below can't be proved", file=sys.stderr)
+        return 2
+    record = Record(RECORD)
+    bodies = chosen(crates, record) if log else {it.name: wrong_bodies(it.name) for it in crates}
+    queue = Queue([attempt for it in crates if bodies.get(it.name) for attempt in attempts_of(it, bodies[it.name])], log, say)
     with ThreadPoolExecutor(jobs) as lanes:
         for it in [lanes.submit(queue.work, bool(log) and it >= (jobs + 2) // 2) for it in range(jobs)]:
             it.result()
+    # in the gate, only a file elsewhere: what is tested stays as it is
+    record.file = os.environ.get("RECORD") or ("" if log else RECORD)
+    if record.file:
+        record.write([it for it in crates if it.name not in queue.doubtful and len(bodies.get(it.name, [])) == len(wrong_bodies(it.name))])
+    used = resource.getrusage(resource.RUSAGE_CHILDREN)
+    print(f"wrong bodies took {(used.ru_utime + used.ru_stime) / 60:.1f} minutes of processor")
     print(f"{queue.refused} passed, {queue.failed} failed")
-    return 1 if queue.failed else 0
+    return 1 if queue.failed or not queue.refused else 0
 
 
 if __name__ == "__main__":

@@ -1,0 +1,87 @@
+"""Proved libraries that are kept between runs, outside the clone, each under the digest of the sources that made it.
+
+The folder is ZIGRUNK_PROOFS, or zigrunk/proofs in the user's cache folder. A library whose sources, or those of a library below it,
+have changed has another digest, so nothing in the folder goes stale: remove it whenever you like. The gate never reads it."""
+
+import hashlib
+import os
+import shutil
+import subprocess
+import sys
+import tempfile
+from concurrent.futures import Future, ThreadPoolExecutor
+from typing import Any, Callable, Dict, List
+
+sys.path.insert(0, os.path.dirname(os.path.realpath(shutil.which("rt") or "rt")))
+import rtlib as rtlib  # type: ignore[import]  # noqa: E402 # the kit's own: what it passes to its prover for a crate
+
+# The parts of a crate that its proof reads.
+PARTS = ("src", "specs", "proofs")
+FOLDER = os.environ.get("ZIGRUNK_PROOFS") or f"{os.environ.get('XDG_CACHE_HOME') or os.path.expanduser('~/.cache')}/zigrunk/proofs"
+
+
+def digest_of(crate: Any, parts: tuple[str, ...] = PARTS) -> str:
+    """Returns a digest of these parts of a crate, and of the proofs' parts of all libraries below it."""
+    total = hashlib.sha256(repr([(it.name, digest_of(it)) for it in crate.deps]).encode())
+    for part in parts:
+        for at, folders, names in os.walk(f"{crate.folder}/{part}"):
+            folders.sort()
+            for name in sorted(names):
+                with open(f"{at}/{name}", "rb") as it:
+                    total.update(repr((os.path.relpath(f"{at}/{name}", crate.folder), it.read())).encode())
+    return total.hexdigest()
+
+
+def kit() -> str:
+    """Returns the kit's line: what it proves is proved by this kit alone."""
+    return subprocess.run(["rt", "version"], capture_output=True, text=True, check=True).stdout
+
+
+def work_folder(crate: Any) -> str:
+    """Returns where checks of this crate keep what they have proved of it, so that the next one proves only what changed."""
+    folder = f"{FOLDER}/work/{crate.name}"
+    os.makedirs(folder, exist_ok=True)
+    return folder
+
+
+def build(crate: Any, jobs: int, say: Callable[[str], None]) -> bool:
+    """Proves and builds a library, unless it is kept. The libraries below it are built. Returns whether it is there."""
+    if os.path.isdir(crate.rlib):
+        return True
+    say(f"proving {crate.name}, which is below and not kept")
+    os.makedirs(os.path.dirname(crate.rlib), exist_ok=True)
+    with tempfile.TemporaryDirectory(dir=FOLDER) as room:
+        made = f"{room}/{crate.name}.rlib"
+        words = [*crate.words(["--jobs", str(jobs)], keeps=False), "--incremental", work_folder(crate), "-o", made]
+        ran = subprocess.run([*rtlib.guarded(), rtlib.RATTLE, "build", *words], cwd=crate.folder, stdin=subprocess.DEVNULL, stdout=subprocess.PIPE, stderr=subprocess.STDOUT, text=True, errors="replace")
+        if ran.returncode:
+            say("\n".join(it for it in ran.stdout.split("\n") if not it.endswith(": proved")))
+            return False
+        try:
+            os.rename(made, crate.rlib)
+        except OSError:
+            # another run has kept the same meanwhile
+            return os.path.isdir(crate.rlib)
+    return True
+
+
+def build_below(crates: List[Any], jobs: int, say: Callable[[str], None]) -> bool:
+    """Has all libraries below these crates at hand, in the kept folder, and proves those that aren't kept, side by side. From then on
+    the crates' words name the kept libraries. Returns whether all are there."""
+    version, below = kit(), list(dict.fromkeys(it for crate in crates for it in crate.below()))
+    for it in below:
+        key = hashlib.sha256((version + digest_of(it)).encode()).hexdigest()[:24]
+        it.rlib = f"{FOLDER}/{it.name}-{key}/{it.name}.rlib"
+    lacking = [it for it in below if not os.path.isdir(it.rlib)]
+    os.makedirs(FOLDER, exist_ok=True)
+    # its first call sets a signal's handler, which only the main thread may
+    rtlib.guarded()
+    each, done = max(1, jobs // max(1, min(len(lacking), jobs))), {}  # type: int, Dict[str, Future[bool]]
+
+    def one(crate: Any) -> bool:
+        return all([done[it.name].result() for it in crate.below()]) and build(crate, each, say)
+
+    with ThreadPoolExecutor(max(1, len(below))) as lanes:
+        for it in below:
+            done[it.name] = lanes.submit(one, it)
+        return all([it.result() for it in done.values()])
