@@ -3,7 +3,7 @@ PREFIX ?= /usr/local
 DESTDIR ?=
 target = $(DESTDIR)$(PREFIX)
 
-.PHONY: help demo build lib check install install-programs install-library uninstall dist bench fuzz fuzz-library must-fail refused-memory end-to-end odd-calls cache cluster mutants test-install dist-test check-docs lint test
+.PHONY: help demo build lib check install install-programs install-library uninstall dist bench drivers fuzz fuzz-library must-fail refused-memory end-to-end odd-calls cache cluster mutants test-install dist-test check-docs lint test
 
 help:
 	@echo 'make demo             run cudaplan, unproved, on two calls; a minute from a fresh clone'
@@ -14,6 +14,7 @@ help:
 	@echo 'make uninstall        remove what make install installed, with the same PREFIX and DESTDIR'
 	@echo 'make check CRATE=dry_runs   prove one crate over kept libraries, or with FUNCTION=PATH one function of it; no verdict'
 	@echo 'make test             the whole gate; the last line is N passed, M failed; BODIES=all tries all wrong bodies'
+	@echo 'make drivers          compile the test drivers, unproved, and run their cases, or those of NAMES="test_lines"'
 	@echo 'make must-fail        check that the prover rejects the wrong bodies of all crates, or of CRATES="texts dry_runs"'
 	@echo 'make fuzz             run the library on 10,000 random cases of each kind; SEED=1 COUNT=10000 FIRST=0'
 	@echo 'make fuzz-library     fuzz libzigrunk for an hour, guided by coverage; needs clang with libFuzzer; FUZZ_SECONDS=3600'
@@ -108,14 +109,17 @@ FUZZ_SECONDS ?= 3600
 fuzz-library:
 	tests/fuzz/library.sh out/fuzz $(FUZZ_SECONDS)
 
+# The programs that run cases, the tests of what no case can say, and cudabench, none of them proved.
+drivers:
+	@tests/drivers.sh $(NAMES)
+
 # The prover has to reject each wrong body in crates/NAME/must-fail. It notes in tests/must_fail.tried what it tried.
 must-fail:
 	tests/must_fail.py $(CRATES)
 
 # The test cases and calls of the programs, with the first allocation failing, then the second, and so on.
 refused-memory: build
-	cd crates/test_lines && rt check && { rt run > /dev/null 2>&1 || true; }
-	cd crates/test_plans && rt check && { rt run > /dev/null 2>&1 || true; }
+	tests/drivers.sh --build test_lines test_plans
 	tests/refused_memory.sh
 
 # Calls of nvcc and of zigrunk-nvcc side by side: exit statuses, the files they make, and what is in them. The gate makes fewer.

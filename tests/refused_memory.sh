@@ -11,7 +11,7 @@
 # The last line is 'N passed, M failed': each failed allocation is a case.
 #
 # Cases with more than MOST allocations (3000, if that isn't set) are left out, since they would take minutes.
-# `make refused-memory` builds the programs and leaves them in out/ of their crates. Each run is a process of its own, into
+# `make refused-memory` builds the programs, those that run cases unproved, and leaves them in out/ of their crates. Each run is a process of its own, into
 # which refuse_nth.c is preloaded.
 set -u
 cd "$(dirname "$0")/.." || exit 2
