@@ -160,9 +160,11 @@ lines | texts/words | try_clone | self.len() > 5_000
 
 lines | dry_runs/which | found 2 | exe.len() > 500_000
 plans | dry_runs/reader | read_dry_run | dry_run.len() > 500_000
-plans | dry_runs/reader | read_dry_run_within before left = | number > 5_000
-plans | dry_runs/reader | read_dry_run_within before left = | said.commands.as_slice().len() > 500
-plans | dry_runs/reader | read_dry_run_within before left = | said.env.as_slice().len() > 500
+plans | dry_runs/reader | read_lines before match said.read | number > 5_000
+plans | dry_runs/reader | read_lines before match said.read | said.commands.as_slice().len() > 500
+plans | dry_runs/reader | read_lines before match said.read | said.env.as_slice().len() > 500
+plans | dry_runs/reader | parse_dry_run | dry_run.len() > 500_000
+plans | dry_runs/parsed | resolved | self.commands.as_slice().len() > 500
 plans | dry_runs/reader | read_dry_run_within | limit != usize::MAX && dry_run.len() > 5_000
 plans | dry_runs/statement | statement_of | line.len() > 50_000
 plans | dry_runs/statement | statement_of | env.as_slice().len() > 50

@@ -2,6 +2,7 @@ pub mod DryRunLemmas
 pub mod ExpansionLemmas
 pub mod FittingLemmas
 pub mod LineLemmas
+pub mod ParsedLemmas
 pub mod PlaceLemmas
 pub mod PlainWordLemmas
 pub mod ReadingLemmas

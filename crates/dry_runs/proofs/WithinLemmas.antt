@@ -1,5 +1,5 @@
 -- What a line says within a limit, and which line is the first that exceeds it.
-use Rattle.std.proofs.Common.{◌≡◌, ℕ, ◌+◌, ◌-◌, nat_le, arith, Bool, true, false, cond, List, [], ◌∷◌, Option, Some, None, Result, Ok, Err, refl, ap, sym, ◌∙◌, subst, IfOk}
+use Rattle.std.proofs.Common.{◌≡◌, ℕ, ◌+◌, ◌-◌, nat_le, arith, Bool, true, false, cond, List, ◌∷◌, Option, Some, None, Result, Ok, Err, refl, ap, sym, ◌∙◌, subst, IfOk}
 use Rattle.std.specs.List.{enumerate_from}
 use Rattle.std.specs.Option.{option_map, is_some}
 use Rattle.std.specs.Result.{IsErrAnd}
@@ -12,7 +12,6 @@ use Rattle.texts.specs.declared.fault.Fault.{Fault}
 use Rattle.texts.specs.declared.fault.Fault.TheVariants.{Memory}
 use Rattle.texts.specs.Fault.{UnlessMemory, UnlessMemoryIs}
 use Rattle.shell_words.specs.Shell.Splitting.{shell_words}
-use Rattle.dry_runs.specs.declared.commands.DryRun.{DryRun}
 use Rattle.dry_runs.specs.declared.reader.Said.{Said}
 use Rattle.dry_runs.specs.declared.limit.LimitedFault.{LimitedFault}
 use Rattle.dry_runs.specs.declared.limit.LimitedFault.TheVariants.{TooLong}
@@ -20,14 +19,14 @@ use Rattle.dry_runs.specs.declared.limit.LimitedFault.TheVariants as limited
 use Rattle.dry_runs.specs.declared.statement.Statement.{Statement}
 use Rattle.dry_runs.specs.declared.statement.Statement.TheVariants.{NotUtf8}
 use Rattle.dry_runs.specs.CommandLines.{CommandLine}
-use Rattle.dry_runs.specs.DryRun.{LookUp, Meaning, Ignored, Assigns, Runs, Bad, meaning, meanings, meaning_found, meaning_by_path, environment_after, fault_of, run_of_meanings, dry_run_of}
-use Rattle.dry_runs.specs.DryRunLines.{marked_text, numbered_lines}
+use Rattle.dry_runs.specs.DryRun.{LookUp, Meaning, Ignored, Assigns, Runs, Bad, meaning, meaning_found, meaning_by_path, environment_after, fault_of}
+use Rattle.dry_runs.specs.DryRunLines.{marked_text}
 use Rattle.dry_runs.specs.Environment.{Variable, expanded}
-use Rattle.dry_runs.specs.Limit.{UnlessMemoryWithin, expanded_within, fits_assigned, fits_marked, text_fits, stated_within, held_by, left_behind, left_behind_line, too_long_from, first_too_long, answer_within, dry_run_within, without_limit}
-use Rattle.dry_runs.specs.Reading.{dry_run_seen_within, meaning_stated, found_or_fault, said_left, said_next, next_within, next_held}
+use Rattle.dry_runs.specs.Limit.{UnlessMemoryWithin, expanded_within, fits_assigned, fits_marked, text_fits, stated_within, held_by, left_behind, left_behind_line, too_long_from, first_too_long, answer_within}
+use Rattle.dry_runs.specs.Reading.{meaning_stated, found_or_fault, said_left, said_next, next_within, next_held}
 use Rattle.dry_runs.specs.Statement.{stated, stated_marked, stated_assigned, stated_by_words}
 use Rattle.dry_runs.proofs.FittingLemmas.{within-expanded}
-use Rattle.dry_runs.proofs.ReadingLemmas.{environment-next, said_with, not_found-next, line-refused}
+use Rattle.dry_runs.proofs.ReadingLemmas.{environment-next, not_found-next}
 use Rattle.dry_runs.proofs.StatementLemmas.{meaning-stated}
 
 -- a command, by its text
@@ -176,18 +175,10 @@ is-refused : {P Q : Type 0} (fault : Fault) → (P → Q) → UnlessMemoryIs fau
 is-refused Memory h e = tt
 is-refused fault h e = h e
 
-pub refused-within : {X Y : Type 0} (fault : LimitedFault) (part : Result X LimitedFault) (whole : Result Y LimitedFault) → ((f : LimitedFault) → part ≡ Err f → whole ≡ Err f) → UnlessMemoryWithin {T = X} (Err fault) part → UnlessMemoryWithin {T = Y} (Err fault) whole
-refused-within (limited.Fault fault) part whole h e = is-refused fault (h (limited.Fault fault)) e
-refused-within (TooLong run line) part whole h e = h (TooLong run line) e
-
 -- a fault that is passed on
 pub passed-left : (r : Result ℕ LimitedFault) (s : Said) (fault : LimitedFault) (whole : Result (Said × ℕ) LimitedFault) → IsErrAnd r (λ f. f ≡ fault) → UnlessMemoryWithin {T = Said × ℕ} (Err fault) whole → UnlessMemoryWithin (said_left r s) whole
 passed-left (Ok x) s fault whole is told = absurd is
 passed-left (Err f) s fault whole is told = subst (λ (g : LimitedFault). UnlessMemoryWithin {T = Said × ℕ} (Err g) whole) (sym is) told
-
-pub passed-within : (r : Result DryRun LimitedFault) (fault : LimitedFault) (whole : Result (List CommandLine × List Variable) LimitedFault) → IsErrAnd r (λ f. f ≡ fault) → UnlessMemoryWithin {T = List CommandLine × List Variable} (Err fault) whole → UnlessMemoryWithin (dry_run_seen_within r) whole
-passed-within (Ok x) fault whole is told = absurd is
-passed-within (Err f) fault whole is told = subst (λ (g : LimitedFault). UnlessMemoryWithin {T = List CommandLine × List Variable} (Err g) whole) (sym is) told
 
 -- a program that isn't found
 limited-next : (run number : ℕ) (room : Option ℕ) (said : Result Said Fault) (fault : Fault) → is_some room ≡ true → said ≡ Err fault → next_within run number room said ≡ Err (limited.Fault fault)
@@ -209,47 +200,8 @@ not_found-passed r s which run cwd left number program path words first fault is
     (subst (λ p. UnlessMemoryWithin {T = Said × ℕ} (Err (limited.Fault fault)) (next_held run number left s (meaning_by_path which run cwd number program words p))) is
     (is-refused fault (λ e. not_found-held which run cwd s left number program words (which program path cwd) fault e) told))
 
--- the whole run
-whole-next : (which : LookUp) (run limit : ℕ) (bytes cwd : List ℕ) (long : Option ℕ) (said : Result (List CommandLine × List Variable) Fault) → first_too_long which run cwd limit [] (numbered_lines bytes) ≡ long → dry_run_of run bytes cwd which ≡ said → dry_run_within limit run bytes cwd which ≡ answer_within run long said
-whole-next which run limit bytes cwd long said over all = ap (λ l. answer_within run l (dry_run_of run bytes cwd which)) over ∙ ap (answer_within run long) all
-
-pub whole-read : (which : LookUp) (run limit : ℕ) (bytes cwd : List ℕ) (said : List CommandLine × List Variable) → first_too_long which run cwd limit [] (numbered_lines bytes) ≡ None → dry_run_of run bytes cwd which ≡ Ok said → dry_run_within limit run bytes cwd which ≡ Ok said
-whole-read which run limit bytes cwd said over all = whole-next which run limit bytes cwd None (Ok said) over all
-
-pub whole-fault : (which : LookUp) (run limit : ℕ) (bytes cwd : List ℕ) (fault : Fault) → first_too_long which run cwd limit [] (numbered_lines bytes) ≡ None → dry_run_of run bytes cwd which ≡ Err fault → dry_run_within limit run bytes cwd which ≡ Err (limited.Fault fault)
-whole-fault which run limit bytes cwd fault over all = whole-next which run limit bytes cwd None (Err fault) over all
-
-pub whole-long : (which : LookUp) (run limit line : ℕ) (bytes cwd : List ℕ) → first_too_long which run cwd limit [] (numbered_lines bytes) ≡ Some line → dry_run_within limit run bytes cwd which ≡ Err (TooLong run line)
-whole-long which run limit line bytes cwd over = whole-next which run limit bytes cwd (Some line) (dry_run_of run bytes cwd which) over refl
-
--- a line at which the reading ends
-pub refusal : (which : LookUp) (run limit : ℕ) (bytes cwd : List ℕ) (s : Said) (left number : ℕ) (line rest behind : List ℕ) → lines rest ≡ line ∷ lines behind →
-    said_with s (run_of_meanings (meanings which run cwd s.env (enumerate_from number (lines rest)))) ≡ dry_run_of run bytes cwd which →
-    first_too_long which run cwd left s.env (enumerate_from number (lines rest)) ≡ first_too_long which run cwd limit [] (numbered_lines bytes) →
-    (f : LimitedFault) → next_within run number (left_behind_line which run cwd left s.env (number, line)) (said_next s (meaning which run cwd s.env (number, line))) ≡ Err f → dry_run_within limit run bytes cwd which ≡ Err f
-refusal which run limit bytes cwd s left number line rest behind cut whole over (limited.Fault fault) e =
-    let parts = within-fault which run cwd s left number line rest behind fault cut e in
-    whole-fault which run limit bytes cwd fault (sym over ∙ parts.1) (sym whole ∙ line-refused which run cwd s number line rest behind fault cut parts.0)
-refusal which run limit bytes cwd s left number line rest behind cut whole over (TooLong r n) e =
-    let parts = within-long which run cwd s left number line rest behind r n cut e in
-    whole-long which run limit number bytes cwd (sym over ∙ parts.1) ∙ ap Err parts.0
-
 -- a run that is read within a limit and isn't too long is the run
 pub unlimited : (run : ℕ) (long : Option ℕ) (said : Result (List CommandLine × List Variable) Fault) (run_said : List CommandLine × List Variable) → answer_within run long said ≡ Ok run_said → said ≡ Ok run_said
 unlimited run (Some line) said read h = cc
 unlimited run None (Ok s) read h = let same : s ≡ read = cc in ap Ok same
 unlimited run None (Err fault) read h = cc
-
-unlimited-fault : (run : ℕ) (long : Option ℕ) (said : Result (List CommandLine × List Variable) Fault) (fault : Fault) → answer_within run long said ≡ Err (limited.Fault fault) → said ≡ Err fault
-unlimited-fault run (Some line) said fault h = cc
-unlimited-fault run None (Ok s) fault h = cc
-unlimited-fault run None (Err f) fault h =
-    let same : limited.Fault f ≡ limited.Fault fault = cc in
-    let faults : f ≡ fault = cc in
-    ap Err faults
-
-pub unlimited-refused : (run : ℕ) (long : Option ℕ) (said : Result (List CommandLine × List Variable) Fault) (fault : LimitedFault) (answered : Fault) → answered ≡ without_limit fault → UnlessMemoryWithin {T = List CommandLine × List Variable} (Err fault) (answer_within run long said) → UnlessMemory {T = List CommandLine × List Variable} (Err answered) said
-unlimited-refused run long said (limited.Fault fault) answered is told =
-    subst (λ (f : Fault). UnlessMemory {T = List CommandLine × List Variable} (Err f) said) (sym is) (is-refused fault (unlimited-fault run long said fault) told)
-unlimited-refused run long said (TooLong r n) answered is told =
-    subst (λ (f : Fault). UnlessMemory {T = List CommandLine × List Variable} (Err f) said) (sym is) tt

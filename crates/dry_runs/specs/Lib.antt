@@ -9,6 +9,8 @@ pub mod FirstReferred
 pub mod Limit
 pub mod LimitExamples
 pub mod OneKernel
+pub mod Parsed
+pub mod ParsedExamples
 pub mod Places
 pub mod PlacesView
 pub mod PlainWords

@@ -5,9 +5,10 @@ use Rattle.std.specs.Borrow.{Bor}
 use Rattle.std.specs.declared.alloc.Global.{Global}
 use Rattle.texts.specs.Path.{lacks}
 use Rattle.texts.specs.declared.fault.Fault.{Fault}
-use Rattle.texts.specs.declared.fault.Fault.TheVariants.{NotFound}
+use Rattle.texts.specs.declared.fault.Fault.TheVariants.{Memory, NotFound}
 use Rattle.texts.specs.declared.fault.Fault.TheVariants as faults
 use Rattle.dry_runs.specs.declared.commands.DryRun.{DryRun}
+use Rattle.dry_runs.specs.declared.parsed.ParsedRun.{ParsedRun}
 use Rattle.dry_runs.specs.declared.reader.Said.{Said}
 use Rattle.dry_runs.specs.CommandLines.{CommandLine}
 use Rattle.dry_runs.specs.Environment.{Variable, is_name_byte}
@@ -78,9 +79,15 @@ meaning_stated which run cwd line env statements.NotUtf8 = Bad (faults.NotUtf8 r
 abbrev pub nothing_said : Said
 nothing_said = record { commands = []; env = [] }
 
--- the run that lines say, once all are read
-abbrev pub said_run : Said → DryRun
-said_run s = record { commands = s.commands; env = s.env }
+-- the run that lines are, and why the next one is bad, if it is
+abbrev pub said_parsed : Said → Option Fault → ParsedRun
+said_parsed s fault = record { commands = s.commands; env = s.env; fault = fault }
+
+-- the run that lines are, if the next one is bad
+abbrev pub said_ended : Said → LimitedFault → Result ParsedRun LimitedFault
+said_ended s (limited.Fault Memory) = Err (limited.Fault Memory)
+said_ended s (limited.Fault fault) = Ok (said_parsed s (Some fault))
+said_ended s (TooLong run line) = Err (TooLong run line)
 
 -- one more variable
 abbrev pub with_variable : Said → Variable → Said

@@ -1,6 +1,6 @@
 //! What a dry run says: its commands and its environment.
 
-ghost use Rattle.std.specs.Prelude.{◌≡◌, ◌∷◌, ◌++◌, [], map, OnOk, string_bytes};
+ghost use Rattle.std.specs.Prelude.{◌≡◌, ◌∷◌, ◌++◌, [], map, OnErr, OnOk, string_bytes};
 ghost use Rattle.dry_runs.specs.CommandLines.{line_seen};
 
 use std::alloc::{AllocError, Global};
@@ -49,14 +49,16 @@ impl Commands {
         self.lines.as_slice()
     }
 
-    // Puts a command line last: the number of its line, its program's path and its words.
+    // Puts a command line last: the number of its line, its program's path and its words. On an error the lines are
+    // unchanged.
     pub(crate) fn push(
         &mut self,
         line: usize,
         program: String,
         words: Vec<String>,
     ) -> Result<(), AllocError>
-        ensures { OnOk result (self.new ≡ self.old ++ (line, string_bytes program, map string_bytes words.items) ∷ []) }
+        ensures ok { OnOk result (self.new ≡ self.old ++ (line, string_bytes program, map string_bytes words.items) ∷ []) }
+        ensures err { OnErr result (self.new ≡ self.old) }
     {
         self.lines.push((line, program, words))?;
         Ok(())

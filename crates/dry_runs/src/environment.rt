@@ -89,7 +89,7 @@ fn begins_otherwise(text: &str) -> bool
 }
 
 // What follows a name that a text begins with.
-fn behind_name<'a>(text: &'a str, name: &str) -> Option<&'a str>
+pub(crate) fn behind_name<'a>(text: &'a str, name: &str) -> Option<&'a str>
     ensures rest { option_copied result ≡ rest_after name.now text.now }
     ensures less { IfSome result (λ rest. length rest.now ≤ length text.now) }
 {

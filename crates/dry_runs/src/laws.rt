@@ -3,6 +3,8 @@
 ghost use Rattle.texts.specs.Equality.{TellsEqual};
 ghost use Rattle.dry_runs.specs.DryRunExamples.{OneKernelIsRead, LastLineNeedsNoNewline, NothingIsRead, UnmarkedLineIsNotText, QuoteIsOpen, CommentIsNoCommand, NoPathIsSet, DigitMakesACommand, PathIsEmpty, FirstBadLineDecides, ProgramsAreMissing, EmptyProgramIsLookedUp, ReferenceAtTheEndStays, OneReferenceExpandsAll, LetterFollowsAReference, FirstValueIsExpanded, ValuesAreExpandedInOrder, FirstPathCounts, OtherNamesAreRead, LastLineKeepsItsReturn, ByteOrderMarkUnmarks, ValuesAreKeptAsTheyStand, FirstFolderIsEmpty, FolderNeedsAPathToo, NameIsSetTwice, OtherCharactersEndAName, WordCharactersGoOn};
 ghost use Rattle.dry_runs.specs.LimitExamples.{AllThatIsHeldCounts, TextsOnTheWayCount, FirstOfBothDecides, UnmarkedLinesAreFree};
+ghost use Rattle.dry_runs.specs.Parsed.{ParsesThenResolves};
+ghost use Rattle.dry_runs.specs.ParsedExamples.{CommandsBeforeABadLine, MissingProgramIsFirst, PathCounts};
 
 use crate::commands::{Commands, DryRun};
 
@@ -49,4 +51,13 @@ pub fn worked_limits()
     ensures texts_on_the_way_count { TextsOnTheWayCount }
     ensures first_of_both_decides { FirstOfBothDecides }
     ensures unmarked_lines_are_free { UnmarkedLinesAreFree }
+{}
+
+/// Parsing a dry run and then looking up its programs says what reading it with the look-up says; and runs that are parsed,
+/// by the definitions.
+pub fn parsing()
+    ensures composed { ParsesThenResolves }
+    ensures commands_before_a_bad_line { CommandsBeforeABadLine }
+    ensures missing_program_is_first { MissingProgramIsFirst }
+    ensures path_counts { PathCounts }
 {}

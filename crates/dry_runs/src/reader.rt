@@ -1,17 +1,20 @@
 //! Reading a dry run.
 
-ghost use Rattle.std.specs.Prelude.{◌≡◌, codes};
+ghost use Rattle.std.specs.Prelude.{◌≡◌, IfOk, codes};
 ghost use Rattle.texts.specs.Fault.{UnlessMemory};
 ghost use Rattle.dry_runs.specs.DryRun.{dry_run_of};
 ghost use Rattle.dry_runs.specs.Limit.{UnlessMemoryWithin, dry_run_within};
+ghost use Rattle.dry_runs.specs.Parsed as spec;
 ghost use Rattle.dry_runs.specs.Reading.{dry_run_seen, dry_run_seen_within};
 
 use crate::commands::{Commands, DryRun};
 use crate::limit::{LimitedFault, left_behind_command, left_behind_variable};
 use crate::lines::first_line;
+use crate::parsed::{ParsedRun, whole};
+use crate::question::Question;
 use crate::set_variables::SetVariables;
 use crate::statement::{Statement, statement_within};
-use crate::which::Which;
+use crate::which::{Which, found_program};
 use std::alloc::{AllocError, Global};
 use texts::fault::Fault;
 use texts::text::Text;
@@ -49,10 +52,41 @@ pub fn read_dry_run<W: Which>(
 ) -> Result<DryRun, Fault>
     ensures { UnlessMemory (dry_run_seen result) (dry_run_of run dry_run.now cwd.now (W.answer which.now)) }
 {
-    match read_dry_run_within(alloc, dry_run, run, cwd, which, usize::MAX) {
-        Ok(said) => Ok(said),
-        Err(fault) => Err(fault.without_limit()),
+    let parsed = parse_dry_run(alloc, dry_run, run)?;
+    parsed.resolved(alloc, cwd, which)
+}
+
+/// Parses a dry run as `read_dry_run` does, up to its first bad line, and looks up no program.
+///
+/// The only error is a failed allocation. Parse dry runs that you don't trust with `parse_dry_run_within`.
+pub fn parse_dry_run(alloc: Global, dry_run: &[u8], run: usize) -> Result<ParsedRun, AllocError>
+    ensures { IfOk result (λ p. p ≡ spec.parsed_of run dry_run.now) }
+{
+    match parse_dry_run_within(alloc, dry_run, run, usize::MAX) {
+        Ok(parsed) => Ok(parsed),
+        Err(_) => Err(AllocError),
     }
+}
+
+/// Parses a dry run as `parse_dry_run` does, within a limit in bytes.
+///
+/// It counts as `read_dry_run_within` does, with the question of each command in place of its program's path. The errors
+/// are `LimitedFault::TooLong` for a line that exceeds the limit before any line is bad, and `Fault::Memory`.
+pub fn parse_dry_run_within(
+    alloc: Global,
+    dry_run: &[u8],
+    run: usize,
+    limit: usize,
+) -> Result<ParsedRun, LimitedFault>
+    ensures { UnlessMemoryWithin result (spec.parsed_within limit run dry_run.now) }
+{
+    let setting = Setting {
+        alloc,
+        run,
+        cwd: "",
+        which: &Question,
+    };
+    read_lines(&setting, dry_run, limit)
 }
 
 /// Reads a dry run as `read_dry_run` does, within a limit in bytes.
@@ -83,16 +117,30 @@ pub fn read_dry_run_within<W: Which>(
         cwd,
         which,
     };
-    let mut said = Said::new(alloc);
+    whole(read_lines(&setting, dry_run, limit))
+}
+
+// Reads a run up to its first bad line, within a limit.
+fn read_lines<W: Which>(
+    setting: &Setting<W>,
+    dry_run: &[u8],
+    limit: usize,
+) -> Result<ParsedRun, LimitedFault>
+    ensures { UnlessMemoryWithin result (spec.lines_read_within (W.answer setting.now.which.now) limit setting.now.run dry_run.now setting.now.cwd.now) }
+{
+    let mut said = Said::new(setting.alloc);
     let mut left = limit;
     let mut number = 0;
     let mut rest = dry_run;
     while let Some((line, behind)) = first_line(rest) {
-        left = said.read(&setting, left, number, line)?;
+        match said.read(setting, left, number, line) {
+            Ok(less) => left = less,
+            Err(fault) => return said.ended(fault),
+        }
         number += 1;
         rest = behind;
     }
-    Ok(said.into_dry_run())
+    Ok(said.parsed(None))
 }
 
 // What the lines of a dry run are read with.
@@ -104,27 +152,6 @@ struct Setting<'a, W> {
     which: &'a W,
 }
 
-impl<'a, W: Which> Setting<'a, W> {
-    ghost use Rattle.std.specs.Prelude.{string_bytes};
-    ghost use Rattle.dry_runs.specs.Reading.{found_seen, found_or_fault};
-
-    // The path of a program, by the value of `PATH`.
-    fn found(&self, path: &str, program: String) -> Result<String, Fault>
-        ensures { UnlessMemory (found_seen result) (found_or_fault (string_bytes program)
-            (W.answer self.now.which.now (string_bytes program) path.now self.now.cwd.now)) }
-    {
-        let found = self
-            .which
-            .found(self.alloc, program.as_str(), path, self.cwd)?;
-        match found {
-            None => Err(Fault::NotFound {
-                program: Text::new(program),
-            }),
-            Some(found) => Ok(found),
-        }
-    }
-}
-
 // What the lines so far say.
 #[derive(Drop)]
 struct Said {
@@ -133,11 +160,11 @@ struct Said {
 }
 
 impl Said {
-    ghost use Rattle.std.specs.Prelude.{◌≡◌, ◌∷◌, [], map, List, ℕ, OnOk, string_bytes};
+    ghost use Rattle.std.specs.Prelude.{◌≡◌, ◌∷◌, [], map, List, ℕ, OnErr, OnOk, string_bytes};
     ghost use Rattle.texts.specs.Variables as variables;
     ghost use Rattle.dry_runs.specs.DryRun.{meaning, meaning_of_words, meaning_by_path, Assigns, Runs};
     ghost use Rattle.dry_runs.specs.Limit.{UnlessMemoryWithin, left_behind_line};
-    ghost use Rattle.dry_runs.specs.Reading.{nothing_said, said_run, with_variable, said_left, said_next, next_within, next_held, meaning_stated};
+    ghost use Rattle.dry_runs.specs.Reading.{nothing_said, said_parsed, said_ended, with_variable, said_left, said_next, next_within, next_held, meaning_stated};
 
     fn new(alloc: Global) -> Said
         ensures { result ≡ nothing_said }
@@ -148,16 +175,30 @@ impl Said {
         }
     }
 
-    fn into_dry_run(self) -> DryRun
-        ensures { result ≡ said_run self }
+    // The run that the lines so far are, and why the next one is bad, if it is.
+    fn parsed(self, fault: Option<Fault>) -> ParsedRun
+        ensures { result ≡ said_parsed self fault }
     {
-        DryRun {
+        ParsedRun {
             commands: self.commands,
             env: self.env.into_variables(),
+            fault,
         }
     }
 
-    // Reads line `number` with `left` bytes of the limit, and returns how many are left after it.
+    // The run that the lines so far are, if the next one is bad.
+    fn ended(self, fault: LimitedFault) -> Result<ParsedRun, LimitedFault>
+        ensures { result ≡ said_ended self fault }
+    {
+        match fault {
+            LimitedFault::Fault(Fault::Memory) => Err(LimitedFault::Fault(Fault::Memory)),
+            LimitedFault::Fault(fault) => Ok(self.parsed(Some(fault))),
+            LimitedFault::TooLong { run, line } => Err(LimitedFault::TooLong { run, line }),
+        }
+    }
+
+    // Reads line `number` with `left` bytes of the limit, and returns how many are left after it. On an error nothing more
+    // is said.
     fn read<W: Which>(
         &mut self,
         setting: &Setting<W>,
@@ -165,10 +206,11 @@ impl Said {
         number: usize,
         line: &[u8],
     ) -> Result<usize, LimitedFault>
-        ensures { UnlessMemoryWithin (said_left result self.new) (next_within setting.now.run number
+        ensures said { UnlessMemoryWithin (said_left result self.new) (next_within setting.now.run number
             (left_behind_line (W.answer setting.now.which.now) setting.now.run setting.now.cwd.now left self.old.env (number, line.now))
             (said_next self.old (meaning (W.answer setting.now.which.now) setting.now.run setting.now.cwd.now
             self.old.env (number, line.now)))) }
+        ensures kept { OnErr result (self.new ≡ self.old) }
     {
         let Some(statement) = statement_within(setting.alloc, &self.env, line, left)? else {
             let run = setting.run;
@@ -185,9 +227,10 @@ impl Said {
         number: usize,
         statement: Statement,
     ) -> Result<usize, LimitedFault>
-        ensures { UnlessMemoryWithin (said_left result self.new) (next_held setting.now.run number left self.old
+        ensures said { UnlessMemoryWithin (said_left result self.new) (next_held setting.now.run number left self.old
             (meaning_stated (W.answer setting.now.which.now) setting.now.run setting.now.cwd.now number
             self.old.env statement)) }
+        ensures kept { OnErr result (self.new ≡ self.old) }
     {
         let run = setting.run;
         match statement {
@@ -208,7 +251,8 @@ impl Said {
         name: Text,
         value: Text,
     ) -> Result<usize, LimitedFault>
-        ensures { UnlessMemoryWithin (said_left result self.new) (next_held setting.now.run number left self.old (Assigns (name, value))) }
+        ensures said { UnlessMemoryWithin (said_left result self.new) (next_held setting.now.run number left self.old (Assigns (name, value))) }
+        ensures kept { OnErr result (self.new ≡ self.old) }
     {
         let Some(left) = left_behind_variable(left, name.as_str(), value.as_str()) else {
             let run = setting.run;
@@ -220,7 +264,8 @@ impl Said {
 
     // Puts a variable last.
     fn assign(&mut self, alloc: Global, name: Text, value: Text) -> Result<(), AllocError>
-        ensures { OnOk result (self.new ≡ with_variable self.old (name, value)) }
+        ensures ok { OnOk result (self.new ≡ with_variable self.old (name, value)) }
+        ensures err { OnErr result (self.new ≡ self.old) }
     {
         self.env
             .push(alloc, name.into_string(), value.into_string())
@@ -234,9 +279,10 @@ impl Said {
         number: usize,
         mut words: Vec<String>,
     ) -> Result<usize, LimitedFault>
-        ensures { UnlessMemoryWithin (said_left result self.new) (next_held setting.now.run number left self.old
+        ensures said { UnlessMemoryWithin (said_left result self.new) (next_held setting.now.run number left self.old
             (meaning_of_words (W.answer setting.now.which.now) setting.now.run setting.now.cwd.now number
             self.old.env (Some (map string_bytes words.items)))) }
+        ensures kept { OnErr result (self.new ≡ self.old) }
     {
         if words.is_empty() {
             return Err(LimitedFault::Fault(Fault::EmptyCommand {
@@ -257,9 +303,10 @@ impl Said {
         program: String,
         words: Vec<String>,
     ) -> Result<usize, LimitedFault>
-        ensures { UnlessMemoryWithin (said_left result self.new) (next_held setting.now.run number left self.old
+        ensures said { UnlessMemoryWithin (said_left result self.new) (next_held setting.now.run number left self.old
             (meaning_by_path (W.answer setting.now.which.now) setting.now.run setting.now.cwd.now
             number (string_bytes program) (map string_bytes words.items) (variables.first_value (codes "PATH") self.old.env))) }
+        ensures kept { OnErr result (self.new ≡ self.old) }
     {
         let Some(path) = first_value(self.env.as_slice(), "PATH") else {
             return Err(LimitedFault::Fault(Fault::NoPath {
@@ -267,7 +314,8 @@ impl Said {
                 line: number,
             }));
         };
-        let found = setting.found(path, program)?;
+        let cwd = setting.cwd;
+        let found = found_program(setting.alloc, setting.which, program.as_str(), path, cwd)?;
         self.run_found(setting.run, left, number, found, words)
     }
 
@@ -280,8 +328,9 @@ impl Said {
         path: String,
         words: Vec<String>,
     ) -> Result<usize, LimitedFault>
-        ensures { UnlessMemoryWithin (said_left result self.new) (next_held run number left self.old
+        ensures said { UnlessMemoryWithin (said_left result self.new) (next_held run number left self.old
             (Runs (number, string_bytes path, map string_bytes words.items))) }
+        ensures kept { OnErr result (self.new ≡ self.old) }
     {
         let Some(left) = left_behind_command(left, path.as_str(), words.as_slice()) else {
             return Err(LimitedFault::TooLong { run, line: number });

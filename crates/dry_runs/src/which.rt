@@ -2,10 +2,13 @@
 
 ghost use Rattle.std.specs.Prelude.{◌≡◌, IfOk, MatchOption, string_bytes, ℕ, List, Option};
 ghost use Rattle.std.specs.Option.{option_map};
+ghost use Rattle.texts.specs.Fault.{UnlessMemory};
 ghost use Rattle.dry_runs.specs.FirstDir.{first_folder_of};
+ghost use Rattle.dry_runs.specs.Reading.{found_seen, found_or_fault};
 
 use std::alloc::{AllocError, Global};
-use texts::text::{is_bare, join};
+use texts::fault::Fault;
+use texts::text::{Text, is_bare, join};
 
 /// A look-up of programs.
 pub trait Which {
@@ -22,6 +25,24 @@ pub trait Which {
         cwd: &str,
     ) -> Result<Option<String>, AllocError>
         ensures { IfOk result (λ found. option_map string_bytes found ≡ answer self.now exe.now path.now cwd.now) };
+}
+
+// The path of a program, by the value of `PATH` and the working directory.
+pub(crate) fn found_program<W: Which>(
+    alloc: Global,
+    which: &W,
+    program: &str,
+    path: &str,
+    cwd: &str,
+) -> Result<String, Fault>
+    ensures { UnlessMemory (found_seen result) (found_or_fault program.now (W.answer which.now program.now path.now cwd.now)) }
+{
+    match which.found(alloc, program, path, cwd)? {
+        None => Err(Fault::NotFound {
+            program: Text::copy_of(alloc, program)?,
+        }),
+        Some(found) => Ok(found),
+    }
 }
 
 /// A look-up that reads no disk. It joins a name with a `/` to the working directory, and expects any

@@ -5,17 +5,17 @@ use Rattle.dry_runs.specs.DryRun.{meaning}
 use Rattle.dry_runs.proofs.WithinLemmas.{line-fits, line-too_long}
 use Rattle.dry_runs.proofs.reader.Said.read.Goals as goal
 
-pub returns : goal.returns
-returns g c =
+pub returns-clause-said : goal.returns-clause-said
+returns-clause-said g c =
     let setting = c.args.setting.now in
     let answer = g.W.Which.answer setting.which.now in
     let self = c.args.self.now in
     subst (λ e. UnlessMemoryWithin (said_left c.take.result c.take.new.self) e)
     (line-fits answer setting.run setting.cwd.now c.args.left c.args.number self c.args.line.now c.in-Some.statement (sym c.in-Some.is ∙ c.in_ok-statement.ensures))
-    c.take.ensures
+    c.take.ensures.said
 
-pub returns-in_default : goal.returns-in_default
-returns-in_default g c =
+pub returns-in_default-clause-said : goal.returns-in_default-clause-said
+returns-in_default-clause-said g c =
     let setting = c.args.setting.now in
     let answer = g.W.Which.answer setting.which.now in
     let self = c.args.self.now in

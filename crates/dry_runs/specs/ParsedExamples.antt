@@ -1,0 +1,32 @@
+-- Dry runs that are parsed, worked out by hand.
+use Rattle.std.specs.Prelude.{◌≡◌, ℕ, List, [], ◌∷◌, ◌++◌, None, Some, Ok, Err, codes}
+use Rattle.texts.specs.declared.fault.Fault.TheVariants.{BadShell, NotFound}
+use Rattle.dry_runs.specs.declared.limit.LimitedFault.TheVariants.{TooLong}
+use Rattle.dry_runs.specs.DryRunExamples.{lacking}
+use Rattle.dry_runs.specs.Parsed.{parsed_of, parsed_within, resolved, bad_line}
+
+-- two commands and a line that is bad whatever is found, and a third command
+abbrev pub open_quote : List ℕ
+open_quote = codes "#$ PATH=/b:/c\n#$ cicc x\n#$ ./gcc\n#$ 'open\n#$ ptxas\n"
+
+-- the commands before the bad line, each with its question, and the fault of that line
+abbrev pub CommandsBeforeABadLine : Type 0
+CommandsBeforeABadLine =
+    parsed_of 1 open_quote ≡ record {
+      commands = (1, codes "/b:/ccicc", codes "x" ∷ []) ∷ (2, codes "/b:/c./gcc", []) ∷ [];
+      env = (codes "PATH", codes "/b:/c") ∷ [];
+      fault = Some (BadShell 1 3);
+    }
+
+-- a program that isn't found comes before the bad line behind it, at the line of its command
+abbrev pub MissingProgramIsFirst : Type 0
+MissingProgramIsFirst =
+    (resolved (lacking (codes "./gcc")) (codes "/w") (parsed_of 1 open_quote) ≡ Err (NotFound (codes "./gcc")))
+    × (bad_line (lacking (codes "./gcc")) (codes "/w") (parsed_of 1 open_quote) ≡ Some 2)
+    × (bad_line (lacking []) (codes "/w") (parsed_of 1 open_quote) ≡ Some 3)
+
+-- each command counts the value of `PATH`: `PATH` and `/b` hold eight bytes, and `/bgcc` and `x` eight
+abbrev pub PathCounts : Type 0
+PathCounts =
+    (parsed_within 16 1 (codes "#$ PATH=/b\n#$ gcc x\n") ≡ Ok (parsed_of 1 (codes "#$ PATH=/b\n#$ gcc x\n")))
+    × (parsed_within 15 1 (codes "#$ PATH=/b\n#$ gcc x\n") ≡ Err (TooLong 1 1))
