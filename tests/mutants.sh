@@ -307,11 +307,11 @@ commands are run without a slot
 old: s/^  command = /  command = ${slot} ${out}
 new: s/^  command = /  command = sh ${out}.sh
 there is no dependency file
-old: build ${tmp}/zigrunk.tmp/depended: dependencies ${tmp}/zigrunk.tmp/dependencies
-new: 
+old: echo "build \${tmp}
+new: echo "# \${tmp}
 an empty command for the dependency file
-old: printf '%s\n' "$dependencies"
-new: printf '%s\n' ''
+old: "$dependencies" > "$own/dependencies"
+new: '' > "$own/dependencies"
 the stamp of the dependency file is missing
 old:  && touch ${out}
 new: 
@@ -415,20 +415,80 @@ files go to the root
 old: if [ -n "$keep_dir" ]
 new: if true
 stamps are kept
-old:  "$tmp"/zigrunk.[0-9]*.[0-9]*
-new: 
+old:  | zigrunk.[0-9]*.[0-9]* |
+new:  |
 Ninja's logs are kept
-old:  "$tmp"/.ninja_*
-new: 
+old:  | .ninja_* |
+new:  |
 the script's own files are kept
-old: rm -rf "$own" "$tmp"
-new: rm -rf "$tmp"
+old: zigrunk.tmp | zigrunk.[0-9]
+new: zigrunk.[0-9]
 files of the source zigrunk.cu are lost
 old: zigrunk.[0-9]*.[0-9]*
 new: zigrunk.*
-the directory itself is kept
-old:  ! -name . -prune
+hidden files are lost
+old:  "$tmp"/.[!.]*; do
+new: ; do
+older files are kept in place of new ones
+old: || mv -f "$@"
+new: || mv -n "$@"
+kept files replace the product
+old: [ "$keep_dir/${file##*/}" -nt "$own/ninja" ] ||
+new: true &&
+a keep directory may be a file
+old: [ -d "${keep_dir:-/}" ] ||
+new: [ -e "${keep_dir:-/}" ] ||
+the keep directory comes from the environment
+old:  jobs='' keep_dir=''
+new:  jobs=''
+the second step removes a folder of the user
+old: [ "$tmp" != nvcc ] || { tmp='' && plain
+new: [ "$tmp" != nvcc ] || { plain
+blanks at the end of a directory are lost
+old: IFS= read -r tmp
+new: read -r tmp
+blanks at the end of a keep directory are lost
+old: IFS= read -r keep_dir
+new: read -r keep_dir
+only a path is taken for nvcc
+old: *nvcc | "$nvcc")
+new: */nvcc | "$nvcc")
+the reason has zigrunk's own words
+old: "${calls#zigrunk: goes to nvcc: }"
+new: "$calls"
+a reason has two lines
+old: "$(printf '%s\n' "$reason" | sed 1q)"
+new: "$reason"
+a dependency file on standard output is lost
+old: cat "$own/depended.out"
+new: :
+the source is preprocessed again for the dependency file
+old: preprocessed=$(reuse_preprocessed)
+new: preprocessed=
+a host compiler by its path has another in its place
+old: \([a-z][^ "/=]*\) .* -E
+new: .*\([a-z][^ "/=]*\) .* -E
+the dependency file is made before the source is preprocessed
+old: ${preprocessed:+ | $preprocessed}
 new: 
+no dependency file of a call that fails
+old: || sh "$own/dependencies" 2> /dev/null > "$own/depended.out"
+new: || :
+a failure is silent
+old:  || silent
+new:  || :
+a failure after a message has another one
+old: { said=yes && cat "$stamp.err" >&2; }
+new: cat "$stamp.err" >&2
+a full disk isn't named
+old: || room=''
+new: ; room=''
+a full disk is always named
+old: || room=''
+new: 
+few open files are tried
+old: [0-9] | [12][0-9]) plain
+new: [0-9]) plain
 always 0
 old: exit "$status"
 new: exit
@@ -446,6 +506,12 @@ new: *,*) [ -f "$pipe" ]
 the named pipe of make isn't used
 old: fifo:*) [ -p
 new: fifo:*) [ -f
+the commands have no terminal
+old: [ ! -t 2 ] || export
+new: export none
+a terminal where there is none
+old: [ ! -t 2 ] || export
+new: export
 the number of slots is ignored
 old: slots=${ZIGRUNK_SLOTS-}
 new: slots=
@@ -473,8 +539,20 @@ commands go on after Ninja was killed
 old: { syscall $prctl, $parent_death_signal, $numbers{TERM} }
 new: {}
 the status is lost
-old: exit $status;
+old: exit($state & 127 ? 128 + ($state & 127) : $state >> 8);
 new: exit 0;
+other words are the same
+old: && $same eq $others
+new: 
+a command that has not ended is the same
+old:  && -e((words($stamp))[0])
+new: 
+words are joined
+old: join "\0", @others
+new: join " ", @others
+a command has no terminal
+old: my ($master, $slave) = $ENV{ZIGRUNK_TERMINAL} ? terminal : ();
+new: my ($master, $slave);
 the command alone gets a signal
 old: getpgrp == $$ ? -$$ : $child
 new: $child

@@ -13,6 +13,16 @@ trap 'kill $(jobs -p) 2> /dev/null; rm -rf "$scratch"' EXIT
 unset NVCC_PREPEND_FLAGS NVCC_APPEND_FLAGS CDPATH MAKEFLAGS "${!ZIGRUNK@}"
 user=$(id -u)
 
+# What runs is a copy that gives up at the fortieth call of a case: a script that calls itself would start more and more processes.
+{
+    sed -n 1p "$script"
+    echo '[ -z "${LOG-}" ] || { echo >> "$LOG.count" && [ "$(wc -l < "$LOG.count")" -lt 40 ] || exit 99; }'
+    sed 1d "$script"
+} > "$scratch/zigrunk-nvcc"
+chmod +x "$scratch/zigrunk-nvcc"
+ln -s "${script%/*}/zigrunk-slot" "$scratch/zigrunk-slot"
+script=$scratch/zigrunk-nvcc
+
 # The stand-ins. Each logs what it gets, and does what a case says in a variable of its own.
 mkdir "$scratch/bin"
 cat > "$scratch/bin/nvcc" << 'END'
@@ -24,6 +34,7 @@ case $* in
 '--dryrun first' | '--dryrun second')
     echo 'an output of the dry run'
     echo '#$ cicc k.cpp1.ii -o k.ptx' >&2
+    [ -z "${HOST-}" ] || printf '#$ %s\n' "$HOST" >&2
     [ -z "${WARNING-}" ] || echo 'a warning of the normal form' >&2
     case $* in *first*) exit "${FIRST-0}" ;; *) exit "${SECOND-0}" ;; esac
     ;;
@@ -56,7 +67,8 @@ calls)
     [ -z "${REASON-}" ] || { echo "zigrunk: $REASON" >&2; exit 3; }
     echo "first_dry_run='( nvcc --dryrun first )'"
     echo "second_dry_run='( nvcc --dryrun second )'"
-    printf '%s\n' "flag=${FLAG--c}" "dependencies='${DEPENDENCIES-}'" "keep_dir='${KEEP_DIR-}'"
+    printf '%s\n' "flag=${FLAG--c}" "dependencies='${DEPENDENCIES-}'"
+    [ "${KEEP_DIR-}" = none ] || echo "keep_dir='${KEEP_DIR-}'"
     [ "${JOBS-none}" = none ] || echo "jobs=$JOBS"
     ;;
 ninja)
@@ -190,9 +202,9 @@ END
     begin 'a call in two steps whose command fails'
     script ZIGRUNK_PLAN="$room/plan" -c k.cu -o k.o
     echo 'build ${tmp}/zigrunk.0.0: run' >> "$split/zigrunk.tmp/ninja"
-    touch "$split/zigrunk.tmp/depended" "$split/zigrunk.0.0.err" && echo 6 > "$split/zigrunk.0.0.status"
+    touch "$split/zigrunk.tmp/depended" && echo bad > "$split/zigrunk.0.0.err" && echo 6 > "$split/zigrunk.0.0.status"
     script "${plain[@]}" ZIGRUNK_PLAN="$room/plan" -c k.cu -o k.o
-    same 'status and output' "$status$(cat "$room/out" "$room/err")" 6
+    same 'status and output' "$status$(cat "$room/out" "$room/err")" 6bad
     leaves_nothing
     end
     begin 'a call in two steps, and Ninja fails between them'
@@ -203,12 +215,28 @@ END
     by_nvcc 'Ninja fails'
     end
     begin 'a call in two steps that nvcc makes'
+    mkdir nvcc
     script "${plain[@]}" ZIGRUNK_PLAN="$room/plan" REASON=why -c k.cu -o k.o
     same 'status and output' "$status$(cat "$room/out" "$room/err")" 0
     same plan "$(cat "$room/plan")" $'nvcc\nzigrunk: why'
     script "${plain[@]}" ZIGRUNK_PLAN="$room/plan" REASON=other -o 'a b' ''
     by_nvcc 'zigrunk: why'
     same calls "$(cat "$room/log")" 'nvcc [-o] [a b] []'
+    same 'the folder nvcc' "$(ls)" nvcc
+    end
+    begin 'a call in two steps in folders that end in a blank'
+    mkdir "$room/tmp/t " "$room/work/kept "
+    script ZIGRUNK_PLAN="$room/plan" TMPDIR="$room/tmp/t " KEEP_DIR="$room/work/kept " -c k.cu -o k.o
+    same plan "$(cat "$room/plan")" "$room/tmp/t /zigrunk-$user/zigrunk-name"$'\n'"$room/work/kept "
+    touch "$room/tmp/t /zigrunk-$user/zigrunk-name/"{k.ii,zigrunk.tmp/depended}
+    script ZIGRUNK_PLAN="$room/plan" TMPDIR="$room/tmp/t " -c k.cu -o k.o
+    same 'status and files' "$status $(cat "$room/err")$(ls "$room/work/kept ")$(ls "$room/tmp/t ")" '0 k.ii'
+    end
+    begin 'a working directory that ends in a blank'
+    mkdir 'in here ' && cd 'in here ' || exit 1
+    script -c k.cu -o k.o
+    holds calls "$room/log" "zigrunk [directory] [$room/work/in here ] [nvcc] [-c] [k.cu] [-o] [k.o]"
+    holds calls "$room/log" "zigrunk [calls] [$room/work/in here ] [$split] [nvcc] [-c] [k.cu] [-o] [k.o]"
     end
 
     begin 'no TMPDIR'
@@ -228,7 +256,7 @@ END
     script "${plain[@]}" TMPDIR="$room/missing" -c k.cu -o k.o
     same status "$status" 5
     holds messages "$room/err" 'zigrunk-nvcc: nvcc itself: no temporary directory'
-    same 'folders' "$(LC_ALL=C ls "$room")" "$(printf '%s\n' err log out tmp work)"
+    same 'folders' "$(LC_ALL=C ls "$room")" "$(printf '%s\n' err log log.count out tmp work)"
     end
 
     begin 'the directory is taken'
@@ -334,6 +362,10 @@ END
     script "$room/some/nvcc" -c k.cu -o k.o
     holds calls "$room/log" "zigrunk [directory] [$room/work] [$room/some/nvcc] [-c] [k.cu] [-o] [k.o]"
     end
+    begin 'a first word that ends in nvcc'
+    script cross-nvcc -c k.cu -o k.o
+    holds calls "$room/log" "zigrunk [directory] [$room/work] [cross-nvcc] [-c] [k.cu] [-o] [k.o]"
+    end
     begin 'the program of ZIGRUNK_NVCC as the first word'
     script ZIGRUNK_NVCC=my-compiler my-compiler -c k.cu -o k.o
     holds calls "$room/log" "zigrunk [directory] [$room/work] [my-compiler] [-c] [k.cu] [-o] [k.o]"
@@ -404,7 +436,7 @@ END
     end
     begin 'there is no other nvcc'
     installed ln -s
-    ln -s "$(command -v "${shell[0]}")" "$room/bin" && ln -s "$(command -v timeout)" "$room/bin"
+    for tool in "${shell[0]}" timeout wc; do ln -s "$(command -v "$tool")" "$room/bin"; done
     as=$room/bin/nvcc script PATH="$room/bin" -c k.cu -o k.o
     same 'status and messages' "$status $(cat "$room/err")" '127 zigrunk-nvcc: nvcc is zigrunk-nvcc itself, and PATH has no other nvcc'
     end
@@ -424,6 +456,10 @@ END
     begin 'zigrunk refuses the directory'
     script "${plain[@]}" DIRECTORY_DOES='echo "zigrunk: no" >&2; exit 2' -c k.cu -o k.o
     by_nvcc 'zigrunk: no'
+    end
+    begin 'the reason of a call that goes to nvcc'
+    script "${plain[@]}" REASON='goes to nvcc: it links' -o 'a b' ''
+    by_nvcc 'it links'
     end
     begin 'a call that zigrunk leaves to nvcc'
     script "${plain[@]}" REASON='the call links' -o 'a b' ''
@@ -455,6 +491,15 @@ END
     by_nvcc 'the keep directory is missing'
     lacks calls "$room/log" 'dryrun'
     end
+    begin 'a keep directory that is a file'
+    : > "$room/file"
+    script "${plain[@]}" KEEP_DIR="$room/file" -c k.cu -o k.o
+    by_nvcc 'the keep directory is missing'
+    end
+    begin 'a keep directory that only the environment names'
+    script KEEP_DIR=none keep_dir="$room/work" NINJA_DOES='touch "$tmp/k.ii"' -c k.cu -o k.o
+    same 'status and files' "$status$(ls)" 0
+    end
     begin 'the first dry run fails'
     script "${plain[@]}" FIRST=1 -c k.cu -o k.o
     by_nvcc 'a dry run fails'
@@ -479,7 +524,7 @@ END
     same variables "$(cat "$room/log.flags")" 'none none'
     end
     begin 'a plan that cannot be used'
-    script "${plain[@]}" UNUSABLE='a command is dropped' WARNING='a warning' -c k.cu -o k.o
+    script "${plain[@]}" UNUSABLE=$'a command is dropped\nanother line' WARNING='a warning' -c k.cu -o k.o
     by_nvcc 'zigrunk: a command is dropped'
     lacks calls "$room/log" 'ninja [-f]'
     end
@@ -519,6 +564,17 @@ END
     same status "$status" 1
     end
 
+    begin 'a command that fails without a message'
+    script NINJA_DOES=': > "$tmp/zigrunk.0.0.err"; echo 7 > "$tmp/zigrunk.0.0.status"' NINJA_STATUS_IS=1 -c k.cu -o k.o
+    same 'status and messages' "$status $(cat "$room/err")" '7 zigrunk-nvcc: a command failed with status 7 and without a message'
+    script NINJA_DOES=': > "$tmp/zigrunk.0.0.err"; echo 7 > "$tmp/zigrunk.0.0.status"; mkdir "$tmp/zigrunk.tmp/room"' NINJA_STATUS_IS=1 -c k.cu -o k.o
+    holds 'messages without room' "$room/err" "zigrunk-nvcc: a command failed with status 7 and without a message: there is no room in $room/tmp"
+    end
+
+    begin 'few open files'
+    (ulimit -n 16 && script "${plain[@]}" -c k.cu -o k.o; by_nvcc 'it may open too few files'; [ -z "$problems" ]) || problems+="  $(cat "$room/err")"
+    end
+
     begin 'the number of commands'
     script JOBS=3 -c k.cu -o k.o
     holds calls "$room/log" "ninja [-f] [$split/zigrunk.tmp/ninja] [-j] [3]"
@@ -546,17 +602,42 @@ END
     holds calls "$room/log" "zigrunk [--limit] [268435456] [ninja] [--keep] [--whole] [$room/work] [$split] [-c] [$split/zigrunk.tmp/dry1] [$split/zigrunk.tmp/dry2]"
     leaves_nothing
     end
+    begin 'files that are kept in place of older ones'
+    echo old > k.ptx && touch -d yesterday k.ptx && chmod 400 k.ptx
+    script KEEP_DIR="$room/work" NINJA_DOES='echo new > "$tmp/k.ptx"; echo kept > "$tmp/k.o"; sleep 1.1; echo object > k.o' -c k.cu -o k.o
+    same 'the files' "$status $(cat k.ptx k.o)" $'0 new\nobject'
+    end
     begin 'files that are kept of a call that fails'
-    script KEEP_DIR="$room/work" NINJA_DOES='echo 3 > "$tmp/zigrunk.0.0.status"; touch "$tmp/k.ii" "$tmp/zigrunk.0.0.err"' NINJA_STATUS_IS=1 -c k.cu -o k.o
+    script KEEP_DIR="$room/work" NINJA_DOES='echo 3 > "$tmp/zigrunk.0.0.status"; touch "$tmp/k.ii"; echo bad > "$tmp/zigrunk.0.0.err"' NINJA_STATUS_IS=1 -c k.cu -o k.o
     same status "$status" 3
     same 'files kept' "$(ls -A)" 'k.ii'
     end
 
     begin 'a dependency file'
-    script DEPENDENCIES='( echo made > k.d; echo twice; echo twice >&2 )' NINJA_DOES='sh -c "$command" || exit 1' -c k.cu -o k.o
+    script DEPENDENCIES='( echo made > k.d; echo twice >&2 )' NINJA_DOES='sh -c "$command" || exit 1' -c k.cu -o k.o
     same status "$status" 0
     same output "$(cat "$room/out" "$room/err")" ''
     same 'the file' "$(cat k.d)" made
+    end
+    begin 'a dependency file that is standard output'
+    script DEPENDENCIES='( echo rule; echo twice >&2 )' NINJA_DOES='sh -c "$command" || exit 1; echo said > "$tmp/zigrunk.0.0.out"; : > "$tmp/zigrunk.0.0.err"' -c k.cu -o k.o
+    same 'status and output' "$status $(cat "$room/out" "$room/err")" $'0 rule\nsaid'
+    end
+    begin 'a dependency file of what is preprocessed'
+    preprocesses="echo 'rule x' && printf '%s\\n' 'build \${tmp}/zigrunk.0.0: run' '  line = ( a -E k.cu ) && touch b' 'build \${tmp}/zigrunk.0.1: run' '  line = ( cicc ) && touch b'"
+    script DEPENDENCIES=: HOST='some-gcc-12 -DA -E k.cu -o k.ii' PLAN_DOES="$preprocesses" NINJA_DOES='grep depended: "$2" > "$LOG.edge"; readlink "$tmp/zigrunk.tmp/host/"* > "$LOG.link"; ls "$tmp/zigrunk.tmp/host" >> "$LOG.link"' -c k.cu -o k.o
+    same edge "$(cat "$room/log.edge")" 'build ${tmp}/zigrunk.tmp/depended: dependencies ${tmp}/zigrunk.tmp/dependencies | ${tmp}/zigrunk.0.0 '
+    same 'the host compiler' "$(cat "$room/log.link")" "${script%/*}/zigrunk-slot"$'\nsome-gcc-12'
+    for host in '"/usr/bin"/gcc -DA -E k.cu -o k.ii' 'gcc -c k.cu'; do
+        script DEPENDENCIES=: HOST="$host" PLAN_DOES="$preprocesses" NINJA_DOES='grep depended: "$2" > "$LOG.edge"' -c k.cu -o k.o
+        same edge "$(cat "$room/log.edge")" 'build ${tmp}/zigrunk.tmp/depended: dependencies ${tmp}/zigrunk.tmp/dependencies'
+    done
+    script HOST='gcc -DA -E k.cu -o k.ii' PLAN_DOES="$preprocesses" NINJA_DOES='grep depended: "$2" > "$LOG.edge"' -c k.cu -o k.o
+    same 'edge without dependencies' "$(cat "$room/log.edge")" 'build ${tmp}/zigrunk.tmp/depended: dependencies ${tmp}/zigrunk.tmp/dependencies'
+    end
+    begin 'a command fails before the dependency file is made'
+    script DEPENDENCIES='( echo made > k.d )' HOST='gcc -DA -E k.cu -o k.ii' NINJA_DOES='echo bad > "$tmp/zigrunk.0.1.err"; echo 6 > "$tmp/zigrunk.0.1.status"' NINJA_STATUS_IS=1 -c k.cu -o k.o
+    same 'status and file' "$status $(cat k.d)" '6 made'
     end
     begin 'a dependency file that fails'
     script "${plain[@]}" DEPENDENCIES='( exit 4 )' NINJA_DOES='sh -c "$command" || { echo "ninja: build stopped"; exit 1; }' -c k.cu -o k.o

@@ -217,6 +217,37 @@ at_most 2 2
 unset ZIGRUNK_SLOTS
 end
 
+# The gcc of the call that writes the dependency file.
+begin 'what is preprocessed'
+call="$room/a call"
+mkdir -p "$call/zigrunk.tmp/host" "$room/bin"
+ln -s "${script%/*}/zigrunk-slot" "$call/zigrunk.tmp/host/gcc"
+printf '%s\n' '#!/bin/sh' 'echo "gcc $*"' > "$room/bin/gcc" && chmod +x "$room/bin/gcc"
+{
+    echo "  line = ( cd /w && env 'A=b' \$\${ZIGRUNK_RUNNER-} /usr/bin/gcc -DA='b c' '-DB=\$\$' -E k.cu -o '$call/x_0.ii' ) && touch '$call/zigrunk.0.0'"
+    echo "  line = ( cd /w && env \$\${ZIGRUNK_RUNNER-} /usr/bin/gcc -E j.cu -o '$call/x_1.ii' ) && touch '$call/zigrunk.0.1'"
+} > "$call/zigrunk.tmp/ninja"
+touch "$call/zigrunk.0.0"
+export PATH="$call/zigrunk.tmp/host:$room/bin:$PATH"
+same 'the same words' "$(gcc '-DA=b c' '-DB=$' -E k.cu -o k.ii; readlink k.ii)" "$call/x_0.ii"
+same 'another place of -o' "$(gcc -o k.ii '-DA=b c' '-DB=$' -E k.cu; readlink k.ii)" "$call/x_0.ii"
+same 'other words' "$(gcc '-DA=b' '-DB=$' -E k.cu -o k.ii)" 'gcc -DA=b -DB=$ -E k.cu -o k.ii'
+same 'words joined' "$(gcc '-DA=b c' '-DB=$ -E' k.cu -o k.ii)" 'gcc -DA=b c -DB=$ -E k.cu -o k.ii'
+same 'a command that has not ended' "$(gcc -E j.cu -o j.ii)" 'gcc -E j.cu -o j.ii'
+same 'another file' "$(gcc -E other.cu -o j.ii)" 'gcc -E other.cu -o j.ii'
+same 'no output' "$(gcc -v)" 'gcc -v'
+export PATH=${PATH#"$call/zigrunk.tmp/host:$room/bin:"}
+end
+
+begin 'a terminal'
+graph 1
+printf '%s\n' '[ ! -t 2 ] || echo colours >&2; printf "%s\n" "a line" >&2' > command
+command -v script > /dev/null && script -qec "'$script' -c 1.cu -o 1.o" said > /dev/null < /dev/null
+same 'messages' "$(tr -d '\r' < said | grep -c '^colours$')$(tr -d '\r' < said | grep -c '^a line$')" 44
+"$script" -c 1.cu -o 1.o 2> said
+same 'messages' "$(sort -u said)" 'a line'
+end
+
 begin 'the script is killed' 30
 graph 1
 "$script" -c 1.cu -o 1.o > said 2>&1 &
