@@ -300,10 +300,10 @@ END
     begin 'the directory of a call in two steps'
     mkdir "$room/batch"
     script ZIGRUNK_PLAN="$room/batch/plan" -c k.cu -o k.o
-    same 'files left' "$(cd "$room/tmp" && ls -d */*)" "zigrunk-$user/zigrunk-name"
+    same 'files left' "$(cd "$room/tmp" && ls -d -- */*)" "zigrunk-$user/zigrunk-name"
     script -c k.cu -o k.o
     same 'calls there' "$(grep -c "zigrunk-name/zigrunk.tmp/ninja" "$room/log")" 0
-    same 'files left' "$(cd "$room/tmp" && ls -d */*)" "zigrunk-$user/zigrunk-name"
+    same 'files left' "$(cd "$room/tmp" && ls -d -- */*)" "zigrunk-$user/zigrunk-name"
     rm -r "$room/batch"
     script -c k.cu -o k.o
     holds calls "$room/log" "ninja [-f] [$split/zigrunk.tmp/ninja]"
