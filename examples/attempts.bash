@@ -6,7 +6,8 @@
 #     ZIGRUNK_RUNNER='my-runner attempts.bash' zigrunk-nvcc -c k.cu -o k.o
 #
 # The command writes its files into a new directory beside each product, .attempt.XXXXXX, under the products' own names. If it
-# succeeds, the script renames them. So no reader sees half a file, and a command that fails or dies leaves the old files.
+# succeeds, the script renames them. So no reader sees half a file, and a command that fails or dies leaves the old files. A command
+# that ends with 0 and makes none of them has failed.
 #
 #   cicc              -o, --gen_c_file_name, --gen_device_file_name, --stub_file_name, and the module id if it makes one
 #   cudafe++          --gen_c_file_name, and the module id if it makes one. It only cites --stub_file_name
@@ -100,16 +101,18 @@ redirect_all() {
 
 # publish: renames what the command made. cicc writes the name of its stub file into that file, where the product's name belongs.
 publish() {
-    local index draft place
+    local index draft place made=''
     for index in "${!drafts[@]}"; do
         draft=${drafts[index]}
         [ -e "$draft" ] || continue
+        made=1
         place=${draft%/*}
         case $kind$draft in
         cicc*.stub.c) sed "s,${place##*/}/,,g" "$draft" > "$draft.own" && mv -f "$draft.own" "$draft" || return ;;
         esac
         mv -f "$draft" "${products[index]}" || return
     done
+    [ -n "$made" ] || { echo "attempts.bash: $1 made no product" >&2 && return 1; }
 }
 
 words=("$@") products=() drafts=()
@@ -128,5 +131,5 @@ done
 child=$!
 wait "$child"
 status=$?
-[ "$status" != 0 ] || publish || status=1
+[ "$status" != 0 ] || publish "$1" || status=1
 exit "$status"

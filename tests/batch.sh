@@ -14,8 +14,8 @@ unset NVCC_PREPEND_FLAGS NVCC_APPEND_FLAGS CDPATH MAKEFLAGS "${!ZIGRUNK@}"
 user=$(id -u)
 require zigrunk-batch ninja
 
-# The stand-ins. Each line of a source is a command of its plan: the first in a group of its own, the others side by side after it.
-# A source whose name begins with 'whole' can't be split.
+# The stand-ins. Each line of a source is a command of its plan: the first in a group of its own, the others side by side after it. Each
+# makes the product, unless it fails or LOSE is set. A source whose name begins with 'whole' can't be split.
 mkdir "$scratch/bin"
 cat > "$scratch/bin/zigrunk" << 'END'
 #!/bin/sh
@@ -28,7 +28,13 @@ directory) shift && printf 'call-%s\n' "$(printf '%s\n' "$@" | cksum | tr ' ' -)
 calls)
     tmp=$3 keep=''
     shift 4
+    : > "$tmp/product"
     for word; do
+        case ${last-},$word in
+        -o,* | --output-file,*) printf '%s\n' "$word" > "$tmp/product" ;;
+        *,-o=* | *,--output-file=*) printf '%s\n' "${word#*=}" > "$tmp/product" ;;
+        esac
+        last=$word
         case $word in
         *whole*) echo "zigrunk: $word is whole" >&2 && exit 3 ;;
         *.cu) cp "$word" "$tmp/source" || exit 1 ;;
@@ -43,7 +49,7 @@ ninja)
     echo "tmp = $(printf '%s\n' "$tmp" | sed 's/[$ :]/$&/g')"
     printf '%s\n' 'builddir = ${tmp}' 'rule run' '  command = ${line} || { code=$$?; echo $$code > ${out}.status; exit $$code; }'
     while read -r line; do
-        printf '%s\n' "$line" > "$tmp/command.$number"
+        { printf '%s\n' "$line" && [ -n "${LOSE-}" ] || [ ! -s "$tmp/product" ] || printf '[ $? = 0 ] && echo made > "%s"\n' "$(cat "$tmp/product")"; } > "$tmp/command.$number"
         echo "build \${tmp}/zigrunk.$((number > 0)).$number: run$([ "$number" = 0 ] || echo ' ${tmp}/zigrunk.0.0')"
         echo "  line = ( cd '$folder' && \$\${ZIGRUNK_RUNNER-} sh '$tmp/command.$number' ) && touch '$tmp/zigrunk.$((number > 0)).$number'"
         number=$((number + 1))
@@ -58,8 +64,11 @@ line=nvcc
 for word; do line="$line [$word]"; done
 printf '%s\n' "$line" >> "$LOG"
 for word; do
+    [ "${last-}" != -o ] || product=$word
+    last=$word
     case $word in *.cu) . "./$word" ;; esac
 done
+[ -n "${LOSE-}" ] || [ -z "${product-}" ] || echo made > "$product"
 END
 cat > "$scratch/bin/ninja" << END
 #!/bin/sh
@@ -67,6 +76,7 @@ printf '%s\n' "ninja \$*" >> "\$LOG"
 exec $(command -v ninja) "\$@"
 END
 printf '%s\n' '#!/bin/sh' 'printf "%s\n" "runner $*" >> "$LOG"' 'exec "$@"' > "$scratch/bin/runner"
+printf '%s\n' '#!/bin/sh' 'while [ "$1" != -o ]; do shift; done' '[ -n "${LOSE-}" ] || echo made > "$2"' > "$scratch/bin/gcc"
 chmod +x "$scratch"/bin/*
 mkdir "$scratch/opt" && ln -s ../bin/nvcc "$scratch/opt/nvcc"
 export PATH=$scratch/bin:$PATH
@@ -83,7 +93,7 @@ batch() {
         settings+=("$1")
         shift
     done
-    rm -f "$room/log"
+    : > "$room/log"
     env LOG="$room/log" TMPDIR="$room/tmp" "${settings[@]}" "${shell[@]}" "$script" "$@" > "$room/out" 2> "$room/err" <<< "${list-}"
     status=$?
 }
@@ -167,6 +177,68 @@ lists() {
     same messages "$(cat "$room/err")" $'err\nzigrunk-batch: line 1: exit status 4: sh -c "echo out; echo err >&2; exit 4"'
     same 'by the runner' "$(logged '^runner')" 2
     same calls "$(grep -v '^runner\|^ninja' "$room/log")" ''
+    end
+}
+
+# lost WHAT PRODUCT LINE..: a list of one call whose product isn't made, though all that runs ends with 0; LOSE is the way.
+lost() {
+    same "status, $1" "$status" 1
+    same "messages, $1" "$(cat "$room/err")" "zigrunk-batch: line 1: no new $PWD/$2, though the call ended with 0"$'\n'"zigrunk-batch: line 1: exit status 1: $list"
+}
+
+products() {
+    for list in 'nvcc -c a.cu -o p' 'nvcc -c whole.cu -o p' 'gcc -c a.c -o p' 'zigrunk-nvcc -c a.cu --output-file=p' '-c a.cu -Xcompiler -o --output-file p' 'nvcc -c a.cu -o no -o=p' 'sh -c "gcc -o p"'; do
+        begin "a product that nobody makes: $list"
+        write a.cu ':' ':'
+        write whole.cu ':'
+        mkdir folder
+        case $list in
+        sh*)
+            batch LOSE=1
+            same 'another program' "$status" 0
+            end && continue
+            ;;
+        esac
+        batch LOSE=1
+        lost 'none is there' p
+        echo old > p
+        batch LOSE=1
+        lost 'an old one is there' p
+        batch ZIGRUNK_RUNNER=true
+        lost 'the runner does nothing' p
+        batch
+        same 'status, messages and product' "$status$(cat "$room/err" p)" 0made
+        batch
+        same 'status and messages, the same product again' "$status$(cat "$room/err" p)" 0made
+        end
+    done
+
+    for line in 'nvcc -c sub/a.cu,a.o' '-dc -include x.c sub/a.b.cu,a.b.o' 'nvcc --ptx a.cu -I x,a.ptx' 'gcc -c a.c,a.o' 'nvcc -cubin a.cu,a.cubin'; do
+        begin "a product that is named after the source: $line"
+        mkdir sub
+        write a.cu ':'
+        write sub/a.cu ':'
+        write sub/a.b.cu ':'
+        list=${line%,*}
+        batch LOSE=1 ZIGRUNK_RUNNER=true
+        lost "none is there" "${line#*,}"
+        end
+    done
+
+    for list in 'nvcc --dryrun -c a.cu -o p' 'nvcc --version -o p' 'nvcc -c a.cu b.cu' 'nvcc -E a.cu' 'nvcc -c -x cu a.cu' 'nvcc -M -c a.cu' 'nvcc -c a.cu -o /dev/null' 'gcc -fsyntax-only -c a.c -o p'; do
+        begin "no product: $list"
+        batch ZIGRUNK_RUNNER=true ZIGRUNK_PROGRAM=false
+        same 'status and messages' "$status$(cat "$room/err")" 0
+        end
+    done
+
+    begin 'a product in another directory, by a link'
+    mkdir "$room/far" && ln -s "$room/far" near
+    write a.cu 'exit 3'
+    write b.cu ':'
+    list=$'-c a.cu -o near/a.o\n-c b.cu -o near/b.o'
+    batch LOSE=1
+    same 'status and messages' "$status $(head -n 2 "$room/err")" "3 zigrunk-batch: line 1: exit status 3: -c a.cu -o near/a.o"$'\n'"zigrunk-batch: line 2: no new $room/far/b.o, though the call ended with 0"
     end
 }
 
@@ -333,7 +405,7 @@ places() {
     list='-c a.cu --keep -o a.o'
     batch
     same status "$status" 0
-    same 'files kept' "$(find . -type f ! -name a.cu | sort | tr '\n' ' ')" './command.0 ./command.1 ./k.ptx ./source '
+    same 'files kept' "$(find . -type f ! -name 'a.*' | sort | tr '\n' ' ')" './command.0 ./command.1 ./k.ptx ./product ./source '
     end
 
     begin 'calls have the directories of single calls'
@@ -390,6 +462,7 @@ none_run() {
 
 cases() {
     lists
+    products
     failures
     databases
     places

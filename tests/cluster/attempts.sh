@@ -98,6 +98,9 @@ failures() {
     wait "$!" 2> /dev/null
     same 'the product after KILL' "$(cat made)" old
     sleep 1
+    printf '%s\n' '#!/bin/sh' 'exit' > ptxas
+    chmod +x ptxas
+    same 'a command that makes nothing' "$("$attempts" ./ptxas x.ptx -o made 2>&1)$? $(cat made)" 'attempts.bash: ./ptxas made no product1 old'
     cd ..
     rm -rf room
 }
@@ -111,7 +114,7 @@ forms() {
     rm -rf ./*
 
     # What the script leaves alone. The command looks at its words.
-    printf '%s\n' '#!/bin/sh' 'echo "$@"' > gcc
+    printf '%s\n' '#!/bin/sh' 'echo "$@"' 'for word; do case $word in *.attempt*) echo made > "${word#-o}" ;; esac; done' > gcc
     chmod +x gcc
     cp gcc nvcc
     cp gcc ptxas
