@@ -13,7 +13,7 @@ from concurrent.futures import Future, ThreadPoolExecutor
 from typing import Any, Callable, Dict, List
 
 sys.path.insert(0, os.path.dirname(os.path.realpath(shutil.which("rt") or "rt")))
-import rtlib as rtlib  # type: ignore[import]  # noqa: E402 # the kit's own: what it passes to its prover for a crate
+import rtlib as rtlib  # the kit's own: what it passes to its prover for a crate
 
 # The parts of a crate that its proof reads.
 PARTS = ("src", "specs", "proofs")
@@ -44,6 +44,14 @@ def work_folder(crate: Any) -> str:
     return folder
 
 
+def started(command: str, words: List[str], folder: str) -> "subprocess.Popen[str]":
+    """Starts the kit's prover in a crate's folder. It ends when this program ends, and both of its streams are standard output."""
+    call = [*rtlib.guarded(), rtlib.RATTLE, command, *words]
+    return subprocess.Popen(
+        call, cwd=folder, stdin=subprocess.DEVNULL, stdout=subprocess.PIPE, stderr=subprocess.STDOUT, text=True, errors="replace"
+    )
+
+
 def build(crate: Any, jobs: int, say: Callable[[str], None]) -> bool:
     """Proves and builds a library, unless it is kept. The libraries below it are built. Returns whether it is there."""
     if os.path.isdir(crate.rlib):
@@ -53,9 +61,10 @@ def build(crate: Any, jobs: int, say: Callable[[str], None]) -> bool:
     with tempfile.TemporaryDirectory(dir=FOLDER) as room:
         made = f"{room}/{crate.name}.rlib"
         words = [*crate.words(["--jobs", str(jobs)], keeps=False), "--incremental", work_folder(crate), "-o", made]
-        ran = subprocess.run([*rtlib.guarded(), rtlib.RATTLE, "build", *words], cwd=crate.folder, stdin=subprocess.DEVNULL, stdout=subprocess.PIPE, stderr=subprocess.STDOUT, text=True, errors="replace")
+        with started("build", words, crate.folder) as ran:
+            said = ran.communicate()[0]
         if ran.returncode:
-            say("\n".join(it for it in ran.stdout.split("\n") if not it.endswith(": proved")))
+            say("\n".join(it for it in said.split("\n") if not it.endswith(": proved")))
             return False
         try:
             os.rename(made, crate.rlib)

@@ -145,10 +145,9 @@ def tried_together(left: List[WrongBody], texts: Texts) -> Tuple[List[WrongBody]
 def said_of(room: str, crate: Any, words: List[str], functions: List[str]) -> List[str]:
     """Runs `rattle check` with these words on the crate's texts in this folder. Returns what it prints, up to its suggestions for open
     goals if it says of each of these functions whether it is proved."""
-    words = [*rtlib.guarded(), rtlib.RATTLE, "check", *crate.words(["--jobs", "1"], keeps=False), *words]
     lines: List[str] = []
     waited = {f"fn {crate.name}::{it}" for it in functions}
-    with subprocess.Popen(words, cwd=room, stdin=subprocess.DEVNULL, stdout=subprocess.PIPE, stderr=subprocess.STDOUT, text=True, errors="replace") as check:
+    with kept.started("check", [*crate.words(["--jobs", "1"], keeps=False), *words], room) as check:
         for line in check.stdout or []:
             lines.append(line.rstrip("\n"))
             waited.discard(line.partition(": ")[0])
@@ -292,7 +291,8 @@ def chosen(crates: List[Any], record: Record) -> Dict[str, List[WrongBody]]:
     commit = subprocess.run(["git", "rev-parse", "HEAD"], cwd=TOP, capture_output=True, text=True).stdout.strip()
     for name, body in random.Random(commit).sample(others, min(DRAWN, len(others))):
         bodies.setdefault(name, []).append(body)
-    print(f"wrong bodies: all {sum(len(bodies[it.name]) for it in changed)} of {len(changed)} changed crates, {min(DRAWN, len(others))} of the other {len(others)}, drawn by {commit[:12] or 'no commit'}", flush=True)
+    count, drawn = sum(len(wrong_bodies(it.name)) for it in changed), min(DRAWN, len(others))
+    print(f"all {count} wrong bodies of {len(changed)} changed crates, {drawn} of the other {len(others)}, drawn by {commit[:12]}", flush=True)
     return bodies
 
 
