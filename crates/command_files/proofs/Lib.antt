@@ -1,6 +1,7 @@
 pub mod NeedLemmas
 pub mod OrderLemmas
 pub mod OrderNeedLemmas
+pub mod OverlapLemmas
 pub mod NeededLemmas
 pub mod PartLemmas
 pub mod PlanOrderLemmas

@@ -6,7 +6,7 @@ use Rattle.std.proofs.lemmas.List.Folds.{list_any-append}
 use Rattle.std.proofs.lemmas.List.Sorted.{IsPermutation-refl}
 use Rattle.std.proofs.lemmas.List.{append_assoc, append-nil, get_or-take, length-take-le}
 use Rattle.command_files.specs.Order.{numbers_where, needs_behind, needs_by, is_in, is_ready, needs_at, own_order, NeedsHold, OwnOrderIsOne}
-use Rattle.command_files.proofs.OrderLemmas.{in_either, in_first, in_second, in_both}
+use Rattle.command_files.proofs.OrderLemmas.{in_either, in_first, in_second, in_both, passes}
 
 -- there are needs for each command
 pub length-needs_behind : {X : Type 0} (needed : X → X → Bool) (earlier xs : List X) → length (needs_behind needed earlier xs) ≡ length xs
@@ -21,19 +21,7 @@ needs_at_place needed d earlier (x ∷ xs) (suc k) h =
     needs_at_place needed d (earlier ++ x ∷ []) xs k (omega arith)
     ∙ ap (numbers_where (λ e. needed e (get_or xs k d)) 0) (append_assoc earlier (x ∷ []) (take k xs))
 
--- a number that passes is among those that do
-pub passes : {X : Type 0} (test : X → Bool) (d : X) (n : ℕ) (xs : List X) (i : ℕ) → i < length xs → test (get_or xs i d) ≡ true → is_in (numbers_where test n xs) (n + i) ≡ true
-passes test d n [] i h e = absurd (omega arith)
-passes test d n (x ∷ xs) zero h e =
-    subst (λ b. list_any (λ m. m == (n + 0)) (cond b (n ∷ []) [] ++ numbers_where test (n + 1) xs) ≡ true) (sym e)
-    (in_first (n == (n + 0)) (is_in (numbers_where test (n + 1) xs) (n + 0)) (eq-eqb n (n + 0) (omega arith)))
-passes test d n (x ∷ xs) (suc i) h e =
-    let ih : is_in (numbers_where test (n + 1) xs) ((n + 1) + i) ≡ true = passes test d (n + 1) xs i (omega arith) e in
-    let same : (n + 1) + i ≡ n + suc i = omega arith in
-    list_any-append (λ m. m == (n + suc i)) (cond (test x) (n ∷ []) []) (numbers_where test (n + 1) xs)
-    ∙ in_second (is_in (cond (test x) (n ∷ []) []) (n + suc i)) (is_in (numbers_where test (n + 1) xs) (n + suc i)) (subst (λ k. is_in (numbers_where test (n + 1) xs) k ≡ true) same ih)
-
--- and all of them are numbers of the list
+-- all numbers of those that pass are numbers of the list
 pub numbers_below : {X : Type 0} (test : X → Bool) (n : ℕ) (xs : List X) (m : ℕ) → is_in (numbers_where test n xs) m ≡ true → m < n + length xs
 numbers_below test n [] m e = absurd (false≢true e)
 numbers_below test n (x ∷ xs) m e =
@@ -69,7 +57,7 @@ needs_hold test plan = record {
   needed = λ i j h k e. needs_each test (record { reads = []; writes = [] }) plan i j h k e;
 }
 
-all_from : (test : ℕ → Bool) (ns : List ℕ) → ((m : ℕ) → is_in ns m ≡ true → test m ≡ true) → list_all test ns ≡ true
+pub all_from : (test : ℕ → Bool) (ns : List ℕ) → ((m : ℕ) → is_in ns m ≡ true → test m ≡ true) → list_all test ns ≡ true
 all_from test [] f = refl
 all_from test (n ∷ ns) f =
     in_both (test n) (list_all test ns) (f n (in_first (n == n) (is_in ns n) (eq-eqb n n refl)))

@@ -1,14 +1,15 @@
 -- Every order by the needs does what the plan's own order does.
-use Rattle.std.proofs.Common.{◌≡◌, ℕ, zero, suc, ◌+◌, ◌<◌, ◌≤◌, List, [], ◌∷◌, ◌++◌, Bool, true, false, not, cond, ◌&&◌, ◌||◌, ◌==◌, Option, Some, map, length, refl, sym, ap, subst, ◌∙◌, arith}
-use Rattle.std.specs.List.{list_all, range_with_len, sum_by}
+use Rattle.std.proofs.Common.{◌≡◌, ℕ, zero, suc, ◌+◌, ◌<◌, ◌≤◌, List, [], ◌∷◌, ◌++◌, Bool, true, false, cond, ◌&&◌, ◌||◌, ◌==◌, nat_lt, Option, Some, map, length, get_or, refl, sym, ap, subst, ◌∙◌, arith}
+use Rattle.std.specs.List.{filter, list_any, list_all, range_with_len, sum_by}
 use Rattle.std.specs.Prelude.{IsPermutation}
 use Rattle.std.specs.Str.{bytes_eq}
-use Rattle.std.proofs.lemmas.Bool.{false≢true, and_parts, or_parts, eqb-true, eq-eqb}
+use Rattle.std.proofs.lemmas.Bool.{false≢true, and_parts, or_parts, eqb-true, eq-eqb, lt-ltb, ltb-true}
+use Rattle.std.proofs.lemmas.List.Folds.{list_any-append}
 use Rattle.std.proofs.lemmas.List.Sums.{sum_by-cons, sum_by-append}
 use Rattle.std.proofs.lemmas.List.Sorted.{sum_by-IsPermutation}
 use Rattle.std.proofs.lemmas.Slice.Eq.{bytes_eq-Decides}
 use Rattle.command_files.specs.Files.{Files, is_among, share, touches, must_follow}
-use Rattle.command_files.specs.Order.{is_in, is_ready, needs_at, own_order, Contents, Effect, contents_after, contents_read, files_at, is_written, may_see, StaysWithin, Hold, OrdersAgree}
+use Rattle.command_files.specs.Order.{numbers_where, is_in, is_ready, needs_at, own_order, are_ordered, has_one_place, Contents, Effect, contents_after, contents_read, files_at, writers, may_see, StaysWithin, AllStayWithin, Hold, OrdersAgree, RunsAgree}
 
 -- Tests.
 
@@ -66,42 +67,88 @@ apart_if_free a b e =
 turned : (a b : Files) → Apart a b → Apart b a
 turned a b h = record { first = h.second; second = h.first }
 
--- What a command does that touches nothing beyond its record, if the plan's written files have those that it writes.
-record Fits (plan : List Files) (f : Files) (e : Effect) : Type 0 where
-  within : StaysWithin plan f e
-  known : (file : List ℕ) → is_among f.writes file ≡ true → is_written plan file ≡ true
+-- Numbers of the commands that pass a test.
+
+-- a number that passes is among those that do
+pub passes : {X : Type 0} (test : X → Bool) (d : X) (n : ℕ) (xs : List X) (i : ℕ) → i < length xs → test (get_or xs i d) ≡ true → is_in (numbers_where test n xs) (n + i) ≡ true
+passes test d n [] i h e = absurd (omega arith)
+passes test d n (x ∷ xs) zero h e =
+    subst (λ b. list_any (λ m. m == (n + 0)) (cond b (n ∷ []) [] ++ numbers_where test (n + 1) xs) ≡ true) (sym e)
+    (in_first (n == (n + 0)) (is_in (numbers_where test (n + 1) xs) (n + 0)) (eq-eqb n (n + 0) (omega arith)))
+passes test d n (x ∷ xs) (suc i) h e =
+    let ih : is_in (numbers_where test (n + 1) xs) ((n + 1) + i) ≡ true = passes test d (n + 1) xs i (omega arith) e in
+    let same : (n + 1) + i ≡ n + suc i = omega arith in
+    list_any-append (λ m. m == (n + suc i)) (cond (test x) (n ∷ []) []) (numbers_where test (n + 1) xs)
+    ∙ in_second (is_in (cond (test x) (n ∷ []) []) (n + suc i)) (is_in (numbers_where test (n + 1) xs) (n + suc i)) (subst (λ k. is_in (numbers_where test (n + 1) xs) k ≡ true) same ih)
+
+pub all_pass : (test : ℕ → Bool) (xs : List ℕ) (n : ℕ) → list_all test xs ≡ true → is_in xs n ≡ true → test n ≡ true
+all_pass test [] n h e = absurd (false≢true e)
+all_pass test (x ∷ xs) n h e =
+    let parts : (test x ≡ true) × (list_all test xs ≡ true) = and_parts (test x) (list_all test xs) h in
+    in_either (x == n) (is_in xs n) (λ k. ap test (sym (eqb-true x n k)) ∙ parts.0) (λ k. all_pass test xs n parts.1 k) e
+
+written_by_it : (plan : List Files) (n : ℕ) (file : List ℕ) → n < length plan → is_among (files_at plan n).writes file ≡ true → is_in (writers plan file) n ≡ true
+written_by_it plan n file h w =
+    let here : 0 + n ≡ n = omega arith in
+    subst (λ k. is_in (writers plan file) k ≡ true) here (passes (λ f. is_among f.writes file) (record { reads = []; writes = [] }) 0 plan n h w)
+
+-- Two commands that no need orders, share no written file and stay within their records.
+
+record Free (plan : List Files) (needs : List (List ℕ)) (a b : ℕ) (ea eb : Effect) : Type 0 where
+  within_a : StaysWithin plan needs a ea
+  within_b : StaysWithin plan needs b eb
+  apart : Apart (files_at plan a) (files_at plan b)
+  there_a : a < length plan
+  there_b : b < length plan
+  loose_a : are_ordered needs a b ≡ false
+  loose_b : are_ordered needs b a ≡ false
+
+turned_free : (plan : List Files) (needs : List (List ℕ)) (a b : ℕ) (ea eb : Effect) → Free plan needs a b ea eb → Free plan needs b a eb ea
+turned_free plan needs a b ea eb h = record {
+  within_a = h.within_b;
+  within_b = h.within_a;
+  apart = turned (files_at plan a) (files_at plan b) h.apart;
+  there_a = h.there_b;
+  there_b = h.there_a;
+  loose_a = h.loose_b;
+  loose_b = h.loose_a;
+}
 
 -- what one may see the other doesn't write
-unseen : (plan : List Files) (a b : Files) (eb : Effect) → Fits plan b eb → Apart a b → (file : List ℕ) → may_see plan a file ≡ true → is_among b.writes file ≡ false
-unseen plan a b eb fb h file see =
-    fails (is_among b.writes file) (λ w. false≢true (sym (in_neither (touches a file) (not (is_written plan file)) (h.second file w) (ap not (fb.known file w))) ∙ see))
+unseen : (plan : List Files) (needs : List (List ℕ)) (a b : ℕ) (ea eb : Effect) → Free plan needs a b ea eb → (file : List ℕ) → may_see plan needs a file ≡ true → is_among (files_at plan b).writes file ≡ false
+unseen plan needs a b ea eb h file see =
+    fails (is_among (files_at plan b).writes file)
+    (λ w. false≢true (sym (in_neither (touches (files_at plan a) file) (list_all (are_ordered needs a) (writers plan file)) (h.apart.second file w)
+    (fails (list_all (are_ordered needs a) (writers plan file))
+    (λ all. false≢true (sym h.loose_a ∙ all_pass (are_ordered needs a) (writers plan file) b all (written_by_it plan b file h.there_b w))))) ∙ see))
 
 -- one after the other in a file that the first of them writes
-exchange_written : (plan : List Files) (a b : Files) (ea eb : Effect) → Fits plan a ea → Fits plan b eb → Apart a b → (c : Contents) (file : List ℕ) → is_among a.writes file ≡ true → ea (eb c) file ≡ eb (ea c) file
-exchange_written plan a b ea eb fa fb h c file w =
-    fa.within.depends (eb c) c (λ g see. fb.within.changes c g (unseen plan a b eb fb h g see)) file w
-    ∙ sym (fb.within.changes (ea c) file (or_parts (is_among b.reads file) (is_among b.writes file) (h.first file w)).1)
+exchange_written : (plan : List Files) (needs : List (List ℕ)) (a b : ℕ) (ea eb : Effect) → Free plan needs a b ea eb → (c : Contents) (file : List ℕ) → is_among (files_at plan a).writes file ≡ true → ea (eb c) file ≡ eb (ea c) file
+exchange_written plan needs a b ea eb h c file w =
+    h.within_a.depends (eb c) c (λ g see. h.within_b.changes c g (unseen plan needs a b ea eb h g see)) file w
+    ∙ sym (h.within_b.changes (ea c) file (or_parts (is_among (files_at plan b).reads file) (is_among (files_at plan b).writes file) (h.apart.first file w)).1)
 
-exchange_at : (plan : List Files) (a b : Files) (ea eb : Effect) → Fits plan a ea → Fits plan b eb → Apart a b → (c : Contents) (file : List ℕ) → ea (eb c) file ≡ eb (ea c) file
-exchange_at plan a b ea eb fa fb h c file =
-    elim (is_among a.writes file) as (λ x. is_among a.writes file ≡ x → ea (eb c) file ≡ eb (ea c) file) [
-      | true ↦ λ w. exchange_written plan a b ea eb fa fb h c file w
+exchange_at : (plan : List Files) (needs : List (List ℕ)) (a b : ℕ) (ea eb : Effect) → Free plan needs a b ea eb → (c : Contents) (file : List ℕ) → ea (eb c) file ≡ eb (ea c) file
+exchange_at plan needs a b ea eb h c file =
+    elim (is_among (files_at plan a).writes file) as (λ x. is_among (files_at plan a).writes file ≡ x → ea (eb c) file ≡ eb (ea c) file) [
+      | true ↦ λ w. exchange_written plan needs a b ea eb h c file w
       | false ↦ λ u.
-          elim (is_among b.writes file) as (λ x. is_among b.writes file ≡ x → ea (eb c) file ≡ eb (ea c) file) [
-            | true ↦ λ w. sym (exchange_written plan b a eb ea fb fa (turned a b h) c file w)
-            | false ↦ λ v. fa.within.changes (eb c) file u ∙ fb.within.changes c file v ∙ sym (fb.within.changes (ea c) file v ∙ fa.within.changes c file u)
+          elim (is_among (files_at plan b).writes file) as (λ x. is_among (files_at plan b).writes file ≡ x → ea (eb c) file ≡ eb (ea c) file) [
+            | true ↦ λ w. sym (exchange_written plan needs b a eb ea (turned_free plan needs a b ea eb h) c file w)
+            | false ↦ λ v. h.within_a.changes (eb c) file u ∙ h.within_b.changes c file v ∙ sym (h.within_b.changes (ea c) file v ∙ h.within_a.changes c file u)
           ]
           refl
     ]
     refl
 
 -- what a command reads is the same behind another
-reads_same : (plan : List Files) (a b : Files) (eb : Effect) → Fits plan b eb → Apart a b → (c : Contents) (files : List (List ℕ)) → ((file : List ℕ) → is_among files file ≡ true → touches a file ≡ true) → map (eb c) files ≡ map c files
-reads_same plan a b eb fb h c [] among = refl
-reads_same plan a b eb fb h c (f ∷ fs) among =
+reads_same : (plan : List Files) (needs : List (List ℕ)) (a b : ℕ) (ea eb : Effect) → Free plan needs a b ea eb → (c : Contents) (files : List (List ℕ)) → ((file : List ℕ) → is_among files file ≡ true → touches (files_at plan a) file ≡ true) → map (eb c) files ≡ map c files
+reads_same plan needs a b ea eb h c [] among = refl
+reads_same plan needs a b ea eb h c (f ∷ fs) among =
+    let own : Files = files_at plan a in
     let same : eb c f ≡ c f =
-    fb.within.changes c f (unseen plan a b eb fb h f (in_first (touches a f) (not (is_written plan f)) (among f (in_first (bytes_eq f f) (is_among fs f) ((bytes_eq-Decides f f).1 refl))))) in
-    let rest : map (eb c) fs ≡ map c fs = reads_same plan a b eb fb h c fs (λ file k. among file (in_second (bytes_eq file f) (is_among fs file) k)) in
+    h.within_b.changes c f (unseen plan needs a b ea eb h f (in_first (touches own f) (list_all (are_ordered needs a) (writers plan f)) (among f (in_first (bytes_eq f f) (is_among fs f) ((bytes_eq-Decides f f).1 refl))))) in
+    let rest : map (eb c) fs ≡ map c fs = reads_same plan needs a b ea eb h c fs (λ file k. among file (in_second (bytes_eq file f) (is_among fs file) k)) in
     λ i. same i ∷ rest i
 
 -- what holds of a command that may change places with the one behind it
@@ -110,11 +157,11 @@ record Exchange (files : ℕ → Files) (effects : ℕ → Effect) (p x : ℕ) :
   reads_first : (c : Contents) → map (effects x c) (files p).reads ≡ map c (files p).reads
   reads_second : (c : Contents) → map (effects p c) (files x).reads ≡ map c (files x).reads
 
-exchange : (plan : List Files) (files : ℕ → Files) (effects : ℕ → Effect) (p x : ℕ) → Fits plan (files p) (effects p) → Fits plan (files x) (effects x) → Apart (files p) (files x) → Exchange files effects p x
-exchange plan files effects p x fp fx h = record {
-  both = λ c i file. exchange_at plan (files p) (files x) (effects p) (effects x) fp fx h c file i;
-  reads_first = λ c. reads_same plan (files p) (files x) (effects x) fx h c (files p).reads (λ file k. in_first (is_among (files p).reads file) (is_among (files p).writes file) k);
-  reads_second = λ c. reads_same plan (files x) (files p) (effects p) fp (turned (files p) (files x) h) c (files x).reads (λ file k. in_first (is_among (files x).reads file) (is_among (files x).writes file) k);
+exchange : (plan : List Files) (needs : List (List ℕ)) (effects : ℕ → Effect) (p x : ℕ) → Free plan needs p x (effects p) (effects x) → Exchange (files_at plan) effects p x
+exchange plan needs effects p x h = record {
+  both = λ c i file. exchange_at plan needs p x (effects p) (effects x) h c file i;
+  reads_first = λ c. reads_same plan needs p x (effects p) (effects x) h c (files_at plan p).reads (λ file k. in_first (is_among (files_at plan p).reads file) (is_among (files_at plan p).writes file) k);
+  reads_second = λ c. reads_same plan needs x p (effects x) (effects p) (turned_free plan needs p x (effects p) (effects x) h) c (files_at plan x).reads (λ file k. in_first (is_among (files_at plan x).reads file) (is_among (files_at plan x).writes file) k);
 }
 
 -- Moving a command to the front.
@@ -218,12 +265,6 @@ split n (x ∷ xs) e =
 
 -- What is ready.
 
-pub all_pass : (test : ℕ → Bool) (xs : List ℕ) (n : ℕ) → list_all test xs ≡ true → is_in xs n ≡ true → test n ≡ true
-all_pass test [] n h e = absurd (false≢true e)
-all_pass test (x ∷ xs) n h e =
-    let parts : (test x ≡ true) × (list_all test xs ≡ true) = and_parts (test x) (list_all test xs) h in
-    in_either (x == n) (is_in xs n) (λ k. ap test (sym (eqb-true x n k)) ∙ parts.0) (λ k. all_pass test xs n parts.1 k) e
-
 all_more : (test more : ℕ → Bool) → ((n : ℕ) → test n ≡ true → more n ≡ true) → (xs : List ℕ) → list_all test xs ≡ true → list_all more xs ≡ true
 all_more test more f [] h = refl
 all_more test more f (x ∷ xs) h =
@@ -275,27 +316,27 @@ abbrev Distinct : List ℕ → Type 0
 Distinct [] = Unit {0}
 Distinct (p ∷ ps) = (is_in ps p ≡ false) × Distinct ps
 
--- each later command needs the earlier ones that it must follow
-abbrev Needed : (ℕ → Files) → (ℕ → List ℕ) → List ℕ → Type 0
-Needed files needs [] = Unit {0}
-Needed files needs (p ∷ ps) = ((x : ℕ) → is_in ps x ≡ true → must_follow (files p) (files x) ≡ true → is_in (needs x) p ≡ true) × Needed files needs ps
+-- each command may change places with the later ones that don't need it
+abbrev Exchanged : (ℕ → Files) → (ℕ → Effect) → (ℕ → List ℕ) → List ℕ → Type 0
+Exchanged files effects needs [] = Unit {0}
+Exchanged files effects needs (p ∷ ps) = ((x : ℕ) → is_in ps x ≡ true → is_in (needs x) p ≡ false → Exchange files effects p x) × Exchanged files effects needs ps
 
 record Same (files : ℕ → Files) (effects : ℕ → Effect) (one other : List ℕ) (c : Contents) : Type 0 where
   leaves : contents_after effects one c ≡ contents_after effects other c
   reads : (k : ℕ) → contents_read files effects k one c ≡ contents_read files effects k other c
 
-agree : (plan : List Files) (files : ℕ → Files) (needs : ℕ → List ℕ) (effects : ℕ → Effect) (ps os done : List ℕ)
-    → Distinct ps → ((n : ℕ) → times n os ≡ times n ps) → ((n : ℕ) → is_in ps n ≡ true → is_in done n ≡ false) → Needed files needs ps
-    → ((n : ℕ) → is_in ps n ≡ true → Fits plan (files n) (effects n)) → is_ready needs done os ≡ true
+agree : (files : ℕ → Files) (needs : ℕ → List ℕ) (effects : ℕ → Effect) (ps os done : List ℕ)
+    → Distinct ps → ((n : ℕ) → times n os ≡ times n ps) → ((n : ℕ) → is_in ps n ≡ true → is_in done n ≡ false)
+    → Exchanged files effects needs ps → is_ready needs done os ≡ true
     → (c : Contents) → Same files effects os ps c
-agree plan files needs effects [] [] done distinct same fresh needed fits ready c = record { leaves = refl; reads = λ k. refl }
-agree plan files needs effects [] (x ∷ xs) done distinct same fresh needed fits ready c =
+agree files needs effects [] [] done distinct same fresh swaps ready c = record { leaves = refl; reads = λ k. refl }
+agree files needs effects [] (x ∷ xs) done distinct same fresh swaps ready c =
     let count = same x in
     let here = times-cons x x xs in
     let one = mark-same x in
     let none = times-nil x in
     absurd (omega arith)
-agree plan files needs effects (p ∷ ps) os done distinct same fresh needed fits ready c =
+agree files needs effects (p ∷ ps) os done distinct same fresh swaps ready c =
     let counted : 1 ≤ times p (p ∷ ps) = times-in p (p ∷ ps) (at_head p ps) in
     let count = same p in
     let s : Split p os = split p os (in-times p os (omega arith)) in
@@ -317,15 +358,13 @@ agree plan files needs effects (p ∷ ps) os done distinct same fresh needed fit
     let all = same_rest x in
     in-times x ps (omega arith) in
     let unneeded : ((x : ℕ) → is_in s.before x ≡ true → is_in (needs x) p ≡ false) = not_needed needs done p s.before s.after (fresh p (at_head p ps)) s.new whole in
-    let exchanges : ((x : ℕ) → is_in s.before x ≡ true → Exchange files effects p x) =
-    λ x k. exchange plan files effects p x (fits p (at_head p ps)) (fits x (each_below p ps x (later x k)))
-    (apart_if_free (files p) (files x) (fails (must_follow (files p) (files x)) (λ m. false≢true (sym (unneeded x k) ∙ needed.0 x (later x k) m)))) in
+    let exchanges : ((x : ℕ) → is_in s.before x ≡ true → Exchange files effects p x) = λ x k. swaps.0 x (later x k) (unneeded x k) in
     let fresh_rest : ((n : ℕ) → is_in ps n ≡ true → is_in (p ∷ done) n ≡ false) =
     λ n k. in_neither (p == n) (is_in done n)
     (fails (p == n) (λ m. false≢true (sym distinct.0 ∙ (ap (is_in ps) (eqb-true p n m) ∙ k))))
     (fresh n (each_below p ps n k)) in
     let ih : Same files effects rest ps (effects p c) =
-    agree plan files needs effects ps rest (p ∷ done) distinct.1 same_rest fresh_rest needed.1 (λ n k. fits n (each_below p ps n k)) (ready_moved needs done p s.before s.after whole) (effects p c) in
+    agree files needs effects ps rest (p ∷ done) distinct.1 same_rest fresh_rest swaps.1 (ready_moved needs done p s.before s.after whole) (effects p c) in
     record {
       leaves = ap (λ (xs : List ℕ). contents_after effects xs c) s.is ∙ moved files effects p s.before s.after exchanges c ∙ ih.leaves;
       reads = λ k. ap (λ (xs : List ℕ). contents_read files effects k xs c) s.is ∙ moved_reads files effects k p s.before s.after s.new exchanges c ∙ ap (cond (p == k) (Some (map c (files p).reads))) (ih.reads k);
@@ -345,31 +384,107 @@ range_is_distinct a zero = tt
 range_is_distinct a (suc n) =
     (fails (is_in (range_with_len (a + 1) n) a) (λ k. let h : (a + 1 ≤ a) × (a < (a + 1) + n) = in_range (a + 1) n a k in omega arith), range_is_distinct (a + 1) n)
 
-range_is_needed : (plan : List Files) (needs : List (List ℕ)) → Hold must_follow plan needs → (a n : ℕ) → a + n ≡ length plan → Needed (files_at plan) (needs_at needs) (range_with_len a n)
-range_is_needed plan needs h a zero e = tt
-range_is_needed plan needs h a (suc n) e = (
-  λ x k m.
+range_has : (a n x : ℕ) → a ≤ x → x < a + n → is_in (range_with_len a n) x ≡ true
+range_has a zero x h k = absurd (omega arith)
+range_has a (suc n) x h k =
+    elim (a == x) as (λ b. (a == x) ≡ b → (b || is_in (range_with_len (a + 1) n) x) ≡ true) [
+      | true ↦ λ e. refl
+      | false ↦ λ e. range_has (a + 1) n x (behind e) (omega arith)
+    ]
+    refl
+  where
+    behind : (a == x) ≡ false → a + 1 ≤ x
+    behind e = let differ : a ≡ x → ⊥ = λ s. false≢true (sym e ∙ eq-eqb a x s) in omega arith
+
+-- a later command that doesn't need an earlier one isn't ordered with it
+not_ordered : (needs : List (List ℕ)) (a x : ℕ) → a < x → is_in (needs_at needs x) a ≡ false → are_ordered needs a x ≡ false
+not_ordered needs a x h e = ap (λ b. cond b (is_in (needs_at needs x) a) (is_in (needs_at needs a) x)) (lt-ltb a x h) ∙ e
+
+not_ordered_back : (needs : List (List ℕ)) (a x : ℕ) → a < x → is_in (needs_at needs x) a ≡ false → are_ordered needs x a ≡ false
+not_ordered_back needs a x h e =
+    ap (λ b. cond b (is_in (needs_at needs a) x) (is_in (needs_at needs x) a)) (fails (nat_lt x a) (λ k. let back : x < a = ltb-true x a k in omega arith)) ∙ e
+
+-- then neither has one place in all orders
+many_places : (needs : List (List ℕ)) (n m : ℕ) → m < length needs → (m ≡ n → ⊥) → are_ordered needs m n ≡ false → has_one_place needs n ≡ false
+many_places needs n m h differ e =
+    fails (has_one_place needs n)
+    (λ all. false≢true (sym (in_neither (m == n) (are_ordered needs m n) (fails (m == n) (λ k. differ (eqb-true m n k))) e)
+    ∙ all_pass (λ k. k == n || are_ordered needs k n) (own_order needs) m all (range_has 0 (length needs) m (omega arith) (omega arith))))
+
+free : (plan : List Files) (needs : List (List ℕ)) (effects : ℕ → Effect) → Hold must_follow plan needs → AllStayWithin plan needs effects
+    → (a x : ℕ) → a < x → x < length plan → is_in (needs_at needs x) a ≡ false → Free plan needs a x (effects a) (effects x)
+free plan needs effects holds stay a x h k e =
+    let size = holds.each in
+    let forth : are_ordered needs a x ≡ false = not_ordered needs a x h e in
+    let back : are_ordered needs x a ≡ false = not_ordered_back needs a x h e in
+    record {
+      within_a = stay a (omega arith) (many_places needs a x (omega arith) (λ s. omega arith) back);
+      within_b = stay x k (many_places needs x a (omega arith) (λ s. omega arith) forth);
+      apart = apart_if_free (files_at plan a) (files_at plan x) (fails (must_follow (files_at plan a) (files_at plan x)) (λ m. false≢true (sym e ∙ holds.needed a x h k m)));
+      there_a = omega arith;
+      there_b = k;
+      loose_a = forth;
+      loose_b = back;
+    }
+
+range_exchanges : (plan : List Files) (needs : List (List ℕ)) (effects : ℕ → Effect) → Hold must_follow plan needs → AllStayWithin plan needs effects
+    → (a n : ℕ) → a + n ≡ length plan → Exchanged (files_at plan) effects (needs_at needs) (range_with_len a n)
+range_exchanges plan needs effects holds stay a zero e = tt
+range_exchanges plan needs effects holds stay a (suc n) e = (
+  λ x k u.
       let place : (a + 1 ≤ x) × (x < (a + 1) + n) = in_range (a + 1) n x k in
-      h.needed a x (omega arith) (omega arith) m,
-  range_is_needed plan needs h (a + 1) n (omega arith),
+      exchange plan needs effects a x (free plan needs effects holds stay a x (omega arith) (omega arith) u),
+  range_exchanges plan needs effects holds stay (a + 1) n (omega arith),
 )
 
-known_at : (plan : List Files) (n : ℕ) (file : List ℕ) → is_among (files_at plan n).writes file ≡ true → is_written plan file ≡ true
-known_at [] n file e = absurd (false≢true e)
-known_at (f ∷ fs) zero file e = in_first (is_among f.writes file) (is_written fs file) e
-known_at (f ∷ fs) (suc n) file e = in_second (is_among f.writes file) (is_written fs file) (known_at fs n file e)
+-- some of the commands
+in_filter : (test : ℕ → Bool) (xs : List ℕ) (x : ℕ) → is_in (filter test xs) x ≡ true → is_in xs x ≡ true
+in_filter test [] x e = absurd (false≢true e)
+in_filter test (y ∷ ys) x e =
+    (elim (test y) as (λ b. is_in (cond b (y ∷ filter test ys) (filter test ys)) x ≡ true → is_in (y ∷ ys) x ≡ true) [
+      | true ↦ λ k. in_either (y == x) (is_in (filter test ys) x) (λ m. in_first (y == x) (is_in ys x) m) (λ m. in_second (y == x) (is_in ys x) (in_filter test ys x m)) k
+      | false ↦ λ k. in_second (y == x) (is_in ys x) (in_filter test ys x k)
+    ]) e
+
+some_distinct : (test : ℕ → Bool) (xs : List ℕ) → Distinct xs → Distinct (filter test xs)
+some_distinct test [] d = tt
+some_distinct test (x ∷ xs) d =
+    elim (test x) as (λ b. Distinct (cond b (x ∷ filter test xs) (filter test xs))) [
+      | true ↦ (fails (is_in (filter test xs) x) (λ k. false≢true (sym d.0 ∙ in_filter test xs x k)), some_distinct test xs d.1)
+      | false ↦ some_distinct test xs d.1
+    ]
+
+some_exchange : (files : ℕ → Files) (effects : ℕ → Effect) (needs : ℕ → List ℕ) (test : ℕ → Bool) (xs : List ℕ) → Exchanged files effects needs xs → Exchanged files effects needs (filter test xs)
+some_exchange files effects needs test [] h = tt
+some_exchange files effects needs test (x ∷ xs) h =
+    elim (test x) as (λ b. Exchanged files effects needs (cond b (x ∷ filter test xs) (filter test xs))) [
+      | true ↦ (λ y k u. h.0 y (in_filter test xs y k) u, some_exchange files effects needs test xs h.1)
+      | false ↦ some_exchange files effects needs test xs h.1
+    ]
 
 pub orders_agree : OrdersAgree must_follow
-orders_agree plan needs order effects contents holds is fits =
+orders_agree plan needs order effects contents holds is stay =
     let n : ℕ = length needs in
     let bound = holds.each in
     let same : Same (files_at plan) effects order (own_order needs) contents =
-    agree plan (files_at plan) (needs_at needs) effects (own_order needs) order []
+    agree (files_at plan) (needs_at needs) effects (own_order needs) order []
     (range_is_distinct 0 n)
     (λ k. times-permutation k (own_order needs) order is.each_once)
     (λ k e. refl)
-    (range_is_needed plan needs holds 0 n (omega arith))
-    (λ k e. let place : (0 ≤ k) × (k < 0 + length needs) = in_range 0 n k e in
-    record { within = fits k (omega arith); known = known_at plan k })
+    (range_exchanges plan needs effects holds stay 0 n (omega arith))
+    is.ready contents in
+    record { leaves = λ file i. same.leaves i file; reads = same.reads }
+
+pub runs_agree : RunsAgree must_follow
+runs_agree plan needs ran effects contents holds is stay =
+    let n : ℕ = length needs in
+    let bound = holds.each in
+    let own : List ℕ = filter (is_in ran) (own_order needs) in
+    let same : Same (files_at plan) effects ran own contents =
+    agree (files_at plan) (needs_at needs) effects own ran []
+    (some_distinct (is_in ran) (own_order needs) (range_is_distinct 0 n))
+    (λ k. times-permutation k own ran is.each_once)
+    (λ k e. refl)
+    (some_exchange (files_at plan) effects (needs_at needs) (is_in ran) (own_order needs) (range_exchanges plan needs effects holds stay 0 n (omega arith)))
     is.ready contents in
     record { leaves = λ file i. same.leaves i file; reads = same.reads }

@@ -1,10 +1,11 @@
 -- Two commands each that may not change places.
-use Rattle.std.proofs.Common.{◌≡◌, ℕ, zero, suc, ◌<◌, List, [], ◌∷◌, Bool, true, false, cond, not, ◌||◌, Some, None, length, refl, sym, ap, ◌∙◌, arith}
+use Rattle.std.proofs.Common.{◌≡◌, ℕ, zero, suc, ◌<◌, List, [], ◌∷◌, Bool, true, false, cond, ◌||◌, Some, None, length, refl, sym, ap, ◌∙◌, arith}
+use Rattle.std.specs.List.{list_all}
 use Rattle.std.specs.Str.{bytes_eq}
 use Rattle.std.proofs.lemmas.Bool.{false≢true, or_parts}
 use Rattle.std.proofs.lemmas.List.Sorted.{IsPermutation-append_comm}
-use Rattle.command_files.specs.Files.{Files, touches}
-use Rattle.command_files.specs.Order.{needs_by, IsOrder, Contents, Effect, is_written, files_at, StaysWithin, OrdersAgree}
+use Rattle.command_files.specs.Files.{Files, is_among, touches}
+use Rattle.command_files.specs.Order.{needs_by, IsOrder, are_ordered, Contents, Effect, writers, files_at, StaysWithin, OrdersAgree}
 use Rattle.command_files.specs.OrderNeeds.{but_reads_written, but_writes_read, but_writes_written}
 use Rattle.command_files.proofs.OrderLemmas.{in_either, in_first}
 use Rattle.command_files.proofs.NeedLemmas.{needs_hold}
@@ -35,19 +36,24 @@ other_than file target e = (or_parts (bytes_eq file target) false e).0
 that_file : (file target : List ℕ) → (bytes_eq file target || false) ≡ true → bytes_eq file target ≡ true
 that_file file target e = in_either (bytes_eq file target) false (λ k. k) (λ k. absurd (false≢true k)) e
 
-puts_within : (plan : List Files) (target value : List ℕ) → StaysWithin plan (putting target) (puts target value)
-puts_within plan target value = record {
-  changes = λ contents file e. ap (λ b. cond b (Some value) (contents file)) (other_than file target e);
-  depends = λ one other same file e. ap (λ b. cond b (Some value) (one file)) (that_file file target e) ∙ sym (ap (λ b. cond b (Some value) (other file)) (that_file file target e));
+puts_within : (plan : List Files) (needs : List (List ℕ)) (n : ℕ) (target value : List ℕ) → files_at plan n ≡ putting target → StaysWithin plan needs n (puts target value)
+puts_within plan needs n target value at = record {
+  changes = λ contents file e. ap (λ b. cond b (Some value) (contents file)) (other_than file target (sym (ap (λ f. is_among f.writes file) at) ∙ e));
+  depends = λ one other same file e.
+      let it : bytes_eq file target ≡ true = that_file file target (sym (ap (λ f. is_among f.writes file) at) ∙ e) in
+      ap (λ b. cond b (Some value) (one file)) it ∙ sym (ap (λ b. cond b (Some value) (other file)) it);
 }
 
-copies_within : (plan : List Files) (target source : List ℕ) → bytes_eq source source ≡ true → StaysWithin plan (copying target source) (copies target source)
-copies_within plan target source itself = record {
-  changes = λ contents file e. ap (λ b. cond b (contents source) (contents file)) (other_than file target e);
+copies_within : (plan : List Files) (needs : List (List ℕ)) (n : ℕ) (target source : List ℕ) → bytes_eq source source ≡ true → files_at plan n ≡ copying target source → StaysWithin plan needs n (copies target source)
+copies_within plan needs n target source itself at = record {
+  changes = λ contents file e. ap (λ b. cond b (contents source) (contents file)) (other_than file target (sym (ap (λ f. is_among f.writes file) at) ∙ e));
   depends = λ one other same file e.
-      ap (λ b. cond b (one source) (one file)) (that_file file target e)
-      ∙ same source (in_first (touches (copying target source) source) (not (is_written plan source)) (in_first (bytes_eq source source || false) (bytes_eq source target || false) (in_first (bytes_eq source source) false itself)))
-      ∙ sym (ap (λ b. cond b (other source) (other file)) (that_file file target e));
+      let it : bytes_eq file target ≡ true = that_file file target (sym (ap (λ f. is_among f.writes file) at) ∙ e) in
+      let seen : touches (files_at plan n) source ≡ true =
+      ap (λ f. touches f source) at ∙ in_first (bytes_eq source source || false) (bytes_eq source target || false) (in_first (bytes_eq source source) false itself) in
+      ap (λ b. cond b (one source) (one file)) it
+      ∙ same source (in_first (touches (files_at plan n) source) (list_all (are_ordered needs n) (writers plan source)) seen)
+      ∙ sym (ap (λ b. cond b (other source) (other file)) it);
 }
 
 -- two commands, and what two orders of them leave
@@ -55,18 +61,24 @@ abbrev two : Effect → Effect → ℕ → Effect
 two a b zero = a
 two a b (suc n) = b
 
-two_stay : (f g : Files) (a b : Effect) → StaysWithin (f ∷ g ∷ []) f a → StaysWithin (f ∷ g ∷ []) g b → (n : ℕ) → n < length (f ∷ g ∷ []) → StaysWithin (f ∷ g ∷ []) (files_at (f ∷ g ∷ []) n) (two a b n)
-two_stay f g a b s t zero h = s
-two_stay f g a b s t (suc zero) h = t
-two_stay f g a b s t (suc (suc n)) h = absurd (omega arith)
+abbrev plan_of : Files → Files → List Files
+plan_of f g = f ∷ g ∷ []
+
+two_stay : (needs : List (List ℕ)) (f g : Files) (a b : Effect) → StaysWithin (plan_of f g) needs 0 a → StaysWithin (plan_of f g) needs 1 b → (n : ℕ) → n < length (plan_of f g) → StaysWithin (plan_of f g) needs n (two a b n)
+two_stay needs f g a b s t zero h = s
+two_stay needs f g a b s t (suc zero) h = t
+two_stay needs f g a b s t (suc (suc n)) h = absurd (omega arith)
 
 abbrev nothing : Contents
 nothing file = None
 
 -- orders by a test at which neither needs the other leave the same
-exchanged : (test : Files → Files → Bool) (f g : Files) (a b : Effect) → OrdersAgree test → IsOrder (needs_by test (f ∷ g ∷ [])) (1 ∷ 0 ∷ []) → StaysWithin (f ∷ g ∷ []) f a → StaysWithin (f ∷ g ∷ []) g b → (file : List ℕ) → a (b nothing) file ≡ b (a nothing) file
+exchanged : (test : Files → Files → Bool) (f g : Files) (a b : Effect) → OrdersAgree test → IsOrder (needs_by test (plan_of f g)) (1 ∷ 0 ∷ [])
+    → StaysWithin (plan_of f g) (needs_by test (plan_of f g)) 0 a → StaysWithin (plan_of f g) (needs_by test (plan_of f g)) 1 b
+    → (file : List ℕ) → a (b nothing) file ≡ b (a nothing) file
 exchanged test f g a b h order s t file =
-    (h (f ∷ g ∷ []) (needs_by test (f ∷ g ∷ [])) (1 ∷ 0 ∷ []) (two a b) nothing (needs_hold test (f ∷ g ∷ [])) order (two_stay f g a b s t)).leaves file
+    (h (plan_of f g) (needs_by test (plan_of f g)) (1 ∷ 0 ∷ []) (two a b) nothing (needs_hold test (plan_of f g)) order
+    (λ n k loose. two_stay (needs_by test (plan_of f g)) f g a b s t n k)).leaves file
 
 abbrev one : List ℕ
 one = []
@@ -79,8 +91,8 @@ reads_must_follow h =
     let same : None ≡ Some one =
     exchanged but_reads_written (putting one_file) (copying other_file one_file) (puts one_file one) (copies other_file one_file) h
     (record { each_once = IsPermutation-append_comm (0 ∷ []) (1 ∷ []); ready = refl })
-    (puts_within (putting one_file ∷ copying other_file one_file ∷ []) one_file one)
-    (copies_within (putting one_file ∷ copying other_file one_file ∷ []) other_file one_file refl)
+    (puts_within (plan_of (putting one_file) (copying other_file one_file)) (needs_by but_reads_written (plan_of (putting one_file) (copying other_file one_file))) 0 one_file one refl)
+    (copies_within (plan_of (putting one_file) (copying other_file one_file)) (needs_by but_reads_written (plan_of (putting one_file) (copying other_file one_file))) 1 other_file one_file refl refl)
     other_file in
     cc
 
@@ -89,8 +101,8 @@ writes_must_follow_reads h =
     let same : Some one ≡ None =
     exchanged but_writes_read (copying other_file one_file) (putting one_file) (copies other_file one_file) (puts one_file one) h
     (record { each_once = IsPermutation-append_comm (0 ∷ []) (1 ∷ []); ready = refl })
-    (copies_within (copying other_file one_file ∷ putting one_file ∷ []) other_file one_file refl)
-    (puts_within (copying other_file one_file ∷ putting one_file ∷ []) one_file one)
+    (copies_within (plan_of (copying other_file one_file) (putting one_file)) (needs_by but_writes_read (plan_of (copying other_file one_file) (putting one_file))) 0 other_file one_file refl refl)
+    (puts_within (plan_of (copying other_file one_file) (putting one_file)) (needs_by but_writes_read (plan_of (copying other_file one_file) (putting one_file))) 1 one_file one refl)
     other_file in
     cc
 
@@ -99,7 +111,7 @@ writes_must_follow_writes h =
     let same : Some one ≡ Some another =
     exchanged but_writes_written (putting one_file) (putting one_file) (puts one_file one) (puts one_file another) h
     (record { each_once = IsPermutation-append_comm (0 ∷ []) (1 ∷ []); ready = refl })
-    (puts_within (putting one_file ∷ putting one_file ∷ []) one_file one)
-    (puts_within (putting one_file ∷ putting one_file ∷ []) one_file another)
+    (puts_within (plan_of (putting one_file) (putting one_file)) (needs_by but_writes_written (plan_of (putting one_file) (putting one_file))) 0 one_file one refl)
+    (puts_within (plan_of (putting one_file) (putting one_file)) (needs_by but_writes_written (plan_of (putting one_file) (putting one_file))) 1 one_file another refl)
     one_file in
     cc

@@ -1,18 +1,26 @@
 -- Plans: their needs hold the needs of files, and their own order is an order.
-use Rattle.std.proofs.Common.{◌≡◌, ℕ, zero, suc, List, [], ◌∷◌, map, length, get_or, refl, sym, ap, ◌∙◌, arith, true}
+use Rattle.std.proofs.Common.{◌≡◌, ℕ, zero, suc, ◌+◌, ◌-◌, ◌<◌, ◌≤◌, List, [], ◌∷◌, ◌++◌, Bool, true, false, cond, ◌||◌, ◌==◌, nat_lt, map, length, get_or, refl, sym, ap, ◌∙◌, arith}
+use Rattle.std.specs.List.{list_all}
+use Rattle.std.proofs.lemmas.Bool.{false≢true, and_parts, or_parts, eqb-true, eq-eqb, lt-ltb, ltb-true}
+use Rattle.std.proofs.lemmas.List.Folds.{list_all-append}
 use Rattle.std.proofs.lemmas.List.Sorted.{IsPermutation-refl}
+use Rattle.texts.specs.Path.{file_stem_of}
+use Rattle.command_groups.specs.declared.plan.NvccGeneratedSubcommand.{NvccGeneratedSubcommand}
+use Rattle.command_groups.specs.declared.plan.Plan.{Plan}
+use Rattle.command_files.specs.declared.steps.Role.{Role}
 use Rattle.command_files.specs.declared.steps.Role.TheVariants as roles
 use Rattle.command_files.specs.declared.steps.Step.{Step}
+use Rattle.command_files.specs.CommandFiles.{tool_of_stem}
 use Rattle.command_files.specs.Files.{Files, must_follow}
-use Rattle.command_files.specs.Order.{needs_by, own_order, files_at, Hold}
-use Rattle.command_files.specs.PlanNeeds.{record_of, plan_steps, plan_records, plan_needs, role_needs, step_needs}
-use Rattle.command_files.specs.PlanOrders.{PlanOrdersAgree, PlanOrderIsOne}
-use Rattle.command_files.proofs.NeedLemmas.{length-needs_behind, needs_each, own_order_ready}
-use Rattle.command_files.proofs.OrderLemmas.{in_first, orders_agree}
+use Rattle.command_files.specs.Order.{needs_by, needs_at, own_order, is_in, are_ordered, has_one_place, files_at, Effect, AllStayWithin, Hold}
+use Rattle.command_files.specs.PlanNeeds.{record_of, is_host_compiler, role_of, step_of, steps_from, plan_steps, plan_records, plan_needs, role_needs, step_needs}
+use Rattle.command_files.specs.PlanOrders.{is_final, role_at, is_recorded, FinalHasOnePlace, OthersStayWithin, PlanOrdersAgree, PlanRunsAgree, PlanOrderIsOne, RecordsSuffice}
+use Rattle.command_files.proofs.NeedLemmas.{length-needs_behind, needs_each, all_from, own_order_ready}
+use Rattle.command_files.proofs.OrderLemmas.{in_either, in_first, in_second, in_both, fails, in_range, orders_agree, runs_agree}
 
 -- a step that touches nothing
 abbrev no_step : Step
-no_step = record { files = record { reads = []; writes = []; may_write = []; complete = true }; role = roles.Plain }
+no_step = record { files = record { reads = []; writes = []; may_write = []; complete = true }; role = roles.Plain; preprocesses = false }
 
 abbrev records_of : List Step → List Files
 records_of steps = map record_of (map (λ s. s.files) steps)
@@ -38,12 +46,161 @@ steps_hold steps = record {
       (sym (λ at. must_follow (record_at steps i at) (record_at steps j at)) ∙ e));
 }
 
+-- Final commands.
+
+abbrev all_final : List Step → Bool
+all_final steps = list_all (λ s. is_final s.role) steps
+
+-- all steps behind a final one are final
+abbrev FinalLast : List Step → Type 0
+FinalLast [] = Unit {0}
+FinalLast (s ∷ steps) = (is_final s.role ≡ true → all_final steps ≡ true) × FinalLast steps
+
+-- whether a group is the final one
+abbrev is_last : ℕ → ℕ → Bool
+is_last count group = cond (group == 0) false (count - group == 1)
+
+not_first : (first last : Bool) → cond first false last ≡ true → last ≡ true
+not_first true last e = absurd (false≢true e)
+not_first false last e = e
+
+front_is_not_final : (compiles : Bool) → is_final (cond compiles roles.FrontStep roles.Plain) ≡ false
+front_is_not_final true = refl
+front_is_not_final false = refl
+
+device_is_not_final : (compiles : Bool) → is_final (cond compiles roles.DeviceStep roles.Plain) ≡ false
+device_is_not_final true = refl
+device_is_not_final false = refl
+
+role_by : (first last compiles : Bool) → is_final (cond first (cond compiles roles.FrontStep roles.Plain) (cond last roles.Final (cond compiles roles.DeviceStep roles.Plain))) ≡ cond first false last
+role_by true last compiles = front_is_not_final compiles
+role_by false true compiles = refl
+role_by false false compiles = device_is_not_final compiles
+
+final_by_group : (count group : ℕ) (compiles : Bool) → is_final (role_of count group compiles) ≡ is_last count group
+final_by_group count group compiles = role_by (group == 0) (count - group == 1) compiles
+
+abbrev compiles_by : NvccGeneratedSubcommand → Bool
+compiles_by c = is_host_compiler (tool_of_stem (file_stem_of c.exe))
+
+last_group : (count group : ℕ) (commands : List NvccGeneratedSubcommand) → is_last count group ≡ true → all_final (map (step_of count group) commands) ≡ true
+last_group count group [] e = refl
+last_group count group (c ∷ cs) e =
+    in_both (is_final (role_of count group (compiles_by c))) (all_final (map (step_of count group) cs)) (final_by_group count group (compiles_by c) ∙ e) (last_group count group cs e)
+
+final_last_in : (count group : ℕ) (commands : List NvccGeneratedSubcommand) (rest : List Step) → (is_last count group ≡ true → all_final rest ≡ true) → FinalLast rest → FinalLast (map (step_of count group) commands ++ rest)
+final_last_in count group [] rest behind h = h
+final_last_in count group (c ∷ cs) rest behind h = (
+  λ e.
+      let last : is_last count group ≡ true = sym (final_by_group count group (compiles_by c)) ∙ e in
+      list_all-append (λ s. is_final s.role) (map (step_of count group) cs) rest
+      ∙ in_both (all_final (map (step_of count group) cs)) (all_final rest) (last_group count group cs last) (behind last),
+  final_last_in count group cs rest behind h,
+)
+
+none_behind : (count group : ℕ) (groups : List (List NvccGeneratedSubcommand)) → group + suc (length groups) ≡ count → is_last count group ≡ true → all_final (steps_from count (group + 1) groups) ≡ true
+none_behind count group [] e last = refl
+none_behind count group (g ∷ gs) e last =
+    let one : count - group ≡ 1 = eqb-true (count - group) 1 (not_first (group == 0) (count - group == 1) last) in
+    absurd (omega arith)
+
+final_last : (count group : ℕ) (groups : List (List NvccGeneratedSubcommand)) → group + length groups ≡ count → FinalLast (steps_from count group groups)
+final_last count group [] e = tt
+final_last count group (g ∷ gs) e =
+    final_last_in count group g (steps_from count (group + 1) gs) (none_behind count group gs (omega arith)) (final_last count (group + 1) gs (omega arith))
+
+final_of_all : (steps : List Step) (n : ℕ) → n < length steps → all_final steps ≡ true → is_final (get_or steps n no_step).role ≡ true
+final_of_all [] n h e = absurd (omega arith)
+final_of_all (s ∷ steps) zero h e = (and_parts (is_final s.role) (all_final steps) e).0
+final_of_all (s ∷ steps) (suc n) h e = final_of_all steps n (omega arith) (and_parts (is_final s.role) (all_final steps) e).1
+
+final_behind : (steps : List Step) (i j : ℕ) → FinalLast steps → i < j → j < length steps → is_final (get_or steps i no_step).role ≡ true → is_final (get_or steps j no_step).role ≡ true
+final_behind [] i j last h k e = absurd (omega arith)
+final_behind (s ∷ steps) i zero last h k e = absurd (omega arith)
+final_behind (s ∷ steps) zero (suc j) last h k e = final_of_all steps j (omega arith) (last.0 e)
+final_behind (s ∷ steps) (suc i) (suc j) last h k e = final_behind steps i j last.1 (omega arith) (omega arith) e
+
+final_is_there : (steps : List Step) (n : ℕ) → is_final (get_or steps n no_step).role ≡ true → n < length steps
+final_is_there [] n e = absurd (false≢true e)
+final_is_there (s ∷ steps) zero e = omega arith
+final_is_there (s ∷ steps) (suc n) e = let ih : n < length steps = final_is_there steps n e in omega arith
+
+role_is : (steps : List Step) (n : ℕ) → get_or (map (λ s. s.role) steps) n roles.Plain ≡ (get_or steps n no_step).role
+role_is [] n = refl
+role_is (s ∷ steps) zero = refl
+role_is (s ∷ steps) (suc n) = role_is steps n
+
+final_needs_all : (role earlier : Role) → is_final role ≡ true → role_needs role earlier ≡ true
+final_needs_all roles.Plain earlier e = absurd (false≢true e)
+final_needs_all roles.FrontStep earlier e = absurd (false≢true e)
+final_needs_all roles.DeviceStep earlier e = absurd (false≢true e)
+final_needs_all roles.Final earlier e = refl
+
+-- a final command needs each one before it
+needs_before : (steps : List Step) (m n : ℕ) → m < n → n < length steps → is_final (get_or steps n no_step).role ≡ true → is_in (needs_at (needs_by step_needs steps) n) m ≡ true
+needs_before steps m n h k e =
+    let earlier : Step = get_or steps m no_step in
+    let later : Step = get_or steps n no_step in
+    needs_each step_needs no_step steps m n h k
+    (in_second (must_follow (record_of earlier.files) (record_of later.files)) (role_needs later.role earlier.role) (final_needs_all later.role earlier.role e))
+
+ordered_with_all : (steps : List Step) (n m : ℕ) → FinalLast steps → n < length steps → m < length steps → is_final (get_or steps n no_step).role ≡ true → (m == n || are_ordered (needs_by step_needs steps) m n) ≡ true
+ordered_with_all steps n m last h k e =
+    elim (nat_lt m n) as (λ b. nat_lt m n ≡ b → (m == n || cond b (is_in (needs_at (needs_by step_needs steps) n) m) (is_in (needs_at (needs_by step_needs steps) m) n)) ≡ true) [
+      | true ↦ λ before.
+          in_second (m == n) (is_in (needs_at (needs_by step_needs steps) n) m) (needs_before steps m n (ltb-true m n before) h e)
+      | false ↦ λ later.
+          elim (m == n) as (λ b. (m == n) ≡ b → (b || is_in (needs_at (needs_by step_needs steps) m) n) ≡ true) [
+            | true ↦ λ same. refl
+            | false ↦ λ other.
+                let differ : m ≡ n → ⊥ = λ s. false≢true (sym other ∙ eq-eqb m n s) in
+                let not_before : m < n → ⊥ = λ s. false≢true (sym later ∙ lt-ltb m n s) in
+                let behind : n < m = omega arith in
+                needs_before steps n m behind k (final_behind steps n m last behind k e)
+          ]
+          refl
+    ]
+    refl
+
+pub final_has_one_place : FinalHasOnePlace
+final_has_one_place plan n e =
+    let steps : List Step = plan_steps plan in
+    let is : is_final (get_or steps n no_step).role ≡ true = sym (ap is_final (role_is steps n)) ∙ e in
+    let size = length-needs_behind step_needs [] steps in
+    all_from (λ m. m == n || are_ordered (plan_needs plan) m n) (own_order (plan_needs plan))
+    (λ m k.
+    let place : (0 ≤ m) × (m < 0 + length (plan_needs plan)) = in_range 0 (length (plan_needs plan)) m k in
+    ordered_with_all steps n m (final_last (length plan.groups) 0 plan.groups (omega arith)) (final_is_there steps n is) (omega arith) is)
+
+-- Plans.
+
+others_stay : (plan : Plan) (effects : ℕ → Effect) → OthersStayWithin plan effects → AllStayWithin (plan_records plan) (plan_needs plan) effects
+others_stay plan effects stay n h many =
+    stay n h (fails (is_final (role_at plan n)) (λ e. false≢true (sym many ∙ final_has_one_place plan n e)))
+
 pub plan_orders_agree : PlanOrdersAgree
-plan_orders_agree plan order effects contents is fits =
-    orders_agree (plan_records plan) (plan_needs plan) order effects contents (steps_hold (plan_steps plan)) is fits
+plan_orders_agree plan order effects contents is stay =
+    orders_agree (plan_records plan) (plan_needs plan) order effects contents (steps_hold (plan_steps plan)) is (others_stay plan effects stay)
+
+pub plan_runs_agree : PlanRunsAgree
+plan_runs_agree plan ran effects contents is stay =
+    runs_agree (plan_records plan) (plan_needs plan) ran effects contents (steps_hold (plan_steps plan)) is (others_stay plan effects stay)
 
 pub plan_order_is_one : PlanOrderIsOne
 plan_order_is_one plan = record {
   each_once = IsPermutation-refl (own_order (plan_needs plan));
   ready = own_order_ready step_needs no_step (plan_steps plan);
 }
+
+recorded_there : (steps : List Step) (n : ℕ) → n < length steps → list_all (λ s. is_final s.role || is_recorded s) steps ≡ true → is_final (get_or (map (λ s. s.role) steps) n roles.Plain) ≡ false → get_or (map is_recorded steps) n false ≡ true
+recorded_there [] n h keeps other = absurd (omega arith)
+recorded_there (s ∷ steps) zero h keeps other =
+    in_either (is_final s.role) (is_recorded s) (λ e. absurd (false≢true (sym other ∙ e))) (λ e. e)
+    (and_parts (is_final s.role || is_recorded s) (list_all (λ s. is_final s.role || is_recorded s) steps) keeps).0
+recorded_there (s ∷ steps) (suc n) h keeps other =
+    recorded_there steps n (omega arith) (and_parts (is_final s.role || is_recorded s) (list_all (λ s. is_final s.role || is_recorded s) steps) keeps).1 other
+
+pub records_suffice : RecordsSuffice
+records_suffice plan effects keeps stay n h other =
+    let size : length (plan_records plan) ≡ length (plan_steps plan) = length-records_of (plan_steps plan) in
+    stay n (recorded_there (plan_steps plan) n (omega arith) keeps other)

@@ -13,8 +13,8 @@ use Rattle.command_files.specs.declared.steps.Step.{Step}
 use Rattle.command_files.specs.Files.{is_among, share}
 use Rattle.command_files.specs.Order.{numbers_where, is_in}
 use Rattle.command_files.specs.Touched.{Numbers, with_number, with_numbers, numbers_from, below, touching}
-use Rattle.command_files.proofs.OrderLemmas.{in_either, in_first, in_second, fails}
-use Rattle.command_files.proofs.NeedLemmas.{passes, numbers_below}
+use Rattle.command_files.proofs.OrderLemmas.{in_either, in_first, in_second, fails, passes}
+use Rattle.command_files.proofs.NeedLemmas.{numbers_below}
 
 -- Tests.
 

@@ -1,5 +1,5 @@
 -- In which orders the commands of a plan may run.
-use Rattle.std.specs.Prelude.{◌≡◌, ℕ, ◌+◌, ◌<◌, List, [], ◌∷◌, ◌++◌, Bool, true, false, not, ◌&&◌, ◌||◌, ◌==◌, if◌then◌else◌, Option, Some, None, map, length, get_or, IsPermutation}
+use Rattle.std.specs.Prelude.{◌≡◌, ℕ, ◌+◌, ◌<◌, List, [], ◌∷◌, ◌++◌, Bool, true, false, ◌&&◌, ◌||◌, ◌==◌, nat_lt, if◌then◌else◌, Option, Some, None, map, filter, length, get_or, IsPermutation}
 use Rattle.std.specs.List.{list_any, list_all, range_with_len}
 use Rattle.command_files.specs.Files.{Files, is_among, touches}
 
@@ -40,6 +40,20 @@ pub record IsOrder (needs : List (List ℕ)) (order : List ℕ) : Type 0 where
   pub each_once : IsPermutation (own_order needs) order
   pub ready : is_ready (needs_at needs) [] order ≡ true
 
+-- some of the commands, each once and after all those that it needs: what has run when a run ends, or when it stops early because a
+-- command failed
+pub record IsRun (needs : List (List ℕ)) (ran : List ℕ) : Type 0 where
+  pub each_once : IsPermutation (filter (is_in ran) (own_order needs)) ran
+  pub ready : is_ready (needs_at needs) [] ran ≡ true
+
+-- whether one of two commands needs the other, the later one the earlier: then no order swaps them
+abbrev pub are_ordered : List (List ℕ) → ℕ → ℕ → Bool
+are_ordered needs m n = if nat_lt m n then is_in (needs_at needs n) m else is_in (needs_at needs m) n
+
+-- whether a command has one place in all orders: it needs all before it, and all behind it need it, as in the final group of a plan
+abbrev pub has_one_place : List (List ℕ) → ℕ → Bool
+has_one_place needs n = list_all (λ m. m == n || are_ordered needs m n) (own_order needs)
+
 -- A command is a function of what files hold.
 
 -- what each file holds, or that there is no such file
@@ -64,22 +78,28 @@ contents_read files effects command (n ∷ ns) contents =
 abbrev pub files_at : List Files → ℕ → Files
 files_at plan n = get_or plan n (record { reads = []; writes = [] })
 
--- whether a command of a plan writes a file, and whether a command may look at one: its record has it, or no command of the plan
--- writes it, as a header
-abbrev pub is_written : List Files → List ℕ → Bool
-is_written plan file = list_any (λ f. is_among f.writes file) plan
+-- the commands of a plan that write a file
+abbrev pub writers : List Files → List ℕ → List ℕ
+writers plan file = numbers_where (λ f. is_among f.writes file) 0 plan
 
-abbrev pub may_see : List Files → Files → List ℕ → Bool
-may_see plan f file = touches f file || not (is_written plan file)
+-- Whether a command may look at a file: its record has it, or each command that writes it is ordered with this one. So it may look at
+-- what no command writes, such as headers, and at what the commands write that it needs.
+abbrev pub may_see : List Files → List (List ℕ) → ℕ → List ℕ → Bool
+may_see plan needs n file = touches (files_at plan n) file || list_all (are_ordered needs n) (writers plan file)
 
--- a command touches no file of a plan beyond its record: it changes only files that it writes, and what it leaves in them depends
--- only on files that it may see (scratch files that a command makes for itself are no files here)
-pub record StaysWithin (plan : List Files) (f : Files) (effect : Effect) : Type 0 where
-  pub changes : (contents : Contents) (file : List ℕ) → is_among f.writes file ≡ false → effect contents file ≡ contents file
+-- A command stays within its record: it changes only files that it writes, and what it leaves in them depends only on files that it
+-- may see. Scratch files that a command makes for itself are no files here.
+pub record StaysWithin (plan : List Files) (needs : List (List ℕ)) (n : ℕ) (effect : Effect) : Type 0 where
+  pub changes : (contents : Contents) (file : List ℕ) → is_among (files_at plan n).writes file ≡ false → effect contents file ≡ contents file
   pub depends :
       (one other : Contents)
-      → ((file : List ℕ) → may_see plan f file ≡ true → one file ≡ other file)
-      → (file : List ℕ) → is_among f.writes file ≡ true → effect one file ≡ effect other file
+      → ((file : List ℕ) → may_see plan needs n file ≡ true → one file ≡ other file)
+      → (file : List ℕ) → is_among (files_at plan n).writes file ≡ true → effect one file ≡ effect other file
+
+-- all commands stay within their records but those that have one place: these may read and change any file
+abbrev pub AllStayWithin : List Files → List (List ℕ) → (ℕ → Effect) → Type 0
+AllStayWithin plan needs effects =
+    (n : ℕ) → n < length plan → has_one_place needs n ≡ false → StaysWithin plan needs n (effects n)
 
 -- one order does what another one does: it leaves the same in every file, and each command reads the same
 pub record DoesTheSame (plan : List Files) (effects : ℕ → Effect) (contents : Contents) (one other : List ℕ) : Type 0 where
@@ -97,8 +117,17 @@ OrdersAgree test =
     (plan : List Files) (needs : List (List ℕ)) (order : List ℕ) (effects : ℕ → Effect) (contents : Contents)
     → Hold test plan needs
     → IsOrder needs order
-    → ((n : ℕ) → n < length plan → StaysWithin plan (files_at plan n) (effects n))
+    → AllStayWithin plan needs effects
     → DoesTheSame plan effects contents order (own_order needs)
+
+-- and every run does what its commands do in the plan's own order, so a run that stops early leaves what they leave
+abbrev pub RunsAgree : (Files → Files → Bool) → Type 0
+RunsAgree test =
+    (plan : List Files) (needs : List (List ℕ)) (ran : List ℕ) (effects : ℕ → Effect) (contents : Contents)
+    → Hold test plan needs
+    → IsRun needs ran
+    → AllStayWithin plan needs effects
+    → DoesTheSame plan effects contents ran (filter (is_in ran) (own_order needs))
 
 -- the needs by a test hold it, and the plan's own order is an order by them
 abbrev pub NeedsHold : Type 0

@@ -1,5 +1,7 @@
 -- What each command of a plan needs. Commands are numbered in plan order from 0: group after group, as they are run.
 use Rattle.std.specs.Prelude.{◌≡◌, ℕ, ◌+◌, ◌-◌, List, [], ◌∷◌, ◌++◌, Bool, true, false, ◌||◌, ◌==◌, if◌then◌else◌, map, length, codes, refl}
+use Rattle.std.specs.List.{list_any}
+use Rattle.std.specs.Str.{bytes_eq}
 use Rattle.texts.specs.Path.{file_stem_of}
 use Rattle.texts.specs.Rows.{spaced}
 use Rattle.cuda_below.specs.declared.command.Cacheable.TheVariants.{Yes}
@@ -31,11 +33,16 @@ role_of count group compiles =
     (if count - group == 1 then roles.Final else
     (if compiles then roles.DeviceStep else roles.Plain))
 
--- a command as what its needs depend on: its files and its role
+-- whether words ask a host compiler to preprocess only
+abbrev pub preprocesses : List (List ℕ) → Bool
+preprocesses words = list_any (bytes_eq (codes "-E")) words
+
+-- a command as what its needs and its orders depend on: its files, its role, and whether it only preprocesses
 abbrev pub step_of : ℕ → ℕ → NvccGeneratedSubcommand → Step
 step_of count group c = record {
   files = files_of_words c.exe c.args c.cwd;
   role = role_of count group (is_host_compiler (tool_of_stem (file_stem_of c.exe)));
+  preprocesses = preprocesses c.args;
 }
 
 -- the commands of groups from a number on, and those of a plan, in plan order

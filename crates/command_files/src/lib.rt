@@ -4,9 +4,11 @@
 mod files;
 pub mod laws;
 mod needed;
+mod orders;
 mod steps;
 mod touched;
 
 pub use files::{CommandFiles, files_of};
 pub use needed::{CommandNeeds, needs};
+pub use orders::keeps_orders;
 pub use steps::files_of_plan;

@@ -1,6 +1,6 @@
 //! The commands of a plan, as what their needs depend on.
 
-ghost use Rattle.std.specs.Prelude.{◌≡◌, ◌++◌, IfOk, OnOk, length, map, vec_items};
+ghost use Rattle.std.specs.Prelude.{◌≡◌, ◌++◌, IfOk, OnOk, length, map, string_bytes, vec_items};
 ghost use Rattle.texts.specs.Path.{file_stem_of};
 ghost use Rattle.command_files.specs.CommandFiles.{tool_of_stem};
 ghost use Rattle.command_files.specs.PlanNeeds as spec;
@@ -22,11 +22,13 @@ pub enum Role {
     Plain,
 }
 
-/// A command of a plan, as what its needs depend on.
+/// A command of a plan, as what its needs and its orders depend on.
 #[derive(Drop)]
 pub struct Step {
     pub files: CommandFiles,
     pub role: Role,
+    /// Whether its words ask a host compiler to preprocess only.
+    pub preprocesses: bool,
 }
 
 // Whether a tool is a host compiler.
@@ -58,6 +60,18 @@ fn role_of(count: usize, group: usize, compiles: bool) -> Role
     }
 }
 
+// Whether words ask a host compiler to preprocess only.
+fn preprocesses(words: &[String]) -> bool
+    ensures { result ≡ spec.preprocesses (map string_bytes words.now) }
+{
+    for word in words {
+        if "-E" == word.as_str() {
+            return true;
+        }
+    }
+    false
+}
+
 // A command of the group numbered `group` of `count`.
 fn step_of(
     alloc: Global,
@@ -74,6 +88,7 @@ fn step_of(
             group,
             is_host_compiler(tool_of(command.exe.as_str())),
         ),
+        preprocesses: preprocesses(command.args.as_slice()),
     })
 }
 
