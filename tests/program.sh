@@ -540,6 +540,17 @@ refused_nvcc_lines() {
     passes 'two sources' 'it names several inputs' -c a.cu b.cu
     passes 'a preprocessor call' "its phase isn't split" -E k.cu
     passes 'words in a file' 'it reads options from a file' -c k.cu -optf=words
+    passes 'an output named as a generated file' 'a name looks like that of a generated file' -ptx k.cu -o k.cpp1.ii
+    passes 'a generated file as the source' 'a name looks like that of a generated file' -c k.cudafe1.cpp
+    passes 'a macro with a generated name' 'a name looks like that of a generated file' -c k.cu -DN=a.cpp4.ii
+    passes 'a folder with a generated name' 'a name looks like that of a generated file' -c k.cu -isystem k.cudafe1.stub.c/x
+    passes 'options of ptxas in a file' 'a tool reads options from a file' -c k.cu -Xptxas --options-file=p.txt
+    passes 'options of fatbinary in a file' 'a tool reads options from a file' -c k.cu --fatbin-options=-v,-optf,p.txt
+    passes 'a file of several preprocessors' 'several preprocessors may write one file' -fatbin k.cu -Xcompiler -MD,-MF,k.d
+    passes 'an output named as a kept file' 'its output may have the name of a kept file' --keep -c k.cu -o o/k.ptx
+    check 'a directory that a shell expands' 3 '' $'zigrunk: goes to nvcc: nvcc\'s shell may expand its directory\'s name\n' calls '/w$x' /t nvcc -c k.cu
+    check 'a directory with a generated name' 3 '' $'zigrunk: goes to nvcc: a name looks like that of a generated file\n' \
+        calls /w/a.cpp1.ii.d /t nvcc -c k.cu
     passes 'an option without its value' 'an option lacks its value' -c k.cu --threads
     passes 'a variable of the shell' "nvcc's shell may expand a word" -c k.cu '-DA=$B'
     NVCC_APPEND_FLAGS=--dryrun passes 'a dry run' 'it prints something' -c k.cu

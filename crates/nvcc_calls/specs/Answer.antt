@@ -1,11 +1,13 @@
 -- What becomes of an nvcc line.
-use Rattle.std.specs.Prelude.{◌≡◌, ℕ, List, [], ◌∷◌, ◌++◌, Result, Ok, codes, refl}
+use Rattle.std.specs.Prelude.{◌≡◌, ℕ, List, [], ◌∷◌, ◌++◌, Option, Some, None, Result, Ok, codes, refl}
 use Rattle.std.specs.Str.{chars}
 use Rattle.texts.specs.declared.fault.Fault.{Fault}
 use Rattle.texts.specs.Rows.{spaced}
 use Rattle.cuda_below.specs.Compiler.{Reading, accepted, cannot_cache, not_compilation}
 use Rattle.cuda_plans.specs.Nvcc.{nvcc_reading}
-use Rattle.nvcc_words.specs.declared.reason.Reason.TheVariants.{OtherReading}
+use Rattle.nvcc_words.specs.declared.call.Call.{Call}
+use Rattle.nvcc_words.specs.declared.reason.Reason.{Reason}
+use Rattle.nvcc_words.specs.declared.reason.Reason.TheVariants.{OtherReading, GeneratedName}
 use Rattle.nvcc_words.specs.declared.verdict.Verdict.{Verdict}
 use Rattle.nvcc_words.specs.declared.verdict.Verdict.TheVariants as verdicts
 use Rattle.nvcc_words.specs.Reasons.{text_of}
@@ -14,6 +16,7 @@ use Rattle.texts.specs.Results.{and_then}
 use Rattle.nvcc_calls.specs.declared.answer.Answer.{Answer}
 use Rattle.nvcc_calls.specs.declared.answer.Answer.TheVariants.{Split, Pass}
 use Rattle.nvcc_calls.specs.Calls.{NvccOf}
+use Rattle.nvcc_calls.specs.Hazards.{hazard_of}
 use Rattle.nvcc_calls.specs.Outline.{outline_of, outline_text}
 
 -- the answer to a normal form, by what sccache's reader made of it. It accepts each normal form
@@ -22,9 +25,18 @@ answer_of call variables (accepted p) = and_then (outline_of call p variables) (
 answer_of call variables (cannot_cache text word) = Ok (Pass (text_of OtherReading))
 answer_of call variables not_compilation = Ok (Pass (text_of OtherReading))
 
+-- the answer to a line with a normal form, unless a plan of it would make something else
+abbrev pub unless_hazard : Option Reason → Result Answer Fault → Result Answer Fault
+unless_hazard None answer = answer
+unless_hazard (Some reason) answer = Ok (Pass (text_of reason))
+
+abbrev pub answer_to_normal : NvccOf → List (List ℕ × List ℕ) → Call → Result Answer Fault
+answer_to_normal call variables normal =
+    unless_hazard (hazard_of call normal) (answer_of call variables (nvcc_reading normal.words call.cwd []))
+
 -- the answer to a line with a verdict. A normal form has the words of both variables in it
 abbrev pub answer_to : NvccOf → List (List ℕ × List ℕ) → Verdict → Result Answer Fault
-answer_to call variables (verdicts.Split normal) = answer_of call variables (nvcc_reading normal.words call.cwd [])
+answer_to call variables (verdicts.Split normal) = answer_to_normal call variables normal
 answer_to call variables (verdicts.Pass reason) = Ok (Pass (text_of reason))
 
 -- the answer to a line
@@ -73,3 +85,6 @@ two_sources = refl
 
 pub no_line : nvcc_answer (line_at []) [] ≡ Ok (Pass (codes "it links"))
 no_line = refl
+
+pub generated_name : nvcc_answer (line_at (spaced "-ptx k.cu -o k.cpp1.ii")) [] ≡ Ok (Pass (text_of GeneratedName))
+generated_name = refl

@@ -1,5 +1,6 @@
 pub mod Answer
 pub mod Calls
 pub mod Directory
+pub mod Hazards
 pub mod Jobs
 pub mod Outline

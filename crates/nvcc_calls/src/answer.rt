@@ -11,11 +11,12 @@ ghost use Rattle.nvcc_calls.specs.Answer as spec;
 ghost use Rattle.nvcc_calls.specs.Calls.{nvcc_of};
 
 use crate::call::NvccCall;
+use crate::hazard::hazard_of;
 use crate::outline::{Outline, outline_of};
 use cuda_below::arguments::{CompilerArguments, ParsedArguments};
 use cuda_below::compiler::CCompilerImpl;
 use cuda_plans::nvcc::Nvcc;
-use nvcc_words::{Reason, Verdict, normalize};
+use nvcc_words::{Call, Reason, Verdict, normalize};
 use std::alloc::{AllocError, Global};
 use texts::fault::Fault;
 use texts::text::Text;
@@ -64,11 +65,30 @@ fn answer_to(
         (nvcc_reading (map string_bytes words.now) (nvcc_of call.now).cwd [])) }
 {
     let reading = Nvcc::gcc().parse_arguments(alloc, words, call.cwd, &[])?;
-    answer_of(alloc, call, &reading, variables)
+    let answer = answer_of(alloc, call, &reading, variables);
+    // Dropped by a call: see "Explicit drops" in docs/ARCHITECTURE.md.
+    drop(reading);
+    answer
+}
+
+// The answer to a line with a normal form.
+fn answer_to_normal(
+    alloc: Global,
+    call: &NvccCall<'_>,
+    normal: &Call,
+    variables: &[(String, String)],
+) -> Result<Answer, Fault>
+    ensures { UnlessMemory result (spec.answer_to_normal (nvcc_of call.now) (map pair_of variables.now) normal.now) }
+{
+    match hazard_of(alloc, call, normal)? {
+        Some(reason) => Ok(passed(alloc, reason)?),
+        None => answer_to(alloc, call, normal.words.as_slice(), variables),
+    }
 }
 
 /// Reads an nvcc line as nvcc does, at the call's working directory, with `variables`, those of the environment that nvcc and
-/// Ninja's jobs depend on. A call that compiles one source is split; any other goes to nvcc.
+/// Ninja's jobs depend on. A call that compiles one source is split, unless a plan of it would make something else; any other
+/// goes to nvcc.
 ///
 /// Fails if `generate_compile_commands` or `preprocess` of nvcc does.
 pub fn read_call(
@@ -79,7 +99,7 @@ pub fn read_call(
     ensures { UnlessMemory result (spec.nvcc_answer (nvcc_of call.now) (map pair_of variables.now)) }
 {
     match normalize(alloc, call.words, variables)? {
-        Verdict::Split(normal) => answer_to(alloc, call, normal.words.as_slice(), variables),
+        Verdict::Split(normal) => answer_to_normal(alloc, call, &normal, variables),
         Verdict::Pass(reason) => Ok(passed(alloc, reason)?),
     }
 }

@@ -4,21 +4,14 @@ ghost use Rattle.std.specs.Prelude.{◌≡◌, IfOk, codes, map, string_bytes};
 ghost use Rattle.std.specs.Option.{option_and_then, option_copied};
 ghost use Rattle.texts.specs.Variables.{pair_of};
 ghost use Rattle.texts.specs.Variables as variables_spec;
-ghost use Rattle.canonical_names.specs.Alike as alike;
 ghost use Rattle.host_lines.specs.KeepThreads.{number_of};
 ghost use Rattle.nvcc_calls.specs.Jobs as spec;
 
+use crate::hazard::holds;
 use std::alloc::{AllocError, Global};
 use texts::decimal;
 use texts::text::Text;
 use texts::variables::first_value;
-
-// Whether `text` contains `part`.
-fn holds(text: &str, part: &str) -> bool
-    ensures { result ≡ alike.holds part.now text.now }
-{
-    text.contains(part)
-}
 
 // Whether make's flags name a job server.
 fn has_jobserver(flags: Option<&str>) -> bool

@@ -5,6 +5,7 @@ mod answer;
 mod call;
 mod command_text;
 mod directory;
+mod hazard;
 mod jobs;
 pub mod laws;
 mod outline;

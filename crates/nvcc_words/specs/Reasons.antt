@@ -1,7 +1,7 @@
 -- The texts of the reasons for which a call goes to nvcc unchanged.
 use Rattle.std.specs.Prelude.{ℕ, List, codes}
 use Rattle.nvcc_words.specs.declared.reason.Reason.{Reason}
-use Rattle.nvcc_words.specs.declared.reason.Reason.TheVariants.{Links, OtherPhase, SeveralPhases, NoInput, SeveralInputs, NotSource, HostSource, Prints, Cleans, Measures, OptionsFile, TemporaryFiles, Jobserver, DrivePrefix, StandardInput, StandardOutput, HiddenName, UnknownOption, MissingValue, BadValue, DependencyWords, ShellCharacter, VariableQuotes, OtherReading}
+use Rattle.nvcc_words.specs.declared.reason.Reason.TheVariants.{Links, OtherPhase, SeveralPhases, NoInput, SeveralInputs, NotSource, HostSource, Prints, Cleans, Measures, OptionsFile, TemporaryFiles, Jobserver, DrivePrefix, StandardInput, StandardOutput, HiddenName, UnknownOption, MissingValue, BadValue, DependencyWords, ShellCharacter, VariableQuotes, OtherReading, GeneratedName, DirectoryName, ToolFile, HostFile, KeptName}
 
 -- a reason's text
 abbrev pub text_of : Reason → List ℕ
@@ -29,3 +29,8 @@ text_of DependencyWords = codes "its dependency file is an odd one"
 text_of ShellCharacter = codes "nvcc's shell may expand a word"
 text_of VariableQuotes = codes "NVCC_PREPEND_FLAGS or NVCC_APPEND_FLAGS has quotes"
 text_of OtherReading = codes "its words can be read in two ways"
+text_of GeneratedName = codes "a name looks like that of a generated file"
+text_of DirectoryName = codes "nvcc's shell may expand its directory's name"
+text_of ToolFile = codes "a tool reads options from a file"
+text_of HostFile = codes "several preprocessors may write one file"
+text_of KeptName = codes "its output may have the name of a kept file"

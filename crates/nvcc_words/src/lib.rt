@@ -15,6 +15,7 @@ mod verdict;
 mod word_tests;
 
 pub use call::Call;
-pub use options::{ARGS, Purpose, table};
+pub use options::{Purpose, Tables, table};
 pub use reason::Reason;
+pub use settling::{extension_of_phase, has_extension};
 pub use verdict::{Verdict, normalize};

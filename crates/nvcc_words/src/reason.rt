@@ -54,6 +54,16 @@ pub enum Reason {
     VariableQuotes,
     /// Sccache's reader reads the normal form in another way than nvcc.
     OtherReading,
+    /// A word or a directory contains what ends the name of a generated file. A plan renames such files, wherever their names are.
+    GeneratedName,
+    /// A shell may expand the name of the working directory or of the temporary one.
+    DirectoryName,
+    /// A tool that runs in the temporary directory reads options from a file.
+    ToolFile,
+    /// Several preprocessors may write one dependency file at once.
+    HostFile,
+    /// The output may have the name of a file that is kept.
+    KeptName,
 }
 
 impl Reason {
@@ -89,6 +99,11 @@ impl Reason {
             Reason::ShellCharacter => "nvcc's shell may expand a word",
             Reason::VariableQuotes => "NVCC_PREPEND_FLAGS or NVCC_APPEND_FLAGS has quotes",
             Reason::OtherReading => "its words can be read in two ways",
+            Reason::GeneratedName => "a name looks like that of a generated file",
+            Reason::DirectoryName => "nvcc's shell may expand its directory's name",
+            Reason::ToolFile => "a tool reads options from a file",
+            Reason::HostFile => "several preprocessors may write one file",
+            Reason::KeptName => "its output may have the name of a kept file",
         }
     }
 }

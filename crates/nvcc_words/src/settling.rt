@@ -125,8 +125,8 @@ fn is_usual_name(name: &str) -> bool
     }
 }
 
-// Whether a path has an extension.
-fn has_extension(wanted: &str, path: &str) -> bool
+/// Whether a path has an extension.
+pub fn has_extension(wanted: &str, path: &str) -> bool
     ensures { result ≡ spec.has_extension wanted.now path.now }
 {
     match extension(path) {
@@ -141,8 +141,8 @@ fn is_host_extension(extension: &str) -> bool
     matches!(extension, "c" | "cc" | "cpp" | "cxx")
 }
 
-// The extension that nvcc gives to what a phase makes.
-fn extension_of_phase(flag: &str) -> &'static str
+/// The extension that nvcc gives to what a phase makes.
+pub fn extension_of_phase(flag: &str) -> &'static str
     ensures { result.now ≡ spec.extension_of_phase flag.now }
 {
     if asks_object(flag) {

@@ -1,0 +1,121 @@
+-- Why nvcc makes a call whose line could be split: a plan of it would make something else.
+use Rattle.std.specs.Prelude.{◌≡◌, ℕ, List, [], ◌∷◌, Bool, true, false, not, ◌==◌, ◌&&◌, ◌||◌, nat_eq, nat_le, Option, Some, None, refl, codes}
+use Rattle.std.specs.List.{list_any, list_all, starts_with}
+use Rattle.std.specs.Option.{option_or}
+use Rattle.std.specs.Str.{bytes_eq}
+use Rattle.texts.specs.Extension.{last_part, extension_of, with_extension}
+use Rattle.texts.specs.ObjectFlags.{makes_objects}
+use Rattle.texts.specs.Rows.{spaced}
+use Rattle.canonical_names.specs.Alike.{holds}
+use Rattle.canonical_names.specs.Generated.{standard_suffixes}
+use Rattle.nvcc_words.specs.declared.call.Call.{Call}
+use Rattle.nvcc_words.specs.declared.reason.Reason.{Reason}
+use Rattle.nvcc_words.specs.declared.reason.Reason.TheVariants.{GeneratedName, DirectoryName, ToolFile, HostFile, KeptName}
+use Rattle.nvcc_words.specs.Asked.{reason_unless}
+use Rattle.nvcc_words.specs.NormalForm.{extension_of_phase, has_extension}
+use Rattle.nvcc_calls.specs.Calls.{NvccOf}
+
+-- whether a text may be changed where generated files get canonical names: it contains one of their suffixes. In all other
+-- texts there is no name of such a file
+abbrev pub may_be_renamed : List ℕ → Bool
+may_be_renamed text = list_any (λ suffix. holds suffix text) standard_suffixes
+
+abbrev pub may_one_be_renamed : List (List ℕ) → Bool
+may_one_be_renamed texts = list_any may_be_renamed texts
+
+-- whether a shell leaves the name of a directory as it is in double quotes. nvcc writes it there without a backslash
+abbrev pub is_left : ℕ → Bool
+is_left byte = nat_le 32 byte && not (byte == 36) && not (byte == 92) && not (byte == 96) && not (byte == 127)
+
+abbrev pub is_plain_directory : List ℕ → Bool
+is_plain_directory path = list_all is_left path
+
+-- whether a word begins with one of some texts
+abbrev pub begins_with_one : List (List ℕ) → List ℕ → Bool
+begins_with_one texts word = list_any (starts_with nat_eq word) texts
+
+-- whether a word has a tool read options from a file. The tool runs in the temporary directory, and finds no relative file
+abbrev pub tool_options : List (List ℕ)
+tool_options =
+    spaced "-Xptxas= --ptxas-options= -Xfatbin= --fatbin-options= -Xcicc= --cicc-options= -Xcudafe= --cudafe-options="
+
+abbrev pub reads_file : List ℕ → Bool
+reads_file word = begins_with_one tool_options word && (holds (codes "-optf") word || holds (codes "-options-file") word)
+
+-- whether a word has each host preprocessor write a dependency file
+abbrev pub host_options : List (List ℕ)
+host_options = spaced "-Xcompiler= --compiler-options= -Wp,"
+
+abbrev pub writes_file : List ℕ → Bool
+writes_file word = begins_with_one host_options word && holds (codes "-M") word
+
+-- whether preprocessors may write one file side by side, and no later command writes it again: an object is compiled last
+abbrev pub may_share_file : Call → Bool
+may_share_file call = not (makes_objects call.flag) && list_any writes_file call.words
+
+-- whether a word asks nvcc to keep generated files
+abbrev pub asks_to_keep : List ℕ → Bool
+asks_to_keep word = list_any (bytes_eq word) (spaced "--keep -keep --save-temps -save-temps")
+
+-- whether an output may have the name of a kept file: the input's stem and a `.` begin it, and it hasn't the extension of
+-- what the phase makes
+abbrev pub is_kept_name : Call → Bool
+is_kept_name call =
+    starts_with nat_eq (last_part call.output) (with_extension (last_part call.input) [])
+    && not (has_extension (extension_of_phase call.flag) call.output)
+
+abbrev pub may_be_kept : Call → Bool
+may_be_kept call = list_any asks_to_keep call.words && is_kept_name call
+
+-- why nvcc makes the call, if it does: its directories, the words, and what the line asks for
+abbrev pub is_renamed : NvccOf → Call → Bool
+is_renamed call normal =
+    may_be_renamed call.cwd || may_be_renamed call.tmp || may_be_renamed call.nvcc || may_one_be_renamed normal.words
+
+abbrev pub name_hazard : NvccOf → Call → Option Reason
+name_hazard call normal =
+    option_or (reason_unless (is_plain_directory call.cwd && is_plain_directory call.tmp) DirectoryName)
+    (reason_unless (not (is_renamed call normal)) GeneratedName)
+
+abbrev pub file_hazard : Call → Option Reason
+file_hazard normal =
+    option_or (reason_unless (not (list_any reads_file normal.words)) ToolFile)
+    (option_or (reason_unless (not (may_share_file normal)) HostFile)
+    (reason_unless (not (may_be_kept normal)) KeptName))
+
+abbrev pub hazard_of : NvccOf → Call → Option Reason
+hazard_of call normal = option_or (name_hazard call normal) (file_hazard normal)
+
+-- Worked examples.
+abbrev pub call_in : List ℕ → NvccOf
+call_in cwd = record { cwd = cwd; tmp = codes "/t"; nvcc = codes "nvcc"; words = [] }
+
+abbrev pub call_for : List ℕ → List ℕ → List (List ℕ) → Call
+call_for flag output words = record { flag = flag; input = codes "sub/dev.cu"; output = output; words = words }
+
+pub macro_with_a_name : hazard_of (call_in (codes "/w")) (call_for (codes "-c") (codes "k.o") (spaced "-c -DN=a.cpp1.ii")) ≡ Some GeneratedName
+macro_with_a_name = refl
+
+pub folder_with_a_name : hazard_of (call_in (codes "/w/a.cudafe1.cpp.d")) (call_for (codes "-c") (codes "k.o") []) ≡ Some GeneratedName
+folder_with_a_name = refl
+
+pub usual_names : hazard_of (call_in (codes "/w")) (call_for (codes "-c") (codes "k.o") (spaced "-c -DN=a.ii -I/x.cpp1 sub/dev.cu")) ≡ None
+usual_names = refl
+
+pub folder_with_a_dollar : hazard_of (call_in (codes "/w$x")) (call_for (codes "-c") (codes "k.o") []) ≡ Some DirectoryName
+folder_with_a_dollar = refl
+
+pub file_for_ptxas : hazard_of (call_in (codes "/w")) (call_for (codes "-c") (codes "k.o") (spaced "-Xptxas=-optf,p.txt")) ≡ Some ToolFile
+file_for_ptxas = refl
+
+pub shared_file : hazard_of (call_in (codes "/w")) (call_for (codes "-fatbin") (codes "k.f") (spaced "-Xcompiler=-MD,-MF,k.d")) ≡ Some HostFile
+shared_file = refl
+
+pub file_of_an_object : hazard_of (call_in (codes "/w")) (call_for (codes "-c") (codes "k.o") (spaced "-Xcompiler=-MD,-MF,k.d")) ≡ None
+file_of_an_object = refl
+
+pub kept_cubin : hazard_of (call_in (codes "/w")) (call_for (codes "-c") (codes "o/dev.sm_80.cubin") (spaced "--keep")) ≡ Some KeptName
+kept_cubin = refl
+
+pub kept_beside_an_object : hazard_of (call_in (codes "/w")) (call_for (codes "-c") (codes "dev.cu.o") (spaced "--keep")) ≡ None
+kept_beside_an_object = refl

@@ -1,0 +1,225 @@
+//! Why nvcc makes a call whose line could be split.
+
+ghost use Rattle.std.specs.Prelude.{◌≡◌, IfOk, map, nat_eq, not, string_bytes};
+ghost use Rattle.std.specs.List.{list_all, list_any, starts_with};
+ghost use Rattle.canonical_names.specs.Alike as alike;
+ghost use Rattle.nvcc_words.specs.Asked.{reason_unless};
+ghost use Rattle.nvcc_calls.specs.Calls.{nvcc_of};
+ghost use Rattle.nvcc_calls.specs.Hazards as spec;
+
+use crate::call::NvccCall;
+use nvcc_words::{Call, Reason, extension_of_phase, has_extension};
+use std::alloc::{AllocError, Global};
+use texts::compilation_flags::asks_object;
+use texts::extension::{last, with_extension};
+
+// Whether `text` contains `part`.
+pub(crate) fn holds(text: &str, part: &str) -> bool
+    ensures { result ≡ alike.holds part.now text.now }
+{
+    text.contains(part)
+}
+
+// Whether a text may be changed where generated files get canonical names.
+fn may_be_renamed(text: &str) -> bool
+    ensures { result ≡ spec.may_be_renamed text.now }
+{
+    holds(text, ".cpp1.ii")
+        || holds(text, ".cpp4.ii")
+        || holds(text, ".cudafe1.c")
+        || holds(text, ".cudafe1.cpp")
+        || holds(text, ".cudafe1.stub.c")
+}
+
+// Whether one of these texts may be.
+fn may_one_be_renamed(texts: &[String]) -> bool
+    ensures { result ≡ spec.may_one_be_renamed (map string_bytes texts.now) }
+{
+    for text in texts {
+        if may_be_renamed(text.as_str()) {
+            return true;
+        }
+    }
+    false
+}
+
+// Whether a shell leaves a byte of a directory's name as it is in double quotes.
+fn is_left(byte: u8) -> bool
+    ensures { result ≡ spec.is_left byte }
+{
+    b' ' <= byte && byte != b'$' && byte != b'\\' && byte != b'`' && byte != 127
+}
+
+fn are_left(bytes: &[u8]) -> bool
+    ensures { result ≡ list_all spec.is_left bytes.now }
+{
+    bytes.iter().all(|byte| is_left(*byte))
+}
+
+fn is_plain_directory(path: &str) -> bool
+    ensures { result ≡ spec.is_plain_directory path.now }
+{
+    are_left(path.as_bytes())
+}
+
+// Whether a word begins with a text.
+fn begins_with(text: &str, word: &str) -> bool
+    ensures { result ≡ starts_with nat_eq word.now text.now }
+{
+    word.as_bytes().starts_with(text.as_bytes())
+}
+
+// Whether a word is an option for one of nvcc's tools, with its value.
+fn is_tool_option(word: &str) -> bool
+    ensures { result ≡ spec.begins_with_one spec.tool_options word.now }
+{
+    begins_with("-Xptxas=", word)
+        || begins_with("--ptxas-options=", word)
+        || begins_with("-Xfatbin=", word)
+        || begins_with("--fatbin-options=", word)
+        || begins_with("-Xcicc=", word)
+        || begins_with("--cicc-options=", word)
+        || begins_with("-Xcudafe=", word)
+        || begins_with("--cudafe-options=", word)
+}
+
+// Whether a word has a tool read options from a file.
+fn reads_file(word: &str) -> bool
+    ensures { result ≡ spec.reads_file word.now }
+{
+    is_tool_option(word) && (holds(word, "-optf") || holds(word, "-options-file"))
+}
+
+fn one_reads_file(words: &[String]) -> bool
+    ensures { result ≡ list_any spec.reads_file (map string_bytes words.now) }
+{
+    for word in words {
+        if reads_file(word.as_str()) {
+            return true;
+        }
+    }
+    false
+}
+
+// Whether a word is an option for the host compiler, with its value.
+fn is_host_option(word: &str) -> bool
+    ensures { result ≡ spec.begins_with_one spec.host_options word.now }
+{
+    begins_with("-Xcompiler=", word)
+        || begins_with("--compiler-options=", word)
+        || begins_with("-Wp,", word)
+}
+
+// Whether a word has each host preprocessor write a dependency file.
+fn writes_file(word: &str) -> bool
+    ensures { result ≡ spec.writes_file word.now }
+{
+    is_host_option(word) && holds(word, "-M")
+}
+
+fn one_writes_file(words: &[String]) -> bool
+    ensures { result ≡ list_any spec.writes_file (map string_bytes words.now) }
+{
+    for word in words {
+        if writes_file(word.as_str()) {
+            return true;
+        }
+    }
+    false
+}
+
+// Whether preprocessors may write one file side by side, and no later command writes it again.
+fn may_share_file(call: &Call) -> bool
+    ensures { result ≡ spec.may_share_file call.now }
+{
+    !asks_object(call.flag.as_str()) && one_writes_file(call.words.as_slice())
+}
+
+// Whether a word asks nvcc to keep generated files.
+fn asks_to_keep(word: &str) -> bool
+    ensures { result ≡ spec.asks_to_keep word.now }
+{
+    matches!(word, "--keep" | "-keep" | "--save-temps" | "-save-temps")
+}
+
+fn one_asks_to_keep(words: &[String]) -> bool
+    ensures { result ≡ list_any spec.asks_to_keep (map string_bytes words.now) }
+{
+    for word in words {
+        if asks_to_keep(word.as_str()) {
+            return true;
+        }
+    }
+    false
+}
+
+// Whether an output may have the name of a kept file.
+fn is_kept_name(alloc: Global, call: &Call) -> Result<bool, AllocError>
+    ensures { IfOk result (λ b. b ≡ spec.is_kept_name call.now) }
+{
+    let beginning = with_extension(alloc, last(call.input.as_str()), "")?;
+    let output = call.output.as_str();
+    Ok(
+        begins_with(beginning.as_str(), last(output))
+            && !has_extension(extension_of_phase(call.flag.as_str()), output),
+    )
+}
+
+// Whether an output may be that of a kept file, on a line that keeps them.
+fn may_be_kept(alloc: Global, call: &Call) -> Result<bool, AllocError>
+    ensures { IfOk result (λ b. b ≡ spec.may_be_kept call.now) }
+{
+    Ok(one_asks_to_keep(call.words.as_slice()) && is_kept_name(alloc, call)?)
+}
+
+// A reason, if there is a hazard.
+fn reason_if(is_hazard: bool, reason: Reason) -> Option<Reason>
+    ensures { result ≡ reason_unless (not is_hazard) reason }
+{
+    if is_hazard { Some(reason) } else { None }
+}
+
+// Whether the names of a call may be changed where generated files get canonical names.
+fn is_renamed(call: &NvccCall<'_>, normal: &Call) -> bool
+    ensures { result ≡ spec.is_renamed (nvcc_of call.now) normal.now }
+{
+    may_be_renamed(call.cwd)
+        || may_be_renamed(call.tmp)
+        || may_be_renamed(call.nvcc)
+        || may_one_be_renamed(normal.words.as_slice())
+}
+
+// Why names leave the call to nvcc.
+fn name_hazard(call: &NvccCall<'_>, normal: &Call) -> Option<Reason>
+    ensures { result ≡ spec.name_hazard (nvcc_of call.now) normal.now }
+{
+    let is_odd = !is_plain_directory(call.cwd) || !is_plain_directory(call.tmp);
+    reason_if(is_odd, Reason::DirectoryName).or(reason_if(
+        is_renamed(call, normal),
+        Reason::GeneratedName,
+    ))
+}
+
+// Why files leave the call to nvcc.
+fn file_hazard(alloc: Global, normal: &Call) -> Result<Option<Reason>, AllocError>
+    ensures { IfOk result (λ reason. reason ≡ spec.file_hazard normal.now) }
+{
+    let kept = reason_if(may_be_kept(alloc, normal)?, Reason::KeptName);
+    let shared = reason_if(may_share_file(normal), Reason::HostFile).or(kept);
+    let read = one_reads_file(normal.words.as_slice());
+    Ok(reason_if(read, Reason::ToolFile).or(shared))
+}
+
+/// Why nvcc makes a call whose line could be split, if a plan of it would make something else: a text looks like the name of a
+/// generated file, a shell may expand a directory's name, commands would read or write a file at another place or side by
+/// side, or a kept file would replace the output.
+pub fn hazard_of(
+    alloc: Global,
+    call: &NvccCall<'_>,
+    normal: &Call,
+) -> Result<Option<Reason>, AllocError>
+    ensures { IfOk result (λ reason. reason ≡ spec.hazard_of (nvcc_of call.now) normal.now) }
+{
+    let file = file_hazard(alloc, normal)?;
+    Ok(name_hazard(call, normal).or(file))
+}
