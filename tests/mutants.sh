@@ -27,7 +27,7 @@ try() {
 # tries PROGRAM TESTS: the edits of a program, from standard input.
 tries() {
     program=$1 tests=$2 text=$(cat "bin/$1")
-    cp bin/zigrunk-nvcc bin/zigrunk-slot "$scratch"
+    cp bin/zigrunk-* "$scratch"
     while IFS= read -r name && IFS= read -r old && IFS= read -r new; do
         [[ $name$old$new != *"$only"* ]] || try "$name" "${old#old: }" "${new#new: }"
     done
@@ -539,7 +539,7 @@ commands go on after Ninja was killed
 old: { syscall $prctl, $parent_death_signal, $numbers{TERM} }
 new: {}
 the status is lost
-old: exit($state & 127 ? 128 + ($state & 127) : $state >> 8);
+old: exit $status;
 new: exit 0;
 other words are the same
 old: && $same eq $others
@@ -550,11 +550,49 @@ new:
 words are joined
 old: join "\0", @others
 new: join " ", @others
+lines of the log are mixed up
+old: sysopen my $log, $file, 02101
+new: sysopen my $log, $file, 0101
+a hint comes again and again
+old: unless open $log, '<', $file and grep { $_ eq $line } <$log>
+new: 
+the log has no command
+old: if ($asked && open my $times
+new: if (0 && open my $times
+the log takes the runner for nvcc
+old: [@words[-$count .. -1]]
+new: [@words]
+nvcc's status is lost
+old: exit $shown;
+new: exit 0;
 a command has no terminal
 old: my ($master, $slave) = $ENV{ZIGRUNK_TERMINAL} ? terminal : ();
 new: my ($master, $slave);
 the command alone gets a signal
 old: getpgrp == $$ ? -$$ : $child
 new: $child
+END
+tries zigrunk-plan tests/script.sh << 'END'
+text is no format
+old: text) format=plan ;;
+new: text) format=text ;;
+files aren't kept
+old: ${keep_dir:+--keep}
+new: 
+text has --keep
+old: [ "$format" != plan ] || keep_dir=''
+new: :
+the status of a line that goes to nvcc is lost
+old: calls=$("$zigrunk" calls "$PWD" "$tmp" "$@") || exit
+new: calls=$("$zigrunk" calls "$PWD" "$tmp" "$@") || exit 1
+dry runs stay
+old: rm -rf "$own"
+new: :
+a dry run may fail
+old: && fail 1 'zigrunk-plan: a dry run fails'
+new: 
+both dry runs are one
+old: for run in first_dry_run second_dry_run
+new: for run in first_dry_run first_dry_run
 END
 summary

@@ -21,6 +21,7 @@ user=$(id -u)
 } > "$scratch/zigrunk-nvcc"
 chmod +x "$scratch/zigrunk-nvcc"
 ln -s "${script%/*}/zigrunk-slot" "$scratch/zigrunk-slot"
+planner=${script%/*}/zigrunk-plan
 script=$scratch/zigrunk-nvcc
 
 # The stand-ins. Each logs what it gets, and does what a case says in a variable of its own.
@@ -133,6 +134,47 @@ installed() {
 # end: counts the case.
 end() {
     end_case
+}
+
+# Cases of zigrunk-plan, which is beside the script.
+plans() {
+    local split="$room/tmp/zigrunk-$user/zigrunk-name" dry_runs="[ROOM/tmp/zigrunk-plan/first_dry_run] [ROOM/tmp/zigrunk-plan/second_dry_run]"
+    for words in 'json [json]' 'ninja [ninja]' 'shell [shell]' 'dot [dot]' 'compdb [compdb]' 'text [plan]'; do
+        begin "zigrunk-plan ${words% *}"
+        as=$planner script "${words% *}" -- nvcc -c k.cu -o 'k o'
+        same 'status and messages' "$status$(cat "$room/err")" 0
+        sed "s,zigrunk-plan\.[A-Za-z0-9]*/,zigrunk-plan/,g; s,$room,ROOM,g" "$room/log" | LC_ALL=C sort > "$room/sorted"
+        printf '%s\n' 'nvcc [--dryrun] [first]' 'nvcc [--dryrun] [second]' \
+            "zigrunk [--limit] [268435456] ${words#* } [ROOM/work] [ROOM/tmp/zigrunk-$user/zigrunk-name] [-c] $dry_runs" \
+            "zigrunk [calls] [ROOM/work] [ROOM/tmp/zigrunk-$user/zigrunk-name] [nvcc] [-c] [k.cu] [-o] [k o]" \
+            'zigrunk [directory] [ROOM/work] [nvcc] [-c] [k.cu] [-o] [k o]' > "$room/wanted"
+        same calls "$(diff "$room/sorted" "$room/wanted")" ''
+        leaves_nothing
+        end
+    done
+    begin 'zigrunk-plan of a line that keeps files'
+    as=$planner script KEEP_DIR=/kept json nvcc -c k.cu
+    same 'with --keep' "$(grep -c 'json\] \[--keep\] ' "$room/log")" 1
+    as=$planner script KEEP_DIR=/kept text nvcc -c k.cu
+    same 'text has no --keep' "$(grep -c 'plan\] \[/.*\[-c\]' "$room/log")" 1
+    end
+    begin 'zigrunk-plan of a line that goes to nvcc'
+    as=$planner script REASON='goes to nvcc: it links' json nvcc k.cu
+    same 'status and messages' "$status $(cat "$room/out" "$room/err")" '3 zigrunk: goes to nvcc: it links'
+    leaves_nothing
+    end
+    begin 'zigrunk-plan of dry runs that fail'
+    as=$planner script SECOND=1 WARNING=bad json nvcc -c k.cu
+    same 'status and messages' "$status $(cat "$room/out" "$room/err")" $'1 a warning of the normal form\nzigrunk-plan: a dry run fails'
+    leaves_nothing
+    end
+    for words in '' 'yaml nvcc' json 'json --'; do
+        begin "the usage of zigrunk-plan: $words"
+        # shellcheck disable=SC2086 # one or several words
+        as=$planner script $words
+        same 'status and messages' "$status $(cat "$room/out" "$room/err")" '2 usage: zigrunk-plan json|ninja|dot|shell|compdb|text [--] NVCC WORD..'
+        end
+    done
 }
 
 cases() {
@@ -715,5 +757,11 @@ ended() {
     [ $((SECONDS - began)) -le 8 ] || problems+='  it ends late'$'\n'
 }
 
-by_shells cases
+# all_cases: those of zigrunk-nvcc, and those of zigrunk-plan.
+all_cases() {
+    cases
+    plans
+}
+
+by_shells all_cases
 summary

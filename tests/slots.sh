@@ -5,13 +5,15 @@
 #
 #   tests/slots.sh [SCRIPT]    SCRIPT is bin/zigrunk-nvcc, unless given. Its zigrunk-slot is the one beside it
 #
-# STOP_EARLY, if set, ends the run at the first failure.
+# STOP_EARLY, if set, ends the run at the first failure. CALLS, 50 if it isn't set, is how many calls the largest case makes at once;
+# each takes up to eight processes.
 # shellcheck disable=SC2016,SC2238 # the stand-ins expand what cases give them; a file is named command
 cd "$(dirname "$0")/.." || exit 1
 script=$(realpath "${1:-bin/zigrunk-nvcc}")
 . tests/lib.sh
 trap 'kill $(jobs -p) 2> /dev/null; rm -rf "$scratch"' EXIT
 unset NVCC_PREPEND_FLAGS NVCC_APPEND_FLAGS CDPATH MAKEFLAGS MFLAGS "${!ZIGRUNK@}"
+calls=${CALLS:-50}
 require slots ninja make perl flock
 
 # The stand-ins. A plan has a first command, and then three that can run at once. Each notes when it begins and ends.
@@ -182,12 +184,12 @@ same 'tokens' "$(dd bs=9 count=1 iflag=nonblock if="$room/jobs" 2> /dev/null)" +
 exec 5>&-
 end
 
-begin 'two hundred calls'
-graph 200
+begin 'many calls'
+graph "$calls"
 sed -i 's/sleep.*/:/' command
-ninja -j200 > said 2>&1
+ninja -j"$calls" > said 2>&1
 same 'status' "$?" 0
-same commands "$(grep -c '^+' "$LOG")" 800
+same commands "$(grep -c '^+' "$LOG")" $((calls * 4))
 at_most "$(nproc)"
 same 'files left' "$(ls "$room/tmp")" ''
 end
@@ -237,6 +239,52 @@ same 'a command that has not ended' "$(gcc -E j.cu -o j.ii)" 'gcc -E j.cu -o j.i
 same 'another file' "$(gcc -E other.cu -o j.ii)" 'gcc -E other.cu -o j.ii'
 same 'no output' "$(gcc -v)" 'gcc -v'
 export PATH=${PATH#"$call/zigrunk.tmp/host:$room/bin:"}
+end
+
+begin 'the log of calls at once'
+graph 12
+export ZIGRUNK_LOG=$room/calls.log
+ZIGRUNK_SLOTS=3 ninja -j12 > said 2>&1
+"$script" -c whole.cu -o 'a "b' > said 2>&1
+ZIGRUNK_RUNNER='env A=b' "$script" whole.cu > said 2>&1
+ZIGRUNK_NINJA=$room/missing-ninja "$script" -c 1.cu -o 1.o > said 2>&1
+ZIGRUNK_NINJA=$room/missing-ninja "$script" -c 1.cu -o 1.o > said 2>&1
+same 'lines, split, commands' "$(wc -l < "$ZIGRUNK_LOG") $(grep -vc 'reason\|hint' "$ZIGRUNK_LOG") $(grep -o '"kind"' "$ZIGRUNK_LOG" | wc -l)" '17 12 48'
+same 'hints' "$(grep -c '^{"hint":"install Ninja, or set ZIGRUNK_NINJA"}$' "$ZIGRUNK_LOG")" 1
+same 'lines that are whole' "$(grep -c '^{"begin":[0-9.]*,"end":[0-9.]*,"status":0,.*"words":\["nvcc",".*"\]}$' "$ZIGRUNK_LOG")" 16
+unset ZIGRUNK_LOG
+if command -v python3 > /dev/null; then
+    "${script%/*}/zigrunk-report" --trace trace "$room/calls.log" > report
+    same 'calls' "$(sed -n 1,2p report)" $'calls: 16, failed: 0\nsplit: 12 of 16 (75 %)'
+    same 'reasons' "$(grep -c '  2  to nvcc: it links$' report) $(grep -c 'to nvcc: .*cannot run .*missing-ninja' report) $(grep -c '  hint: install Ninja' report)" '1 1 1'
+    same 'commands' "$(grep -c '^      48 .* s each  sh$\|^      48 .* s each  command$' report)" 1
+    same 'events of the trace' "$(python3 -c 'import json; print(len(json.load(open("trace"))["traceEvents"]))')" 52
+    same 'rows of the trace' "$(python3 -c 'import json; print(max(e["tid"] for e in json.load(open("trace"))["traceEvents"] if e["name"] != "nvcc"))')" 2
+    printf '%s\n' '[' '{"begin": 1}' >> "$room/calls.log"
+    "${script%/*}/zigrunk-report" "$room/calls.log" > report
+    same 'lines that are no entries' "$(tail -n 1 report)" '2 lines are no entries of such a log'
+    "${script%/*}/zigrunk-report" missing > report 2>&1
+    same 'no log' "$? $(cat report)" "1 zigrunk-report: [Errno 2] No such file or directory: 'missing'"
+fi
+end
+
+begin 'the log of an nvcc that fails'
+printf '%s\n' '#!/bin/sh' 'case $* in *-dryrun*) exit ;; esac' 'echo "$*"; exit 7' > "$room/some-nvcc" && chmod +x "$room/some-nvcc"
+ZIGRUNK_LOG=$room/calls.log "$script" "$room/some-nvcc" whole.cu > said 2>&1
+same 'status and output' "$? $(cat said)" '7 whole.cu'
+same 'status in the log' "$(sed 's/.*"status"/"status"/' "$room/calls.log")" '"status":7,"reason":"it links","commands":[],"words":["'"$room/some-nvcc"'","whole.cu"]}'
+rm "$room/calls.log"
+printf '%s\n' '#!/bin/sh' 'kill -TERM $$' > "$room/some-nvcc"
+{ ZIGRUNK_LOG=$room/calls.log "$script" "$room/some-nvcc" whole.cu > said 2>&1; } 2> /dev/null
+same 'status' "$? $(grep -o '"status":143' "$room/calls.log")" '143 "status":143'
+end
+
+begin 'the log of a command that fails'
+graph 1
+echo 'echo bad >&2; exit 6' > command
+ZIGRUNK_LOG=$room/calls.log "$script" -c 1.cu -o 1.o > said 2>&1
+same 'status and messages' "$? $(cat said)" '6 bad'
+same 'statuses in the log' "$(grep -o '"status":[0-9]*' "$room/calls.log" | tr '\n' ' ')" '"status":6 "status":6 '
 end
 
 begin 'a terminal'
