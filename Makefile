@@ -22,8 +22,8 @@ help:
 	@echo 'make end-to-end       compare zigrunk-nvcc with nvcc; needs nvcc and ninja on the path'
 	@echo 'make odd-calls        the same for 131 calls with odd words'
 	@echo 'make cache            compare rebuilds through sccache with and without zigrunk-nvcc; needs sccache 0.9'
-	@echo 'make cluster          build on a Slurm of three nodes that it starts on this machine; needs nvcc, slurm-wlm and munge; root'
-	@echo 'make mutants          check that the tests catch wrong edits of zigrunk-nvcc and zigrunk-slot'
+	@echo 'make cluster          build on a Slurm that it starts on this machine, and let nodes vanish; needs nvcc, slurm-wlm, munge, iproute2; root'
+	@echo 'make mutants          check that the tests catch wrong edits of zigrunk-nvcc, zigrunk-slot, zigrunk-plan and zigrunk-batch'
 	@echo 'make check-docs       check links, quoted code and names in the pages, and the version number'
 	@echo 'make lint             check shell, Python and Rust: shellcheck, mypy, flake8, clippy and rustfmt, as far as they are installed'
 	@echo 'make test-install     install into an empty directory, run the programs from there, uninstall'
@@ -145,6 +145,7 @@ cluster:
 
 mutants:
 	@tests/mutants.sh
+	@tests/batch_mutants.sh
 
 # The pages name files, definitions and calls; this finds names that aren't there.
 check-docs:

@@ -1,5 +1,5 @@
 #!/usr/bin/env bash
-# Runs bin/zigrunk-batch with Ninja and with stand-ins for nvcc and zigrunk, by each of dash, bash and busybox sh that is installed.
+# Runs bin/zigrunk-batch with Ninja and with stand-ins for nvcc and zigrunk, and examples/slurm/array.sh with stand-ins for Slurm, by each of dash, bash and busybox sh that is installed.
 # Prints a line for each case that fails, and last 'N passed, M failed'; the status is 1 if one failed. The shells run side by side.
 #
 #   tests/batch.sh [SCRIPT]    SCRIPT is bin/zigrunk-batch, unless given
@@ -8,6 +8,7 @@
 # shellcheck disable=SC2016 # the stand-ins expand what cases give them
 cd "$(dirname "$0")/.." || exit 1
 script=$(realpath "${1:-bin/zigrunk-batch}")
+array=$(realpath examples/slurm/array.sh)
 . tests/lib.sh
 trap 'kill $(jobs -p) 2> /dev/null; rm -rf "$scratch"' EXIT
 unset NVCC_PREPEND_FLAGS NVCC_APPEND_FLAGS CDPATH MAKEFLAGS "${!ZIGRUNK@}"
@@ -24,6 +25,7 @@ for word; do line="$line [$word]"; done
 printf '%s\n' "$line" >> "$LOG"
 [ "$1" != --limit ] || shift 2
 case $1 in
+--version) echo 'zigrunk 1.2.3' ;;
 directory) shift && printf 'call-%s\n' "$(printf '%s\n' "$@" | cksum | tr ' ' -)" ;;
 calls)
     tmp=$3 keep=''
@@ -135,6 +137,15 @@ lists() {
             "zigrunk [calls] [ROOM/work] TMP [nvcc] [-c] [a b.cu] [-DX=$HOME y] [-o] [a.o]" "zigrunk [calls] [ROOM/work] TMP [nvcc] [-c] [a b.cu] [-o] [b.o]" | sort)"
     end
 
+    begin 'names of nvcc and of zigrunk-nvcc'
+    write a.cu ':'
+    cp "$scratch/bin/nvcc" "$room/compiler"
+    list="$(dirname "$script")/zigrunk-nvcc -c a.cu -o 1.o"$'\n'"$room/compiler -c a.cu -o 2.o"
+    batch ZIGRUNK_NVCC="$room/compiler"
+    same status "$status$(cat "$room/err")" 0
+    same plans "$(logged ' \[calls\] ') $(logged "\\[calls\\] .*\\[$room/compiler\\] \\[-c\\]")" '2 2'
+    end
+
     begin 'a list as a file, whose last line has no end'
     write a.cu 'echo a'
     write b.cu 'echo b'
@@ -150,12 +161,46 @@ lists() {
     same "status and output" "$status$(cat "$room/out" "$room/err")" 0
     end
 
-    begin 'the same call twice'
+    begin 'two calls that make one file'
+    mkdir sub && ln -s sub near
+    write a.cu 'echo a >> made'
+    list=$'\n-c a.cu -o sub/a.o\n# no call\n-c whole.cu -o b.o\n-c a.cu -o ./near/../near/a.o'
+    batch
+    same 'status and messages' "$status $(cat "$room/err")" "1 zigrunk-batch: lines 2 and 5 make one file: $room/work/sub/a.o"
+    list="[{\"directory\": \"$room/work\", \"file\": \"a.cu\", \"command\": \"nvcc -c a.cu\"}, {\"directory\": \"sub\", \"file\": \"a.cu\", \"command\": \"gcc -c a.c -o ../a.o\"}]"
+    batch
+    same 'status and messages, entries' "$status $(cat "$room/err")" "1 zigrunk-batch: entries 1 and 2 make one file: $room/work/a.o"
+    [ ! -e made ] || problems+='  a command runs'$'\n'
+    end
+
+    begin 'the directory of a call is taken'
     write a.cu 'echo a' 'sleep 0.2'
-    list=$'-c a.cu -o a.o\n-c a.cu -o a.o'
+    list=$'-c a.cu\n-c a.cu'
+    list=${list//-c/-E}
     batch
     same status "$status" 0
     same output "$(cat "$room/out" "$room/err")" $'a\na'
+    end
+
+    begin 'lines that a shell runs whole'
+    mkdir sub
+    write sub/a.cu 'echo sub >> ../made'
+    write a.cu 'echo "$NAME" >> made'
+    list=$'cd sub && nvcc -c a.cu -o a.o\nNAME=value nvcc -c a.cu -o b.o\nnvcc -c a.cu -o "$(echo run >> ran; echo c.o)"\nnvcc -c a.cu -o `echo d.o`\necho text > text; exit 4\nif true; then echo if; fi\n! true'
+    batch NAME=before ZIGRUNK_RUNNER=runner
+    same status "$status" 4
+    same made "$(sort made | tr '\n' ,) $(cat ran text | tr '\n' ' ')$(cat "$room/out")" 'before,before,sub,value, run text if'
+    same 'by the runner' "$(logged '^runner sh -c ')" 7
+    same messages "$(cat "$room/err")" "zigrunk-batch: line 5: exit status 4: echo text > text; exit 4"$'\n''zigrunk-batch: line 7: exit status 1: ! true'
+    same 'calls of nvcc' "$(logged '^nvcc ')" 4
+    end
+
+    begin 'lines that no shell runs whole'
+    write a.cu ':'
+    list=$'nvcc -c a.cu -o 1.o "-DX=a;b|c>d&(e)"\nnvcc -c a.cu -o 2.o \'-DX=`a` $(b)\'\nnvcc -c a.cu -o 3.o -DX=a\\;b\\&c # a;b\n  nvcc -c a.cu -o 4.o -DA=\\"#x "-DY=\\`"\n\t# nvcc -c a.cu -o a.o; exit 3\nnvcc -c a.cu -DN=v -o $OUT.o -DL=\'it\'"\'"\'s;\''
+    batch OUT=5
+    same status "$status$(cat "$room/err")" 0
+    same plans "$(logged calls)$(printf '%s ' ./*.o)" '5./1.o ./2.o ./3.o ./4.o ./5.o '
     end
 
     begin 'forty calls'
@@ -267,6 +312,15 @@ failures() {
     same messages "$(grep -c 'nterminated\|unexpected EOF\|^zigrunk-batch: line 1: exit status 2: -c' "$room/err")" 2
     end
 
+    begin 'a line that cannot be planned, among others'
+    write a.cu 'echo a'
+    list=$'\n# a comment\n-c a.cu -o a.o\n\n-c \'b.cu\n-c a.cu -o c.o'
+    batch
+    same 'status and output' "$status $(cat "$room/out")" $'2 a\na'
+    same 'messages that name the line' "$(grep '^zigrunk' "$room/err")" "zigrunk-batch: line 5: exit status 2: -c 'b.cu"
+    same 'calls of nvcc' "$(logged '^nvcc ')" 0
+    end
+
     begin 'a program that is missing'
     list=$'missing-program -c'
     batch
@@ -298,16 +352,48 @@ failures() {
     end
 
     begin 'wrong usage'
-    batch one two
-    same 'status and messages' "$status $(cat "$room/err")" '2 usage: zigrunk-batch [FILE]'
-    batch -x
-    same 'status and messages' "$status $(cat "$room/err")" '2 usage: zigrunk-batch [FILE]'
-    batch --help
-    same 'status and output' "$status $(cat "$room/out")" '0 usage: zigrunk-batch [FILE]'
+    for words in 'one two' -x '-j' '-j 0' '-j x' '-k -1' '-k 01' '-jx' '--version1'; do
+        # shellcheck disable=SC2086 # several words
+        batch $words
+        same "status and messages, $words" "$status $(cat "$room/err")" '2 usage: zigrunk-batch [-j N] [-k N] [--progress] [FILE]'
+    done
+    for word in -h --help; do
+        batch "$word"
+        same "status and output, $word" "$status $(head -n 1 "$room/out") $(grep -c '^-[jkh]' "$room/out")" '0 usage: zigrunk-batch [-j N] [-k N] [--progress] [FILE] 3'
+    done
+    batch --version
+    same 'status and output' "$status $(cat "$room/out")" '0 zigrunk-batch 1.2.3'
+    mkdir directory
+    batch directory
+    same 'status and messages' "$status $(cat "$room/err")" '1 zigrunk-batch: cannot read directory'
     batch missing
     same 'status and messages' "$status $(cat "$room/err")" '1 zigrunk-batch: cannot read missing'
     batch TMPDIR="$room/missing" /dev/null
     same status "$status" 1
+    end
+
+    begin 'options'
+    for number in 1 2 3 4; do write "$number.cu" "echo $number >> made"; done
+    write 2.cu 'exit 6'
+    list=$'-c 1.cu -o 1.o\n-c 2.cu -o 2.o\n-c 3.cu -o 3.o\n-c 4.cu -o 4.o\n-c whole.cu -o 5.o'
+    write whole.cu 'echo 5 >> made'
+    batch -j 1 -k1 -- -
+    same 'status, -k' "$status $(sort made | tr '\n' ' ')" '6 1 '
+    same 'messages, -k' "$(cat "$room/err")" 'zigrunk-batch: line 2: exit status 6: -c 2.cu -o 2.o'$'\n''zigrunk-batch: stopped, 3 of the calls not made'
+    same 'calls of nvcc, -k' "$(logged '^nvcc ')" 0
+    same 'Ninja, -k' "$(grep '^ninja' "$room/log" | tail -n 1)" 'ninja -k 1 -f graph -j 1'
+    rm -f made
+    batch -j2 -k 0
+    same 'status and Ninja, -j' "$status $(sort made | tr '\n' ' ') $(grep '^ninja' "$room/log" | tail -n 1)" '6 1 3 4 5  ninja -k 0 -f graph -j 2'
+    end
+
+    begin progress
+    write a.cu ':' ':'
+    write whole.cu 'sleep 1.5'
+    list=$'-c a.cu -o a.o\n-c whole.cu -o w.o'
+    batch --progress
+    same 'status and output' "$status$(cat "$room/out")" 0
+    same messages "$(sed 's/commands: -c .*\.o$/commands: CALL/' "$room/err" | grep -v '^zigrunk-batch: [123] of 4 ')" $'zigrunk-batch: plans 2 of 2\nzigrunk-batch: 4 of 4 commands: CALL'
     end
 }
 
@@ -330,23 +416,42 @@ END
 
     begin 'a compile_commands.json on standard input'
     write a.cu 'echo a'
-    list='[{"directory": "'$room/work'", "file": "a.cu", "command": "nvcc -c a.cu -o a.o"}]'
-    batch
-    same 'status and output' "$status $(cat "$room/out" "$room/err")" '0 a'
+    for list in '[{"directory": "'$room/work'", "file": "a.cu", "command": "nvcc -c a.cu -o a.o"}]' $'\t\r\n [{"directory": ".", "file": "a.cu", "command": "nvcc -c a.cu -o a.o"}]'; do
+        batch
+        same 'status and output' "$status $(cat "$room/out" "$room/err")" '0 a'
+    done
     end
 
-    for text in '[' '[1]' '[{}]' '[{"directory": "/", "file": "x"}]' '[{"directory": "/", "file": "x", "command": "nvcc '\''"}]' '[{"directory": "/", "file": "x", "arguments": [1]}]'; do
+    begin 'a compile_commands.json in another directory'
+    mkdir -p far/sub
+    write far/sub/a.cu 'echo "a in $(pwd)"'
+    echo '[{"directory": "sub", "file": "a.cu", "command": "nvcc -c a.cu -o a.o"}]' > far/compile_commands.json
+    batch far/compile_commands.json
+    same 'status and output' "$status $(cat "$room/out" "$room/err")" "0 a in $room/work/far/sub"
+    end
+
+    for list in '{"directory": "/"}' ' { "file": 1}' '{}'; do
+        begin "a JSON object: $list"
+        batch
+        same 'status and messages' "$status $(cat "$room/err")" '1 zigrunk-batch: standard input is no compile_commands.json: it is a JSON object, not an array'
+        echo "$list" > object
+        batch object
+        same 'status and messages' "$status $(cat "$room/err")" '1 zigrunk-batch: object is no compile_commands.json: it is a JSON object, not an array'
+        end
+    done
+
+    for text in '[' '[1]' '[{}]' '[{"directory": "/", "file": "x"}]' '[{"directory": "/", "file": "x", "command": "nvcc '\''"}]' '[{"directory": "/", "file": "x", "arguments": [1]}]' '[{"directory": "/", "file": "x", "arguments": []}]'; do
         begin "no compile_commands.json: $text"
         list=$text
         batch
         same status "$status" 1
-        same 'lines of messages' "$(grep -c '^zigrunk-batch: .* is no compile_commands.json: ' "$room/err") $(wc -l < "$room/err")" '1 1'
+        same 'lines of messages' "$(grep -c '^zigrunk-batch: standard input is no compile_commands.json: ' "$room/err") $(wc -l < "$room/err")" '1 1'
         end
     done
 
     begin 'python3 is missing'
     mkdir "$room/bin"
-    for tool in "${shell[0]}" ninja sh cat mktemp rm tr head sed find sort id dirname mkdir rmdir env; do ln -s "$(command -v "$tool")" "$room/bin/$tool"; done
+    for tool in "${shell[0]}" ninja sh cat mktemp rm tr head sed find sort id dirname mkdir rmdir env awk; do ln -s "$(command -v "$tool")" "$room/bin/$tool"; done
     list='[]'
     batch PATH="$room/bin"
     same 'status and messages' "$status $(cat "$room/err")" '1 zigrunk-batch: reading a compile_commands.json takes python3'
@@ -382,7 +487,7 @@ places() {
     same commands "$(grep '^runner' "$room/log" | sed 's, [^ ]*/command, command,' | sort)" "$(printf '%s\n' 'runner env nvcc -c whole.cu -o w.o' 'runner env sh command.0' 'runner env sh command.1')"
     end
 
-    for jobs in 1 3 '' 0 x; do
+    for jobs in 1 3 '' 0 00 x; do
         begin "ZIGRUNK_JOBS='$jobs'"
         write a.cu ':'
         list='-c a.cu -o a.o'
@@ -415,6 +520,26 @@ places() {
     same directory "$(sed -n 's/^zigrunk \[calls\] \[[^]]*\] \[\([^]]*\)\].*/\1/p' "$room/log")" \
         "$room/tmp/zigrunk-$user/call-$(printf '%s\n' "$room/work" nvcc -c a.cu -o a.o | cksum | tr ' ' -)"
     end
+}
+
+# arrays: the stand-in for sbatch runs an array's tasks one after the other.
+arrays() {
+    mkdir "$scratch/$one/slurm"
+    printf '%s\n' '#!/bin/sh' 'printf "%s\n" "$*" >> "$LOG"' 'while [ "$1" != "${1#-}" ]; do' '    case $1 in --array=*) last=${1#--array=1-} ;; esac' '    shift' 'done' \
+        'worst=0' 'for SLURM_ARRAY_TASK_ID in $(seq "$last"); do' '    export SLURM_ARRAY_TASK_ID' '    sh "$@" || { code=$?; [ "$code" -le "$worst" ] || worst=$code; }' \
+        'done' 'exit "$worst"' > "$scratch/$one/slurm/sbatch"
+    printf '%s\n' '#!/bin/sh' 'echo "MaxArraySize            = ${ARRAY-1001}"' 'echo "MaxJobCount             = ${JOBS-10000}"' > "$scratch/$one/slurm/scontrol"
+    chmod +x "$scratch/$one"/slurm/*
+    for limits in 'ARRAY=1001 7' 'ARRAY=4 3,3,1' 'JOBS=5 4,3' 'ARRAY=8 7' 'ARRAY=7 6,1'; do
+        begin "an array job, ${limits% *}"
+        printf '%s\n' 'echo 1' 'echo 2; exit 4' '' 'echo "4 $ZIGRUNK_JOBS"' 'echo 5' 'exit 3' > list
+        printf 'echo 7' >> list
+        : > "$room/log"
+        env LOG="$room/log" "${limits% *}" PATH="$scratch/$one/slurm:$PATH" "${shell[@]}" "$array" list --comment=x > "$room/out" 2>&1
+        same 'status and output' "$? $(tr '\n' , < "$room/out")" '4 1,2,4 1,5,7,'
+        same arrays "$(sed -n 's/.*--array=1-\([0-9]*\) --comment=x .*array.sh list$/\1/p' "$room/log" | paste -sd ,)" "${limits#* }"
+        end
+    done
 }
 
 # stops SIGNAL STATUS PHASE COMMANDS: a signal to the script while it plans or builds, once so many commands run.
@@ -466,6 +591,7 @@ cases() {
     failures
     databases
     places
+    arrays
     stops TERM 143 builds 2
     stops INT 130 builds 2
     stops HUP 129 builds 2
