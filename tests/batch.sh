@@ -524,18 +524,18 @@ places() {
 
 # arrays: the stand-in for sbatch runs an array's tasks one after the other.
 arrays() {
-    mkdir "$scratch/$one/slurm"
+    mkdir "${room%/*}/slurm"
     printf '%s\n' '#!/bin/sh' 'printf "%s\n" "$*" >> "$LOG"' 'while [ "$1" != "${1#-}" ]; do' '    case $1 in --array=*) last=${1#--array=1-} ;; esac' '    shift' 'done' \
         'worst=0' 'for SLURM_ARRAY_TASK_ID in $(seq "$last"); do' '    export SLURM_ARRAY_TASK_ID' '    sh "$@" || { code=$?; [ "$code" -le "$worst" ] || worst=$code; }' \
-        'done' 'exit "$worst"' > "$scratch/$one/slurm/sbatch"
-    printf '%s\n' '#!/bin/sh' 'echo "MaxArraySize            = ${ARRAY-1001}"' 'echo "MaxJobCount             = ${JOBS-10000}"' > "$scratch/$one/slurm/scontrol"
-    chmod +x "$scratch/$one"/slurm/*
+        'done' 'exit "$worst"' > "${room%/*}/slurm/sbatch"
+    printf '%s\n' '#!/bin/sh' 'echo "MaxArraySize            = ${ARRAY-1001}"' 'echo "MaxJobCount             = ${JOBS-10000}"' > "${room%/*}/slurm/scontrol"
+    chmod +x "${room%/*}"/slurm/*
     for limits in 'ARRAY=1001 7' 'ARRAY=4 3,3,1' 'JOBS=5 4,3' 'ARRAY=8 7' 'ARRAY=7 6,1'; do
         begin "an array job, ${limits% *}"
         printf '%s\n' 'echo 1' 'echo 2; exit 4' '' 'echo "4 $ZIGRUNK_JOBS"' 'echo 5' 'exit 3' > list
         printf 'echo 7' >> list
         : > "$room/log"
-        env LOG="$room/log" "${limits% *}" PATH="$scratch/$one/slurm:$PATH" "${shell[@]}" "$array" list --comment=x > "$room/out" 2>&1
+        env LOG="$room/log" "${limits% *}" PATH="${room%/*}/slurm:$PATH" "${shell[@]}" "$array" list --comment=x > "$room/out" 2>&1
         same 'status and output' "$? $(tr '\n' , < "$room/out")" '4 1,2,4 1,5,7,'
         same arrays "$(sed -n 's/.*--array=1-\([0-9]*\) --comment=x .*array.sh list$/\1/p' "$room/log" | paste -sd ,)" "${limits#* }"
         end

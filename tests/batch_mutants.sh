@@ -6,11 +6,9 @@
 #
 # An edit is a line that names it, a line 'old: TEXT' and a line 'new: TEXT'. The old text stands in one place of the script.
 cd "$(dirname "$0")/.." || exit 1
-scratch=$(mktemp -d)
-trap 'rm -rf "$scratch"' EXIT
+. tests/lib.sh
 text=$(cat bin/zigrunk-batch)
 only=${1-}
-passed=0 failed=0
 # the script looks for zigrunk-nvcc beside itself
 cp bin/zigrunk-nvcc "$scratch"
 
@@ -18,17 +16,15 @@ cp bin/zigrunk-nvcc "$scratch"
 try() {
     local file=$scratch/zigrunk-batch rest=${text/"$2"/}
     if [ "$rest" = "$text" ] || [ "${rest/"$2"/}" != "$rest" ]; then
-        echo "$1: the script doesn't have '$2' in one place"
-        failed=$((failed + 1))
+        count "$1" "the script doesn't have '$2' in one place"
         return
     fi
     printf '%s\n' "${text/"$2"/$3}" > "$file"
     chmod +x "$file"
     if SHELLS=${SHELLS-dash} STOP_EARLY=1 tests/batch.sh "$file" > "$scratch/said" 2>&1; then
-        echo "$1: no test fails"
-        failed=$((failed + 1))
+        count "$1" 'no test fails'
     else
-        passed=$((passed + 1))
+        count "$1" ''
     fi
 }
 
@@ -206,5 +202,4 @@ always 0
 old: exit "$status"
 new: exit
 END
-echo "$passed passed, $failed failed"
-[ "$failed" -eq 0 ]
+summary

@@ -1,26 +1,56 @@
 #!/usr/bin/env bash
-# Builds on a Slurm of three nodes, which it starts on this machine and stops again. Prints a line for each check that fails,
-# the times of builds, and last 'N passed, M failed'; the status is 1 if one failed. docs/CLUSTER.md names the packages.
+# Builds on a Slurm whose nodes are network namespaces of this machine. It starts them, lets some of them vanish, and stops them.
+# Prints a line for each check that fails, the times of builds, and last 'N passed, M failed'; the status is 1 if one failed.
+# docs/CLUSTER.md names the packages.
 #
 #   tests/cluster.sh [PROGRAM]    PROGRAM is the zigrunk that `make build` leaves, unless given
+#
+# PARTS names the parts to run, all unless set. SEED is that of the deaths drawn by lot. CALLS, NAPS and SIZES are the numbers of calls that
+# nvcc compiles, of calls that only sleep, and of nodes: CALLS=20 NAPS=30 SIZES='1 2 3' makes the tables of docs/CLUSTER.md.
 cd "$(dirname "$0")/.." || exit 1
 . tests/lib.sh
-require cluster slurmctld slurmd munged sbatch salloc nvcc ninja objcopy
-[ "$(id -u)" = 0 ] || skip_all cluster 'starting a Slurm of its own takes root'
+for tool in slurmctld:slurm-wlm slurmd:slurm-wlm munged:munge salloc:slurm-wlm ip:iproute2 nsenter:util-linux ninja:ninja-build \
+    objcopy:binutils python3:python3 nvcc:nvcc; do
+    command -v "${tool%:*}" > /dev/null || skip_all cluster "${tool%:*} is not on the path (package ${tool#*:})"
+done
+[ "$(id -u)" = 0 ] || skip_all cluster 'network namespaces and a Slurm of its own take root'
 [ "$(nproc)" -ge 3 ] || skip_all cluster 'three nodes take three cores'
 ZIGRUNK_PROGRAM=$(realpath "${1:-${ZIGRUNK_PROGRAM:-crates/zigrunk/out/zigrunk}}")
 [ -x "$ZIGRUNK_PROGRAM" ] || skip_all cluster 'make build makes zigrunk first'
-unset NVCC_PREPEND_FLAGS NVCC_APPEND_FLAGS MAKEFLAGS "${!SLURM@}" "${!SBATCH@}"
-unset ZIGRUNK_RUNNER ZIGRUNK_LAUNCHER ZIGRUNK_PLAN ZIGRUNK_JOBS
-examples=$PWD/examples
+unset NVCC_PREPEND_FLAGS NVCC_APPEND_FLAGS MAKEFLAGS "${!SLURM@}" "${!SBATCH@}" "${!STEP_@}"
+unset ZIGRUNK_RUNNER ZIGRUNK_LAUNCHER ZIGRUNK_PLAN ZIGRUNK_JOBS ZIGRUNK_BATCH
+examples=$PWD/examples here=$PWD/tests
 chmod 755 "$scratch"
-run=$scratch/run
+run=$scratch/run nodes=12 compiled=${CALLS:-8} sleeping=${NAPS:-10}
 mkdir "$run" "$scratch/work" "$scratch/tmp"
-export ZIGRUNK_PROGRAM ZIGRUNK_TMP=$scratch/tmp PATH=$PWD/bin:$PATH
+# a python3 that starts at once stands first
+export ZIGRUNK_PROGRAM ZIGRUNK_TMP=$scratch/tmp PATH=$PWD/bin:/usr/bin:$PATH
+. tests/cluster/nodes.bash
 . tests/cluster/slurm.bash
 . tests/cluster/ssh.bash
-trap 'stop_ssh; stop_slurm; rm -rf "$scratch"' EXIT
-trap 'exit 130' HUP INT TERM
+. tests/cluster/deaths.bash
+
+# The parts run in a process group of their own, so that a signal to the test ends it at once, whatever runs.
+# own: the processes that have this test's variables, but for itself.
+own() {
+    grep -lzF "ZIGRUNK_TMP=$scratch/tmp" /proc/[0-9]*/environ 2> /dev/null | tr -dc '0-9\n' | grep -vx "$$"
+}
+
+parts=''
+stop() {
+    trap '' HUP INT TERM
+    [ -z "$parts" ] || kill -9 -- "-$parts" 2> /dev/null
+    # salloc starts its command in a group of its own
+    # shellcheck disable=SC2046 # several ids
+    kill -9 $(own) 2> /dev/null
+    stop_nodes
+    stop_slurm
+    rm -rf "$scratch"
+}
+trap stop EXIT
+trap 'exit 129' HUP
+trap 'exit 130' INT
+trap 'exit 143' TERM
 
 # timed COMMAND WORD..: runs it; its seconds are $seconds, in tenths. It may set the time of its end, $end.
 timed() {
@@ -46,7 +76,7 @@ batch() {
 
 # array LIST: an array job. sbatch --wait looks for the end only every half minute, so squeue says when that was.
 array() {
-    sbatch -Q --wait --requeue -n1 --array=1-"$(wc -l < "$1")" -o calls.%a.log "$examples/slurm/array.sh" "$1" &
+    "$examples/slurm/array.sh" "$1" -o calls.%a.log &
     sleep 1
     while [ -n "$(squeue -h)" ]; do sleep 0.2; done
     end=$(date +%s%N)
@@ -65,7 +95,7 @@ objects() {
 left() {
     local id
     sleep 4
-    for id in $(grep -lzF "ZIGRUNK_TMP=$scratch" /proc/[0-9]*/environ 2> /dev/null | tr -dc '0-9\n'); do
+    for id in $(own); do
         case $({ tr "\0" " " < "/proc/$id/cmdline"; } 2> /dev/null) in
         '' | munged* | slurm* | *tests/cluster.sh*) ;;
         *) { tr "\0" " " < "/proc/$id/cmdline"; } 2> /dev/null | cut -c 1-80 ;;
@@ -81,29 +111,31 @@ __global__ void k$number(float *x) { x[threadIdx.x] *= $number; }
 void c$number(float *x) { k$number<<<1, 32>>>(x); }
 END
     done
-    calls nvcc nvcc 20 > by_nvcc
-    printf '%s\n' '#!/bin/sh' 'exec sleep 0.3' > nap
+    calls nvcc nvcc "$compiled" > by_nvcc
+    # shellcheck disable=SC2016 # the script expands them
+    printf '%s\n' '#!/bin/sh' 'sleep 0.3' 'while [ "$#" -gt 1 ]; do [ "$1" != -o ] || : > "$2"; shift; done' > nap
     chmod +x nap
 }
 
 by_array() {
     timed taskset -c 1 sh by_nvcc
     whole=$seconds
-    echo "20 calls for 3 targets by nvcc on one core: $whole s"
-    calls zigrunk-nvcc array 20 > by_array
+    echo "$compiled calls for 3 targets by nvcc on one core: $whole s"
+    calls zigrunk-nvcc array "$compiled" > by_array
     timed array by_array
     same 'status of the array' "$status" 0
-    same 'objects of the array' "$(objects array 20)" ''
+    same 'objects of the array' "$(objects array "$compiled")" ''
     echo "the same by an array job on three nodes: $seconds s, ideal $(echo "$whole" | awk '{printf "%.1f", $1 / 3}') s"
 }
 
 by_batch_form() {
-    for nodes in 1 2 3; do
-        calls nvcc "batch$nodes" 20 > by_batch
-        timed batch "$nodes" by_batch
-        same "status of the batch form, nodes $nodes" "$status$(cat out err)" 0
-        same "objects of the batch form, nodes $nodes" "$(objects "batch$nodes" 20)" ''
-        echo "the same by the batch form on $nodes: $seconds s, ideal $(echo "$whole $nodes" | awk '{printf "%.1f", $1 / $2}') s"
+    local size
+    for size in ${SIZES:-3}; do
+        calls nvcc "batch$size" "$compiled" > by_batch
+        timed batch "$size" by_batch
+        same "status of the batch form, nodes $size" "$status$(cat out err)" 0
+        same "objects of the batch form, nodes $size" "$(objects "batch$size" "$compiled")" ''
+        echo "the same by the batch form on $size: $seconds s, ideal $(echo "$whole $size" | awk '{printf "%.1f", $1 / $2}') s"
     done
 }
 
@@ -116,30 +148,6 @@ compile_error() {
     batch 3 by_batch
     same 'status of a compile error' $? "$code"
     same 'text of a compile error' "$(grep -v '^zigrunk-batch: ' err)" "$(cat wanted)"
-}
-
-# KILLS says how often, 1 unless set. Each time it is another node, at another moment.
-killed_node() {
-    local repeats=$PWD/repeats all=0 id turn number
-    [ -e k8.nvcc ] || head -n 8 by_nvcc | sh
-    calls nvcc killed 8 > by_batch
-    for turn in $(seq "${KILLS:-1}"); do
-        number=$((turn % 3 + 1))
-        rm -f ./*.killed
-        : > "$repeats"
-        batch 3 by_batch STEP_LOG="$repeats" &
-        id=$!
-        sleep $((4 + turn * 3 % 5))
-        kill_node "n$number"
-        wait "$id"
-        same "status after node $number died" "$?$(cat out) $(grep -v '^salloc: error: Node failure' err)" '0 '
-        same "objects after node $number died" "$(objects killed 8)" ''
-        echo "node $number killed in mid-build: steps repeated: $(wc -l < "$repeats")"
-        all=$((all + $(wc -l < "$repeats")))
-        start_node "$number"
-        wait_idle
-    done
-    same 'a repeated step' "$((all > 0))" 1
 }
 
 cancelled() {
@@ -155,17 +163,17 @@ cancelled() {
 
 # Commands that only sleep show what Slurm costs.
 sleeping_batch() {
-    calls nvcc nap 30 > by_batch
+    calls nvcc nap "$sleeping" > by_batch
     timed batch 3 by_batch STEP_WRAPPER="$PWD/nap" ZIGRUNK_JOBS="${NAP_JOBS:-9}"
     same 'status of sleeping commands' "$status" 0
-    echo "390 commands of 0.3 s by the batch form on three nodes: $seconds s, ideal 39 s"
+    echo "$((sleeping * 13)) commands of 0.3 s by the batch form on three nodes: $seconds s, ideal $((sleeping * 13 / 10)) s"
 }
 
 sleeping_array() {
-    calls zigrunk-nvcc nap 30 > by_array
+    calls zigrunk-nvcc nap "$sleeping" > by_array
     ZIGRUNK_RUNNER="$PWD/nap" timed array by_array
     same 'status of sleeping tasks' "$status" 0
-    echo "390 commands of 0.3 s by an array job on three nodes: $seconds s, ideal 39 s"
+    echo "$((sleeping * 13)) commands of 0.3 s by an array job on three nodes: $seconds s, ideal $((sleeping * 13 / 10)) s"
 }
 
 # What Slurm costs for a command that does nothing: as a step, as a job that srun waits for, and as a batch job among others.
@@ -192,35 +200,65 @@ batch_jobs() {
     while [ -n "$(squeue -h)" ]; do sleep 0.1; done
 }
 
-# by_ssh: two machines, of which the second dies in mid-build.
+# by_ssh: two machines, of which one vanishes, comes back, and refuses.
 by_ssh() {
-    local id
+    local id number
     for tool in sshd ssh-keygen ssh parallel; do
         command -v "$tool" > /dev/null || { echo "by_ssh: skipped, $tool is not on the path" && return; }
     done
-    start_ssh || { echo 'by_ssh: skipped, sshd does not start' && return; }
-    [ -e k8.nvcc ] || head -n 8 by_nvcc | sh
+    start_ssh 2 || { echo 'by_ssh: skipped, sshd does not start' && return; }
+    cd "$scratch/stand_in" || return
     # shellcheck disable=SC2016 # the other machine's variables
     echo 'echo "${NVCC_APPEND_FLAGS-none} ${CPATH-none} $PWD"' > by_ssh
     export NVCC_APPEND_FLAGS=-lineinfo CPATH=/none
     same 'variables by ssh alone' "$(ssh -F "$run/ssh_config" m1 "$(cat by_ssh)")" "none none $HOME"
     same 'variables by parallel.sh' "$("$examples/ssh/parallel.sh" "$run/machines" by_ssh 2>&1)" "-lineinfo none $PWD"
     unset NVCC_APPEND_FLAGS CPATH
-    calls zigrunk-nvcc ssh 8 > by_ssh
-    "$examples/ssh/parallel.sh" "$run/machines" by_ssh > out 2> err &
-    id=$!
-    sleep 4
-    kill_machine 2
+    : > "$TOOL_LOG"
+    suffix=ssh count=12
+    calls_of_two ssh 12 | sed "s,^nvcc,env NVCC=$NVCC TOOL_LOG=$TOOL_LOG TOOL_SECONDS=0.3 zigrunk-nvcc," > by_ssh
+    PATH=$tools:$PATH "$examples/ssh/parallel.sh" "$run/machines" by_ssh > out 2> err &
+    id=$! job=$!
+    moment 1 '^start n2 cicc'
+    link 2 down
+    for _ in $(seq 300); do
+        ! grep -q 'left out: m2' err || break
+        sleep 0.1
+    done
+    link 2 up
+    for _ in $(seq 200); do
+        ! grep -q 'back: m2' err || break
+        sleep 0.1
+    done
+    number=$(grep -c '^start n2' "$TOOL_LOG")
+    moment $((number + 1)) '^start n2'
+    end_processes 2
     wait "$id"
-    same 'status after a machine died' "$?$(cat out)" 0
-    same 'objects after a machine died' "$(objects ssh 8)" ''
-    echo 'zigrunk-nvcc bad.cu' > by_ssh
+    same 'status after a machine vanished' "$?$(cat out)" 0
+    same 'objects after a machine vanished' "$(wrong)" ''
+    same 'commands on the machine that came back' "$(($(grep -c '^start n2' "$TOOL_LOG") > number))" 1
+    same 'machines that messages name' "$(sed -n 's/^parallel.sh: //p' err | head -n 2 | tr '\n' ,)" 'left out: m2,back: m2,'
+    echo "$run/nothing" > by_ssh
     "$examples/ssh/parallel.sh" "$run/machines" by_ssh > out 2> err
-    same 'status of a failed call' $? 1
-    stop_ssh
+    same 'status of a failed call, with one machine that refuses' $? 1
+    same 'the machine that refuses' "$(grep -c '^parallel.sh: left out: m2' err)" 1
+    same 'connections that stay' "$(pgrep -fc "ControlPath=/tmp/parallel.*$run/ssh_config")" 0
+    cd "$OLDPWD" || return
+    start_node 2
 }
 
-start_slurm || skip_all cluster 'Slurm does not start'
-cd "$scratch/work" && sources || exit 1
-for part in ${PARTS:-by_array by_batch_form compile_error killed_node cancelled sleeping_batch sleeping_array costs by_ssh}; do "$part"; done
-summary
+all_parts() {
+    start_nodes "$nodes" || skip_all cluster 'no network namespaces here'
+    start_slurm || skip_all cluster 'Slurm does not start'
+    stand_in
+    cd "$scratch/work" && sources || exit 1
+    for part in ${PARTS:-in_preprocessor in_cicc in_ptxas in_last_compile two_nodes frozen controller no_toolkit other_toolkit full_disk tries_run_out \
+        drawn_by_lot by_array by_batch_form compile_error cancelled sleeping_batch sleeping_array costs by_ssh}; do "$part"; done
+    summary
+}
+
+set -m
+all_parts &
+parts=$!
+set +m
+wait "$parts"

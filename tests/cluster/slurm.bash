@@ -1,14 +1,19 @@
-# Starts and stops a Slurm of three nodes on this machine, without systemd. Sourced by tests/cluster.sh, which sets $run.
+# Starts and stops a Slurm whose nodes are those of nodes.bash, without systemd. Sourced by tests/cluster.sh, which sets $run and $nodes.
 
 # start_node NUMBER: a slurmd on a core of its own, with the variable that examples/slurm/slurm.conf asks for.
 start_node() {
     mkdir -p "$run/spool.n$1"
-    HWLOC_COMPONENTS=${HWLOC_COMPONENTS--x86} taskset -c "$(($1 % $(nproc)))" slurmd -N "n$1" -f "$SLURM_CONF" -c
+    rm -f "$run/slurmd.n$1.pid"
+    link "$1" up
+    HWLOC_COMPONENTS=${HWLOC_COMPONENTS--x86} on_node "$1" taskset -c "$(($1 % $(nproc)))" slurmd -N "n$1" -f "$SLURM_CONF" -c
+}
+
+start_controller() {
+    slurmctld "$@" -f "$SLURM_CONF" && sleep 1 && kill -0 "$(cat "$run/slurmctld.pid")"
 }
 
 start_slurm() {
-    local host node port=$((20000 + $$ % 2000 * 5))
-    host=$(hostname -s)
+    local number port=$((20000 + $$ % 5000 * 2))
     mkdir -p "$run/munge" "$run/state"
     chmod 755 "$run" "$run/munge"
     dd if=/dev/urandom of="$run/munge/key" bs=1 count=1024 2> /dev/null
@@ -17,12 +22,14 @@ start_slurm() {
         --log-file="$run/munge/log" --seed-file="$run/munge/seed" || return
     export SLURM_CONF=$run/slurm.conf
     {
-        grep -v -e '^#' -e '^AuthInfo' -e '^$' examples/slurm/slurm.conf
+        grep -v -e '^#' -e '^AuthInfo' -e '^SlurmdTimeout' -e '^$' examples/slurm/slurm.conf
         cat << END
+SlurmdTimeout=${SLURMD_TIMEOUT:-8}
 AuthInfo=socket=$run/munge/socket,cred_expire=15
 ClusterName=zigrunk
-SlurmctldHost=$host(127.0.0.1)
+SlurmctldHost=$(hostname -s)($address)
 SlurmctldPort=$port
+SlurmdPort=$((port + 1))
 SlurmUser=root
 SlurmdUser=root
 StateSaveLocation=$run/state
@@ -38,58 +45,32 @@ JobAcctGatherType=jobacct_gather/none
 MpiDefault=none
 SlurmdParameters=config_overrides
 END
-        for node in 1 2 3; do
-            printf 'NodeName=n%s NodeHostname=%s NodeAddr=127.0.0.1 Port=%s CPUs=1 RealMemory=2000 State=UNKNOWN\n' \
-                "$node" "$host" "$((port + node))"
+        for number in $(seq "$nodes"); do
+            echo "NodeName=n$number NodeAddr=$net.$number CPUs=1 RealMemory=2000 State=UNKNOWN"
         done
-        for node in 1 2 3; do
-            printf 'PartitionName=p%s Nodes=n[1-%s] MaxTime=INFINITE State=UP\n' "$node" "$node"
+        for number in $(seq "$nodes"); do
+            echo "PartitionName=p$number Nodes=n[1-$number] MaxTime=INFINITE State=UP"
         done
-        echo 'PartitionName=all Nodes=n[1-3] Default=YES MaxTime=INFINITE State=UP'
+        echo "PartitionName=all Nodes=n[1-3] Default=YES MaxTime=INFINITE State=UP"
     } > "$SLURM_CONF"
-    slurmctld -c -f "$SLURM_CONF" && sleep 1 && kill -0 "$(cat "$run/slurmctld.pid")" || return
-    for node in 1 2 3; do start_node "$node" || return; done
+    start_controller -c || return
+    for number in $(seq "$nodes"); do start_node "$number" || return; done
     wait_idle
 }
 
-# wait_idle: until all three nodes take jobs.
+# wait_idle: until all nodes take jobs.
 wait_idle() {
-    for _ in $(seq 60); do
-        [ "$(timeout 5 sinfo -h -p p3 -N -t idle -o %N 2> /dev/null | wc -l)" = 3 ] && return
+    for _ in $(seq 120); do
+        [ "$(timeout 5 sinfo -h -p "p$nodes" -N -t idle -o %N 2> /dev/null | wc -l)" = "$nodes" ] && return
         sleep 0.5
     done
     timeout 5 sinfo -N
     return 1
 }
 
-# tasks_of NODE: the ids of the commands that run on a node of this Slurm, and of their step daemons.
-tasks_of() {
-    local environment id parent
-    for environment in /proc/[0-9]*/environ; do
-        id=${environment#/proc/} id=${id%/environ}
-        tr '\0' '\n' 2> /dev/null < "$environment" | grep -qx "SLURMD_NODENAME=$1" || continue
-        grep -qzx "SLURM_CONF=$run/slurm.conf" "$environment" 2> /dev/null || continue
-        echo "$id"
-        parent=$(awk '/^PPid/ {print $2}' "/proc/$id/status" 2> /dev/null)
-        case $(cat "/proc/$parent/comm" 2> /dev/null) in slurmstepd*) echo "$parent" ;; esac
-    done | sort -u
-}
-
-# kill_node NODE: as if the machine loses its power.
-kill_node() {
-    # shellcheck disable=SC2046 # several ids
-    kill -9 "$(cat "$run/slurmd.$1.pid")" $(tasks_of "$1") 2> /dev/null
-}
-
 stop_slurm() {
-    local file id
-    scancel -u "$(id -un)" 2> /dev/null && sleep 1
-    for file in "$run"/slurmd.*.pid "$run/slurmctld.pid" "$run/munge.pid"; do
-        [ -s "$file" ] && id=$(cat "$file") && kill "$id" 2> /dev/null || continue
-        # One that ended has no words, even if nobody waits for it.
-        for _ in $(seq 50); do
-            [ -n "$(tr -d '\0' 2> /dev/null < "/proc/$id/cmdline")" ] || break
-            sleep 0.1
-        done
+    local file
+    for file in "$run/slurmctld.pid" "$run/munge.pid"; do
+        [ ! -s "$file" ] || kill -9 "$(cat "$file")" 2> /dev/null
     done
 }

@@ -1,0 +1,189 @@
+# Builds with stand-ins for nvcc's tools, in which nodes vanish. Sourced by tests/cluster.sh.
+
+targets_of_two='-gencode=arch=compute_80,code=sm_80 -gencode=arch=compute_90,code=sm_90'
+
+# stand_in: the tools in a directory of their own, the sources and the objects as they should be, which this machine makes alone.
+stand_in() {
+    local tool number
+    tools=$scratch/tools
+    TOOL_LOG=$scratch/tool.log NVCC=$(command -v nvcc)
+    export TOOL_LOG NVCC
+    mkdir "$tools" "$scratch/stand_in"
+    cp "$here"/cluster/tools/* "$tools"
+    for tool in gcc g++ cicc cudafe++ ptxas fatbinary; do ln -s tool.py "$tools/$tool"; done
+    cd "$scratch/stand_in" || return
+    for number in $(seq 24); do echo "int a$number;" > "k$number.cu"; done
+    calls_of_two right 24 > list
+    PATH=$tools:$PATH zigrunk-batch list > out 2>&1
+    same 'status on this machine alone' "$?$(cat out)" 0
+    cd "$OLDPWD" || return
+}
+
+# calls_of_two SUFFIX COUNT
+calls_of_two() {
+    local number
+    for number in $(seq "$2"); do echo "nvcc $targets_of_two -c k$number.cu -o k$number.$1"; done
+}
+
+# begin SUFFIX NODES COUNT [NAME=VALUE..]: starts a build of so many sources in the background, with a job of so many nodes.
+begin() {
+    suffix=$1 count=$3
+    cd "$scratch/stand_in" || return
+    : > "$TOOL_LOG"
+    : > repeats
+    calls_of_two "$1" "$3" > list
+    PATH=$tools:$PATH TOOL_SECONDS=${TOOL_SECONDS:-0.2} salloc -Q --no-kill -p "p$2" -N"$2" -n"$2" \
+        env ZIGRUNK_RUNNER="$examples/slurm/step.sh" STEP_LOG="$PWD/repeats" ZIGRUNK_JOBS=$(($2 * 2)) "${@:4}" zigrunk-batch list > out 2> err &
+    job=$!
+}
+
+# moment COUNT PATTERN: waits until so many lines of the tools' log match.
+moment() {
+    until [ "$(grep -c -e "$2" "$TOOL_LOG")" -ge "$1" ]; do
+        kill -0 "$job" 2> /dev/null || return
+        sleep 0.05
+    done
+}
+
+# wrong: a line for each object that isn't the one that this machine made.
+wrong() {
+    local number
+    for number in $(seq "$count"); do cmp "k$number.right" "k$number.$suffix"; done 2>&1
+}
+
+# finish WHAT [PATTERN]: the build ends with 0 and all objects, and says no more than lines that match.
+finish() {
+    wait "$job"
+    same "status $1" $? 0
+    same "objects $1" "$(wrong)" ''
+    same "messages $1" "$(grep -v -e '^salloc: error: Node failure' ${2:+-e "$2"} out err)" ''
+    same "calls that nvcc made $1" "$(grep -c ^whole "$TOOL_LOG")" 0
+    echo "$1: steps repeated: $(wc -l < repeats)"
+    cd "$OLDPWD" || return
+}
+
+# back NUMBER..: these nodes are on again.
+back() {
+    local number
+    for number; do start_node "$number"; done
+    wait_idle
+}
+
+# vanishes NAME PATTERN: a node vanishes in a command of this kind.
+vanishes() {
+    begin "$1" 3 6
+    moment 1 "^start n2 $2"
+    power_off 2
+    finish "with a node that vanished in $1"
+    same "a step that was repeated, $1" "$([ -s "$scratch/stand_in/repeats" ] && echo yes)" yes
+    back 2
+}
+
+in_preprocessor() { vanishes preprocessor 'gcc .*\.ii$'; }
+in_cicc() { vanishes cicc cicc; }
+in_ptxas() { vanishes ptxas ptxas; }
+
+# Objects of an earlier build are there, older than their sources.
+in_last_compile() {
+    local number
+    for number in $(seq 6); do echo old > "$scratch/stand_in/k$number.last_compile"; done
+    vanishes last_compile 'gcc .*\.last_compile$'
+}
+
+two_nodes() {
+    begin two 3 6
+    moment 1 '^start n2 cicc'
+    power_off 2
+    moment 12 '^start n3'
+    sleep 3
+    power_off 3
+    finish 'with two nodes that vanished'
+    back 2 3
+}
+
+frozen() {
+    local ids
+    begin frozen 3 6
+    moment 1 '^start n2 cicc'
+    ids=$(processes_of 2)
+    # shellcheck disable=SC2086 # several ids
+    kill -STOP $ids
+    sleep $((2 * ${SLURMD_TIMEOUT:-8} + 5))
+    # shellcheck disable=SC2086 # several ids
+    kill -CONT $ids 2> /dev/null
+    finish 'with a node that stood still'
+    wait_idle
+}
+
+# One that is killed instead may take steps that ended for running ones, and their nodes idle until the job ends.
+controller() {
+    local id
+    begin controller 3 6
+    moment 10 '^start'
+    id=$(cat "$run/slurmctld.pid")
+    kill "$id"
+    while kill -0 "$id" 2> /dev/null; do sleep 0.1; done
+    sleep 5
+    start_controller
+    finish 'with a controller that started again'
+    wait_idle
+}
+
+# prepared COMMAND NAME PATTERN [NAME=VALUE..]: a build with a node on which this ran first.
+prepared() {
+    end_processes 2
+    PREPARE=$1 start_node 2
+    wait_idle
+    begin "$2" 3 6 "${@:4}"
+    finish "with a node with $2" "$3"
+    same "$2: the node's commands" "$(grep -c '^end n2' "$TOOL_LOG")" 0
+    same "$2: messages that name the node" "$(grep -c "left out: n2, .*" "$scratch/stand_in/err" | sed 's/^[1-9][0-9]*$/some/')" some
+    end_processes 2
+    start_node 2
+    wait_idle
+}
+
+no_toolkit() {
+    prepared "mount -t tmpfs none '$tools'" 'no_toolkit' 'step.sh: left out: n2, '
+}
+
+other_toolkit() {
+    cp "$tools/tool.py" "$scratch/other.py" && echo '# of another version' >> "$scratch/other.py"
+    prepared "mount --bind '$scratch/other.py' '$tools/tool.py'" 'other_toolkit' 'step.sh: left out: n2, '
+}
+
+full_disk() {
+    mkdir "$scratch/disk"
+    prepared "mount -t tmpfs -o size=4k none '$scratch/disk' && head -c 8192 /dev/zero 2> /dev/null > '$scratch/disk/full' || :" \
+        'full_disk' 'step.sh: left out: n2, ' TOOL_DISK="$scratch/disk"
+}
+
+# tries_run_out: no node can run the command. The messages name the nodes.
+tries_run_out() {
+    cd "$scratch/stand_in" || return
+    salloc -Q --no-kill -p p2 -N2 -n2 "$examples/slurm/step.sh" "$scratch/nothing" > out 2> err
+    same 'status if no node can' "$?" 127
+    same 'nodes that could not' "$(sed -n 's/^step.sh: nothing failed on//p' err | tr ' ' '\n' | sort | tr '\n' ' ')" ' n1 n2 '
+    cd "$OLDPWD" || return
+}
+
+# Deaths at moments drawn from SEED: in each of three builds ten of twelve nodes vanish one after the other, with old objects there before.
+drawn_by_lot() {
+    local turn left number
+    RANDOM=${SEED:-1}
+    for turn in 1 2 3; do
+        for number in $(seq 24); do echo old > "$scratch/stand_in/k$number.lot"; done
+        read -ra left <<< "$(seq -s ' ' "$nodes")"
+        begin lot "$nodes" 24
+        moment 1 ^start
+        while [ "${#left[@]}" -gt 2 ]; do
+            sleep "$((RANDOM % 2)).$((RANDOM % 10))"
+            number=$((RANDOM % ${#left[@]}))
+            power_off "${left[number]}"
+            left=("${left[@]:0:number}" "${left[@]:number+1}")
+        done
+        finish "of build $turn with ten deaths drawn by lot"
+        for number in $(seq "$nodes"); do [[ " ${left[*]} " = *" $number "* ]] || start_node "$number"; done
+        wait_idle
+    done
+}
