@@ -232,7 +232,7 @@ lost() {
 }
 
 products() {
-    for list in 'nvcc -c a.cu -o p' 'nvcc -c whole.cu -o p' 'gcc -c a.c -o p' 'zigrunk-nvcc -c a.cu --output-file=p' '-c a.cu -Xcompiler -o --output-file p' 'nvcc -c a.cu -o no -o=p' 'sh -c "gcc -o p"'; do
+    for list in 'nvcc -c a.cu -o p' 'nvcc -c whole.cu -o p' 'gcc -c a.c -o p' 'zigrunk-nvcc -c a.cu --output-file=p' '-c a.cu -Xcompiler -o --output-file p' 'nvcc -c a.cu -o no -o=p' 'nvcc -c a.cu -o no -o p' 'sh -c "gcc -o p"'; do
         begin "a product that nobody makes: $list"
         write a.cu ':' ':'
         write whole.cu ':'
@@ -276,6 +276,14 @@ products() {
         same 'status and messages' "$status$(cat "$room/err")" 0
         end
     done
+
+    begin 'an old product that the call removes'
+    write a.cu 'rm p'
+    echo old > p
+    list='-c a.cu -o p'
+    batch LOSE=1
+    lost 'it is gone' p
+    end
 
     begin 'a product in another directory, by a link'
     mkdir "$room/far" && ln -s "$room/far" near
