@@ -1,19 +1,20 @@
 #!/usr/bin/env python3
-"""Runs each command of five nvcc calls where only the files of its record are, and compares what it makes.
+"""Runs each command of five nvcc calls where only the files are that its record and its needs name, and compares what it makes.
 
-The JSON of `zigrunk json` names the files that each command reads and writes. A command runs here below a root folder of its own,
-in a mount namespace. That root has the system, the CUDA toolkit, and of the call's files only those that the command reads by its
-record. It may make only files that the record names, and they have to be, byte for byte, those of the ordinary run, where all
-commands work in the call's own folders.
+The JSON of `zigrunk json` names the files that each command reads and writes, and the commands that it needs. A command runs here
+below a root folder of its own, in a mount namespace. That root has the system, the CUDA toolkit, and of the call's files only these:
 
-Where a record isn't complete, the command gets exactly what it is known to lack:
+- those that the command reads by its record;
+- if the record isn't complete and the command is final, all that the commands write which it needs, directly or not;
+- if the record isn't complete and the command is a preprocess step (`-E`), the headers beside its source. No command writes these. One
+  takes the place of the toolkit's cuda_runtime.h; those of system and toolkit are there anyway.
 
-- A preprocess step also reads headers. It gets those beside its source, one of which takes the place of the toolkit's
-  cuda_runtime.h; those of system and toolkit are there anyway.
-- The last host compiler reads what its generated source includes. It gets the stub that cudafe++ names and the fatbin as C.
+Any other command with an incomplete record is a finding. A command may make only files that the record names, and they have to be, byte
+for byte, those of the ordinary run, where all commands work in the call's own folders.
 
-With --leave-out, each command also runs without one of its files, once for each file. Then it has to fail or make something else:
-so a record that lacked a file would be noticed, and no record names a file in vain.
+With --leave-out, each command also runs without one of its files, once for each file that its record names and each header. Then it has
+to fail or make something else: so a record that lacked a file would be noticed, and no record names a file in vain. Commands that
+get files by their needs also run without all of these at once.
 
 Prints a line for each finding, and last 'N passed, M failed'; the status is 1 if one failed. Without nvcc or mount namespaces it is
 skipped.
@@ -60,26 +61,39 @@ exec chroot "$root" env -C "$folder" "$@"
 Json = dict[str, Any]
 # The contents of files, by their paths.
 Files = dict[str, bytes]
+# A command, its files, and some of these.
+Inputs = tuple[Json, Files, list[str]]
 Result = TypeVar("Result")
 
 
-def with_value(args: list[str], option: str) -> list[str]:
-    """Returns the values of an option, as the next word or behind `=`."""
-    values = [args[place + 1] for place, word in enumerate(args[:-1]) if word == option]
-    return values + [word[len(option) + 1:] for word in args if word.startswith(f"{option}=")]
+def needed(command: Json, plan: Json) -> list[Json]:
+    """Returns the commands that a command needs, directly or not, in plan order."""
+    found = set(command["needs"])
+    for other in reversed(plan["commands"][: command["id"]]):
+        if other["id"] in found:
+            found.update(other["needs"])
+    return [plan["commands"][number] for number in sorted(found)]
 
 
-def lacking(command: Json, plan: Json, work: str) -> list[str]:
-    """Returns the files that an incomplete record is known to lack."""
-    if command["complete"]:
+def headers(command: Json, work: str) -> list[str]:
+    """Returns the headers that a preprocess step gets: its record doesn't name them."""
+    steps = not command["complete"] and "-E" in command["args"]
+    return [f"{work}/{name}" for name in SOURCES if name.endswith(".h")] if steps else []
+
+
+def by_needs(command: Json, plan: Json) -> list[str]:
+    """Returns the files that a final command with an incomplete record gets: what the commands write that it needs."""
+    if command["complete"] or "-E" in command["args"]:
         return []
-    if "-E" in command["args"]:
-        return [f"{work}/{name}" for name in SOURCES if name.endswith(".h")]
-    found: list[str] = []
-    for other in plan["commands"]:
-        option = {"cudafe++": "--stub_file_name", "fatbinary": "--embedded-fatbin"}.get(os.path.basename(other["exe"]))
-        found += [os.path.join(other["cwd"], name) for name in with_value(other["args"], option or "-")]
-    return found
+    named = {*command["reads"]}
+    return [path for other in needed(command, plan) for path in other["writes"] + other["may_write"] if path not in named]
+
+
+def unbound(plan: Json) -> list[str]:
+    """Says which commands are neither final nor recorded: no order is promised for their plan."""
+    last = plan["groups"] - 1
+    odd = [one for one in plan["commands"] if not one["complete"] and "-E" not in one["args"] and one["group"] != last]
+    return [f"{label(one)} isn't final, and its record isn't complete" for one in odd]
 
 
 def plan_of(zigrunk: str, words: str, base: str) -> tuple[Json | None, str]:
@@ -182,15 +196,17 @@ def normal(plan: Json) -> None:
             command[field] = [os.path.normpath(path) for path in command[field]]
 
 
-def without_one(inputs: list[tuple[Json, Files]], base: str, wanted: Files) -> tuple[int, list[str]]:
-    """Runs each command without one of its files, for each file. Returns how many runs there were, and what changes nothing."""
-    cases = [(command, files, path) for command, files in inputs for path in files]
+def without_some(inputs: list[Inputs], base: str, wanted: Files) -> tuple[int, list[str]]:
+    """Runs each command without one of the files that its record names, for each, and without those that it gets by its needs.
+    Returns how many runs there were, and what changes nothing."""
+    cases = [(command, files, [path]) for command, files, more in inputs for path in files if path not in more]
+    cases += [(command, files, more) for command, files, more in inputs if more]
 
-    def run(case: tuple[Json, Files, str]) -> list[str]:
+    def run(case: Inputs) -> list[str]:
         command, files, left_out = case
-        ran = isolated(command, base, {path: content for path, content in files.items() if path != left_out})
+        ran = isolated(command, base, {path: content for path, content in files.items() if path not in left_out})
         same = not differences(command, ran, wanted)
-        return [f"{label(command)} makes the same without {left_out}"] if same else []
+        return [f"{label(command)} makes the same without {' '.join(left_out)}"] if same else []
 
     with concurrent.futures.ThreadPoolExecutor(os.cpu_count()) as pool:
         return len(cases), [one for found in pool.map(run, cases) for one in found]
@@ -200,15 +216,17 @@ def label(command: Json) -> str:
     return f"command {command['id']} ({os.path.basename(command['exe'])})"
 
 
-def each_alone(plan: Json, base: str, store: Files, wanted: Files) -> tuple[list[str], list[tuple[Json, Files]]]:
-    """Runs each command alone, and puts what it makes into the store. Returns the findings, and each command's files."""
-    inputs: list[tuple[Json, Files]] = []
+def each_alone(plan: Json, base: str, store: Files, wanted: Files) -> tuple[list[str], list[Inputs]]:
+    """Runs each command alone, and puts what it makes into the store. Returns the findings, and each command's files: all of them, and
+    those that it gets by its needs."""
+    inputs: list[Inputs] = []
 
     def run(command: Json) -> list[str]:
-        paths = [*command["reads"], *lacking(command, plan, f"{base}/work")]
-        files = {path: store[path] for path in paths if path in store}
+        paths = [*command["reads"], *headers(command, f"{base}/work")]
+        more = [path for path in by_needs(command, plan) if path in store]
+        files = {path: store[path] for path in (*paths, *more) if path in store}
         ran = isolated(command, base, files)
-        inputs.append((command, files))
+        inputs.append((command, files, more))
         store.update(ran[2])
         found = [f"is to read {path}, which nobody made" for path in paths if path not in files]
         return [f"{label(command)}: {one}" for one in found + differences(command, ran, wanted)]
@@ -227,6 +245,8 @@ def check(words: str, zigrunk: str, leave_out: bool, base: str) -> tuple[list[st
     if plan is None:
         return [why], 0
     normal(plan)
+    if odd := unbound(plan):
+        return odd, 0
     store = files_below("", base)
     ordinary = in_threads(plan, lambda command: started([command["exe"], *command["args"]], command, base, command["cwd"]))
     wanted = files_below("", base)
@@ -236,7 +256,7 @@ def check(words: str, zigrunk: str, leave_out: bool, base: str) -> tuple[list[st
     found += [f"{path}: only the ordinary run makes it" for path in wanted if path not in store]
     if found or not leave_out:
         return found, 0
-    runs, found = without_one(inputs, base, wanted)
+    runs, found = without_some(inputs, base, wanted)
     return found, runs
 
 
@@ -267,7 +287,7 @@ def main() -> int:
                 found, runs = check(words, os.path.realpath(args.zigrunk), args.leave_out, os.path.realpath(base))
             counts.case(f"nvcc {words}", found)
             if args.leave_out and not found:
-                print(f"nvcc {words}: each of {runs} files is needed")
+                print(f"nvcc {words}: each of {runs} runs without files differs")
     return counts.summary()
 
 
