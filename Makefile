@@ -3,7 +3,7 @@ PREFIX ?= /usr/local
 DESTDIR ?=
 target = $(DESTDIR)$(PREFIX)
 
-.PHONY: help demo build lib check install install-programs install-library uninstall dist bench drivers fuzz fuzz-library must-fail refused-memory end-to-end odd-calls cache cluster mutants test-install dist-test check-docs lint test
+.PHONY: help demo build lib check install install-programs install-library uninstall dist bench drivers fuzz-library must-fail refused-memory end-to-end odd-calls cache cluster mutants test-install dist-test check-docs lint test
 
 help:
 	@echo 'make demo             run cudaplan, unproved, on two calls; a minute from a fresh clone'
@@ -16,7 +16,6 @@ help:
 	@echo 'make test             the whole gate; the last line is N passed, M failed; BODIES=all tries all wrong bodies'
 	@echo 'make drivers          compile the test drivers, unproved, and run their cases, or those of NAMES="test_lines"'
 	@echo 'make must-fail        check that the prover rejects the wrong bodies of all crates, or of CRATES="texts dry_runs"'
-	@echo 'make fuzz             run the library on 10,000 random cases of each kind; SEED=1 COUNT=10000 FIRST=0'
 	@echo 'make fuzz-library     fuzz libzigrunk for an hour, guided by coverage; needs clang with libFuzzer; FUZZ_SECONDS=3600'
 	@echo 'make refused-memory   run the test cases again and again, each time with another allocation failing'
 	@echo 'make end-to-end       compare zigrunk-nvcc with nvcc; needs nvcc and ninja on the path'
@@ -100,13 +99,6 @@ uninstall:
 
 bench:
 	cd crates/cudabench && rt run -- line 100000 cicc /w --device-c -arch compute_80 --module_id_file_name kernel.module_id kernel.cpp1.ii --simt-only -o kernel.ptx
-
-# Random cases from a seed. Each failure is printed with its seed and number: FIRST=number COUNT=1 makes it again.
-SEED ?= 1
-COUNT ?= 10000
-FIRST ?= 0
-fuzz:
-	cd crates/test_fuzz && rt run -- $(SEED) $(COUNT) $(FIRST)
 
 # libzigrunk by libFuzzer, with code that counts its branches. It keeps inputs and figures in out/fuzz.
 FUZZ_SECONDS ?= 3600

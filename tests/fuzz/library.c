@@ -6,6 +6,7 @@
  *
  * The library gets its memory from here, so a case can't take more than BUDGET bytes: the allocation fails, and the call has
  * to answer ZIGRUNK_OUT_OF_MEMORY. After each call, all that it allocated has to be free. */
+#define _GNU_SOURCE
 #include "zigrunk.h"
 
 #include <stdio.h>
@@ -17,7 +18,7 @@
 #define SLOW 2.0 /* seconds */
 
 static struct {
-    unsigned long inputs, calls, too_large, injected, slow, statuses[10];
+    unsigned long inputs, calls, too_large, injected, slow, statuses[12];
     double longest;
     size_t most_memory;
 } told;
@@ -140,7 +141,7 @@ static void begin(unsigned long failing) {
 static double end(int32_t status) {
     double took = now() - started;
     holds(in_use == 0, "all memory is free after a call");
-    holds(status >= 0 && status <= 9, "a known status");
+    holds(status >= 0 && status <= ZIGRUNK_OVER_LIMIT, "a known status");
     told.calls++;
     told.statuses[status]++;
     told.longest = took > told.longest ? took : told.longest;
@@ -202,7 +203,7 @@ static answer ask(asker *asks, void *what, unsigned long failing) {
     }
     it.ranges = (zigrunk_range *)room(it.count * sizeof *it.ranges);
     it.out = room(it.length);
-    if (it.length > 0 && it.length < 4000 && told.calls % 4 == 0) {
+    if (it.length > 0 && it.length < 4000 && told.calls / 2 % 4 == 0) {
         uint8_t *small = room(it.length - 1);
         begin(0);
         zigrunk_list_answer again = asks(what, it.ranges, it.count, small, it.length - 1);
@@ -238,6 +239,20 @@ static int same(zigrunk_text a, zigrunk_text b) {
     return a.length == b.length && memcmp(a.bytes, b.bytes, a.length) == 0;
 }
 
+static int is(zigrunk_text a, const char *b) {
+    return same(a, (zigrunk_text){(const uint8_t *)b, strlen(b)});
+}
+
+static int ends_with(zigrunk_text a, zigrunk_text end) {
+    return a.length >= end.length && memcmp(a.bytes + a.length - end.length, end.bytes, end.length) == 0;
+}
+
+/* Whether two answers that were written are the same. */
+static int is_same(const answer *a, const answer *b) {
+    return a->status == b->status && a->count == b->count && a->length == b->length && memcmp(a->out, b->out, a->length) == 0 &&
+        memcmp(a->ranges, b->ranges, a->count * sizeof *a->ranges) == 0;
+}
+
 static zigrunk_list_answer of_text(zigrunk_text_answer it) {
     return (zigrunk_list_answer){it.status, 0, it.length};
 }
@@ -262,6 +277,34 @@ static zigrunk_list_answer asks_lookups(void *what, zigrunk_range *ranges, size_
     zigrunk_plan_call *it = what;
     return zigrunk_lookups(it->dry1.bytes, it->dry1.length, it->dry2.bytes, it->dry2.length, it->cwd.bytes, it->cwd.length, ranges,
         ranges_size, out, out_size);
+}
+
+static zigrunk_list_answer asks_lookups_within(void *what, zigrunk_range *ranges, size_t ranges_size, uint8_t *out, size_t out_size) {
+    zigrunk_plan_call *it = what;
+    return zigrunk_lookups_within(it->dry1.bytes, it->dry1.length, it->dry2.bytes, it->dry2.length, it->cwd.bytes, it->cwd.length, it->limit,
+        ranges, ranges_size, out, out_size);
+}
+
+static zigrunk_list_answer asks_line(void *what, zigrunk_range *ranges, size_t ranges_size, uint8_t *out, size_t out_size) {
+    (void)ranges, (void)ranges_size;
+    return of_text(zigrunk_line(what, out, out_size));
+}
+
+static zigrunk_list_answer asks_line_words(void *what, zigrunk_range *ranges, size_t ranges_size, uint8_t *out, size_t out_size) {
+    return zigrunk_line_words(what, ranges, ranges_size, out, out_size);
+}
+
+static zigrunk_list_answer asks_nvcc_line(void *what, zigrunk_range *ranges, size_t ranges_size, uint8_t *out, size_t out_size) {
+    return zigrunk_nvcc_line(what, ranges, ranges_size, out, out_size);
+}
+
+typedef struct named {
+    texts words, suffixes;
+} named;
+
+static zigrunk_list_answer asks_remap(void *what, zigrunk_range *ranges, size_t ranges_size, uint8_t *out, size_t out_size) {
+    named *it = what;
+    return zigrunk_remap(it->words.at, it->words.count, it->suffixes.at, it->suffixes.count, ranges, ranges_size, out, out_size);
 }
 
 static zigrunk_list_answer asks_candidates(void *what, zigrunk_range *ranges, size_t ranges_size, uint8_t *out, size_t out_size) {
@@ -377,36 +420,364 @@ static zigrunk_text part(const list *it, size_t i, const char *otherwise) {
     return i < it->count ? it->at[i] : (zigrunk_text){(const uint8_t *)otherwise, strlen(otherwise)};
 }
 
-/* Splits a text into words, quotes them and splits again. */
-static void try_words(zigrunk_text text) {
-    answer words = ask(asks_split, &text, 0);
-    if (words.status == ZIGRUNK_OK && words.out && words.count < 5000) {
-        zigrunk_text *at = calloc(words.count + 1, sizeof *at);
-        for (size_t i = 0; i < words.count; i++) {
-            at[i] = text_at(&words, i);
-        }
-        texts all = {at, words.count};
-        answer quoted = ask(asks_quote, &all, 0);
-        if (quoted.out) {
-            holds(quoted.status == ZIGRUNK_OK, "words can be quoted");
-            zigrunk_text line = {quoted.out, quoted.length};
-            answer again = ask(asks_split, &line, 0);
-            if (again.out) {
-                holds(again.status == ZIGRUNK_OK && again.count == words.count, "quoted words are as many words");
-                for (size_t i = 0; i < words.count; i++) {
-                    holds(same(text_at(&again, i), at[i]), "quoted words split into themselves");
-                }
+/* The texts of a list. The array is the caller's. */
+static zigrunk_text *texts_in(const answer *it) {
+    zigrunk_text *at = calloc(it->count + 1, sizeof *at);
+    for (size_t i = 0; i < it->count; i++) {
+        at[i] = text_at(it, i);
+    }
+    return at;
+}
+
+/* Quotes words and splits them again. */
+static void try_words(texts *words) {
+    answer quoted = ask(asks_quote, words, 0);
+    if (quoted.out) {
+        holds(quoted.status == ZIGRUNK_OK, "words can be quoted");
+        zigrunk_text line = {quoted.out, quoted.length};
+        answer again = ask(asks_split, &line, 0);
+        if (again.out) {
+            holds(again.status == ZIGRUNK_OK && again.count == words->count, "quoted words are as many words");
+            for (size_t i = 0; i < words->count; i++) {
+                holds(same(text_at(&again, i), words->at[i]), "quoted words split into themselves");
             }
-            release(again);
         }
-        release(quoted);
+        release(again);
+    }
+    release(quoted);
+}
+
+/* Generated names. A name is generated if it ends in a suffix and doesn't begin with `-`, behind all `-Fi` before it. */
+
+static size_t head_of(zigrunk_text word) {
+    size_t at = 0;
+    while (word.length - at >= 3 && memcmp(word.bytes + at, "-Fi", 3) == 0) {
+        at += 3;
+    }
+    return at;
+}
+
+static zigrunk_text core_of(zigrunk_text word) {
+    size_t head = head_of(word);
+    return (zigrunk_text){word.bytes + head, word.length - head};
+}
+
+/* How long the suffix of a generated name is; 0 if the word isn't generated. */
+static size_t suffix_of(zigrunk_text word, texts suffixes) {
+    static const char *const standard[] = {".cpp1.ii", ".cpp4.ii", ".cudafe1.c", ".cudafe1.cpp", ".cudafe1.stub.c"};
+    zigrunk_text core = core_of(word);
+    if (core.length && core.bytes[0] == '-') {
+        return 0;
+    }
+    for (size_t i = 0; i < sizeof standard / sizeof *standard; i++) {
+        if (ends_with(core, (zigrunk_text){(const uint8_t *)standard[i], strlen(standard[i])})) {
+            return strlen(standard[i]);
+        }
+    }
+    for (size_t i = 0; i < suffixes.count; i++) {
+        if (ends_with(core, suffixes.at[i])) {
+            return suffixes.at[i].length;
+        }
+    }
+    return 0;
+}
+
+/* Whether no word but a generated one has a generated name in it. */
+static int are_clean(const named *it) {
+    for (size_t i = 0; i < it->words.count; i++) {
+        zigrunk_text word = it->words.at[i];
+        for (size_t j = 0; j < it->words.count && !suffix_of(word, it->suffixes); j++) {
+            zigrunk_text name = core_of(it->words.at[j]);
+            if (suffix_of(it->words.at[j], it->suffixes) && memmem(word.bytes, word.length, name.bytes, name.length)) {
+                return 0;
+            }
+        }
+    }
+    return 1;
+}
+
+/* The same word with another name: that has the number of the first word with this one, and keeps its folder and suffix. */
+static zigrunk_text renamed(const named *it, size_t i) {
+    zigrunk_text word = it->words.at[i], core = core_of(word);
+    size_t suffix = suffix_of(word, it->suffixes), folder = core.length, first = 0;
+    while (folder && core.bytes[folder - 1] != '/') {
+        folder--;
+    }
+    while (!suffix_of(it->words.at[first], it->suffixes) || !same(core_of(it->words.at[first]), core)) {
+        first++;
+    }
+    size_t kept = head_of(word) + folder;
+    uint8_t *other = room(kept + 32 + suffix);
+    memcpy(other, word.bytes, kept);
+    size_t length = kept + (size_t)sprintf((char *)other + kept, "n%zu", first);
+    memcpy(other + length, word.bytes + word.length - suffix, suffix);
+    return (zigrunk_text){other, length + suffix};
+}
+
+/* Renames the names of a clean run twice, and other names in their place. */
+static void try_names(named *it) {
+    if (it->words.count > 200 || !are_clean(it)) {
+        return;
+    }
+    answer once = ask(asks_remap, it, 0);
+    if (once.out && once.status == ZIGRUNK_OK) {
+        holds(once.count == it->words.count, "as many words as before");
+        named canonical = {{texts_in(&once), once.count}, it->suffixes}, other = *it;
+        zigrunk_text *words = calloc(it->words.count + 1, sizeof *words);
+        for (size_t i = 0; i < it->words.count; i++) {
+            words[i] = suffix_of(it->words.at[i], it->suffixes) ? renamed(it, i) : it->words.at[i];
+        }
+        other.words.at = words;
+        answer twice = ask(asks_remap, &canonical, 0), others = ask(asks_remap, &other, 0);
+        holds(!twice.out || is_same(&twice, &once), "canonical names of canonical names are the same");
+        holds(!others.out || !are_clean(&other) || is_same(&others, &once), "other generated names have the same canonical names");
+        for (size_t i = 0; i < it->words.count; i++) {
+            if (words[i].bytes != it->words.at[i].bytes) {
+                free((void *)words[i].bytes);
+            }
+        }
+        release(twice);
+        release(others);
+        free(words);
+        free((void *)canonical.words.at);
+    }
+    release(once);
+}
+
+/* Whether a device line that was written back has to be read as the same arguments. */
+static int rereads(const zigrunk_line_call *it) {
+    const char *suffix = it->tool == ZIGRUNK_TOOL_CICC ? ".cpp1.ii" : ".ptx";
+    size_t inputs = 0;
+    for (size_t i = 0; i < it->words_count; i++) {
+        zigrunk_text word = it->words[i];
+        inputs += (size_t)ends_with(word, (zigrunk_text){(const uint8_t *)suffix, strlen(suffix)});
+        if (it->tool == ZIGRUNK_TOOL_PTXAS && (word.length == 0 || is(word, "-arch=") || is(word, "-m="))) {
+            return 0;
+        }
+    }
+    return it->cwd.length && it->cwd.bytes[0] == '/' && (it->tool == ZIGRUNK_TOOL_CUDAFE || (it->tool < ZIGRUNK_TOOL_CUDAFE && inputs <= 1));
+}
+
+/* Reads a line, writes it back and reads that. */
+static void try_line(zigrunk_line_call *it) {
+    answer said = ask(asks_line, it, 0), words = ask(asks_line_words, it, 0);
+    if (said.out && said.status == ZIGRUNK_OK) {
+        holds(is_json(said.out, said.length), "a line as JSON is a JSON object");
+        holds(!words.out || words.status == ZIGRUNK_OK || words.status == ZIGRUNK_BAD_LINE, "a line that says something is written, or lacks an output");
+    }
+    if (said.out && words.out && words.status == ZIGRUNK_OK && rereads(it)) {
+        zigrunk_text *at = texts_in(&words);
+        zigrunk_line_call written = *it;
+        written.words = at;
+        written.words_count = words.count;
+        answer said_again = ask(asks_line, &written, 0), words_again = ask(asks_line_words, &written, 0);
+        holds(!said_again.out || is_same(&said_again, &said), "a line that was written back says the same");
+        holds(!words_again.out || is_same(&words_again, &words), "a line that was written back is written so again");
+        release(said_again);
+        release(words_again);
         free(at);
     }
+    release(said);
     release(words);
 }
 
-/* Plans the call, with a table of what it looks up. If `misses`, some programs are missing there. */
-static void try_plan(planned *it, int misses, unsigned long failing) {
+/* Splits a line of nvcc: the second dry run is the first with another folder. */
+static void try_nvcc(zigrunk_nvcc_call *it) {
+    answer split = ask(asks_nvcc_line, it, 0);
+    if (split.out && split.status == ZIGRUNK_OK) {
+        holds(split.count == 6, "a split line is six texts");
+        zigrunk_text runs[2] = {text_at(&split, 1), text_at(&split, 2)};
+        answer first = ask(asks_split, &runs[0], 0), second = ask(asks_split, &runs[1], 0);
+        if (first.out && second.out) {
+            size_t count = first.count;
+            holds(first.status == ZIGRUNK_OK && second.status == ZIGRUNK_OK && count > 3 && second.count == count + 2, "both dry runs are words");
+            holds(is(text_at(&first, count - 3), "--dryrun") && is(text_at(&first, count - 2), "--keep"), "a dry run is asked for");
+            holds(is(text_at(&second, count - 3), "--keep-dir") && same(text_at(&second, count - 2), it->tmp), "the second keeps its files elsewhere");
+            for (size_t i = 0; i < count; i++) {
+                holds(same(text_at(&first, i), text_at(&second, i < count - 3 ? i : i + 2)), "both dry runs have the same words");
+            }
+        }
+        release(first);
+        release(second);
+    }
+    release(split);
+}
+
+/* Tries the words of a text: as words, as a run, and as the line of a tool. */
+static void try_text(zigrunk_text text, const zigrunk_plan_call *call, uint32_t tool) {
+    answer split = ask(asks_split, &text, 0);
+    if (split.status == ZIGRUNK_OK && split.out && split.count < 5000) {
+        zigrunk_text *at = texts_in(&split);
+        texts words = {at, split.count};
+        try_words(&words);
+        named names = {words, {call->suffixes, call->suffixes_count}};
+        try_names(&names);
+        zigrunk_line_call line = {call->cwd, at, split.count, call->variables, call->variables_count, tool % 6, 0};
+        try_line(&line);
+        zigrunk_nvcc_call nvcc = {call->cwd, call->tmp, {(const uint8_t *)"nvcc", 4}, at, split.count, call->variables, call->variables_count, 0};
+        try_nvcc(&nvcc);
+        free(at);
+    }
+    release(split);
+}
+
+/* A plan as records. */
+typedef struct records {
+    zigrunk_records_answer sizes;
+    zigrunk_group *groups;
+    zigrunk_command *commands;
+    answer texts;
+} records;
+
+static records ask_records(const zigrunk_plan_call *call) {
+    zigrunk_group no_group;
+    zigrunk_command no_command;
+    zigrunk_range no_range;
+    uint8_t no_byte;
+    begin(0);
+    records it = {.sizes = zigrunk_plan_records(call, &no_group, 0, &no_command, 0, &no_range, 0, &no_byte, 0)};
+    end(it.sizes.status);
+    it.groups = (zigrunk_group *)room(it.sizes.groups * sizeof *it.groups);
+    it.commands = (zigrunk_command *)room(it.sizes.commands * sizeof *it.commands);
+    it.texts = (answer){it.sizes.status, it.sizes.ranges, it.sizes.length, NULL, NULL};
+    it.texts.ranges = (zigrunk_range *)room(it.sizes.ranges * sizeof *it.texts.ranges);
+    it.texts.out = room(it.sizes.length);
+    begin(0);
+    zigrunk_records_answer again = zigrunk_plan_records(call, it.groups, it.sizes.groups, it.commands, it.sizes.commands, it.texts.ranges,
+        it.sizes.ranges, it.texts.out, it.sizes.length);
+    end(again.status);
+    holds(again.status == it.sizes.status && again.groups == it.sizes.groups && again.commands == it.sizes.commands &&
+        again.ranges == it.sizes.ranges && again.length == it.sizes.length, "the same sizes of records");
+    return it;
+}
+
+static void release_records(records *it) {
+    free(it->groups);
+    free(it->commands);
+    release(it->texts);
+}
+
+/* The groups have the first commands, each once; the others are dropped. Returns how many commands are in groups. */
+static size_t count_grouped(const records *it) {
+    size_t next = 0;
+    for (size_t i = 0; i < it->sizes.groups; i++) {
+        holds(it->groups[i].commands.offset == next, "groups are one behind the other");
+        for (size_t j = 0; j < it->groups[i].commands.length; j++, next++) {
+            holds(next < it->sizes.commands && it->commands[next].group == i && it->commands[next].reason == ZIGRUNK_IN_GROUP, "a command of a group says so");
+        }
+    }
+    for (size_t i = next; i < it->sizes.commands; i++) {
+        holds(it->commands[i].group == it->sizes.groups && it->commands[i].reason != ZIGRUNK_IN_GROUP, "any other command is dropped");
+    }
+    return next;
+}
+
+/* Whether the next of the words is a text. */
+static int next_is(const answer *words, size_t *at, zigrunk_text text) {
+    return *at < words->count && same(text_at(words, (*at)++), text);
+}
+
+static int next_word(const answer *words, size_t *at, const char *text) {
+    return next_is(words, at, (zigrunk_text){(const uint8_t *)text, strlen(text)});
+}
+
+/* Whether the next words are NAME=VALUE for each variable of a command. */
+static int next_variables(const answer *words, size_t *at, const records *it, zigrunk_range variables) {
+    for (size_t i = 0; i < variables.length; i += 2, (*at)++) {
+        zigrunk_text name = text_at(&it->texts, variables.offset + i), value = text_at(&it->texts, variables.offset + i + 1);
+        zigrunk_text word = *at < words->count ? text_at(words, *at) : (zigrunk_text){(const uint8_t *)"", 0};
+        if (word.length != name.length + 1 + value.length || memcmp(word.bytes, name.bytes, name.length) != 0 || word.bytes[name.length] != '=' ||
+            !ends_with(word, value)) {
+            return 0;
+        }
+    }
+    return 1;
+}
+
+/* Whether the next words run a command. */
+static int next_command(const answer *words, size_t *at, const records *it, const zigrunk_command *command) {
+    int fact = next_word(words, at, "(") && next_word(words, at, "cd") && next_is(words, at, text_at(&it->texts, command->cwd)) &&
+        next_word(words, at, "&&") && next_word(words, at, "env") && next_variables(words, at, it, command->variables) &&
+        next_is(words, at, text_at(&it->texts, command->program));
+    for (size_t i = 0; fact && i < command->arguments.length; i++) {
+        fact = next_is(words, at, text_at(&it->texts, command->arguments.offset + i));
+    }
+    return fact && next_word(words, at, ")");
+}
+
+/* A script has the words of its plan's commands. */
+static void check_script(const records *it, size_t grouped, zigrunk_text script) {
+    answer words = ask(asks_split, &script, 0);
+    size_t at = 0;
+    int fact = !words.out || (words.status == ZIGRUNK_OK && next_word(&words, &at, "set") && next_word(&words, &at, "-e"));
+    for (size_t i = 0; words.out && fact && i < grouped; i++) {
+        fact = next_command(&words, &at, it, &it->commands[i]);
+    }
+    holds(fact && (!words.out || at == words.count), "a script has the words of its plan");
+    release(words);
+}
+
+/* How many lines begin with a text. */
+static size_t lines_with(zigrunk_text text, const char *start) {
+    size_t count = 0, length = strlen(start);
+    for (size_t at = 0; at < text.length; at++) {
+        count += (at == 0 || text.bytes[at - 1] == '\n') && text.length - at >= length && memcmp(text.bytes + at, start, length) == 0;
+    }
+    return count;
+}
+
+/* In JSON, each command needs only commands before it. Returns how many commands say what they need. */
+static size_t count_needs(zigrunk_text json) {
+    static const char key[] = "\"needs\":[";
+    size_t count = 0;
+    const uint8_t *stop = json.bytes + json.length, *at = json.bytes;
+    while ((at = memmem(at, (size_t)(stop - at), key, sizeof key - 1))) {
+        for (at += sizeof key - 1; at < stop && *at != ']';) {
+            size_t need = 0;
+            for (; at < stop && *at >= '0' && *at <= '9'; at++) {
+                need = need * 10 + (size_t)(*at - '0');
+            }
+            holds(need < count, "a command needs commands before it");
+            at += at < stop && *at == ',';
+        }
+        count++;
+    }
+    return count;
+}
+
+/* Compares a written plan with its records. */
+static void try_records(const planned *it, const answer *plan) {
+    records all = ask_records(&it->call);
+    zigrunk_text text = {plan->out, plan->length};
+    holds(it->form >= ZIGRUNK_TEXT || all.sizes.status == plan->status || plan->status == ZIGRUNK_UNWRITABLE, "records refuse what other forms refuse");
+    if (all.sizes.status == ZIGRUNK_OK && plan->status == ZIGRUNK_OK) {
+        size_t grouped = count_grouped(&all);
+        if (it->form == ZIGRUNK_SHELL) {
+            check_script(&all, grouped, text);
+        } else if (it->form == ZIGRUNK_NINJA) {
+            holds(lines_with(text, "build ") == grouped, "a Ninja file has an edge for each command");
+            holds(lines_with(text, "# dropped ") == all.sizes.commands - grouped, "a Ninja file has a note for each dropped command");
+        } else if (it->form == ZIGRUNK_JSON) {
+            holds(count_needs(text) == grouped, "each command in JSON says what it needs");
+        }
+    }
+    release_records(&all);
+}
+
+/* Within a limit, calls answer as they do without one, or that the limit is exceeded. */
+static void try_limit(planned *it, const answer *lookups, const answer *plan, size_t limit) {
+    it->call.limit = limit;
+    answer plan_within = ask(asks_plan, it, 0), lookups_within = ask(asks_lookups_within, &it->call, 0);
+    holds(!plan_within.out || plan_within.status == ZIGRUNK_OVER_LIMIT || is_same(&plan_within, plan), "a plan within a limit is that without one");
+    holds(!lookups_within.out || lookups_within.status == ZIGRUNK_OVER_LIMIT || is_same(&lookups_within, lookups), "look-ups within a limit are those without one");
+    release(plan_within);
+    release(lookups_within);
+    it->call.limit = 0;
+}
+
+/* Plans the call, with a table of what it looks up. If `misses`, some programs are missing there. Then as records, and within a
+ * limit. */
+static void try_plan(planned *it, int misses, unsigned long failing, size_t limit) {
     answer lookups = ask(asks_lookups, &it->call, 0);
     size_t count = lookups.status == ZIGRUNK_OK && lookups.out ? lookups.count / 2 : 0;
     zigrunk_found_program *rows = calloc(count + 1, sizeof *rows);
@@ -434,6 +805,10 @@ static void try_plan(planned *it, int misses, unsigned long failing) {
     if (plan.out && plan.status == ZIGRUNK_OK && it->form == ZIGRUNK_JSON) {
         holds(is_json(plan.out, plan.length), "a plan as JSON is a JSON object");
     }
+    if (plan.out && lookups.out) {
+        try_records(it, &plan);
+        try_limit(it, &lookups, &plan, limit);
+    }
     release(plan);
     free(rows);
     release_list(&paths);
@@ -449,7 +824,7 @@ static void tell(void) {
     fprintf(file, "inputs %lu\ncalls %lu\ncalls beyond %zu bytes %lu\ncalls with a failed allocation %lu\ncalls over %.0f s %lu\n", told.inputs,
         told.calls, BUDGET, told.too_large, told.injected, SLOW, told.slow);
     fprintf(file, "longest call %.3f s\nmost memory %zu bytes\n", told.longest, told.most_memory);
-    for (int i = 0; i < 10; i++) {
+    for (int i = 0; i <= ZIGRUNK_OVER_LIMIT; i++) {
         fprintf(file, "status %d: %lu\n", i, told.statuses[i]);
     }
     fclose(file);
@@ -489,9 +864,9 @@ int LLVMFuzzerTestOneInput(const uint8_t *data, size_t size) {
     it.call.keeps = (data[0] >> 3) & 1;
     it.call.host_compiler = (data[0] >> 4) & 3;
     it.form = it.form > 4 ? it.form - 4 : it.form;
-    try_plan(&it, (data[0] >> 6) & 1, data[0] & 0x80 ? (unsigned long)data[1] * 7 + 1 : 0);
+    try_plan(&it, (data[0] >> 6) & 1, data[0] & 0x80 ? (unsigned long)data[1] * 7 + 1 : 0, 1 + (size_t)data[1] * 40);
     if (data[1] % 4 == 0) {
-        try_words(it.call.dry1);
+        try_text(it.call.dry1, &it.call, data[1] / 4);
         zigrunk_text asked[3] = {it.call.flag, it.call.dry2, it.call.cwd};
         release(ask(asks_candidates, asked, 0));
     }

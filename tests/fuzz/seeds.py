@@ -1,5 +1,5 @@
 #!/usr/bin/env python3
-"""seeds.py FOLDER: writes the fuzzer's first inputs to FOLDER: real dry runs, and the lines of the test tables as dry runs."""
+"""seeds.py FOLDER: writes the fuzzer's first inputs to FOLDER: real dry runs, and the lines of the test tables as dry runs and as lines."""
 import glob
 import os
 import re
@@ -47,4 +47,10 @@ for table in sorted(glob.glob(f"{top}/crates/test_*/data/*.txt")):
             text = b"#$ PATH=/b\n" + b"\n".join(it if it.startswith(b"#$") else b"#$ " + it for it in group)
             write([made % 4, made % 8], text)
             group = []
+TOOLS = [b"cicc", b"ptxas", b"cudafe++", b"nvcc", b"nvc", b"nvc++"]
+for table in sorted(glob.glob(f"{top}/crates/test_lines/data/*_lines.txt")):
+    for line in read(table).splitlines():
+        found = re.fullmatch(rb"\w+ ([a-z+]+) .*?: (.*?)(?: => .*)?", line)
+        if found and found[1] in TOOLS and len(line) < 4000:
+            write([3, 4 * TOOLS.index(found[1])], found[2], b"")
 print(f"{made} inputs")
