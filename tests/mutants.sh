@@ -444,9 +444,6 @@ new:  jobs=''
 the second step removes a folder of the user
 old: [ "$tmp" != nvcc ] || { tmp='' && plain
 new: [ "$tmp" != nvcc ] || { plain
-blanks at the end of a directory are lost
-old: IFS= read -r tmp
-new: read -r tmp
 blanks at the end of a keep directory are lost
 old: IFS= read -r keep_dir
 new: read -r keep_dir
