@@ -35,6 +35,7 @@ impl Calls for PlanCalls {
             | "files"
             | "files_debug"
             | "needs"
+            | "keeps_orders"
             | "needs_debug" => plans::answer(rt, alloc, case),
             "candidates" | "lookups" | "lookups_debug" | "read_found" => {
                 lookups::answer(rt, alloc, case)

@@ -1,6 +1,6 @@
 //! Calls on the files of a plan's commands, and on what each command needs.
 
-use command_files::{CommandFiles, files_of_plan, needs};
+use command_files::{CommandFiles, files_of_plan, keeps_orders, needs};
 use command_groups::Plan;
 use std::alloc::Global;
 use test_tables::{Answer, CaseError, debugged};
@@ -48,6 +48,7 @@ pub fn answer(alloc: Global, call: &str, plan: &Plan) -> Result<Answer, CaseErro
     match call {
         "files" => files(alloc, plan),
         "needs" => needed(alloc, plan),
+        "keeps_orders" => Answer::of_bool(alloc, keeps_orders(alloc, plan)?),
         "files_debug" => debugged(alloc, &files_of_plan(alloc, plan)?),
         "needs_debug" => debugged(alloc, &needs(alloc, plan)?),
         _ => Err(CaseError::Form("another call on a plan")),
