@@ -52,7 +52,7 @@ end_processes() {
 # stop_nodes: ends all that runs on the nodes, and removes them.
 stop_nodes() {
     local place
-    for place in /run/netns/zigrunk-$$-*; do
+    for place in /run/netns/"zigrunk-$$"-*; do
         [ -e "$place" ] || continue
         end_processes "${place##*-}"
         ip netns del "${place##*/}"

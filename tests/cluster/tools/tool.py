@@ -10,6 +10,7 @@ import os
 import re
 import sys
 import time
+from typing import NoReturn
 
 PRODUCTS = {
     "cicc": ["-o", "--gen_c_file_name", "--gen_device_file_name", "--stub_file_name"],
@@ -25,22 +26,24 @@ END = b"END\n"
 tool = os.path.basename(sys.argv[0])
 words = sys.argv[1:]
 products = PRODUCTS.get(tool, ["-o"])
-makes, reads, others = [], [], [tool]
+makes: list[str] = []
+reads: list[str] = []
+others = [tool]
 
 
-def note(kind, name=""):
+def note(kind: str, name: str = "") -> None:
     if log := os.environ.get("TOOL_LOG"):
         node = os.environ.get("SLURMD_NODENAME") or os.uname().nodename
         with open(log, "a", encoding="utf-8") as file:
             file.write(f"{kind} {node} {tool} {name}\n")
 
 
-def fail(kind, name):
+def fail(kind: str, name: str) -> NoReturn:
     note(kind, name)
     sys.exit(f"{tool}: {kind}: {name}")
 
 
-def sort_words():
+def sort_words() -> None:
     """Tells the words that name products and inputs from the others, of which only the last part of a path counts."""
     rest = iter(words)
     for word in rest:
@@ -65,7 +68,7 @@ def sort_words():
             reads.extend(sorted(os.path.join(folder, other) for other in os.listdir(folder) if other.endswith((".stub.c", ".fatbin.c"))))
 
 
-def digest():
+def digest() -> str:
     result = hashlib.sha256(repr(others).encode())
     for name in reads:
         try:
@@ -96,8 +99,8 @@ finally:
         os.remove(scratch)
 time.sleep(seconds)
 for number, name in enumerate(makes):
-    with open(name, "wb", buffering=0) as file:
-        file.write(f"{text} {number}\n".encode() * 50)
+    with open(name, "wb", buffering=0) as product:
+        product.write(f"{text} {number}\n".encode() * 50)
         time.sleep(seconds / 6)
-        file.write(END)
+        product.write(END)
 note("end", " ".join(makes[:1]))
