@@ -19,7 +19,10 @@ get files by their needs also run without all of these at once.
 Prints a line for each finding, and last 'N passed, M failed'; the status is 1 if one failed. Without nvcc or mount namespaces it is
 skipped.
 
-    tests/isolated.py [--leave-out] [--only TEXT] [ZIGRUNK]     ZIGRUNK is the program that `make build` leaves, unless given
+    tests/isolated.py [--leave-out] [--only TEXT] [--mount FOLDER] [ZIGRUNK]
+
+ZIGRUNK is the program that `make build` leaves, unless given. FOLDER has a toolkit that is elsewhere. TARGETS='75 80' in the environment
+are other targets than nvcc 13's: the last two count as two, and all as many.
 """
 
 import argparse
@@ -36,13 +39,15 @@ from typing import Any, TypeVar
 from runner import Counts, skip_all
 
 TOP = os.path.realpath(f"{os.path.dirname(os.path.realpath(__file__))}/..")
-TWO_TARGETS = "-gencode arch=compute_80,code=sm_80 -gencode arch=compute_90,code=sm_90"
+TARGETS = [f"-gencode arch=compute_{number},code=sm_{number}" for number in os.environ.get("TARGETS", "80 90").split()]
+TWO_TARGETS = " ".join(TARGETS[-2:])
+MANY_TARGETS = " ".join(TARGETS) if "TARGETS" in os.environ else "-arch=all-major"
 CALLS = (
     "-c k.cu -o k.o",
     f"-fatbin {TWO_TARGETS} k.cu -o k.fatbin",
     "-ptx k.cu -o k.ptx",
     f"-dc {TWO_TARGETS} k.cu -o k.o",
-    "-arch=all-major -c k.cu -o k.o",
+    f"{MANY_TARGETS} -c k.cu -o k.o",
 )
 SOURCES = {
     "k.cu": '#include "k.h"\n__device__ int table[SIZE];\n__global__ void add(int* values) { values[0] += table[0]; }\n'
@@ -50,6 +55,7 @@ SOURCES = {
     "k.h": "#define SIZE 6\n",
     "cuda_runtime.h": open(f"{TOP}/tests/small/cuda_runtime.h", encoding="utf-8").read(),
 }
+MOUNTS = []  # folders that every root has too
 SYSTEM = ("bin", "etc", "lib", "lib32", "lib64", "libx32", "sbin", "usr")
 # The words: the new root, the folder to work in, the folders to mount, an empty word, the command.
 ISOLATE = """root=$1 folder=$2; shift 2
@@ -131,7 +137,7 @@ def started(words: list[str], command: Json, base: str, folder: str) -> tuple[in
 
 def mounted(command: Json) -> list[str]:
     """Returns the folders that a command's root has: the system, and the toolkit and the program if they are elsewhere."""
-    folders = [f"/{name}" for name in SYSTEM if os.path.isdir(f"/{name}") and not os.path.islink(f"/{name}")]
+    folders = [f"/{name}" for name in SYSTEM if os.path.isdir(f"/{name}") and not os.path.islink(f"/{name}")] + MOUNTS
     for path in (dict(command["env"]).get("TOP", "/usr"), f"{os.path.dirname(command['exe'])}/.."):
         path = os.path.realpath(path)
         if not any(f"{path}/".startswith(f"{folder}/") for folder in folders):
@@ -274,8 +280,10 @@ def main() -> int:
     parser = argparse.ArgumentParser(usage=__doc__, allow_abbrev=False)
     parser.add_argument("--leave-out", action="store_true")
     parser.add_argument("--only", default="")
+    parser.add_argument("--mount", action="append", default=[])
     parser.add_argument("zigrunk", nargs="?", default=f"{TOP}/crates/zigrunk/out/zigrunk")
     args = parser.parse_args()
+    MOUNTS.extend(map(os.path.realpath, args.mount))
     if why := unavailable():
         return skip_all("isolated commands", why)
     for name in ("NVCC_PREPEND_FLAGS", "NVCC_APPEND_FLAGS"):

@@ -4,6 +4,8 @@
 # run that Ninja doesn't hold back for it. The last line is 'N passed, M failed'; the status is 1 if one failed.
 #
 #   tests/needs.sh [PROGRAM]    PROGRAM is the zigrunk that `make build` leaves, unless given
+#
+#   TARGETS='70 75 ..'     other targets: six that nvcc knows
 cd "$(dirname "$0")/.." || exit 1
 . tests/lib.sh
 require 'needs of commands' nvcc "${ZIGRUNK_NINJA:-ninja}"
@@ -24,7 +26,7 @@ __global__ void fill(int value) { table[threadIdx.x] = value; }
 void run(float* values) { scale<2><<<1, 32>>>(values); scale<3><<<1, 32>>>(values); fill<<<1, 64>>>(4); }
 END_OF_SOURCE
 targets=()
-for number in 75 80 86 89 90 100; do
+for number in ${TARGETS:-75 80 86 89 90 100}; do
     targets+=(-gencode "arch=compute_$number,code=sm_$number")
 done
 

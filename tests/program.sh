@@ -92,10 +92,10 @@ refused_lines() {
 # what the dry runs of real calls plan, each with its compilation flag
 good_plans() {
     local file name plan
-    for file in "$data"/*.flag; do
+    for file in "$data"/*.flag "$data"/*/*.flag; do
         name=${file%.flag}
         plan=$(cat "$name.plan"; printf .)
-        check "the plan of ${name##*/}" 0 "${plan%.}" '' plan /w /t "$(cat "$file")" "$name.dry1" "$name.dry2"
+        check "the plan of ${name#"$data/"}" 0 "${plan%.}" '' plan /w /t "$(cat "$file")" "$name.dry1" "$name.dry2"
     done
     : > "$scratch/none"
     check 'empty dry runs' 0 $'group 0\ngroup 1\n' '' plan /w /t -c "$scratch/none" "$scratch/none"

@@ -32,7 +32,8 @@ Json = dict[str, Any]
 
 def pairs() -> list[str]:
     """Returns the names of the real pairs: those with a flag."""
-    return sorted(name.removesuffix(".flag") for name in os.listdir(DATA) if name.endswith(".flag"))
+    flags = [os.path.relpath(f"{folder}/{name}", DATA) for folder, _, names in os.walk(DATA) for name in names if name.endswith(".flag")]
+    return sorted(name.removesuffix(".flag") for name in flags)
 
 
 def program_words(lines: list[str]) -> set[str]:
@@ -55,7 +56,7 @@ def with_programs(name: str, room: str) -> list[str]:
             os.chmod(path, 0o755)
         lines = [f"#$ PATH={folder}" if line.startswith("#$ PATH=") else line for line in lines]
         lines = [on_disk(line, folder) for line in lines]
-        copies.append(f"{room}/{name}.{run}")
+        copies.append(f"{room}/{name.replace('/', '.')}.{run}")
         with open(copies[-1], "w", encoding="utf-8") as file:
             file.write("\n".join(lines) + "\n")
     return copies
