@@ -55,7 +55,8 @@ SOURCES = {
     "k.h": "#define SIZE 6\n",
     "cuda_runtime.h": open(f"{TOP}/tests/small/cuda_runtime.h", encoding="utf-8").read(),
 }
-MOUNTS = []  # folders that every root has too
+# folders that every root has too
+MOUNTS: list[str] = []
 SYSTEM = ("bin", "etc", "lib", "lib32", "lib64", "libx32", "sbin", "usr")
 # The words: the new root, the folder to work in, the folders to mount, an empty word, the command.
 ISOLATE = """root=$1 folder=$2; shift 2
