@@ -3,7 +3,7 @@ PREFIX ?= /usr/local
 DESTDIR ?=
 target = $(DESTDIR)$(PREFIX)
 
-.PHONY: help demo build lib check install install-programs install-library uninstall dist bench drivers fuzz-library must-fail refused-memory end-to-end odd-calls cache cluster mutants test-install dist-test check-docs lint test
+.PHONY: help demo build lib check install install-programs install-library uninstall dist bench drivers fuzz-library must-fail refused-memory end-to-end odd-calls versions cache cluster mutants test-install dist-test check-docs lint test
 
 help:
 	@echo 'make demo             run cudaplan, unproved, on two calls; a minute from a fresh clone'
@@ -20,6 +20,7 @@ help:
 	@echo 'make refused-memory   run the test cases again and again, each time with another allocation failing'
 	@echo 'make end-to-end       compare zigrunk-nvcc with nvcc; needs nvcc and ninja on the path'
 	@echo 'make odd-calls        the same for 131 calls with odd words'
+	@echo 'make versions         the same with nvcc 11.2, 11.8 and 12.4, which it downloads from Debian, up to 3 GB; or CUDA_VERSIONS=FOLDER'
 	@echo 'make cache            compare rebuilds through sccache with and without zigrunk-nvcc; needs sccache 0.9'
 	@echo 'make cluster          build on a Slurm that it starts on this machine, and let nodes vanish; needs nvcc, slurm-wlm, munge, iproute2; root'
 	@echo 'make mutants          check that the tests catch wrong edits of zigrunk-nvcc, zigrunk-slot, zigrunk-plan and zigrunk-batch'
@@ -126,6 +127,11 @@ end-to-end:
 odd-calls:
 	@.ci/built check programs || $(MAKE) build
 	@ZIGRUNK_PROGRAM="$(CURDIR)/crates/zigrunk/out/zigrunk" tests/compare_calls.py --jobs "$$(nproc)" tests/calls_odd.txt
+
+# Other versions of nvcc, with host compilers that suit. docs/VERSIONS.md says what differs.
+versions:
+	@.ci/built check programs || $(MAKE) build
+	@tests/versions.sh
 
 cache:
 	@tests/cache.sh

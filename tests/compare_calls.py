@@ -25,6 +25,7 @@ A line of FILE is the words of a call, quoted as for bash; nothing is globbed. W
     @how=split          the call is split; @how=nvcc: it goes to nvcc unchanged
     @launched=TEXT      the commands that go through the launcher, as 'cicc:2 ptxas:2'
     @differs=KIND,..    the kinds of differences that docs/DIFFERENCES.md lists
+    @differs-VERSION=KIND,..  further ones with such an nvcc, as 11 or 11.2; docs/VERSIONS.md lists them
 
 Both tools work in the same path, one after the other, since paths get into what is made. These are compared: the status, the
 names of files that are made or changed, their bytes (of objects without the symbols that `strip` removes, since one of them
@@ -36,6 +37,9 @@ toolkit's place for both tools, and a call takes a fifth of the processor's time
 
 The last line is 'N passed, M failed'. Two tools that always fail alike show nothing. So it is a failure too if no call was made, if
 most fail by both tools, if none compiles anything, or if none is split; with --only, that a call was made is enough.
+
+The lists are for nvcc 13. An older nvcc may lack an option, or print no dry run of a line with --threads: such a call may go to nvcc,
+whatever its line says of @how and @launched.
 """
 import argparse
 import concurrent.futures
@@ -88,6 +92,7 @@ SOURCES = {
 LAUNCHER = '#!/bin/sh\nprintf "%s\\n" "${1##*/}" >> "$COMPARE_LOG"\nexec "$@"\n'
 FIELDS = {"name", "setup", "after", "cwd", "tmp", "ours", "headers", "how", "launched", "differs"}
 OLD = 1_600_000_000
+WRITTEN_FOR = "13.0"  # the version of nvcc whose options the lists have
 # A kind, which is in capitals if it is a failure, and a text.
 Difference = tuple[str, str]
 
@@ -110,6 +115,7 @@ class Call:
         self.line, self.number = line, number
         self.env: dict[str, str] = {}
         self.unset: list[str] = []
+        self.older: dict[str, str] = {}
         for field in FIELDS:
             setattr(self, field, "")
         words = shell_words(line)
@@ -120,6 +126,8 @@ class Call:
                 self.env[name] = value
             elif key == "unset":
                 self.unset.append(value)
+            elif key.startswith("differs-"):
+                self.older[key.removeprefix("differs-")] = value
             elif key in FIELDS:
                 setattr(self, key, value)
             else:
@@ -343,8 +351,10 @@ def differences(want: Ran, got: Ran, base: Path) -> list[Difference]:
     return found
 
 
-def claims(call: Call, got: Ran) -> Iterator[Difference]:
+def claims(call: Call, got: Ran, version: str) -> Iterator[Difference]:
     """What a line says of our call that isn't so."""
+    if float(version) < float(WRITTEN_FOR) and got["reason"] == "a dry run fails":
+        return
     how = "nvcc" if got["reason"] else "split"
     if call.how and call.how != how:
         yield "HOW", f"{how}, not {call.how}: {got['reason']}"
@@ -357,6 +367,19 @@ def loud(found: Iterable[Difference]) -> set[str]:
     return {kind for kind, _ in found if kind.isupper()}
 
 
+def explained(call: Call, version: str) -> set[str]:
+    """The kinds of differences that a line names for a version of nvcc."""
+    names = [call.differs] + [kinds for of, kinds in call.older.items() if f"{version}.".startswith(f"{of}.")]
+    return {kind for kinds in names for kind in kinds.split(",")}
+
+
+def version_of(nvcc: str) -> str:
+    """The version of an nvcc: the one that the lists are for, if it doesn't say."""
+    said = subprocess.run([nvcc, "--version"], capture_output=True, text=True).stdout
+    found = re.search(r"release (\d+\.\d+)", said)
+    return found[1] if found else WRITTEN_FOR
+
+
 def compare(call: Call, args: argparse.Namespace) -> Compared:
     """A call by both tools: the records, what differs, and what differs between nvcc and nvcc."""
     base = Path(tempfile.mkdtemp(prefix="compare.", dir=args.scratch))
@@ -366,10 +389,10 @@ def compare(call: Call, args: argparse.Namespace) -> Compared:
         got = run(args.ours, "ours", call, base, keep)
         found = differences(want, got, base)
         noise: list[Difference] = []
-        if not loud(found) <= set(call.differs.split(",")):
+        if not loud(found) <= explained(call, args.version):
             noise = differences(want, run(args.nvcc, "noise", call, base, keep), base)
             found = [one for one in found if one not in noise or one[0] == "STATUS"]
-        return call, want, got, found + list(claims(call, got)), noise
+        return call, want, got, found + list(claims(call, got, args.version)), noise
     finally:
         subprocess.run(["chmod", "-R", "u+rwx", str(base)], capture_output=True)
         shutil.rmtree(base, ignore_errors=True)
@@ -430,6 +453,7 @@ def shows_nothing(calls: int, failing: int, compiling: int, split: int) -> Itera
 
 def main() -> int:
     args = options()
+    args.version = version_of(args.nvcc)
     calls = longest_first(read_calls(args))
     counts, records = Counts(), []
     failing = compiling = split = 0
@@ -437,7 +461,7 @@ def main() -> int:
         for compared in pool.map(lambda one: compare(one, args), calls):
             call, want, got, found, noise = compared
             kinds = loud(found)
-            verdict = "same" if not kinds else "documented" if kinds <= set(call.differs.split(",")) else "DIFFERS"
+            verdict = "same" if not kinds else "documented" if kinds <= explained(call, args.version) else "DIFFERS"
             counts.passed += verdict != "DIFFERS"
             counts.failed += verdict == "DIFFERS"
             failing += want["status"] != 0 and got["status"] != 0

@@ -1,0 +1,65 @@
+#!/usr/bin/env bash
+# Tests zigrunk-nvcc with other versions of nvcc: 11.2, 11.8 and 12.4 of Debian's archive, each with a g++ that suits it. With each it makes
+# the call lists beside that nvcc (tests/compare_calls.py), calls with other host compilers, a fatbin for several targets twenty times
+# (tests/needs.sh), commands that have only their own files (tests/isolated.py) and CMake projects (tests/cmake.sh). Each version and part
+# has a line of counts, and one that fails doesn't stop the others. The last line is 'N passed, M failed'.
+#
+#   tests/versions.sh [PROGRAM]      PROGRAM is the zigrunk that `make build` leaves, unless given
+#
+#   CUDA_VERSIONS=FOLDER   the toolkits (tests/toolkits.sh), else out/versions. What it lacks is downloaded: up to 3 GB, 1 GB of which stay.
+#   VERSIONS='11.8 ..'     only these
+#   PARTS='calls ..'       only these of calls, hosts, needs, isolated, cmake
+#   CALLS='FILE ..'        other lists than tests/calls.txt, calls_words.txt and calls_odd.txt
+#   JOBS=N                 so many calls at once, else as many as there are processors
+cd "$(dirname "$0")/.." || exit 1
+. tests/lib.sh
+program=$(realpath -m "${1:-crates/zigrunk/out/zigrunk}")
+mkdir -p "${CUDA_VERSIONS:-out/versions}"
+folder=$(realpath "${CUDA_VERSIONS:-out/versions}")
+read -ra versions <<< "${VERSIONS:-11.2 11.8 12.4}"
+read -ra lists <<< "${CALLS:-tests/calls.txt tests/calls_words.txt tests/calls_odd.txt}"
+parts=${PARTS:-calls hosts needs isolated cmake}
+require 'other versions of nvcc' "${ZIGRUNK_NINJA:-ninja}" objcopy nm python3
+[ -x "$program" ] || make build >&2 || exit 1
+unset NVCC_PREPEND_FLAGS NVCC_APPEND_FLAGS
+ready=() lacking=()
+export ZIGRUNK_PROGRAM=$program
+# A host compiler that isn't there fails by both tools alike.
+export GCC_10=$folder/11.2/usr/bin/g++-10 GCC_11=$folder/11.8/usr/bin/g++-11 GCC_12=$folder/12.4/usr/bin/g++-12
+
+# targets VERSION: six architectures that this nvcc knows.
+targets() {
+    case $1 in
+    11.2) echo 60 61 70 75 80 86 ;;
+    *) echo 70 75 80 86 89 90 ;;
+    esac
+}
+
+# part VERSION NAME COMMAND..: runs a part with that nvcc, prints what it found and its counts, and adds these.
+part() {
+    local before=("$passed" "$failed") what="nvcc $1, $2"
+    [[ " $parts " == *" $2 "* ]] || return
+    tests/toolkits.sh "$folder" run "$1" "${@:3}" > "$scratch/said" 2>&1
+    add "$?" "$scratch/said" || echo "$what: its last line has no counts that fit"
+    sed '$d' "$scratch/said"
+    echo "$what: $((passed - before[0])) passed, $((failed - before[1])) failed"
+}
+
+for version in "${versions[@]}"; do
+    tests/toolkits.sh "$folder" fetch "$version" > "$scratch/fetched" 2>&1
+    case $? in
+    0) ready+=("$version") ;;
+    3) lacking+=("$version") ;;
+    *) count "nvcc $version, its toolkit" "$(cat "$scratch/fetched")" ;;
+    esac
+done
+[ ${#lacking[@]} -eq 0 ] || skip "nvcc ${lacking[*]}" "Debian's archive can't be reached"
+for version in "${ready[@]}"; do
+    compare=(tests/compare_calls.py --scratch "$scratch" --jobs "${JOBS:-$(nproc)}")
+    part "$version" calls "${compare[@]}" "${lists[@]}"
+    part "$version" hosts "${compare[@]}" --only ccbin tests/calls_hosts.txt
+    part "$version" needs env TARGETS="$(targets "$version")" tests/needs.sh "$program"
+    part "$version" isolated env TARGETS="$(targets "$version")" tests/isolated.py --leave-out --mount "$folder" "$program"
+    part "$version" cmake tests/cmake.sh "$program"
+done
+summary
