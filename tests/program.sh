@@ -746,6 +746,129 @@ long_exports() {
     counts 'a hundred device groups as a compilation database' 100 'x_[0-9]\+\.cpp1\.ii' compdb /w /t -c "$scratch/groups" "$scratch/groups.2"
 }
 
+# found NAME PROGRAM LOOKED: the gcc of a command, found with PATH as a folder and behind it that of a kernel's programs. LOOKED is the
+# folder's name; the plan has the program at PROGRAM.
+found() {
+    lines_of looked "#\$ PATH=$scratch/$3:$scratch/bin" "${KERNEL[0]}"
+    cp "$scratch/looked" "$scratch/looked.2"
+    counts "$1" 1 "\"exe\":\"$2\"" json /w /t -c "$scratch/looked" "$scratch/looked.2"
+}
+
+# what is a program on the disk: a plain file that its owner, its group or others may execute, also behind links
+programs_on_disk() {
+    local folder=$scratch/first mode
+    mkdir -p "$folder"/{plain,folder,dangling,loop,to_plain,to_folder,to_program,file}
+    : > "$folder/plain/gcc"
+    mkdir "$folder/folder/gcc"
+    ln -s nowhere "$folder/dangling/gcc"
+    ln -s gcc "$folder/loop/gcc"
+    ln -s ../plain/gcc "$folder/to_plain/gcc"
+    ln -s ../folder/gcc "$folder/to_folder/gcc"
+    ln -s "$scratch/bin/gcc" "$folder/to_program/gcc"
+    : > "$folder/file/gcc"
+    chmod 644 "$folder/plain/gcc"
+    found 'a plain file that nobody may execute' "$scratch/bin/gcc" first/plain
+    found 'a folder with the name of a program' "$scratch/bin/gcc" first/folder
+    found 'a link to nothing' "$scratch/bin/gcc" first/dangling
+    found 'a link to itself' "$scratch/bin/gcc" first/loop
+    found 'a link to a plain file' "$scratch/bin/gcc" first/to_plain
+    found 'a link to a folder' "$scratch/bin/gcc" first/to_folder
+    found 'a link to a program' "$folder/to_program/gcc" first/to_program
+    found 'a folder of PATH that is a file' "$scratch/bin/gcc" first/plain/gcc
+    for mode in 0 600 444 666; do
+        chmod "$mode" "$folder/file/gcc"
+        found "a file of mode $mode" "$scratch/bin/gcc" first/file
+    done
+    for mode in 100 010 001 755; do
+        chmod "$mode" "$folder/file/gcc"
+        found "a file of mode $mode" "$folder/file/gcc" first/file
+    done
+    mkdir "$folder/pipe"
+    mkfifo -m 755 "$folder/pipe/gcc"
+    found 'a pipe that may be executed' "$scratch/bin/gcc" first/pipe
+}
+
+# as_nobody WORD..: runs a command as a user that isn't root.
+as_nobody() {
+    if [ "$(id -u)" = 0 ]; then
+        setpriv --reuid 65534 --regid 65534 --clear-groups "$@"
+    else
+        "$@"
+    fi
+}
+
+# denied NAME DRY1 DRY2: a call by another user than root, in a folder with a file that this user may not read.
+denied() {
+    (
+        cd "$scratch/unread" || exit
+        as_nobody ./zigrunk json /w /t -c "$2" "$3" > "$scratch/out" 2> "$scratch/err"
+        echo $? > "$scratch/status"
+    )
+    judge "$1" 1 '' $'zigrunk: cannot read secret: Permission denied\n'
+}
+
+# files that can't be read, each for another reason of the system; and files whose names begin with a dash
+unread_files() {
+    local folder=$scratch/unread
+    mkdir -p "$folder"
+    ln -s loop "$folder/loop"
+    check 'a file whose links go round' 1 '' "zigrunk: cannot read $folder/loop: Too many levels of symbolic links"$'\n' \
+        json /w /t -c "$folder/loop" "$scratch/kernel"
+    check 'a file that the system refuses to read' 1 '' $'zigrunk: cannot read /proc/self/mem: the system reports error 5\n' \
+        json /w /t -c "$scratch/kernel" /proc/self/mem
+    cp "$scratch/kernel" "$folder/-x"
+    cp "$scratch/kernel.2" "$folder/--"
+    "$program" json /w /t -c "$scratch/kernel" "$scratch/kernel.2" > "$scratch/want"
+    (
+        cd "$folder" || exit
+        "$program" json /w /t -c -x -- > "$scratch/out" 2> "$scratch/err" < /dev/null
+        echo $? > "$scratch/status"
+    )
+    judge 'files whose names begin with a dash' 0 "$(cat "$scratch/want")"$'\n' ''
+    if ! as_nobody true 2> /dev/null; then
+        skip 'a file without permission' 'setpriv cannot become another user'
+        return
+    fi
+    # the program, the other file and all folders above are open to this user
+    chmod 755 "$scratch" "$folder"
+    cp "$program" "$folder/zigrunk"
+    cp "$scratch/kernel" "$folder/open"
+    cp "$scratch/kernel" "$folder/secret"
+    chmod 0 "$folder/secret"
+    denied 'a first file without permission' secret open
+    denied 'a second file without permission' open secret
+}
+
+# holds NAME FORMAT RUN WORD: a plan that has this long word once.
+holds() {
+    printf '%s' "$4" > "$scratch/long_word"
+    "$program" "$2" /w /t -c "$scratch/$3" "$scratch/$3.2" > "$scratch/text" 2> "$scratch/err"
+    echo $? > "$scratch/status"
+    # (grep takes many seconds for such a word)
+    awk 'NR == FNR { word = $0; next } { while ((at = index($0, word)) > 0) { found++; $0 = substr($0, at + length(word)) } } END { print found + 0 }' \
+        "$scratch/long_word" "$scratch/text" > "$scratch/out"
+    judge "$1 as $2" 0 $'1\n' ''
+}
+
+# values and words of over 65,536 bytes, in each format that has them
+long_values() {
+    local long format
+    long=$(printf '%070000d' 0)
+    run_of value "#\$ HOME=/h$long" "${KERNEL[2]}"
+    run_of word "#\$ gcc -D__NVCC__ -E -DA=$long k.cu -o k.cpp1.ii"
+    run_of name "#\$ gcc -D__NVCC__ -E k.cu -o n$long"
+    run_of lost_word "${KERNEL[2]}" "#\$ g++ w$long"
+    for format in shell ninja json; do
+        holds 'a variable of 70,000 bytes' "$format" value "/h$long"
+    done
+    for format in shell ninja json compdb plan; do
+        holds 'a word of 70,000 bytes' "$format" word "-DA=$long"
+    done
+    holds 'a dropped word of 70,000 bytes' json lost_word "w$long"
+    holds 'a dropped word of 70,000 bytes' ninja lost_word "w$long"
+    holds 'an output of 70,000 bytes' dot name "n$long"
+}
+
 # files that aren't the dry runs of a call, and plans without commands, in every format
 unfit_files() {
     local format behind=$'no line begins with "#$ "\n'
@@ -1043,6 +1166,7 @@ program=$zigrunk
 unset NVCC_PREPEND_FLAGS NVCC_APPEND_FLAGS ZIGRUNK_JOBS MAKEFLAGS
 run \
     nvcc_lines jobs_at_once directories forms_of_cudaplan long_nvcc_lines odd_nvcc_words refused_nvcc_lines kernel_programs \
-    plan_scripts plan_files plan_views plan_schema whole_plans unfit_files statuses long_exports refused_exports limits messages \
+    plan_scripts plan_files plan_views plan_schema whole_plans unfit_files programs_on_disk unread_files long_values statuses \
+    long_exports refused_exports limits messages \
     long_messages escapes standard_input zigrunk_pages
 summary

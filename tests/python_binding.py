@@ -60,8 +60,11 @@ class Calls(unittest.TestCase):
         commands = json.loads(zigrunk.plan(call, which=first))["commands"]
         self.assertEqual([it["env"] for it in commands], [[["PATH", "/b"], ["A", "1"]]] * 2)
         self.assertEqual(commands[1]["args"], ["--x", "x_0.gpu", "x_0.cpp1.ii", "-o", "k.ptx"])
-        call.keep_dir = "/keep"
-        self.assertIn("cicc --x k.gpu k.cpp1.ii", zigrunk.plan(call, zigrunk.Form.TEXT, first))
+        # an empty directory keeps names too; only None doesn't
+        for keep_dir in ("/keep", ""):
+            call.keep_dir = keep_dir
+            self.assertIn("cicc --x k.gpu k.cpp1.ii", zigrunk.plan(call, zigrunk.Form.TEXT, first))
+            self.assertEqual(zigrunk.plan_records(call, first).groups[1].commands[1].arguments[2], "k.cpp1.ii")
         call.suffixes = ["gpu"]
         self.rejects(zigrunk.Status.BAD_SUFFIXES, "bad generated suffixes", zigrunk.plan, call, which=first)
 

@@ -56,6 +56,12 @@ fn messages() {
 }
 
 #[test]
+fn an_answer_that_grows_has_a_message() {
+    assert_eq!(Error::Unsettled.to_string(), "the answer grew with each call");
+    assert_eq!((Error::Unsettled.message(), Error::Unsettled.status()), ("the answer grew with each call", -1));
+}
+
+#[test]
 fn an_error_is_one_of_the_standard_library() {
     let error: Box<dyn std::error::Error + Send + Sync> = Box::new(split("'").unwrap_err());
     assert_eq!(error.to_string(), "open quote or backslash at the end");

@@ -30,7 +30,16 @@ fn a_line_of_nvcc_as_a_value() {
     assert!(line.preprocessor_args().any(|word| word == "-DA"));
     assert_eq!((line.color_mode(), line.double_dash_input(), line.depfile()), (ColorMode::Auto, false, None));
     assert!(!line.msvc_show_includes() && line.too_hard_for_preprocessor_cache_mode().is_none());
-    assert!(line == line.clone() && format!("{line:?}").contains(r#"input: "k.cu""#));
+    assert_eq!(line, line.clone());
+    let shown = concat!(
+        r#"Line { input: "k.cu", outputs: [Output { key: "d", path: "k.d", is_optional: false }, "#,
+        r#"Output { key: "obj", path: "k.o", is_optional: false }], language: Cuda, compilation_flag: "-c", depfile: None, "#,
+        r#"dependency_args: ["-MD", "-MF", "k.d", "-MT", "k.o"], preprocessor_args: ["-DA"], common_args: ["-arch", "sm_75", "-c"], "#,
+        r#"arch_args: [], unhashed_args: ["-t2"], extra_dist_files: [], extra_hash_files: [], "#,
+        "too_hard_for_preprocessor_cache_mode: None, color_mode: Auto, double_dash_input: false, msvc_explicit_language: false, ",
+        "msvc_show_includes: false, profile_generate: false, suppress_rewrite_includes_only: false, uses_external_assembler: false }",
+    );
+    assert_eq!(format!("{line:?}"), shown);
     assert_ne!(line_records(&LineCall { words: &words("-c j.cu"), ..call }).unwrap(), line);
 }
 

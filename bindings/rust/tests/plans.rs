@@ -112,6 +112,11 @@ fn records_of_a_small_call() {
     assert!(cicc.run() == 1 || cicc.run() == 2);
     assert!(plan.dropped().any(|command| command.reason() == Some(Reason::NoCiccGroup)), "{plan:?}");
     assert_eq!(plan, plan.clone());
+    let shown = concat!(
+        r#"Command { program: "/b/cicc", arguments: ["x_0.cpp1.ii", "-o", "k.ptx"], variables: [("PATH", "/b"), ("A", "1")], "#,
+        r#"cwd: "/t", group: Some(1), reason: None, is_cacheable: true, run: 1, line: 2 }"#,
+    );
+    assert_eq!(format!("{cicc:?}"), shown);
 }
 
 #[test]
