@@ -249,6 +249,21 @@ new: [ "$first 0 $?" =
 the line's own dry run may fail
 old: [ "$first $second $?" =
 new: [ "$first $second 0" =
+a line that nvcc reads otherwise is split
+old: reads_alike ||
+new: true ||
+names of temporary files count
+old: s/"[^"]*tmpxft_[0-9a-f]*_[0-9a-f]*-[0-9]*_/"/g
+new: 
+the directory of kept files counts
+old: ${keep_dir:+"${keep_dir#"$PWD/"}"}
+new: 
+how the dependency file is made counts
+old: ${dependencies:+/ -E /
+new: ${keep_dir:+/ -E /
+no preprocessor counts if there is a dependency file
+old: /\\.cpp1\\.ii\"\$/!d;
+new: d;
 the line's own dry run isn't waited for
 old: wait "$third"
 new: true

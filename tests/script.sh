@@ -34,14 +34,14 @@ printf '%s\n' "$line" >> "$LOG"
 case $* in
 '--dryrun first' | '--dryrun second')
     echo 'an output of the dry run'
-    echo '#$ cicc k.cpp1.ii -o k.ptx' >&2
+    printf '#$ %s\n' ${FRONT:+"$FRONT"} 'cicc k.cpp1.ii -o k.ptx' >&2
     [ -z "${HOST-}" ] || printf '#$ %s\n' "$HOST" >&2
     [ -z "${WARNING-}" ] || echo 'a warning of the normal form' >&2
     case $* in *first*) exit "${FIRST-0}" ;; *) exit "${SECOND-0}" ;; esac
     ;;
 --dryrun' '*)
     echo 'an output of the dry run'
-    echo '#$ a command of the line' >&2
+    printf '#$ %s\n' ${FRONT:+"$FRONT"} "${OTHER-cicc k.cpp1.ii -o k.ptx}" ${HOST:+"$HOST"} | sed "${LINE_FORM-}" >&2
     [ -z "${WARNING-}" ] || echo "$WARNING" >&2
     eval "${LINE_DOES-}"
     exit "${LINE-0}"
@@ -557,6 +557,30 @@ END
     begin "the line's own dry run is slow"
     script "${plain[@]}" LINE_DOES='sleep 0.3; echo late >&2; LINE=1' -c k.cu -o k.o
     by_nvcc 'a dry run fails'
+    end
+    begin "the line's own dry run has other commands"
+    script "${plain[@]}" OTHER='cicc k.cpp1.ii -o one.ptx' -c k.cu -o k.o
+    by_nvcc 'nvcc reads the line otherwise'
+    script "${plain[@]}" LINE_DOES='echo "#\$ ptxas k.ptx" >&2' -c k.cu -o k.o
+    by_nvcc 'nvcc reads the line otherwise'
+    end
+    begin "what differs between two dry runs of one line"
+    script "${plain[@]}" LINE_DOES='printf "#\$ %s\\n" "rm /tmp/tmpxft_00a1_0000-3_k.fatbin" "-- Filter Dependencies -- > k.d" >&2' -c k.cu -o k.o
+    same 'lines that only one has' "$status$(cat "$room/err")" 0
+    script "${plain[@]}" HOST='fatbinary --create="a\"b.fatbin" -64 "--image3=kind=elf,file=k.cubin" --embedded-fatbin="k.fatbin.c"' \
+        LINE_FORM='s, --create=".*" -64, -64,; s,=k.c,=/a b/tmpxft_00a1_0000-3_k.c,; s,"k,"/a b/tmpxft_00a1_0000-13_k,; s,$, > /a b/25_0_stdout 2>/a b/25_0_stderr,' -c k.cu -o k.o
+    same 'temporary files' "$status$(cat "$room/err")" 0
+    script "${plain[@]}" HOST="cicc \"$room/work/k.cu\" -o \"kept/k.ptx\"" KEEP_DIR="$room/work/kept" LINE_FORM="s,$room/work/,,; s,kept/,," \
+        CALLS_DO='mkdir -p kept' -c k.cu -o k.o
+    same 'directories' "$status$(cat "$room/err")" 0
+    script "${plain[@]}" HOST='fatbinary --create="k.fatbin" -64' LINE_FORM='s,k.fatbin,j.fatbin,' -fatbin k.cu -o k.fatbin
+    by_nvcc 'nvcc reads the line otherwise'
+    script "${plain[@]}" DEPENDENCIES=: LINE_DOES='echo "#\$ gcc -E k.cu -o \"k.cpp4.ii\" " >&2' -MD -c k.cu -o k.o
+    same 'a dependency file' "$status$(cat "$room/err")" 0
+    script "${plain[@]}" DEPENDENCIES=: LINE_DOES='echo "#\$ gcc -E k.cu -o \"k.cpp1.ii\" " >&2' -MD -c k.cu -o k.o
+    by_nvcc 'nvcc reads the line otherwise'
+    script "${plain[@]}" LINE_DOES='echo "#\$ gcc -E k.cu -o \"k.cpp4.ii\" " >&2' -c k.cu -o k.o
+    by_nvcc 'nvcc reads the line otherwise'
     end
     begin "the line's own dry run has the words of the environment, which nvcc gets once"
     touch -- -a.cu -b.cu
