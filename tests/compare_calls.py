@@ -38,8 +38,8 @@ toolkit's place for both tools, and a call takes a fifth of the processor's time
 The last line is 'N passed, M failed'. Two tools that always fail alike show nothing. So it is a failure too if no call was made, if
 most fail by both tools, if none compiles anything, or if none is split; with --only, that a call was made is enough.
 
-The lists are for nvcc 13. An older nvcc may lack an option, print no dry run of a line with --threads, or read it otherwise: such a call
-may go to nvcc for one of the reasons in OLDER, whatever its line says of @how and @launched.
+The lists are for nvcc 13. An older nvcc may lack an option, print no dry run of a line with --threads, or run commands in another order
+than a plan: such a call may go to nvcc for one of the reasons in OLDER, whatever its line says of @how and @launched.
 """
 import argparse
 import concurrent.futures
@@ -94,7 +94,7 @@ FIELDS = {"name", "setup", "after", "cwd", "tmp", "ours", "headers", "how", "lau
 OLD = 1_600_000_000
 WRITTEN_FOR = "13.0"  # the version of nvcc whose options the lists have
 # why an older nvcc makes a call that nvcc 13 doesn't make
-OLDER = ("a dry run fails", "nvcc reads the line otherwise")
+OLDER = ("a dry run fails", "nvcc reads the line otherwise", "a command fails, and nvcc has them in another order")
 # A kind, which is in capitals if it is a failure, and a text.
 Difference = tuple[str, str]
 

@@ -318,6 +318,15 @@ new: "$own/dry2" "$own/dry1"
 any plan is run
 old: plain "$(printf '%s\n' "$reason" | sed 1q)" "$@"
 new: :
+a command that fails has nvcc's order
+old: ! devices_first || plain
+new: true || plain
+nvcc makes each call that fails
+old: ! devices_first || plain
+new: plain
+cudafe++ counts wherever it is
+old: h; /^#\$ [^ ]*cudafe++"\{0,1\} /{ x; p; q; }
+new: h; /^#\$ [^ ]*cudafe++"\{0,1\} /{ p; q; }
 commands are run without a slot
 old: s/^  command = /  command = ${slot} ${out}
 new: s/^  command = /  command = sh ${out}.sh

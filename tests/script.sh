@@ -705,6 +705,19 @@ END
     script DEPENDENCIES='( echo made > k.d )' HOST='gcc -DA -E k.cu -o k.ii' NINJA_DOES='echo bad > "$tmp/zigrunk.0.1.err"; echo 6 > "$tmp/zigrunk.0.1.status"' NINJA_STATUS_IS=1 -c k.cu -o k.o
     same 'status and file' "$status $(cat k.d)" '6 made'
     end
+    begin 'a command fails, and nvcc runs cicc before cudafe++'
+    fails='echo bad > "$tmp/zigrunk.0.1.err"; echo 6 > "$tmp/zigrunk.0.1.status"'
+    script "${plain[@]}" HOST='/a/cudafe++ k.cpp4.ii' NINJA_DOES="$fails" NINJA_STATUS_IS=1 -c k.cu -o k.o
+    by_nvcc 'a command fails, and nvcc has them in another order'
+    script HOST='/a/cudafe++ k.cpp4.ii' -c k.cu -o k.o
+    same 'status if none fails' "$status$(cat "$room/err")" 0
+    for host in 'ptxas k.ptx' '/a/cudafe++-like k.cpp4.ii'; do
+        script HOST="$host" NINJA_DOES="$fails" NINJA_STATUS_IS=1 -c k.cu -o k.o
+        same "status with $host" "$status$(cat "$room/err")" 6bad
+    done
+    script FRONT='cudafe++ k.cpp4.ii' NINJA_DOES="$fails" NINJA_STATUS_IS=1 -c k.cu -o k.o
+    same 'status with cudafe++ first' "$status$(cat "$room/err")" 6bad
+    end
     begin 'a dependency file that fails'
     script "${plain[@]}" DEPENDENCIES='( exit 4 )' NINJA_DOES='sh -c "$command" || { echo "ninja: build stopped"; exit 1; }' -c k.cu -o k.o
     by_nvcc 'ninja: build stopped'
