@@ -38,8 +38,8 @@ toolkit's place for both tools, and a call takes a fifth of the processor's time
 The last line is 'N passed, M failed'. Two tools that always fail alike show nothing. So it is a failure too if no call was made, if
 most fail by both tools, if none compiles anything, or if none is split; with --only, that a call was made is enough.
 
-The lists are for nvcc 13. An older nvcc may lack an option, print no dry run of a line with --threads, or run commands in another order
-than a plan: such a call may go to nvcc for one of the reasons in OLDER, whatever its line says of @how and @launched.
+The lists are for nvcc 13. An older nvcc may lack an option, or run commands in another order than a plan: such a call may go to nvcc for
+one of the reasons in OLDER, whatever its line says of @how and @launched.
 """
 import argparse
 import concurrent.futures

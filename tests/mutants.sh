@@ -265,8 +265,20 @@ no preprocessor counts if there is a dependency file
 old: /\\.cpp1\\.ii\"\$/!d;
 new: d;
 the line's own dry run isn't waited for
-old: wait "$third"
-new: true
+old: wait "$third" ||
+new: true ||
+a line with threads isn't tried again
+old: || for_one_thread "$@"
+new: 
+each line is tried again for one thread
+old: grep -q 'Could not open input file .*_stdout$' "$own/warnings" && (
+new: (
+a line with threads has no warnings
+old: { sed '/^#\$ /d; /Could not open input file .*_stdout$/d' "$own/warnings" &&
+new: {
+an nvcc's fault is a warning
+old: /^#\$ /d; /Could not open input file .*_stdout$/d
+new: /^#\$ /d
 the line's own dry run lacks the line
 old: line_dry_run "$@" > /dev/null
 new: line_dry_run > /dev/null

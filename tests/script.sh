@@ -554,6 +554,17 @@ END
     script "${plain[@]}" LINE=1 WARNING='a warning' -c k.cu -o k.o
     by_nvcc 'a dry run fails'
     end
+    begin "the line's own dry run fails for several threads"
+    script WARNING=$'a warning\nnvcc fatal   : Could not open input file /tmp/tmpxft_00a1-10_8ed_stdout' \
+        LINE_DOES='case $* in *" --threads 1") ;; *) echo "#\$ gcc -E" >&2; exit 1 ;; esac' -t2 -c k.cu -o k.o
+    same 'status and messages' "$status$(cat "$room/err")" '0a warning'
+    holds calls "$room/log" 'nvcc [--dryrun] [-t2] [-c] [k.cu] [-o] [k.o] [--threads] [1]'
+    script "${plain[@]}" WARNING='Could not open input file /tmp/tmpxft_00a1-10_8ed_stdout' LINE=1 -t2 -c k.cu -o k.o
+    by_nvcc 'a dry run fails'
+    script "${plain[@]}" WARNING='Could not open input file k.cu' LINE=1 -t2 -c k.cu -o k.o
+    by_nvcc 'a dry run fails'
+    lacks calls "$room/log" '[--threads] [1]'
+    end
     begin "the line's own dry run is slow"
     script "${plain[@]}" LINE_DOES='sleep 0.3; echo late >&2; LINE=1' -c k.cu -o k.o
     by_nvcc 'a dry run fails'
