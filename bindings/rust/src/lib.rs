@@ -39,6 +39,7 @@ mod error;
 #[cfg(test)]
 mod layout;
 mod line;
+mod needs;
 mod plan;
 mod programs;
 mod sys;
@@ -49,6 +50,7 @@ mod words;
 pub use call::{plan_text, Form, HostCompiler, PlanCall};
 pub use error::Error;
 pub use line::{line_records, ColorMode, Language, Line, Output};
+pub use needs::needs;
 pub use plan::{plan, Command, Commands, Group, Groups, Plan, Reason, Stage, Variables};
 pub use programs::{
     candidates, find_program, find_programs, find_programs_within, lookups, lookups_within, FoundProgram, Lookup,

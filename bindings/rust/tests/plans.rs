@@ -5,7 +5,7 @@ use std::num::NonZeroUsize;
 use std::path::PathBuf;
 
 use zigrunk::{
-    candidates, find_programs, find_programs_within, lookups, lookups_within, plan, plan_text, Command, Error, Form,
+    candidates, find_programs, find_programs_within, lookups, lookups_within, needs, plan, plan_text, Command, Error, Form,
     FoundProgram, HostCompiler, Plan, PlanCall, Reason, Stage,
 };
 
@@ -117,6 +117,51 @@ fn records_of_a_small_call() {
         r#"cwd: "/t", group: Some(1), reason: None, is_cacheable: true, run: 1, line: 2 }"#,
     );
     assert_eq!(format!("{cicc:?}"), shown);
+}
+
+/// The needs of one of the real calls.
+fn needs_of(name: &str, flag: &str) -> Vec<Vec<usize>> {
+    let (dry1, dry2) = (read(name, ".dry1"), read(name, ".dry2"));
+    let programs = first_candidates(&dry1, &dry2);
+    needs(&PlanCall { flag, dry2: &dry2, ..call(&dry1, &programs) }).unwrap()
+}
+
+/// All numbers below one, which the last commands of a plan need.
+fn below(number: usize) -> Vec<usize> {
+    (0..number).collect()
+}
+
+#[test]
+fn each_cicc_of_an_object_needs_cudafe_and_its_preprocessor() {
+    let devices = [vec![0], vec![1, 2], vec![3], vec![0], vec![1, 5], vec![6]];
+    let expected = [&[vec![], vec![0]], devices.as_slice(), &[below(8), below(9)]].concat();
+    assert_eq!(needs_of("two_targets", "-c"), expected);
+}
+
+#[test]
+fn the_second_cicc_of_a_fatbin_needs_the_first() {
+    let expected = [vec![], vec![0], vec![1], vec![], vec![1, 3], vec![4], below(6)];
+    assert_eq!(needs_of("only_fatbin", "-fatbin"), expected);
+}
+
+#[test]
+fn words_that_look_like_needs() {
+    let run = |folder| {
+        let words = r#"'"needs":[7]' needs '],"needs":[8]' '\"needs\":[9]'"#;
+        format!("#$ PATH=/b\n#$ gcc -D__NVCC__ {words} -E k.cu -o {folder}k.cpp1.ii\n#$ cicc {folder}k.cpp1.ii -o k.ptx\n")
+    };
+    let (dry1, dry2) = (run(""), run("/t/"));
+    let programs = first_candidates(dry1.as_bytes(), dry2.as_bytes());
+    let variables = [("needs".to_string(), "[6]".to_string())];
+    let call = PlanCall { variables: &variables, dry2: dry2.as_bytes(), ..call(dry1.as_bytes(), &programs) };
+    let json = plan_text(&call, Form::Json).unwrap();
+    assert!(json.contains(r#"\"needs\":[7]"#), "{json}");
+    assert_eq!(needs(&call).unwrap(), [vec![], vec![0]]);
+}
+
+#[test]
+fn needs_of_calls_without_a_plan() {
+    assert_eq!(needs(&call(RUN, &[])), Err(Error::NotFound("gcc: not found".into())));
 }
 
 #[test]
