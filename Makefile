@@ -3,7 +3,7 @@ PREFIX ?= /usr/local
 DESTDIR ?=
 target = $(DESTDIR)$(PREFIX)
 
-.PHONY: help demo build lib check install install-programs install-library uninstall dist bench drivers fuzz-library must-fail refused-memory end-to-end odd-calls versions cache cluster mutants test-install dist-test check-docs lint test
+.PHONY: help demo build lib check install install-programs install-library uninstall dist bench drivers fuzz-library must-fail refused-memory end-to-end odd-calls versions cache peer cluster mutants test-install dist-test check-docs lint test
 
 help:
 	@echo 'make demo             run cudaplan, unproved, on two calls; a minute from a fresh clone'
@@ -22,6 +22,8 @@ help:
 	@echo 'make odd-calls        the same for 131 calls with odd words'
 	@echo 'make versions         the same with nvcc 11.2, 11.8 and 12.4, which it downloads from Debian, up to 3 GB; or CUDA_VERSIONS=FOLDER'
 	@echo 'make cache            compare rebuilds through sccache with and without zigrunk-nvcc; needs sccache 0.9'
+	@echo 'make peer             build Debian'\''s sccache as it is and on libzigrunk, which it downloads with its crates, 30 MB; run its tests'
+	@echo '                      and calls of nvcc by both; needs nvcc and cargo 1.85. No part of the gate'
 	@echo 'make cluster          build on a Slurm that it starts on this machine, and let nodes vanish; needs nvcc, slurm-wlm, munge, iproute2; root'
 	@echo 'make mutants          check that the tests catch wrong edits of zigrunk-nvcc, zigrunk-slot, zigrunk-plan and zigrunk-batch'
 	@echo 'make check-docs       check links, quoted code and names in the pages, and the version number'
@@ -135,6 +137,10 @@ versions:
 
 cache:
 	@tests/cache.sh
+
+# Outside the gate. It needs libzigrunk, and makes it if it isn't there: that proves its crates first.
+peer:
+	@tests/peer.sh
 
 # Packages are in docs/CLUSTER.md.
 cluster:
