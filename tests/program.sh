@@ -505,6 +505,30 @@ long_nvcc_lines() {
     named 'the directory of a word of a hundred thousand bytes' "2:/w4:nvcc0:0:${#words}:$words" /w nvcc "$words"
 }
 
+# options files of an nvcc line: in the working directory, by a whole path, of a variable, and those that can't be read
+options_files() {
+    local words='-x cu -o k.o' begin='( unset NVCC_PREPEND_FLAGS NVCC_APPEND_FLAGS; cd'
+    mkdir -p "$scratch/lines/sub"
+    printf -- '-DB=1 "-I"ab\n\t-o k.o\n' > "$scratch/lines/sub/f.rsp"
+    printf -- '-DB=\xff\n' > "$scratch/lines/latin.rsp"
+    mkfifo "$scratch/lines/pipe.rsp"
+    check 'words of a file' 0 "dependencies=''
+first_dry_run='$begin $scratch/lines && nvcc $words -DA -DB=1 -Iab -DC -c k.cu --dryrun --keep )'
+second_dry_run='$begin $scratch/lines && nvcc $words -DA -DB=1 -Iab -DC -c k.cu --keep-dir /t --dryrun --keep )'
+flag=-c
+jobs=''
+keep_dir=''
+" '' calls "$scratch/lines" /t nvcc -c k.cu -DA -optf sub/f.rsp -DC
+    printf -- '-g' > "$scratch/lines/g.rsp"
+    reads 'words of a whole path' '' "$words -g -c k.cu" -c "''" "''" -c k.cu "--options-file=$scratch/lines/g.rsp"
+    NVCC_APPEND_FLAGS="-optf $scratch/lines/g.rsp" reads 'words of a file in a variable' '' "$words -g -c k.cu" -c "''" "''" -c k.cu
+    passes 'a file that is no UTF-8' 'an options file is missing or odd' -c k.cu -optf "$scratch/lines/latin.rsp"
+    passes 'a file that is a pipe' 'an options file is missing or odd' -c k.cu -optf "$scratch/lines/pipe.rsp"
+    words=$(printf ' -DA%.0s' {1..100000})
+    printf '%s' "$words" > "$scratch/lines/long.rsp"
+    reads 'a hundred thousand words of a file' '' "-x cu -o k.o$words -c k.cu" -c "''" "''" -c k.cu -optf "$scratch/lines/long.rsp" -o k.o
+}
+
 # odd words of an nvcc line, which a shell reads back
 odd_nvcc_words() {
     "$program" calls '/a b' "/t'" 'n v' "-DA=\"x'y\"" -c k.cu -o "é *.o" > "$scratch/calls" 2> "$scratch/err"
@@ -539,7 +563,9 @@ refused_nvcc_lines() {
     passes 'a version' 'it prints something' --version
     passes 'two sources' 'it names several inputs' -c a.cu b.cu
     passes 'a preprocessor call' "its phase isn't split" -E k.cu
-    passes 'words in a file' 'it reads options from a file' -c k.cu -optf=words
+    passes 'words in a missing file' 'an options file is missing or odd' -c k.cu -optf=words
+    passes 'words in a directory' 'an options file is missing or odd' -c k.cu -optf=/
+    passes 'words in no plain file' 'an options file is missing or odd' -c k.cu -optf=/dev/null
     passes 'an output named as a generated file' 'a name looks like that of a generated file' -ptx k.cu -o k.cpp1.ii
     passes 'a generated file as the source' 'a name looks like that of a generated file' -c k.cudafe1.cpp
     passes 'a macro with a generated name' 'a name looks like that of a generated file' -c k.cu -DN=a.cpp4.ii
@@ -1165,7 +1191,7 @@ cudaplan=$program
 program=$zigrunk
 unset NVCC_PREPEND_FLAGS NVCC_APPEND_FLAGS ZIGRUNK_JOBS MAKEFLAGS
 run \
-    nvcc_lines jobs_at_once directories forms_of_cudaplan long_nvcc_lines odd_nvcc_words refused_nvcc_lines kernel_programs \
+    nvcc_lines jobs_at_once directories forms_of_cudaplan long_nvcc_lines options_files odd_nvcc_words refused_nvcc_lines kernel_programs \
     plan_scripts plan_files plan_views plan_schema whole_plans unfit_files programs_on_disk unread_files long_values statuses \
     long_exports refused_exports limits messages \
     long_messages escapes standard_input zigrunk_pages

@@ -327,7 +327,7 @@ ZIGRUNK_CHECK_RESULT zigrunk_list_answer zigrunk_line_words(const zigrunk_line_c
 /* Reads a line of nvcc and lists six texts: the command that writes its dependency file, the commands of the first and of
  * the second dry run, the flag for zigrunk_plan, how many commands run at once, and the directory that keeps generated
  * files. The commands are texts for a POSIX shell; a text is empty if the line doesn't say it. ZIGRUNK_TO_NVCC, with the
- * reason, if the line doesn't compile one source. */
+ * reason, if the line doesn't compile one source, or has an options file (--options-file), which the library doesn't read. */
 ZIGRUNK_CHECK_RESULT zigrunk_list_answer zigrunk_nvcc_line(const zigrunk_nvcc_call *call,
     zigrunk_range *ranges, size_t ranges_size, uint8_t *out, size_t out_size);
 

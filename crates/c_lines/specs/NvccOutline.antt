@@ -51,7 +51,7 @@ told (Err fault) = failed fault
 -- what an nvcc line says
 abbrev pub outcome_at : Tools → Line → Outcome
 outcome_at tools line =
-    told (nvcc_answer (record { cwd = line.cwd; tmp = tools.tmp; nvcc = tools.nvcc; words = line.words }) line.variables)
+    told (nvcc_answer (record { cwd = line.cwd; tmp = tools.tmp; nvcc = tools.nvcc; words = line.words }) line.variables [])
 
 -- a call whose reserved number is 0
 abbrev pub valid_outcome : NvccLineCall → Outcome

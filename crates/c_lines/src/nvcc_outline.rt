@@ -106,7 +106,10 @@ fn outcome_at(alloc: Global, tools: Tools<'_>, line: &Line<'_>) -> Result<Outcom
         nvcc: tools.nvcc,
         words: line.words.as_slice(),
     };
-    told(alloc, read_call(alloc, &call, line.variables.as_slice()))
+    told(
+        alloc,
+        read_call(alloc, &call, line.variables.as_slice(), &[]),
+    )
 }
 
 // A call whose reserved number is 0.

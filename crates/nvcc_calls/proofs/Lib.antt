@@ -1,1 +1,2 @@
 pub mod IdentityLemmas
+pub mod OptionLemmas

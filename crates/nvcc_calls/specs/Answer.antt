@@ -1,15 +1,18 @@
 -- What becomes of an nvcc line.
-use Rattle.std.specs.Prelude.{◌≡◌, ℕ, List, [], ◌∷◌, ◌++◌, Option, Some, None, Result, Ok, codes, refl}
+use Rattle.std.specs.Prelude.{◌≡◌, ℕ, List, [], ◌∷◌, ◌++◌, Option, Some, None, Result, Ok, if◌then◌else◌, codes, refl}
 use Rattle.std.specs.Str.{chars}
 use Rattle.texts.specs.declared.fault.Fault.{Fault}
 use Rattle.texts.specs.Rows.{spaced}
 use Rattle.cuda_below.specs.Compiler.{Reading, accepted, cannot_cache, not_compilation}
+use Rattle.cuda_below.specs.declared.arguments.ParsedArguments.{ParsedArguments}
+use Rattle.cuda_plans.specs.declared.nvcc.command.NvccCompileCommand.{NvccCompileCommand}
 use Rattle.cuda_plans.specs.Nvcc.{nvcc_reading}
 use Rattle.nvcc_words.specs.declared.call.Call.{Call}
 use Rattle.nvcc_words.specs.declared.reason.Reason.{Reason}
 use Rattle.nvcc_words.specs.declared.reason.Reason.TheVariants.{OtherReading, GeneratedName}
 use Rattle.nvcc_words.specs.declared.verdict.Verdict.{Verdict}
 use Rattle.nvcc_words.specs.declared.verdict.Verdict.TheVariants as verdicts
+use Rattle.nvcc_words.specs.Keeping.{keeps, keeps_options}
 use Rattle.nvcc_words.specs.Reasons.{text_of}
 use Rattle.nvcc_words.specs.Verdict.{verdict}
 use Rattle.texts.specs.Results.{and_then}
@@ -17,31 +20,45 @@ use Rattle.nvcc_calls.specs.declared.answer.Answer.{Answer}
 use Rattle.nvcc_calls.specs.declared.answer.Answer.TheVariants.{Split, Pass}
 use Rattle.nvcc_calls.specs.Calls.{NvccOf}
 use Rattle.nvcc_calls.specs.Hazards.{hazard_of}
-use Rattle.nvcc_calls.specs.Outline.{outline_of, outline_text}
+use Rattle.nvcc_calls.specs.Outline.{command_of, outline_of, outline_text}
+
+-- the answer to arguments that are split, given their command
+abbrev pub split_by : NvccOf → List (List ℕ × List ℕ) → ParsedArguments → NvccCompileCommand → Result Answer Fault
+split_by call variables p command = and_then (outline_of call p variables command) (λ outline. Ok (Split outline))
+
+-- the answer to arguments, given their command, which has to keep the options of the line
+abbrev pub answer_by :
+    NvccOf → List (List ℕ × List ℕ) → List (List ℕ × List ℕ) → ParsedArguments → NvccCompileCommand → Result Answer Fault
+answer_by call variables files p command =
+    if keeps_options call.words variables files command.arguments then split_by call variables p command
+    else Ok (Pass (text_of OtherReading))
+
+abbrev pub answer_to_accepted : NvccOf → List (List ℕ × List ℕ) → List (List ℕ × List ℕ) → ParsedArguments → Result Answer Fault
+answer_to_accepted call variables files p = and_then (command_of call p variables) (answer_by call variables files p)
 
 -- the answer to a normal form, by what sccache's reader made of it. It accepts each normal form
-abbrev pub answer_of : NvccOf → List (List ℕ × List ℕ) → Reading → Result Answer Fault
-answer_of call variables (accepted p) = and_then (outline_of call p variables) (λ outline. Ok (Split outline))
-answer_of call variables (cannot_cache text word) = Ok (Pass (text_of OtherReading))
-answer_of call variables not_compilation = Ok (Pass (text_of OtherReading))
+abbrev pub answer_of : NvccOf → List (List ℕ × List ℕ) → List (List ℕ × List ℕ) → Reading → Result Answer Fault
+answer_of call variables files (accepted p) = answer_to_accepted call variables files p
+answer_of call variables files (cannot_cache text word) = Ok (Pass (text_of OtherReading))
+answer_of call variables files not_compilation = Ok (Pass (text_of OtherReading))
 
 -- the answer to a line with a normal form, unless a plan of it would make something else
 abbrev pub unless_hazard : Option Reason → Result Answer Fault → Result Answer Fault
 unless_hazard None answer = answer
 unless_hazard (Some reason) answer = Ok (Pass (text_of reason))
 
-abbrev pub answer_to_normal : NvccOf → List (List ℕ × List ℕ) → Call → Result Answer Fault
-answer_to_normal call variables normal =
-    unless_hazard (hazard_of call normal) (answer_of call variables (nvcc_reading normal.words call.cwd []))
+abbrev pub answer_to_normal : NvccOf → List (List ℕ × List ℕ) → List (List ℕ × List ℕ) → Call → Result Answer Fault
+answer_to_normal call variables files normal =
+    unless_hazard (hazard_of call normal) (answer_of call variables files (nvcc_reading normal.words call.cwd []))
 
--- the answer to a line with a verdict. A normal form has the words of both variables in it
-abbrev pub answer_to : NvccOf → List (List ℕ × List ℕ) → Verdict → Result Answer Fault
-answer_to call variables (verdicts.Split normal) = answer_to_normal call variables normal
-answer_to call variables (verdicts.Pass reason) = Ok (Pass (text_of reason))
+-- the answer to a line with a verdict. A normal form has the words of both variables and of the options files in it
+abbrev pub answer_to : NvccOf → List (List ℕ × List ℕ) → List (List ℕ × List ℕ) → Verdict → Result Answer Fault
+answer_to call variables files (verdicts.Split normal) = answer_to_normal call variables files normal
+answer_to call variables files (verdicts.Pass reason) = Ok (Pass (text_of reason))
 
--- the answer to a line
-abbrev pub nvcc_answer : NvccOf → List (List ℕ × List ℕ) → Result Answer Fault
-nvcc_answer call variables = answer_to call variables (verdict call.words variables)
+-- the answer to a line, given the options files by name and text. Its commands have the words of these in it
+abbrev pub nvcc_answer : NvccOf → List (List ℕ × List ℕ) → List (List ℕ × List ℕ) → Result Answer Fault
+nvcc_answer call variables files = answer_to call variables files (verdict call.words variables files)
 
 -- Worked examples, at the working directory `/w` with the temporary directory `/t`.
 abbrev pub line_at : List (List ℕ) → NvccOf
@@ -52,39 +69,48 @@ abbrev pub split_text : Result Answer Fault → List ℕ
 split_text (Ok (Split outline)) = outline_text outline
 split_text _ = []
 
-pub line_with_dependencies : split_text (nvcc_answer (line_at (spaced "-MD -MF k.d --threads 2 -c k.cu -o k.o")) []) ≡
+pub line_with_dependencies : split_text (nvcc_answer (line_at (spaced "-MD -MF k.d --threads 2 -c k.cu -o k.o")) [] []) ≡
     codes "dependencies='( unset NVCC_PREPEND_FLAGS NVCC_APPEND_FLAGS; cd /w && nvcc -c -x cu k.cu -M -MF k.d -MT k.o )'\n" ++
     (codes "first_dry_run='( unset NVCC_PREPEND_FLAGS NVCC_APPEND_FLAGS; cd /w && nvcc -x cu -o k.o -c k.cu --dryrun --keep )'\n" ++
     (codes "second_dry_run='( unset NVCC_PREPEND_FLAGS NVCC_APPEND_FLAGS; cd /w && nvcc -x cu -o k.o -c k.cu --keep-dir /t --dryrun --keep )'\n" ++
     codes "flag=-c\njobs=2\nkeep_dir=''\n"))
-unfolding chars lib.Utf8.encode
+unfolding chars lib.Utf8.encode keeps
 line_with_dependencies = refl
 
 pub words_of_a_variable :
-    split_text (nvcc_answer (line_at (spaced "-c k.cu")) ((codes "NVCC_APPEND_FLAGS", codes "-o=j.o -Xptxas -v") ∷ [])) ≡
+    split_text (nvcc_answer (line_at (spaced "-c k.cu")) ((codes "NVCC_APPEND_FLAGS", codes "-o=j.o -Xptxas -v") ∷ []) []) ≡
     codes "dependencies=''\n" ++
     (codes "first_dry_run='( unset NVCC_PREPEND_FLAGS NVCC_APPEND_FLAGS; cd /w && nvcc -x cu -o j.o -Xptxas -v -c k.cu --dryrun --keep )'\n" ++
     (codes "second_dry_run='( unset NVCC_PREPEND_FLAGS NVCC_APPEND_FLAGS; cd /w && nvcc -x cu -o j.o -Xptxas -v -c k.cu --keep-dir /t --dryrun --keep )'\n" ++
     codes "flag=-c\njobs=''\nkeep_dir=''\n"))
-unfolding chars lib.Utf8.encode
+unfolding chars lib.Utf8.encode keeps
 words_of_a_variable = refl
 
-pub two_values : split_text (nvcc_answer (line_at (spaced "-MD -MF a.d -t2 -o a.o -c k.cu -o b.o -t3 -MF b.d")) []) ≡
+pub two_values : split_text (nvcc_answer (line_at (spaced "-MD -MF a.d -t2 -o a.o -c k.cu -o b.o -t3 -MF b.d")) [] []) ≡
     codes "dependencies='( unset NVCC_PREPEND_FLAGS NVCC_APPEND_FLAGS; cd /w && nvcc -c -x cu k.cu -M -MF b.d -MT b.o )'\n" ++
     (codes "first_dry_run='( unset NVCC_PREPEND_FLAGS NVCC_APPEND_FLAGS; cd /w && nvcc -x cu -o b.o -c k.cu --dryrun --keep )'\n" ++
     (codes "second_dry_run='( unset NVCC_PREPEND_FLAGS NVCC_APPEND_FLAGS; cd /w && nvcc -x cu -o b.o -c k.cu --keep-dir /t --dryrun --keep )'\n" ++
     codes "flag=-c\njobs=3\nkeep_dir=''\n"))
-unfolding chars lib.Utf8.encode
+unfolding chars lib.Utf8.encode keeps
 two_values = refl
 
-pub preprocessor_call : nvcc_answer (line_at (spaced "-E k.cu")) [] ≡ Ok (Pass (codes "its phase isn't split"))
+pub preprocessor_call : nvcc_answer (line_at (spaced "-E k.cu")) [] [] ≡ Ok (Pass (codes "its phase isn't split"))
 preprocessor_call = refl
 
-pub two_sources : nvcc_answer (line_at (spaced "-c a.cu b.cu")) [] ≡ Ok (Pass (codes "it names several inputs"))
+pub two_sources : nvcc_answer (line_at (spaced "-c a.cu b.cu")) [] [] ≡ Ok (Pass (codes "it names several inputs"))
 two_sources = refl
 
-pub no_line : nvcc_answer (line_at []) [] ≡ Ok (Pass (codes "it links"))
+pub no_line : nvcc_answer (line_at []) [] [] ≡ Ok (Pass (codes "it links"))
 no_line = refl
 
-pub generated_name : nvcc_answer (line_at (spaced "-ptx k.cu -o k.cpp1.ii")) [] ≡ Ok (Pass (text_of GeneratedName))
+pub generated_name : nvcc_answer (line_at (spaced "-ptx k.cu -o k.cpp1.ii")) [] [] ≡ Ok (Pass (text_of GeneratedName))
 generated_name = refl
+
+pub words_of_a_file :
+    split_text (nvcc_answer (line_at (spaced "-c k.cu --options-file inc.rsp -Iz")) [] ((codes "inc.rsp", codes "-Ix -Iy -o j.o\n") ∷ [])) ≡
+    codes "dependencies=''\n" ++
+    (codes "first_dry_run='( unset NVCC_PREPEND_FLAGS NVCC_APPEND_FLAGS; cd /w && nvcc -x cu -o j.o -Ix -Iy -Iz -c k.cu --dryrun --keep )'\n" ++
+    (codes "second_dry_run='( unset NVCC_PREPEND_FLAGS NVCC_APPEND_FLAGS; cd /w && nvcc -x cu -o j.o -Ix -Iy -Iz -c k.cu --keep-dir /t --dryrun --keep )'\n" ++
+    codes "flag=-c\njobs=''\nkeep_dir=''\n"))
+unfolding chars lib.Utf8.encode keeps
+words_of_a_file = refl

@@ -3,4 +3,5 @@ pub mod Calls
 pub mod Directory
 pub mod Hazards
 pub mod Jobs
+pub mod Laws
 pub mod Outline

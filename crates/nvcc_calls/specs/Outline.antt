@@ -84,13 +84,12 @@ abbrev pub command_of : NvccOf → ParsedArguments → List (List ℕ × List �
 command_of call p variables =
     and_then (nvcc_written call.nvcc p call.cwd variables Gcc (places_of call p)) (λ made. Ok made.0)
 
--- what a line's arguments say. A fault of the line comes before a fault of its language
-abbrev pub outline_of : NvccOf → ParsedArguments → List (List ℕ × List ℕ) → Result Outline Fault
-outline_of call p variables =
-    and_then (command_of call p variables) (λ command.
+-- what a line's arguments say, given their command. A fault of the line comes before a fault of its language
+abbrev pub outline_of : NvccOf → ParsedArguments → List (List ℕ × List ℕ) → NvccCompileCommand → Result Outline Fault
+outline_of call p variables command =
     and_then (dependencies_of call p variables) (λ dependencies.
     and_then (jobs_of_line call p variables) (λ jobs.
-    Ok (outline_with command dependencies jobs))))
+    Ok (outline_with command dependencies jobs)))
 
 -- the line that gives a variable a value
 abbrev pub assignment : List ℕ → List ℕ → List ℕ

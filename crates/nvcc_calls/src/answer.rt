@@ -12,11 +12,11 @@ ghost use Rattle.nvcc_calls.specs.Calls.{nvcc_of};
 
 use crate::call::NvccCall;
 use crate::hazard::hazard_of;
-use crate::outline::{Outline, outline_of};
+use crate::outline::{Outline, command, outline_of};
 use cuda_below::arguments::{CompilerArguments, ParsedArguments};
 use cuda_below::compiler::CCompilerImpl;
-use cuda_plans::nvcc::Nvcc;
-use nvcc_words::{Call, Reason, Verdict, normalize};
+use cuda_plans::nvcc::{Nvcc, NvccCompileCommand};
+use nvcc_words::{Call, Reason, Verdict, keeps_options, normalize};
 use std::alloc::{AllocError, Global};
 use texts::fault::Fault;
 use texts::text::Text;
@@ -37,19 +37,64 @@ fn passed(alloc: Global, reason: Reason) -> Result<Answer, AllocError>
     Ok(Answer::Pass(Text::copy_of(alloc, reason.text())?))
 }
 
+// The answer to a line whose arguments are split.
+fn split_by(
+    alloc: Global,
+    call: &NvccCall<'_>,
+    parsed: &ParsedArguments,
+    variables: &[(String, String)],
+    command: &NvccCompileCommand,
+) -> Result<Answer, Fault>
+    ensures { UnlessMemory result (spec.split_by (nvcc_of call.now) (map pair_of variables.now) parsed.now command.now) }
+{
+    Ok(Answer::Split(outline_of(alloc, call, parsed, variables, command)?))
+}
+
+// The answer to arguments, given their command.
+fn answer_by(
+    alloc: Global,
+    call: &NvccCall<'_>,
+    parsed: &ParsedArguments,
+    variables: &[(String, String)],
+    files: &[(String, String)],
+    command: &NvccCompileCommand,
+) -> Result<Answer, Fault>
+    ensures { UnlessMemory result (spec.answer_by (nvcc_of call.now) (map pair_of variables.now) (map pair_of files.now) parsed.now command.now) }
+{
+    let written = command.arguments.as_slice();
+    if keeps_options(alloc, call.words, variables, files, written)? {
+        split_by(alloc, call, parsed, variables, command)
+    } else {
+        Ok(passed(alloc, Reason::OtherReading)?)
+    }
+}
+
+// The answer to arguments that sccache's reader accepted.
+fn answer_to_accepted(
+    alloc: Global,
+    call: &NvccCall<'_>,
+    parsed: &ParsedArguments,
+    variables: &[(String, String)],
+    files: &[(String, String)],
+) -> Result<Answer, Fault>
+    ensures { UnlessMemory result (spec.answer_to_accepted (nvcc_of call.now) (map pair_of variables.now) (map pair_of files.now) parsed.now) }
+{
+    let command = command(alloc, call, parsed, variables)?;
+    answer_by(alloc, call, parsed, variables, files, &command)
+}
+
 // The answer to a normal form, by what sccache's reader made of it.
 fn answer_of(
     alloc: Global,
     call: &NvccCall<'_>,
     reading: &CompilerArguments<ParsedArguments>,
     variables: &[(String, String)],
+    files: &[(String, String)],
 ) -> Result<Answer, Fault>
-    ensures { UnlessMemory result (spec.answer_of (nvcc_of call.now) (map pair_of variables.now) (reading_of reading.now)) }
+    ensures { UnlessMemory result (spec.answer_of (nvcc_of call.now) (map pair_of variables.now) (map pair_of files.now) (reading_of reading.now)) }
 {
     match reading {
-        CompilerArguments::Ok(parsed) => {
-            Ok(Answer::Split(outline_of(alloc, call, parsed, variables)?))
-        }
+        CompilerArguments::Ok(parsed) => answer_to_accepted(alloc, call, parsed, variables, files),
         _ => Ok(passed(alloc, Reason::OtherReading)?),
     }
 }
@@ -60,12 +105,13 @@ fn answer_to(
     call: &NvccCall<'_>,
     words: &[String],
     variables: &[(String, String)],
+    files: &[(String, String)],
 ) -> Result<Answer, Fault>
-    ensures { UnlessMemory result (spec.answer_of (nvcc_of call.now) (map pair_of variables.now)
+    ensures { UnlessMemory result (spec.answer_of (nvcc_of call.now) (map pair_of variables.now) (map pair_of files.now)
         (nvcc_reading (map string_bytes words.now) (nvcc_of call.now).cwd [])) }
 {
     let reading = Nvcc::gcc().parse_arguments(alloc, words, call.cwd, &[])?;
-    let answer = answer_of(alloc, call, &reading, variables);
+    let answer = answer_of(alloc, call, &reading, variables, files);
     // Dropped by a call: see "Explicit drops" in docs/ARCHITECTURE.md.
     drop(reading);
     answer
@@ -77,17 +123,18 @@ fn answer_to_normal(
     call: &NvccCall<'_>,
     normal: &Call,
     variables: &[(String, String)],
+    files: &[(String, String)],
 ) -> Result<Answer, Fault>
-    ensures { UnlessMemory result (spec.answer_to_normal (nvcc_of call.now) (map pair_of variables.now) normal.now) }
+    ensures { UnlessMemory result (spec.answer_to_normal (nvcc_of call.now) (map pair_of variables.now) (map pair_of files.now) normal.now) }
 {
     match hazard_of(alloc, call, normal)? {
         Some(reason) => Ok(passed(alloc, reason)?),
-        None => answer_to(alloc, call, normal.words.as_slice(), variables),
+        None => answer_to(alloc, call, normal.words.as_slice(), variables, files),
     }
 }
 
 /// Reads an nvcc line as nvcc does, at the call's working directory, with `variables`, those of the environment that nvcc and
-/// Ninja's jobs depend on. A call that compiles one source is split, unless a plan of it would make something else; any other
+/// Ninja's jobs depend on, and `files`, the options files by name and text. `file_names` names them. A call that compiles one source is split, unless a plan of it would make something else; any other
 /// goes to nvcc.
 ///
 /// Fails if `generate_compile_commands` or `preprocess` of nvcc does.
@@ -95,11 +142,12 @@ pub fn read_call(
     alloc: Global,
     call: &NvccCall<'_>,
     variables: &[(String, String)],
+    files: &[(String, String)],
 ) -> Result<Answer, Fault>
-    ensures { UnlessMemory result (spec.nvcc_answer (nvcc_of call.now) (map pair_of variables.now)) }
+    ensures { UnlessMemory result (spec.nvcc_answer (nvcc_of call.now) (map pair_of variables.now) (map pair_of files.now)) }
 {
-    match normalize(alloc, call.words, variables)? {
-        Verdict::Split(normal) => answer_to_normal(alloc, call, &normal, variables),
+    match normalize(alloc, call.words, variables, files)? {
+        Verdict::Split(normal) => answer_to_normal(alloc, call, &normal, variables, files),
         Verdict::Pass(reason) => Ok(passed(alloc, reason)?),
     }
 }

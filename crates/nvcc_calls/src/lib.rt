@@ -14,5 +14,6 @@ mod shell;
 pub use answer::{Answer, read_call};
 pub use call::{NvccCall, nvcc_call};
 pub use directory::{DirectoryCall, directory_call, directory_name};
+pub use nvcc_words::file_names;
 pub use outline::Outline;
 pub use shell::shell_text;

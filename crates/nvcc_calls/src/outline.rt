@@ -138,8 +138,8 @@ fn places(
     })
 }
 
-// The nvcc command of a line's arguments.
-fn command(
+/// The nvcc command of a line's arguments.
+pub fn command(
     alloc: Global,
     call: &NvccCall<'_>,
     parsed: &ParsedArguments,
@@ -212,32 +212,17 @@ fn outline_with(
     })
 }
 
-// What a line says, given its command.
-fn outline_by(
+/// What a line's arguments say, given their command.
+pub fn outline_of(
     alloc: Global,
     call: &NvccCall<'_>,
     parsed: &ParsedArguments,
     variables: &[(String, String)],
     command: &NvccCompileCommand,
 ) -> Result<Outline, Fault>
-    ensures { UnlessMemory result (and_then (spec.dependencies_of (nvcc_of call.now) parsed.now (map pair_of variables.now)) (λ dependencies.
-        and_then (spec.jobs_of_line (nvcc_of call.now) parsed.now (map pair_of variables.now)) (λ jobs.
-        Ok (spec.outline_with command.now dependencies jobs)))) }
+    ensures { UnlessMemory result (spec.outline_of (nvcc_of call.now) parsed.now (map pair_of variables.now) command.now) }
 {
     let dependencies = dependencies(alloc, call, parsed, variables)?;
     let jobs = jobs_text(alloc, call, parsed, variables)?;
     Ok(outline_with(alloc, command, dependencies, jobs)?)
-}
-
-/// What a line's arguments say.
-pub fn outline_of(
-    alloc: Global,
-    call: &NvccCall<'_>,
-    parsed: &ParsedArguments,
-    variables: &[(String, String)],
-) -> Result<Outline, Fault>
-    ensures { UnlessMemory result (spec.outline_of (nvcc_of call.now) parsed.now (map pair_of variables.now)) }
-{
-    let command = command(alloc, call, parsed, variables)?;
-    outline_by(alloc, call, parsed, variables, &command)
 }

@@ -113,19 +113,19 @@ agrees-anywhere cwd words call =
 abbrev environment_is_plain : List (List ℕ × List ℕ) → Bool
 environment_is_plain variables = is_plain prepended_name variables && is_plain appended_name variables
 
-normal-parts : (call : Call) → is_normal call ≡ true → (nvcc_call call.words ≡ Ok call) × (agrees (sccache_reading [] call.words) call ≡ true)
+normal-parts : (call : Call) → is_normal call ≡ true → (nvcc_call [] call.words ≡ Ok call) × (agrees (sccache_reading [] call.words) call ≡ true)
 normal-parts call e =
-    let parts = and_parts (is_call (nvcc_call call.words) call) _ e in
-    (read-is (nvcc_call call.words) call parts.0, parts.1)
+    let parts = and_parts (is_call (nvcc_call [] call.words) call) _ e in
+    (read-is (nvcc_call [] call.words) call parts.0, parts.1)
 
 pub split-lines : SplitLinesReadAlike
-split-lines words variables call e =
-    let found = verdict-split (environment_is_plain variables) (nvcc_call (with_added_words variables words)) call e in
+split-lines words variables files call e =
+    let found = verdict-split (environment_is_plain variables) (nvcc_call files (with_added_words variables words)) call e in
     (found.0, λ cwd. agrees-reads (sccache_reading cwd call.words) call (agrees-anywhere cwd call.words call ∙ (normal-parts call found.1).1))
 
 pub normal-forms : NormalFormsAreKept
-normal-forms words variables call e =
-    let found = verdict-split (environment_is_plain variables) (nvcc_call (with_added_words variables words)) call e in
-    ap (λ ws. judged (nvcc_call ws)) (append-nil call.words)
+normal-forms words variables files call e =
+    let found = verdict-split (environment_is_plain variables) (nvcc_call files (with_added_words variables words)) call e in
+    ap (λ ws. judged (nvcc_call [] ws)) (append-nil call.words)
     ∙ ap judged (normal-parts call found.1).0
     ∙ ap (λ b. cond b (Split call) (Pass OtherReading)) found.1

@@ -1,3 +1,4 @@
+pub mod KeepingLemmas
 pub mod LawLemmas
 pub mod LineLemmas
 pub mod TableLemmas

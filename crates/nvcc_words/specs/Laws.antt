@@ -28,10 +28,11 @@ ReadsAs call reading = (p : ParsedArguments) × (reading ≡ accepted p) × IsCa
 -- a call that a line is split into is nvcc's reading of that line, and sccache's reader reads its words as the call
 abbrev pub SplitLinesReadAlike : Type 0
 SplitLinesReadAlike =
-    (words : List (List ℕ)) (variables : List (List ℕ × List ℕ)) (call : Call) → verdict words variables ≡ Split call →
-    (nvcc_call (with_added_words variables words) ≡ Ok call) × ((cwd : List ℕ) → ReadsAs call (sccache_reading cwd call.words))
+    (words : List (List ℕ)) (variables files : List (List ℕ × List ℕ)) (call : Call) → verdict words variables files ≡ Split call →
+    (nvcc_call files (with_added_words variables words) ≡ Ok call) × ((cwd : List ℕ) → ReadsAs call (sccache_reading cwd call.words))
 
 -- the words that a line is split into are split into themselves
 abbrev pub NormalFormsAreKept : Type 0
 NormalFormsAreKept =
-    (words : List (List ℕ)) (variables : List (List ℕ × List ℕ)) (call : Call) → verdict words variables ≡ Split call → verdict call.words [] ≡ Split call
+    (words : List (List ℕ)) (variables files : List (List ℕ × List ℕ)) (call : Call) → verdict words variables files ≡ Split call →
+    verdict call.words [] [] ≡ Split call

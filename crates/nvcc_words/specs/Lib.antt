@@ -1,4 +1,6 @@
 pub mod Asked
+pub mod Files
+pub mod Keeping
 pub mod Laws
 pub mod NormalForm
 pub mod Options

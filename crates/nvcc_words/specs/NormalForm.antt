@@ -2,7 +2,7 @@
 use Rattle.std.specs.Prelude.{◌≡◌, ℕ, List, [], ◌∷◌, ◌++◌, Bool, true, false, not, ◌==◌, ◌&&◌, ◌||◌, length, is_some, is_none, unwrap_or, if◌then◌else◌, Option, Some, None, Result, Ok, Err, refl, codes}
 use Rattle.std.specs.List.{list_any, list_all}
 use Rattle.std.specs.Option.{option_or, option_map_or}
-use Rattle.std.specs.Str.{bytes_eq}
+use Rattle.std.specs.Str.{bytes_eq, chars}
 use Rattle.texts.specs.Path.{joined}
 use Rattle.texts.specs.Extension.{last_part, extension_of, with_extension}
 use Rattle.texts.specs.ObjectFlags.{makes_objects}
@@ -10,7 +10,7 @@ use Rattle.texts.specs.Rows.{spaced}
 use Rattle.nvcc_words.specs.declared.asked.Asked.{Asked}
 use Rattle.nvcc_words.specs.declared.call.Call.{Call}
 use Rattle.nvcc_words.specs.declared.reason.Reason.{Reason}
-use Rattle.nvcc_words.specs.declared.reason.Reason.TheVariants.{Links, SeveralPhases, NoInput, SeveralInputs, NotSource, HostSource, StandardOutput, HiddenName, UnknownOption, DependencyWords, ShellCharacter}
+use Rattle.nvcc_words.specs.declared.reason.Reason.TheVariants.{Links, SeveralPhases, NoInput, SeveralInputs, NotSource, HostSource, StandardOutput, HiddenName, UnknownOption, MissingValue, OptionsFile, DependencyWords, ShellCharacter}
 use Rattle.nvcc_words.specs.Words.{is_unexpanded}
 use Rattle.nvcc_words.specs.Asked.{asked_of, reason_unless}
 
@@ -205,19 +205,38 @@ unless_refused (Some reason) call = Err reason
 abbrev pub settled : Asked → Result Call Reason
 settled a = unless_refused (reason_of a) (call_of a)
 
--- nvcc's reading of a line, or why its call is left to nvcc
-abbrev pub nvcc_call : List (List ℕ) → Result Call Reason
-nvcc_call words = if list_all is_unexpanded words then settled (asked_of words) else Err ShellCharacter
+-- nvcc's reading of a line, given the options files by name and text, or why its call is left to nvcc
+abbrev pub nvcc_call : List (List ℕ × List ℕ) → List (List ℕ) → Result Call Reason
+nvcc_call files words = if list_all is_unexpanded words then settled (asked_of files words) else Err ShellCharacter
 
 -- examples: of two values the last counts, and comes once
 abbrev pub two_outputs_call : Call
 two_outputs_call = record { flag = codes "-c"; input = codes "k.cu"; output = codes "b.o"; words = spaced "-c -o b.o k.cu" }
 
-pub last_output_counts : nvcc_call (spaced "-c k.cu -o a.o --output-file=b.o") ≡ Ok two_outputs_call
+pub last_output_counts : nvcc_call [] (spaced "-c k.cu -o a.o --output-file=b.o") ≡ Ok two_outputs_call
 last_output_counts = refl
 
 abbrev pub two_files_call : Call
 two_files_call = record { flag = codes "-c"; input = codes "k.cu"; output = codes "k.o"; words = spaced "-c -o k.o -MD -g -MF b.d -MT t k.cu" }
 
-pub last_file_counts : nvcc_call (spaced "-MF a.d -MT s -MD -MT t -g -MF b.d -c k.cu") ≡ Ok two_files_call
+pub last_file_counts : nvcc_call [] (spaced "-MF a.d -MT s -MD -MT t -g -MF b.d -c k.cu") ≡ Ok two_files_call
 last_file_counts = refl
+
+-- examples: the words of a file count where it is named, and no value comes from behind it
+abbrev pub file_call : Call
+file_call = record { flag = codes "-c"; input = codes "k.cu"; output = codes "k.o"; words = spaced "-c -o k.o -DA=1 -DA=2 -DA=3 k.cu" }
+
+pub words_of_a_file : nvcc_call ((codes "f", codes "-DA=2 -o k.o\n") ∷ []) (spaced "-DA=1 -o j.o --options-file f -DA=3 -c k.cu") ≡ Ok file_call
+unfolding chars lib.Utf8.encode
+words_of_a_file = refl
+
+pub value_behind_a_file : nvcc_call ((codes "f", codes "-arch") ∷ []) (spaced "-c k.cu -optf=f sm_80") ≡ Err MissingValue
+unfolding chars lib.Utf8.encode
+value_behind_a_file = refl
+
+pub file_in_a_file : nvcc_call ((codes "f", codes "-optf g") ∷ (codes "g", codes "-c") ∷ []) (spaced "k.cu -optf f") ≡ Err OptionsFile
+unfolding chars lib.Utf8.encode
+file_in_a_file = refl
+
+pub missing_file : nvcc_call [] (spaced "-c k.cu -optf f") ≡ Err OptionsFile
+missing_file = refl

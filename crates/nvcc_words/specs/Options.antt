@@ -1,8 +1,8 @@
 -- nvcc 13's options: every name that nvcc takes, and what it does with a value.
 use Rattle.std.specs.Prelude.{ℕ, List, [], ◌∷◌, ◌++◌, map, Some, None, codes}
 use Rattle.nvcc_words.specs.declared.options.Purpose.{Purpose}
-use Rattle.nvcc_words.specs.declared.options.Purpose.TheVariants.{Define, Dependencies, DependencyFile, DependencyPhonies, DependencyTarget, Forward, Include, KeepDirectory, Language, OptimizationInfo, Output, OutputDirectory, Passes, Phase, Plain, PreInclude, Quoted, TargetDirectory, Threads, Undefine, Unquoted}
-use Rattle.nvcc_words.specs.declared.reason.Reason.TheVariants.{Cleans, DrivePrefix, Jobserver, Links, Measures, OptionsFile, OtherPhase, Prints, StandardInput, TemporaryFiles}
+use Rattle.nvcc_words.specs.declared.options.Purpose.TheVariants.{Define, Dependencies, DependencyFile, DependencyPhonies, DependencyTarget, File, Forward, Include, Keep, KeepDirectory, Language, OptimizationInfo, Output, OutputDirectory, Passes, Phase, Plain, PreInclude, Quoted, TargetDirectory, Threads, Undefine, Unquoted}
+use Rattle.nvcc_words.specs.declared.reason.Reason.TheVariants.{Cleans, DrivePrefix, Jobserver, Links, Measures, OtherPhase, Prints, StandardInput, TemporaryFiles}
 use Rattle.texts.specs.Rows.{spaced}
 use Rattle.option_items.specs.declared.table.ArgDisposition.{ArgDisposition}
 use Rattle.option_items.specs.declared.table.ArgDisposition.TheVariants.{Concatenated, CanBeSeparated}
@@ -39,12 +39,12 @@ nvcc_entries =
     ++ spaced "--expt-relaxed-constexpr -expt-relaxed-constexpr --extended-lambda -extended-lambda"
     ++ spaced "--extensible-whole-program -ewp --extra-device-vectorization -extra-device-vectorization"
     ++ spaced "--fdevice-syntax-only -fdevice-syntax-only --force-cl-env-setup -force-cl-env-setup"
-    ++ spaced "--gen-opt-lto -gen-opt-lto --generate-line-info -lineinfo --keep -keep --keep-device-functions"
+    ++ spaced "--gen-opt-lto -gen-opt-lto --generate-line-info -lineinfo --keep-device-functions"
     ++ spaced "-keep-device-functions --lto -lto --m64 -m64 --no-align-double --no-compress -no-compress"
     ++ spaced "--no-device-link -nodlink --no-display-error-number -no-err-no --no-exceptions -noeh"
     ++ spaced "--no-host-device-initializer-list -nohdinitlist --no-host-device-move-forward -nohdmoveforward"
     ++ spaced "--profile -pg --relocatable-ptx -reloc-ptx --resource-usage -res-usage --restrict -restrict"
-    ++ spaced "--save-temps -save-temps --shared -shared --source-in-ptx -src-in-ptx --use-local-env -use-local-env"
+    ++ spaced "--shared -shared --source-in-ptx -src-in-ptx --use-local-env -use-local-env"
     ++ spaced "--use_fast_math -use_fast_math --Wdefault-stream-launch -Wdefault-stream-launch"
     ++ spaced "--Wext-lambda-captures-this -Wext-lambda-captures-this --Wmissing-launch-bounds"
     ++ spaced "-Wmissing-launch-bounds --Wno-deprecated-declarations -Wno-deprecated-declarations"
@@ -89,6 +89,7 @@ nvcc_entries =
     ++ valued OutputDirectory (spaced "--output-directory -odir")
     ++ valued Language (spaced "--x -x")
     -- words that don't reach nvcc again
+    ++ flags Keep (spaced "--keep -keep --save-temps -save-temps")
     ++ valued KeepDirectory (spaced "--keep-dir -keep-dir")
     ++ long_and_short Threads (codes "--threads") (codes "-t")
     -- the dependency file
@@ -96,6 +97,8 @@ nvcc_entries =
     ++ flags DependencyPhonies (spaced "--generate-dependency-targets -MP")
     ++ valued DependencyFile (spaced "--dependency-output -MF")
     ++ valued DependencyTarget (spaced "--dependency-target-name -MT")
+    -- files with further words
+    ++ valued File (spaced "--options-file -optf")
     -- options that leave the call to nvcc
     ++ flags (Passes Prints)
     (spaced "--dryrun -dryrun --help -h --list-gpu-arch -arch-ls --list-gpu-code -code-ls --verbose -v --version"
@@ -108,7 +111,6 @@ nvcc_entries =
     ++ flags (Passes OtherPhase)
     (spaced "--cuda -cuda --generate-dependencies -M --generate-nonsystem-dependencies -MM --ltoir -ltoir"
     ++ spaced "--preprocess -E")
-    ++ valued (Passes OptionsFile) (spaced "--options-file -optf")
     ++ valued (Passes Measures) (spaced "--fdevice-time-trace -fdevice-time-trace --time -time")
     ++ flags (Passes TemporaryFiles) (spaced "--objdir-as-tempdir -objtemp")
     ++ flags (Passes Jobserver) (spaced "--jobserver -jobserver")

@@ -20,6 +20,7 @@ use Rattle.nvcc_words.specs.declared.verdict.Verdict.TheVariants.{Split, Pass}
 use Rattle.nvcc_words.specs.declared.reason.Reason.{Reason}
 use Rattle.nvcc_words.specs.declared.reason.Reason.TheVariants.{VariableQuotes, OtherReading}
 use Rattle.nvcc_words.specs.Words.{is_cut_at_spaces}
+use Rattle.nvcc_words.specs.Asked.{asked_of}
 use Rattle.nvcc_words.specs.NormalForm.{nvcc_call}
 
 -- whether two calls are one
@@ -48,7 +49,7 @@ agrees not_compilation call = false
 
 -- whether a call's words are a normal form: nvcc reads them as this call again, and sccache's reader agrees
 abbrev pub is_normal : Call → Bool
-is_normal call = is_call (nvcc_call call.words) call && agrees (sccache_reading [] call.words) call
+is_normal call = is_call (nvcc_call [] call.words) call && agrees (sccache_reading [] call.words) call
 
 abbrev pub judged : Result Call Reason → Verdict
 judged (Ok call) = if is_normal call then Split call else Pass OtherReading
@@ -58,8 +59,12 @@ judged (Err reason) = Pass reason
 abbrev pub is_plain : List ℕ → List (List ℕ × List ℕ) → Bool
 is_plain name variables = option_map_or is_cut_at_spaces (first_value name variables) true
 
--- the verdict on the words of a line in an environment
-abbrev pub verdict : List (List ℕ) → List (List ℕ × List ℕ) → Verdict
-verdict words variables =
-    if is_plain prepended_name variables && is_plain appended_name variables then judged (nvcc_call (with_added_words variables words))
+-- the verdict on the words of a line in an environment, given the options files by name and text
+abbrev pub verdict : List (List ℕ) → List (List ℕ × List ℕ) → List (List ℕ × List ℕ) → Verdict
+verdict words variables files =
+    if is_plain prepended_name variables && is_plain appended_name variables then judged (nvcc_call files (with_added_words variables words))
     else Pass VariableQuotes
+
+-- the names of the options files that a line names in an environment, in their order
+abbrev pub file_names : List (List ℕ) → List (List ℕ × List ℕ) → List (List ℕ)
+file_names words variables = (asked_of [] (with_added_words variables words)).files

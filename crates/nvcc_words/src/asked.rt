@@ -4,11 +4,16 @@ ghost use Rattle.std.specs.Prelude.{◌≡◌, ◌++◌, ◌∷◌, [], OnOk, If
 ghost use Rattle.std.specs.Str.{bytes_eq};
 ghost use Rattle.std.specs.Option.{option_copied};
 ghost use Rattle.option_items.specs.Views.{item_seen, item_viewed};
+ghost use Rattle.texts.specs.Variables.{pair_of};
 ghost use Rattle.nvcc_words.specs.Asked as spec;
+ghost use Rattle.nvcc_words.specs.Files as contents;
 
+use crate::files::words_of_file;
 use crate::options::{Purpose, table};
 use crate::reason::Reason;
-use crate::word_tests::{equals_word, has_no_operator, is_joinable, is_language, is_number};
+use crate::word_tests::{
+    are_unexpanded, equals_word, has_no_operator, is_joinable, is_language, is_number,
+};
 use cuda_below::gcc;
 use host_lines::nvcc;
 use option_items::items::{ArgParseError, Line};
@@ -16,6 +21,7 @@ use option_items::table::{Pair, SearchableArgInfo};
 use option_items::views::{ArgumentView, view_item};
 use std::alloc::{AllocError, Global};
 use texts::text::Text;
+use texts::variables::Variables;
 use texts::words::Words;
 
 /// What the items of a line ask nvcc for. Each list has texts in the line's order.
@@ -45,12 +51,17 @@ pub struct Asked {
     pub dependency_file: Option<Text>,
     /// The last value of `-MT`.
     pub dependency_target: Option<Text>,
+    /// The names of options files whose words aren't given.
+    pub files: Words,
     /// The flags that have nvcc forward words that it doesn't know.
     pub forwards: Words,
     /// The words that look like options and that nvcc doesn't know.
     pub unknown: Words,
     /// The words of the other options, in a normal form: all but phases and those of which only the last value counts.
     pub kept: Words,
+    /// The options that a plan has to keep, by name and value: all but those of phases, outputs, kept files, dependency files and
+    /// threads. A flag has the empty value.
+    pub options: Variables,
 }
 
 /// Adds a word that is two texts.
@@ -100,7 +111,8 @@ fn push_option(
         | Purpose::Threads
         | Purpose::KeepDirectory
         | Purpose::DependencyFile
-        | Purpose::DependencyTarget => Ok(()),
+        | Purpose::DependencyTarget
+        | Purpose::File => Ok(()),
         Purpose::Define => push_joined(alloc, words, "-D", value),
         Purpose::Undefine => push_joined(alloc, words, "-U", value),
         Purpose::Include => push_joined(alloc, words, "-I", value),
@@ -108,6 +120,87 @@ fn push_option(
         Purpose::OptimizationInfo => push_joined(alloc, words, "--optimization-info=", value),
         Purpose::TargetDirectory => push_joined(alloc, words, "--target-directory=", value),
         _ => words.push(equals_word(alloc, text, value)?),
+    }
+}
+
+// Adds a name and a value.
+fn push_named(
+    alloc: Global,
+    options: &mut Variables,
+    name: &str,
+    value: &str,
+) -> Result<(), AllocError>
+    ensures { OnOk result (options.new ≡ options.old ++ (name.now, value.now) ∷ []) }
+{
+    let name = String::from_str(alloc, name)?;
+    options.push(name, String::from_str(alloc, value)?)
+}
+
+// Adds a flag to the options that stay, if it is one.
+fn push_flag_option(
+    alloc: Global,
+    options: &mut Variables,
+    text: &str,
+    purpose: Purpose,
+) -> Result<(), AllocError>
+    ensures { OnOk result (options.new ≡ options.old ++ spec.flag_options text.now purpose) }
+{
+    match purpose {
+        Purpose::Phase | Purpose::Dependencies | Purpose::DependencyPhonies | Purpose::Keep => {
+            Ok(())
+        }
+        _ => push_named(alloc, options, text, ""),
+    }
+}
+
+// The name of an option without the `=` of its longer spelling.
+fn bare_name(text: &str) -> &str
+    ensures { result.now ≡ spec.bare_name text.now }
+{
+    match text {
+        "-O=" => "-O",
+        "-L=" => "-L",
+        "-l=" => "-l",
+        _ => text,
+    }
+}
+
+// The name of an option with a value among the options that stay, if it is one.
+fn option_name(text: &str, purpose: Purpose) -> Option<&str>
+    ensures { option_copied result ≡ spec.option_name text.now purpose }
+{
+    match purpose {
+        Purpose::Output
+        | Purpose::OutputDirectory
+        | Purpose::Language
+        | Purpose::Threads
+        | Purpose::KeepDirectory
+        | Purpose::DependencyFile
+        | Purpose::DependencyTarget
+        | Purpose::File => None,
+        Purpose::Define => Some("-D"),
+        Purpose::Undefine => Some("-U"),
+        Purpose::Include => Some("-I"),
+        Purpose::PreInclude => Some("-include"),
+        Purpose::OptimizationInfo => Some("--optimization-info"),
+        Purpose::TargetDirectory => Some("--target-directory"),
+        _ => Some(bare_name(text)),
+    }
+}
+
+// Adds an option with its value to the options that stay, if it is one.
+fn push_value_option(
+    alloc: Global,
+    options: &mut Variables,
+    text: &str,
+    value: &str,
+    purpose: Purpose,
+) -> Result<(), AllocError>
+    ensures { OnOk result (options.new ≡ options.old ++ spec.named (spec.option_name text.now purpose) value.now) }
+{
+    match option_name(text, purpose) {
+        Some(name) => push_named(alloc, options, name, value),
+        None => Ok(()),
     }
 }
 
@@ -152,6 +245,7 @@ fn value_refusal(value: &str, purpose: Purpose) -> Option<Reason>
         ),
         Purpose::Language => reason_unless(is_language(value), Reason::BadValue),
         Purpose::Threads => reason_unless(is_number(value), Reason::BadValue),
+        Purpose::File => Some(Reason::OptionsFile),
         _ => None,
     }
 }
@@ -208,9 +302,11 @@ impl Asked {
             phonies: Words::new(alloc),
             dependency_file: None,
             dependency_target: None,
+            files: Words::new(alloc),
             forwards: Words::new(alloc),
             unknown: Words::new(alloc),
             kept: Words::new(alloc),
+            options: Variables::new(alloc),
         }
     }
 
@@ -250,6 +346,7 @@ impl Asked {
             Purpose::DependencyTarget => {
                 self.dependency_target = Some(Text::copy_of(alloc, value)?)
             }
+            Purpose::File => self.files.push_str(alloc, value)?,
             _ => {}
         }
         Ok(())
@@ -261,6 +358,7 @@ impl Asked {
     {
         self.note_flag(alloc, text, purpose)?;
         self.refuse(flag_refusal(purpose));
+        push_flag_option(alloc, &mut self.options, text, purpose)?;
         push_flag(alloc, &mut self.kept, text, purpose)
     }
 
@@ -276,6 +374,7 @@ impl Asked {
     {
         self.note_value(alloc, value, purpose)?;
         self.refuse(value_refusal(value, purpose));
+        push_value_option(alloc, &mut self.options, text, value, purpose)?;
         push_option(alloc, &mut self.kept, text, value, purpose)
     }
 
@@ -319,8 +418,8 @@ impl Asked {
         }
     }
 
-    // Takes the items of a line.
-    fn take_line(&mut self, alloc: Global, words: &[String]) -> Result<(), AllocError>
+    // Takes the items of words that name no options file.
+    fn take_words(&mut self, alloc: Global, words: &[String]) -> Result<(), AllocError>
         ensures { OnOk result (self.new ≡ spec.asked_after self.old (map string_bytes words.now)) }
     {
         let options = table();
@@ -333,12 +432,80 @@ impl Asked {
         Ok(())
     }
 
-    /// What a line asks for.
-    pub fn of(alloc: Global, words: &[String]) -> Result<Asked, AllocError>
-        ensures { IfOk result (λ a. a ≡ spec.asked_of (map string_bytes words.now)) }
+    // Takes the words of an options file.
+    fn take_file_words(&mut self, alloc: Global, words: &[String]) -> Result<(), AllocError>
+        ensures { OnOk result (self.new ≡ spec.with_file_words self.old (map string_bytes words.now)) }
+    {
+        if are_unexpanded(words) {
+            self.take_words(alloc, words)
+        } else {
+            self.refuse(Some(Reason::ShellCharacter));
+            Ok(())
+        }
+    }
+
+    // Takes the option that names a file.
+    fn take_file(
+        &mut self,
+        alloc: Global,
+        text: &str,
+        name: &str,
+        files: &[(String, String)],
+    ) -> Result<(), AllocError>
+        ensures { OnOk result (self.new ≡ spec.with_file self.old text.now name.now (contents.words_of_file (map pair_of files.now) name.now)) }
+    {
+        match words_of_file(alloc, files, name)? {
+            Some(words) => self.take_file_words(alloc, words.as_slice()),
+            None => self.take_option(alloc, text, name, Purpose::File),
+        }
+    }
+
+    // Takes what a word of a line says.
+    fn take_line_item(
+        &mut self,
+        alloc: Global,
+        read: Result<ArgumentView<'_, Purpose>, ArgParseError>,
+        files: &[(String, String)],
+    ) -> Result<(), AllocError>
+        ensures { OnOk result (self.new ≡ spec.with_line_item (map pair_of files.now) self.old (item_viewed read.entry)) }
+    {
+        match read {
+            Ok(ArgumentView::WithValue(text, Purpose::File, name, _)) => {
+                self.take_file(alloc, text, name, files)
+            }
+            other => self.take_read(alloc, other),
+        }
+    }
+
+    // Takes the items of a line.
+    fn take_line(
+        &mut self,
+        alloc: Global,
+        words: &[String],
+        files: &[(String, String)],
+    ) -> Result<(), AllocError>
+        ensures { OnOk result (self.new ≡ spec.line_asked_after (map pair_of files.now) self.old (map string_bytes words.now)) }
+    {
+        let options = table();
+        let mut line = Line::new(words);
+        while let Some(word) = line.next_word() {
+            let row = options.search(word);
+            let read = view_item(row, word, &mut line);
+            self.take_line_item(alloc, read, files)?;
+        }
+        Ok(())
+    }
+
+    /// What a line asks for, given the names and texts of options files.
+    pub fn of(
+        alloc: Global,
+        words: &[String],
+        files: &[(String, String)],
+    ) -> Result<Asked, AllocError>
+        ensures { IfOk result (λ a. a ≡ spec.asked_of (map pair_of files.now) (map string_bytes words.now)) }
     {
         let mut asked = Asked::new(alloc);
-        match asked.take_line(alloc, words) {
+        match asked.take_line(alloc, words, files) {
             Ok(()) => Ok(asked),
             Err(refused) => {
                 // Dropped by a call: see "Explicit drops" in docs/ARCHITECTURE.md.

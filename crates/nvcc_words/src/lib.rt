@@ -7,6 +7,8 @@
 
 mod asked;
 mod call;
+mod files;
+mod keeping;
 pub mod laws;
 mod options;
 mod reason;
@@ -15,7 +17,8 @@ mod verdict;
 mod word_tests;
 
 pub use call::Call;
+pub use keeping::keeps_options;
 pub use options::{Purpose, Tables, table};
 pub use reason::Reason;
 pub use settling::{extension_of_phase, has_extension};
-pub use verdict::{Verdict, normalize};
+pub use verdict::{Verdict, file_names, normalize};

@@ -44,6 +44,8 @@ pub enum Purpose {
     Language,
     /// The option that says how many threads nvcc may use.
     Threads,
+    /// A flag that has nvcc keep intermediate files.
+    Keep,
     /// The option that names the folder for intermediate files.
     KeepDirectory,
     /// A flag that asks for a dependency file: `-MD` or `-MMD`.
@@ -54,6 +56,8 @@ pub enum Purpose {
     DependencyFile,
     /// The option that names the target in the dependency file: `-MT`.
     DependencyTarget,
+    /// The option that names a file with further words.
+    File,
     /// An option that leaves the call to nvcc, and why.
     Passes(Reason),
 }
@@ -97,10 +101,10 @@ const PLAIN_A_TO_E: [ArgInfo<Purpose>; 26] = entries![
 ];
 
 // F to N.
-const PLAIN_F_TO_N: [ArgInfo<Purpose>; 29] = entries![
+const PLAIN_F_TO_N: [ArgInfo<Purpose>; 27] = entries![
     flag Purpose::Plain =>
         "--fdevice-syntax-only" "-fdevice-syntax-only" "--force-cl-env-setup" "-force-cl-env-setup"
-        "--gen-opt-lto" "-gen-opt-lto" "--generate-line-info" "-lineinfo" "--keep" "-keep"
+        "--gen-opt-lto" "-gen-opt-lto" "--generate-line-info" "-lineinfo"
         "--keep-device-functions" "-keep-device-functions" "--lto" "-lto" "--m64" "-m64"
         "--no-align-double" "--no-compress" "-no-compress" "--no-device-link" "-nodlink"
         "--no-display-error-number" "-no-err-no" "--no-exceptions" "-noeh"
@@ -109,10 +113,10 @@ const PLAIN_F_TO_N: [ArgInfo<Purpose>; 29] = entries![
 ];
 
 // P to W, and the flags that have nvcc forward words.
-const PLAIN_P_TO_W: [ArgInfo<Purpose>; 36] = entries![
+const PLAIN_P_TO_W: [ArgInfo<Purpose>; 34] = entries![
     flag Purpose::Plain =>
         "--profile" "-pg" "--relocatable-ptx" "-reloc-ptx" "--resource-usage" "-res-usage"
-        "--restrict" "-restrict" "--save-temps" "-save-temps" "--shared" "-shared"
+        "--restrict" "-restrict" "--shared" "-shared"
         "--source-in-ptx" "-src-in-ptx" "--use-local-env" "-use-local-env" "--use_fast_math"
         "-use_fast_math" "--Wdefault-stream-launch" "-Wdefault-stream-launch"
         "--Wext-lambda-captures-this" "-Wext-lambda-captures-this" "--Wmissing-launch-bounds"
@@ -180,13 +184,14 @@ const QUOTED: [ArgInfo<Purpose>; 26] = entries![
 ];
 
 // Phases, files, and all else that has a place of its own in a normal form.
-const PLACED: [ArgInfo<Purpose>; 35] = entries![
+const PLACED: [ArgInfo<Purpose>; 41] = entries![
     flag Purpose::Phase =>
         "--compile" "-c" "--cubin" "-cubin" "--device-c" "-dc" "--device-w" "-dw" "--fatbin"
         "-fatbin" "--optix-ir" "-optix-ir" "--ptx" "-ptx";
     EITHER_WAY_OR_EQUALS Purpose::Output => "--output-file" "-o";
     EITHER_WAY_OR_EQUALS Purpose::OutputDirectory => "--output-directory" "-odir";
     EITHER_WAY_OR_EQUALS Purpose::Language => "--x" "-x";
+    flag Purpose::Keep => "--keep" "-keep" "--save-temps" "-save-temps";
     EITHER_WAY_OR_EQUALS Purpose::KeepDirectory => "--keep-dir" "-keep-dir";
     EITHER_WAY_OR_EQUALS Purpose::Threads => "--threads";
     EITHER_WAY Purpose::Threads => "-t";
@@ -197,6 +202,7 @@ const PLACED: [ArgInfo<Purpose>; 35] = entries![
     flag Purpose::DependencyPhonies => "--generate-dependency-targets" "-MP";
     EITHER_WAY_OR_EQUALS Purpose::DependencyFile => "--dependency-output" "-MF";
     EITHER_WAY_OR_EQUALS Purpose::DependencyTarget => "--dependency-target-name" "-MT";
+    EITHER_WAY_OR_EQUALS Purpose::File => "--options-file" "-optf";
 ];
 
 // Options that leave the call to nvcc, which prints, removes or links.
@@ -212,11 +218,10 @@ const PASSES_FOR_OUTPUT: [ArgInfo<Purpose>; 28] = entries![
 ];
 
 // The other options that leave the call to nvcc.
-const PASSES: [ArgInfo<Purpose>; 27] = entries![
+const PASSES: [ArgInfo<Purpose>; 25] = entries![
     flag Purpose::Passes(Reason::OtherPhase) =>
         "--cuda" "-cuda" "--generate-dependencies" "-M" "--generate-nonsystem-dependencies" "-MM"
         "--ltoir" "-ltoir" "--preprocess" "-E";
-    EITHER_WAY_OR_EQUALS Purpose::Passes(Reason::OptionsFile) => "--options-file" "-optf";
     EITHER_WAY_OR_EQUALS Purpose::Passes(Reason::Measures) =>
         "--fdevice-time-trace" "-fdevice-time-trace" "--time" "-time";
     flag Purpose::Passes(Reason::TemporaryFiles) => "--objdir-as-tempdir" "-objtemp";

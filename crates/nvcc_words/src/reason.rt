@@ -25,7 +25,7 @@ pub enum Reason {
     Cleans,
     /// nvcc measures times.
     Measures,
-    /// It reads options from a file.
+    /// A file that it reads options from isn't there, or nvcc reads it in a way of its own.
     OptionsFile,
     /// It keeps temporary files beside the object.
     TemporaryFiles,
@@ -85,7 +85,7 @@ impl Reason {
             Reason::Prints => "it prints something",
             Reason::Cleans => "it removes files",
             Reason::Measures => "it measures times",
-            Reason::OptionsFile => "it reads options from a file",
+            Reason::OptionsFile => "an options file is missing or odd",
             Reason::TemporaryFiles => "its temporary files go beside the object",
             Reason::Jobserver => "it uses make's jobserver",
             Reason::DrivePrefix => "it names a prefix of drives",

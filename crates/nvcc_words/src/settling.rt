@@ -184,7 +184,8 @@ fn unless(is_well: bool, reason: Reason) -> Option<Reason>
 }
 
 impl Asked {
-    fn phase(&self) -> &str
+    /// The phase, as the line first spells it.
+    pub fn phase(&self) -> &str
         ensures { result.now ≡ spec.phase_of self.now }
     {
         first_of(&self.phases)

@@ -18,6 +18,7 @@ use host_lines::nvcc::whole_line;
 use option_items::table::Pair;
 use std::alloc::{AllocError, Global};
 use texts::variables::first_value;
+use texts::words::Words;
 
 /// What becomes of a call.
 #[derive(Debug, Drop)]
@@ -42,14 +43,18 @@ fn read_by_sccache(
     gcc::parse_arguments(alloc, words, "", tables, false, CCompilerKind::Nvcc)
 }
 
-// nvcc's reading of a line, or why its call is left to nvcc.
-fn read_by_nvcc(alloc: Global, words: &[String]) -> Result<Result<Call, Reason>, AllocError>
-    ensures { IfOk result (λ r. r ≡ nvcc_call (map string_bytes words.now)) }
+// nvcc's reading of a line, given the names and texts of options files, or why its call is left to nvcc.
+fn read_by_nvcc(
+    alloc: Global,
+    words: &[String],
+    files: &[(String, String)],
+) -> Result<Result<Call, Reason>, AllocError>
+    ensures { IfOk result (λ r. r ≡ nvcc_call (map pair_of files.now) (map string_bytes words.now)) }
 {
     if !are_unexpanded(words) {
         return Ok(Err(Reason::ShellCharacter));
     }
-    let asked = Asked::of(alloc, words)?;
+    let asked = Asked::of(alloc, words, files)?;
     let settled = asked.settle(alloc);
     // Dropped by a call: see "Explicit drops" in docs/ARCHITECTURE.md.
     drop(asked);
@@ -92,9 +97,9 @@ fn is_read_alike(alloc: Global, call: &Call) -> Result<bool, AllocError>
 
 // Whether nvcc reads a call's words as the call again.
 fn is_read_back(alloc: Global, call: &Call) -> Result<bool, AllocError>
-    ensures { IfOk result (λ b. b ≡ spec.is_call (nvcc_call call.now.words) call.now) }
+    ensures { IfOk result (λ b. b ≡ spec.is_call (nvcc_call [] call.now.words) call.now) }
 {
-    match read_by_nvcc(alloc, call.words.as_slice())? {
+    match read_by_nvcc(alloc, call.words.as_slice(), &[])? {
         Ok(again) => Ok(again.is_same(call)),
         Err(_) => Ok(false),
     }
@@ -135,7 +140,26 @@ fn is_plain(variables: &[(String, String)], name: &str) -> bool
     }
 }
 
-/// The verdict on the words of an nvcc line, without the compiler's name, in an environment.
+/// The names of the options files that a line names in an environment, in their order, as the line spells them. nvcc opens them in
+/// the working directory.
+pub fn file_names(
+    alloc: Global,
+    words: &[String],
+    variables: &[(String, String)],
+) -> Result<Words, AllocError>
+    ensures { IfOk result (λ names. names ≡ spec.file_names (map string_bytes words.now) (map pair_of variables.now)) }
+{
+    let line = whole_line(alloc, words, variables)?;
+    let Asked { files, .. } = Asked::of(alloc, line.as_slice(), &[])?;
+    Ok(files)
+}
+
+/// The verdict on the words of an nvcc line, without the compiler's name, in an environment, given the names and texts of options
+/// files.
+///
+/// nvcc reads the words of an options file where the line names it, and so does this. A file whose text isn't given leaves the call
+/// to nvcc, and so does one with a backslash, `#`, `'` or a control character other than a tab or newline, one that names another,
+/// and a list of names.
 ///
 /// nvcc reads the words of `NVCC_PREPEND_FLAGS` before the line's, and those of `NVCC_APPEND_FLAGS` after them, and so does
 /// this. It cuts their values at spaces, and a value in which nvcc may see more than that leaves the call to nvcc.
@@ -150,13 +174,14 @@ pub fn normalize(
     alloc: Global,
     words: &[String],
     variables: &[(String, String)],
+    files: &[(String, String)],
 ) -> Result<Verdict, AllocError>
-    ensures { IfOk result (λ v. v ≡ spec.verdict (map string_bytes words.now) (map pair_of variables.now)) }
+    ensures { IfOk result (λ v. v ≡ spec.verdict (map string_bytes words.now) (map pair_of variables.now) (map pair_of files.now)) }
 {
     if !is_plain(variables, "NVCC_PREPEND_FLAGS") || !is_plain(variables, "NVCC_APPEND_FLAGS") {
         return Ok(Verdict::Pass(Reason::VariableQuotes));
     }
     let line = whole_line(alloc, words, variables)?;
-    let read = read_by_nvcc(alloc, line.as_slice())?;
+    let read = read_by_nvcc(alloc, line.as_slice(), files)?;
     judge(alloc, read)
 }

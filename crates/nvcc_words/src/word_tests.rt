@@ -69,8 +69,8 @@ pub fn has_no_operator(value: &str) -> bool
     are_plain(value.as_bytes())
 }
 
-// Whether nvcc cuts a variable's value at a byte as a shell does.
-fn is_cut_alike(byte: u8) -> bool
+/// Whether nvcc cuts a variable's value at a byte as a shell does.
+pub fn is_cut_alike(byte: u8) -> bool
     ensures { result ≡ spec.is_cut_alike byte }
 {
     b' ' <= byte && byte != b'"' && byte != b'#' && byte != b'\'' && byte != b'\\' && byte != 127

@@ -5,18 +5,25 @@ use std::alloc::Global;
 use test_tables::{Answer, Case, CaseError, debugged};
 use texts::variables::Variables;
 
-// The variables of settings such as `$NAME=VALUE`.
-fn variables(alloc: Global, settings: &[String]) -> Result<Variables, CaseError> {
+// Adds what a setting such as `$NAME=VALUE` says.
+fn push_setting(alloc: Global, setting: &str, list: &mut Variables) -> Result<(), CaseError> {
+    let Some((name, value)) = setting.split_once('=') else {
+        return Err(CaseError::Form("a name without a value"));
+    };
+    list.push(
+        String::from_str(alloc, name)?,
+        String::from_str(alloc, value)?,
+    )?;
+    Ok(())
+}
+
+// The names and values of settings that begin with a mark: `$` for variables, `@` for options files.
+fn marked(alloc: Global, mark: char, settings: &[String]) -> Result<Variables, CaseError> {
     let mut list = Variables::new(alloc);
     for setting in settings {
-        let Some((name, value)) = setting.as_str().split_once('=') else {
-            return Err(CaseError::Form("a variable without a value"));
-        };
-        let name = name.strip_prefix('$').unwrap_or(name);
-        list.push(
-            String::from_str(alloc, name)?,
-            String::from_str(alloc, value)?,
-        )?;
+        if let Some(setting) = setting.as_str().strip_prefix(mark) {
+            push_setting(alloc, setting, &mut list)?;
+        }
     }
     Ok(list)
 }
@@ -52,8 +59,10 @@ pub fn is_call(name: &str) -> bool {
 
 /// Makes a call on an nvcc line's normal form.
 pub fn answer(alloc: Global, case: &Case) -> Result<Answer, CaseError> {
-    let variables = variables(alloc, case.settings.as_slice())?;
-    let verdict = normalize(alloc, case.words.as_slice(), variables.as_slice())?;
+    let settings = case.settings.as_slice();
+    let (variables, files) = (marked(alloc, '$', settings)?, marked(alloc, '@', settings)?);
+    let words = case.words.as_slice();
+    let verdict = normalize(alloc, words, variables.as_slice(), files.as_slice())?;
     match case.call.as_str() {
         "normal_form" => shown(alloc, &verdict),
         "normal_form_debug" => debugged(alloc, &verdict),

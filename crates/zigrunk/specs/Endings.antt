@@ -1,6 +1,7 @@
 -- How calls of the program end.
 use Rattle.std.specs.Prelude.{◌≡◌, ℕ, List, [], ◌∷◌, ◌++◌, ◌⊎◌, Option, Some, None, Result, Ok, Err, MatchOption}
 use Rattle.std.specs.Io.KnownBytes.{Keeps}
+use Rattle.nvcc_calls.specs.Calls.{NvccOf}
 use Rattle.nvcc_calls.specs.Directory.{directory_name}
 use Rattle.program_lookups.specs.declared.excess.Excess.{Excess}
 use Rattle.program_lookups.specs.declared.snapshot.Entry.{Entry}
@@ -17,6 +18,7 @@ use Rattle.zigrunk.specs.Calls.{CallOf, ExportOf, exports, reads, names, rewrite
 use Rattle.zigrunk.specs.Exports.{exported}
 use Rattle.zigrunk.specs.Messages.{over_limit}
 use Rattle.zigrunk.specs.NvccText.{nvcc_text}
+use Rattle.zigrunk.specs.OptionsFiles.{AreHeld}
 use Rattle.zigrunk.specs.Pages.{help_text, version_text}
 
 -- the exit status of a call that reads an nvcc line, if it stops: 3 if its call goes to nvcc unchanged
@@ -93,6 +95,20 @@ abbrev pub ExportsFiles :
 ExportsFiles holds limit c answer before after =
     ReadsFirst (holds c.plan.dry1) (λ first. ExportsSecond holds limit c first answer before after) answer before after
 
+-- what the program writes for an nvcc line, given what files may hold, the variables and the engine's answer: the text of the line with
+-- some options files. A file that is left out leaves the call to nvcc
+abbrev pub ReadsLine :
+    (List ℕ → Option (List ℕ) → Type 0)
+    → NvccOf
+    → List (List ℕ × List ℕ)
+    → Result (Unit {0}) Stop
+    → Option (List ℕ)
+    → Option (List ℕ)
+    → Type 0
+ReadsLine holds c variables answer before after =
+    Delivers answer out_of_memory before after
+    ⊎ ((files : List (List ℕ × List ℕ)) × AreHeld holds c.cwd files × Delivers answer (nvcc_text c variables files) before after)
+
 -- what the program writes for a call, given what files may hold, the limit, the engine's answer and the variables that nvcc takes
 -- words from
 abbrev pub Serves :
@@ -105,7 +121,7 @@ abbrev pub Serves :
     → Option (List ℕ)
     → Type 0
 Serves holds limit (exports c) variables answer before after = ExportsFiles holds limit c answer before after
-Serves holds limit (reads c) variables answer before after = Delivers answer (nvcc_text c variables) before after
+Serves holds limit (reads c) variables answer before after = ReadsLine holds c variables answer before after
 Serves holds limit (names c) variables answer before after = Delivers answer (Ok (directory_name c variables ++ 10 ∷ [])) before after
 Serves holds limit (rewrites c) variables answer before after = Delivers answer (shown_line c.tool c.cwd c.words) before after
 Serves holds limit (plans c) variables answer before after = ShowsFiles holds limit c answer before after

@@ -5,5 +5,6 @@ pub mod Excess
 pub mod Exports
 pub mod Messages
 pub mod NvccText
+pub mod OptionsFiles
 pub mod Pages
 pub mod Places

@@ -15,6 +15,6 @@ answer_text (Ok (answers.Split outline)) = Ok (outline_text outline)
 answer_text (Ok (answers.Pass why)) = Err (stops.ToNvcc why)
 answer_text (Err fault) = Err (stops.Fault fault)
 
--- the text of an nvcc line, or why there is none
-abbrev pub nvcc_text : NvccOf → List (List ℕ × List ℕ) → Result (List ℕ) Stop
-nvcc_text call variables = answer_text (nvcc_answer call variables)
+-- the text of an nvcc line, given the variables and the options files, or why there is none
+abbrev pub nvcc_text : NvccOf → List (List ℕ × List ℕ) → List (List ℕ × List ℕ) → Result (List ℕ) Stop
+nvcc_text call variables files = answer_text (nvcc_answer call variables files)

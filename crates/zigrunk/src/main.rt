@@ -18,6 +18,7 @@ mod export;
 mod input;
 mod message;
 mod nvcc_text;
+mod options_files;
 mod page;
 mod place;
 mod program;

@@ -25,7 +25,7 @@ fn answer_text(alloc: Global, answer: Result<Answer, Fault>) -> Result<String, S
     }
 }
 
-/// Reads an nvcc line as nvcc does, with the words of `variables`, and writes to `w`, for a shell's `eval`, the command that
+/// Reads an nvcc line as nvcc does, with the words of `variables` and of `files`, the options files by name and text, and writes to `w`, for a shell's `eval`, the command that
 /// writes its dependency file, its two dry runs, the compilation flag, the number of threads and the directory that keeps
 /// generated files.
 ///
@@ -35,9 +35,13 @@ pub fn write_nvcc_text<W: Write>(
     alloc: Global,
     call: &NvccCall<'_>,
     variables: &[(String, String)],
+    files: &[(String, String)],
     w: &mut W,
 ) -> Result<(), Stop>
-    ensures { Delivers result (spec.nvcc_text (nvcc_of call.now) (map pair_of variables.now)) (W.contents w.old) (W.contents w.new) }
+    ensures { Delivers result (spec.nvcc_text (nvcc_of call.now) (map pair_of variables.now) (map pair_of files.now)) (W.contents w.old) (W.contents w.new) }
 {
-    deliver(answer_text(alloc, read_call(alloc, call, variables)), w)
+    deliver(
+        answer_text(alloc, read_call(alloc, call, variables, files)),
+        w,
+    )
 }

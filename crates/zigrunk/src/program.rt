@@ -8,6 +8,7 @@ ghost use Rattle.program_lookups.specs.Asked.{asked_of_both};
 ghost use Rattle.program_lookups.specs.Excess as limits;
 ghost use Rattle.program_lookups.specs.Snapshot.{IsSnapshotOf};
 ghost use Rattle.programs.specs.Calls.{plan_of};
+ghost use Rattle.nvcc_calls.specs.Calls.{nvcc_of};
 ghost use Rattle.nvcc_calls.specs.Directory as directories;
 ghost use Rattle.programs.specs.Delivery.{Delivers};
 ghost use Rattle.programs.specs.PlanText.{out_of_memory, shown_plan};
@@ -21,9 +22,10 @@ use crate::complaint::{
 use crate::excess::place_of_excess;
 use crate::export::{refused, write_export};
 use crate::nvcc_text::write_nvcc_text;
+use crate::options_files::options_files;
 use crate::page::{USAGE, help, version};
 use dry_runs::{FirstDir, Which};
-use nvcc_calls::{DirectoryCall, directory_name};
+use nvcc_calls::{DirectoryCall, NvccCall, directory_name};
 use program_lookups::{Excess, Snapshot, excess_of, snapshot_of};
 use programs::{PlanCall, Sources, Stop, deliver, write_line, write_plan};
 use std::alloc::{AllocError, Global};
@@ -295,6 +297,20 @@ fn show_directory<W: Write>(
     deliver(Ok(name), out)
 }
 
+// Reads the options files of an nvcc line, and writes the line's text.
+fn read_line<R: Files + AllocGlobal, S: Sources, W: Write>(
+    rt: &R,
+    sources: &S,
+    call: &NvccCall<'_>,
+    variables: &[(String, String)],
+    out: &mut W,
+) -> Result<(), Stop>
+    ensures { spec.ReadsLine (S.holds sources.now) (nvcc_of call.now) (map pair_of variables.now) result (W.contents out.old) (W.contents out.new) }
+{
+    let files = options_files(rt, sources, call, variables)?;
+    write_nvcc_text(rt.alloc(), call, variables, files.as_slice(), out)
+}
+
 // Runs the engine that a call asks for. If it stops, it first says why.
 fn serve<R: Files + AllocGlobal, S: Sources, W: Write, E: Write>(
     rt: &R,
@@ -311,7 +327,7 @@ fn serve<R: Files + AllocGlobal, S: Sources, W: Write, E: Write>(
     match call {
         Call::Export(export) => export_files(rt, sources, export, limit, out, err),
         Call::Plan(plan) => show_files(alloc, sources, plan, limit, out, err),
-        Call::Nvcc(line) => told(alloc, write_nvcc_text(alloc, line, variables, out), err),
+        Call::Nvcc(line) => told(alloc, read_line(rt, sources, line, variables, out), err),
         Call::Directory(call) => told(alloc, show_directory(alloc, call, variables, out), err),
         Call::Line(line) => told(
             alloc,

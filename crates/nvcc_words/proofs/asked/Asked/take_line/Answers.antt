@@ -1,11 +1,12 @@
-use Rattle.std.proofs.Common.{◌∙◌, ap, sym, subst, arith, length, fold, Option}
+use Rattle.std.proofs.Common.{◌∙◌, ap, sym, subst, arith, length, fold, map, Option}
 use Rattle.std.specs.Option.{option_map, option_copied}
 use Rattle.option_items.specs.Table.{Entry, entry_of, longest_match}
 use Rattle.option_items.specs.Items.{Completes, said_of}
 use Rattle.option_items.specs.Views.{item_viewed}
 use Rattle.option_items.proofs.ItemLemmas.{items-completed}
+use Rattle.texts.specs.Variables.{pair_of}
 use Rattle.nvcc_words.specs.declared.options.Purpose.{Purpose}
-use Rattle.nvcc_words.specs.Asked.{with_item, nvcc_entry, asked_after}
+use Rattle.nvcc_words.specs.Asked.{with_line_item, nvcc_entry, line_asked_after}
 use Rattle.nvcc_words.proofs.LineLemmas.{words-completed}
 use Rattle.nvcc_words.proofs.asked.Asked.take_line.Goals as goal
 
@@ -17,7 +18,8 @@ pub loop-word-preserved : goal.loop-word-preserved
 loop-word-preserved c =
     let found = c.search-row.ensures ∙ ap (λ es. longest_match es c.in-Some.word.now) c.table-options.ensures in
     let read = subst (λ (e : Option (Entry Purpose)). Completes (said_of c.in-Some.word.now e) c.next_word.new.self (item_viewed c.view_item-read.result) c.view_item-read.new.line) found c.view_item-read.ensures.item in
+    let files = map pair_of c.args.files.now in
     c.loop-word.invariant
-    ∙ ap (asked_after c.loop-word.self) c.in-Some.ensures
-    ∙ ap (fold with_item c.loop-word.self) (items-completed nvcc_entry c.in-Some.word.now c.next_word.new.self (item_viewed c.view_item-read.result) c.view_item-read.new.line read)
-    ∙ ap (λ a. asked_after a c.view_item-read.new.line) (sym c.in_ok-take_read.ensures)
+    ∙ ap (line_asked_after files c.loop-word.self) c.in-Some.ensures
+    ∙ ap (fold (with_line_item files) c.loop-word.self) (items-completed nvcc_entry c.in-Some.word.now c.next_word.new.self (item_viewed c.view_item-read.result) c.view_item-read.new.line read)
+    ∙ ap (λ a. line_asked_after files a c.view_item-read.new.line) (sym c.in_ok-take_line_item.ensures)

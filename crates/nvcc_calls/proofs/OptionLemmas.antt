@@ -1,0 +1,87 @@
+-- A line whose answer is an outline was checked on the way to it.
+use Rattle.std.proofs.Common.{◌≡◌, ℕ, Bool, true, false, cond, List, [], Option, Some, None, is_some, Result, Ok, Err, refl, ap, sym, unwrap_or}
+use Rattle.std.proofs.lemmas.Bool.{false≢true}
+use Rattle.texts.specs.declared.fault.Fault.{Fault}
+use Rattle.texts.specs.Results.{and_then}
+use Rattle.cuda_below.specs.declared.arguments.ParsedArguments.{ParsedArguments}
+use Rattle.cuda_below.specs.Compiler.{Reading, accepted, cannot_cache, not_compilation}
+use Rattle.cuda_plans.specs.declared.nvcc.command.NvccCompileCommand.{NvccCompileCommand}
+use Rattle.cuda_plans.specs.Nvcc.{nvcc_reading}
+use Rattle.cuda_plans.specs.NvccCommand.{dry_runs}
+use Rattle.host_lines.specs.NvccEnvironment.{with_added_words}
+use Rattle.nvcc_words.specs.declared.asked.Asked.{Asked}
+use Rattle.nvcc_words.specs.declared.reason.Reason.{Reason}
+use Rattle.nvcc_words.specs.declared.reason.Reason.TheVariants.{OtherReading}
+use Rattle.nvcc_words.specs.declared.verdict.Verdict.{Verdict}
+use Rattle.nvcc_words.specs.declared.verdict.Verdict.TheVariants as verdicts
+use Rattle.nvcc_words.specs.Asked.{asked_of}
+use Rattle.nvcc_words.specs.Keeping.{keeps, SaysAs}
+use Rattle.nvcc_words.specs.Reasons.{text_of}
+use Rattle.nvcc_words.specs.Verdict.{verdict}
+use Rattle.nvcc_words.proofs.KeepingLemmas.{keeps-says}
+use Rattle.nvcc_calls.specs.declared.answer.Answer.{Answer}
+use Rattle.nvcc_calls.specs.declared.answer.Answer.TheVariants.{Split, Pass}
+use Rattle.nvcc_calls.specs.declared.outline.Outline.{Outline}
+use Rattle.nvcc_calls.specs.Answer.{split_by, answer_by, answer_of, answer_to, answer_to_normal, unless_hazard}
+use Rattle.nvcc_calls.specs.Calls.{NvccOf}
+use Rattle.nvcc_calls.specs.Hazards.{hazard_of}
+use Rattle.nvcc_calls.specs.Laws.{DryRunsSayAs, SplitLinesKeepOptions}
+use Rattle.nvcc_calls.specs.Outline.{command_of, command_text, dependencies_of, jobs_of_line, outline_with}
+
+-- the outline of an answer
+abbrev outline_in : Result Answer Fault → Option Outline
+outline_in (Ok (Split outline)) = Some outline
+outline_in (Ok (Pass why)) = None
+outline_in (Err fault) = None
+
+abbrev HasDryRuns : Outline → NvccCompileCommand → Type 0
+HasDryRuns o command = (o.first ≡ command_text (dry_runs command).0) × (o.second ≡ command_text (dry_runs command).1)
+
+with-jobs : (command : NvccCompileCommand) (dependencies : List ℕ) (r : Result (List ℕ) Fault) (o : Outline) →
+    outline_in (and_then (and_then r (λ jobs. Ok (outline_with command dependencies jobs))) (λ made. Ok (Split made))) ≡ Some o → HasDryRuns o command
+with-jobs command dependencies (Ok jobs) o e =
+    let same : o ≡ outline_with command dependencies jobs = sym (ap (λ found. unwrap_or found o) e) in
+    (ap (λ made. made.first) same, ap (λ made. made.second) same)
+with-jobs command dependencies (Err fault) o e = absurd (false≢true (ap is_some e))
+
+with-dependencies : (command : NvccCompileCommand) (d r : Result (List ℕ) Fault) (o : Outline) →
+    outline_in (and_then (and_then d (λ dependencies. and_then r (λ jobs. Ok (outline_with command dependencies jobs)))) (λ made. Ok (Split made))) ≡ Some o →
+    HasDryRuns o command
+with-dependencies command (Ok dependencies) r o e = with-jobs command dependencies r o e
+with-dependencies command (Err fault) r o e = absurd (false≢true (ap is_some e))
+
+module _ (call : NvccOf) (variables files : List (List ℕ × List ℕ)) where
+  abbrev asked : Asked
+  asked = asked_of files (with_added_words variables call.words)
+
+  abbrev IsKept : Outline → Type 0
+  IsKept o = (command : NvccCompileCommand) × DryRunsSayAs asked o command
+
+  by-check : (p : ParsedArguments) (command : NvccCompileCommand) (o : Outline) (b : Bool) → keeps asked (asked_of [] command.arguments) ≡ b →
+      outline_in (cond b (split_by call variables p command) (Ok (Pass (text_of OtherReading)))) ≡ Some o → DryRunsSayAs asked o command
+  by-check p command o true t e =
+      let runs = with-dependencies command (dependencies_of call p variables) (jobs_of_line call p variables) o e in
+      record { first = runs.0; second = runs.1; words = keeps-says asked (asked_of [] command.arguments) t }
+  by-check p command o false t e = absurd (false≢true (ap is_some e))
+
+  by-command : (p : ParsedArguments) (r : Result NvccCompileCommand Fault) (o : Outline) →
+      outline_in (and_then r (answer_by call variables files p)) ≡ Some o → IsKept o
+  by-command p (Ok command) o e = (command, by-check p command o (keeps asked (asked_of [] command.arguments)) refl e)
+  by-command p (Err fault) o e = absurd (false≢true (ap is_some e))
+
+  by-reading : (reading : Reading) (o : Outline) → outline_in (answer_of call variables files reading) ≡ Some o → IsKept o
+  by-reading (accepted p) o e = by-command p (command_of call p variables) o e
+  by-reading (cannot_cache text word) o e = absurd (false≢true (ap is_some e))
+  by-reading not_compilation o e = absurd (false≢true (ap is_some e))
+
+  by-hazard : (hazard : Option Reason) (reading : Reading) (o : Outline) →
+      outline_in (unless_hazard hazard (answer_of call variables files reading)) ≡ Some o → IsKept o
+  by-hazard None reading o e = by-reading reading o e
+  by-hazard (Some reason) reading o e = absurd (false≢true (ap is_some e))
+
+  by-verdict : (v : Verdict) (o : Outline) → outline_in (answer_to call variables files v) ≡ Some o → IsKept o
+  by-verdict (verdicts.Split normal) o e = by-hazard (hazard_of call normal) (nvcc_reading normal.words call.cwd []) o e
+  by-verdict (verdicts.Pass reason) o e = absurd (false≢true (ap is_some e))
+
+pub split-options : SplitLinesKeepOptions
+split-options call variables files outline e = by-verdict call variables files (verdict call.words variables files) outline (ap outline_in e)

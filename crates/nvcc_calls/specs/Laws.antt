@@ -1,0 +1,25 @@
+-- What is claimed of split lines.
+use Rattle.std.specs.Prelude.{◌≡◌, ℕ, List, [], Ok}
+use Rattle.cuda_plans.specs.declared.nvcc.command.NvccCompileCommand.{NvccCompileCommand}
+use Rattle.cuda_plans.specs.NvccCommand.{dry_runs}
+use Rattle.host_lines.specs.NvccEnvironment.{with_added_words}
+use Rattle.nvcc_words.specs.declared.asked.Asked.{Asked}
+use Rattle.nvcc_words.specs.Asked.{asked_of}
+use Rattle.nvcc_words.specs.Keeping.{SaysAs}
+use Rattle.nvcc_calls.specs.declared.answer.Answer.TheVariants.{Split}
+use Rattle.nvcc_calls.specs.declared.outline.Outline.{Outline}
+use Rattle.nvcc_calls.specs.Answer.{nvcc_answer}
+use Rattle.nvcc_calls.specs.Calls.{NvccOf}
+use Rattle.nvcc_calls.specs.Outline.{command_text}
+
+-- both dry runs of an outline are those of a command whose words say what a line that asks for `a` does
+pub record DryRunsSayAs (a : Asked) (outline : Outline) (command : NvccCompileCommand) : Type 0 where
+  pub first : outline.first ≡ command_text (dry_runs command).0
+  pub second : outline.second ≡ command_text (dry_runs command).1
+  pub words : SaysAs a (asked_of [] command.arguments)
+
+-- the options of a split line, with the words of its variables and options files, are those of its dry runs, as nvcc reads both
+abbrev pub SplitLinesKeepOptions : Type 0
+SplitLinesKeepOptions =
+    (call : NvccOf) (variables files : List (List ℕ × List ℕ)) (outline : Outline) → nvcc_answer call variables files ≡ Ok (Split outline) →
+    (command : NvccCompileCommand) × DryRunsSayAs (asked_of files (with_added_words variables call.words)) outline command

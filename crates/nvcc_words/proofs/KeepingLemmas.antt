@@ -1,0 +1,48 @@
+-- What the check of a line's options shows.
+use Rattle.std.proofs.Common.{◌≡◌, ℕ, Bool, true, false, ◌&&◌, List, Option, Some, None, is_none, is_some, nat_eq, slice_index_or, refl, ap, sym, ◌∙◌}
+use Rattle.std.specs.Str.{bytes_eq}
+use Rattle.std.specs.List.{All, list_all}
+use Rattle.std.specs.Cmp.Lexicographic.{pointwise}
+use Rattle.std.proofs.lemmas.Bool.{false≢true, and_parts}
+use Rattle.std.proofs.lemmas.List.Sums.{AllPass-from_list_all}
+use Rattle.std.proofs.lemmas.Slice.Eq.{bytes_eq-Decides}
+use Rattle.texts.proofs.EqualityLemmas.{lists}
+use Rattle.option_items.specs.Table.{Entry}
+use Rattle.nvcc_words.specs.declared.asked.Asked.{Asked}
+use Rattle.nvcc_words.specs.declared.options.Purpose.{Purpose}
+use Rattle.nvcc_words.specs.declared.reason.Reason.{Reason}
+use Rattle.nvcc_words.specs.NormalForm.{phase_of}
+use Rattle.nvcc_words.specs.Options.{nvcc_entries}
+use Rattle.nvcc_words.specs.Keeping.{values_of, same_words, has_same_values, begins_as, same_options, keeps, kept_options, SaysAs}
+
+none-is : (o : Option Reason) → is_none o ≡ true → o ≡ None
+none-is None e = refl
+none-is (Some reason) e = absurd (false≢true e)
+
+words-are : (a b : List (List ℕ)) → same_words a b ≡ true → b ≡ a
+words-are a b e = sym ((lists (pointwise nat_eq) bytes_eq-Decides a b).0 e)
+
+-- of options given by name and value
+values-are : (options others : List (List ℕ × List ℕ)) (es : List (Entry Purpose)) →
+    same_options options others es ≡ true →
+    All (λ (e : Entry Purpose). values_of e.text others ≡ values_of e.text options) es
+values-are options others es e =
+    let all = AllPass-from_list_all (λ (e : Entry Purpose). has_same_values options others e.text) es e in
+    λ k d below. words-are (values_of (slice_index_or es k d).text options) (values_of (slice_index_or es k d).text others) (all k d below)
+
+pub keeps-says : (a b : Asked) → keeps a b ≡ true → SaysAs a b
+keeps-says a b kept =
+    let e = kept_options a b ∙ kept in
+    let three = and_parts (begins_as a b) _ e in
+    let two = and_parts (is_none b.refusal && bytes_eq (phase_of a) (phase_of b)) (same_words a.unknown b.unknown) three.0 in
+    let one = and_parts (is_none b.refusal) (bytes_eq (phase_of a) (phase_of b)) two.0 in
+    record {
+      accepted = none-is b.refusal one.0;
+      phase = sym ((bytes_eq-Decides (phase_of a) (phase_of b)).0 one.1);
+      forwarded = words-are a.unknown b.unknown two.1;
+      values = values-are a.options b.options nvcc_entries three.1;
+    }
+
+-- a line that doesn't begin as another doesn't keep its options
+pub not-begun : (a b : Asked) → begins_as a b ≡ false → false ≡ keeps a b
+not-begun a b e = sym (ap (λ begins. begins && same_options a.options b.options nvcc_entries) e) ∙ kept_options a b

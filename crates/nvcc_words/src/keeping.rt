@@ -1,0 +1,125 @@
+//! Whether a line keeps the options of another.
+
+ghost use Rattle.std.specs.Prelude.{◌≡◌, [], IfOk, flat_map, map, string_bytes};
+ghost use Rattle.std.specs.List.{list_all};
+ghost use Rattle.option_items.specs.Table.{Entry};
+ghost use Rattle.texts.specs.Variables.{pair_of};
+ghost use Rattle.nvcc_words.specs.Asked.{asked_of};
+ghost use Rattle.nvcc_words.specs.Keeping as spec;
+ghost use Rattle.nvcc_words.specs.declared.options.Purpose.{Purpose};
+ghost use Rattle.nvcc_words.specs.Tables.{rows_of};
+
+use crate::asked::Asked;
+use crate::options::{Purpose, table};
+use host_lines::nvcc::whole_line;
+use option_items::table::Table;
+use std::alloc::{AllocError, Global};
+use texts::words::Words;
+
+// The values of an option, in order.
+fn values_of(alloc: Global, name: &str, options: &[(String, String)]) -> Result<Words, AllocError>
+    ensures { IfOk result (λ values. values ≡ spec.values_of name.now (map pair_of options.now)) }
+{
+    let mut values = Words::new(alloc);
+    for option in options {
+        if name == option.0.as_str() {
+            values.push_str(alloc, option.1.as_str())?;
+        }
+    }
+    Ok(values)
+}
+
+// Whether an option has the same values twice.
+fn has_same_values(
+    alloc: Global,
+    options: &[(String, String)],
+    others: &[(String, String)],
+    name: &str,
+) -> Result<bool, AllocError>
+    ensures { IfOk result (λ b. b ≡ spec.has_same_values (map pair_of options.now) (map pair_of others.now) name.now) }
+{
+    let values = values_of(alloc, name, options)?;
+    let other = values_of(alloc, name, others)?;
+    Ok(values == other)
+}
+
+// Whether each option of a table has the same values twice.
+fn keeps_table(
+    alloc: Global,
+    options: &[(String, String)],
+    others: &[(String, String)],
+    part: &Table<'_, Purpose>,
+) -> Result<bool, AllocError>
+    ensures { IfOk result (λ b. b ≡ list_all (λ (e : Entry Purpose). spec.has_same_values (map pair_of options.now) (map pair_of others.now) e.text) (rows_of part.now)) }
+{
+    for row in part.rows {
+        if !has_same_values(alloc, options, others, row.text())? {
+            return Ok(false);
+        }
+    }
+    Ok(true)
+}
+
+// Whether each of nvcc's options has the same values twice.
+fn keeps_values(
+    alloc: Global,
+    options: &[(String, String)],
+    others: &[(String, String)],
+    parts: &[Table<'_, Purpose>],
+) -> Result<bool, AllocError>
+    ensures { IfOk result (λ b. b ≡ list_all (λ (e : Entry Purpose). spec.has_same_values (map pair_of options.now) (map pair_of others.now) e.text) (flat_map rows_of parts.now)) }
+{
+    for part in parts {
+        if !keeps_table(alloc, options, others, part)? {
+            return Ok(false);
+        }
+    }
+    Ok(true)
+}
+
+impl Asked {
+    // Whether a line that asks for `other` isn't left to nvcc, has this phase and has nvcc forward the same words.
+    fn begins_as(&self, other: &Asked) -> bool
+        ensures { result ≡ spec.begins_as self.now other.now }
+    {
+        other.refusal.is_none() && self.phase() == other.phase() && self.unknown == other.unknown
+    }
+
+    // Whether a line that asks for `other` keeps what a line that asks for this does.
+    fn is_kept_by(&self, alloc: Global, other: &Asked) -> Result<bool, AllocError>
+        ensures { IfOk result (λ b. b ≡ spec.keeps self.now other.now) }
+    {
+        if !self.begins_as(other) {
+            return Ok(false);
+        }
+        let tables = table();
+        let (options, others) = (self.options.as_slice(), other.options.as_slice());
+        keeps_values(alloc, options, others, &tables.parts)
+    }
+
+    // Whether words keep what a line that asks for this does.
+    fn is_kept_in(&self, alloc: Global, written: &[String]) -> Result<bool, AllocError>
+        ensures { IfOk result (λ b. b ≡ spec.keeps self.now (asked_of [] (map string_bytes written.now))) }
+    {
+        let other = Asked::of(alloc, written, &[])?;
+        self.is_kept_by(alloc, &other)
+    }
+}
+
+/// Whether words keep the options of an nvcc line in an environment, given the names and texts of options files: nvcc reads the same
+/// phase, forwards the same words, and each of its options has the same values in the same order. Options that say where to write, in
+/// which language the input is, what to keep and how many threads to use don't count, nor do those of dependency files.
+pub fn keeps_options(
+    alloc: Global,
+    words: &[String],
+    variables: &[(String, String)],
+    files: &[(String, String)],
+    written: &[String],
+) -> Result<bool, AllocError>
+    ensures { IfOk result (λ b. b ≡ spec.keeps_options (map string_bytes words.now) (map pair_of variables.now)
+        (map pair_of files.now) (map string_bytes written.now)) }
+{
+    let line = whole_line(alloc, words, variables)?;
+    let asked = Asked::of(alloc, line.as_slice(), files)?;
+    asked.is_kept_in(alloc, written)
+}
