@@ -1,7 +1,8 @@
 #!/usr/bin/env bash
 # Builds a CMake project by nvcc, with zigrunk-nvcc as its CUDA compiler, and with zigrunk-nvcc as the launcher of nvcc, for Ninja and
-# for make. The project has several sources, two architectures, separable compilation and dependency files. The objects have to
-# be those of nvcc, and touching a header has to rebuild the same files. The last line is 'N passed, M failed'.
+# for make. The project has several sources, two architectures, separable compilation, include directories and dependency files. With make,
+# CMake writes the include directories to options files. The objects have to be those of nvcc, every call that compiles has to be split,
+# and touching a header has to rebuild the same files. The last line is 'N passed, M failed'.
 #
 #   tests/cmake.sh [PROGRAM]     PROGRAM is the zigrunk that `make build` leaves, unless given
 cd "$(dirname "$0")/.." || exit 1
@@ -24,7 +25,7 @@ chmod +x "$scratch/launchers/log"
 
 # make_sources FOLDER: the project. A small cuda_runtime.h takes the toolkit's place where its sources are compiled.
 make_sources() {
-    mkdir -p "$1/build"
+    mkdir -p "$1/build" "$1/include" "$1/more headers"
     cp "$headers/cuda_runtime.h" "$1/build"
     cat > "$1/CMakeLists.txt" << 'END'
 cmake_minimum_required(VERSION 3.18)
@@ -34,12 +35,14 @@ add_executable(program main.cu plain.cpp)
 target_link_libraries(program kernels)
 set_target_properties(kernels program PROPERTIES CUDA_SEPARABLE_COMPILATION ON CUDA_ARCHITECTURES "75;80" CUDA_STANDARD 17)
 target_compile_definitions(kernels PRIVATE "NAME=\"a name\"")
+target_include_directories(kernels PRIVATE include "more headers")
 END
-    echo '__device__ int twice(int value);' > "$1/device.h"
+    echo '__device__ int twice(int value);' > "$1/include/device.h"
+    echo '#define SIZE 32' > "$1/more headers/size.h"
     printf '%s\n' '#include "device.h"' '__device__ int twice(int value) { return 2 * value; }' > "$1/first.cu"
-    printf '%s\n' '#include "device.h"' 'const char* name() { return NAME; }' \
+    printf '%s\n' '#include "device.h"' '#include "size.h"' 'const char* name() { return NAME; }' \
         '__global__ void kernel(int* values) { values[threadIdx.x] = twice(threadIdx.x); }' \
-        'void run(int* values) { kernel<<<1, 32>>>(values); }' > "$1/second.cu"
+        'void run(int* values) { kernel<<<1, SIZE>>>(values); }' > "$1/second.cu"
     printf '%s\n' 'void run(int*);' 'int plain();' 'int main() { run(nullptr); return plain(); }' > "$1/main.cu"
     echo 'int plain() { return 0; }' > "$1/plain.cpp"
 }
@@ -55,13 +58,13 @@ build_by() {
     make_sources "$folder/work"
     (
         cd "$folder/work" || exit 1
-        export LAUNCHED=$folder/$way.launched ZIGRUNK_LAUNCHER=$scratch/launchers/log
+        export LAUNCHED=$folder/$way.launched ZIGRUNK_LAUNCHER=$scratch/launchers/log ZIGRUNK_LOG=$folder/$way.calls
         cmake -G "$generator" -S . -B build "${settings[@]}" || exit 1
-        rm -f "$LAUNCHED"
+        rm -f "$LAUNCHED" "$ZIGRUNK_LOG"
         cmake --build build -j 2 || exit 1
         touch built
         sleep 0.1
-        touch device.h
+        touch include/device.h
         cmake --build build -j 2 || exit 1
         cd build && find . \( -name '*.o' -o -name '*.a' -o -name program \) -newer ../built | sort > "$folder/$way.rebuilt"
     ) > "$folder/$way.log" 2>&1
@@ -75,6 +78,7 @@ differences() {
     [ "$(cat "$folder/$way.status")" = 0 ] || tail -n 20 "$folder/$way.log"
     diff "$folder/nvcc.rebuilt" "$folder/$way.rebuilt"
     [ "$(grep -c '\.cu\.o$' "$folder/$way.rebuilt")" = 2 ] || echo 'two objects need the header'
+    grep '"-c"' "$folder/$way.calls" | grep '"reason"'
     # three sources for two architectures, and two of them again
     cicc=$(grep -cx cicc "$folder/$way.launched")
     [ "$cicc" = 10 ] || echo "$cicc calls of cicc, not 10"
