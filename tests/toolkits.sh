@@ -66,13 +66,15 @@ unpack() {
 }
 
 # relocate: lets the nvcc below `root` find its profile, which is a link to /etc, and its own files. Debian's profile names no folder for
-# headers, because the compiler finds theirs in /usr/include.
+# headers, because the compiler finds theirs in /usr/include. CMake wants the path of libdevice to end in nvvm/libdevice.
 relocate() {
     local profile=$root/usr/lib/nvidia-cuda-toolkit/bin/nvcc.profile
     rm -f "$profile"
-    sed "s,/usr/lib/,$root/usr/lib/,g" "$root/etc/nvcc.profile" > "$profile"
+    sed "s,/usr/lib/,$root/usr/lib/,g; s,/lib/nvidia-cuda-toolkit/libdevice,/nvvm/libdevice," "$root/etc/nvcc.profile" > "$profile"
     echo "INCLUDES += \"-I$root/usr/include\" \$(_SPACE_)" >> "$profile"
     sed -i "s,/usr/lib/nvidia,$root/usr/lib/nvidia,g" "$root/usr/bin/nvcc"
+    mkdir -p "$root/usr/nvvm"
+    ln -sfn ../lib/nvidia-cuda-toolkit/libdevice "$root/usr/nvvm/libdevice"
 }
 
 # fetch VERSION: a folder is whole once it has the file `done`.
