@@ -1,15 +1,16 @@
 #!/usr/bin/env bash
 # Tests zigrunk-nvcc with other versions of nvcc: 11.2, 11.8 and 12.4 of Debian's archive, each with a g++ that suits it. With each it makes
-# the call lists beside that nvcc (tests/compare_calls.py), calls with other host compilers, a fatbin for several targets twenty times
-# (tests/needs.sh), commands that have only their own files (tests/isolated.py) and CMake projects (tests/cmake.sh). Each version and part
-# has a line of counts, and one that fails doesn't stop the others. The last line is 'N passed, M failed'.
+# the call lists beside that nvcc (tests/compare_calls.py), calls with other host compilers, lines with each option
+# (tests/nvcc_readings.py), a fatbin for several targets twenty times (tests/needs.sh), commands that have only their own files
+# (tests/isolated.py) and CMake projects (tests/cmake.sh). Each version and part has a line of counts, and one that fails doesn't stop the
+# others. The last line is 'N passed, M failed'.
 #
 #   tests/versions.sh [PROGRAM]      PROGRAM is the zigrunk that `make build` leaves, unless given
 #
 #   CUDA_VERSIONS=FOLDER   the toolkits (tests/toolkits.sh), else out/versions. What it lacks is downloaded: up to 3 GB, 1 GB of which stay.
 #   VERSIONS='11.8 ..'     only these
-#   PARTS='calls ..'       only these of calls, hosts, needs, isolated, cmake
-#   CALLS='FILE ..'        other lists than tests/calls.txt, calls_words.txt and calls_odd.txt
+#   PARTS='calls ..'       only these of calls, hosts, options, needs, isolated, cmake
+#   CALLS='FILE ..'        other lists than tests/calls_quick.txt, calls.txt, calls_words.txt and calls_odd.txt
 #   JOBS=N                 so many calls at once, else as many as there are processors
 cd "$(dirname "$0")/.." || exit 1
 . tests/lib.sh
@@ -17,8 +18,8 @@ program=$(realpath -m "${1:-crates/zigrunk/out/zigrunk}")
 mkdir -p "${CUDA_VERSIONS:-out/versions}"
 folder=$(realpath "${CUDA_VERSIONS:-out/versions}")
 read -ra versions <<< "${VERSIONS:-11.2 11.8 12.4}"
-read -ra lists <<< "${CALLS:-tests/calls.txt tests/calls_words.txt tests/calls_odd.txt}"
-parts=${PARTS:-calls hosts needs isolated cmake}
+read -ra lists <<< "${CALLS:-tests/calls_quick.txt tests/calls.txt tests/calls_words.txt tests/calls_odd.txt}"
+parts=${PARTS:-calls hosts options needs isolated cmake}
 require 'other versions of nvcc' "${ZIGRUNK_NINJA:-ninja}" objcopy nm python3
 [ -x "$program" ] || make build >&2 || exit 1
 unset NVCC_PREPEND_FLAGS NVCC_APPEND_FLAGS
@@ -58,8 +59,11 @@ for version in "${ready[@]}"; do
     compare=(tests/compare_calls.py --scratch "$scratch" --jobs "${JOBS:-$(nproc)}")
     part "$version" calls "${compare[@]}" "${lists[@]}"
     part "$version" hosts "${compare[@]}" --only ccbin tests/calls_hosts.txt
+    part "$version" options tests/nvcc_readings.py "$program"
     part "$version" needs env TARGETS="$(targets "$version")" tests/needs.sh "$program"
     part "$version" isolated env TARGETS="$(targets "$version")" tests/isolated.py --leave-out --mount "$folder" "$program"
+    [ "$version" != 11.2 ] || export BY_SYMBOLS=yes
     part "$version" cmake tests/cmake.sh "$program"
+    unset BY_SYMBOLS
 done
 summary
