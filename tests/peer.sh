@@ -5,7 +5,7 @@
 # counts. The last line is 'N passed, M failed'.
 #
 #   ZIGRUNK_PEER=FOLDER      what it downloads and builds, else zigrunk/peer in your cache folder
-#   ZIGRUNK_LIB_DIR=FOLDER   the folder of libzigrunk.a, else out/lib, where `make lib` leaves it
+#   ZIGRUNK_LIB_DIR=FOLDER   the folder of libzigrunk.a, else out/lib; `make lib` makes it if it isn't there, and proves its crates first
 #   PARTS='units ..'         only these of units, system, plans, calls
 #   RUNS=N                   ours makes each call with N empty caches
 #   JOBS=N                   so many processes at once, else as many as there are processors
@@ -30,7 +30,8 @@ case $? in
 esac
 folder=$(realpath "$folder")
 if [ -z "${ZIGRUNK_LIB_DIR-}" ]; then
-    .ci/built check library && [ -e out/lib/libzigrunk.a ] || make lib >&2 || exit 1
+    .ci/built check library || make lib >&2 || exit 1
+    bindings/c/library.sh crates/zigrunk_c/out/libzigrunk_c.a out || exit 1
     ZIGRUNK_LIB_DIR=$PWD/out/lib
 fi
 ZIGRUNK_LIB_DIR=$(realpath "$ZIGRUNK_LIB_DIR")
@@ -55,9 +56,9 @@ in_tree() {
     (cd "$folder/$1" && cargo "$2" --release --offline -j "$jobs" "${profile[@]}" "${@:3}")
 }
 
-# build SIDE: leaves the program in a folder of its own: by another name, sccache takes itself for a compiler.
+# build SIDE: the tests, and the program in a folder of its own: by another name, sccache takes itself for a compiler.
 build() {
-    in_tree "$1" build --bin sccache && mkdir -p "$folder/bin/$1" && cp "$CARGO_TARGET_DIR/release/sccache" "$folder/bin/$1/sccache"
+    in_tree "$1" test --no-run --lib --test system && mkdir -p "$folder/bin/$1" && cp "$CARGO_TARGET_DIR/release/sccache" "$folder/bin/$1/sccache"
 }
 
 # path_without NAME: PATH, with a folder of links in place of each folder that has such a program.
@@ -67,7 +68,7 @@ path_without() {
         number=$((number + 1)) links=$scratch/path/$number
         if [ -e "$from/$1" ]; then
             mkdir -p "$links"
-            find -L "$from" -maxdepth 1 -type f -perm -u+x ! -name "$1*" -exec ln -s -t "$links" {} +
+            find -L "$from" -maxdepth 1 -type f -perm -u+x ! -name "$1*" -exec ln -s -t "$links" {} + 2> /dev/null
             from=$links
         fi
         path+=:$from
