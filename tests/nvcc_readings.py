@@ -62,7 +62,7 @@ def answer(line: list[str], base: str, zigrunk: str) -> str:
 
 
 def main() -> int:
-    zigrunk = os.path.realpath(sys.argv[1] if len(sys.argv) > 1 else TOP / "crates/zigrunk/out/zigrunk")
+    zigrunk = os.path.realpath(sys.argv[1] if len(sys.argv) > 1 else str(TOP / "crates/zigrunk/out/zigrunk"))
     try:
         version = subprocess.run(["nvcc", "--version"], capture_output=True, text=True, check=True).stdout
     except OSError:
