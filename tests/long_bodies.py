@@ -188,9 +188,9 @@ plans | canonical_names/shadow | is_step_shadow | run1.commands.as_slice().len()
 plans | canonical_names/suffixes | new | list.len() > 500
 plans | canonical_names/suffixes | try_clone | self.len() > 500
 
-plans | program_lookups/asking | asked_lookups | dry_run.len() > 5_000
+plans | dry_runs/parsed_runs | parse_dry_runs | dry1.len() > 5_000
 plans | program_lookups/asking | asked_lookups_of_both | dry2.len() > 5_000
-plans | program_lookups/asking | asked_lookups_of_both before asked_behind | first.len() > 500
+plans | program_lookups/asking | add_asked | lookups.len() > 500
 plans | program_lookups/disk | snapshot_by | dry1.len() > 5_000
 programs | program_lookups/disk | snapshot_of | dry1.len() > 10_000
 programs | program_lookups/excess | excess_of | dry1.len() > 10_000

@@ -22,7 +22,7 @@ use Rattle.dry_runs.specs.DryRun.{LookUp, Meaning, Ignored, Assigns, Runs, Bad, 
 use Rattle.dry_runs.specs.DryRunLines.{numbered_lines}
 use Rattle.dry_runs.specs.Environment.{Variable}
 use Rattle.dry_runs.specs.Limit.{UnlessMemoryWithin, first_too_long, left_behind_line, answer_within, dry_run_within}
-use Rattle.dry_runs.specs.Parsed.{question_of, program_in, path_of, with_line, run_of_lines, lines_read, unless_long, lines_read_within, unless_bad, whole, limited_whole, whole_in, behind_found, found_commands, unless_missing, ParsesThenResolves}
+use Rattle.dry_runs.specs.Parsed.{question_of, program_in, path_of, with_line, run_of_lines, lines_read, unless_long, lines_read_within, unless_bad, whole, limited_whole, whole_in, behind_found, found_commands, unless_missing, parsed_of, ParsesThenResolves}
 use Rattle.dry_runs.specs.Reading.{said_parsed, said_ended, with_variable, with_command, said_next, next_within, meaning_stated}
 use Rattle.dry_runs.specs.Statement.{stated}
 use Rattle.dry_runs.proofs.ReadingLemmas.{environment-next}
@@ -247,6 +247,43 @@ module _ (which : LookUp) (run : ℕ) (cwd : List ℕ) where
 pub parses-then-resolves : ParsesThenResolves
 parses-then-resolves run bytes cwd which =
     says-alike which run cwd (numbered_lines bytes) [] ∙ whole-lines (meanings which run cwd [] (numbered_lines bytes))
+
+-- What a parsed run holds before its bad line doesn't depend on the run's number, which only faults carry.
+abbrev HoldAlike : ParsedRun → ParsedRun → Type 0
+HoldAlike a b = (a.commands ≡ b.commands) × (a.env ≡ b.env)
+
+module _ (run other : ℕ) where
+  abbrev HoldAlikeFrom : List Variable → Meaning → Meaning → List (ℕ × List ℕ) → Type 0
+  HoldAlikeFrom env m k ls = HoldAlike (asked_from question_of run [] env m ls) (asked_from question_of other [] env k ls)
+
+  abbrev HoldAlikeBehind : List Variable → List (ℕ × List ℕ) → Type 0
+  HoldAlikeBehind env ls = HoldAlike (asked_all question_of run [] env ls) (asked_all question_of other [] env ls)
+
+  hold-path : (number : ℕ) (env : List Variable) (ls : List (ℕ × List ℕ)) (program : List ℕ) (words : List (List ℕ)) (path : Option (List ℕ)) → HoldAlikeBehind env ls →
+      HoldAlikeFrom env (meaning_by_path question_of run [] number program words path) (meaning_by_path question_of other [] number program words path) ls
+  hold-path number env ls program words None same = (refl, refl)
+  hold-path number env ls program words (Some path) same = (ap (λ commands. (number, path ++ program, words) ∷ commands) same.0, same.1)
+
+  hold-stated : (number : ℕ) (env : List Variable) (ls : List (ℕ × List ℕ)) (s : Statement) → ((after : List Variable) → HoldAlikeBehind after ls) →
+      HoldAlikeFrom env (meaning_stated question_of run [] number env s) (meaning_stated question_of other [] number env s) ls
+  hold-stated number env ls Nothing same = same env
+  hold-stated number env ls (Sets name value) same = let behind = same (env ++ (name, value) ∷ []) in (behind.0, ap (λ e. (name, value) ∷ e) behind.1)
+  hold-stated number env ls (statements.Runs []) same = (refl, refl)
+  hold-stated number env ls (statements.Runs (program ∷ words)) same = hold-path number env ls program words (first_value (codes "PATH") env) (same env)
+  hold-stated number env ls BadShell same = (refl, refl)
+  hold-stated number env ls NotUtf8 same = (refl, refl)
+
+  hold-alike : (ls : List (ℕ × List ℕ)) (env : List Variable) → HoldAlikeBehind env ls
+  hold-alike [] env = (refl, refl)
+  hold-alike ((number, line) ∷ ls) env =
+      let one = meaning-stated question_of run [] number env line in
+      let two = meaning-stated question_of other [] number env line in
+      subst (λ m. HoldAlikeFrom env m (meaning question_of other [] env (number, line)) ls) one
+      (subst (λ k. HoldAlikeFrom env (meaning_stated question_of run [] number env (stated env line)) k ls) two
+      (hold-stated number env ls (stated env line) (hold-alike ls)))
+
+  pub parsed-alike : (bytes : List ℕ) → HoldAlike (parsed_of run bytes) (parsed_of other bytes)
+  parsed-alike bytes = hold-alike (numbered_lines bytes) []
 
 -- what looking up the programs of some commands found, and of those behind them
 abbrev pub found_behind : List CommandLine → Result (List CommandLine) Fault → Result (List CommandLine) Fault

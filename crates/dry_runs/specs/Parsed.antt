@@ -9,6 +9,7 @@ use Rattle.dry_runs.specs.declared.limit.LimitedFault.{LimitedFault}
 use Rattle.dry_runs.specs.declared.limit.LimitedFault.TheVariants.{TooLong}
 use Rattle.dry_runs.specs.declared.limit.LimitedFault.TheVariants as limited
 use Rattle.dry_runs.specs.declared.parsed.ParsedRun.{ParsedRun}
+use Rattle.dry_runs.specs.declared.parsed_runs.ParsedRuns.{ParsedRuns}
 use Rattle.dry_runs.specs.CommandLines.{CommandLine}
 use Rattle.dry_runs.specs.DryRun.{LookUp, Meaning, Ignored, Assigns, Runs, Bad, meanings, dry_run_of}
 use Rattle.dry_runs.specs.DryRunLines.{numbered_lines}
@@ -47,9 +48,16 @@ lines_read which run bytes cwd = run_of_lines (meanings which run cwd [] (number
 abbrev pub parsed_of : ℕ → List ℕ → ParsedRun
 parsed_of run bytes = lines_read question_of run bytes []
 
--- a run is one that was parsed
+-- the two runs of a call, parsed
+abbrev pub both_parsed : List ℕ → List ℕ → ParsedRuns
+both_parsed dry1 dry2 = record { first = parsed_of 1 dry1; second = parsed_of 2 dry2 }
+
+-- a run is one that was parsed, and so are both of a call
 abbrev pub IsParsed : ParsedRun → Type 0
 IsParsed parsed = (run : ℕ) × (bytes : List ℕ) × (parsed ≡ parsed_of run bytes)
+
+abbrev pub AreParsed : ParsedRuns → Type 0
+AreParsed runs = IsParsed runs.first × IsParsed runs.second
 
 -- a run, unless a line exceeds the limit
 abbrev pub unless_long : ℕ → Option ℕ → ParsedRun → Result ParsedRun LimitedFault
@@ -64,6 +72,16 @@ lines_read_within which limit run bytes cwd =
 -- a run that is parsed within a limit
 abbrev pub parsed_within : ℕ → ℕ → List ℕ → Result ParsedRun LimitedFault
 parsed_within limit run bytes = lines_read_within question_of limit run bytes []
+
+-- two runs; or else why the first couldn't be parsed, or the second if the first could
+abbrev pub both_or_limited : Result ParsedRun LimitedFault → Result ParsedRun LimitedFault → Result ParsedRuns LimitedFault
+both_or_limited (Err fault) second = Err fault
+both_or_limited (Ok first) (Err fault) = Err fault
+both_or_limited (Ok first) (Ok second) = Ok (record { first = first; second = second })
+
+-- the two runs of a call, each parsed with the whole limit
+abbrev pub both_parsed_within : ℕ → List ℕ → List ℕ → Result ParsedRuns LimitedFault
+both_parsed_within limit dry1 dry2 = both_or_limited (parsed_within limit 1 dry1) (parsed_within limit 2 dry2)
 
 -- commands and environment, unless a line is bad
 abbrev pub unless_bad : List CommandLine → List Variable → Option Fault → Result (List CommandLine × List Variable) Fault

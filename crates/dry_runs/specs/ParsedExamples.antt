@@ -3,7 +3,7 @@ use Rattle.std.specs.Prelude.{◌≡◌, ℕ, List, [], ◌∷◌, ◌++◌, Non
 use Rattle.texts.specs.declared.fault.Fault.TheVariants.{BadShell, NotFound}
 use Rattle.dry_runs.specs.declared.limit.LimitedFault.TheVariants.{TooLong}
 use Rattle.dry_runs.specs.DryRunExamples.{lacking}
-use Rattle.dry_runs.specs.Parsed.{parsed_of, parsed_within, resolved, bad_line}
+use Rattle.dry_runs.specs.Parsed.{both_parsed, both_parsed_within, parsed_of, parsed_within, resolved, bad_line}
 
 -- two commands and a line that is bad whatever is found, and a third command
 abbrev pub open_quote : List ℕ
@@ -30,3 +30,14 @@ abbrev pub PathCounts : Type 0
 PathCounts =
     (parsed_within 16 1 (codes "#$ PATH=/b\n#$ gcc x\n") ≡ Ok (parsed_of 1 (codes "#$ PATH=/b\n#$ gcc x\n")))
     × (parsed_within 15 1 (codes "#$ PATH=/b\n#$ gcc x\n") ≡ Err (TooLong 1 1))
+
+-- a run that holds sixteen bytes: `PATH` and `/b` eight, `/bgcc` and `x` eight
+abbrev gcc_run : List ℕ
+gcc_run = codes "#$ PATH=/b\n#$ gcc x\n"
+
+-- each of two runs has the whole limit, and the first one that exceeds it decides
+abbrev pub EachRunHasTheLimit : Type 0
+EachRunHasTheLimit =
+    (both_parsed_within 16 gcc_run gcc_run ≡ Ok (both_parsed gcc_run gcc_run))
+    × (both_parsed_within 15 gcc_run gcc_run ≡ Err (TooLong 1 1))
+    × (both_parsed_within 15 [] gcc_run ≡ Err (TooLong 2 1))

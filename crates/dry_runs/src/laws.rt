@@ -4,7 +4,7 @@ ghost use Rattle.texts.specs.Equality.{TellsEqual};
 ghost use Rattle.dry_runs.specs.DryRunExamples.{OneKernelIsRead, LastLineNeedsNoNewline, NothingIsRead, UnmarkedLineIsNotText, QuoteIsOpen, CommentIsNoCommand, NoPathIsSet, DigitMakesACommand, PathIsEmpty, FirstBadLineDecides, ProgramsAreMissing, EmptyProgramIsLookedUp, ReferenceAtTheEndStays, OneReferenceExpandsAll, LetterFollowsAReference, FirstValueIsExpanded, ValuesAreExpandedInOrder, FirstPathCounts, OtherNamesAreRead, LastLineKeepsItsReturn, ByteOrderMarkUnmarks, ValuesAreKeptAsTheyStand, FirstFolderIsEmpty, FolderNeedsAPathToo, NameIsSetTwice, OtherCharactersEndAName, WordCharactersGoOn};
 ghost use Rattle.dry_runs.specs.LimitExamples.{AllThatIsHeldCounts, TextsOnTheWayCount, FirstOfBothDecides, UnmarkedLinesAreFree};
 ghost use Rattle.dry_runs.specs.Parsed.{ParsesThenResolves};
-ghost use Rattle.dry_runs.specs.ParsedExamples.{CommandsBeforeABadLine, MissingProgramIsFirst, PathCounts};
+ghost use Rattle.dry_runs.specs.ParsedExamples.{CommandsBeforeABadLine, EachRunHasTheLimit, MissingProgramIsFirst, PathCounts};
 
 use crate::commands::{Commands, DryRun};
 
@@ -60,4 +60,5 @@ pub fn parsing()
     ensures commands_before_a_bad_line { CommandsBeforeABadLine }
     ensures missing_program_is_first { MissingProgramIsFirst }
     ensures path_counts { PathCounts }
+    ensures each_run_has_the_limit { EachRunHasTheLimit }
 {}

@@ -1,4 +1,3 @@
-mod AskedLemmas
 mod FirstLemmas
 mod KnownLemmas
 mod ReadingLemmas

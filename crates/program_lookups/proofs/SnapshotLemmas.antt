@@ -24,7 +24,7 @@ module _ (post : Bor (List ℕ) → Bool → Type 0) where
   first-among (path ∷ paths) found (inl here) = ap (is_among (path ∷ paths)) here.1 ∙ ap (λ b. b || list_any (bytes_eq path) paths) ((bytes_eq-Decides path path).1 refl)
   first-among (path ∷ paths) found (inr later) = among-more path paths found (first-among paths found later.1)
 
-  taken-snapshot : (lookups : List Lookup) (entries : List Entry) → IsTaken post lookups entries → IsSnapshotOf lookups entries
+  pub taken-snapshot : (lookups : List Lookup) (entries : List Entry) → IsTaken post lookups entries → IsSnapshotOf lookups entries
   taken-snapshot [] [] h = tt
   taken-snapshot [] (e ∷ entries) h = absurd h
   taken-snapshot (l ∷ lookups) [] h = absurd h
@@ -34,13 +34,6 @@ module _ (post : Bor (List ℕ) → Bool → Type 0) where
   pub taken-all : (lookups rest : List Lookup) (entries all : List Entry) → rest ≡ [] → all ≡ entries → ((more : List Entry) → IsTaken post rest more → IsTaken post lookups (entries ++ more)) → IsTaken post lookups all
   taken-all lookups rest entries all none same so_far =
       subst (IsTaken post lookups) (append-nil entries ∙ sym same) (so_far [] (subst (λ ls. IsTaken post ls []) (sym none) tt))
-
-  taken-result : (lookups : List Lookup) (r : Result (List Entry) AllocError) → IfOk r (IsTaken post lookups) → IfOk r (IsSnapshotOf lookups)
-  taken-result lookups (Ok entries) h = taken-snapshot lookups entries h
-  taken-result lookups (Err e) h = tt
-
-  pub taken-both : (asked lookups : List Lookup) (r : Result (List Entry) AllocError) → asked ≡ lookups → IfOk r (IsTaken post asked) → IfOk r (IsSnapshotOf lookups)
-  taken-both asked lookups r same h = taken-result lookups r (subst (λ ls. IfOk r (IsTaken post ls)) same h)
 
   -- where the test is a function, it is the first path that passes
   module _ (test : List ℕ → Bool) (acts : AnswersAs post test) where

@@ -2,14 +2,15 @@
 
 ghost use Rattle.std.specs.Prelude.{◌≡◌, ◌≢◌, ◌↔◌, ℕ, List, Bool, IsTrue, IfOk, bit_and};
 ghost use Rattle.std.specs.Fs.{IsFile, file_type, metadata_mode};
-ghost use Rattle.program_lookups.specs.Asked.{asked_of_both};
+ghost use Rattle.program_lookups.specs.Asked.{asked_by, asked_of_both};
 ghost use Rattle.program_lookups.specs.Candidates.{found_on};
 ghost use Rattle.program_lookups.specs.Snapshot as spec;
 
-use crate::asking::asked_lookups_of_both;
+use crate::asking::{asked_lookups_of_both, lookups_of_runs};
 use crate::lookup::Lookup;
 use crate::search_path::candidates;
 use crate::snapshot::{Entry, Snapshot};
+use dry_runs::{ParsedRuns, parse_dry_runs};
 use std::alloc::{AllocError, Global};
 use std::fs::{self, Files, Metadata};
 use std::os::unix::fs::MetadataExt;
@@ -61,7 +62,8 @@ fn answered<F: Fn(&str) -> bool>(
     runs: &F,
 ) -> Result<Snapshot, AllocError>
     requires { F.IsAlwaysCallable runs.now }
-    ensures { IfOk result (λ snapshot. spec.IsTaken (F.post runs.now) lookups.items snapshot) }
+    ensures taken { IfOk result (λ snapshot. spec.IsTaken (F.post runs.now) lookups.items snapshot) }
+    ensures tried { IfOk result (λ snapshot. spec.IsSnapshotOf lookups.items snapshot) }
 {
     let mut entries = Vec::new(alloc);
     for lookup in lookups {
@@ -108,13 +110,28 @@ fn is_program<R: Files>(rt: &R, path: &str) -> bool {
     }
 }
 
-/// A snapshot of the disk: the look-ups that reading two dry runs from the working directory `folder` makes, each once,
-/// in order of first ask.
+/// A snapshot of the disk: the look-ups that two parsed runs ask for from the working directory `folder`, each once, in order of
+/// first ask.
 ///
 /// A look-up finds the first of its `candidates` that is a plain file with an execute bit. It follows symbolic links.
 /// Any execute bit will do: owner, group or others. Whether this very process may run the file can't be asked here, so
 /// an access list or a file system mounted `noexec` shows only when the program runs. A path that can't be read counts
 /// as missing.
+///
+/// The only error is a failed allocation. If a program is missing, the planning that uses the snapshot refuses the run.
+pub fn snapshot_for<R: Files + AllocGlobal>(
+    rt: &R,
+    runs: &ParsedRuns,
+    folder: &str,
+) -> Result<Snapshot, AllocError>
+    ensures { IfOk result (λ snapshot. spec.IsSnapshotOf (asked_by folder.now runs.now) snapshot) }
+{
+    let lookups = lookups_of_runs(rt.alloc(), runs, folder)?;
+    answered(rt.alloc(), lookups, &|path: &str| is_program(rt, path))
+}
+
+/// A snapshot of the disk as `snapshot_for` takes it, of the look-ups that reading two dry runs from the working directory
+/// `folder` makes.
 ///
 /// The only error is a failed allocation. If a text can't be read or a program is missing, the reading that uses the
 /// snapshot refuses it.
@@ -126,7 +143,6 @@ pub fn snapshot_of<R: Files + AllocGlobal>(
 ) -> Result<Snapshot, AllocError>
     ensures { IfOk result (λ snapshot. spec.IsSnapshotOf (asked_of_both dry1.now dry2.now folder.now) snapshot) }
 {
-    snapshot_by(rt.alloc(), dry1, dry2, folder, |path: &str| {
-        is_program(rt, path)
-    })
+    let runs = parse_dry_runs(rt.alloc(), dry1, dry2)?;
+    snapshot_for(rt, &runs, folder)
 }

@@ -13,8 +13,8 @@ mod lookup;
 mod search_path;
 mod snapshot;
 
-pub use asking::{asked_lookups, asked_lookups_of_both};
-pub use disk::{snapshot_by, snapshot_of};
+pub use asking::{asked_lookups, asked_lookups_of_both, lookups_of_runs};
+pub use disk::{snapshot_by, snapshot_for, snapshot_of};
 pub use excess::{Excess, excess_of};
 pub use lookup::Lookup;
 pub use search_path::candidates;

@@ -45,22 +45,26 @@ impl Lookup {
     }
 }
 
-// Whether a look-up is in a list.
-fn holds(lookups: &[Lookup], lookup: &Lookup) -> bool
-    ensures { result ≡ list_any (λ known. same_lookup known lookup.now) lookups.now }
+// Whether a list has the look-up of a program.
+fn holds(lookups: &[Lookup], program: &str, path: &str, folder: &str) -> bool
+    ensures { result ≡ list_any (λ known. same_lookup known (lookup_of program.now path.now folder.now)) lookups.now }
 {
-    let (program, path) = (lookup.program.as_str(), lookup.path.as_str());
-    let folder = lookup.folder.as_str();
     lookups.iter().any(|known| known.is(program, path, folder))
 }
 
-// Puts a look-up last, unless the list has it.
-pub(crate) fn add(lookups: &mut Vec<Lookup>, lookup: Lookup) -> Result<(), AllocError>
-    ensures { OnOk result (lookups.new.items ≡ with_lookup lookups.old.items lookup) }
+// Puts the look-up of a program last, unless the list has it.
+pub(crate) fn add(
+    alloc: Global,
+    lookups: &mut Vec<Lookup>,
+    program: &str,
+    path: &str,
+    folder: &str,
+) -> Result<(), AllocError>
+    ensures { OnOk result (lookups.new.items ≡ with_lookup lookups.old.items (lookup_of program.now path.now folder.now)) }
 {
-    if holds(lookups.as_slice(), &lookup) {
+    if holds(lookups.as_slice(), program, path, folder) {
         return Ok(());
     }
-    lookups.push(lookup)?;
+    lookups.push(Lookup::copy_of(alloc, program, path, folder)?)?;
     Ok(())
 }

@@ -17,3 +17,7 @@ returns-clause-missing_program_is_first c = (refl, refl, refl)
 pub returns-clause-path_counts : goal.returns-clause-path_counts
 unfolding dry_runs_compute
 returns-clause-path_counts c = (refl, refl)
+
+pub returns-clause-each_run_has_the_limit : goal.returns-clause-each_run_has_the_limit
+unfolding dry_runs_compute
+returns-clause-each_run_has_the_limit c = (refl, refl, refl)

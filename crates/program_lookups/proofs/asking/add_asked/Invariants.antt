@@ -1,12 +1,11 @@
-use Rattle.std.proofs.Common.{◌≡◌, length}
-use Rattle.std.specs.Str.Lines.{lines}
+use Rattle.std.proofs.Common.{◌≡◌, map, drop}
+use Rattle.dry_runs.specs.CommandLines.{line_seen}
+use Rattle.program_lookups.specs.Asked.{lookup_in, lookups_in}
 use Rattle.program_lookups.specs.Lookup.{with_lookups}
-use Rattle.program_lookups.specs.Asked.{asked_of_lines}
 use Rattle.program_lookups.proofs.asking.add_asked.Given as goal
 
--- the look-ups so far, and behind them those of the lines that are left, are all
-abbrev pub invariant-loop-line : goal.invariant-loop-line
-invariant-loop-line l = with_lookups l.lookups.items (asked_of_lines l.folder l.env (lines l.rest)) ≡ with_lookups l.initial.lookups.items (asked_of_lines l.folder l.initial.env (lines l.dry_run))
-
-abbrev pub decreases-loop-line : goal.decreases-loop-line
-decreases-loop-line l = length l.rest
+-- the look-ups so far, and behind them those of the commands that are left, are all
+abbrev pub invariant-loop-command : goal.invariant-loop-command
+invariant-loop-command l =
+    with_lookups l.lookups.items (map (lookup_in l.path l.folder) (map line_seen (drop l.command-index l.command-items)))
+    ≡ with_lookups l.fn.lookups.items (lookups_in l.folder l.run)
