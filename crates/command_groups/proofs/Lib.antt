@@ -4,13 +4,13 @@ pub mod EnvironmentLemmas
 pub mod FateLemmas
 pub mod GroupLemmas
 pub mod GroupingLemmas
-pub mod LimitLemmas
 pub mod MergeLemmas
 pub mod OpeningLemmas
 pub mod OpenerLemmas
 pub mod OriginLemmas
 pub mod PlanLemmas
 pub mod PlanNeedLemmas
+pub mod PlanningLemmas
 pub mod PutLemmas
 pub mod RisingLemmas
 pub mod SameLemmas

@@ -1,12 +1,15 @@
 -- The lines of the dry runs that the commands of a plan come from.
-use Rattle.std.specs.Prelude.{ℕ, List, ◌++◌, map, Bool, Option, Result, Ok, Err}
+use Rattle.std.specs.Prelude.{◌≡◌, ℕ, List, ◌++◌, map, Bool, Option, Result, Ok, Err}
 use Rattle.std.specs.List.{flat_map}
 use Rattle.texts.specs.declared.fault.Fault.{Fault}
+use Rattle.dry_runs.specs.declared.parsed_runs.ParsedRuns.{ParsedRuns}
 use Rattle.dry_runs.specs.CommandLines.{CommandLine}
 use Rattle.dry_runs.specs.DryRun.{LookUp, dry_run_of}
 use Rattle.dry_runs.specs.Environment.{Variable}
+use Rattle.dry_runs.specs.Parsed.{both_parsed, resolved}
 use Rattle.command_groups.specs.declared.origins.Origin.{Origin}
 use Rattle.command_groups.specs.declared.origins.PlanWithOrigins.{PlanWithOrigins}
+use Rattle.command_groups.specs.declared.plan.Plan.{Plan}
 use Rattle.command_groups.specs.Stage.{StagedCommand}
 use Rattle.command_groups.specs.Fate.{Fate, PlacedCommand, is_device, opened_names, fates}
 use Rattle.command_groups.specs.Plan.{PlanSetting, is_front, is_final, of_fate, staged_commands, plan_of}
@@ -44,7 +47,23 @@ origins_or_fault suffixes keep_dir s (Ok first) (Err fault) = Err fault
 origins_or_fault suffixes keep_dir s (Ok first) (Ok second) =
     Ok (plan_with_origins s first.1 (named suffixes keep_dir first.0) (named suffixes keep_dir second.0))
 
+-- the same of two runs that are parsed, once their programs are looked up
+abbrev pub planning_of_parsed : List (List ℕ) → Option (List ℕ) → PlanSetting → LookUp → ParsedRuns → Result PlanWithOrigins Fault
+planning_of_parsed suffixes keep_dir s which runs =
+    origins_or_fault suffixes keep_dir s (resolved which s.cwd runs.first) (resolved which s.cwd runs.second)
+
 -- the same of the bytes of two runs
 abbrev pub planning_with_origins : List (List ℕ) → Option (List ℕ) → PlanSetting → LookUp → List ℕ → List ℕ → Result PlanWithOrigins Fault
 planning_with_origins suffixes keep_dir s which first second =
     origins_or_fault suffixes keep_dir s (dry_run_of 1 first s.cwd which) (dry_run_of 2 second s.cwd which)
+
+-- its plan alone
+abbrev pub plan_alone : {E : Type 0} → Result PlanWithOrigins E → Result Plan E
+plan_alone (Ok planned) = Ok planned.plan
+plan_alone (Err fault) = Err fault
+
+-- two runs that are parsed are planned as their bytes are
+abbrev pub ParsedRunsArePlanned : Type 0
+ParsedRunsArePlanned =
+    (suffixes : List (List ℕ)) (keep_dir : Option (List ℕ)) (s : PlanSetting) (which : LookUp) (dry1 dry2 : List ℕ)
+    → planning_of_parsed suffixes keep_dir s which (both_parsed dry1 dry2) ≡ planning_with_origins suffixes keep_dir s which dry1 dry2

@@ -1,14 +1,13 @@
 -- What two dry runs are planned as within a limit. Each run is read with the whole limit.
 use Rattle.std.specs.Prelude.{ℕ, List, Option, Result, Ok, Err}
-use Rattle.texts.specs.declared.fault.Fault.{Fault}
 use Rattle.dry_runs.specs.declared.limit.LimitedFault.{LimitedFault}
 use Rattle.dry_runs.specs.CommandLines.{CommandLine}
 use Rattle.dry_runs.specs.DryRun.{LookUp}
 use Rattle.dry_runs.specs.Environment.{Variable}
-use Rattle.dry_runs.specs.Limit.{dry_run_within, without_limit}
+use Rattle.dry_runs.specs.Limit.{dry_run_within}
 use Rattle.command_groups.specs.declared.origins.PlanWithOrigins.{PlanWithOrigins}
 use Rattle.command_groups.specs.declared.plan.Plan.{Plan}
-use Rattle.command_groups.specs.Origins.{plan_with_origins}
+use Rattle.command_groups.specs.Origins.{plan_alone, plan_with_origins}
 use Rattle.command_groups.specs.Plan.{PlanSetting}
 use Rattle.command_groups.specs.PlanOfBytes.{named}
 
@@ -27,17 +26,7 @@ abbrev pub planning_with_origins_within : ℕ → List (List ℕ) → Option (Li
 planning_with_origins_within limit suffixes keep_dir s which first second =
     origins_or_limited suffixes keep_dir s (dry_run_within limit 1 first s.cwd which) (dry_run_within limit 2 second s.cwd which)
 
--- its plan alone
-abbrev pub plan_in_limited : Result PlanWithOrigins LimitedFault → Result Plan LimitedFault
-plan_in_limited (Ok planned) = Ok planned.plan
-plan_in_limited (Err fault) = Err fault
-
 -- the plan that the bytes of two runs have within the limit
 abbrev pub planning_within : ℕ → List (List ℕ) → Option (List ℕ) → PlanSetting → LookUp → List ℕ → List ℕ → Result Plan LimitedFault
 planning_within limit suffixes keep_dir s which first second =
-    plan_in_limited (planning_with_origins_within limit suffixes keep_dir s which first second)
-
--- what a call without a limit answers, by what is answered within the largest limit
-abbrev pub unlimited : {T : Type 0} → Result T LimitedFault → Result T Fault
-unlimited (Ok x) = Ok x
-unlimited (Err fault) = Err (without_limit fault)
+    plan_alone (planning_with_origins_within limit suffixes keep_dir s which first second)

@@ -3,6 +3,7 @@
 ghost use Rattle.texts.specs.Equality.{TellsEqual};
 ghost use Rattle.command_groups.specs.FateLaws.{EachHasOneFate, DeviceGroupsBeginWithTheirStep, OuterGroupsAreThere};
 ghost use Rattle.command_groups.specs.MergeLaws.{MergedIsInOrder, MergedAreTheSelected};
+ghost use Rattle.command_groups.specs.Origins.{ParsedRunsArePlanned};
 ghost use Rattle.command_groups.specs.PlanLaws.{AlikePairsHaveOnePlan, AlikeTextsHaveOnePlan, ReadableRunsArePlanned, PlannedRunsAreReadable, FirstRunIsRefused, SecondRunIsRefused, PlannedCommandsHaveOneFate};
 ghost use Rattle.command_groups.specs.PlanNeeds.{PlansAgreeFirstUnclean, PlansAgreeSecondUnclean, PlansAgreeByAnyMap, PlansAgreeInOtherFolders, PlansAgreeWithKeepDirectory, PlansAgreeWithAnyVariables};
 ghost use Rattle.command_groups.specs.PlanOfBytesExamples.{OneKernelFromBytes, OtherNamesFromBytes, TemporaryNamesFromBytes, KeptNamesFromBytes, NothingFromBytes, HostCodeFromBytes, OtherNamesAreAlike, SecondRunIsBad, FirstRunIsBad, SecondPtxasFromBytes, SupersededCiccFromBytes, StepWithoutCiccFromBytes, OutputWithASlashFromBytes, NamelessFromBytes};
@@ -77,13 +78,15 @@ pub fn step_shadow()
 /// (`planned_are_readable`). A first run that can't be read is refused with the fault of its first
 /// bad line (`first_is_refused`), and so is a second one if the first can be read
 /// (`second_is_refused`). In a plan each selected command has the one fate of its rule, and each
-/// group and the dropped list are their fate's commands in order of line and run (`one_fate`).
+/// group and the dropped list are their fate's commands in order of line and run (`one_fate`). Two runs
+/// that were parsed have the plan of their bytes (`parsed_are_planned`).
 pub fn planning()
     ensures readable_are_planned { ReadableRunsArePlanned }
     ensures planned_are_readable { PlannedRunsAreReadable }
     ensures first_is_refused { FirstRunIsRefused }
     ensures second_is_refused { SecondRunIsRefused }
     ensures one_fate { PlannedCommandsHaveOneFate }
+    ensures parsed_are_planned { ParsedRunsArePlanned }
 {}
 
 /// What dry runs are planned as, by the definitions.

@@ -19,7 +19,7 @@ pub use origins::{Origin, Origins, PlanWithOrigins};
 pub use plan::{Dropped, DroppedCommands, Groups, NvccGeneratedSubcommand, Plan, Reason};
 pub use planning::{
     group_nvcc_subcommands_by_compilation_stage,
-    group_nvcc_subcommands_by_compilation_stage_within, plan_with_origins,
+    group_nvcc_subcommands_by_compilation_stage_within, plan_of_parsed, plan_with_origins,
     plan_with_origins_within,
 };
 pub use select::select_nvcc_subcommands;

@@ -7,7 +7,8 @@ ghost use Rattle.texts.specs.Variables.{pair_of};
 ghost use Rattle.dry_runs.specs.declared.limit.LimitedFault.{LimitedFault};
 ghost use Rattle.dry_runs.specs.CommandLines.{line_of};
 ghost use Rattle.dry_runs.specs.Limit.{UnlessMemoryWithin, dry_run_within};
-ghost use Rattle.dry_runs.specs.Reading.{dry_run_seen_within};
+ghost use Rattle.dry_runs.specs.Parsed.{AreParsed, IsParsed, resolved};
+ghost use Rattle.dry_runs.specs.Reading.{dry_run_seen, dry_run_seen_within};
 ghost use Rattle.command_groups.specs.declared.origins.PlanWithOrigins.{PlanWithOrigins};
 ghost use Rattle.command_groups.specs.MergeLaws.{Rises};
 ghost use Rattle.command_groups.specs.Origins as origins;
@@ -24,7 +25,10 @@ use crate::plan::Plan;
 use crate::setting::{Call, Setting};
 use canonical_names::{Suffixes, remap_commands};
 use compilers::compiler::NvccHostCompiler;
-use dry_runs::{Commands, DryRun, LimitedFault, Which, read_dry_run_within};
+use dry_runs::{
+    Commands, DryRun, LimitedFault, ParsedRun, ParsedRuns, Which, parse_dry_runs,
+    read_dry_run_within,
+};
 use std::alloc::{AllocError, Global};
 use texts::fault::Fault;
 
@@ -41,6 +45,15 @@ fn read_run<W: Which>(
     ensures rises { IfOk result (λ said. Rises (map line_of said.commands)) }
 {
     read_dry_run_within(alloc, dry_run, run, cwd, which, limit)
+}
+
+// Looks up the programs of a parsed run. Its commands have rising lines.
+fn resolve<W: Which>(alloc: Global, run: ParsedRun, cwd: &str, which: &W) -> Result<DryRun, Fault>
+    requires { IsParsed run }
+    ensures said { UnlessMemory (dry_run_seen result) (resolved (W.answer which.now) cwd.now run) }
+    ensures rises { IfOk result (λ said. Rises (map line_of said.commands)) }
+{
+    run.resolved(alloc, cwd, which)
 }
 
 // The commands of a run as they are planned: with canonical names, unless files are kept in a folder.
@@ -140,11 +153,13 @@ pub fn plan_with_origins_within<W: Which>(
 }
 
 // The plan alone.
-fn without_origins(planned: Result<PlanWithOrigins, LimitedFault>) -> Result<Plan, LimitedFault>
-    ensures { (expected : Result PlanWithOrigins LimitedFault) → UnlessMemoryWithin planned expected → UnlessMemoryWithin result (within.plan_in_limited expected) }
+fn plan_alone<E>(planned: Result<PlanWithOrigins, E>) -> Result<Plan, E>
+    ensures { result ≡ origins.plan_alone planned }
 {
-    let PlanWithOrigins { plan, .. } = planned?;
-    Ok(plan)
+    match planned {
+        Ok(PlanWithOrigins { plan, .. }) => Ok(plan),
+        Err(fault) => Err(fault),
+    }
 }
 
 /// Plans one nvcc call as
@@ -170,7 +185,7 @@ pub fn group_nvcc_subcommands_by_compilation_stage_within<W: Which>(
         (record { cwd = cwd.now; tmp = tmp.now; flag = compilation_flag.now; host_compiler = host_compiler; env_vars = map pair_of env_vars.now })
         (W.answer which.now) dry1.now dry2.now) }
 {
-    without_origins(plan_with_origins_within(
+    plan_alone(plan_with_origins_within(
         alloc,
         dry1,
         dry2,
@@ -186,14 +201,39 @@ pub fn group_nvcc_subcommands_by_compilation_stage_within<W: Which>(
     ))
 }
 
-// What a call without a limit answers, by its answer within the largest limit.
-fn unlimited<T>(planned: Result<T, LimitedFault>) -> Result<T, Fault>
-    ensures { result ≡ within.unlimited planned }
+/// Plans one nvcc call from its two dry runs, which are parsed, as [`plan_with_origins`](crate::plan_with_origins) does from
+/// what nvcc printed.
+///
+/// Fails as that call does.
+pub fn plan_of_parsed<W: Which>(
+    alloc: Global,
+    runs: ParsedRuns,
+    compilation_flag: &str,
+    cwd: &str,
+    tmp: &str,
+    keep_dir: Option<&str>,
+    env_vars: &[(String, String)],
+    host_compiler: NvccHostCompiler,
+    which: &W,
+    suffixes: &Suffixes,
+) -> Result<PlanWithOrigins, Fault>
+    requires { AreParsed runs }
+    ensures { UnlessMemory result (origins.planning_of_parsed suffixes.now (option_copied keep_dir.entry)
+        (record { cwd = cwd.now; tmp = tmp.now; flag = compilation_flag.now; host_compiler = host_compiler; env_vars = map pair_of env_vars.now })
+        (W.answer which.now) runs) }
 {
-    match planned {
-        Ok(plan) => Ok(plan),
-        Err(fault) => Err(fault.without_limit()),
-    }
+    let ParsedRuns { first, second } = runs;
+    let first = resolve(alloc, first, cwd, which)?;
+    let second = resolve(alloc, second, cwd, which)?;
+    let call = Call {
+        cwd,
+        tmp,
+        compilation_flag,
+        host_compiler,
+        env_vars,
+    };
+    let planned = plan_of_dry_runs(alloc, suffixes, keep_dir, &call, first, second)?;
+    Ok(planned)
 }
 
 /// Plans one nvcc call from two dry runs of it, as
@@ -218,10 +258,10 @@ pub fn plan_with_origins<W: Which>(
         (record { cwd = cwd.now; tmp = tmp.now; flag = compilation_flag.now; host_compiler = host_compiler; env_vars = map pair_of env_vars.now })
         (W.answer which.now) dry1.now dry2.now) }
 {
-    unlimited(plan_with_origins_within(
+    let runs = parse_dry_runs(alloc, dry1, dry2)?;
+    plan_of_parsed(
         alloc,
-        dry1,
-        dry2,
+        runs,
         compilation_flag,
         cwd,
         tmp,
@@ -230,8 +270,7 @@ pub fn plan_with_origins<W: Which>(
         host_compiler,
         which,
         suffixes,
-        usize::MAX,
-    ))
+    )
 }
 
 /// Plans one nvcc call from two dry runs of it: its commands in groups, and those that are in no group, each with the
@@ -291,7 +330,7 @@ pub fn group_nvcc_subcommands_by_compilation_stage<W: Which>(
         (record { cwd = cwd.now; tmp = tmp.now; flag = compilation_flag.now; host_compiler = host_compiler; env_vars = map pair_of env_vars.now })
         (W.answer which.now) dry1.now dry2.now) }
 {
-    unlimited(group_nvcc_subcommands_by_compilation_stage_within(
+    plan_alone(plan_with_origins(
         alloc,
         dry1,
         dry2,
@@ -303,6 +342,5 @@ pub fn group_nvcc_subcommands_by_compilation_stage<W: Which>(
         host_compiler,
         which,
         suffixes,
-        usize::MAX,
     ))
 }

@@ -5,5 +5,7 @@ pub use canonical_names::{
     remap_generated_filenames,
 };
 pub use dry_runs::{
-    Commands, DryRun, FirstDir, LimitedFault, Which, read_dry_run, read_dry_run_within,
+    Commands, DryRun, FirstDir, LimitedFault, ParsedRun, ParsedRuns, Which, parse_dry_run,
+    parse_dry_run_within, parse_dry_runs, parse_dry_runs_within, program_in, read_dry_run,
+    read_dry_run_within,
 };

@@ -1,4 +1,5 @@
 use Rattle.command_groups.proofs.PlanLemmas.{readable_runs_are_planned, planned_runs_are_readable, first_run_is_refused, second_run_is_refused, planned_commands_have_one_fate}
+use Rattle.command_groups.proofs.PlanningLemmas.{parsed_runs_are_planned}
 use Rattle.command_groups.proofs.laws.planning.Goals as goal
 
 pub returns : goal.returns
@@ -8,4 +9,5 @@ returns c = record {
   first_is_refused = first_run_is_refused;
   second_is_refused = second_run_is_refused;
   one_fate = planned_commands_have_one_fate;
+  parsed_are_planned = parsed_runs_are_planned;
 }
