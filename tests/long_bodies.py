@@ -192,9 +192,9 @@ plans | dry_runs/parsed_runs | parse_dry_runs | dry1.len() > 5_000
 plans | program_lookups/asking | asked_lookups_of_both | dry2.len() > 5_000
 plans | program_lookups/asking | add_asked | lookups.len() > 500
 plans | program_lookups/disk | snapshot_by | dry1.len() > 5_000
-programs | program_lookups/disk | snapshot_of | dry1.len() > 10_000
-programs | program_lookups/excess | excess_of | dry1.len() > 10_000
-programs | program_lookups/excess | excess_of | dry2.len() > 10_000
+programs | program_lookups/disk | snapshot_for | runs.first.commands.as_slice().len() > 500
+programs | dry_runs/parsed_runs | parse_dry_runs_within | dry1.len() > 10_000
+programs | dry_runs/parsed_runs | parse_dry_runs_within | dry2.len() > 10_000
 plans | program_lookups/snapshot | found | self.as_slice().len() > 500
 plans | program_lookups/search_path | candidates | path.len() > 1_000
 plans | program_lookups/search_path | candidates | program.len() > 50_000
@@ -286,8 +286,8 @@ programs | nvcc_calls/directory | directory_name | long_body::has_long(call.word
 programs | zigrunk/export | write_export | dry1.len() > 10_000
 programs | zigrunk/nvcc_text | write_nvcc_text | call.words.len() > 5_000
 programs | zigrunk/place | place_of | dry2.len() > 500_000
-programs | zigrunk/place | place_in before match step_of | number > 500
-programs | zigrunk/place | place_in before match step_of | env.as_slice().len() > 500
+programs | zigrunk/place | place_in before let path | number > 500
+programs | zigrunk/place | place_in before let path | parsed.env.as_slice().len() > 500
 programs | zigrunk/message | line_message | place.path.as_str().len() > 50_000
 programs | zigrunk/message | line_message | place.line.len() > 500_000
 

@@ -2,11 +2,14 @@
 use Rattle.std.specs.Prelude.{◌≡◌, ℕ, List, [], ◌∷◌, ◌++◌, ◌⊎◌, Option, Some, None, Result, Ok, Err, MatchOption}
 use Rattle.std.specs.Io.KnownBytes.{Keeps}
 use Rattle.nvcc_calls.specs.Calls.{NvccOf}
+use Rattle.dry_runs.specs.declared.limit.LimitedFault.{LimitedFault}
+use Rattle.dry_runs.specs.declared.limit.LimitedFault.TheVariants.{TooLong}
+use Rattle.dry_runs.specs.declared.limit.LimitedFault.TheVariants as limited
+use Rattle.dry_runs.specs.declared.parsed_runs.ParsedRuns.{ParsedRuns}
+use Rattle.dry_runs.specs.Parsed.{both_parsed_within}
 use Rattle.nvcc_calls.specs.Directory.{directory_name}
-use Rattle.program_lookups.specs.declared.excess.Excess.{Excess}
 use Rattle.program_lookups.specs.declared.snapshot.Entry.{Entry}
 use Rattle.program_lookups.specs.Asked.{asked_of_both}
-use Rattle.program_lookups.specs.Excess.{excess_of}
 use Rattle.program_lookups.specs.Snapshot.{answer_in, IsSnapshotOf}
 use Rattle.programs.specs.declared.stop.Stop.{Stop}
 use Rattle.programs.specs.declared.stop.Stop.TheVariants.{Fault, NotCompilation, ToNvcc, Unwritable, Write}
@@ -48,16 +51,21 @@ status_of call (Err stop) = stopped_status call stop
 abbrev pub exceeded : Result (List ℕ) Stop
 exceeded = Err (Unwritable over_limit)
 
--- what the program writes, given the line that exceeds the limit, if there is one, and what follows if there is none
-abbrev pub WithinLimit : Option Excess → Type 0 → Result (Unit {0}) Stop → Option (List ℕ) → Option (List ℕ) → Type 0
-WithinLimit None Follows answer before after = Follows
-WithinLimit (Some excess) Follows answer before after = Delivers answer exceeded before after
+-- the answer if two dry runs can't be parsed within the limit
+abbrev pub unparsed : LimitedFault → Result (List ℕ) Stop
+unparsed (TooLong run line) = exceeded
+unparsed (limited.Fault fault) = Err (Fault fault)
+
+-- what the program writes, given two dry runs that are parsed within the limit, and what follows if they can be
+abbrev pub WithinLimit : Result ParsedRuns LimitedFault → Type 0 → Result (Unit {0}) Stop → Option (List ℕ) → Option (List ℕ) → Type 0
+WithinLimit (Ok runs) Follows answer before after = Follows
+WithinLimit (Err fault) Follows answer before after = Delivers answer (unparsed fault) before after
 
 -- what the program writes for a call that plans, given the limit, the bytes of its two files and the engine's answer
 abbrev pub ShowsBytes : ℕ → PlanOf → List ℕ → List ℕ → Result (Unit {0}) Stop → Option (List ℕ) → Option (List ℕ) → Type 0
 ShowsBytes limit c first second answer before after =
     Delivers answer out_of_memory before after
-    ⊎ WithinLimit (excess_of limit c.cwd first second) (Delivers answer (shown_plan c.cwd c.tmp c.flag first second c.suffixes) before after) answer before after
+    ⊎ WithinLimit (both_parsed_within limit first second) (Delivers answer (shown_plan c.cwd c.tmp c.flag first second c.suffixes) before after) answer before after
 
 -- the same, given what files may hold, the bytes of the first file and the engine's answer
 abbrev pub ShowsSecond :
@@ -81,7 +89,7 @@ ExportsFitting c first second answer before after =
 abbrev pub ExportsBytes : ℕ → ExportOf → List ℕ → List ℕ → Result (Unit {0}) Stop → Option (List ℕ) → Option (List ℕ) → Type 0
 ExportsBytes limit c first second answer before after =
     Delivers answer out_of_memory before after
-    ⊎ WithinLimit (excess_of limit c.plan.cwd first second) (ExportsFitting c first second answer before after) answer before after
+    ⊎ WithinLimit (both_parsed_within limit first second) (ExportsFitting c first second answer before after) answer before after
 
 -- the same, given what files may hold, the bytes of the first file and the engine's answer
 abbrev pub ExportsSecond :

@@ -5,10 +5,12 @@ use Rattle.std.specs.Str.{bytes_eq}
 use Rattle.std.specs.Str.Lines.{lines}
 use Rattle.serde_json.specs.Written.{compact_text}
 use Rattle.texts.specs.declared.fault.Fault.{Fault}
+use Rattle.dry_runs.specs.declared.parsed_runs.ParsedRuns.{ParsedRuns}
 use Rattle.dry_runs.specs.DryRun.{LookUp}
+use Rattle.dry_runs.specs.Parsed.{both_parsed}
 use Rattle.command_groups.specs.declared.origins.PlanWithOrigins.{PlanWithOrigins}
 use Rattle.command_groups.specs.declared.plan.Plan.{Plan}
-use Rattle.command_groups.specs.Origins.{planning_with_origins}
+use Rattle.command_groups.specs.Origins.{planning_of_parsed}
 use Rattle.command_groups.specs.Plan.{PlanSetting}
 use Rattle.plan_exports.specs.declared.refusal.Refusal.{Refusal}
 use Rattle.plan_exports.specs.Compdb.{database}
@@ -65,14 +67,14 @@ keep_dir_of true tmp = Some tmp
 keep_dir_of false tmp = None
 
 -- the plan of two dry runs with these suffixes, unless the suffixes are at fault
-abbrev pub planned_with : Option (List ℕ) → PlanSetting → LookUp → List ℕ → List ℕ → Result (List (List ℕ)) Fault → Result PlanWithOrigins Fault
-planned_with keep_dir setting which first second (Ok suffixes) = planning_with_origins suffixes keep_dir setting which first second
-planned_with keep_dir setting which first second (Err fault) = Err fault
+abbrev pub planned_with : Option (List ℕ) → PlanSetting → LookUp → ParsedRuns → Result (List (List ℕ)) Fault → Result PlanWithOrigins Fault
+planned_with keep_dir setting which runs (Ok suffixes) = planning_of_parsed suffixes keep_dir setting which runs
+planned_with keep_dir setting which runs (Err fault) = Err fault
 
--- the plan of a call, given a look-up of programs and the bytes of its two dry runs
-abbrev pub plan_of_call : ExportOf → LookUp → List ℕ → List ℕ → Result PlanWithOrigins Fault
-plan_of_call call which first second =
-    planned_with (keep_dir_of call.keeps call.plan.tmp) (program_setting call.plan.cwd call.plan.tmp call.plan.flag) which first second
+-- the plan of a call, given a look-up of programs and its two dry runs
+abbrev pub plan_of_runs : ExportOf → LookUp → ParsedRuns → Result PlanWithOrigins Fault
+plan_of_runs call which runs =
+    planned_with (keep_dir_of call.keeps call.plan.tmp) (program_setting call.plan.cwd call.plan.tmp call.plan.flag) which runs
     (all_suffixes call.plan.suffixes)
 
 -- whether a text has a line of a dry run, that is one with nvcc's mark
@@ -88,4 +90,4 @@ unfit call first second =
 
 -- what the program writes for a call
 abbrev pub exported : ExportOf → LookUp → List ℕ → List ℕ → Result (List ℕ) Stop
-exported call which first second = unless_stopped (unfit call.plan first second) (planned_in call (plan_of_call call which first second))
+exported call which first second = unless_stopped (unfit call.plan first second) (planned_in call (plan_of_runs call which (both_parsed first second)))

@@ -1,7 +1,6 @@
 pub mod Calls
 pub mod Endings
 pub mod Environment
-pub mod Excess
 pub mod Exports
 pub mod Messages
 pub mod NvccText

@@ -1,19 +1,13 @@
--- The bad line of two dry runs.
-use Rattle.std.specs.Prelude.{ℕ, suc, List, [], ◌∷◌, ◌++◌, Option, Some, None, codes}
-use Rattle.std.specs.Option.{unwrap_or}
+-- The line of two dry runs that stops the program.
+use Rattle.std.specs.Prelude.{ℕ, zero, suc, List, [], ◌∷◌, ◌==◌, if◌then◌else◌, Option, Some, None}
+use Rattle.std.specs.Option.{option_map}
 use Rattle.std.specs.Str.Lines.{lines}
-use Rattle.texts.specs.Variables.{first_value}
 use Rattle.dry_runs.specs.DryRun.{LookUp}
-use Rattle.dry_runs.specs.Environment.{Variable}
-use Rattle.dry_runs.specs.Statement.{stated}
-use Rattle.dry_runs.specs.declared.statement.Statement.{Statement}
-use Rattle.dry_runs.specs.declared.statement.Statement.TheVariants as statements
+use Rattle.dry_runs.specs.Parsed.{bad_line, parsed_of, path_of}
 use Rattle.programs.specs.Calls.{PlanOf}
 use Rattle.zigrunk.specs.declared.place.Place.{Place}
-use Rattle.zigrunk.specs.declared.place.Step.{Step}
-use Rattle.zigrunk.specs.declared.place.Step.TheVariants.{Bad, On, Sets}
 
--- a bad line: its file, its number from 0, its bytes, and the value that `PATH` has there
+-- a line of a file: its number from 0, its bytes, and the value that `PATH` has there
 pub record PlaceOf : Type 0 where
   pub file : List ℕ
   pub number : ℕ
@@ -24,46 +18,20 @@ pub record PlaceOf : Type 0 where
 abbrev pub place_seen : Place → PlaceOf
 place_seen place = record { file = place.file.now; number = place.number; line = place.line.now; path = place.path }
 
--- what reading does behind a command whose program was looked up
-abbrev pub step_found : Option (List ℕ) → Step
-step_found None = Bad
-step_found (Some path) = On
+-- the line of a number, from 0, or nothing if there are fewer
+abbrev pub line_at : ℕ → List (List ℕ) → List ℕ
+line_at number [] = []
+line_at zero (line ∷ more) = line
+line_at (suc number) (line ∷ more) = line_at number more
 
--- the value of `PATH`, or nothing
-abbrev pub path_in : List Variable → List ℕ
-path_in env = unwrap_or (first_value (codes "PATH") env) []
+-- the line of a number in a file
+abbrev pub place_at : List ℕ → List ℕ → ℕ → List ℕ → PlaceOf
+place_at file bytes number path = record { file = file; number = number; line = line_at number (lines bytes); path = path }
 
--- A file is read with a look-up and a working directory.
-module _ (which : LookUp) (cwd : List ℕ) where
-  -- the same by the value of `PATH`
-  abbrev pub step_by_path : List ℕ → Option (List ℕ) → Step
-  step_by_path program None = Bad
-  step_by_path program (Some path) = step_found (which program path cwd)
-
-  -- the same by the command's words
-  abbrev pub step_of_words : List Variable → List (List ℕ) → Step
-  step_of_words env [] = Bad
-  step_of_words env (program ∷ words) = step_by_path program (first_value (codes "PATH") env)
-
-  -- what reading does behind a line, by what the line says
-  abbrev pub step_stated : List Variable → Statement → Step
-  step_stated env statements.Nothing = On
-  step_stated env (statements.Sets name value) = Sets name value
-  step_stated env (statements.Runs words) = step_of_words env words
-  step_stated env statements.BadShell = Bad
-  step_stated env statements.NotUtf8 = Bad
-
-  -- the first bad line from one on, by what reading does there and by the first bad line behind it, for each environment
-  abbrev pub place_from : List ℕ → List Variable → ℕ → List ℕ → Step → (List Variable → Option PlaceOf) → Option PlaceOf
-  place_from file env number line Bad rest = Some (record { file = file; number = number; line = line; path = path_in env })
-  place_from file env number line On rest = rest env
-  place_from file env number line (Sets name value) rest = rest (env ++ (name, value) ∷ [])
-
-  -- the first bad line of a file's lines, behind these environment lines, if there is one
-  abbrev pub place_in : List ℕ → List Variable → ℕ → List (List ℕ) → Option PlaceOf
-  place_in file env number [] = None
-  place_in file env number (line ∷ more) =
-      place_from file env number line (step_stated env (stated env line)) (λ after. place_in file after (suc number) more)
+-- the first bad line of the file of a run, if there is one
+abbrev pub place_in : LookUp → List ℕ → ℕ → List ℕ → List ℕ → Option PlaceOf
+place_in which cwd run file bytes =
+    option_map (λ number. place_at file bytes number (path_of (parsed_of run bytes).env)) (bad_line which cwd (parsed_of run bytes))
 
 -- a place, or else another one
 abbrev pub or_place : Option PlaceOf → Option PlaceOf → Option PlaceOf
@@ -72,5 +40,9 @@ or_place None other = other
 
 -- the bad line of a call: that of the first file, or else that of the second
 abbrev pub place_of : LookUp → PlanOf → List ℕ → List ℕ → Option PlaceOf
-place_of which call first second =
-    or_place (place_in which call.cwd call.dry1 [] 0 (lines first)) (place_in which call.cwd call.dry2 [] 0 (lines second))
+place_of which call first second = or_place (place_in which call.cwd 1 call.dry1 first) (place_in which call.cwd 2 call.dry2 second)
+
+-- where a line that exceeds the limit is: in the file of its run
+abbrev pub place_of_excess : PlanOf → List ℕ → List ℕ → ℕ → ℕ → PlaceOf
+place_of_excess call first second run line =
+    if run == 1 then place_at call.dry1 first line [] else place_at call.dry2 second line []

@@ -5,6 +5,7 @@ ghost use Rattle.std.specs.List.{list_all, starts_with};
 ghost use Rattle.std.specs.Option.{option_copied};
 ghost use Rattle.serde_json.specs.Written.{compact_text};
 ghost use Rattle.texts.specs.Fault.{UnlessMemory};
+ghost use Rattle.dry_runs.specs.Parsed.{AreParsed, both_parsed};
 ghost use Rattle.plan_exports.specs.declared.refusal.Refusal.{Refusal};
 ghost use Rattle.plan_exports.specs.Answers as exports;
 ghost use Rattle.plan_exports.specs.Compdb.{database};
@@ -17,9 +18,9 @@ ghost use Rattle.zigrunk.specs.Calls.{export_of};
 ghost use Rattle.zigrunk.specs.Exports as spec;
 
 use crate::call::{ExportCall, Format};
-use command_groups::{NvccGeneratedSubcommand, Plan, PlanWithOrigins, plan_with_origins};
+use command_groups::{NvccGeneratedSubcommand, Plan, PlanWithOrigins, plan_of_parsed};
 use cuda_below::compiler::NvccHostCompiler;
-use dry_runs::{Which, first_line};
+use dry_runs::{ParsedRuns, Which, first_line};
 use plan_exports::{Refusal, compdb_text, dot_text, json_text, ninja_file, shell_script};
 use programs::{PlanCall, Stop, all_suffixes, deliver};
 use std::alloc::Global;
@@ -142,18 +143,17 @@ fn keep_dir_of<'a>(keeps: bool, tmp: &'a str) -> Option<&'a str>
 fn plan_of<L: Which>(
     alloc: Global,
     call: &ExportCall<'_>,
-    dry1: &[u8],
-    dry2: &[u8],
+    runs: ParsedRuns,
     which: &L,
 ) -> Result<PlanWithOrigins, Fault>
-    ensures { UnlessMemory result (spec.plan_of_call (export_of call.now) (L.answer which.now) dry1.now dry2.now) }
+    requires { AreParsed runs }
+    ensures { UnlessMemory result (spec.plan_of_runs (export_of call.now) (L.answer which.now) runs) }
 {
     let plan = &call.plan;
     let suffixes = all_suffixes(alloc, plan.suffixes)?;
-    plan_with_origins(
+    plan_of_parsed(
         alloc,
-        dry1,
-        dry2,
+        runs,
         plan.flag,
         plan.cwd,
         plan.tmp,
@@ -205,14 +205,14 @@ fn unfit(call: &PlanCall<'_>, dry1: &[u8], dry2: &[u8]) -> Option<&'static str>
 fn planned_text<L: Which>(
     alloc: Global,
     call: &ExportCall<'_>,
-    dry1: &[u8],
-    dry2: &[u8],
+    runs: ParsedRuns,
     which: &L,
 ) -> Result<String, Stop>
+    requires { AreParsed runs }
     ensures { Answers (text_of result) (spec.planned_in (export_of call.now)
-        (spec.plan_of_call (export_of call.now) (L.answer which.now) dry1.now dry2.now)) }
+        (spec.plan_of_runs (export_of call.now) (L.answer which.now) runs)) }
 {
-    let planned = plan_of(alloc, call, dry1, dry2, which)?;
+    let planned = plan_of(alloc, call, runs, which)?;
     judged_in(alloc, call, &planned)
 }
 
@@ -222,21 +222,23 @@ fn export_text<L: Which>(
     call: &ExportCall<'_>,
     dry1: &[u8],
     dry2: &[u8],
+    runs: ParsedRuns,
     which: &L,
 ) -> Result<String, Stop>
+    requires { runs ≡ both_parsed dry1.now dry2.now }
     ensures { Answers (text_of result) (spec.exported (export_of call.now) (L.answer which.now) dry1.now dry2.now) }
 {
     match unfit(&call.plan, dry1, dry2) {
         Some(why) => refused(alloc, why),
-        None => planned_text(alloc, call, dry1, dry2, which),
+        None => planned_text(alloc, call, runs, which),
     }
 }
 
-/// Plans the two dry runs of a call and writes the plan to `w` in one piece, in the call's format. `which` looks up every
-/// program.
+/// Plans the two dry runs of a call, which hold the bytes `dry1` and `dry2` and are parsed, and writes the plan to `w` in one
+/// piece, in the call's format. `which` looks up every program.
 ///
 /// Fails, with nothing written, in this order: if the call names one file twice or if a file has no line of a dry run
-/// (`Stop::Unwritable`); if `plan_with_origins` or `all_suffixes` does; if the plan has no command, or has to be whole and dropped
+/// (`Stop::Unwritable`); if `plan_of_parsed` or `all_suffixes` does; if the plan has no command, or has to be whole and dropped
 /// one, and if the format can't represent the plan (all `Stop::Unwritable`).
 /// Fails if `w` fails (`Stop::Write`).
 pub fn write_export<L: Which, W: Write>(
@@ -244,10 +246,12 @@ pub fn write_export<L: Which, W: Write>(
     call: &ExportCall<'_>,
     dry1: &[u8],
     dry2: &[u8],
+    runs: ParsedRuns,
     which: &L,
     w: &mut W,
 ) -> Result<(), Stop>
+    requires { runs ≡ both_parsed dry1.now dry2.now }
     ensures { Delivers result (spec.exported (export_of call.now) (L.answer which.now) dry1.now dry2.now) (W.contents w.old) (W.contents w.new) }
 {
-    deliver(export_text(alloc, call, dry1, dry2, which), w)
+    deliver(export_text(alloc, call, dry1, dry2, runs, which), w)
 }

@@ -13,7 +13,6 @@ use std::rt::Env;
 mod call;
 mod complaint;
 mod environment;
-mod excess;
 mod export;
 mod input;
 mod message;

@@ -4,8 +4,9 @@ ghost use Rattle.std.specs.Prelude.{◌≡◌, ◌⊎◌, [], ◌∷◌, ◌++�
 ghost use Rattle.texts.specs.declared.fault.Fault.TheVariants.{Read};
 ghost use Rattle.texts.specs.Fault.{UnlessMemoryIs};
 ghost use Rattle.texts.specs.Variables.{pair_of};
-ghost use Rattle.program_lookups.specs.Asked.{asked_of_both};
-ghost use Rattle.program_lookups.specs.Excess as limits;
+ghost use Rattle.dry_runs.specs.declared.limit.LimitedFault.{LimitedFault};
+ghost use Rattle.dry_runs.specs.Parsed.{both_parsed};
+ghost use Rattle.program_lookups.specs.Asked.{asked_by};
 ghost use Rattle.program_lookups.specs.Snapshot.{IsSnapshotOf};
 ghost use Rattle.programs.specs.Calls.{plan_of};
 ghost use Rattle.nvcc_calls.specs.Calls.{nvcc_of};
@@ -19,14 +20,14 @@ use crate::call::{Call, ExportCall, limited_call_of};
 use crate::complaint::{
     OVER_LIMIT, complain_of, complain_of_excess, complain_of_file, complain_of_plan,
 };
-use crate::excess::place_of_excess;
 use crate::export::{refused, write_export};
 use crate::nvcc_text::write_nvcc_text;
 use crate::options_files::options_files;
 use crate::page::{USAGE, help, version};
-use dry_runs::{FirstDir, Which};
+use crate::place::{Place, place_of_excess};
+use dry_runs::{FirstDir, LimitedFault, ParsedRuns, Which, parse_dry_runs_within};
 use nvcc_calls::{DirectoryCall, NvccCall, directory_name};
-use program_lookups::{Excess, Snapshot, excess_of, snapshot_of};
+use program_lookups::{Snapshot, snapshot_for};
 use programs::{PlanCall, Sources, Stop, deliver, write_line, write_plan};
 use std::alloc::{AllocError, Global};
 use std::fs::Files;
@@ -83,34 +84,15 @@ fn plan_told<L: Which, E: Write>(
 // The programs that the disk has for two dry runs. If memory runs out, it first says so.
 fn programs_for<R: Files + AllocGlobal, E: Write>(
     rt: &R,
-    dry1: &[u8],
-    dry2: &[u8],
+    runs: &ParsedRuns,
     cwd: &str,
     err: &mut E,
 ) -> Result<Snapshot, AllocError>
-    ensures { IfOk result (λ snapshot. IsSnapshotOf (asked_of_both dry1.now dry2.now cwd.now) snapshot) }
+    ensures { IfOk result (λ snapshot. IsSnapshotOf (asked_by cwd.now runs.now) snapshot) }
 {
-    let answer = snapshot_of(rt, dry1, dry2, cwd);
+    let answer = snapshot_for(rt, runs, cwd);
     if answer.is_err() {
         let _ = complain_of(rt.alloc(), &Stop::Fault(Fault::Memory), err);
-    }
-    answer
-}
-
-// The line of two dry runs that exceeds the limit, if there is one. If memory runs out, it first says so.
-fn excess_told<E: Write>(
-    alloc: Global,
-    call: &PlanCall<'_>,
-    dry1: &[u8],
-    dry2: &[u8],
-    limit: usize,
-    err: &mut E,
-) -> Result<Option<Excess>, AllocError>
-    ensures { IfOk result (λ excess. excess ≡ limits.excess_of limit call.now.cwd.now dry1.now dry2.now) }
-{
-    let answer = excess_of(alloc, dry1, dry2, call.cwd, limit);
-    if answer.is_err() {
-        let _ = complain_of(alloc, &Stop::Fault(Fault::Memory), err);
     }
     answer
 }
@@ -118,35 +100,55 @@ fn excess_told<E: Write>(
 // Says which line exceeds the limit, and stops.
 fn stop_at<W: Write, E: Write>(
     alloc: Global,
-    call: &PlanCall<'_>,
-    dry1: &[u8],
-    dry2: &[u8],
+    place: &Place<'_>,
     limit: usize,
-    excess: Excess,
     out: &mut W,
     err: &mut E,
 ) -> Result<(), Stop>
     ensures { Delivers result spec.exceeded (W.contents out.old) (W.contents out.new) }
 {
-    let place = place_of_excess(alloc, call, dry1, dry2, excess);
-    let _ = complain_of_excess(alloc, &place, limit, err);
+    let _ = complain_of_excess(alloc, place, limit, err);
     deliver(refused(alloc, OVER_LIMIT), out)
 }
 
-// Plans two dry runs that don't exceed the limit, with the programs that the disk has, and writes the plan.
-fn export_fitting<R: Files + AllocGlobal, W: Write, E: Write>(
+// Says why two dry runs can't be parsed within the limit, and stops.
+fn stop_unparsed<W: Write, E: Write>(
+    alloc: Global,
+    call: &PlanCall<'_>,
+    dry1: &[u8],
+    dry2: &[u8],
+    limit: usize,
+    fault: LimitedFault,
+    out: &mut W,
+    err: &mut E,
+) -> Result<(), Stop>
+    ensures { Delivers result (spec.unparsed fault) (W.contents out.old) (W.contents out.new) }
+{
+    match fault {
+        LimitedFault::TooLong { run, line } => {
+            let place = place_of_excess(alloc, call, dry1, dry2, run, line);
+            stop_at(alloc, &place, limit, out, err)
+        }
+        LimitedFault::Fault(fault) => { told(alloc, deliver(Err(Stop::Fault(fault)), out), err) }
+    }
+}
+
+// Plans two dry runs that are parsed, with the programs that the disk has, and writes the plan.
+fn export_parsed<R: Files + AllocGlobal, W: Write, E: Write>(
     rt: &R,
     call: &ExportCall<'_>,
     dry1: &[u8],
     dry2: &[u8],
+    runs: ParsedRuns,
     out: &mut W,
     err: &mut E,
 ) -> Result<(), Stop>
+    requires { runs ≡ both_parsed dry1.now dry2.now }
     ensures { Delivers result out_of_memory (W.contents out.old) (W.contents out.new)
         ⊎ spec.ExportsFitting (forms.export_of call.now) dry1.now dry2.now result (W.contents out.old) (W.contents out.new) }
 {
-    let programs = programs_for(rt, dry1, dry2, call.plan.cwd, err)?;
-    let answer = write_export(rt.alloc(), call, dry1, dry2, &programs, out);
+    let programs = programs_for(rt, &runs, call.plan.cwd, err)?;
+    let answer = write_export(rt.alloc(), call, dry1, dry2, runs, &programs, out);
     plan_told(rt.alloc(), &programs, &call.plan, dry1, dry2, answer, err)
 }
 
@@ -163,9 +165,9 @@ fn export_bytes<R: Files + AllocGlobal, W: Write, E: Write>(
     ensures { spec.ExportsBytes limit (forms.export_of call.now) dry1.now dry2.now result (W.contents out.old) (W.contents out.new) }
 {
     let alloc = rt.alloc();
-    match excess_told(alloc, &call.plan, dry1, dry2, limit, err)? {
-        None => export_fitting(rt, call, dry1, dry2, out, err),
-        Some(excess) => stop_at(alloc, &call.plan, dry1, dry2, limit, excess, out, err),
+    match parse_dry_runs_within(alloc, dry1, dry2, limit) {
+        Ok(runs) => export_parsed(rt, call, dry1, dry2, runs, out, err),
+        Err(fault) => stop_unparsed(alloc, &call.plan, dry1, dry2, limit, fault, out, err),
     }
 }
 
@@ -237,9 +239,9 @@ fn show_bytes<W: Write, E: Write>(
 ) -> Result<(), Stop>
     ensures { spec.ShowsBytes limit (plan_of call.now) dry1.now dry2.now result (W.contents out.old) (W.contents out.new) }
 {
-    match excess_told(alloc, call, dry1, dry2, limit, err)? {
-        None => show_fitting(alloc, call, dry1, dry2, out, err),
-        Some(excess) => stop_at(alloc, call, dry1, dry2, limit, excess, out, err),
+    match parse_dry_runs_within(alloc, dry1, dry2, limit) {
+        Ok(_) => show_fitting(alloc, call, dry1, dry2, out, err),
+        Err(fault) => stop_unparsed(alloc, call, dry1, dry2, limit, fault, out, err),
     }
 }
 

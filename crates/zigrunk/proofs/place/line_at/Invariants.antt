@@ -1,7 +1,7 @@
 use Rattle.std.proofs.Common.{◌≡◌, length}
 use Rattle.std.specs.Str.Lines.{lines}
-use Rattle.zigrunk.specs.Excess.{line_at}
-use Rattle.zigrunk.proofs.excess.line_at.Given as goal
+use Rattle.zigrunk.specs.Places.{line_at}
+use Rattle.zigrunk.proofs.place.line_at.Given as goal
 
 abbrev pub invariant-loop-line : goal.invariant-loop-line
 invariant-loop-line l = line_at l.left (lines l.rest) ≡ line_at l.number (lines l.dry_run)
