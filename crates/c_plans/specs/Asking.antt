@@ -1,29 +1,42 @@
 -- The calls on look-ups of programs.
-use Rattle.std.specs.Prelude.{ℕ, List, [], ◌∷◌}
+use Rattle.std.specs.Prelude.{ℕ, List, [], ◌∷◌, Result, Ok, Err}
 use Rattle.std.specs.List.{flat_map}
 use Rattle.program_lookups.specs.declared.lookup.Lookup.{Lookup}
-use Rattle.program_lookups.specs.Asked.{asked_of_both}
+use Rattle.dry_runs.specs.declared.limit.LimitedFault.{LimitedFault}
+use Rattle.dry_runs.specs.declared.parsed_runs.ParsedRuns.{ParsedRuns}
+use Rattle.dry_runs.specs.Parsed.{both_parsed, both_parsed_within}
+use Rattle.program_lookups.specs.Asked.{asked_by}
 use Rattle.program_lookups.specs.Candidates.{candidates_of}
 use Rattle.c_texts.specs.Failures.{if_utf8}
 use Rattle.c_texts.specs.Outcomes.{Outcome, of_texts}
 use Rattle.c_texts.specs.Memory.{text_of}
-use Rattle.c_plans.specs.Limits.{excess_of, unless_excess}
+use Rattle.c_plans.specs.Limits.{failed_within, within_limit}
 
 -- the texts of a look-up: the program, and the value of `PATH`
 abbrev pub texts_of : Lookup → List (List ℕ)
 texts_of lookup = lookup.program ∷ lookup.path ∷ []
 
--- the look-ups of two dry runs from a working directory
+-- the look-ups of two dry runs that are parsed, from a working directory
+abbrev pub lookups_by : ParsedRuns → List ℕ → Outcome
+lookups_by runs cwd = of_texts (flat_map texts_of (asked_by cwd runs))
+
+-- the same of what nvcc printed
 abbrev pub lookups_from : List ℕ → List ℕ → List ℕ → Outcome
-lookups_from dry1 dry2 cwd = of_texts (flat_map texts_of (asked_of_both dry1 dry2 cwd))
+lookups_from dry1 dry2 cwd = lookups_by (both_parsed dry1 dry2) cwd
 
 -- the same, if the directory is UTF-8
 abbrev pub lookups_outcome : List ℕ → List ℕ → List ℕ → Outcome
 lookups_outcome dry1 dry2 cwd = if_utf8 (text_of cwd) (lookups_from dry1 dry2)
 
--- the same within a limit
+-- the look-ups of two dry runs, or why they can't be parsed within a limit
+abbrev pub lookups_told : ℕ → Result ParsedRuns LimitedFault → List ℕ → Outcome
+lookups_told limit (Ok runs) cwd = lookups_by runs cwd
+lookups_told limit (Err fault) cwd = failed_within limit fault
+
+-- the look-ups of two dry runs within a limit, unless that is 0
 abbrev pub lookups_within : ℕ → List ℕ → List ℕ → List ℕ → Outcome
-lookups_within limit dry1 dry2 cwd = unless_excess limit (excess_of limit cwd dry1 dry2) (lookups_from dry1 dry2 cwd)
+lookups_within limit dry1 dry2 cwd =
+    within_limit limit (lookups_from dry1 dry2 cwd) (lookups_told limit (both_parsed_within limit dry1 dry2) cwd)
 
 -- the same, if the directory is UTF-8
 abbrev pub limited_lookups_outcome : ℕ → List ℕ → List ℕ → List ℕ → Outcome

@@ -1,13 +1,11 @@
 -- The limit of a call: how many bytes reading a dry run may make. 0 is no limit.
-use Rattle.std.specs.Prelude.{ℕ, List, ◌++◌, ◌==◌, if◌then◌else◌, Option, Some, None, Result, Ok, Err, codes}
+use Rattle.std.specs.Prelude.{ℕ, List, ◌++◌, ◌==◌, if◌then◌else◌, Result, Ok, Err, codes}
 use Rattle.std.specs.Fmt.{decimal}
 use Rattle.texts.specs.declared.fault.Fault.{Fault}
 use Rattle.texts.specs.Fault.{UnlessMemoryIs, line_text}
 use Rattle.dry_runs.specs.declared.limit.LimitedFault.{LimitedFault}
 use Rattle.dry_runs.specs.declared.limit.LimitedFault.TheVariants.{TooLong}
 use Rattle.dry_runs.specs.declared.limit.LimitedFault.TheVariants as limited
-use Rattle.program_lookups.specs.declared.excess.Excess.{Excess}
-use Rattle.program_lookups.specs.Excess as excess
 use Rattle.c_texts.specs.declared.status.Status.TheVariants.{OverLimit}
 use Rattle.c_texts.specs.Failures.{failed}
 use Rattle.c_texts.specs.Outcomes.{Outcome, refused_with}
@@ -33,15 +31,6 @@ over_limit limit run line = refused_with OverLimit (excess_text limit run line)
 abbrev pub failed_within : ℕ → LimitedFault → Outcome
 failed_within limit (limited.Fault fault) = failed fault
 failed_within limit (TooLong run line) = over_limit limit run line
-
--- the first line of two dry runs that exceeds the limit, if there is one
-abbrev pub excess_of : ℕ → List ℕ → List ℕ → List ℕ → Option Excess
-excess_of limit cwd dry1 dry2 = within_limit limit None (excess.excess_of limit cwd dry1 dry2)
-
--- an outcome, unless a line exceeds the limit
-abbrev pub unless_excess : ℕ → Option Excess → Outcome → Outcome
-unless_excess limit (Some line) outcome = over_limit limit line.run line.line
-unless_excess limit None outcome = outcome
 
 -- a fact that holds for every fault but that of an allocation
 abbrev pub UnlessMemoryIsWithin : LimitedFault → Type 0 → Type 0

@@ -1,14 +1,19 @@
 //! Look-ups of programs.
 
-ghost use Rattle.std.specs.Prelude.{◌≡◌, IfOk, OnOk};
+ghost use Rattle.std.specs.Prelude.{◌≡◌, IfOk, OnOk, Result};
 ghost use Rattle.std.specs.List.{flat_map};
-ghost use Rattle.c_texts.specs.Outcomes.{GivesList, with_texts};
+ghost use Rattle.dry_runs.specs.declared.limit.LimitedFault.{LimitedFault};
+ghost use Rattle.dry_runs.specs.declared.parsed_runs.ParsedRuns.{ParsedRuns};
+ghost use Rattle.dry_runs.specs.Limit.{UnlessMemoryWithin};
+ghost use Rattle.c_texts.specs.Outcomes.{GivesList, of_texts, with_texts};
 ghost use Rattle.c_plans.specs.Asking as spec;
 
-use crate::limits::{excess_of, over_limit};
+use crate::limits::failed_within;
 use c_texts::{ListAnswer, Outcome, Range, Status, give_list, refused, text_of};
-use program_lookups::{Excess, Lookup, asked_lookups_of_both};
+use dry_runs::{LimitedFault, ParsedRuns, parse_dry_runs, parse_dry_runs_within};
+use program_lookups::{Lookup, lookups_of_runs};
 use std::alloc::{AllocError, Global};
+use texts::fault::Fault;
 
 // Adds the texts of look-ups.
 fn push_lookups(outcome: &mut Outcome, lookups: &[Lookup]) -> Result<(), AllocError>
@@ -21,17 +26,34 @@ fn push_lookups(outcome: &mut Outcome, lookups: &[Lookup]) -> Result<(), AllocEr
     Ok(())
 }
 
-// The look-ups of two dry runs.
-fn lookups_from(alloc: Global, dry1: &[u8], dry2: &[u8], cwd: &str) -> Result<Outcome, AllocError>
-    ensures { IfOk result (λ outcome. outcome ≡ spec.lookups_from dry1.now dry2.now cwd.now) }
+// The look-ups of two dry runs that are parsed.
+fn lookups_by(alloc: Global, runs: &ParsedRuns, cwd: &str) -> Result<Outcome, AllocError>
+    ensures { IfOk result (λ outcome. outcome ≡ spec.lookups_by runs.now cwd.now) }
 {
-    let lookups = asked_lookups_of_both(alloc, dry1, dry2, cwd)?;
+    let lookups = lookups_of_runs(alloc, runs, cwd)?;
     let mut outcome = Outcome::new(alloc);
     push_lookups(&mut outcome, lookups.as_slice())?;
     Ok(outcome)
 }
 
-// The same within a limit.
+// The same, or why two dry runs can't be parsed within a limit.
+fn lookups_told(
+    alloc: Global,
+    limit: usize,
+    runs: Result<ParsedRuns, LimitedFault>,
+    cwd: &str,
+) -> Result<Outcome, AllocError>
+    ensures { (expected : Result ParsedRuns LimitedFault) → UnlessMemoryWithin runs expected
+        → IfOk result (λ outcome. outcome ≡ spec.lookups_told limit expected cwd.now) }
+{
+    match runs {
+        Ok(runs) => lookups_by(alloc, &runs, cwd),
+        Err(LimitedFault::Fault(Fault::Memory)) => Err(AllocError),
+        Err(fault) => failed_within(alloc, limit, &fault),
+    }
+}
+
+// The look-ups of two dry runs within a limit.
 fn lookups_fitting(
     alloc: Global,
     dry1: &[u8],
@@ -41,10 +63,11 @@ fn lookups_fitting(
 ) -> Result<Outcome, AllocError>
     ensures { IfOk result (λ outcome. outcome ≡ spec.lookups_within limit dry1.now dry2.now cwd.now) }
 {
-    match excess_of(alloc, limit, dry1, dry2, cwd)? {
-        Some(Excess { run, line }) => over_limit(alloc, limit, run, line),
-        None => lookups_from(alloc, dry1, dry2, cwd),
+    if limit == 0 {
+        return lookups_by(alloc, &parse_dry_runs(alloc, dry1, dry2)?, cwd);
     }
+    let runs = parse_dry_runs_within(alloc, dry1, dry2, limit);
+    lookups_told(alloc, limit, runs, cwd)
 }
 
 // The same, of a working directory that may be no text.
@@ -79,7 +102,7 @@ pub fn lookups(
 }
 
 /// The same, of dry runs that someone else wrote: refuses them if a line of one exceeds `limit`, as
-/// `program_lookups::excess_of` counts. A limit of 0 is none.
+/// `dry_runs::parse_dry_runs_within` counts. A limit of 0 is none.
 pub fn lookups_within(
     alloc: Global,
     dry1: &[u8],

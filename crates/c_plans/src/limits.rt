@@ -5,7 +5,6 @@ ghost use Rattle.c_plans.specs.Limits as spec;
 
 use c_texts::{Outcome, Status, failed, refused_with};
 use dry_runs::LimitedFault;
-use program_lookups::Excess;
 use std::alloc::{AllocError, Global};
 
 // Which line exceeds the limit.
@@ -39,22 +38,5 @@ pub(crate) fn failed_within(
     match fault {
         LimitedFault::Fault(fault) => failed(alloc, fault),
         LimitedFault::TooLong { run, line } => over_limit(alloc, limit, *run, *line),
-    }
-}
-
-/// The first line of two dry runs that exceeds a limit, if there is one, as `program_lookups::excess_of`. A limit of 0 is none.
-pub(crate) fn excess_of(
-    alloc: Global,
-    limit: usize,
-    dry1: &[u8],
-    dry2: &[u8],
-    cwd: &str,
-) -> Result<Option<Excess>, AllocError>
-    ensures { IfOk result (λ excess. excess ≡ spec.excess_of limit cwd.now dry1.now dry2.now) }
-{
-    if limit == 0 {
-        Ok(None)
-    } else {
-        program_lookups::excess_of(alloc, dry1, dry2, cwd, limit)
     }
 }

@@ -1,7 +1,6 @@
 pub mod Asked
 pub mod AskedExamples
 pub mod Candidates
-pub mod Excess
 pub mod Laws
 pub mod Lookup
 pub mod Snapshot

@@ -7,7 +7,6 @@
 
 mod asking;
 mod disk;
-mod excess;
 pub mod laws;
 mod lookup;
 mod search_path;
@@ -15,7 +14,6 @@ mod snapshot;
 
 pub use asking::{asked_lookups, asked_lookups_of_both, lookups_of_runs};
 pub use disk::{snapshot_by, snapshot_for, snapshot_of};
-pub use excess::{Excess, excess_of};
 pub use lookup::Lookup;
 pub use search_path::candidates;
 pub use snapshot::{Entry, Snapshot};
