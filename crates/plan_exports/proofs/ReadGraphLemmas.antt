@@ -67,7 +67,7 @@ other-char byte c true is ascii h =
     let bad : not (eqb byte byte) && true ≡ true = subst (λ t. lacks byte t ≡ true) bytes h in
     absurd (false≢true (ap (λ b. not b && true) (sym (eq-eqb byte byte refl)) ∙ bad))
 
-lacks-encoded : (byte : ℕ) (cs : List ℕ) → byte < 128 → lacks byte (encode_utf8_all cs) ≡ true → lacks byte cs ≡ true
+pub lacks-encoded : (byte : ℕ) (cs : List ℕ) → byte < 128 → lacks byte (encode_utf8_all cs) ≡ true → lacks byte cs ≡ true
 lacks-encoded byte [] ascii h = refl
 lacks-encoded byte (c ∷ cs) ascii h =
     let parts = lacks-parts byte (encode c) (encode_utf8_all cs) h in

@@ -1,11 +1,10 @@
 //! A plan as a graph that Graphviz draws.
 
-ghost use Rattle.std.specs.Prelude.{◌≡◌, ◌+◌, ◌++◌, ◌∷◌, [], IfOk, OnOk, length, map, string_bytes, vec_items};
+ghost use Rattle.std.specs.Prelude.{◌≡◌, ◌+◌, ◌++◌, ◌∷◌, [], IfOk, OnOk, encode_utf8_all, length, map, string_bytes, vec_items};
 ghost use Rattle.std.specs.List.{flat_map};
 ghost use Rattle.plan_exports.specs.Dot as spec;
 ghost use Rattle.plan_exports.specs.Numbered.{of_group, of_groups};
 
-use crate::escaping::{Escaping, push_escaped};
 use command_files::{CommandFiles, files_of, needs};
 use command_groups::{Dropped, NvccGeneratedSubcommand, Plan};
 use std::alloc::{AllocError, Global};
@@ -13,24 +12,20 @@ use texts::decimal::push_number;
 use texts::text::file_name;
 use texts::words::Words;
 
-// The texts inside quotes.
-struct Quoted;
-
-impl Escaping for Quoted {
-    ghost escaped = { λ _. spec.shown_char };
-
-    fn push_char(&self, text: &mut String, c: char) -> Result<(), AllocError> {
-        if c == '"' {
-            text.push_str("\\\"")
-        } else if c == '\\' {
-            text.push_str("\\\\")
-        } else if c == '&' {
-            text.push_str("&amp;")
-        } else if c == '\0' {
-            text.push_str("\\\\0")
-        } else {
-            text.push(c)
-        }
+// Adds a character inside quotes.
+fn push_shown_char(text: &mut String, c: char) -> Result<(), AllocError>
+    ensures { OnOk result (string_bytes text.new ≡ string_bytes text.old ++ encode_utf8_all (spec.shown_char c)) }
+{
+    if c == '"' {
+        text.push_str("\\\"")
+    } else if c == '\\' {
+        text.push_str("\\\\")
+    } else if c == '&' {
+        text.push_str("&amp;")
+    } else if c == '\0' {
+        text.push_str("\\\\0")
+    } else {
+        text.push(c)
     }
 }
 
@@ -38,7 +33,10 @@ impl Escaping for Quoted {
 fn push_shown(text: &mut String, value: &str) -> Result<(), AllocError>
     ensures { OnOk result (string_bytes text.new ≡ string_bytes text.old ++ spec.shown value.now) }
 {
-    push_escaped(text, &Quoted, value)
+    for c in value.chars() {
+        push_shown_char(text, c)?;
+    }
+    Ok(())
 }
 
 // Adds a path's file name, or the path if it has none.

@@ -4,7 +4,6 @@
 mod command;
 mod compdb;
 mod dot;
-mod escaping;
 mod json;
 mod judging;
 pub mod laws;

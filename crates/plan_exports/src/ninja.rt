@@ -1,6 +1,6 @@
 //! A plan as a Ninja file.
 
-ghost use Rattle.std.specs.Prelude.{◌≡◌, ◌++◌, IfOk, OnOk, codes, map, drop, string_bytes, vec_items};
+ghost use Rattle.std.specs.Prelude.{◌≡◌, ◌<◌, ◌++◌, IfOk, IfSome, MatchOption, OnOk, codes, length, map, drop, string_bytes, vec_items};
 ghost use Rattle.std.specs.List.{flat_map, list_all};
 ghost use Rattle.command_files.specs.Order.{needs_at};
 ghost use Rattle.command_files.specs.PlanNeeds.{plan_needs};
@@ -8,7 +8,6 @@ ghost use Rattle.plan_exports.specs.Answers.{Answers};
 ghost use Rattle.plan_exports.specs.Graph as spec;
 
 use crate::command::push_command;
-use crate::escaping::{Escaping, push_escaped};
 use crate::judging::{holds_text, holds_words, judge_groups};
 use crate::refusal::{Form, Refusal};
 use command_files::needs;
@@ -18,26 +17,26 @@ use shell_words::push_quoted;
 use std::alloc::{AllocError, Global};
 use texts::decimal::push_number;
 
-// The values of variables, in which `$` is doubled.
-struct Values;
-
-impl Escaping for Values {
-    ghost escaped = { λ _. spec.escaped_char };
-
-    fn push_char(&self, text: &mut String, c: char) -> Result<(), AllocError> {
-        if c == '$' {
-            text.push_str("$$")
-        } else {
-            text.push(c)
-        }
-    }
+// Cuts a value at its first `$`.
+fn first_dollar(value: &str) -> Option<(&str, &str)>
+    ensures cut { MatchOption result (spec.escaped value.now ≡ value.now)
+        (λ parts. spec.escaped value.now ≡ parts.0.now ++ (codes "$$" ++ spec.escaped parts.1.now)) }
+    ensures less { IfSome result (λ parts. length parts.1.now < length value.now) }
+{
+    value.split_once('$')
 }
 
-// Adds a text as a variable's value.
+// Adds a text as a variable's value, in which `$` is doubled.
 fn push_value(text: &mut String, value: &str) -> Result<(), AllocError>
     ensures { OnOk result (string_bytes text.new ≡ string_bytes text.old ++ spec.escaped value.now) }
 {
-    push_escaped(text, &Values, value)
+    let mut rest = value;
+    while let Some((piece, behind)) = first_dollar(rest) {
+        text.push_str(piece)?;
+        text.push_str("$$")?;
+        rest = behind;
+    }
+    text.push_str(rest)
 }
 
 // Adds the name of the stamp of the command at a place: the number of its group, and its place there.
