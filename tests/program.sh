@@ -782,7 +782,7 @@ found() {
 
 # what is a program on the disk: a plain file that its owner, its group or others may execute, also behind links
 programs_on_disk() {
-    local folder=$scratch/first mode
+    local folder=$scratch/on_disk mode
     mkdir -p "$folder"/{plain,folder,dangling,loop,to_plain,to_folder,to_program,file}
     : > "$folder/plain/gcc"
     mkdir "$folder/folder/gcc"
@@ -793,25 +793,25 @@ programs_on_disk() {
     ln -s "$scratch/bin/gcc" "$folder/to_program/gcc"
     : > "$folder/file/gcc"
     chmod 644 "$folder/plain/gcc"
-    found 'a plain file that nobody may execute' "$scratch/bin/gcc" first/plain
-    found 'a folder with the name of a program' "$scratch/bin/gcc" first/folder
-    found 'a link to nothing' "$scratch/bin/gcc" first/dangling
-    found 'a link to itself' "$scratch/bin/gcc" first/loop
-    found 'a link to a plain file' "$scratch/bin/gcc" first/to_plain
-    found 'a link to a folder' "$scratch/bin/gcc" first/to_folder
-    found 'a link to a program' "$folder/to_program/gcc" first/to_program
-    found 'a folder of PATH that is a file' "$scratch/bin/gcc" first/plain/gcc
+    found 'a plain file that nobody may execute' "$scratch/bin/gcc" on_disk/plain
+    found 'a folder with the name of a program' "$scratch/bin/gcc" on_disk/folder
+    found 'a link to nothing' "$scratch/bin/gcc" on_disk/dangling
+    found 'a link to itself' "$scratch/bin/gcc" on_disk/loop
+    found 'a link to a plain file' "$scratch/bin/gcc" on_disk/to_plain
+    found 'a link to a folder' "$scratch/bin/gcc" on_disk/to_folder
+    found 'a link to a program' "$folder/to_program/gcc" on_disk/to_program
+    found 'a folder of PATH that is a file' "$scratch/bin/gcc" on_disk/plain/gcc
     for mode in 0 600 444 666; do
         chmod "$mode" "$folder/file/gcc"
-        found "a file of mode $mode" "$scratch/bin/gcc" first/file
+        found "a file of mode $mode" "$scratch/bin/gcc" on_disk/file
     done
     for mode in 100 010 001 755; do
         chmod "$mode" "$folder/file/gcc"
-        found "a file of mode $mode" "$folder/file/gcc" first/file
+        found "a file of mode $mode" "$folder/file/gcc" on_disk/file
     done
     mkdir "$folder/pipe"
     mkfifo -m 755 "$folder/pipe/gcc"
-    found 'a pipe that may be executed' "$scratch/bin/gcc" first/pipe
+    found 'a pipe that may be executed' "$scratch/bin/gcc" on_disk/pipe
 }
 
 # as_nobody WORD..: runs a command as a user that isn't root.
