@@ -28,7 +28,7 @@ calls)
     case $* in *whole*) echo 'zigrunk: goes to nvcc: it links' >&2 && exit 3 ;; esac
     jobs=${ZIGRUNK_JOBS-}
     case ${MAKEFLAGS-} in *--jobserver*) jobs=1 ;; esac
-    printf '%s\n' 'first_dry_run=:' 'second_dry_run=:' flag=-c "dependencies=''" "keep_dir=''" "jobs='$jobs'"
+    printf '%s\n' 'first_dry_run="nvcc --dryrun"' 'second_dry_run=:' flag=-c "dependencies=''" "keep_dir=''" "jobs='$jobs'"
     ;;
 ninja)
     while [ "$1" != "${1#-}" ] || [ "$1" = ninja ]; do shift; done
@@ -41,7 +41,8 @@ ninja)
     ;;
 esac
 END
-printf '%s\n' '#!/bin/sh' ':' > "$scratch/bin/nvcc"
+# nvcc reads each line as zigrunk does
+printf '%s\n' '#!/bin/sh' 'case $* in *--dryrun*) echo "#\$ cicc k.cpp1.ii" >&2 ;; esac' > "$scratch/bin/nvcc"
 chmod +x "$scratch"/bin/*
 export PATH=$scratch/bin:$PATH
 
