@@ -341,7 +341,11 @@ def files_of(command: str) -> list[str]:
 
 
 def normal_form(case: Case) -> list[Result]:
-    status, said = told(zigrunk.nvcc_line, "/w", "/t", "nvcc", case.words, split_settings(case.settings)[0])
+    settings = [it for it in case.settings if not it.startswith("@")]
+    status, said = told(zigrunk.nvcc_line, "/w", "/t", "nvcc", case.words, split_settings(settings)[0])
+    if settings != case.settings:
+        # C passes no options files, so nvcc makes each call that names one
+        return [("normal_form", Status.TO_NVCC, status)]
     got = (status, [said.flag, *files_of(said.first_dry_run), said.first_dry_run] if status == Status.OK else said)
     name, *words = case.facts[0]
     expected: Answer
