@@ -25,9 +25,9 @@ fn answer_text(alloc: Global, answer: Result<Answer, Fault>) -> Result<String, S
     }
 }
 
-/// Reads an nvcc line as nvcc does, with the words of `variables` and of `files`, the options files by name and text, and writes to `w`, for a shell's `eval`, the command that
-/// writes its dependency file, its two dry runs, the compilation flag, the number of threads and the directory that keeps
-/// generated files.
+/// Reads an nvcc line as nvcc does, with the words of `variables` and of `files`, the options files by name and text. Writes to `w`,
+/// for a shell's `eval`, the command that writes its dependency file, its two dry runs, the compilation flag, the number of threads
+/// and the directory that keeps generated files.
 ///
 /// Fails, with nothing written, if the call goes to nvcc unchanged (`Stop::ToNvcc`, with the reason), and if `read_call`
 /// does. Fails if `w` fails (`Stop::Write`).
