@@ -3,7 +3,7 @@ PREFIX ?= /usr/local
 DESTDIR ?=
 target = $(DESTDIR)$(PREFIX)
 
-.PHONY: help demo build lib check install install-programs install-library uninstall dist bench drivers fuzz-library must-fail refused-memory end-to-end odd-calls versions cache peer cluster mutants test-install dist-test check-docs lint test
+.PHONY: help demo build lib check install install-programs install-library uninstall dist bench drivers fuzz-library must-fail refused-memory end-to-end odd-calls random-calls versions cache peer cluster mutants test-install dist-test check-docs lint test
 
 help:
 	@echo 'make demo             run cudaplan, unproved, on two calls; a minute from a fresh clone'
@@ -19,7 +19,8 @@ help:
 	@echo 'make fuzz-library     fuzz libzigrunk for an hour, guided by coverage; needs clang with libFuzzer; FUZZ_SECONDS=3600'
 	@echo 'make refused-memory   run the test cases again and again, each time with another allocation failing'
 	@echo 'make end-to-end       compare zigrunk-nvcc with nvcc; needs nvcc and ninja on the path'
-	@echo 'make odd-calls        the same for 145 calls with odd words'
+	@echo 'make odd-calls        the same for 145 calls with odd words, and for 100 random calls'
+	@echo 'make random-calls     the same for calls whose words are drawn from nvcc'\''s options; SEED=1 COUNT=1000'
 	@echo 'make versions         the same with nvcc 11.2, 11.8 and 12.4, which it downloads from Debian, up to 3 GB; or CUDA_VERSIONS=FOLDER'
 	@echo 'make cache            compare rebuilds through sccache with and without zigrunk-nvcc; needs sccache 0.9'
 	@echo 'make peer             build Debian'\''s sccache as it is and on libzigrunk, which it downloads with its crates, 30 MB; run its tests'
@@ -129,6 +130,15 @@ end-to-end:
 odd-calls:
 	@.ci/built check programs || $(MAKE) build
 	@ZIGRUNK_PROGRAM="$(CURDIR)/crates/zigrunk/out/zigrunk" tests/compare_calls.py --jobs "$$(nproc)" tests/calls_odd.txt
+	@ZIGRUNK_PROGRAM="$(CURDIR)/crates/zigrunk/out/zigrunk" tests/random_calls.py --jobs "$$(nproc)"
+
+# The same for calls that nobody wrote.
+SEED ?= 1
+COUNT ?= 1000
+JOBS ?= $(shell nproc)
+random-calls:
+	@.ci/built check programs || $(MAKE) build
+	@ZIGRUNK_PROGRAM="$(CURDIR)/crates/zigrunk/out/zigrunk" tests/random_calls.py --jobs "$(JOBS)" --seed "$(SEED)" --count "$(COUNT)"
 
 # Other versions of nvcc, with host compilers that suit. docs/VERSIONS.md says what differs.
 versions:

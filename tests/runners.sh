@@ -72,7 +72,32 @@ in_scratch() {
     (cd "$scratch/here" && env WORSE= WHOLE= PYTHONDONTWRITEBYTECODE=1 "$tests/compare_calls.py" --nvcc ../nvcc --ours ../ours --scratch room calls)
 }
 
+# draws OURS STATUS TEXT: a case of tests/random_calls.py: nine calls, with stand-ins that make a file, whatever their words are.
+draws() {
+    ends "random calls, $1" "$2" "$3" env PYTHONDONTWRITEBYTECODE=1 tests/random_calls.py --seed 5 --count 9 --nvcc "$scratch/makes" --ours "$scratch/$1"
+}
+
+# random_calls: the same seed draws the same calls, each of which is that of its number, and another seed draws others. One of the calls
+# below has an option that lets bytes differ.
+random_calls() {
+    local first
+    printf '%s\n' '#!/bin/sh' '[ "$1" = --version ] || echo made > made' > "$scratch/makes"
+    printf '%s\n' '#!/bin/sh' 'echo worse > made' > "$scratch/worse"
+    printf '%s\n' '#!/bin/sh' 'echo made > made; echo "zigrunk-nvcc: nvcc itself: why" >&2' > "$scratch/whole"
+    printf '%s\n' '#!/bin/sh' 'exit 1' > "$scratch/fails"
+    chmod +x "$scratch"/{makes,worse,whole,fails}
+    first=$(tests/random_calls.py --list --seed 5 --count 9)
+    same 'the calls of a seed' "$(tests/random_calls.py --list --seed 5 --count 9)" "$first"
+    same 'one call of a seed' "$(tests/random_calls.py --list --seed 5 --first 7 --count 1)" "$(sed -n 7p <<< "$first")"
+    same 'another seed' "$(tests/random_calls.py --list --seed 6 --count 9 | sed 's/random-6/random-5/' | grep -cxF "$first")" 0
+    draws makes 0 $'wrong products with status 0: 0\n9 passed, 0 failed'
+    draws worse 1 $'wrong products with status 0: 8\n1 passed, 8 failed'
+    draws whole 1 $'no call is split\n9 passed, 1 failed'
+    draws fails 1 $'wrong products with status 0: 0\n0 passed, 9 failed'
+}
+
 if command -v python3 > /dev/null; then
+    random_calls
     ends 'a module without a case' 1 $'no case ran\n0 passed, 1 failed' by_module pass
     ends 'a module with cases' 1 $'second: wrong\n1 passed, 1 failed' by_module 'counts.case("first", []); counts.case("second", ["wrong"])'
     ends 'calls that compile' 0 $'3 of 3 calls were split\n3 passed, 0 failed' compares "$compile" "$fail" "$compile"
