@@ -895,6 +895,75 @@ long_values() {
     holds 'an output of 70,000 bytes' dot name "n$long"
 }
 
+# a command of over 500 bytes that refers to sixty variables, and one that names sixty generated files
+many_names() {
+    local lines=() references='' values='' files='' renamed='' name number=0 format
+    for name in {A,B,C}{A,E,I,O}{A,E,I,O,U}; do
+        lines+=("#\$ $name=$name-$number")
+        references+=" -D\$$name"
+        values+=" -D$name-$number"
+        files+=" $name.cpp1.ii"
+        renamed+=" x_$number.cpp1.ii"
+        number=$((number + 1))
+    done
+    run_of names "${lines[@]}" "#\$ gcc -D__NVCC__$references -E k.cu -o k" "#\$ gcc -D__NVCC__$files"
+    check 'sixty names' 0 "group 0
+no cd /w && $scratch/none/gcc -D__NVCC__$values -E k.cu -o k
+group 1
+yes cd /w && $scratch/none/gcc -D__NVCC__$renamed
+" '' plan /w /t -c "$scratch/names" "$scratch/names.2"
+    for format in shell ninja json compdb; do
+        counts "sixty variables as $format" 60 '-D[A-C][AEIO][AEIOU]-[0-9]' "$format" /w /t -c "$scratch/names" "$scratch/names.2"
+    done
+    counts 'sixty generated files as json' 60 '"x_[0-9]*.cpp1.ii"' json /w /t -c "$scratch/names" "$scratch/names.2"
+}
+
+# starves NAME STATUS OUT ERR WORD..: a call of which one allocation fails, the first, then the second and so on, until none does. Each
+# run has to end as it does with memory, or with status 1, nothing on standard output, and one line that says why on standard error. The
+# call's standard input is $from, if that is set.
+starves() {
+    local name=$1 status=$2 out=$3 err=$4 number=0 ended said told=0 problem='' met=refused
+    shift 4
+    while [ "$met" = refused ] && [ -z "$problem" ]; do
+        number=$((number + 1))
+        REFUSED=$number LD_PRELOAD=$scratch/refuse_nth.so "$program" "$@" < "${from-/dev/null}" > "$scratch/out" 2> "$scratch/err" 9> "$scratch/met"
+        ended=$? met=''
+        read -r met _ < "$scratch/met"
+        said="$(< "$scratch/out")|$(< "$scratch/err")"
+        case $ended,$said in
+        "$status,$out|$err") ;;
+        "1,|${program##*/}: out of memory" | '1,|zigrunk: cannot read '*': out of memory') told=$((told + 1)) ;;
+        *) problem="allocation $number: status $ended, $said" ;;
+        esac
+    done
+    [ "$met$problem" = whole ] || problem=${problem:-"allocation $number: it doesn't say how many there were"}
+    [ "$told" -gt 0 ] || problem=${problem:-no run says that it is out of memory}
+    count "$name, out of memory" "$problem"
+}
+
+# calls whose allocations fail: as the program starts, and where it reads files, looks up programs and writes
+no_memory() {
+    local lines script
+    if ! cc -shared -fPIC -O1 -o "$scratch/refuse_nth.so" tests/refuse_nth.c -ldl 2> "$scratch/said"; then
+        skip 'calls without memory' "cc can't compile tests/refuse_nth.c"
+        return
+    fi
+    lines_of starved "#\$ PATH=$scratch/bin" '#$ gcc -D__NVCC__ -c x.cpp'
+    cp "$scratch/starved" "$scratch/starved.2"
+    starves 'a version' 0 'zigrunk 0.1.0' '' --version
+    starves 'a call that goes to nvcc' 3 '' 'zigrunk: goes to nvcc: it links' calls /w /t nvcc k.cu
+    lines=$("$program" calls /w /t nvcc -c k.cu -optf "$scratch/lines/g.rsp")
+    starves 'a call with an options file' 0 "$lines" '' calls /w /t nvcc -c k.cu -optf "$scratch/lines/g.rsp"
+    lines=$(NVCC_APPEND_FLAGS=-g ZIGRUNK_JOBS=3 "$program" calls /w /t nvcc -c k.cu)
+    NVCC_APPEND_FLAGS=-g ZIGRUNK_JOBS=3 starves 'a call with variables' 0 "$lines" '' calls /w /t nvcc -c k.cu
+    script=$("$program" shell /w /t -c "$scratch/starved" "$scratch/starved.2")
+    starves 'a plan' 0 "$script" '' shell /w /t -c "$scratch/starved" "$scratch/starved.2"
+    from=$scratch/starved starves 'a plan from standard input' 0 "$script" '' shell /w /t -c - "$scratch/starved.2"
+    program=$cudaplan starves 'a line of cudaplan' 0 $'k.cpp1.ii\n-o\n/w/k.ptx' '' line cicc /w k.cpp1.ii -o k.ptx
+    program=$cudaplan starves 'a plan by cudaplan' 0 "$(printf 'group 0\ngroup 1\nyes cd /w && %s/gcc -D__NVCC__ -c x.cpp' "$scratch/bin")" '' \
+        plan /w /t -c "$scratch/starved" "$scratch/starved.2"
+}
+
 # files that aren't the dry runs of a call, and plans without commands, in every format
 unfit_files() {
     local format behind=$'no line begins with "#$ "\n'
@@ -1098,6 +1167,14 @@ doubling() {
     echo '#$ $A.'
 }
 
+# fastest RUN: the seconds of processor that the plan of a run takes as text: the fewest of ten calls, since other work may share a core.
+fastest() {
+    local TIMEFORMAT='%3U + %3S'
+    for _ in {1..10}; do
+        { time "$program" plan /w /t -c "$scratch/$1" "$scratch/$1.2" > /dev/null 2>&1; } 2>&1
+    done | awk '{ took = $1 + $3 } NR == 1 || took < least { least = took } END { print least }'
+}
+
 # the limit for what reading a dry run makes: exactly, in both runs and in each form, and for one that explodes
 limits() {
     local letters=ABCDEFGHIJKLMNOPQRSTUVWXYZ form out
@@ -1127,15 +1204,12 @@ limits() {
             "$form" /w /t -c "$scratch/doubling" "$scratch/doubling.2"
         ulimit -S -v unlimited
     done
-    # a refusal takes less than 50 ms of the processor. The fastest of ten counts, since other work may share the core
-    local TIMEFORMAT='%3U + %3S'
-    for form in 1 2 3 4 5 6 7 8 9 10; do
-        { time "$program" json /w /t -c "$scratch/doubling" "$scratch/doubling.2" 2> /dev/null; } 2>&1
-    done > "$scratch/times"
+    # the refusal takes at most three times as long as the plan of a megabyte without variables
+    lines_of plain '#$ PATH=/b' "#\$ gcc -D__NVCC__ -D$(head -c 1000000 /dev/zero | tr '\0' x) x.i"
+    cp "$scratch/plain" "$scratch/plain.2"
+    awk "BEGIN { print ($(fastest doubling) < 3 * $(fastest plain)) }" > "$scratch/out" 2> "$scratch/err"
     echo 0 > "$scratch/status"
-    out=$(awk '{ took = $1 + $3 } NR == 1 || took < least { least = took } END { print least }' "$scratch/times")
-    awk "BEGIN { print ($out > 0 && $out < 0.05) }" > "$scratch/out" 2> "$scratch/err"
-    judge "the fastest refusal of a text that explodes takes $out s" 0 $'1\n' ''
+    judge 'the time of a refusal' 0 $'1\n' ''
     local usage
     usage=$("$program" 2>&1; printf .)
     for out in '' '--limit' '--limit 5' '--limit x json' '--limit -1 json' '--limit 5 --limit 5 json'; do
@@ -1192,7 +1266,7 @@ program=$zigrunk
 unset NVCC_PREPEND_FLAGS NVCC_APPEND_FLAGS ZIGRUNK_JOBS MAKEFLAGS
 run \
     nvcc_lines jobs_at_once directories forms_of_cudaplan long_nvcc_lines options_files odd_nvcc_words refused_nvcc_lines kernel_programs \
-    plan_scripts plan_files plan_views plan_schema whole_plans unfit_files programs_on_disk unread_files long_values statuses \
+    plan_scripts plan_files plan_views plan_schema whole_plans unfit_files programs_on_disk unread_files long_values many_names no_memory statuses \
     long_exports refused_exports limits messages \
     long_messages escapes standard_input zigrunk_pages
 summary
