@@ -148,7 +148,7 @@ versions:
 cache:
 	@tests/cache.sh
 
-# Outside the gate. It needs libzigrunk, and makes it if it isn't there: that proves its crates first.
+# Outside the gate. It takes the proved libzigrunk if out/ has it. Otherwise it compiles one without proof, and says so.
 peer:
 	@tests/peer.sh
 

@@ -9,6 +9,7 @@
     --scratch FOLDER            make the calls below FOLDER
     --jobs N                    N calls at once, 1 by default
     --json FILE                 write a record of each call
+    --least-split N             at least N per cent of the calls that nvcc compiles have to be split
     --all                       print the calls that pass too
 
 A line of FILE is the words of a call, quoted as for bash; nothing is globbed. Words in front of them may be
@@ -34,6 +35,9 @@ something differs that the line doesn't name, nvcc makes the call once more: wha
 
 nvcc includes cuda_runtime.h in every source, and gcc looks for it first where it runs. So a small one in the work folder takes the
 toolkit's place for both tools, and a call takes a fifth of the processor's time.
+
+The line before the last has two shares: which of all calls were split, and which of those that nvcc compiles, that is those where it ends with 0
+and makes or changes a file. The lists also have calls that print something, as --help and -dryrun do, and calls that nvcc refuses.
 
 The last line is 'N passed, M failed'. Two tools that always fail alike show nothing. So it is a failure too if no call was made, if
 most fail by both tools, if none compiles anything, or if none is split; with --only, that a call was made is enough.
@@ -429,6 +433,7 @@ def options() -> argparse.Namespace:
     parser.add_argument("--scratch", type=lambda name: os.path.abspath(name))
     parser.add_argument("--jobs", type=int, default=1)
     parser.add_argument("--json")
+    parser.add_argument("--least-split", type=int, default=0)
     parser.add_argument("--all", action="store_true")
     return parser.parse_args()
 
@@ -454,12 +459,17 @@ def shows_nothing(calls: int, failing: int, compiling: int, split: int) -> Itera
         yield "no call is split"
 
 
+def too_few_split(least: int, compiling: int, split: int) -> Iterator[str]:
+    if split * 100 < least * compiling:
+        yield f"{split} of the {compiling} calls that nvcc compiles were split, less than {least} %"
+
+
 def main() -> int:
     args = options()
     args.version = version_of(args.nvcc)
     calls = longest_first(read_calls(args))
     counts, records = Counts(), []
-    failing = compiling = split = 0
+    failing = compiling = split = both = 0
     with concurrent.futures.ThreadPoolExecutor(args.jobs) as pool:
         for compared in pool.map(lambda one: compare(one, args), calls):
             call, want, got, found, noise = compared
@@ -468,17 +478,20 @@ def main() -> int:
             counts.passed += verdict != "DIFFERS"
             counts.failed += verdict == "DIFFERS"
             failing += want["status"] != 0 and got["status"] != 0
-            compiling += want["status"] == 0 and bool(want["made"])
+            compiles = want["status"] == 0 and bool(want["made"])
+            compiling += compiles
             split += not got["reason"]
+            both += compiles and not got["reason"]
             if args.all or verdict == "DIFFERS":
                 show(verdict, compared)
-            records.append({"line": call.line, "verdict": verdict, "reason": got["reason"], "launched": got["launched"],
+            records.append({"line": call.line, "verdict": verdict, "compiles": compiles, "reason": got["reason"], "launched": got["launched"],
                             "status": [want["status"], got["status"]], "differences": found, "noise": noise,
                             "seconds": [want["seconds"], got["seconds"]]})
     if args.json:
         Path(args.json).write_text(json.dumps(records, indent=1))
-    print(f"{split} of {len(calls)} calls were split")
-    if calls and not args.only and (nothing := [*shows_nothing(len(calls), failing, compiling, split)]):
+    print(f"{split} of {len(calls)} calls were split, {both} of the {compiling} that nvcc compiles: {both * 100 // max(compiling, 1)} %")
+    nothing = [*shows_nothing(len(calls), failing, compiling, split), *too_few_split(args.least_split, compiling, both)]
+    if calls and not args.only and nothing:
         counts.case("", nothing)
     return counts.summary()
 

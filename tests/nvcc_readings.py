@@ -9,11 +9,17 @@ The table is for nvcc 13.0: this has to read each line as zigrunk does. Another 
 call; it's a failure if no line is planned. Prints how many lines there are of each kind, and last 'N passed, M failed', by options.
 
     tests/nvcc_readings.py [ZIGRUNK]
+    tests/nvcc_readings.py --cost N [ZIGRUNK]   what comparing the two dry runs costs, of N plans with it and N without it, by turns
+
+ZIGRUNK is the program, else that of `make build`.
 """
 
 import concurrent.futures
 import os
 import re
+import resource
+import shutil
+import statistics
 import subprocess
 import sys
 import tempfile
@@ -51,18 +57,55 @@ def lines(name: str) -> list[list[str]]:
     return found + [["--forward-unknown-to-host-compiler", *line] for line in found]
 
 
-def answer(line: list[str], base: str, zigrunk: str) -> str:
+def answer(line: list[str], base: str, zigrunk: str, script: Path = TOP / "bin/zigrunk-nvcc") -> str:
     """Why nvcc makes a call, or 'planned'."""
     with tempfile.TemporaryDirectory(dir=base) as folder:
         plan = Path(folder, "plan")
         env = {**os.environ, "ZIGRUNK_PLAN": str(plan), "ZIGRUNK_PROGRAM": zigrunk, "TMPDIR": folder}
-        subprocess.run([TOP / "bin/zigrunk-nvcc", *line], cwd=base, env=env, stdin=subprocess.DEVNULL, capture_output=True, check=False)
+        subprocess.run([script, *line], cwd=base, env=env, stdin=subprocess.DEVNULL, capture_output=True, check=False)
         said = plan.read_text().splitlines() if plan.exists() else ["nvcc", "there is no plan"]
     return said[1] if said[0] == "nvcc" else "planned"
 
 
+def processor_time() -> float:
+    used = resource.getrusage(resource.RUSAGE_CHILDREN)
+    return used.ru_utime + used.ru_stime
+
+
+def without_comparison(folder: Path) -> Path:
+    """A copy of the script that doesn't compare."""
+    text = (TOP / "bin/zigrunk-nvcc").read_text()
+    shorter = re.sub(r"^reads_alike \|\| .*\n", "", text, flags=re.M)
+    if shorter == text:
+        sys.exit("zigrunk-nvcc doesn't compare")
+    folder.mkdir()
+    shutil.copy(TOP / "bin/zigrunk-slot", folder)
+    script = folder / "zigrunk-nvcc"
+    script.write_text(shorter)
+    script.chmod(0o755)
+    return script
+
+
+def cost(turns: int, base: str, zigrunk: str) -> int:
+    """Prints the processor time of plans with and without the comparison, and what it costs: medians."""
+    scripts = TOP / "bin/zigrunk-nvcc", without_comparison(Path(base, "without"))
+    for line in (["-c", "k.cu", "-o", "k.o"], ["-arch=all-major", "-c", "k.cu", "-o", "k.o"]):
+        times: list[list[float]] = [[], []]
+        for _ in range(turns):
+            for script, taken in zip(scripts, times):
+                before = processor_time()
+                if (said := answer(line, base, zigrunk, script)) != "planned":
+                    sys.exit(f"{' '.join(line)}: {said}")
+                taken.append(1000 * (processor_time() - before))
+        more = statistics.median(one - other for one, other in zip(*times))
+        print(f"{' '.join(line)}: {statistics.median(times[0]):.0f} ms with it, {statistics.median(times[1]):.0f} ms without, {more:.0f} ms more")
+    return 0
+
+
 def main() -> int:
-    zigrunk = os.path.realpath(sys.argv[1] if len(sys.argv) > 1 else str(TOP / "crates/zigrunk/out/zigrunk"))
+    words = sys.argv[1:]
+    turns = int(words[1]) if words[:1] == ["--cost"] else 0
+    zigrunk = os.path.realpath([str(TOP / "crates/zigrunk/out/zigrunk"), *words[2 * bool(turns):]][-1])
     try:
         version = subprocess.run(["nvcc", "--version"], capture_output=True, text=True, check=True).stdout
     except OSError:
@@ -73,6 +116,8 @@ def main() -> int:
     with tempfile.TemporaryDirectory() as base, concurrent.futures.ThreadPoolExecutor(os.cpu_count()) as pool:
         for source in ("k.cu", "one.cu"):
             Path(base, source).write_text("__global__ void k(int* p) { *p = 1; }\n")
+        if turns:
+            return cost(turns, base, zigrunk)
         for name in names():
             said = [*pool.map(lambda line: (answer(line, base, zigrunk), line), lines(name))]
             kinds.update(kind if kind in ("planned", OTHERWISE) else "nvcc makes the call" for kind, _ in said)

@@ -5,7 +5,8 @@
 # counts. The last line is 'N passed, M failed'.
 #
 #   ZIGRUNK_PEER=FOLDER      what it downloads and builds, else zigrunk/peer in your cache folder
-#   ZIGRUNK_LIB_DIR=FOLDER   the folder of libzigrunk.a, else out/lib; `make lib` makes it if it isn't there, and proves its crates first
+#   ZIGRUNK_LIB_DIR=FOLDER   the folder of libzigrunk.a. Else it takes the proved one of `make lib`, and if these sources have none,
+#                            it compiles one without proving it, and says so
 #   PARTS='units ..'         only these of units, system, plans, calls
 #   RUNS=N                   ours makes each call with N empty caches
 #   JOBS=N                   so many processes at once, else as many as there are processors
@@ -29,14 +30,43 @@ case $? in
 *) count "sccache's sources" "$(cat "$scratch/fetched")" && summary && exit 1 ;;
 esac
 folder=$(realpath "$folder")
-if [ -z "${ZIGRUNK_LIB_DIR-}" ]; then
-    .ci/built check library || make lib >&2 || exit 1
-    bindings/c/library.sh crates/zigrunk_c/out/libzigrunk_c.a out || exit 1
-    ZIGRUNK_LIB_DIR=$PWD/out/lib
-fi
-ZIGRUNK_LIB_DIR=$(realpath "$ZIGRUNK_LIB_DIR")
-export ZIGRUNK_LIB_DIR CARGO_HOME=$folder/cargo CARGO_TARGET_DIR=$folder/target
+export CARGO_HOME=$folder/cargo CARGO_TARGET_DIR=$folder/target
 export PKG_CONFIG_PATH=$folder/cargo/zstd
+
+# unproved_library: compiles libzigrunk without proving it, unless there is one of these sources.
+unproved_library() {
+    local stamp
+    stamp=$(.ci/built sources && rt version && cat tests/peer/unproved_archive.py bindings/c/library.sh bindings/c/zigrunk.[hm]* | sha256sum)
+    [ "$(cat "$folder/unproved/stamp" 2> /dev/null)" != "$stamp" ] || return 0
+    rm -rf "$folder/unproved"
+    tests/peer/unproved_archive.py "$folder/unproved/libzigrunk_c.a" && bindings/c/library.sh "$folder/unproved/libzigrunk_c.a" "$folder/unproved" &&
+        echo "$stamp" > "$folder/unproved/stamp"
+}
+
+# find_library: sets ZIGRUNK_LIB_DIR. What has to be compiled is compiled in the background.
+find_library() {
+    if [ -n "${ZIGRUNK_LIB_DIR-}" ]; then
+        ZIGRUNK_LIB_DIR=$(realpath "$ZIGRUNK_LIB_DIR")
+    elif .ci/built check library && bindings/c/library.sh crates/zigrunk_c/out/libzigrunk_c.a out; then
+        ZIGRUNK_LIB_DIR=$PWD/out/lib
+        echo "libzigrunk is the proved one of 'make lib'"
+    else
+        require "$what" rt
+        ZIGRUNK_LIB_DIR=$folder/unproved/lib
+        echo "libzigrunk of this run isn't proved: out/ has no proved one of these sources, so it is compiled without proof. 'make test' proves it"
+        unproved_library > "$scratch/unproved" 2>&1 &
+        compiling=$!
+    fi
+    export ZIGRUNK_LIB_DIR
+}
+
+# join_library: a case, if libzigrunk is compiled in the background.
+join_library() {
+    local problem=''
+    [ -n "$compiling" ] || return
+    wait "$compiling" || problem=failed$'\n'$(tail -n 30 "$scratch/unproved")
+    count 'libzigrunk without proof' "$problem"
+}
 
 # tree SIDE WORD..: a patched copy of the sources, unless there is one of this patch.
 tree() {
@@ -140,9 +170,12 @@ calls() {
     sed '$d' "$scratch/calls"
 }
 
+compiling=''
+find_library
 check 'the sources of theirs' tree theirs
 check 'the sources of ours' tree ours "$PWD/bindings/rust"
 check 'the build of theirs' build theirs
+join_library
 check 'the build of ours' build ours
 [ "$failed" -eq 0 ] || { summary && exit 1; }
 for part in $parts; do

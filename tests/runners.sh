@@ -100,7 +100,12 @@ if command -v python3 > /dev/null; then
     random_calls
     ends 'a module without a case' 1 $'no case ran\n0 passed, 1 failed' by_module pass
     ends 'a module with cases' 1 $'second: wrong\n1 passed, 1 failed' by_module 'counts.case("first", []); counts.case("second", ["wrong"])'
-    ends 'calls that compile' 0 $'3 of 3 calls were split\n3 passed, 0 failed' compares "$compile" "$fail" "$compile"
+    ends 'calls that compile' 0 $'3 of 3 calls were split, 2 of the 2 that nvcc compiles: 100 %\n3 passed, 0 failed' \
+        compares "$compile" "$fail" "$compile"
+    ends 'enough calls are split' 0 $'2 of 3 calls were split, 2 of the 3 that nvcc compiles: 66 %\n3 passed, 0 failed' \
+        compares --least-split 65 "$compile" "@env=WHOLE=why $compile" "$compile"
+    ends 'too few calls are split' 1 $'2 of the 3 calls that nvcc compiles were split, less than 67 %\n3 passed, 1 failed' \
+        compares --least-split 67 "$compile" "@env=WHOLE=why $compile" "$compile"
     ends 'a call that differs' 1 '2 passed, 1 failed' compares "$compile" "@env=WORSE=yes $compile" "$compile"
     ends 'most calls fail by both tools' 1 $'2 of 3 calls fail by both tools\n3 passed, 1 failed' compares "$compile" "$fail" "$fail"
     ends 'no call compiles' 1 $'no call compiles anything\n3 passed, 1 failed' compares --version --version --version

@@ -20,6 +20,8 @@ folder=$(realpath "${CUDA_VERSIONS:-out/versions}")
 read -ra versions <<< "${VERSIONS:-11.2 11.8 12.4}"
 read -ra lists <<< "${CALLS:-tests/calls_quick.txt tests/calls.txt tests/calls_words.txt tests/calls_odd.txt}"
 parts=${PARTS:-calls hosts options needs isolated cmake}
+# In per cent, of the calls in the lists that nvcc compiles.
+readonly LEAST_SPLIT=65
 require 'other versions of nvcc' "${ZIGRUNK_NINJA:-ninja}" objcopy nm python3
 [ -x "$program" ] || make build >&2 || exit 1
 unset NVCC_PREPEND_FLAGS NVCC_APPEND_FLAGS
@@ -57,7 +59,7 @@ done
 [ ${#lacking[@]} -eq 0 ] || skip "nvcc ${lacking[*]}" "Debian's archive can't be reached"
 for version in "${ready[@]}"; do
     compare=(tests/compare_calls.py --scratch "$scratch" --jobs "${JOBS:-$(nproc)}")
-    part "$version" calls "${compare[@]}" "${lists[@]}"
+    part "$version" calls "${compare[@]}" --least-split "$LEAST_SPLIT" "${lists[@]}"
     part "$version" hosts "${compare[@]}" --only ccbin tests/calls_hosts.txt
     part "$version" options tests/nvcc_readings.py "$program"
     part "$version" needs env TARGETS="$(targets "$version")" tests/needs.sh "$program"
