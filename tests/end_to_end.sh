@@ -1,6 +1,6 @@
 #!/usr/bin/env bash
 # Tests zigrunk-nvcc: by stand-ins (tests/script.sh, tests/slots.sh for many at once, and
-# tests/batch.sh for zigrunk-batch), by calls that nvcc makes too
+# tests/batch.sh for zigrunk-batch, tests/cluster_scripts.sh for examples/), by calls that nvcc makes too
 # (tests/compare_calls.py), by the installed nvcc's list of options (tests/nvcc_options.sh), by commands that have only their own
 # files (tests/isolated.py), where the machine refuses something (tests/conditions.sh), and by signals in the middle of a build. It tests too that such tests fail if they show nothing
 # (tests/runners.sh).
@@ -107,6 +107,7 @@ missing() {
 start script tests/script.sh
 start batch tests/batch.sh
 start slots tests/slots.sh
+start cluster_scripts tests/cluster_scripts.sh
 start options tests/nvcc_options.sh
 start runners tests/runners.sh
 lacking=$(missing)
