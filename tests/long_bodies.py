@@ -259,17 +259,17 @@ programs | plan_exports/command | push_command | command.env_vars.as_slice().len
 programs | plan_exports/ninja | ninja_file | plan.groups.as_slice().len() > 50
 programs | plan_exports/ninja | ninja_file | long_body::has_large(plan.groups.as_slice(), 500)
 programs | plan_exports/ninja | ninja_file | plan.dropped.as_slice().len() > 500
-programs | plan_exports/json | json_text | planned.plan.groups.as_slice().len() > 50
-programs | plan_exports/json | json_text | long_body::has_large(planned.plan.groups.as_slice(), 500)
-programs | plan_exports/json | json_text | planned.plan.dropped.as_slice().len() > 500
-programs | plan_exports/json | put_texts | texts.len() > 500
-programs | plan_exports/json | put_texts | long_body::has_long(texts, 50_000)
+programs | plan_json/json | json_text | planned.plan.groups.as_slice().len() > 50
+programs | plan_json/json | json_text | long_body::has_large(planned.plan.groups.as_slice(), 500)
+programs | plan_json/json | json_text | planned.plan.dropped.as_slice().len() > 500
+programs | plan_json/json | put_texts | texts.len() > 500
+programs | plan_json/json | put_texts | long_body::has_long(texts, 50_000)
 programs | plan_exports/dot | dot_text | plan.groups.as_slice().len() > 50
 programs | plan_exports/dot | dot_text | long_body::has_large(plan.groups.as_slice(), 500)
 programs | plan_exports/dot | dot_text | plan.dropped.as_slice().len() > 500
-programs | plan_exports/compdb | compdb_text | plan.groups.as_slice().len() > 50
-programs | plan_exports/compdb | compdb_text | long_body::has_large(plan.groups.as_slice(), 500)
-programs | plan_exports/compdb | push_command | command.args.as_slice().len() > 5_000
+programs | plan_json/compdb | compdb_text | plan.groups.as_slice().len() > 50
+programs | plan_json/compdb | compdb_text | long_body::has_large(plan.groups.as_slice(), 500)
+programs | plan_json/compdb | push_command | command.args.as_slice().len() > 5_000
 
 programs | nvcc_calls/answer | read_call | call.words.len() > 5_000
 programs | nvcc_calls/answer | read_call | long_body::has_long(call.words, 50_000)
@@ -285,11 +285,11 @@ programs | nvcc_calls/directory | directory_name | long_body::has_long(call.word
 
 programs | zigrunk/export | write_export | dry1.len() > 10_000
 programs | zigrunk/nvcc_text | write_nvcc_text | call.words.len() > 5_000
-programs | zigrunk/place | place_of | dry2.len() > 500_000
-programs | zigrunk/place | place_in before let path | number > 500
-programs | zigrunk/place | place_in before let path | parsed.env.as_slice().len() > 500
-programs | zigrunk/message | line_message | place.path.as_str().len() > 50_000
-programs | zigrunk/message | line_message | place.line.len() > 500_000
+programs | complaints/place | place_of | dry2.len() > 500_000
+programs | complaints/place | place_in before let path | number > 500
+programs | complaints/place | place_in before let path | parsed.env.as_slice().len() > 500
+programs | complaints/message | line_message | place.path.as_str().len() > 50_000
+programs | complaints/message | line_message | place.line.len() > 500_000
 
 lines | c_texts/shell | split_outcome | bytes.len() > 500_000
 lines | c_texts/shell | quote_outcome | texts.len() > 5_000
@@ -325,7 +325,7 @@ whole | zigrunk/program | run_program before let _ = err | let _ = err.write_all
 whole | zigrunk/program | read before let _ = complain | return Err(why.fault());
 whole | zigrunk/program | told | return answer;
 whole | zigrunk/program | plan_told | return answer;
-whole | zigrunk/complaint | say | return write!(err, "zigrunk\\n");
+whole | complaints/complaint | say | return write!(err, "zigrunk\\n");
 """
 
 # The crate that holds the switch: a call of a C function, which a proof can't see through.

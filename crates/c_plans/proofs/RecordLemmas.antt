@@ -5,7 +5,7 @@ use Rattle.command_groups.specs.declared.origins.Origin.{Origin}
 use Rattle.command_groups.specs.declared.origins.PlanWithOrigins.{PlanWithOrigins}
 use Rattle.command_groups.specs.declared.plan.Dropped.{Dropped}
 use Rattle.command_groups.specs.declared.plan.NvccGeneratedSubcommand.{NvccGeneratedSubcommand}
-use Rattle.plan_exports.specs.Numbered.{of_group, of_groups}
+use Rattle.command_files.specs.Numbered.{of_group, of_groups}
 use Rattle.c_texts.proofs.TextLemmas.{texts-then, count-then}
 use Rattle.c_plans.specs.declared.record.CommandRecord.{CommandRecord}
 use Rattle.c_plans.specs.declared.record.GroupRecord.{GroupRecord}

@@ -12,8 +12,8 @@ use Rattle.command_groups.specs.declared.plan.Dropped.{Dropped}
 use Rattle.command_groups.specs.declared.plan.NvccGeneratedSubcommand.{NvccGeneratedSubcommand}
 use Rattle.command_groups.specs.declared.plan.Reason.{Reason}
 use Rattle.command_groups.specs.declared.plan.Reason.TheVariants.{NotCuda, NoCiccGroup, NoPtxasGroup, Superseded}
-use Rattle.plan_exports.specs.Json.{origin_at}
-use Rattle.plan_exports.specs.Numbered.{of_group, of_groups}
+use Rattle.plan_json.specs.Json.{origin_at}
+use Rattle.command_files.specs.Numbered.{of_group, of_groups}
 use Rattle.c_plans.specs.Records.{Entry, reason_number, cacheable_number, command_entry, dropped_entry, entries_of, variable_texts, texts_of, record_at, records_at, groups_at, records_of}
 use Rattle.c_plans.specs.RecordsRead.{part, pairs_of, entry_in, cacheable_of, reason_of, command_of, dropped_of, origin_of, plan_of, plan_in, HasOrigins}
 use Rattle.c_texts.proofs.RangeLemmas.{cut_behind}

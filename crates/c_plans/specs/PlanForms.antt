@@ -3,7 +3,7 @@ use Rattle.std.specs.Prelude.{ℕ, List, ◌==◌, if◌then◌else◌, Option, 
 use Rattle.serde_json.specs.Written.{compact_text}
 use Rattle.plan_exports.specs.declared.refusal.Refusal.{Refusal}
 use Rattle.plan_exports.specs.Graph.{ninja_answer}
-use Rattle.plan_exports.specs.Json.{Described, data_of}
+use Rattle.plan_json.specs.Json.{Described, data_of}
 use Rattle.plan_exports.specs.Script.{shell_answer}
 use Rattle.plan_texts.specs.ShownPlan.{show_plan}
 use Rattle.c_plans.specs.declared.plan_forms.Form.{Form}

@@ -9,8 +9,8 @@ use Rattle.command_groups.specs.declared.plan.Dropped.{Dropped}
 use Rattle.command_groups.specs.declared.plan.NvccGeneratedSubcommand.{NvccGeneratedSubcommand}
 use Rattle.command_groups.specs.declared.plan.Reason.{Reason}
 use Rattle.command_groups.specs.declared.plan.Reason.TheVariants.{NotCuda, NoCiccGroup, NoPtxasGroup, Superseded}
-use Rattle.plan_exports.specs.Json.{origin_at}
-use Rattle.plan_exports.specs.Numbered.{of_groups}
+use Rattle.plan_json.specs.Json.{origin_at}
+use Rattle.command_files.specs.Numbered.{of_groups}
 use Rattle.texts.specs.Variables.{pair_of}
 use Rattle.c_texts.specs.declared.memory.Range.{Range}
 use Rattle.c_plans.specs.declared.record.CommandRecord.{CommandRecord}

@@ -2,8 +2,8 @@
 
 ghost use Rattle.std.specs.Prelude.{◌≡◌, ◌-◌, ◌∷◌, [], List, ℕ, IfOk, OnOk, length, map, vec_items};
 ghost use Rattle.command_groups.specs.declared.origins.Origin.{Origin};
-ghost use Rattle.plan_exports.specs.Json.{origin_at};
-ghost use Rattle.plan_exports.specs.Numbered.{of_group, of_groups};
+ghost use Rattle.plan_json.specs.Json.{origin_at};
+ghost use Rattle.command_files.specs.Numbered.{of_group, of_groups};
 ghost use Rattle.c_texts.specs.Outcomes.{of_texts};
 ghost use Rattle.c_plans.specs.Records as spec;
 

@@ -1,8 +1,9 @@
 pub mod NeedLemmas
+pub mod NeededLemmas
 pub mod OrderLemmas
 pub mod OrderNeedLemmas
 pub mod OverlapLemmas
-pub mod NeededLemmas
 pub mod PartLemmas
 pub mod PlanOrderLemmas
+pub mod Pushing
 pub mod TouchedLemmas

@@ -1,5 +1,6 @@
 pub mod CommandFiles
 pub mod Files
+pub mod Numbered
 pub mod Order
 pub mod OrderNeeds
 pub mod Overlap

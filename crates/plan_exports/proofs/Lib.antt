@@ -1,9 +1,4 @@
-pub mod CompdbLemmas
 pub mod EscapedLemmas
-pub mod JsonLemmas
-pub mod JsonExamples
-pub mod OneToOneLemmas
-pub mod Pushing
 pub mod ReadBackLemmas
 pub mod ReadGraphLemmas
 pub mod TextLemmas

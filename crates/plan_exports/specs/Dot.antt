@@ -11,7 +11,7 @@ use Rattle.command_groups.specs.Reasons.{reason_name}
 use Rattle.command_files.specs.declared.files.CommandFiles.{CommandFiles}
 use Rattle.command_files.specs.CommandFiles.{files_of_words}
 use Rattle.command_files.specs.PlanNeeds.{plan_needs}
-use Rattle.plan_exports.specs.Numbered.{of_groups}
+use Rattle.command_files.specs.Numbered.{of_groups}
 
 -- a character of a quoted text. In one, `"`, a backslash and `&` have to be escaped, and NUL shows as a backslash and 0
 abbrev pub shown_char : ℕ → List ℕ

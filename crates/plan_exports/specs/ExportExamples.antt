@@ -12,8 +12,6 @@ use Rattle.plan_exports.specs.Graph.{edge}
 use Rattle.shell_words.specs.Posix.{Word, Operator}
 use Rattle.plan_exports.specs.ReadBack.{shell_tokens}
 use Rattle.plan_exports.specs.ReadGraph.{Edge, plan_edges}
-use Rattle.plan_exports.specs.Json.{command_at}
-use Rattle.serde_json.specs.Written.{compact_text}
 
 -- a cacheable command with one variable
 abbrev pub cicc_with : List ℕ → List ℕ → NvccGeneratedSubcommand
@@ -90,9 +88,3 @@ NewlineRefused = judged_groups Ninja ((cicc_with (codes "K") (codes "a\nb") ∷ 
 
 pub newline_refused : NewlineRefused
 newline_refused = refl
-
--- The same command as JSON, in the second group. cicc needs more words than that to be read, so its files are unknown
-abbrev pub JsonOfCicc : Type 0
-JsonOfCicc =
-    compact_text (command_at (record { origins = record { line = 6; run = 1 } ∷ []; needs = (1 ∷ 2 ∷ []) ∷ [] }) 0 1 cicc)
-    ≡ codes "{\"args\":[\"a$b\"],\"cacheable\":true,\"complete\":false,\"cwd\":\"/t\",\"env\":[[\"K\",\"v w\"]],\"exe\":\"/b/cicc\",\"group\":1,\"id\":0,\"line\":7,\"may_write\":[],\"needs\":[1,2],\"reads\":[],\"run\":1,\"writes\":[]}"

@@ -1,14 +1,10 @@
 pub mod Answers
 pub mod CommandText
-pub mod Compdb
 pub mod Dot
 pub mod ExportExamples
 pub mod Graph
-pub mod Json
 pub mod Judging
 pub mod Message
-pub mod Numbered
-pub mod OneToOne
 pub mod ReadBack
 pub mod ReadGraph
 pub mod ReadValue

@@ -3,7 +3,7 @@
 ghost use Rattle.std.specs.Prelude.{◌≡◌, ◌+◌, ◌++◌, ◌∷◌, [], IfOk, OnOk, encode_utf8_all, length, map, string_bytes, vec_items};
 ghost use Rattle.std.specs.List.{flat_map};
 ghost use Rattle.plan_exports.specs.Dot as spec;
-ghost use Rattle.plan_exports.specs.Numbered.{of_group, of_groups};
+ghost use Rattle.command_files.specs.Numbered.{of_group, of_groups};
 
 use command_files::{CommandFiles, files_of, needs};
 use command_groups::{Dropped, NvccGeneratedSubcommand, Plan};

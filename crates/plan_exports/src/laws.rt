@@ -1,7 +1,6 @@
 //! Laws on written plans, and worked examples.
 
-ghost use Rattle.plan_exports.specs.ExportExamples.{LineOfCicc, BareCharacters, EdgeOfCicc, EdgesOfFatbin, DashRefused, NewlineHeld, NewlineRefused, JsonOfCicc};
-ghost use Rattle.plan_exports.specs.OneToOne.{DataIsOneToOne};
+ghost use Rattle.plan_exports.specs.ExportExamples.{LineOfCicc, BareCharacters, EdgeOfCicc, EdgesOfFatbin, DashRefused, NewlineHeld, NewlineRefused};
 ghost use Rattle.plan_exports.specs.ReadBack.{CommandsReadBack, EdgesReadBack, ScriptsReadBack};
 ghost use Rattle.plan_exports.specs.ReadGraph.{GraphsReadBack};
 ghost use Rattle.plan_exports.specs.ReadValue.{ValuesReadBack};
@@ -28,12 +27,6 @@ pub fn graphs_read_back()
     ensures { GraphsReadBack }
 {}
 
-/// Two plans with the same JSON are the same: so JSON says all of a plan, what it was made for and where its commands come from.
-/// This is for plans with an origin for each command, and with lines below the greatest number that there is.
-pub fn data_is_one_to_one()
-    ensures { DataIsOneToOne }
-{}
-
 /// The definitions give these texts for a small plan, and these edges for a real one.
 pub fn worked_exports()
     ensures line_of_cicc { LineOfCicc }
@@ -43,5 +36,4 @@ pub fn worked_exports()
     ensures dash_refused { DashRefused }
     ensures newline_held { NewlineHeld }
     ensures newline_refused { NewlineRefused }
-    ensures json_of_cicc { JsonOfCicc }
 {}

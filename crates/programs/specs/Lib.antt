@@ -1,6 +1,7 @@
 pub mod Calls
 pub mod Complaint
 pub mod Delivery
+pub mod DryRunText
 pub mod LineText
 pub mod PlanText
 pub mod Shown

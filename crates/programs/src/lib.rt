@@ -5,6 +5,7 @@
 mod call;
 mod complaint;
 mod delivery;
+mod dry_run_text;
 mod engine;
 mod file;
 mod planning;
@@ -17,6 +18,7 @@ mod unread;
 pub use call::{LineCall, PlanCall, line_call, plan_call};
 pub use complaint::complain;
 pub use delivery::deliver;
+pub use dry_run_text::is_dry_run;
 pub use engine::{write_line, write_plan, write_plan_of_files};
 pub use file::{Disk, Sources};
 pub use planning::{all_suffixes, plan_dry_runs};

@@ -3,7 +3,8 @@
 use cuda_plans::compiler::NvccHostCompiler;
 use cuda_plans::dry_run::{FirstDir, Suffixes};
 use cuda_plans::plan::{Plan, PlanWithOrigins, plan_with_origins};
-use plan_exports::{Refusal, json_text, ninja_file, shell_script};
+use plan_exports::{Refusal, ninja_file, shell_script};
+use plan_json::json_text;
 use std::alloc::Global;
 use texts::fault::Fault;
 

@@ -19,7 +19,7 @@ use Rattle.programs.specs.LineText.{shown_line}
 use Rattle.programs.specs.PlanText.{ReadsFirst, out_of_memory, shown_plan}
 use Rattle.zigrunk.specs.Calls.{CallOf, ExportOf, exports, reads, names, rewrites, plans, helps, tells_version}
 use Rattle.zigrunk.specs.Exports.{exported}
-use Rattle.zigrunk.specs.Messages.{over_limit}
+use Rattle.complaints.specs.Messages.{over_limit}
 use Rattle.zigrunk.specs.NvccText.{nvcc_text}
 use Rattle.zigrunk.specs.OptionsFiles.{AreHeld}
 use Rattle.zigrunk.specs.Pages.{help_text, version_text}

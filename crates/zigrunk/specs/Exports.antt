@@ -1,8 +1,7 @@
 -- What the program writes for a plan.
-use Rattle.std.specs.Prelude.{ℕ, List, [], ◌∷◌, ◌++◌, length, ◌==◌, Bool, true, false, not, nat_eq, if◌then◌else◌, codes, Option, Some, None, Result, Ok, Err}
-use Rattle.std.specs.List.{list_all, list_any, starts_with}
+use Rattle.std.specs.Prelude.{ℕ, List, [], ◌∷◌, ◌++◌, length, ◌==◌, Bool, true, false, not, if◌then◌else◌, codes, Option, Some, None, Result, Ok, Err}
+use Rattle.std.specs.List.{list_all}
 use Rattle.std.specs.Str.{bytes_eq}
-use Rattle.std.specs.Str.Lines.{lines}
 use Rattle.serde_json.specs.Written.{compact_text}
 use Rattle.texts.specs.declared.fault.Fault.{Fault}
 use Rattle.dry_runs.specs.declared.parsed_runs.ParsedRuns.{ParsedRuns}
@@ -13,15 +12,16 @@ use Rattle.command_groups.specs.declared.plan.Plan.{Plan}
 use Rattle.command_groups.specs.Origins.{planning_of_parsed}
 use Rattle.command_groups.specs.Plan.{PlanSetting}
 use Rattle.plan_exports.specs.declared.refusal.Refusal.{Refusal}
-use Rattle.plan_exports.specs.Compdb.{database}
+use Rattle.plan_json.specs.Compdb.{database}
 use Rattle.plan_exports.specs.Dot.{picture}
 use Rattle.plan_exports.specs.Graph.{ninja_answer}
-use Rattle.plan_exports.specs.Json.{Described, data_of}
+use Rattle.plan_json.specs.Json.{Described, data_of}
 use Rattle.plan_exports.specs.Message.{message_of}
 use Rattle.plan_exports.specs.Script.{shell_answer}
 use Rattle.programs.specs.declared.stop.Stop.{Stop}
 use Rattle.programs.specs.declared.stop.Stop.TheVariants as stops
 use Rattle.programs.specs.Calls.{PlanOf}
+use Rattle.programs.specs.DryRunText.{is_dry_run}
 use Rattle.programs.specs.PlanText.{program_setting, all_suffixes}
 use Rattle.zigrunk.specs.declared.call.Format.{Format}
 use Rattle.zigrunk.specs.declared.call.Format.TheVariants.{Shell, Ninja, Json, Dot, Compdb}
@@ -76,10 +76,6 @@ abbrev pub plan_of_runs : ExportOf → LookUp → ParsedRuns → Result PlanWith
 plan_of_runs call which runs =
     planned_with (keep_dir_of call.keeps call.plan.tmp) (program_setting call.plan.cwd call.plan.tmp call.plan.flag) which runs
     (all_suffixes call.plan.suffixes)
-
--- whether a text has a line of a dry run, that is one with nvcc's mark
-abbrev pub is_dry_run : List ℕ → Bool
-is_dry_run bytes = list_any (λ line. starts_with nat_eq line (codes "#$ ")) (lines bytes)
 
 -- why two files can't be the dry runs of a call, if they can't: the call names one file twice, or one has no line of a dry run
 abbrev pub unfit : PlanOf → List ℕ → List ℕ → Option (List ℕ)

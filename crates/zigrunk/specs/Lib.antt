@@ -2,8 +2,6 @@ pub mod Calls
 pub mod Endings
 pub mod Environment
 pub mod Exports
-pub mod Messages
 pub mod NvccText
 pub mod OptionsFiles
 pub mod Pages
-pub mod Places

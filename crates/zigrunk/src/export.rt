@@ -1,14 +1,14 @@
 //! The engine that plans two dry runs and writes the plan for another tool.
 
-ghost use Rattle.std.specs.Prelude.{◌≡◌, ◌==◌, ◌++◌, ◌∷◌, [], List, ℕ, codes, length, map, nat_eq, vec_items, Result, Ok, Err};
-ghost use Rattle.std.specs.List.{list_all, starts_with};
+ghost use Rattle.std.specs.Prelude.{◌≡◌, ◌==◌, ◌++◌, ◌∷◌, [], List, ℕ, codes, length, map, vec_items, Result, Ok, Err};
+ghost use Rattle.std.specs.List.{list_all};
 ghost use Rattle.std.specs.Option.{option_copied};
 ghost use Rattle.serde_json.specs.Written.{compact_text};
 ghost use Rattle.texts.specs.Fault.{UnlessMemory};
 ghost use Rattle.dry_runs.specs.Parsed.{AreParsed, both_parsed};
 ghost use Rattle.plan_exports.specs.declared.refusal.Refusal.{Refusal};
 ghost use Rattle.plan_exports.specs.Answers as exports;
-ghost use Rattle.plan_exports.specs.Compdb.{database};
+ghost use Rattle.plan_json.specs.Compdb.{database};
 ghost use Rattle.plan_exports.specs.Message.{message_of};
 ghost use Rattle.programs.specs.declared.stop.Stop.TheVariants as stops;
 ghost use Rattle.programs.specs.Delivery.{Answers, Delivers, text_of};
@@ -20,9 +20,10 @@ ghost use Rattle.zigrunk.specs.Exports as spec;
 use crate::call::{ExportCall, Format};
 use command_groups::{NvccGeneratedSubcommand, Plan, PlanWithOrigins, plan_of_parsed};
 use cuda_below::compiler::NvccHostCompiler;
-use dry_runs::{ParsedRuns, Which, first_line};
-use plan_exports::{Refusal, compdb_text, dot_text, json_text, ninja_file, shell_script};
-use programs::{PlanCall, Stop, all_suffixes, deliver};
+use dry_runs::{ParsedRuns, Which};
+use plan_exports::{Refusal, dot_text, ninja_file, shell_script};
+use plan_json::{compdb_text, json_text};
+use programs::{PlanCall, Stop, all_suffixes, deliver, is_dry_run};
 use std::alloc::Global;
 use std::io::Write;
 use texts::fault::Fault;
@@ -163,27 +164,6 @@ fn plan_of<L: Which>(
         which,
         &suffixes,
     )
-}
-
-// Whether a line is one of a dry run.
-fn is_marked(line: &[u8]) -> bool
-    ensures { result ≡ starts_with nat_eq line.now (codes "#$ ") }
-{
-    line.starts_with(b"#$ ")
-}
-
-/// Whether a text has a line of a dry run.
-pub fn is_dry_run(bytes: &[u8]) -> bool
-    ensures { result ≡ spec.is_dry_run bytes.now }
-{
-    let mut rest = bytes;
-    while let Some((line, behind)) = first_line(rest) {
-        if is_marked(line) {
-            return true;
-        }
-        rest = behind;
-    }
-    false
 }
 
 // Why two files can't be the dry runs of a call, if they can't.

@@ -11,15 +11,12 @@ use std::process::ExitCode;
 use std::rt::Env;
 
 mod call;
-mod complaint;
 mod environment;
 mod export;
 mod input;
-mod message;
 mod nvcc_text;
 mod options_files;
 mod page;
-mod place;
 mod program;
 
 // Runs the call that the program was started with. If a variable that it reads isn't UTF-8, the call is

@@ -17,14 +17,14 @@ ghost use Rattle.zigrunk.specs.Calls as forms;
 ghost use Rattle.zigrunk.specs.Endings as spec;
 
 use crate::call::{Call, ExportCall, limited_call_of};
-use crate::complaint::{
-    OVER_LIMIT, complain_of, complain_of_excess, complain_of_file, complain_of_plan,
-};
 use crate::export::{refused, write_export};
 use crate::nvcc_text::write_nvcc_text;
 use crate::options_files::options_files;
 use crate::page::{USAGE, help, version};
-use crate::place::{Place, place_of_excess};
+use complaints::{
+    OVER_LIMIT, Place, complain_of, complain_of_excess, complain_of_file, complain_of_plan,
+    place_of_excess,
+};
 use dry_runs::{FirstDir, LimitedFault, ParsedRuns, Which, parse_dry_runs_within};
 use nvcc_calls::{DirectoryCall, NvccCall, directory_name};
 use program_lookups::{Snapshot, snapshot_for};

@@ -1,5 +1,5 @@
 use Rattle.std.proofs.Common.{◌≡◌, drop, length}
-use Rattle.plan_exports.specs.Numbered.{of_group}
+use Rattle.command_files.specs.Numbered.{of_group}
 use Rattle.c_plans.specs.Records.{command_entry, with_entries}
 use Rattle.c_plans.proofs.plan_entries.push_commands.Given as goal
 

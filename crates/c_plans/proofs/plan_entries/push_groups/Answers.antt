@@ -1,7 +1,7 @@
 use Rattle.std.proofs.Common.{◌+◌, List, ◌∷◌, length, drop, map, sym, ap, ◌∙◌, vec_items}
 use Rattle.command_groups.specs.declared.plan.NvccGeneratedSubcommand.{NvccGeneratedSubcommand}
-use Rattle.plan_exports.specs.Numbered.{of_groups}
-use Rattle.plan_exports.proofs.Pushing.{next-left}
+use Rattle.command_files.specs.Numbered.{of_groups}
+use Rattle.command_files.proofs.Pushing.{next-left}
 use Rattle.c_plans.specs.Records.{command_entry, groups_at, with_groups}
 use Rattle.c_plans.proofs.RecordLemmas.{groups-step}
 use Rattle.c_plans.proofs.plan_entries.push_groups.Goals as goal

@@ -1,5 +1,5 @@
 use Rattle.std.proofs.Common.{◌≡◌, drop, length, map, vec_items}
-use Rattle.plan_exports.specs.Numbered.{of_groups}
+use Rattle.command_files.specs.Numbered.{of_groups}
 use Rattle.c_plans.specs.Records.{command_entry, groups_at, with_groups}
 use Rattle.c_plans.proofs.plan_entries.push_groups.Given as goal
 

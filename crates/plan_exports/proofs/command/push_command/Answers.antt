@@ -1,7 +1,7 @@
 use Rattle.std.proofs.Common.{◌≡◌, [], ◌∷◌, ◌++◌, OnOk, string_bytes, subst, ap, ◌∙◌, codes}
 use Rattle.shell_words.specs.Shell.Quoting.{written}
 use Rattle.plan_exports.specs.CommandText.{env_words, command_text}
-use Rattle.plan_exports.proofs.Pushing.{pushed}
+use Rattle.command_files.proofs.Pushing.{pushed}
 use Rattle.plan_exports.proofs.command.push_command.Goals as goal
 
 pub returns : goal.returns

@@ -1,6 +1,6 @@
 use Rattle.std.proofs.Common.{◌≡◌, ◌+◌, ◌++◌, drop, length}
 use Rattle.plan_exports.specs.Dot.{node_line}
-use Rattle.plan_exports.specs.Numbered.{of_group}
+use Rattle.command_files.specs.Numbered.{of_group}
 use Rattle.plan_exports.proofs.dot.add_group.Given as goal
 
 abbrev pub invariant-loop-command : goal.invariant-loop-command

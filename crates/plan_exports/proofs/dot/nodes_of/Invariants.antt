@@ -1,6 +1,6 @@
 use Rattle.std.proofs.Common.{◌≡◌, ◌++◌, map, drop, length, vec_items}
 use Rattle.plan_exports.specs.Dot.{node_line}
-use Rattle.plan_exports.specs.Numbered.{of_groups}
+use Rattle.command_files.specs.Numbered.{of_groups}
 use Rattle.plan_exports.proofs.dot.nodes_of.Given as goal
 
 abbrev pub invariant-loop-group : goal.invariant-loop-group

@@ -1,7 +1,7 @@
 use Rattle.std.proofs.Common.{◌≡◌, OnOk, string_bytes, subst, codes}
 use Rattle.texts.specs.Numeral.{numeral}
 use Rattle.plan_exports.specs.Dot.{title}
-use Rattle.plan_exports.proofs.Pushing.{pushed-parts, on-ok}
+use Rattle.command_files.proofs.Pushing.{pushed-parts, on-ok}
 use Rattle.plan_exports.proofs.dot.push_box.Goals as goal
 
 pub returns : goal.returns

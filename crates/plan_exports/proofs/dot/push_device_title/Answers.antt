@@ -1,7 +1,7 @@
 use Rattle.std.proofs.Common.{◌≡◌, ◌++◌, OnOk, string_bytes, subst, codes}
 use Rattle.texts.specs.Numeral.{numeral}
 use Rattle.plan_exports.specs.Dot.{device_title}
-use Rattle.plan_exports.proofs.Pushing.{pushed}
+use Rattle.command_files.proofs.Pushing.{pushed}
 use Rattle.plan_exports.proofs.dot.push_device_title.Goals as goal
 
 pub returns : goal.returns

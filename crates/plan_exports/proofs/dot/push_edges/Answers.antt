@@ -1,7 +1,7 @@
 use Rattle.std.proofs.Common.{◌≡◌, ◌+◌, ◌++◌, string_bytes, vec_items, map, drop, sym, ap, ◌∙◌}
 use Rattle.std.specs.List.{flat_map}
 use Rattle.plan_exports.specs.Dot.{edge, edges_from}
-use Rattle.plan_exports.proofs.Pushing.{pushed, next-left}
+use Rattle.command_files.proofs.Pushing.{pushed, next-left}
 use Rattle.plan_exports.proofs.dot.push_edges.Goals as goal
 
 pub loop-number-preserved : goal.loop-number-preserved

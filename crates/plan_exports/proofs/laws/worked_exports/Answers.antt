@@ -1,5 +1,4 @@
 use Rattle.plan_exports.specs.ExportExamples.{line_of_cicc, bare_characters, edge_of_cicc, edges_of_fatbin, dash_refused, newline_held, newline_refused}
-use Rattle.plan_exports.proofs.JsonExamples.{json_of_cicc}
 use Rattle.plan_exports.proofs.laws.worked_exports.Goals as goal
 
 pub returns : goal.returns
@@ -11,5 +10,4 @@ returns c = record {
   dash_refused = dash_refused;
   newline_held = newline_held;
   newline_refused = newline_refused;
-  json_of_cicc = json_of_cicc;
 }

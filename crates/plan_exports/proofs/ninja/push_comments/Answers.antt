@@ -1,7 +1,7 @@
 use Rattle.std.proofs.Common.{◌+◌, ◌++◌, string_bytes, drop, sym, ap, ◌∙◌}
 use Rattle.std.specs.List.{flat_map}
 use Rattle.plan_exports.specs.Graph.{comment}
-use Rattle.plan_exports.proofs.Pushing.{pushed, next-left}
+use Rattle.command_files.proofs.Pushing.{pushed, next-left}
 use Rattle.plan_exports.proofs.ninja.push_comments.Goals as goal
 
 pub loop-command-preserved : goal.loop-command-preserved

@@ -1,0 +1,108 @@
+-- A plan's data has no float and nests no deeper than a text that is read may.
+use Rattle.std.proofs.Common.{◌≡◌, ℕ, ◌+◌, ◌≤◌, List, [], ◌∷◌, ◌++◌, ◌||◌, map, length, Bool, false, Some, refl, subst, arith}
+use Rattle.command_groups.specs.declared.origins.Origin.{Origin}
+use Rattle.command_groups.specs.declared.plan.NvccGeneratedSubcommand.{NvccGeneratedSubcommand}
+use Rattle.command_groups.specs.declared.plan.Dropped.{Dropped}
+use Rattle.command_files.specs.declared.files.CommandFiles.{CommandFiles}
+use Rattle.command_files.specs.CommandFiles.{files_of_words}
+use Rattle.command_files.specs.Order.{needs_at}
+use Rattle.serde_json.specs.Data.{Data, string, depth, items_depth}
+use Rattle.serde_json.specs.View.{items_of}
+use Rattle.serde_json.specs.Read.{read, max_depth}
+use Rattle.serde_json.specs.Written.{has_float, items_have_float, compact_text}
+use Rattle.command_files.specs.Numbered.{of_group, of_groups}
+use Rattle.plan_json.specs.Json.{texts_data, count_data, counts_data, variable_data, variables_data, command_data, Known, origin_at, command_at, dropped_data, Described, known_of, data_of}
+
+-- what holds of each item's depth holds of a list's
+pub items_within : {A : Type 0} (n : ℕ) (f : A → Data) → ((x : A) → depth (f x) ≤ n) → (xs : List A) → items_depth (items_of (map f xs)) ≤ n
+items_within n f h [] = omega arith
+items_within n f h (x ∷ xs) = omega (arith, h x, items_within n f h xs)
+
+command_within : (id group : ℕ) (origin : Origin) (needs : List ℕ) (files : CommandFiles) (c : NvccGeneratedSubcommand) → depth (command_data id group origin needs files c) ≤ 3
+command_within id group origin needs files c =
+    omega (
+      arith,
+      items_within 0 string (λ x. omega arith) c.args,
+      items_within 1 variable_data (λ x. omega arith) c.env_vars,
+      items_within 0 count_data (λ x. omega arith) needs,
+      items_within 0 string (λ x. omega arith) files.reads,
+      items_within 0 string (λ x. omega arith) files.writes,
+      items_within 0 string (λ x. omega arith) files.may_write,
+    )
+
+group_within : (known : Known) (id group : ℕ) (commands : List NvccGeneratedSubcommand) (rest : List Data) → items_depth (items_of rest) ≤ 3 → items_depth (items_of (of_group (command_at known) id group commands ++ rest)) ≤ 3
+group_within known id group [] rest h = h
+group_within known id group (c ∷ commands) rest h =
+    omega (
+      arith,
+      command_within id group (origin_at known.origins id) (needs_at known.needs id) (files_of_words c.exe c.args c.cwd) c,
+      group_within known (id + 1) group commands rest h,
+    )
+
+groups_within : (known : Known) (id group : ℕ) (groups : List (List NvccGeneratedSubcommand)) → items_depth (items_of (of_groups (command_at known) id group groups)) ≤ 3
+groups_within known id group [] = omega arith
+groups_within known id group (commands ∷ groups) =
+    group_within known id group commands (of_groups (command_at known) (id + length commands) (group + 1) groups) (groups_within known (id + length commands) (group + 1) groups)
+
+dropped_within : (d : Dropped) → depth (dropped_data d) ≤ 3
+dropped_within d = omega (arith, items_within 0 string (λ x. omega arith) d.args)
+
+pub plan_within : (d : Described) → depth (data_of d) ≤ max_depth
+plan_within d =
+    omega (arith, groups_within (known_of d.planned) 0 0 d.planned.plan.groups, items_within 3 dropped_data dropped_within d.planned.plan.dropped)
+
+pub neither : {a b : Bool} → a ≡ false → b ≡ false → (a || b) ≡ false
+neither p q = rw (p, q)
+
+-- where no item has a float, the list has none
+pub items_float_free : {A : Type 0} (f : A → Data) → ((x : A) → has_float (f x) ≡ false) → (xs : List A) → items_have_float (items_of (map f xs)) ≡ false
+items_float_free f h [] = refl
+items_float_free f h (x ∷ xs) = neither (h x) (items_float_free f h xs)
+
+pub texts_float_free : (texts : List (List ℕ)) → has_float (texts_data texts) ≡ false
+texts_float_free texts = items_float_free string (λ x. refl) texts
+
+counts_float_free : (counts : List ℕ) → has_float (counts_data counts) ≡ false
+counts_float_free counts = items_float_free count_data (λ x. refl) counts
+
+variables_float_free : (variables : List (List ℕ × List ℕ)) → has_float (variables_data variables) ≡ false
+variables_float_free variables = items_float_free variable_data (λ x. refl) variables
+
+command_float_free : (id group : ℕ) (origin : Origin) (needs : List ℕ) (files : CommandFiles) (c : NvccGeneratedSubcommand) → has_float (command_data id group origin needs files c) ≡ false
+command_float_free id group origin needs files c =
+    neither (texts_float_free c.args)
+    (neither (variables_float_free c.env_vars)
+    (neither (texts_float_free files.may_write)
+    (neither (counts_float_free needs)
+    (neither (texts_float_free files.reads)
+    (neither (texts_float_free files.writes) refl)))))
+
+group_float_free : (known : Known) (id group : ℕ) (commands : List NvccGeneratedSubcommand) (rest : List Data) → items_have_float (items_of rest) ≡ false → items_have_float (items_of (of_group (command_at known) id group commands ++ rest)) ≡ false
+group_float_free known id group [] rest h = h
+group_float_free known id group (c ∷ commands) rest h =
+    neither (command_float_free id group (origin_at known.origins id) (needs_at known.needs id) (files_of_words c.exe c.args c.cwd) c)
+    (group_float_free known (id + 1) group commands rest h)
+
+groups_float_free : (known : Known) (id group : ℕ) (groups : List (List NvccGeneratedSubcommand)) → items_have_float (items_of (of_groups (command_at known) id group groups)) ≡ false
+groups_float_free known id group [] = refl
+groups_float_free known id group (commands ∷ groups) =
+    group_float_free known id group commands (of_groups (command_at known) (id + length commands) (group + 1) groups) (groups_float_free known (id + length commands) (group + 1) groups)
+
+dropped_float_free : (d : Dropped) → has_float (dropped_data d) ≡ false
+dropped_float_free d = neither (texts_float_free d.args) refl
+
+pub plan_float_free : (d : Described) → has_float (data_of d) ≡ false
+plan_float_free d =
+    neither (groups_float_free (known_of d.planned) 0 0 d.planned.plan.groups)
+    (neither (items_float_free dropped_data dropped_float_free d.planned.plan.dropped) refl)
+
+-- what is written of a value with a plan's data
+pub exact_text : (plan : Described) (d : Data) (text : List ℕ) → d ≡ data_of plan → (has_float d ≡ false → text ≡ compact_text d) → text ≡ compact_text (data_of plan)
+exact_text plan d text same written =
+    let of_plan : has_float (data_of plan) ≡ false → text ≡ compact_text (data_of plan) = subst (λ d. has_float d ≡ false → text ≡ compact_text d) same written in
+    of_plan (plan_float_free plan)
+
+pub text_reads_back : (plan : Described) (d : Data) (text : List ℕ) → d ≡ data_of plan → (depth d ≤ max_depth → read text ≡ Some d) → read text ≡ Some (data_of plan)
+text_reads_back plan d text same written =
+    let of_plan : depth (data_of plan) ≤ max_depth → read text ≡ Some (data_of plan) = subst (λ d. depth d ≤ max_depth → read text ≡ Some d) same written in
+    of_plan (plan_within plan)

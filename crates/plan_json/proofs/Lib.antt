@@ -1,0 +1,4 @@
+pub mod CompdbLemmas
+pub mod JsonExampleProofs
+pub mod JsonLemmas
+pub mod OneToOneLemmas

@@ -1,0 +1,286 @@
+-- A plan is read back from its data.
+use Rattle.std.proofs.Common.{◌≡◌, ℕ, suc, zero, ◌+◌, ◌-◌, ◌<◌, ◌^◌, ◌==◌, List, [], ◌∷◌, ◌++◌, map, length, drop, Bool, true, false, cond, refl, sym, ap, ◌∙◌, arith, eq-eqb, ne_eqb, codes, add-one}
+use Rattle.std.specs.Prelude.{filter, if◌then◌else◌}
+use Rattle.std.specs.List.{AllByRecursion, flat_map}
+use Rattle.std.specs.Str.{bytes_eq}
+use Rattle.cuda_below.specs.declared.command.Cacheable.{Cacheable}
+use Rattle.cuda_below.specs.declared.command.Cacheable.TheVariants.{Yes, No}
+use Rattle.command_groups.specs.declared.origins.Origin.{Origin}
+use Rattle.command_groups.specs.declared.plan.NvccGeneratedSubcommand.{NvccGeneratedSubcommand}
+use Rattle.command_groups.specs.declared.plan.Dropped.{Dropped}
+use Rattle.command_groups.specs.declared.plan.Reason.{Reason}
+use Rattle.command_groups.specs.declared.plan.Reason.TheVariants.{NotCuda, NoCiccGroup, NoPtxasGroup, Superseded}
+use Rattle.command_groups.specs.Reasons.{reason_name}
+use Rattle.serde_json.specs.Data.{Num, unsigned, negative, float, Data, null, boolean, number, string, array, object, Items, no_items, item, Members, no_members, member}
+use Rattle.serde_json.specs.View.{items_of}
+use Rattle.plan_json.specs.Json.{variable_data, is_cacheable, from_one, Known, origin_at, command_at, dropped_data, Described, known_of, data_of}
+use Rattle.command_files.specs.Numbered.{of_group, of_groups}
+use Rattle.plan_json.specs.OneToOne.{IsDescribed}
+
+-- ---- what is read of data
+
+abbrev list_in : Items → List Data
+list_in no_items = []
+list_in (item d ds) = d ∷ list_in ds
+
+abbrev items_in : Data → List Data
+items_in null = []
+items_in (boolean b) = []
+items_in (number n) = []
+items_in (string s) = []
+items_in (array ds) = list_in ds
+items_in (object ms) = []
+
+abbrev value_at : ℕ → Members → Data
+value_at n no_members = null
+value_at zero (member k d ms) = d
+value_at (suc n) (member k d ms) = value_at n ms
+
+abbrev field : ℕ → Data → Data
+field n null = null
+field n (boolean b) = null
+field n (number m) = null
+field n (string s) = null
+field n (array ds) = null
+field n (object ms) = value_at n ms
+
+abbrev text_in : Data → List ℕ
+text_in null = []
+text_in (boolean b) = []
+text_in (number n) = []
+text_in (string s) = s
+text_in (array ds) = []
+text_in (object ms) = []
+
+abbrev count_of : Num → ℕ
+count_of (unsigned n) = n
+count_of (negative z) = 0
+count_of (float x) = 0
+
+abbrev count_in : Data → ℕ
+count_in null = 0
+count_in (boolean b) = 0
+count_in (number n) = count_of n
+count_in (string s) = 0
+count_in (array ds) = 0
+count_in (object ms) = 0
+
+abbrev bool_in : Data → Bool
+bool_in null = false
+bool_in (boolean b) = b
+bool_in (number n) = false
+bool_in (string s) = false
+bool_in (array ds) = false
+bool_in (object ms) = false
+
+abbrev pair_of_items : List Data → List ℕ × List ℕ
+pair_of_items [] = ([], [])
+pair_of_items (d ∷ []) = ([], [])
+pair_of_items (d ∷ e ∷ ds) = (text_in d, text_in e)
+
+abbrev cacheable_of : Bool → Cacheable
+cacheable_of true = Yes
+cacheable_of false = No
+
+abbrev command_in : Data → NvccGeneratedSubcommand
+command_in d = record {
+  exe = text_in (field 5 d);
+  args = map text_in (items_in (field 0 d));
+  cwd = text_in (field 3 d);
+  env_vars = map (λ p. pair_of_items (items_in p)) (items_in (field 4 d));
+  cacheable = cacheable_of (bool_in (field 1 d));
+}
+
+abbrev group_in : Data → ℕ
+group_in d = count_in (field 6 d)
+
+abbrev origin_in : Data → Origin
+origin_in d = record { line = count_in (field 8 d) - 1; run = count_in (field 12 d) }
+
+-- ---- commands
+
+list_is : (ds : List Data) → list_in (items_of ds) ≡ ds
+list_is [] = refl
+list_is (d ∷ ds) = ap (λ t. d ∷ t) (list_is ds)
+
+texts_are : (texts : List (List ℕ)) → map text_in (list_in (items_of (map string texts))) ≡ texts
+texts_are [] = refl
+texts_are (text ∷ texts) = ap (λ t. text ∷ t) (texts_are texts)
+
+variables_are : (variables : List (List ℕ × List ℕ)) → map (λ p. pair_of_items (items_in p)) (list_in (items_of (map variable_data variables))) ≡ variables
+variables_are [] = refl
+variables_are (p ∷ variables) = ap (λ t. p ∷ t) (variables_are variables)
+
+cacheable_is : (c : Cacheable) → cacheable_of (is_cacheable c) ≡ c
+cacheable_is Yes = refl
+cacheable_is No = refl
+
+command_is : (known : Known) (id group : ℕ) (c : NvccGeneratedSubcommand) → command_in (command_at known id group c) ≡ c
+command_is known id group c = λ i. record { exe = c.exe; args = texts_are c.args i; cwd = c.cwd; env_vars = variables_are c.env_vars i; cacheable = cacheable_is c.cacheable i }
+
+-- ---- groups
+
+abbrev is_of : ℕ → Data → Bool
+is_of group d = group_in d == group
+
+abbrev groups_in : ℕ → ℕ → List Data → List (List NvccGeneratedSubcommand)
+groups_in zero group ds = []
+groups_in (suc n) group ds = map command_in (filter (is_of group) ds) ∷ groups_in n (group + 1) (drop (length (filter (is_of group) ds)) ds)
+
+module _ (known : Known) where
+  commands_are : (id group : ℕ) (commands : List NvccGeneratedSubcommand) → map command_in (of_group (command_at known) id group commands) ≡ commands
+  commands_are id group [] = refl
+  commands_are id group (c ∷ commands) = λ i. command_is known id group c i ∷ commands_are (id + 1) group commands i
+
+  skipped : (id group other : ℕ) (commands : List NvccGeneratedSubcommand) (rest : List Data) → group < other → filter (is_of group) (of_group (command_at known) id other commands ++ rest) ≡ filter (is_of group) rest
+  skipped id group other [] rest h = refl
+  skipped id group other (c ∷ commands) rest h =
+      let left = filter (is_of group) (of_group (command_at known) (id + 1) other commands ++ rest) in
+      ap (λ b. cond b (command_at known id other c ∷ left) left) (ne_eqb other group (λ e. omega (arith, h, e)))
+      ∙ skipped (id + 1) group other commands rest h
+
+  none_later : (id group other : ℕ) (groups : List (List NvccGeneratedSubcommand)) → group < other → filter (is_of group) (of_groups (command_at known) id other groups) ≡ []
+  none_later id group other [] h = refl
+  none_later id group other (commands ∷ groups) h =
+      skipped id group other commands (of_groups (command_at known) (id + length commands) (other + 1) groups) h
+      ∙ none_later (id + length commands) group (other + 1) groups (omega (arith, h))
+
+  first_are : (id next group : ℕ) (commands : List NvccGeneratedSubcommand) (groups : List (List NvccGeneratedSubcommand)) →
+      filter (is_of group) (of_group (command_at known) id group commands ++ of_groups (command_at known) next (group + 1) groups) ≡ of_group (command_at known) id group commands
+  first_are id next group [] groups = none_later next group (group + 1) groups (omega arith)
+  first_are id next group (c ∷ commands) groups =
+      let left = filter (is_of group) (of_group (command_at known) (id + 1) group commands ++ of_groups (command_at known) next (group + 1) groups) in
+      ap (λ b. cond b (command_at known id group c ∷ left) left) (eq-eqb group group refl)
+      ∙ ap (λ t. command_at known id group c ∷ t) (first_are (id + 1) next group commands groups)
+
+  dropped_first : {X : Type 0} (xs ys : List X) → drop (length xs) (xs ++ ys) ≡ ys
+  dropped_first [] ys = refl
+  dropped_first (x ∷ xs) ys = dropped_first xs ys
+
+  groups_are : (id group : ℕ) (groups : List (List NvccGeneratedSubcommand)) → groups_in (length groups) group (of_groups (command_at known) id group groups) ≡ groups
+  groups_are id group [] = refl
+  groups_are id group (commands ∷ groups) =
+      let first = of_group (command_at known) id group commands in
+      let rest = of_groups (command_at known) (id + length commands) (group + 1) groups in
+      ap (λ ds. map command_in ds ∷ groups_in (length groups) (group + 1) (drop (length ds) (first ++ rest))) (first_are id (id + length commands) group commands groups)
+      ∙ (λ i. commands_are id group commands i ∷ groups_in (length groups) (group + 1) (dropped_first first rest i))
+      ∙ ap (λ gs. commands ∷ gs) (groups_are (id + length commands) (group + 1) groups)
+
+-- ---- origins
+
+abbrev Fits : Origin → Type 0
+Fits o = o.line < 2 ^ 64 - 1
+
+line_is : (line : ℕ) → line < 2 ^ 64 - 1 → from_one line - 1 ≡ line
+line_is line h = omega (arith, h)
+
+fit_at : (origins : List Origin) (id : ℕ) → AllByRecursion Fits origins → Fits (origin_at origins id)
+fit_at [] id all = omega arith
+fit_at (o ∷ origins) zero all = all.0
+fit_at (o ∷ origins) (suc id) all = fit_at origins id all.1
+
+-- the origins of so many commands from a number on
+abbrev origins_from : List Origin → ℕ → ℕ → List Origin
+origins_from origins zero id = []
+origins_from origins (suc n) id = origin_at origins id ∷ origins_from origins n (suc id)
+
+past_first : (o : Origin) (origins : List Origin) (n id : ℕ) → origins_from (o ∷ origins) n (suc id) ≡ origins_from origins n id
+past_first o origins zero id = refl
+past_first o origins (suc n) id = ap (λ t. origin_at origins id ∷ t) (past_first o origins n (suc id))
+
+all_origins : (origins : List Origin) → origins_from origins (length origins) 0 ≡ origins
+all_origins [] = refl
+all_origins (o ∷ origins) = ap (λ t. o ∷ t) (past_first o origins (length origins) 0 ∙ all_origins origins)
+
+module _ (known : Known) (all : AllByRecursion Fits known.origins) where
+  origin_is : (id group : ℕ) (c : NvccGeneratedSubcommand) → origin_in (command_at known id group c) ≡ origin_at known.origins id
+  origin_is id group c = λ i. record { line = line_is (origin_at known.origins id).line (fit_at known.origins id all) i; run = (origin_at known.origins id).run }
+
+  group_origins : (id group : ℕ) (commands : List NvccGeneratedSubcommand) (rest : List Data) →
+      map origin_in (of_group (command_at known) id group commands ++ rest) ≡ origins_from known.origins (length commands) id ++ map origin_in rest
+  group_origins id group [] rest = refl
+  group_origins id group (c ∷ commands) rest =
+      (λ i. origin_is id group c i ∷ group_origins (id + 1) group commands rest i)
+      ∙ ap (λ n. origin_at known.origins id ∷ (origins_from known.origins (length commands) n ++ map origin_in rest)) (add-one id)
+
+  joined_origins : (n m id : ℕ) → origins_from known.origins n id ++ origins_from known.origins m (id + n) ≡ origins_from known.origins (n + m) id
+  joined_origins zero m id =
+      let nothing_more : m ≡ 0 + m = omega arith in
+      let at_once : id + 0 ≡ id = omega arith in
+      λ i. origins_from known.origins (nothing_more i) (at_once i)
+  joined_origins (suc n) m id =
+      let further : id + suc n ≡ suc id + n = omega arith in
+      let more : suc (n + m) ≡ suc n + m = omega arith in
+      ap (λ k. origin_at known.origins id ∷ (origins_from known.origins n (suc id) ++ origins_from known.origins m k)) further
+      ∙ ap (λ t. origin_at known.origins id ∷ t) (joined_origins n m (suc id))
+      ∙ ap (λ k. origins_from known.origins k id) more
+
+  origins_are : (id group : ℕ) (groups : List (List NvccGeneratedSubcommand)) →
+      map origin_in (of_groups (command_at known) id group groups) ≡ origins_from known.origins (length (flat_map (λ g. g) groups)) id
+  origins_are id group [] = refl
+  origins_are id group (commands ∷ groups) =
+      group_origins id group commands (of_groups (command_at known) (id + length commands) (group + 1) groups)
+      ∙ ap (λ t. origins_from known.origins (length commands) id ++ t) (origins_are (id + length commands) (group + 1) groups)
+      ∙ joined_origins (length commands) (length (flat_map (λ g. g) groups)) id
+      ∙ ap (λ n. origins_from known.origins n id) (sym (long commands (flat_map (λ g. g) groups)))
+    where
+      long : {X : Type 0} (xs ys : List X) → length (xs ++ ys) ≡ length xs + length ys
+      long [] ys = omega arith
+      long (x ∷ xs) ys = omega (arith, long xs ys)
+
+-- ---- dropped commands
+
+abbrev reason_of : List ℕ → Reason
+reason_of name =
+    if bytes_eq name (codes "NotCuda") then NotCuda else
+    if bytes_eq name (codes "NoCiccGroup") then NoCiccGroup else
+    if bytes_eq name (codes "NoPtxasGroup") then NoPtxasGroup else Superseded
+
+reason_is : (reason : Reason) → reason_of (reason_name reason) ≡ reason
+reason_is NotCuda = refl
+reason_is NoCiccGroup = refl
+reason_is NoPtxasGroup = refl
+reason_is Superseded = refl
+
+abbrev dropped_in : Data → Dropped
+dropped_in d = record {
+  line = count_in (field 2 d) - 1;
+  run = count_in (field 4 d);
+  exe = text_in (field 1 d);
+  args = map text_in (items_in (field 0 d));
+  reason = reason_of (text_in (field 3 d));
+}
+
+dropped_are : (dropped : List Dropped) → AllByRecursion (λ c. c.line < 2 ^ 64 - 1) dropped → map dropped_in (list_in (items_of (map dropped_data dropped))) ≡ dropped
+dropped_are [] all = refl
+dropped_are (d ∷ dropped) all = λ i. record { line = line_is d.line all.0 i; run = d.run; exe = d.exe; args = texts_are d.args i; reason = reason_is d.reason i } ∷ dropped_are dropped all.1 i
+
+-- ---- plans
+
+abbrev described_in : Data → Described
+described_in d = record {
+  cwd = text_in (field 1 d);
+  tmp = text_in (field 5 d);
+  flag = text_in (field 3 d);
+  planned = record {
+    plan = record { groups = groups_in (count_in (field 4 d)) 0 (items_in (field 0 d)); dropped = map dropped_in (items_in (field 2 d)) };
+    origins = map origin_in (items_in (field 0 d));
+  };
+}
+
+described_is : (d : Described) → IsDescribed d → described_in (data_of d) ≡ d
+described_is d is =
+    let known = known_of d.planned in
+    let listed = list_is (of_groups (command_at known) 0 0 d.planned.plan.groups) in
+    let groups = ap (groups_in (length d.planned.plan.groups) 0) listed ∙ groups_are known 0 0 d.planned.plan.groups in
+    let origins = ap (map origin_in) listed ∙ origins_are known is.lines 0 0 d.planned.plan.groups
+    ∙ ap (λ n. origins_from d.planned.origins n 0) (sym is.origins) ∙ all_origins d.planned.origins in
+    λ i. record {
+      cwd = d.cwd;
+      tmp = d.tmp;
+      flag = d.flag;
+      planned = record { plan = record { groups = groups i; dropped = dropped_are d.planned.plan.dropped is.dropped i }; origins = origins i };
+    }
+
+pub data_is_one_to_one : (one other : Described) → IsDescribed one → IsDescribed other → data_of one ≡ data_of other → one ≡ other
+data_is_one_to_one one other is are same = sym (described_is one is) ∙ ap described_in same ∙ described_is other are

@@ -1,0 +1,110 @@
+-- A plan as JSON, version 1 of the format.
+use Rattle.std.specs.Prelude.{ℕ, ◌+◌, ◌-◌, ◌^◌, List, map, length, min, get_or, codes, Bool, true, false}
+use Rattle.cuda_below.specs.declared.command.Cacheable.{Cacheable}
+use Rattle.cuda_below.specs.declared.command.Cacheable.TheVariants.{Yes, No}
+use Rattle.command_groups.specs.declared.origins.Origin.{Origin}
+use Rattle.command_groups.specs.declared.origins.PlanWithOrigins.{PlanWithOrigins}
+use Rattle.command_groups.specs.declared.plan.NvccGeneratedSubcommand.{NvccGeneratedSubcommand}
+use Rattle.command_groups.specs.declared.plan.Dropped.{Dropped}
+use Rattle.command_groups.specs.Reasons.{reason_name}
+use Rattle.command_files.specs.declared.files.CommandFiles.{CommandFiles}
+use Rattle.command_files.specs.CommandFiles.{files_of_words}
+use Rattle.command_files.specs.Order.{needs_at}
+use Rattle.command_files.specs.PlanNeeds.{plan_needs}
+use Rattle.command_files.specs.Numbered.{of_groups}
+use Rattle.serde_json.specs.Data.{unsigned, Data, boolean, number, string, array, object, no_items, item, no_members, member}
+use Rattle.serde_json.specs.View.{items_of}
+
+-- a list of texts, and one of numbers
+abbrev pub texts_data : List (List ℕ) → Data
+texts_data texts = array (items_of (map string texts))
+
+abbrev pub count_data : ℕ → Data
+count_data n = number (unsigned n)
+
+abbrev pub counts_data : List ℕ → Data
+counts_data numbers = array (items_of (map count_data numbers))
+
+-- a variable: its name and its value
+abbrev pub variable_data : List ℕ × List ℕ → Data
+variable_data p = array (item (string p.0) (item (string p.1) no_items))
+
+-- variables in order. A name may occur twice
+abbrev pub variables_data : List (List ℕ × List ℕ) → Data
+variables_data variables = array (items_of (map variable_data variables))
+
+-- whether a cache may serve a command's outputs
+abbrev pub is_cacheable : Cacheable → Bool
+is_cacheable Yes = true
+is_cacheable No = false
+
+-- a line's number, which counts from 1 here. The greatest number that there is stays itself
+abbrev pub from_one : ℕ → ℕ
+from_one line = min (line + 1) (2 ^ 64 - 1)
+
+-- A command. The members of an object are in the order of their names. Given are its number in the plan, that of its group,
+-- where it comes from, the numbers of the commands that it needs, and its files.
+abbrev pub command_data : ℕ → ℕ → Origin → List ℕ → CommandFiles → NvccGeneratedSubcommand → Data
+command_data id group origin needs files c =
+    object (member (codes "args") (texts_data c.args)
+    (member (codes "cacheable") (boolean (is_cacheable c.cacheable))
+    (member (codes "complete") (boolean files.complete)
+    (member (codes "cwd") (string c.cwd)
+    (member (codes "env") (variables_data c.env_vars)
+    (member (codes "exe") (string c.exe)
+    (member (codes "group") (count_data group)
+    (member (codes "id") (count_data id)
+    (member (codes "line") (count_data (from_one origin.line))
+    (member (codes "may_write") (texts_data files.may_write)
+    (member (codes "needs") (counts_data needs)
+    (member (codes "reads") (texts_data files.reads)
+    (member (codes "run") (count_data origin.run)
+    (member (codes "writes") (texts_data files.writes) no_members))))))))))))))
+
+-- what is known of a plan's commands beside the groups: where each comes from, and what it needs, by the numbers of the commands
+pub record Known : Type 0 where
+  pub origins : List Origin
+  pub needs : List (List ℕ)
+
+-- where the command with a number comes from. Run 0 says that nothing is known
+abbrev pub origin_at : List Origin → ℕ → Origin
+origin_at origins id = get_or origins id (record { line = 0; run = 0 })
+
+-- a command by its number and that of its group
+abbrev pub command_at : Known → ℕ → ℕ → NvccGeneratedSubcommand → Data
+command_at known id group c =
+    command_data id group (origin_at known.origins id) (needs_at known.needs id) (files_of_words c.exe c.args c.cwd) c
+
+-- a dropped command
+abbrev pub dropped_data : Dropped → Data
+dropped_data d =
+    object (member (codes "args") (texts_data d.args)
+    (member (codes "exe") (string d.exe)
+    (member (codes "line") (count_data (from_one d.line))
+    (member (codes "reason") (string (reason_name d.reason))
+    (member (codes "run") (count_data d.run) no_members)))))
+
+-- dropped commands, in order
+abbrev pub all_dropped_data : List Dropped → Data
+all_dropped_data dropped = array (items_of (map dropped_data dropped))
+
+-- a plan, and what it was made for: the working directory, the temporary directory and the compilation flag
+pub record Described : Type 0 where
+  pub cwd : List ℕ
+  pub tmp : List ℕ
+  pub flag : List ℕ
+  pub planned : PlanWithOrigins
+
+abbrev pub known_of : PlanWithOrigins → Known
+known_of planned = record { origins = planned.origins; needs = plan_needs planned.plan }
+
+-- The data of a plan. Its commands are numbered in plan order; how many groups there are is said because a group may be empty.
+abbrev pub data_of : Described → Data
+data_of d =
+    object (member (codes "commands") (array (items_of (of_groups (command_at (known_of d.planned)) 0 0 d.planned.plan.groups)))
+    (member (codes "cwd") (string d.cwd)
+    (member (codes "dropped") (all_dropped_data d.planned.plan.dropped)
+    (member (codes "flag") (string d.flag)
+    (member (codes "groups") (count_data (length d.planned.plan.groups))
+    (member (codes "tmp") (string d.tmp)
+    (member (codes "version") (count_data 1) no_members)))))))

@@ -1,0 +1,4 @@
+pub mod Compdb
+pub mod Json
+pub mod JsonExamples
+pub mod OneToOne

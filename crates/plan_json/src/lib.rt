@@ -1,0 +1,9 @@
+//! Plans for programs that read JSON: a plan as JSON, and as a compilation database.
+#![tactic(auto)]
+
+mod compdb;
+mod json;
+pub mod laws;
+
+pub use compdb::compdb_text;
+pub use json::{json_text, put_text, put_texts};
