@@ -1,9 +1,8 @@
 #!/usr/bin/env bash
-# Tests zigrunk-nvcc: by stand-ins (tests/script.sh, tests/slots.sh for many at once, and
-# tests/batch.sh for zigrunk-batch, tests/cluster_scripts.sh for examples/), by calls that nvcc makes too
-# (tests/compare_calls.py), by the installed nvcc's list of options (tests/nvcc_options.sh), by commands that have only their own
-# files (tests/isolated.py), where the machine refuses something (tests/conditions.sh), and by signals in the middle of a build. It tests too that such tests fail if they show nothing
-# (tests/runners.sh).
+# Tests zigrunk-nvcc: by stand-ins (tests/script.sh, tests/slots.sh for many at once, tests/batch.sh for zigrunk-batch, and
+# tests/cluster_scripts.sh for examples/), by calls that nvcc makes too (tests/compare_calls.py), by the installed nvcc's list of options
+# (tests/nvcc_options.sh), by commands that have only their own files (tests/isolated.py), where the machine refuses something
+# (tests/conditions.sh), and by signals in the middle of a build. It tests too that such tests fail if they show nothing (tests/runners.sh).
 # Prints a line for each failure, then for each part how long it took and how many seconds of processor, and last
 # 'N passed, M failed'; the status is 1 if one failed. All parts start at once. The calls take what the others leave of the
 # processors, so that none of these, each a chain of steps, is still running at the end.

@@ -225,8 +225,23 @@ def is_status_of_threads(line: str, want: Ran, got: Ran, found: Difference) -> b
     return found[0] == "STATUS" and both_fail(want, got) and want["status"] == 255 and re.search(r"--threads|-t[ =\d]", line) is not None
 
 
+def is_source_in_ptx(line: str, want: Ran, got: Ran, found: Difference) -> bool:
+    """--source-in-ptx: cicc doesn't find a relative source. All else is the same."""
+    if found[0] != "CONTENT" or re.search(r"source-in-ptx|-src-in-ptx", line) is None:
+        return False
+    wanted, given = ([row for row in made["made"][found[1]].splitlines() if row and not row.startswith(b"//")] for made in (want, got))
+    return wanted == given
+
+
+def is_warning_of_dependencies(line: str, want: Ran, got: Ran, found: Difference) -> bool:
+    """-MD without host code: the same lines, some more often."""
+    return found[0] == "SAID" and found[1].startswith("lacks [], has []") and re.search(r"-MM?D|with-compile", line) is not None
+
+
 # The rows of docs/DIFFERENCES.md, "From nvcc", that such calls can show.
-KNOWN: list[Callable[[str, Ran, Ran, Difference], bool]] = [is_lto, is_debug, is_kept_stub, is_later_failure, is_status_of_threads]
+KNOWN: list[Callable[[str, Ran, Ran, Difference], bool]] = [
+    is_lto, is_debug, is_kept_stub, is_later_failure, is_status_of_threads, is_source_in_ptx, is_warning_of_dependencies,
+]
 
 
 def row_of(line: str, want: Ran, got: Ran, found: Difference) -> str:
