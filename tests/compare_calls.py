@@ -9,6 +9,7 @@
     --scratch FOLDER            make the calls below FOLDER
     --jobs N                    N calls at once, 1 by default
     --json FILE                 write a record of each call
+    --reasons                   print why nvcc itself makes calls that compile, and how many for each reason
     --least-split N             at least N per cent of the calls that nvcc compiles have to be split
     --all                       print the calls that pass too
 
@@ -56,6 +57,7 @@ import subprocess
 import sys
 import tempfile
 import time
+from collections import Counter
 from collections.abc import Iterable, Iterator
 from pathlib import Path
 from typing import Literal, TypedDict
@@ -433,6 +435,7 @@ def options() -> argparse.Namespace:
     parser.add_argument("--scratch", type=lambda name: os.path.abspath(name))
     parser.add_argument("--jobs", type=int, default=1)
     parser.add_argument("--json")
+    parser.add_argument("--reasons", action="store_true")
     parser.add_argument("--least-split", type=int, default=0)
     parser.add_argument("--all", action="store_true")
     return parser.parse_args()
@@ -470,6 +473,7 @@ def main() -> int:
     calls = longest_first(read_calls(args))
     counts, records = Counts(), []
     failing = compiling = split = both = 0
+    reasons = Counter[str]()
     with concurrent.futures.ThreadPoolExecutor(args.jobs) as pool:
         for compared in pool.map(lambda one: compare(one, args), calls):
             call, want, got, found, noise = compared
@@ -482,6 +486,8 @@ def main() -> int:
             compiling += compiles
             split += not got["reason"]
             both += compiles and not got["reason"]
+            if compiles and got["reason"]:
+                reasons[got["reason"]] += 1
             if args.all or verdict == "DIFFERS":
                 show(verdict, compared)
             records.append({"line": call.line, "verdict": verdict, "compiles": compiles, "reason": got["reason"], "launched": got["launched"],
@@ -489,6 +495,8 @@ def main() -> int:
                             "seconds": [want["seconds"], got["seconds"]]})
     if args.json:
         Path(args.json).write_text(json.dumps(records, indent=1))
+    for reason, number in reasons.most_common() if args.reasons else []:
+        print(f"{number:3} that nvcc compiles: {reason}")
     print(f"{split} of {len(calls)} calls were split, {both} of the {compiling} that nvcc compiles: {both * 100 // max(compiling, 1)} %")
     nothing = [*shows_nothing(len(calls), failing, compiling, split), *too_few_split(args.least_split, compiling, both)]
     if calls and not args.only and nothing:

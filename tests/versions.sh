@@ -59,7 +59,7 @@ done
 [ ${#lacking[@]} -eq 0 ] || skip "nvcc ${lacking[*]}" "Debian's archive can't be reached"
 for version in "${ready[@]}"; do
     compare=(tests/compare_calls.py --scratch "$scratch" --jobs "${JOBS:-$(nproc)}")
-    part "$version" calls "${compare[@]}" --least-split "$LEAST_SPLIT" "${lists[@]}"
+    part "$version" calls "${compare[@]}" --reasons --least-split "$LEAST_SPLIT" "${lists[@]}"
     part "$version" hosts "${compare[@]}" --only ccbin tests/calls_hosts.txt
     part "$version" options tests/nvcc_readings.py "$program"
     part "$version" needs env TARGETS="$(targets "$version")" tests/needs.sh "$program"
