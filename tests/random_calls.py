@@ -233,14 +233,16 @@ def is_source_in_ptx(line: str, want: Ran, got: Ran, found: Difference) -> bool:
     return wanted == given
 
 
-def is_warning_of_dependencies(line: str, want: Ran, got: Ran, found: Difference) -> bool:
-    """-MD without host code: the same lines, some more often."""
-    return found[0] == "SAID" and found[1].startswith("lacks [], has []") and re.search(r"-MM?D|with-compile", line) is not None
+def is_host_code_of_dependencies(line: str, want: Ran, got: Ran, found: Difference) -> bool:
+    """-MD without host code: the same lines, some more often, and a kept file more."""
+    if re.search(r"-MM?D|with-compile", line) is None:
+        return False
+    return (found[0] == "SAID" and found[1].startswith("lacks [], has []")) or (found[0] == "FILE-LACKS" and found[1].endswith(".cpp4.ii"))
 
 
 # The rows of docs/DIFFERENCES.md, "From nvcc", that such calls can show.
 KNOWN: list[Callable[[str, Ran, Ran, Difference], bool]] = [
-    is_lto, is_debug, is_kept_stub, is_later_failure, is_status_of_threads, is_source_in_ptx, is_warning_of_dependencies,
+    is_lto, is_debug, is_kept_stub, is_later_failure, is_status_of_threads, is_source_in_ptx, is_host_code_of_dependencies,
 ]
 
 
