@@ -28,6 +28,7 @@ export ZIGRUNK_PROGRAM ZIGRUNK_TMP=$scratch/tmp PATH=$PWD/bin:/usr/bin:$PATH
 . tests/cluster/nodes.bash
 . tests/cluster/slurm.bash
 . tests/cluster/ssh.bash
+. tests/cluster/makeflow.bash
 . tests/cluster/deaths.bash
 
 # The parts run in a process group of their own, so that a signal to the test ends it at once, whatever runs.
@@ -204,9 +205,9 @@ batch_jobs() {
 by_ssh() {
     local id number
     for tool in sshd ssh-keygen ssh parallel; do
-        command -v "$tool" > /dev/null || { echo "by_ssh: skipped, $tool is not on the path" && return; }
+        command -v "$tool" > /dev/null || { skip by_ssh "$tool is not on the path" && return; }
     done
-    start_ssh 2 || { echo 'by_ssh: skipped, sshd does not start' && return; }
+    start_ssh 2 || { skip by_ssh 'sshd does not start' && return; }
     cd "$scratch/stand_in" || return
     # shellcheck disable=SC2016 # the other machine's variables
     echo 'echo "${NVCC_APPEND_FLAGS-none} ${CPATH-none} $PWD"' > by_ssh
@@ -253,7 +254,7 @@ all_parts() {
     stand_in
     cd "$scratch/work" && sources || exit 1
     for part in ${PARTS:-in_preprocessor in_cicc in_ptxas in_last_compile two_nodes frozen controller no_toolkit other_toolkit full_disk tries_run_out \
-        drawn_by_lot by_array by_batch_form compile_error cancelled sleeping_batch sleeping_array costs by_ssh}; do "$part"; done
+        drawn_by_lot by_array by_batch_form compile_error cancelled sleeping_batch sleeping_array costs by_ssh by_makeflow}; do "$part"; done
     summary
 }
 
