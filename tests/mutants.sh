@@ -199,8 +199,8 @@ a taken directory is used
 old: 1) exec 9>&- && return 1 ;;
 new: 1) rm -rf "${base:?}/$name" ;;
 a directory that was left is never used again
-old: && rm -rf "${base:?}/$name" &&
-new: &&
+old: ] && rm -rf "${base:?}/$name"
+new: ]
 the directory of a batch is used
 old: && left_directory &&
 new: &&
@@ -496,13 +496,40 @@ a dependency file on standard output is lost
 old: cat "$own/depended.out"
 new: :
 the source is preprocessed again for the dependency file
-old: preprocessed=$(reuse_preprocessed)
-new: preprocessed=
-a host compiler by its path has another in its place
-old: \([a-z][^ "/=]*\) .* -E
-new: .*\([a-z][^ "/=]*\) .* -E
+old:     reuse_preprocessed
+new:     found_by='' preprocessed=''
+a host compiler by its path isn't taken
+old: \("\/[A-Za-z0-9_.\/+-]*"\/\)\{0,1\}
+new: 
+any -ccbin is taken for the host compiler's
+old: *" -ccbin $host "*) bin=$host ;;
+new: *) bin=$host ;;
+a folder of -ccbin isn't taken
+old: *" -ccbin ${host%/*} "*) bin=${host%/*} ;;
+new: x) ;;
+the first of two -ccbin is taken
+old:     *-ccbin*-ccbin*) return 1 ;;
+new:     x) ;;
+NVCC_CCBIN is forgotten
+old: ${NVCC_CCBIN:+-ccbin}
+new: 
+a directory with a blank is a word of the dependency file's command
+old:     case $own in *[!A-Za-z0-9_./+-]*) return 1 ;; esac
+new:     :
+zigrunk-slot doesn't know the host compiler's path
+old: found_by="export ZIGRUNK_HOST=$host"
+new: :
+the host compiler's path changes nothing
+old: -ccbin $own/host/${host##*/} ${dependencies
+new: -ccbin $host ${dependencies
+a dependency file on standard error is lost
+old: plain 'its dependency file is standard error' "$@"
+new: ;
+descriptors that begin with 2 are standard error
+old:  -MF /dev/fd/2 '*
+new:  -MF /dev/fd/2'*
 the dependency file is made before the source is preprocessed
-old: ${preprocessed:+ | $preprocessed}
+old: ${preprocessed:+ |$preprocessed}
 new: 
 no dependency file of a call that fails
 old: || sh "$own/dependencies" 2> /dev/null > "$own/depended.out"
@@ -601,6 +628,75 @@ new: exit 0;
 a command has no terminal
 old: my ($master, $slave) = $ENV{ZIGRUNK_TERMINAL} ? terminal : ();
 new: my ($master, $slave);
+each command has a shell
+old: become($command) if $command;
+new: 
+words of a variable are patterns
+old: [^A-Za-z0-9_.\/+=:,@% -]/ ? () :
+new: \0/ ? () :
+a word's end is lost
+old: &&|\\)) /gc;
+new: &&|\\))/gc;
+any command has no shell
+old: eq 'cd && env ) && touch';
+new: ne '';
+dots in a folder's name
+old:     return if $folder !~ m{^'?/} || $folder =~ m{//|/\.|/'?$};
+new: 
+there is no launcher
+old: push @command, @$launcher if @words
+new: undef if @words
+there is no runner
+old:     push @command, @$runner;
+new: 
+a second command is a word
+old:     return if grep { /^(?:&&|\)|\$.*)$/ } @words;
+new: 
+a program that is an option
+old: $command[0] =~ /^[^-=][^=]*$/
+new: $command[0] =~ /^[^=]+$/
+a program that is a variable
+old: $command[0] =~ /^[^-=][^=]*$/
+new: $command[0] =~ /^[^-]/
+the command runs where Ninja does
+old:     chdir $command->{folder} or return;
+new: 
+a folder that is missing is no matter
+old: chdir $command->{folder} or return;
+new: chdir $command->{folder};
+PWD is that of Ninja
+old:     ($ENV{OLDPWD}, $ENV{PWD}) = ($before, $command->{folder});
+new: 
+OLDPWD is lost without PWD
+old: defined $ENV{PWD} ? $ENV{PWD} : readlink '/proc/self/cwd'
+new: $ENV{PWD}
+a value ends at its second equals sign
+old: split /=/, $_, 2
+new: split /=/, $_
+a signal has no name
+old:     if ($signal && $names{$signal} &&
+new:     if (0 &&
+each signal has a name
+old: $names{$signal} && open my $said
+new: open my $said
+there is no stamp
+old: open my $stamp, '>>', $command->{stamp} and utime undef, undef, $command->{stamp} and return 0;
+new: return 0;
+a stamp that can't be made is no failure
+old: $status = system('touch', $command->{stamp}) >> 8;
+new: system('touch', $command->{stamp});
+the message of the stamp is lost
+old:         open STDERR, '>>', "$out.err";
+new: 
+a failure has no status
+old:         print $file "$status\n";
+new: 
+what is quoted stays so
+old:     $word =~ s/'([^']*)'|\\(.)/defined $1 ? $1 : $2/ge;
+new: 
+the host compiler has another path
+old: my $host = $ENV{ZIGRUNK_HOST} || $program;
+new: my $host = $program;
 the command alone gets a signal
 old: getpgrp == $$ ? -$$ : $child
 new: $child

@@ -703,7 +703,7 @@ END
     begin 'a dependency file of what is preprocessed'
     preprocesses="echo 'rule x' && printf '%s\\n' 'build \${tmp}/zigrunk.0.0: run' '  line = ( a -E k.cu ) && touch b' 'build \${tmp}/zigrunk.0.1: run' '  line = ( cicc ) && touch b'"
     script DEPENDENCIES=: HOST='some-gcc-12 -DA -E k.cu -o k.ii' PLAN_DOES="$preprocesses" NINJA_DOES='grep depended: "$2" > "$LOG.edge"; readlink "$tmp/zigrunk.tmp/host/"* > "$LOG.link"; ls "$tmp/zigrunk.tmp/host" >> "$LOG.link"' -c k.cu -o k.o
-    same edge "$(cat "$room/log.edge")" 'build ${tmp}/zigrunk.tmp/depended: dependencies ${tmp}/zigrunk.tmp/dependencies | ${tmp}/zigrunk.0.0 '
+    same edge "$(cat "$room/log.edge")" 'build ${tmp}/zigrunk.tmp/depended: dependencies ${tmp}/zigrunk.tmp/dependencies | ${tmp}/zigrunk.0.0'
     same 'the host compiler' "$(cat "$room/log.link")" "${script%/*}/zigrunk-slot"$'\nsome-gcc-12'
     for host in '"/usr/bin"/gcc -DA -E k.cu -o k.ii' 'gcc -c k.cu'; do
         script DEPENDENCIES=: HOST="$host" PLAN_DOES="$preprocesses" NINJA_DOES='grep depended: "$2" > "$LOG.edge"' -c k.cu -o k.o
@@ -711,6 +711,35 @@ END
     done
     script HOST='gcc -DA -E k.cu -o k.ii' PLAN_DOES="$preprocesses" NINJA_DOES='grep depended: "$2" > "$LOG.edge"' -c k.cu -o k.o
     same 'edge without dependencies' "$(cat "$room/log.edge")" 'build ${tmp}/zigrunk.tmp/depended: dependencies ${tmp}/zigrunk.tmp/dependencies'
+    end
+    begin 'a dependency file of what a host compiler with a path has preprocessed'
+    shows='cat "$tmp/zigrunk.tmp/dependencies" > "$LOG.script"; grep depended: "$2" > "$LOG.edge"; ls "$tmp/zigrunk.tmp/host" > "$LOG.link"; :'
+    local by_path=(HOST='"/opt"/g++ -E k.cu -o k.ii' PLAN_DOES="$preprocesses" NINJA_DOES="$shows")
+    for words in '/opt/g++-12 "/opt"/g++-12' '/opt "/opt"/gcc'; do
+        script "${by_path[@]}" DEPENDENCIES="( nvcc -ccbin ${words% *} -M -MF k.d )" HOST="${words#* } -DA -E k.cu -o k.ii" -c k.cu -o k.o
+        host=${words##*/}
+        same 'the script' "$(cat "$room/log.script")" "export ZIGRUNK_HOST=/opt/$host"$'\n'"( nvcc -ccbin $split/zigrunk.tmp/host/$host -M -MF k.d )"
+        same edge "$(cat "$room/log.edge")" 'build ${tmp}/zigrunk.tmp/depended: dependencies ${tmp}/zigrunk.tmp/dependencies | ${tmp}/zigrunk.0.0'
+        same 'the host compiler' "$(cat "$room/log.link")" "$host"
+    done
+    script "${by_path[@]}" NVCC_CCBIN=/opt/g++ DEPENDENCIES='( nvcc -ccbin /opt/g++ -M )' -c k.cu -o k.o
+    same 'a path of the environment' "$(sed 1d "$room/log.script")" '( nvcc -ccbin /opt/g++ -M )'
+    script "${by_path[@]}" DEPENDENCIES='( nvcc -ccbin /a -ccbin /opt/g++ -M )' -c k.cu -o k.o
+    same 'two of them' "$(sed 1d "$room/log.script")" '( nvcc -ccbin /a -ccbin /opt/g++ -M )'
+    script "${by_path[@]}" DEPENDENCIES='( nvcc -ccbin /opt/g++-1 -M )' -c k.cu -o k.o
+    same 'another one' "$(sed 1d "$room/log.script")" '( nvcc -ccbin /opt/g++-1 -M )'
+    mkdir "$room/tmp/a dir"
+    script "${by_path[@]}" TMPDIR="$room/tmp/a dir" DEPENDENCIES='( nvcc -ccbin /opt/g++ -M )' -c k.cu -o k.o
+    same 'a directory with a blank' "$(sed 1d "$room/log.script")" '( nvcc -ccbin /opt/g++ -M )'
+    end
+    begin 'a dependency file that is standard error'
+    for file in /dev/stderr /dev/fd/2 /proc/self/fd/2; do
+        script "${plain[@]}" DEPENDENCIES="( nvcc -M -MF $file -MT k.o )" -MD -MF "$file" -c k.cu -o k.o
+        by_nvcc 'its dependency file is standard error'
+        lacks calls "$room/log" 'dryrun'
+    done
+    script DEPENDENCIES='( : -M -MF /dev/fd/22 -MT k.o )' -c k.cu -o k.o
+    same status "$status" 0
     end
     begin 'a command fails before the dependency file is made'
     script DEPENDENCIES='( echo made > k.d )' HOST='gcc -DA -E k.cu -o k.ii' NINJA_DOES='echo bad > "$tmp/zigrunk.0.1.err"; echo 6 > "$tmp/zigrunk.0.1.status"' NINJA_STATUS_IS=1 -c k.cu -o k.o

@@ -214,10 +214,63 @@ for round in 1 2 3; do
 done 2> /dev/null
 within 20 none_run || problems+='  commands go on'$'\n'
 : > "$LOG"
+sed -i 's/^sleep.*/sleep 0.5/' command
 "$script" -c 1.cu -o 1.o > said 2>&1
 same 'status and messages' "$? $(cat said)" '0 '
 at_most 2 2
 unset ZIGRUNK_SLOTS
+end
+
+# alike NAME PARENT COMMAND [NAME=VALUE..]: what zigrunk-slot does with the script of a command is what sh does with it, environment and files
+# included. PARENT is the program that runs the command: perl, or the shell if it takes one.
+alike() {
+    local by
+    for by in shell slot; do
+        rm -rf "$room/a dir" "$room/commands"
+        mkdir "$room/a dir" "$room/commands"
+        printf '%s || { code=$?; echo $code > %s/commands/it.status; exit $code; }' "$3" "$room" > "$room/commands/it.sh"
+        if [ "$by" = shell ]; then
+            { env "${@:4}" OF=env sh "$room/commands/it.sh" > "$room/commands/it.out" 2> "$room/commands/it.err"; } 2> /dev/null
+        else
+            env "${@:4}" OF=env perl "${script%/*}/zigrunk-slot" 0 '' "$room/commands/it" > "$room/said" 2>&1
+        fi
+        echo "$?" > "$room/commands/code"
+        parent=$(sed -n 's/^parent //p' "$room/commands/it.out")
+        (cd "$room" && find 'a dir' commands -type f -exec grep -H -v '^parent ' {} + | LC_ALL=C sort) > "$room/$by"
+        (cd "$room" && find 'a dir' commands | LC_ALL=C sort) >> "$room/$by"
+    done
+    same "$1" "$(diff "$room/shell" "$room/slot")" ''
+    [ -z "$2" ] || same "$1: its parent" "$parent" "$2"
+}
+
+begin 'commands without a shell'
+mkdir "$room/bin"
+printf '%s\n' '#!/bin/sh' 'pwd' 'echo "parent $(cat /proc/$PPID/comm)"' 'printf "<%s>\n" "$@"' 'env | grep -v "^_="' 'echo said >&2' \
+    '[ -z "${KILL-}" ] || kill -"$KILL" $$' 'exit ${CODE-0}' > "$room/bin/tool"
+chmod +x "$room/bin/tool"
+front="( cd '$room/a dir' && env 'A=b c' 'Q='\\''q'\\''\"' 'EMPTY=' 'SAME=\$x' PATH=$PATH" variables='${ZIGRUNK_RUNNER-} ${ZIGRUNK_LAUNCHER-}'
+words="$room/bin/tool -Da=b 'a  b' '' 'it'\\''s' '*' '\$HOME' '\\' 'ü'" behind=") && touch '$room/a dir/stamp'"
+alike 'words and variables' perl "$front $variables $words $behind"
+alike 'no launcher' perl "$front \${ZIGRUNK_RUNNER-} $words $behind"
+alike 'another character' sh "$front $variables $words;b $behind"
+alike 'a runner and a launcher' perl "$front $variables $words $behind" ZIGRUNK_RUNNER='env  R=1' ZIGRUNK_LAUNCHER="nice -n 1"
+alike 'a runner of odd words' '' "$front $variables $words $behind" ZIGRUNK_RUNNER='env A=* B=?'
+alike 'a launcher of odd words' '' "$front $variables $words $behind" ZIGRUNK_LAUNCHER=$'env\tA=b'
+alike 'a launcher that is missing' '' "$front $variables $words $behind" ZIGRUNK_LAUNCHER=missing-launcher
+alike 'a launcher by the new PATH' perl "${front%PATH=*}PATH=$room/bin:$PATH $variables $words $behind" ZIGRUNK_LAUNCHER=tool
+alike 'a program that is missing' '' "$front $variables $room/missing a $behind"
+alike 'a program that env takes for a variable' '' "$front $variables ./a=b $behind"
+alike 'a program that env takes for an option' '' "$front $variables -i $behind"
+alike 'a folder that is missing' '' "${front/a dir/missing} $variables $words $behind"
+alike 'a folder with dots' '' "${front/a dir/.\/a dir} $variables $words $behind"
+alike 'a status' perl "$front $variables $words $behind" CODE=7
+alike 'a signal' perl "$front $variables $words $behind" KILL=ABRT
+alike 'a signal without a name' perl "$front $variables $words $behind" KILL=INT
+alike 'no place for the stamp' '' "$front $variables $words ) && touch '$room/missing/stamp'"
+alike 'a word that looks like the end' perl "$front $variables $room/bin/tool ') && touch x' $behind"
+alike 'two commands' '' "$front $variables $room/bin/tool a && env B=c $room/bin/tool b $behind"
+alike 'an odd variable' '' "${front} 'A-B=c' $variables $room/bin/tool $behind"
+alike 'no PWD' perl "$front $variables $words $behind" -u PWD
 end
 
 # The gcc of the call that writes the dependency file.
@@ -239,6 +292,9 @@ same 'words joined' "$(gcc '-DA=b c' '-DB=$ -E' k.cu -o k.ii)" 'gcc -DA=b c -DB=
 same 'a command that has not ended' "$(gcc -E j.cu -o j.ii)" 'gcc -E j.cu -o j.ii'
 same 'another file' "$(gcc -E other.cu -o j.ii)" 'gcc -E other.cu -o j.ii'
 same 'no output' "$(gcc -v)" 'gcc -v'
+mkdir "$room/other" && printf '%s\n' '#!/bin/sh' 'echo "$0 $*"' > "$room/other/gcc" && chmod +x "$room/other/gcc"
+same 'a host compiler by its path' "$(ZIGRUNK_HOST=$room/other/gcc gcc -E other.cu -o j.ii)" "$room/other/gcc -E other.cu -o j.ii"
+same 'its output' "$(rm k.ii && ZIGRUNK_HOST=$room/other/gcc gcc '-DA=b c' '-DB=$' -E k.cu -o k.ii; readlink k.ii)" "$call/x_0.ii"
 export PATH=${PATH#"$call/zigrunk.tmp/host:$room/bin:"}
 end
 
