@@ -6,6 +6,7 @@ Prints a line for each finding, and last 'N passed, M failed': a page or a kind 
 
 import os
 import re
+import subprocess
 import sys
 from collections.abc import Iterable, Iterator
 
@@ -35,10 +36,6 @@ def words_in_code(text: str) -> list[str]:
 def crates() -> list[str]:
     lines = (line.split("#")[0] for line in text_of("crates.txt").splitlines())
     return [line.split(":")[0].split()[0] for line in lines if ":" in line]
-
-
-def sources_of(crate: str) -> list[str]:
-    return [name for name in files_below(f"crates/{crate}/src", ".rt") if name not in ("lib", "main")]
 
 
 def specs_of(crate: str) -> list[str]:
@@ -75,28 +72,48 @@ def calling() -> Iterator[str]:
                 yield f"CALLING quotes a line that test_callers lacks: {line}"
 
 
-def architecture() -> Iterator[str]:
-    """Crates and files that ARCHITECTURE lacks, and files that it names but aren't there."""
-    text = text_of("docs/ARCHITECTURE.md")
-    tables = dict(re.findall(r"^`(\w+)`\n\n((?:\|.*\n)+)", text, re.MULTILINE))
-    named = set(re.findall(r"\w+", text))
-    for crate in {*tables} - {*crates()}:
-        yield f"ARCHITECTURE has a table for a crate that isn't there: {crate}"
+def first_sentences() -> dict[str, str]:
+    """Returns what docs/files prints of each file of a crate."""
+    said = subprocess.run([f"{TOP}/docs/files"], capture_output=True, encoding="utf-8", check=True).stdout
+    sentences: dict[str, str] = {}
+    crate = ""
+    for line in said.splitlines():
+        if line.startswith(" "):
+            name, _, sentence = line.strip().partition(" ")
+            sentences[f"{crate}/{name}"] = sentence.strip()
+        else:
+            crate = line
+    return sentences
+
+
+def files() -> Iterator[str]:
+    """Files of crates that don't begin with a sentence on what they are."""
+    sentences = first_sentences()
     for crate in crates():
-        if crate not in named:
-            yield f"ARCHITECTURE lacks the crate {crate}"
-        sources, specs = sources_of(crate), specs_of(crate)
-        if crate not in tables:
-            lacks = [name for name in sources + specs if not set(re.findall(r"\w+", name)) <= named]
-            yield from (f"ARCHITECTURE lacks {crate}'s {name}" for name in lacks)
+        names = [f"src/{name}.rt" for name in files_below(f"crates/{crate}/src", ".rt")]
+        names += [f"specs/{name}.antt" for name in files_below(f"crates/{crate}/specs", ".antt") if name != "Lib"]
+        for name in names:
+            if len(sentences.get(f"{crate}/{name}", "").split()) < 2:
+                yield f"crates/{crate}/{name} doesn't begin with a sentence on what it is"
+
+
+def architecture() -> Iterator[str]:
+    """Crates that ARCHITECTURE's picture lacks, and crates and files that it names but aren't there."""
+    text = text_of("docs/ARCHITECTURE.md")
+    picture = re.search(r"^    Libraries\n(?:(?:    .*)?\n)+", text, re.MULTILINE)
+    pictured = re.findall(r"^    ([a-z]\w*)  ", picture[0] if picture else "", re.MULTILINE)
+    yield from (f"ARCHITECTURE's picture lacks the crate {crate}" for crate in {*crates()} - {*pictured})
+    yield from (f"ARCHITECTURE's picture has a crate that isn't there: {crate}" for crate in {*pictured} - {*crates()})
+    for word in words_in_code(text):
+        folder, slash, name = word.partition("/")
+        if slash and folder in crates():
+            place = f"{TOP}/crates/{folder}/src/{name}"
+        elif slash and os.path.isdir(f"{TOP}/{folder}"):
+            place = f"{TOP}/{word.split()[0]}"
+        else:
             continue
-        rows = [row.split("|") for row in tables[crate].splitlines()[2:]]
-        in_tables = {word for row in rows for word in words_in_code(row[1])}, {word for row in rows for word in words_in_code(row[3])}
-        elsewhere = {*crates()}.union(*(specs_of(word) for word in in_tables[1] if word in crates()))
-        parents = {name.split("/")[0] for name in sources if "/" in name}
-        for kind, there, words in (("source", sources, in_tables[0]), ("specs", specs, in_tables[1])):
-            yield from (f"ARCHITECTURE lacks {crate}'s {kind} {name}" for name in there if name not in words and name not in parents)
-            yield from (f"ARCHITECTURE names {crate}'s {kind} {word}, which isn't there" for word in words - {*there} - elsewhere)
+        if not os.path.exists(place) and not os.path.exists(f"{place}.rt"):
+            yield f"ARCHITECTURE names {word}, which isn't there"
 
 
 def definitions() -> Iterator[str]:
@@ -134,7 +151,7 @@ def version() -> Iterator[str]:
 
 def main() -> int:
     checks: list[tuple[str, Iterable[str]]] = [(page, links(page)) for page in PAGES]
-    checks += [("", check()) for check in (calling, architecture, definitions, version)]
+    checks += [("", check()) for check in (calling, files, architecture, definitions, version)]
     checks += [("", words(page)) for page in ("docs/DEFINITIONS.md", "docs/GUARANTEES.md")]
     counts = Counts()
     for name, findings in checks:
