@@ -521,9 +521,14 @@ keep_dir=''
 " '' calls "$scratch/lines" /t nvcc -c k.cu -DA -optf sub/f.rsp -DC
     printf -- '-g' > "$scratch/lines/g.rsp"
     reads 'words of a whole path' '' "$words -g -c k.cu" -c "''" "''" -c k.cu "--options-file=$scratch/lines/g.rsp"
+    printf -- '-w' > "$scratch/lines/w.rsp"
+    reads 'words of two files' '' "$words -g -w -c k.cu" -c "''" "''" -c k.cu -optf "$scratch/lines/g.rsp" "--options-file=$scratch/lines/w.rsp"
     NVCC_APPEND_FLAGS="-optf $scratch/lines/g.rsp" reads 'words of a file in a variable' '' "$words -g -c k.cu" -c "''" "''" -c k.cu
     passes 'a file that is no UTF-8' 'an options file is missing or odd' -c k.cu -optf "$scratch/lines/latin.rsp"
+    # (the pipe has a text for a program that reads it)
+    printf -- '-g' > "$scratch/lines/pipe.rsp" &
     passes 'a file that is a pipe' 'an options file is missing or odd' -c k.cu -optf "$scratch/lines/pipe.rsp"
+    { kill $! && wait $!; } 2> /dev/null
     words=$(printf ' -DA%.0s' {1..100000})
     printf '%s' "$words" > "$scratch/lines/long.rsp"
     reads 'a hundred thousand words of a file' '' "-x cu -o k.o$words -c k.cu" -c "''" "''" -c k.cu -optf "$scratch/lines/long.rsp" -o k.o
@@ -1247,7 +1252,11 @@ zigrunk_pages() {
         check "$format with names kept and one file" 2 '' "$usage" "$format" --keep /w /t -c "$scratch/kernel"
     done
     check 'a word of nvcc that is not UTF-8' 2 '' "$usage" calls /w /t nvcc -c k.cu -o $'\xff'
-    NVCC_APPEND_FLAGS=$'\xff' check 'a variable that is not UTF-8' 2 '' "$usage" calls /w /t nvcc -c k.cu -o k.o
+    for format in NVCC_PREPEND_FLAGS NVCC_APPEND_FLAGS ZIGRUNK_JOBS MAKEFLAGS; do
+        export "$format"=$'\xff'
+        check "$format isn't UTF-8" 2 '' "$usage" calls /w /t nvcc -c k.cu -o k.o
+        unset "$format"
+    done
 }
 
 # run FUNCTION..: calls these functions, or those of them that the script's call names.
