@@ -96,8 +96,31 @@ random_calls() {
     draws fails 1 $'wrong products with status 0: 0\n0 passed, 9 failed'
 }
 
+# versions: a case of tests/versions.sh, with stand-ins for two versions of nvcc. The older one makes something else if zigrunk-nvcc calls
+# it, which the other one's pass may not hide. Nothing is split, which is a failure with either.
+versions() {
+    local version folder=$scratch/toolkits
+    for version in 11.8 12.4; do
+        mkdir -p "$folder/$version/usr/bin"
+        touch "$folder/$version/done"
+        cp "$scratch/nvcc" "$folder/$version/usr/bin/nvcc"
+    done
+    echo '[ -z "$ZIGRUNK_INSIDE" ] || echo more >> "$4"' >> "$folder/11.8/usr/bin/nvcc"
+    printf '%s\n' '#!/bin/sh' 'echo because && exit 3' > "$scratch/zigrunk"
+    chmod +x "$scratch/zigrunk"
+    echo "$compile" > "$scratch/calls"
+    ends 'a fault with one version of nvcc' 1 $'nvcc 12.4, calls: 1 passed, 1 failed\n1 passed, 3 failed' \
+        env VERSIONS='11.8 12.4' PARTS=calls CALLS="$scratch/calls" CUDA_VERSIONS="$folder" ZIGRUNK_NINJA=true \
+        PYTHONDONTWRITEBYTECODE=1 tests/versions.sh "$scratch/zigrunk"
+}
+
 if command -v python3 > /dev/null; then
     random_calls
+    if command -v objcopy > /dev/null && command -v nm > /dev/null; then
+        versions
+    else
+        skip 'versions of nvcc' "objcopy and nm aren't on the path"
+    fi
     ends 'a module without a case' 1 $'no case ran\n0 passed, 1 failed' by_module pass
     ends 'a module with cases' 1 $'second: wrong\n1 passed, 1 failed' by_module 'counts.case("first", []); counts.case("second", ["wrong"])'
     ends 'calls that compile' 0 $'3 of 3 calls were split, 2 of the 2 that nvcc compiles: 100 %\n3 passed, 0 failed' \
