@@ -21,8 +21,9 @@ import runner
 import zigrunk
 
 FOLDER, NAMES = sys.argv[1], sys.argv[2:]
-EXAMPLE = os.path.join(os.path.dirname(zigrunk.__file__), "examples", "audit.py")
-INCLUDE = os.path.join(os.path.dirname(zigrunk.__file__), "..", "c")
+MODULE = os.path.dirname(os.path.abspath(zigrunk.__file__))
+EXAMPLE = os.path.join(MODULE, "..", "examples", "audit.py")
+INCLUDE = os.path.join(MODULE, "..", "..", "c")
 
 
 def first(lookup: zigrunk.Lookup, folder: str) -> str:
@@ -134,6 +135,33 @@ class Calls(unittest.TestCase):
 
     def test_a_reason_of_a_later_library(self) -> None:
         self.assertEqual([zigrunk._reason(it) for it in (0, 4, 5)], [None, zigrunk.Reason.SUPERSEDED, 5])
+        self.assertEqual([zigrunk._known(zigrunk.Stage, it) for it in (2, 3)], [zigrunk.Stage.FINAL, 3])
+        with self.assertRaises(zigrunk.ZigrunkError) as caught:
+            zigrunk._checked(99, b"new")
+        self.assertEqual((caught.exception.number, str(caught.exception)), (99, "new"))
+
+    def test_where_the_library_is_looked_for(self) -> None:
+        library = os.path.realpath(os.environ["ZIGRUNK_LIBRARY"])
+        with tempfile.TemporaryDirectory() as folder:
+            prefix = os.path.join(folder, "usr")
+            module = os.path.join(prefix, "share/zigrunk/python/zigrunk")
+            shutil.copytree(MODULE, module, ignore=shutil.ignore_patterns("__pycache__"))
+            loaded = "import zigrunk; print(zigrunk._library._name)"
+
+            def run() -> "subprocess.CompletedProcess[str]":
+                environment = {"PATH": os.environ["PATH"], "PYTHONDONTWRITEBYTECODE": "1", "PYTHONPATH": os.path.dirname(module)}
+                return subprocess.run([sys.executable, "-c", loaded], env=environment, capture_output=True, text=True, check=False)
+
+            missing = run()
+            if missing.returncode:
+                self.assertRegex(missing.stderr, r"ImportError: cannot load libzigrunk \(.*Set ZIGRUNK_LIBRARY to the path")
+            for place in os.path.join(prefix, "lib"), module:
+                os.makedirs(place, exist_ok=True)
+                shutil.copy(library, os.path.join(place, "libzigrunk.so.1"))
+                self.assertEqual(run().stdout.strip(), os.path.join(place, "libzigrunk.so.1"))
+            with open(os.path.join(module, "libzigrunk.so.1"), "wb") as file:
+                file.write(b"no library")
+            self.assertEqual(run().stdout.strip(), os.path.join(prefix, "lib", "libzigrunk.so.1"))
 
     def test_look_ups(self) -> None:
         run = b"#$ PATH=/b:c\n#$ cicc k.cpp1.ii\n"

@@ -2,7 +2,8 @@
  *
  * How to call
  *
- *   - A text is a pointer and a length in bytes. It may contain any byte, also NUL. Texts have to be UTF-8.
+ *   - A text is a pointer and a length in bytes. It may contain any character, also NUL, and has to be UTF-8. Only a dry run may
+ *     contain any bytes. No text that a call writes ends in a NUL, unless it is part of the text.
  *   - You own all memory. A call reads what you pass, writes into the buffers that you pass, and keeps neither. Nothing
  *     has to be freed: what a call allocates for itself, it frees.
  *   - Each buffer comes with its size. If the whole answer fits, the call writes it; otherwise it writes nothing. Either
@@ -15,10 +16,13 @@
  *
  *   - Pointers are valid for their sizes and aligned, also where a size is zero. None is NULL: for an empty text pass "".
  *   - Memory that a call writes doesn't overlap other memory of the same call, and no other thread uses it meanwhile.
+ *   - Memory that a call reads doesn't change meanwhile: no thread writes it, and it isn't a mapped file that a process still
+ *     writes. Read the dry runs into memory of your own.
  *   - malloc, realloc and free are those of one allocator. Don't call from a signal handler, nor between fork and exec in
  *     a program with threads.
  *
- * Calls share no state, so any number of threads may call at the same time.
+ * Calls share no state, so any number of threads may call at the same time. The library is for x86-64 processors with SSE
+ * 4.2 (x86-64-v2).
  *
  * Versions: names, numbers and records here don't change. A record that needs another field gets a new name, as does a
  * call that takes it, and the old ones stay. What is reserved may get a meaning, and 0 then means what it does now. Numbers

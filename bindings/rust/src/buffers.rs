@@ -34,7 +34,7 @@ pub(crate) fn settled<S, A>(mut sizes: S, mut attempt: impl FnMut(S) -> Result<A
             Err(needed) => sizes = needed,
         }
     }
-    Err(Error::Unsettled)
+    Err(Error::unsettled())
 }
 
 /// The status and the text of a call that writes a text into a buffer of a size.
@@ -160,7 +160,7 @@ mod tests {
             assert_eq!(text_of_growing(growing), (Ok("a".to_string()), growing + 1));
         }
         for growing in [ATTEMPTS, ATTEMPTS + 1, 1_000_000] {
-            assert_eq!(text_of_growing(growing), (Err(Error::Unsettled), ATTEMPTS));
+            assert_eq!(text_of_growing(growing), (Err(Error::unsettled()), ATTEMPTS));
         }
     }
 
@@ -175,7 +175,7 @@ mod tests {
                     ListAnswer { status: 0, count: ranges_size + more_texts, length: out_size + more_bytes }
                 })
             };
-            assert_eq!((texts, calls), (Err(Error::Unsettled), ATTEMPTS));
+            assert_eq!((texts, calls), (Err(Error::unsettled()), ATTEMPTS));
         }
     }
 }

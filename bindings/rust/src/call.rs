@@ -3,7 +3,7 @@
 use std::num::NonZeroUsize;
 
 use crate::sys::{self, Text};
-use crate::{buffers, Error, FoundProgram};
+use crate::{buffers, Error, FoundProgram, Variable};
 
 /// What a plan is written as.
 #[derive(Debug, Clone, Copy, PartialEq, Eq, Hash)]
@@ -40,9 +40,9 @@ pub enum HostCompiler {
 /// let call = PlanCall { dry1, dry2, cwd: "/w", tmp: "/t", flag: "-c", ..PlanCall::default() };
 /// # assert_eq!(call.keep_dir, None);
 /// ```
-#[derive(Debug, Clone, Copy, Default)]
+#[derive(Debug, Clone, Copy, Default, PartialEq, Eq)]
 pub struct PlanCall<'a> {
-    /// What the call prints with `--dryrun --keep`. Any bytes: a line that isn't UTF-8 is [`Error::BadDryRun`].
+    /// What the call prints with `--dryrun --keep`. Any bytes: a line that isn't UTF-8 is [`ErrorKind::BadDryRun`](crate::ErrorKind).
     pub dry1: &'a [u8],
     /// What it prints with `--keep-dir TMP --dryrun --keep`.
     pub dry2: &'a [u8],
@@ -54,8 +54,9 @@ pub struct PlanCall<'a> {
     pub flag: &'a str,
     /// The directory that keeps generated files. If there is none, they get canonical names.
     pub keep_dir: Option<&'a str>,
-    /// The call's environment, names and values, as [`std::env::vars`] gives it.
-    pub variables: &'a [(String, String)],
+    /// The call's environment: [`variables`](crate::variables()) of [`std::env::vars_os`]. Without one, each command has only the
+    /// variables that it adds to it.
+    pub variables: &'a [Variable<'a>],
     /// Suffixes of generated files, behind the standard ones.
     pub suffixes: &'a [&'a str],
     /// Answers each look-up: see [`find_programs`](crate::find_programs). The first row of a look-up counts.
@@ -70,7 +71,6 @@ pub struct PlanCall<'a> {
 impl PlanCall<'_> {
     /// Passes the call as the record of `zigrunk.h`.
     pub(crate) fn with_record<R>(&self, take: impl FnOnce(&sys::PlanCall<'_>) -> R) -> R {
-        let variables = sys::variables(self.variables);
         let suffixes: Vec<_> = self.suffixes.iter().map(|&suffix| Text::from(suffix)).collect();
         let programs: Vec<_> = self.programs.iter().map(row).collect();
         take(&sys::PlanCall {
@@ -80,8 +80,8 @@ impl PlanCall<'_> {
             tmp: self.tmp.into(),
             flag: self.flag.into(),
             keep_dir: self.keep_dir.unwrap_or_default().into(),
-            variables: variables.as_ptr(),
-            variables_count: variables.len(),
+            variables: self.variables.as_ptr(),
+            variables_count: self.variables.len(),
             suffixes: suffixes.as_ptr(),
             suffixes_count: suffixes.len(),
             programs: programs.as_ptr(),
@@ -112,10 +112,17 @@ fn row(program: &FoundProgram) -> sys::FoundProgram<'_> {
 ///
 /// # Errors
 ///
-/// [`Error::BadSuffixes`], [`Error::BadDryRun`], [`Error::NotFound`] and [`Error::OverLimit`] for the first bad line of the first
-/// run or of the second, [`Error::Unwritable`] if the form can't represent the plan, [`Error::OutOfMemory`].
+/// [`ErrorKind::NotUtf8`](crate::ErrorKind) for a variable. `BadSuffixes`, `BadDryRun`, `NotFound` and `OverLimit` for the first bad
+/// line of the first run or of the second, `Unwritable` if the form can't represent the plan, `OutOfMemory`.
+///
+/// ```
+/// # let run = b"#$ PATH=/b\n#$ gcc -D__NVCC__ -E k.cu -o k.cpp1.ii\n";
+/// use zigrunk::{plan_text, ErrorKind, Form, PlanCall};
+/// let call = PlanCall { dry1: run, dry2: run, cwd: "/w", tmp: "/t", flag: "-c", ..PlanCall::default() };
+/// assert_eq!(plan_text(&call, Form::Json).unwrap_err().kind(), ErrorKind::NotFound);
+/// ```
 pub fn plan_text(call: &PlanCall<'_>, form: Form) -> Result<String, Error> {
-    let variables: usize = call.variables.iter().map(|(name, value)| name.len() + value.len() + 8).sum();
+    let variables: usize = call.variables.iter().map(|it| it.length() + 8).sum();
     let estimate = call.dry_length() * 4 + variables * 16;
     // SAFETY: the record and all that it points to live through the call, and the buffer is exclusive.
     call.with_record(|record| unsafe {

@@ -36,7 +36,7 @@ macro_rules! records {
 
 records! {
     "zigrunk_text" sys::Text<'_> { bytes, length }
-    "zigrunk_variable" sys::Variable<'_> { name, value }
+    "zigrunk_variable" crate::Variable<'_> { name, value }
     "zigrunk_found_program" sys::FoundProgram<'_> { program, path, found, is_found, reserved }
     "zigrunk_plan_call" sys::PlanCall<'_> {
         dry1, dry2, cwd, tmp, flag, keep_dir, variables, variables_count, suffixes, suffixes_count, programs, programs_count, keeps,

@@ -6,14 +6,23 @@
 //!
 //! ```no_run
 //! use std::process::Command;
-//! use zigrunk::{find_programs, plan, PlanCall};
+//! use zigrunk::{find_programs, plan, variables, PlanCall};
+//!
+//! /// What nvcc prints on standard error.
+//! fn dry_run(words: &[&str]) -> Result<Vec<u8>, Box<dyn std::error::Error>> {
+//!     let ran = Command::new("nvcc").args(words).output()?;
+//!     if !ran.status.success() {
+//!         return Err(String::from_utf8_lossy(&ran.stderr).into());
+//!     }
+//!     Ok(ran.stderr)
+//! }
 //!
 //! let (cwd, tmp) = ("/w", "/t");
-//! let dry1 = Command::new("nvcc").args(["--dryrun", "--keep", "-c", "k.cu"]).output()?.stderr;
-//! let dry2 = Command::new("nvcc").args(["--keep-dir", tmp, "--dryrun", "--keep", "-c", "k.cu"]).output()?.stderr;
+//! let dry1 = dry_run(&["--dryrun", "--keep", "-c", "k.cu"])?;
+//! let dry2 = dry_run(&["--keep-dir", tmp, "--dryrun", "--keep", "-c", "k.cu"])?;
 //! let programs = find_programs(&dry1, &dry2, cwd)?;
-//! let variables: Vec<_> = std::env::vars().collect();
-//! let (dry1, dry2, variables, programs) = (&dry1, &dry2, &variables, &programs);
+//! let environment: Vec<_> = std::env::vars_os().collect();
+//! let (dry1, dry2, variables, programs) = (&dry1, &dry2, &variables(&environment), &programs);
 //! let call = PlanCall { dry1, dry2, cwd, tmp, flag: "-c", variables, programs, ..PlanCall::default() };
 //! for (number, group) in plan(&call)?.groups().enumerate() {
 //!     for command in group.commands() {
@@ -45,10 +54,11 @@ mod programs;
 mod sys;
 mod texts;
 mod tools;
+mod variable;
 mod words;
 
 pub use call::{plan_text, Form, HostCompiler, PlanCall};
-pub use error::Error;
+pub use error::{Error, ErrorKind};
 pub use line::{line_records, ColorMode, Language, Line, Output};
 pub use needs::needs;
 pub use plan::{plan, Command, Commands, Group, Groups, Plan, Reason, Stage, Variables};
@@ -57,6 +67,7 @@ pub use programs::{
 };
 pub use texts::{Texts, TextsIter};
 pub use tools::{line, line_words, nvcc_line, remap, LineCall, NvccCall, NvccLine, Tool};
+pub use variable::{variables, Variable};
 pub use words::{quote, split};
 
 /// The library's version, such as `0.1.0`.
@@ -78,7 +89,7 @@ pub fn abi_version() -> u32 {
 ///
 /// # Errors
 ///
-/// [`Error::BadNumber`] if there is no such status, [`Error::OutOfMemory`].
+/// [`ErrorKind::BadNumber`] if there is no such status, [`ErrorKind::OutOfMemory`].
 pub fn message(status: i32) -> Result<String, Error> {
     // SAFETY: the buffer is exclusive.
     unsafe { buffers::text_or_error(0, |out, size| sys::zigrunk_message(status, out, size)) }

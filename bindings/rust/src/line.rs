@@ -68,8 +68,8 @@ pub struct Line {
 ///
 /// # Errors
 ///
-/// [`Error::BadLine`] if the line compiles nothing or no cache can serve it, [`Error::OutOfMemory`].
-pub fn line_records(call: &LineCall<'_>) -> Result<Line, Error> {
+/// [`ErrorKind::BadLine`](crate::ErrorKind) if the line compiles nothing or no cache can serve it, [`ErrorKind::OutOfMemory`](crate::ErrorKind).
+pub fn line_records<S: AsRef<str>>(call: &LineCall<'_, S>) -> Result<Line, Error> {
     let sizes = (8, call.words.len() * 2 + 32, call.estimate() * 2 + 1024);
     // SAFETY: the record and all that it points to live through the call.
     call.with_record(|record| buffers::settled(sizes, |sizes| unsafe { try_line(record, sizes) })?)

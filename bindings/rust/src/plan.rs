@@ -10,6 +10,7 @@ use crate::{buffers, Error, PlanCall, TextsIter};
 
 /// What a group of a plan is.
 #[derive(Debug, Clone, Copy, PartialEq, Eq, Hash)]
+#[non_exhaustive]
 pub enum Stage {
     /// The first: the preprocessor for the host, and cudafe++.
     Front,
@@ -17,6 +18,8 @@ pub enum Stage {
     Device,
     /// The last: fatbinary, and the host compiler.
     Final,
+    /// A number that a later library may have.
+    Other(u32),
 }
 
 /// Why a plan dropped a command.
@@ -50,8 +53,8 @@ pub struct Plan {
 ///
 /// # Errors
 ///
-/// [`Error::BadSuffixes`], [`Error::BadDryRun`], [`Error::NotFound`] and [`Error::OverLimit`] for the first bad line of the first
-/// run or of the second, [`Error::OutOfMemory`].
+/// [`ErrorKind::BadSuffixes`](crate::ErrorKind), [`ErrorKind::BadDryRun`](crate::ErrorKind), [`ErrorKind::NotFound`](crate::ErrorKind) and [`ErrorKind::OverLimit`](crate::ErrorKind) for the first bad line of the first
+/// run or of the second, [`ErrorKind::OutOfMemory`](crate::ErrorKind).
 pub fn plan(call: &PlanCall<'_>) -> Result<Plan, Error> {
     // SAFETY: the record and all that it points to live through the call.
     call.with_record(|record| buffers::settled(estimate(call), |sizes| unsafe { try_plan(record, sizes) })?)
@@ -62,7 +65,7 @@ pub fn plan(call: &PlanCall<'_>) -> Result<Plan, Error> {
 fn estimate(call: &PlanCall<'_>) -> sys::RecordsAnswer {
     let length = call.dry_length();
     let commands = length / 256 + 16;
-    let variables: usize = call.variables.iter().map(|(name, value)| name.len() + value.len()).sum();
+    let variables: usize = call.variables.iter().map(crate::Variable::length).sum();
     sys::RecordsAnswer {
         status: 0,
         groups: commands / 2,
@@ -165,6 +168,15 @@ pub struct Group<'a> {
     plan: &'a Plan,
 }
 
+impl PartialEq for Group<'_> {
+    /// Whether they say the same, also of different plans.
+    fn eq(&self, other: &Self) -> bool {
+        self.stage() == other.stage() && self.commands().eq(other.commands())
+    }
+}
+
+impl Eq for Group<'_> {}
+
 impl<'a> Group<'a> {
     /// What the group is.
     #[must_use]
@@ -172,7 +184,8 @@ impl<'a> Group<'a> {
         match self.record.stage {
             0 => Stage::Front,
             1 => Stage::Device,
-            _ => Stage::Final,
+            2 => Stage::Final,
+            other => Stage::Other(other),
         }
     }
 
@@ -196,6 +209,20 @@ pub struct Command<'a> {
     record: &'a sys::Command,
     plan: &'a Plan,
 }
+
+impl PartialEq for Command<'_> {
+    /// Whether they say the same, also of different plans.
+    fn eq(&self, other: &Self) -> bool {
+        let places = |it: &Self| (it.group(), it.reason(), it.is_cacheable(), it.run(), it.line());
+        self.program() == other.program()
+            && self.cwd() == other.cwd()
+            && self.arguments().eq(other.arguments())
+            && self.variables().eq(other.variables())
+            && places(self) == places(other)
+    }
+}
+
+impl Eq for Command<'_> {}
 
 impl<'a> Command<'a> {
     /// The program's path.

@@ -3,6 +3,8 @@
 use std::marker::PhantomData;
 use std::num::NonZeroUsize;
 
+use crate::Variable;
+
 /// A text of the caller.
 #[repr(C)]
 #[derive(Clone, Copy)]
@@ -16,25 +18,22 @@ impl<'a> Text<'a> {
     pub(crate) fn new(bytes: &'a [u8]) -> Self {
         Text { bytes: bytes.as_ptr(), length: bytes.len(), of: PhantomData }
     }
+
+    pub(crate) fn bytes(self) -> &'a [u8] {
+        // SAFETY: `new` took them from such a slice.
+        unsafe { std::slice::from_raw_parts(self.bytes, self.length) }
+    }
 }
+
+// SAFETY: it is a slice of bytes that nobody changes.
+unsafe impl Send for Text<'_> {}
+// SAFETY: as above.
+unsafe impl Sync for Text<'_> {}
 
 impl<'a> From<&'a str> for Text<'a> {
     fn from(text: &'a str) -> Self {
         Text::new(text.as_bytes())
     }
-}
-
-/// An environment variable.
-#[repr(C)]
-#[derive(Clone, Copy)]
-pub(crate) struct Variable<'a> {
-    pub(crate) name: Text<'a>,
-    pub(crate) value: Text<'a>,
-}
-
-/// Variables as records.
-pub(crate) fn variables(pairs: &[(String, String)]) -> Vec<Variable<'_>> {
-    pairs.iter().map(|(name, value)| Variable { name: name.as_str().into(), value: value.as_str().into() }).collect()
 }
 
 /// A limit as a number: 0 if there is none.

@@ -1,7 +1,7 @@
 //! Lines of tools: what they say, and how to plan a line of nvcc.
 
 use crate::sys::{self, Text};
-use crate::{buffers, Error, Texts};
+use crate::{buffers, Error, Texts, Variable};
 
 /// A tool that lines are of.
 #[derive(Debug, Clone, Copy, PartialEq, Eq, Hash)]
@@ -22,28 +22,43 @@ pub enum Tool {
 }
 
 /// A line of a tool.
-#[derive(Debug, Clone, Copy)]
-pub struct LineCall<'a> {
+///
+/// ```
+/// use zigrunk::{line_words, LineCall, Tool};
+/// let words = ["-arch=sm_80", "k.ptx", "-o", "k.cubin"];
+/// let call = LineCall { tool: Tool::Ptxas, cwd: "/w", words: &words, ..LineCall::default() };
+/// assert!(line_words(&call)?.iter().any(|word| word == "/w/k.cubin"));
+/// # Ok::<(), zigrunk::Error>(())
+/// ```
+#[derive(Debug, Clone, Copy, PartialEq, Eq)]
+pub struct LineCall<'a, S> {
     /// The tool.
     pub tool: Tool,
     /// The working directory, an absolute path.
     pub cwd: &'a str,
     /// The line's words without the tool's name.
-    pub words: &'a [String],
+    pub words: &'a [S],
     /// The environment. nvcc reads `NVCC_PREPEND_FLAGS` and `NVCC_APPEND_FLAGS`, the others none.
-    pub variables: &'a [(String, String)],
+    pub variables: &'a [Variable<'a>],
 }
 
-impl LineCall<'_> {
+impl<S> Default for LineCall<'_, S> {
+    /// A line of nvcc without a word.
+    fn default() -> Self {
+        LineCall { tool: Tool::Nvcc, cwd: "", words: &[], variables: &[] }
+    }
+}
+
+impl<S: AsRef<str>> LineCall<'_, S> {
     /// Passes the call as the record of `zigrunk.h`.
     pub(crate) fn with_record<R>(&self, take: impl FnOnce(&sys::LineCall<'_>) -> R) -> R {
-        let (words, variables) = (texts(self.words), sys::variables(self.variables));
+        let words = texts(self.words);
         take(&sys::LineCall {
             cwd: self.cwd.into(),
             words: words.as_ptr(),
             words_count: words.len(),
-            variables: variables.as_ptr(),
-            variables_count: variables.len(),
+            variables: self.variables.as_ptr(),
+            variables_count: self.variables.len(),
             tool: self.tool as u32,
             reserved: 0,
         })
@@ -51,7 +66,7 @@ impl LineCall<'_> {
 
     /// Room for a path in front of each word.
     pub(crate) fn estimate(&self) -> usize {
-        self.words.iter().map(|word| word.len() + self.cwd.len() + 8).sum()
+        self.words.iter().map(|word| word.as_ref().len() + self.cwd.len() + 8).sum()
     }
 }
 
@@ -64,8 +79,8 @@ fn texts<S: AsRef<str>>(words: &[S]) -> Vec<Text<'_>> {
 ///
 /// # Errors
 ///
-/// [`Error::BadLine`] if the line compiles nothing or no cache can serve it, [`Error::OutOfMemory`].
-pub fn line(call: &LineCall<'_>) -> Result<String, Error> {
+/// [`ErrorKind::BadLine`](crate::ErrorKind) if the line compiles nothing or no cache can serve it, [`ErrorKind::OutOfMemory`](crate::ErrorKind).
+pub fn line<S: AsRef<str>>(call: &LineCall<'_, S>) -> Result<String, Error> {
     // SAFETY: the record and all that it points to live through the call, and the buffer is exclusive.
     call.with_record(|record| unsafe {
         buffers::text_or_error(call.estimate() * 2 + 1024, |out, size| sys::zigrunk_line(record, out, size))
@@ -76,8 +91,8 @@ pub fn line(call: &LineCall<'_>) -> Result<String, Error> {
 ///
 /// # Errors
 ///
-/// [`Error::BadLine`] as for [`line()`], and if the line has no output; [`Error::OutOfMemory`].
-pub fn line_words(call: &LineCall<'_>) -> Result<Texts, Error> {
+/// [`ErrorKind::BadLine`](crate::ErrorKind) as for [`line()`], and if the line has no output; [`ErrorKind::OutOfMemory`](crate::ErrorKind).
+pub fn line_words<S: AsRef<str>>(call: &LineCall<'_, S>) -> Result<Texts, Error> {
     // SAFETY: the record and all that it points to live through the call, and the two buffers are exclusive.
     call.with_record(|record| unsafe {
         buffers::list(call.words.len() * 2 + 16, call.estimate() + 1024, |ranges, count, out, size| {
@@ -87,8 +102,15 @@ pub fn line_words(call: &LineCall<'_>) -> Result<Texts, Error> {
 }
 
 /// A line of nvcc that is to be planned.
-#[derive(Debug, Clone, Copy, Default)]
-pub struct NvccCall<'a> {
+///
+/// ```
+/// use zigrunk::{nvcc_line, NvccCall};
+/// let line = nvcc_line(&NvccCall { cwd: "/w", tmp: "/t", nvcc: "nvcc", words: &["-c", "k.cu"], ..NvccCall::default() })?;
+/// assert_eq!((line.flag(), line.dependencies()), ("-c", None));
+/// # Ok::<(), zigrunk::Error>(())
+/// ```
+#[derive(Debug, Clone, Copy, PartialEq, Eq)]
+pub struct NvccCall<'a, S> {
     /// The working directory, an absolute path.
     pub cwd: &'a str,
     /// The temporary directory, an absolute path.
@@ -96,9 +118,16 @@ pub struct NvccCall<'a> {
     /// nvcc's path or name.
     pub nvcc: &'a str,
     /// The line's words without nvcc's name.
-    pub words: &'a [String],
+    pub words: &'a [S],
     /// The environment. `NVCC_PREPEND_FLAGS`, `NVCC_APPEND_FLAGS`, `ZIGRUNK_JOBS` and `MAKEFLAGS` count.
-    pub variables: &'a [(String, String)],
+    pub variables: &'a [Variable<'a>],
+}
+
+impl<S> Default for NvccCall<'_, S> {
+    /// A line without a word, of the nvcc on `PATH`.
+    fn default() -> Self {
+        NvccCall { cwd: "", tmp: "", nvcc: "nvcc", words: &[], variables: &[] }
+    }
 }
 
 /// How to plan a line of nvcc. The commands are texts for a POSIX shell.
@@ -153,20 +182,20 @@ impl NvccLine {
 ///
 /// # Errors
 ///
-/// [`Error::ToNvcc`], with the reason, if the line doesn't compile one source; [`Error::OutOfMemory`].
-pub fn nvcc_line(call: &NvccCall<'_>) -> Result<NvccLine, Error> {
-    let (words, variables) = (texts(call.words), sys::variables(call.variables));
+/// [`ErrorKind::ToNvcc`](crate::ErrorKind), with the reason, if the line doesn't compile one source; [`ErrorKind::OutOfMemory`](crate::ErrorKind).
+pub fn nvcc_line<S: AsRef<str>>(call: &NvccCall<'_, S>) -> Result<NvccLine, Error> {
+    let words = texts(call.words);
     let record = sys::NvccCall {
         cwd: call.cwd.into(),
         tmp: call.tmp.into(),
         nvcc: call.nvcc.into(),
         words: words.as_ptr(),
         words_count: words.len(),
-        variables: variables.as_ptr(),
-        variables_count: variables.len(),
+        variables: call.variables.as_ptr(),
+        variables_count: call.variables.len(),
         reserved: 0,
     };
-    let estimate = call.words.iter().map(|word| word.len() + 4).sum::<usize>() * 4 + 1024;
+    let estimate = call.words.iter().map(|word| word.as_ref().len() + 4).sum::<usize>() * 4 + 1024;
     // SAFETY: the record and all that it points to live through the call, and the two buffers are exclusive.
     let texts = unsafe {
         buffers::list(6, estimate, |ranges, count, out, size| sys::zigrunk_nvcc_line(&record, ranges, count, out, size))
@@ -179,8 +208,8 @@ pub fn nvcc_line(call: &NvccCall<'_>) -> Result<NvccLine, Error> {
 ///
 /// # Errors
 ///
-/// [`Error::BadSuffixes`], [`Error::OutOfMemory`].
-pub fn remap<S: AsRef<str>>(words: &[S], suffixes: &[&str]) -> Result<Texts, Error> {
+/// [`ErrorKind::BadSuffixes`](crate::ErrorKind), [`ErrorKind::OutOfMemory`](crate::ErrorKind).
+pub fn remap<S: AsRef<str>, T: AsRef<str>>(words: &[S], suffixes: &[T]) -> Result<Texts, Error> {
     let (words, suffixes) = (texts(words), texts(suffixes));
     let estimate = words.iter().map(|word| word.length + 8).sum();
     // SAFETY: the words and suffixes live through the call, and the two buffers are exclusive.

@@ -13,7 +13,7 @@ use crate::{buffers, Error, Texts};
 ///
 /// # Errors
 ///
-/// [`Error::OpenQuote`] if the text ends inside quotes or in a backslash, [`Error::OutOfMemory`].
+/// [`ErrorKind::OpenQuote`](crate::ErrorKind) if the text ends inside quotes or in a backslash, [`ErrorKind::OutOfMemory`](crate::ErrorKind).
 pub fn split(text: &str) -> Result<Texts, Error> {
     // SAFETY: the text is a slice, and the two buffers are exclusive. A word takes at least a byte of the text and a space, and
     // no more bytes than there.
@@ -33,7 +33,7 @@ pub fn split(text: &str) -> Result<Texts, Error> {
 ///
 /// # Errors
 ///
-/// [`Error::OutOfMemory`].
+/// [`ErrorKind::OutOfMemory`](crate::ErrorKind).
 pub fn quote<I>(words: I) -> Result<String, Error>
 where
     I: IntoIterator,

@@ -1,6 +1,8 @@
 //! Lines of tools, and canonical names.
 
-use zigrunk::{line, line_records, line_words, nvcc_line, remap, ColorMode, Error, Language, LineCall, NvccCall, Output, Tool};
+use zigrunk::{
+    line, line_records, line_words, nvcc_line, remap, ColorMode, ErrorKind, Language, LineCall, NvccCall, Output, Tool, Variable,
+};
 
 fn words(text: &str) -> Vec<String> {
     text.split(' ').map(String::from).collect()
@@ -12,9 +14,9 @@ fn a_line_of_cicc() {
     let call = LineCall { tool: Tool::Cicc, cwd: "/w", words: &words, variables: &[] };
     assert!(line(&call).unwrap().contains(r#""/w/k.ptx""#));
     assert!(line_words(&call).unwrap().iter().any(|word| word == "/w/k.ptx"));
-    assert!(matches!(line(&LineCall { words: &[], ..call }), Err(Error::BadLine(_))));
+    assert_eq!(line(&LineCall { words: &[], ..call }).unwrap_err().kind(), ErrorKind::BadLine);
     for tool in [Tool::Ptxas, Tool::CudaFe, Tool::Nvcc, Tool::Nvc, Tool::Nvcxx] {
-        assert!(matches!(line_words(&LineCall { tool, words: &[], ..call }), Err(Error::BadLine(_))), "{tool:?}");
+        assert_eq!(line_words(&LineCall { tool, words: &[], ..call }).unwrap_err().kind(), ErrorKind::BadLine, "{tool:?}");
     }
 }
 
@@ -53,7 +55,8 @@ fn lines_of_device_tools_as_values() {
     assert!(line.extra_hash_files().eq(["/w/m"]) && line.extra_dist_files().eq(["/w/m"]));
     assert!(matches!(line_records(&LineCall { tool: Tool::CudaFe, ..call }).map(|line| line.language()), Ok(Language::CudaFe)));
     let refused = line_records(&LineCall { words: &[], ..call });
-    assert_eq!(refused, Err(Error::BadLine("not a compilation".into())));
+    let error = refused.unwrap_err();
+    assert_eq!((error.kind(), error.message()), (ErrorKind::BadLine, "not a compilation"));
     let long: Vec<String> = (0..2000).map(|number| format!("-DNAME_{number}")).chain(given.clone()).collect();
     assert_eq!(line_records(&LineCall { words: &long, ..call }).unwrap().common_args().len(), 2003);
 }
@@ -67,16 +70,17 @@ fn a_line_of_nvcc() {
     assert!(line.first_dry_run().ends_with("--dryrun --keep )") && !line.first_dry_run().contains("--keep-dir"));
     assert!(line.second_dry_run().contains("--keep-dir /t --dryrun --keep"));
     assert_eq!((line.flag(), line.jobs(), line.keep_dir()), ("-c", Some("2"), None));
-    let variables = [("NVCC_APPEND_FLAGS".to_string(), "--keep-dir /k --keep".to_string())];
-    let kept = nvcc_line(&NvccCall { words: &words("-c k.cu"), variables: &variables, ..call }).unwrap();
+    let given = [Variable::new("NVCC_APPEND_FLAGS", "--keep-dir /k --keep")];
+    let kept = nvcc_line(&NvccCall { words: &words("-c k.cu"), variables: &given, ..call }).unwrap();
     assert_eq!((kept.dependencies(), kept.keep_dir()), (None, Some("/k")));
     let passed = nvcc_line(&NvccCall { words: &words("-E k.cu"), ..call });
-    assert_eq!(passed, Err(Error::ToNvcc("goes to nvcc: its phase isn't split".into())));
+    let error = passed.unwrap_err();
+    assert_eq!((error.kind(), error.message()), (ErrorKind::ToNvcc, "goes to nvcc: its phase isn't split"));
 }
 
 #[test]
 fn canonical_names() {
     let renamed = remap(&["cicc", "k.cpp1.ii", "-I=k.cpp1.ii", "k.gpu"], &[".gpu"]).unwrap();
     assert_eq!(renamed.iter().collect::<Vec<_>>(), ["cicc", "x_0.cpp1.ii", "-I=x_0.cpp1.ii", "x_0.gpu"]);
-    assert!(matches!(remap(&["a"], &["gpu"]), Err(Error::BadSuffixes(_))));
+    assert_eq!(remap(&["a"], &["gpu"]).unwrap_err().kind(), ErrorKind::BadSuffixes);
 }

@@ -5,8 +5,8 @@ use std::num::NonZeroUsize;
 use std::path::PathBuf;
 
 use zigrunk::{
-    candidates, find_programs, find_programs_within, lookups, lookups_within, needs, plan, plan_text, Command, Error, Form,
-    FoundProgram, HostCompiler, Plan, PlanCall, Reason, Stage,
+    candidates, find_programs, find_programs_within, lookups, lookups_within, needs, plan, plan_text, variables, Command, Error,
+    ErrorKind, Form, FoundProgram, HostCompiler, Plan, PlanCall, Reason, Stage, Variable,
 };
 
 const RUN: &[u8] = b"#$ PATH=/b\n#$ gcc -D__NVCC__ -E k.cu -o k.cpp1.ii\n#$ cicc --x k.gpu k.cpp1.ii -o k.ptx\n";
@@ -15,6 +15,12 @@ const RUN: &[u8] = b"#$ PATH=/b\n#$ gcc -D__NVCC__ -E k.cu -o k.cpp1.ii\n#$ cicc
 fn first_candidates(dry1: &[u8], dry2: &[u8]) -> Vec<FoundProgram> {
     let first = |lookup| FoundProgram { found: Some(candidates(&lookup, "/w").unwrap()[0].to_string()), lookup };
     lookups(dry1, dry2, "/w").unwrap().into_iter().map(first).collect()
+}
+
+/// The kind and the message of an error.
+fn said<T: std::fmt::Debug>(answer: Result<T, Error>) -> (ErrorKind, String) {
+    let error = answer.unwrap_err();
+    (error.kind(), error.to_string())
 }
 
 fn call<'a>(run: &'a [u8], programs: &'a [FoundProgram]) -> PlanCall<'a> {
@@ -102,8 +108,8 @@ fn records_of_a_small_call() {
     let run =
         b"#$ PATH=/b\n#$ gcc -D__NVCC__ -E k.cu -o k.cpp1.ii\n#$ cicc k.cpp1.ii -o k.ptx\n#$ cicc none.ii -o n.ptx\n#$ rm k\n";
     let programs = first_candidates(run, run);
-    let variables = [("PATH", "/old"), ("A", "1")].map(|(name, value)| (name.to_string(), value.to_string()));
-    let plan = plan(&PlanCall { variables: &variables, ..call(run, &programs) }).unwrap();
+    let given = [Variable::new("PATH", "/old"), Variable::new("A", "1")];
+    let plan = plan(&PlanCall { variables: &given, ..call(run, &programs) }).unwrap();
     let cicc = plan.commands().next_back().unwrap();
     assert_eq!((cicc.program(), cicc.cwd(), cicc.group(), cicc.is_cacheable()), ("/b/cicc", "/t", Some(1), true));
     assert_eq!(cicc.arguments().collect::<Vec<_>>(), ["x_0.cpp1.ii", "-o", "k.ptx"]);
@@ -112,6 +118,8 @@ fn records_of_a_small_call() {
     assert!(cicc.run() == 1 || cicc.run() == 2);
     assert!(plan.dropped().any(|command| command.reason() == Some(Reason::NoCiccGroup)), "{plan:?}");
     assert_eq!(plan, plan.clone());
+    assert!(plan.commands().eq(plan.clone().commands()) && plan.groups().eq(plan.clone().groups()));
+    assert!(plan.commands().next() != Some(cicc) && plan.groups().next() != plan.groups().nth(1));
     let shown = concat!(
         r#"Command { program: "/b/cicc", arguments: ["x_0.cpp1.ii", "-o", "k.ptx"], variables: [("PATH", "/b"), ("A", "1")], "#,
         r#"cwd: "/t", group: Some(1), reason: None, is_cacheable: true, run: 1, line: 2 }"#,
@@ -152,8 +160,8 @@ fn words_that_look_like_needs() {
     };
     let (dry1, dry2) = (run(""), run("/t/"));
     let programs = first_candidates(dry1.as_bytes(), dry2.as_bytes());
-    let variables = [("needs".to_string(), "[6]".to_string())];
-    let call = PlanCall { variables: &variables, dry2: dry2.as_bytes(), ..call(dry1.as_bytes(), &programs) };
+    let given = [Variable::new("needs", "[6]")];
+    let call = PlanCall { variables: &given, dry2: dry2.as_bytes(), ..call(dry1.as_bytes(), &programs) };
     let json = plan_text(&call, Form::Json).unwrap();
     assert!(json.contains(r#"\"needs\":[7]"#), "{json}");
     assert_eq!(needs(&call).unwrap(), [vec![], vec![0]]);
@@ -161,31 +169,40 @@ fn words_that_look_like_needs() {
 
 #[test]
 fn needs_of_calls_without_a_plan() {
-    assert_eq!(needs(&call(RUN, &[])), Err(Error::NotFound("gcc: not found".into())));
+    assert_eq!(said(needs(&call(RUN, &[]))), (ErrorKind::NotFound, "gcc: not found".to_string()));
 }
 
 #[test]
 fn errors_of_records() {
-    assert_eq!(plan(&call(RUN, &[])), Err(Error::NotFound("gcc: not found".into())));
+    assert_eq!(said(plan(&call(RUN, &[]))), (ErrorKind::NotFound, "gcc: not found".to_string()));
     let programs = first_candidates(RUN, RUN);
     let bad = PlanCall { suffixes: &["gpu"], ..call(RUN, &programs) };
-    assert_eq!(plan(&bad), Err(Error::BadSuffixes("bad generated suffixes".into())));
+    assert_eq!(said(plan(&bad)), (ErrorKind::BadSuffixes, "bad generated suffixes".to_string()));
+}
+
+#[test]
+fn a_variable_that_is_not_utf8() {
+    let programs = first_candidates(RUN, RUN);
+    let name: std::ffi::OsString = std::os::unix::ffi::OsStringExt::from_vec(vec![0xFF]);
+    let pairs = [(name, "1")];
+    let unreadable = PlanCall { variables: &variables(&pairs), ..call(RUN, &programs) };
+    assert_eq!(said(plan(&unreadable)), (ErrorKind::NotUtf8, "a text is not UTF-8".to_string()));
 }
 
 #[test]
 fn settings() {
     let programs = first_candidates(RUN, RUN);
-    let variables = [("PATH", "/old"), ("A", "1")].map(|(name, value)| (name.to_string(), value.to_string()));
-    let call = PlanCall { variables: &variables, suffixes: &[".gpu"], ..call(RUN, &programs) };
+    let given = [Variable::new("PATH", "/old"), Variable::new("A", "1")];
+    let call = PlanCall { variables: &given, suffixes: &[".gpu"], ..call(RUN, &programs) };
     let json = plan_text(&call, Form::Json).unwrap();
     assert_eq!(json.matches(r#""env":[["PATH","/b"],["A","1"]]"#).count(), 2, "{json}");
     assert!(json.contains(r#"["--x","x_0.gpu","x_0.cpp1.ii","-o","k.ptx"]"#), "{json}");
     let keeps = PlanCall { keep_dir: Some("/keep"), ..call };
     assert!(plan_text(&keeps, Form::Text).unwrap().contains("cicc --x k.gpu k.cpp1.ii"));
     let bad = PlanCall { suffixes: &["gpu"], ..call };
-    assert_eq!(plan_text(&bad, Form::Text), Err(Error::BadSuffixes("bad generated suffixes".into())));
-    let unwritable = PlanCall { variables: &[(String::new(), "1".into())], ..call };
-    assert!(matches!(plan_text(&unwritable, Form::Shell), Err(Error::Unwritable(_))));
+    assert_eq!(said(plan_text(&bad, Form::Text)), (ErrorKind::BadSuffixes, "bad generated suffixes".to_string()));
+    let unwritable = PlanCall { variables: &[Variable::new("", "1")], ..call };
+    assert_eq!(said(plan_text(&unwritable, Form::Shell)).0, ErrorKind::Unwritable);
 }
 
 #[test]
@@ -200,11 +217,11 @@ fn host_compilers() {
 
 #[test]
 fn programs_that_are_not_there() {
-    assert_eq!(plan_text(&call(RUN, &[]), Form::Json), Err(Error::NotFound("gcc: not found".into())));
+    assert_eq!(said(plan_text(&call(RUN, &[]), Form::Json)), (ErrorKind::NotFound, "gcc: not found".to_string()));
     let none = find_programs(RUN, RUN, "/w").unwrap();
     assert_eq!(none.len(), 2);
     assert!(none.iter().all(|program| program.found.is_none()));
-    assert_eq!(plan_text(&call(RUN, &none), Form::Json), Err(Error::NotFound("gcc: not found".into())));
+    assert_eq!(said(plan_text(&call(RUN, &none), Form::Json)), (ErrorKind::NotFound, "gcc: not found".to_string()));
     let real = b"#$ PATH=/nowhere:/bin\n#$ sh -D__NVCC__ k.cpp1.ii\n";
     let found = find_programs(real, real, "/w").unwrap();
     assert!(plan_text(&call(real, &found), Form::Text).unwrap().contains("/bin/sh"));
@@ -214,7 +231,7 @@ fn programs_that_are_not_there() {
 fn bad_dry_runs() {
     for run in [b"#$ cicc '\n".as_slice(), b"#$ A=\xFF\n"] {
         let error = plan_text(&call(run, &[]), Form::Json).unwrap_err();
-        assert!(matches!(error, Error::BadDryRun(_)), "{error:?}");
+        assert_eq!(error.kind(), ErrorKind::BadDryRun, "{error:?}");
     }
 }
 
@@ -225,8 +242,8 @@ fn long_runs() {
         run.extend(format!("#$ cicc k{number}.cpp1.ii -o k{number}.ptx\n").bytes());
     }
     let programs = first_candidates(&run, &run);
-    let variables = vec![("N".repeat(100), "v".repeat(100)); 4];
-    let call = PlanCall { variables: &variables, ..call(&run, &programs) };
+    let pairs = vec![("N".repeat(100), "v".repeat(100)); 4];
+    let call = PlanCall { variables: &variables(&pairs), ..call(&run, &programs) };
     let json = plan_text(&call, Form::Json).unwrap();
     assert!(json.starts_with('{') && json.ends_with('}'));
     let records = plan(&call).unwrap();
@@ -245,8 +262,8 @@ fn threads_may_call() {
 }
 
 /// The error of a line that exceeds a limit.
-fn over_limit(run: usize, line: usize, limit: usize) -> Error {
-    Error::OverLimit(format!("run {run} line {line}: over the limit of {limit} bytes"))
+fn over_limit(run: usize, line: usize, limit: usize) -> (ErrorKind, String) {
+    (ErrorKind::OverLimit, format!("run {run} line {line}: over the limit of {limit} bytes"))
 }
 
 #[test]
@@ -255,14 +272,14 @@ fn limits_are_exact() {
     let programs = first_candidates(run, run);
     let limited = |limit| PlanCall { limit: NonZeroUsize::new(limit), ..call(run, &programs) };
     assert_eq!(plan(&limited(30)).unwrap(), plan(&limited(0)).unwrap());
-    assert_eq!(plan(&limited(29)), Err(over_limit(1, 1, 29)));
-    assert_eq!(plan_text(&limited(29), Form::Json), Err(over_limit(1, 1, 29)));
-    assert_eq!(plan(&PlanCall { dry1: b"", ..limited(29) }), Err(over_limit(2, 1, 29)));
-    assert_eq!(over_limit(2, 1, 29).status(), 11);
+    assert_eq!(said(plan(&limited(29))), over_limit(1, 1, 29));
+    assert_eq!(said(plan_text(&limited(29), Form::Json)), over_limit(1, 1, 29));
+    assert_eq!(said(plan(&PlanCall { dry1: b"", ..limited(29) })), over_limit(2, 1, 29));
+    assert_eq!(plan(&limited(29)).unwrap_err().status(), 11);
     let asked = |limit| lookups_within(run, run, "/w", NonZeroUsize::new(limit));
     assert_eq!(asked(29), lookups(run, run, "/w"));
-    assert_eq!(asked(28), Err(over_limit(1, 1, 28)));
-    assert_eq!(find_programs_within(run, run, "/w", NonZeroUsize::new(28)), Err(over_limit(1, 1, 28)));
+    assert_eq!(said(asked(28)), over_limit(1, 1, 28));
+    assert_eq!(said(find_programs_within(run, run, "/w", NonZeroUsize::new(28))), over_limit(1, 1, 28));
 }
 
 #[test]
@@ -273,6 +290,6 @@ fn a_text_that_explodes_is_refused() {
     }
     run += "#$ $A.\n";
     let limited = PlanCall { limit: NonZeroUsize::new(2 << 20), ..call(run.as_bytes(), &[]) };
-    assert_eq!(plan(&limited), Err(over_limit(1, 26, 2 << 20)));
-    assert_eq!(plan_text(&limited, Form::Shell), Err(over_limit(1, 26, 2 << 20)));
+    assert_eq!(said(plan(&limited)), over_limit(1, 26, 2 << 20));
+    assert_eq!(said(plan_text(&limited, Form::Shell)), over_limit(1, 26, 2 << 20));
 }

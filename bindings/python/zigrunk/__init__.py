@@ -3,8 +3,9 @@
 nvcc's dry runs go in, and a plan comes out: the commands in groups, and the commands that the plan dropped, each with the
 reason. The module looks no program up by itself: `lookups` says what to look up, and `find` does it on disk.
 
-The environment variable ZIGRUNK_LIBRARY names the shared object, if it isn't where the loader finds `libzigrunk.so.1`.
-Any number of threads may call.
+The module takes the shared object that the environment variable ZIGRUNK_LIBRARY names. If that isn't set, it looks for
+`libzigrunk.so.1` in its own folder, in `lib` of the prefix that it is installed in, in `out/lib` of the repository, and then where
+the loader does. Any number of threads may call.
 """
 
 from __future__ import annotations
@@ -185,8 +186,8 @@ class Command:
 class Group:
     """A group of a plan."""
 
-    stage: Stage
-    """What the group is."""
+    stage: Union[Stage, int]
+    """What the group is. A number if a later library has a stage that this module doesn't know."""
     commands: Tuple[Command, ...]
     """Its commands, which have to run one after the other."""
 
@@ -390,13 +391,42 @@ _CALLS = {
 }
 
 
+_NAME = "libzigrunk.so.1"
+
+
+def _paths() -> List[str]:
+    """Where the library may be. A name without a folder is for the loader."""
+    named = os.environ.get("ZIGRUNK_LIBRARY")
+    if named:
+        return [named]
+    here = os.path.dirname(os.path.realpath(__file__))
+    prefix, repository = (os.path.abspath(os.path.join(here, *[".."] * depth)) for depth in (4, 3))
+    folders = [here, os.path.join(prefix, "lib"), os.path.join(sys.prefix, "lib"), os.path.join(repository, "out", "lib")]
+    return [it for it in (os.path.join(folder, _NAME) for folder in folders) if os.path.isfile(it)] + [_NAME]
+
+
+def _open() -> ctypes.CDLL:
+    reasons = []
+    for path in _paths():
+        try:
+            return ctypes.CDLL(path)
+        except OSError as error:
+            reasons.append(str(error))
+    raise ImportError(
+        f"cannot load libzigrunk ({'; '.join(reasons)}). Set ZIGRUNK_LIBRARY to the path of {_NAME}, or install it where the loader looks. "
+        "`make lib` in the repository of Zigrunk makes it in out/lib.")
+
+
 def _load() -> ctypes.CDLL:
-    library = ctypes.CDLL(os.environ.get("ZIGRUNK_LIBRARY", "libzigrunk.so.1"))
+    library = _open()
     for name, (answer, arguments) in _CALLS.items():
-        call = getattr(library, name)
+        try:
+            call = getattr(library, name)
+        except AttributeError:
+            raise ImportError(f"{library._name} is older than this module: it has no {name}") from None
         call.restype, call.argtypes = answer, arguments
     if library.zigrunk_abi_version() != _ABI_VERSION:
-        raise ImportError(f"libzigrunk has the interface {library.zigrunk_abi_version()}, not {_ABI_VERSION}")
+        raise ImportError(f"{library._name} has the interface {library.zigrunk_abi_version()}, not {_ABI_VERSION}")
     return library
 
 
@@ -575,7 +605,7 @@ def plan_records(call: PlanCall, which: Callable[[Lookup, str], Optional[str]] =
             texts = _texts(ranges, answer.ranges, data)
             made = tuple(_command(it, texts) for it in commands[: answer.commands])
             return Plan(
-                tuple(Group(Stage(it.stage), made[it.commands.offset:it.commands.offset + it.commands.length])
+                tuple(Group(_known(Stage, it.stage), made[it.commands.offset:it.commands.offset + it.commands.length])
                       for it in groups[: answer.groups]),
                 tuple(it for it in made if it.reason is not None),
             )
