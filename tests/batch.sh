@@ -604,7 +604,7 @@ cases() {
     stops TERM 143 builds 2
     stops INT 130 builds 2
     stops HUP 129 builds 2
-    stops TERM 143 plans 3
+    stops TERM 143 plans 1
 }
 
 by_shells cases

@@ -10,7 +10,7 @@
 #   tests/end_to_end.sh [--all] [PROGRAM]
 #
 # PROGRAM is the zigrunk that `make build` and the gate leave, unless given. With --all it makes all calls, builds CMake projects
-# (tests/cmake.sh) and fatbins (tests/needs.sh), and isolates the commands of five calls; the gate makes the quick calls and isolates the
+# (tests/cmake.sh, tests/builds.sh) and fatbins (tests/needs.sh), and isolates the commands of five calls; the gate makes the quick calls and isolates the
 # commands of one.
 cd "$(dirname "$0")/.." || exit 1
 all=''
@@ -122,6 +122,7 @@ else
         calls+=(tests/calls.txt tests/calls_words.txt tests/calls_odd.txt)
         alone=(--leave-out)
         start cmake tests/cmake.sh "$program"
+        start builds tests/builds.sh "$program"
         start needs tests/needs.sh "$program"
     fi
     start signals interrupts TERM INT HUP

@@ -240,15 +240,21 @@ new: || :
 a missing keep directory is ignored
 old: [ -d "${keep_dir:-/}" ] ||
 new: true ||
-the first dry run may fail
-old: [ "$first $second $?" =
-new: [ "0 $second $?" =
+the dry runs may fail
+old: wait "$third" || plain 'a dry run fails' "$@"
+new: wait "$third"
 the second dry run may fail
-old: [ "$first $second $?" =
-new: [ "$first 0 $?" =
+old: "$own/dry2" &
+new: "$own/dry2" || :
 the line's own dry run may fail
-old: [ "$first $second $?" =
-new: [ "$first $second 0" =
+old: for_one_thread "$@" || exit 1
+new: for_one_thread "$@"
+the dry runs aren't waited for
+old: wait "$third" || plain
+new: true || plain
+a dry run goes on after a signal
+old: trap '{ kill "$!"; wait; } 2> /dev/null; exit 143' TERM
+new: trap 'exit 143' TERM
 a line that nvcc reads otherwise is split
 old: reads_alike ||
 new: true ||
@@ -264,12 +270,9 @@ new: ${keep_dir:+/ -E /
 no preprocessor counts if there is a dependency file
 old: /\\.cpp1\\.ii\"\$/!d;
 new: d;
-the line's own dry run isn't waited for
-old: wait "$third" ||
-new: true ||
 a line with threads isn't tried again
-old: || for_one_thread "$@"
-new: 
+old:  || for_one_thread "$@" || exit 1
+new:  || exit 1
 each line is tried again for one thread
 old: grep -q 'Could not open input file .*_stdout$' "$own/warnings" && (
 new: (
@@ -303,9 +306,6 @@ new: unset NVCC_PREPEND_FLAGS
 words of the variables are file names
 old: set -f
 new: :
-the second dry run isn't waited for
-old: first=$?
-new: first=$?; true &
 both dry runs are one
 old: eval "$second_dry_run" > /dev/null
 new: eval "$first_dry_run" > /dev/null
@@ -575,6 +575,9 @@ new: export
 the number of slots is ignored
 old: slots=${ZIGRUNK_SLOTS-}
 new: slots=
+dry runs take no slot
+old: { read -r _; dry_runs "$@"; } &
+new: dry_runs "$@" &
 END
 tries zigrunk-slot tests/slots.sh << 'END'
 there are no slots
@@ -717,6 +720,24 @@ new: calls=$("$zigrunk" calls "$PWD" "$tmp" "$@") || exit 1
 dry runs stay
 old: rm -rf "$own"
 new: :
+edges have no description
+old: [ "$format" != ninja ] || describe
+new: 
+edges have no line
+old: x; G; }
+new: x; }
+a launcher is the program
+old: \(\$\${ZIGRUNK_LAUNCHER-} \)\{0,1\}
+new: \(x\)\{0,1\}
+no description has a target
+old: [ -]arch[ =]
+new: [ -]none[ =]
+no preprocessor has a target
+old: -D__CUDA_ARCH__=
+new: -D__NONE__=
+a plan that fails has the status 0
+old: > "$own/plan" || exit
+new: > "$own/plan"
 a dry run may fail
 old: && fail 1 'zigrunk-plan: a dry run fails'
 new: 

@@ -86,7 +86,7 @@ for word; do line="$line [$word]"; done
 printf '%s\n' "$line" >> "$LOG"
 tmp=${2%/zigrunk.tmp/ninja}
 echo 'Ninja says'
-command=$(sed -n 's/^  command = \(sh .*\)/\1/p' "$2")
+command=$(sed -n 's/^  rspfile_content = \(sh .*\)/{ \1; } > ${out}.out/p' "$2")
 export in="$tmp/zigrunk.tmp/dependencies" out="$tmp/zigrunk.tmp/depended"
 eval "${NINJA_DOES-}"
 exit "${NINJA_STATUS_IS-0}"
@@ -152,6 +152,17 @@ plans() {
         leaves_nothing
         end
     done
+    begin 'the descriptions of zigrunk-plan'
+    local runs='( cd /w && env A=b $${ZIGRUNK_RUNNER-} ' launches='( cd /w && env A=b $${ZIGRUNK_RUNNER-} $${ZIGRUNK_LAUNCHER-} '
+    printf '  line = %s\n' "$runs/usr/bin/gcc -E -D__CUDA_ARCH__=800 k.cu ) && touch b" "$runs'/usr/bin/g++' -E k.cu ) && touch b" \
+        "$launches/a/b/cicc -arch compute_80 k.ii ) && touch b" "$launches/a/ptxas --a -arch=sm_100a k.ptx ) && touch b" > "$room/lines"
+    as=$planner script PLAN_DOES="cat '$room/lines'" ninja -- nvcc -c k.cu
+    same descriptions "$(sed -n 's/^  description = //p' "$room/out")" $'gcc 800\ng++\ncicc compute_80\nptxas sm_100a'
+    same 'the other lines' "$(grep -v '^  description = ' "$room/out")" "$(cat "$room/lines")"$'\nthe plan\nrule run\n  command = ${line}'
+    as=$planner script UNUSABLE=why ninja -- nvcc -c k.cu
+    same 'status and messages without a plan' "$status $(cat "$room/out" "$room/err")" '1 zigrunk: why'
+    leaves_nothing
+    end
     begin 'zigrunk-plan of a line that keeps files'
     as=$planner script KEEP_DIR=/kept json nvcc -c k.cu
     same 'with --keep' "$(grep -c 'json\] \[--keep\] ' "$room/log")" 1
@@ -201,7 +212,7 @@ END
 
     begin 'the files that Ninja and zigrunk read'
     script NINJA_DOES='cat "$tmp/zigrunk.tmp/ninja" > "$LOG.ninja"; cat "$tmp/zigrunk.tmp/dry1" "$tmp/zigrunk.tmp/dry2" > "$LOG.dry"' -c k.cu -o k.o
-    same 'the file' "$(grep -v '^rule dep\|^  command = sh\|^build ' "$room/log.ninja")" "slot = exec perl ${script%/*}/zigrunk-slot '' ''"$'\nthe plan\nthe plan\nrule run\n  command = ${slot} ${out}\n  rspfile = ${out}.sh\n  rspfile_content = ${line}'
+    same 'the file' "$(grep -v '^rule dep\|^build ' "$room/log.ninja")" "slot = exec perl ${script%/*}/zigrunk-slot '' ''"$'\nthe plan\n  command = ${slot} ${out}\n  rspfile = ${out}.sh\n  rspfile_content = sh ${in} && touch ${out}\nthe plan\nrule run\n  command = ${slot} ${out}\n  rspfile = ${out}.sh\n  rspfile_content = ${line}'
     same 'the dry runs' "$(cat "$room/log.dry")" $'#$ cicc k.cpp1.ii -o k.ptx\n#$ cicc k.cpp1.ii -o k.ptx'
     end
 

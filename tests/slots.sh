@@ -42,7 +42,7 @@ ninja)
 esac
 END
 # nvcc reads each line as zigrunk does
-printf '%s\n' '#!/bin/sh' 'case $* in *--dryrun*) echo "#\$ cicc k.cpp1.ii" >&2 ;; esac' > "$scratch/bin/nvcc"
+printf '%s\n' '#!/bin/sh' 'case $* in *--dryrun*) eval "${DRY_RUN-}"; echo "#\$ cicc k.cpp1.ii" >&2 ;; esac' > "$scratch/bin/nvcc"
 chmod +x "$scratch"/bin/*
 export PATH=$scratch/bin:$PATH
 
@@ -130,6 +130,14 @@ same 'status' "$? $(grep -c failed said)" '0 0'
 same commands "$(grep -c '^+' "$LOG")" 48
 at_most 2 2
 same 'files left' "$(ls "$room/tmp")" ''
+end
+
+begin 'dry runs of many calls'
+graph 12
+DRY_RUN='echo "+ dry run" >> "$LOG"; sleep 0.05; echo "- dry run" >> "$LOG"' ZIGRUNK_SLOTS=2 ninja -j12 > said 2>&1
+same 'status' "$? $(grep -c failed said)" '0 0'
+same 'commands and dry runs' "$(grep -c '^+' "$LOG") $(grep -c '^+ dry' "$LOG")" '72 24'
+at_most 2 2
 end
 
 begin 'calls with fewer slots'
