@@ -3,7 +3,7 @@ PREFIX ?= /usr/local
 DESTDIR ?=
 target = $(DESTDIR)$(PREFIX)
 
-.PHONY: help demo build lib check install install-programs install-library uninstall dist bench drivers fuzz-library must-fail refused-memory end-to-end odd-calls random-calls versions cache peer cluster mutants test-install dist-test check-docs lint test
+.PHONY: help demo build lib check install install-programs install-library uninstall dist bench drivers fuzz-library must-fail refused-memory end-to-end odd-calls random-calls versions cache peer cluster field mutants test-install dist-test check-docs lint test
 
 help:
 	@echo 'make demo             run cudaplan, unproved, on two calls; a minute from a fresh clone'
@@ -25,6 +25,8 @@ help:
 	@echo 'make cache            compare rebuilds through sccache with and without zigrunk-nvcc; needs sccache 0.9'
 	@echo 'make peer             build Debian'\''s sccache as it is and on libzigrunk, which it downloads with its crates, 30 MB; run its tests'
 	@echo '                      and calls of nvcc by both; needs nvcc and cargo 1.85. No part of the gate'
+	@echo 'make field            build the CUDA code of real projects by nvcc and by zigrunk-nvcc, and compare; needs nvcc and CMake;'
+	@echo '                      downloads 80 MB from Debian; PROJECTS="bart ceres" builds only these. No part of the gate'
 	@echo 'make cluster          build on a Slurm that it starts on this machine, and let nodes vanish; needs nvcc, slurm-wlm, munge, iproute2; root'
 	@echo 'make mutants          check that the tests catch wrong edits of zigrunk-nvcc, zigrunk-slot, zigrunk-plan and zigrunk-batch'
 	@echo 'make check-docs       check links, quoted code and names in the pages, and the version number'
@@ -156,6 +158,11 @@ peer:
 cluster:
 	@tests/cluster/attempts.sh
 	@tests/cluster.sh
+
+# Outside the gate. It downloads the projects of tests/field from Debian. docs/FIELD.md has what came out.
+field:
+	@.ci/built check programs || $(MAKE) build
+	@tests/field.sh
 
 mutants:
 	@tests/mutants.sh
