@@ -42,22 +42,14 @@ statuses() { sed -n '/^\/\* Statuses/,/^$/s/^#define \(ZIGRUNK_[A-Z_0-9]*\) [0-9
 check 'the man page declares and describes the calls of the library' alike page_calls twice
 check 'the man page lists the statuses of the header' alike page_statuses statuses
 
-# records: the records that a file defines, with their fields.
-records() {
-    sed -n '/^typedef struct/,/^}/p' "$top/$1" | sed 's,/\*.*\*/,,; s/ *$//' | grep -v '^\.PP$'
-}
-header_records() { records bindings/c/zigrunk.h | LC_ALL=C sort; }
-page_records() { records man/zigrunk.h.3 | LC_ALL=C sort; }
-
-# missing_numbers: the numbers of the header that the man page lacks.
-missing_numbers() {
+# unknown_names: the names in the man page that the header lacks.
+unknown_names() {
     local name
-    sed -n 's/^#define \(ZIGRUNK_[A-Z_0-9]*\) [0-9].*/\1/p' "$top/bindings/c/zigrunk.h" | while read -r name; do
-        grep -q "\<$name\>" "$top/man/zigrunk.h.3" || echo "$name"
+    grep -o '\<\(zigrunk\|ZIGRUNK\)_[A-Za-z_0-9]*' "$top/man/zigrunk.h.3" | LC_ALL=C sort -u | while read -r name; do
+        grep -q "\<$name\>" "$top/bindings/c/zigrunk.h" || echo "$name"
     done
 }
-check 'the man page has the records of the header' alike page_records header_records
-check 'the man page names the numbers of the header' prints '' missing_numbers
+check 'the header has the names of the man page' prints '' unknown_names
 # VERSION is the one place for the version number. The packages take it from there; here are the pages and what is installed.
 version=$(cat VERSION)
 for page in man/*; do
