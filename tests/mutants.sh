@@ -501,6 +501,12 @@ new:     found_by='' preprocessed=''
 a host compiler by its path isn't taken
 old: \("\/[A-Za-z0-9_.\/+-]*"\/\)\{0,1\}
 new: 
+a relative helper stays so
+old: [ "$helper" = "${helper#[!/]}" ] || helper=$PWD/$helper
+new: :
+a lock that others share
+old: flock -n 9 2>
+new: flock -s -n 9 2>
 any -ccbin is taken for the host compiler's
 old: *" -ccbin $host "*) bin=$host ;;
 new: *) bin=$host ;;
@@ -554,6 +560,9 @@ old: exit "$status"
 new: exit
 END
 tries zigrunk-nvcc tests/slots.sh << 'END'
+the words behind the number of jobs are part of it
+old:  && most=${most%%[!0-9]*}
+new: 
 Ninja goes on after the script was killed
 old: ${helper:+perl "$helper" --child-of "$$"}
 new: 
@@ -638,8 +647,8 @@ words of a variable are patterns
 old: [^A-Za-z0-9_.\/+=:,@% -]/ ? () :
 new: \0/ ? () :
 a word's end is lost
-old: &&|\\)) /gc;
-new: &&|\\))/gc;
+old: &&|\)) /gc;
+new: &&|\))/gc;
 any command has no shell
 old: eq 'cd && env ) && touch';
 new: ne '';
@@ -704,7 +713,83 @@ the command alone gets a signal
 old: getpgrp == $$ ? -$$ : $child
 new: $child
 END
+tries zigrunk-slot tests/slots.sh << 'END'
+a process waits for the first slot
+old: my ($lock, $try) = (2, 6);
+new: my ($lock, $try) = (2, 2);
+the number of slots is that of processors
+old:     return $text if $text =~ /^\d+$/;
+new: 
+there is one slot
+old: reverse 1 .. $count
+new: reverse 1 .. 1
+the status has the signal's bits
+old: 128 + ($state & 127) : $state >> 8
+new: 128 + ($state & 127) : $state & 255
+a shell's command has a stamp
+old:     return $status unless $command;
+new: 
+nothing is made of what is preprocessed
+old:     preprocessed($call, @ARGV);
+new: 
+a split call has no line in the log
+old:     log_split(@ARGV);
+new: 
+a terminal's other end is closed
+old: run($out, $slave, $command) unless $child;
+new: run($out, undef, $command) unless $child;
+what goes to the terminal is lost
+old:     copy($master, $file);
+new: 
+a token of make is not enough
+old:         return if sysread $pipe, $token, 1;
+new:         sysread $pipe, $token, 1;
+words are taken from behind
+old:         my $word = shift;
+new:         my $word = pop;
+a hint has no line of its own
+old: json($hint->[1]) . "}\n";
+new: json($hint->[1]) . "}";
+nvcc's calls take no time
+old: \"end\":" . now . ",\"status\":$shown
+new: \"end\":" . $begin . ",\"status\":$shown
+there is no terminal
+old: '/dev/pts/' . unpack
+new: '/dev/none/' . unpack
+a slot is held for ever
+old:     1 while syswrite STDOUT, "\n" x 4096;
+new:     syswrite STDOUT, "\n"; sleep 60;
+a slot is not held
+old:     1 while syswrite STDOUT, "\n" x 4096;
+new:     syswrite STDOUT, "\n";
+END
+tries zigrunk-report tests/slots.sh << 'END'
+lines that are no entries aren't counted
+old:     return calls, hints, bad
+new:     return calls, hints, 0
+commands aren't looked at
+old:     for command in call["commands"]:
+new:     for command in []:
+rows of the trace in another order
+old: key=lambda row: float(row[0]["begin"])
+new: key=lambda row: -float(row[0]["begin"])
+the trace has no words
+old:         words = " ".join(call["words"])
+new:         words = ""
+there is no trace
+old:         if options.trace:
+new:         if False:
+the trace is added to another
+old: open(options.trace, "w",
+new: open(options.trace, "a",
+END
 tries zigrunk-plan tests/script.sh << 'END'
+a path is taken for a relative one
+old: /*) ;;
+new: x) ;;
+what nvcc says of a dry run is lost
+old: { sed '/^#\$ /d' "$own/$run" >&2 && fail
+new: { fail
 text is no format
 old: text) format=plan ;;
 new: text) format=text ;;

@@ -216,6 +216,10 @@ END
     same 'the dry runs' "$(cat "$room/log.dry")" $'#$ cicc k.cpp1.ii -o k.ptx\n#$ cicc k.cpp1.ii -o k.ptx'
     end
 
+    begin 'the script by a relative path'
+    as=../../../zigrunk-nvcc script NINJA_DOES='grep "^slot" "$tmp/zigrunk.tmp/ninja" > "$LOG.slot"' -c k.cu -o k.o
+    same 'the helper' "$(cat "$room/log.slot")" "slot = exec perl $room/work/../../../zigrunk-slot '' ''"
+    end
     begin 'directories'
     script NINJA_DOES='stat -c %a "${tmp%/*}" > "$LOG.mode"; echo "$TMPDIR" > "$LOG.tmp"; echo x > "$TMPDIR/x"' -c k.cu -o k.o
     same 'mode' "$(cat "$room/log.mode")" 700

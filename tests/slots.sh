@@ -108,12 +108,72 @@ graph() {
     done
 }
 
+# alike NAME PARENT COMMAND [NAME=VALUE..]: what zigrunk-slot does with the script of a command is what sh does with it, environment and files
+# included. PARENT is the program that runs the command: perl, or the shell if it takes one.
+alike() {
+    local by
+    for by in shell slot; do
+        rm -rf "$room/a dir" "$room/commands"
+        mkdir "$room/a dir" "$room/commands"
+        printf '%s || { code=$?; echo $code > %s/commands/it.status; exit $code; }' "$3" "$room" > "$room/commands/it.sh"
+        if [ "$by" = shell ]; then
+            { env "${@:4}" OF=env sh "$room/commands/it.sh" > "$room/commands/it.out" 2> "$room/commands/it.err"; } 2> /dev/null
+        else
+            env "${@:4}" OF=env perl "${script%/*}/zigrunk-slot" 0 '' "$room/commands/it" > "$room/said" 2>&1
+        fi
+        echo "$?" > "$room/commands/code"
+        parent=$(sed -n 's/^parent //p' "$room/commands/it.out")
+        (cd "$room" && find 'a dir' commands -type f -exec grep -H -v '^parent ' {} + | LC_ALL=C sort) > "$room/$by"
+        (cd "$room" && find 'a dir' commands | LC_ALL=C sort) >> "$room/$by"
+    done
+    same "$1" "$(diff "$room/shell" "$room/slot")" ''
+    [ -z "$2" ] || same "$1: its parent" "$parent" "$2"
+}
+
+begin 'commands without a shell'
+mkdir "$room/bin"
+printf '%s\n' '#!/bin/sh' 'pwd' 'echo "parent $(cat /proc/$PPID/comm)"' 'printf "<%s>\n" "$@"' 'env | grep -v "^_="' 'echo said >&2' \
+    '[ -z "${KILL-}" ] || kill -"$KILL" $$' 'exit ${CODE-0}' > "$room/bin/tool"
+chmod +x "$room/bin/tool"
+front="( cd '$room/a dir' && env 'A=b c' 'Q='\\''q'\\''\"' 'EMPTY=' 'SAME=\$x' PATH=$PATH" variables='${ZIGRUNK_RUNNER-} ${ZIGRUNK_LAUNCHER-}'
+words="$room/bin/tool -Da=b 'a  b' '' 'it'\\''s' '*' '\$HOME' '\\' 'ü'" behind=") && touch '$room/a dir/stamp'"
+alike 'words and variables' perl "$front $variables $words $behind"
+alike 'no launcher' perl "$front \${ZIGRUNK_RUNNER-} $words $behind"
+alike 'another character' sh "$front $variables $words;b $behind"
+alike 'a runner and a launcher' perl "$front $variables $words $behind" ZIGRUNK_RUNNER='env  R=1' ZIGRUNK_LAUNCHER="nice -n 1"
+alike 'a runner of odd words' '' "$front $variables $words $behind" ZIGRUNK_RUNNER='env A=* B=?'
+alike 'a launcher of odd words' '' "$front $variables $words $behind" ZIGRUNK_LAUNCHER=$'env\tA=b'
+alike 'a launcher that is missing' '' "$front $variables $words $behind" ZIGRUNK_LAUNCHER=missing-launcher
+alike 'a launcher by the new PATH' perl "${front%PATH=*}PATH=$room/bin:$PATH $variables $words $behind" ZIGRUNK_LAUNCHER=tool
+alike 'a program that is missing' '' "$front $variables $room/missing a $behind"
+alike 'a program that env takes for a variable' '' "$front $variables ./a=b $behind"
+alike 'a program that env takes for an option' '' "$front $variables -i $behind"
+alike 'a folder that is missing' '' "${front/a dir/missing} $variables $words $behind"
+alike 'a folder with dots' '' "${front/a dir/.\/a dir} $variables $words $behind"
+alike 'a status' perl "$front $variables $words $behind" CODE=7
+alike 'a signal' perl "$front $variables $words $behind" KILL=ABRT
+alike 'a signal without a name' perl "$front $variables $words $behind" KILL=INT
+alike 'no place for the stamp' '' "$front $variables $words ) && touch '$room/missing/stamp'"
+alike 'a word that looks like the end' perl "$front $variables $room/bin/tool ') && touch x' $behind"
+alike 'two commands' '' "$front $variables $room/bin/tool a && env B=c $room/bin/tool b $behind"
+alike 'an odd variable' '' "${front} 'A-B=c' $variables $room/bin/tool $behind"
+alike 'no PWD' perl "$front $variables $words $behind" -u PWD
+end
+
 begin 'a call alone' 0.4
 graph 1
 ZIGRUNK_SLOTS=3 "$script" -c 1.cu -o 1.o > said 2>&1
 same 'status and messages' "$? $(cat said)" '0 '
 same commands "$(grep -c '^+' "$LOG")" 4
 at_most 3 3
+same 'files left' "$(ls "$room/tmp")" ''
+end
+
+begin 'the same call twice at once' 0.4
+graph 1
+for _ in 1 2; do "$script" -c 1.cu -o 1.o > said 2>&1 & done
+wait
+same 'directories and commands' "$(sed -n 's/^+ //p' "$LOG" | sort -u | wc -l) $(grep -c '^-' "$LOG")" '2 8'
 same 'files left' "$(ls "$room/tmp")" ''
 end
 
@@ -229,58 +289,6 @@ at_most 2 2
 unset ZIGRUNK_SLOTS
 end
 
-# alike NAME PARENT COMMAND [NAME=VALUE..]: what zigrunk-slot does with the script of a command is what sh does with it, environment and files
-# included. PARENT is the program that runs the command: perl, or the shell if it takes one.
-alike() {
-    local by
-    for by in shell slot; do
-        rm -rf "$room/a dir" "$room/commands"
-        mkdir "$room/a dir" "$room/commands"
-        printf '%s || { code=$?; echo $code > %s/commands/it.status; exit $code; }' "$3" "$room" > "$room/commands/it.sh"
-        if [ "$by" = shell ]; then
-            { env "${@:4}" OF=env sh "$room/commands/it.sh" > "$room/commands/it.out" 2> "$room/commands/it.err"; } 2> /dev/null
-        else
-            env "${@:4}" OF=env perl "${script%/*}/zigrunk-slot" 0 '' "$room/commands/it" > "$room/said" 2>&1
-        fi
-        echo "$?" > "$room/commands/code"
-        parent=$(sed -n 's/^parent //p' "$room/commands/it.out")
-        (cd "$room" && find 'a dir' commands -type f -exec grep -H -v '^parent ' {} + | LC_ALL=C sort) > "$room/$by"
-        (cd "$room" && find 'a dir' commands | LC_ALL=C sort) >> "$room/$by"
-    done
-    same "$1" "$(diff "$room/shell" "$room/slot")" ''
-    [ -z "$2" ] || same "$1: its parent" "$parent" "$2"
-}
-
-begin 'commands without a shell'
-mkdir "$room/bin"
-printf '%s\n' '#!/bin/sh' 'pwd' 'echo "parent $(cat /proc/$PPID/comm)"' 'printf "<%s>\n" "$@"' 'env | grep -v "^_="' 'echo said >&2' \
-    '[ -z "${KILL-}" ] || kill -"$KILL" $$' 'exit ${CODE-0}' > "$room/bin/tool"
-chmod +x "$room/bin/tool"
-front="( cd '$room/a dir' && env 'A=b c' 'Q='\\''q'\\''\"' 'EMPTY=' 'SAME=\$x' PATH=$PATH" variables='${ZIGRUNK_RUNNER-} ${ZIGRUNK_LAUNCHER-}'
-words="$room/bin/tool -Da=b 'a  b' '' 'it'\\''s' '*' '\$HOME' '\\' 'ü'" behind=") && touch '$room/a dir/stamp'"
-alike 'words and variables' perl "$front $variables $words $behind"
-alike 'no launcher' perl "$front \${ZIGRUNK_RUNNER-} $words $behind"
-alike 'another character' sh "$front $variables $words;b $behind"
-alike 'a runner and a launcher' perl "$front $variables $words $behind" ZIGRUNK_RUNNER='env  R=1' ZIGRUNK_LAUNCHER="nice -n 1"
-alike 'a runner of odd words' '' "$front $variables $words $behind" ZIGRUNK_RUNNER='env A=* B=?'
-alike 'a launcher of odd words' '' "$front $variables $words $behind" ZIGRUNK_LAUNCHER=$'env\tA=b'
-alike 'a launcher that is missing' '' "$front $variables $words $behind" ZIGRUNK_LAUNCHER=missing-launcher
-alike 'a launcher by the new PATH' perl "${front%PATH=*}PATH=$room/bin:$PATH $variables $words $behind" ZIGRUNK_LAUNCHER=tool
-alike 'a program that is missing' '' "$front $variables $room/missing a $behind"
-alike 'a program that env takes for a variable' '' "$front $variables ./a=b $behind"
-alike 'a program that env takes for an option' '' "$front $variables -i $behind"
-alike 'a folder that is missing' '' "${front/a dir/missing} $variables $words $behind"
-alike 'a folder with dots' '' "${front/a dir/.\/a dir} $variables $words $behind"
-alike 'a status' perl "$front $variables $words $behind" CODE=7
-alike 'a signal' perl "$front $variables $words $behind" KILL=ABRT
-alike 'a signal without a name' perl "$front $variables $words $behind" KILL=INT
-alike 'no place for the stamp' '' "$front $variables $words ) && touch '$room/missing/stamp'"
-alike 'a word that looks like the end' perl "$front $variables $room/bin/tool ') && touch x' $behind"
-alike 'two commands' '' "$front $variables $room/bin/tool a && env B=c $room/bin/tool b $behind"
-alike 'an odd variable' '' "${front} 'A-B=c' $variables $room/bin/tool $behind"
-alike 'no PWD' perl "$front $variables $words $behind" -u PWD
-end
-
 # The gcc of the call that writes the dependency file.
 begin 'what is preprocessed'
 call="$room/a call"
@@ -325,9 +333,12 @@ if command -v python3 > /dev/null; then
     same 'commands' "$(grep -c '^      48 .* s each  sh$\|^      48 .* s each  command$' report)" 1
     same 'events of the trace' "$(python3 -c 'import json; print(len(json.load(open("trace"))["traceEvents"]))')" 52
     same 'rows of the trace' "$(python3 -c 'import json; print(max(e["tid"] for e in json.load(open("trace"))["traceEvents"] if e["name"] != "nvcc"))')" 2
-    printf '%s\n' '[' '{"begin": 1}' >> "$room/calls.log"
+    "${script%/*}/zigrunk-report" --trace trace "$room/calls.log" > report
+    same 'words in the trace' "$(python3 -c 'import json; print({e["args"]["call"] for e in json.load(open("trace"))["traceEvents"]} >= {"nvcc -c 7.cu -o 7.o"})')" True
+    bad='{"begin": 1, "end": 2, "status": 0, "words": [], "commands": [{"kind": "cicc"}]}'
+    printf '%s\n' '[' '{"begin": 1}' "$bad" >> "$room/calls.log"
     "${script%/*}/zigrunk-report" "$room/calls.log" > report
-    same 'lines that are no entries' "$(tail -n 1 report)" '2 lines are no entries of such a log'
+    same 'lines that are no entries' "$(tail -n 1 report)" '3 lines are no entries of such a log'
     "${script%/*}/zigrunk-report" missing > report 2>&1
     same 'no log' "$? $(cat report)" "1 zigrunk-report: [Errno 2] No such file or directory: 'missing'"
 fi
@@ -338,6 +349,7 @@ printf '%s\n' '#!/bin/sh' 'case $* in *-dryrun*) exit ;; esac' 'echo "$*"; exit 
 ZIGRUNK_LOG=$room/calls.log "$script" "$room/some-nvcc" whole.cu > said 2>&1
 same 'status and output' "$? $(cat said)" '7 whole.cu'
 same 'status in the log' "$(sed 's/.*"status"/"status"/' "$room/calls.log")" '"status":7,"reason":"it links","commands":[],"words":["'"$room/some-nvcc"'","whole.cu"]}'
+sed 's/^{"begin":\([0-9.]*\),"end":\([0-9.]*\).*/\1 \2/' "$room/calls.log" | awk '{ exit $2 <= $1 }' || problems+='  it took no time'$'\n'
 rm "$room/calls.log"
 printf '%s\n' '#!/bin/sh' 'kill -TERM $$' > "$room/some-nvcc"
 { ZIGRUNK_LOG=$room/calls.log "$script" "$room/some-nvcc" whole.cu > said 2>&1; } 2> /dev/null
