@@ -28,7 +28,8 @@ toolkit=$(realpath "${toolkit:-/usr/local/cuda}")
 sccache=$(command -v "${SCCACHE:-sccache}") && [[ ! $("$sccache" --version) =~ ^sccache\ 0\.[0-8]\. ]] || sccache=''
 trap '[ -z "$sccache" ] || "$sccache" --stop-server > /dev/null 2>&1; rm -rf "$scratch"' EXIT
 unset NVCC_PREPEND_FLAGS NVCC_APPEND_FLAGS MAKEFLAGS CUDAFLAGS CUDACXX CXXFLAGS CFLAGS "${!SCCACHE_@}" "${!ZIGRUNK_L@}"
-export TMPDIR=$folder/tmp
+# As many commands run at once with zigrunk-nvcc as with nvcc, and other calls of this user take none of their slots.
+export TMPDIR=$folder/tmp XDG_RUNTIME_DIR=$folder/tmp ZIGRUNK_SLOTS=$jobs
 export SCCACHE_SERVER_PORT=$((20000 + RANDOM)) SCCACHE_IDLE_TIMEOUT=0 SCCACHE_CONF=/dev/null
 
 # What a project's file calls. archive SUM PATH: a file of Debian's archive, the sources before packages that only get unpacked.
@@ -187,6 +188,7 @@ reachable() {
 
 reachable || skip_all "$what" "Debian's archive can't be reached"
 [ -n "$sccache" ] || skip 'builds through a cache' "sccache 0.9 or later isn't at hand"
+rm -rf "${folder:?}/results"
 mkdir -p "$folder/build" "$folder/results" "$TMPDIR"
 for project in ${PROJECTS:-$(cd tests/field && printf '%s\n' *.sh | sed 's/\.sh$//')}; do
     (in_lane "$project" one "$project") > "$scratch/said"
