@@ -971,7 +971,7 @@ no_memory() {
 
 # files that aren't the dry runs of a call, and plans without commands, in every format
 unfit_files() {
-    local format behind=$'no line begins with "#$ "\n'
+    local format folder behind=$'no line begins with "#$ "\n'
     : > "$scratch/empty"
     printf '#$\n #$ gcc\n$# gcc\n' > "$scratch/prose"
     for format in shell ninja json dot compdb; do
@@ -983,6 +983,15 @@ unfit_files() {
             "$format" /w /t -c "$scratch/kernel" "$scratch/empty"
         check "a plan without commands as $format" 1 '' $'zigrunk: the plan has no command\n' \
             "$format" /w /t -c "$scratch/nothing" "$scratch/nothing.2"
+    done
+    for format in shell ninja json dot compdb; do
+        for folder in w . ../w //w /w/ /w//x /w/./x /w/../w /w/. /w/..; do
+            check "the directory $folder for temporary files as $format" 1 '' \
+                $'zigrunk: the directory for temporary files has to be absolute, without an empty part, . or ..\n' \
+                "$format" /w "$folder" -c "$scratch/kernel" "$scratch/kernel.2"
+            check "the working directory $folder as $format" 1 '' $'zigrunk: the working directory has to be absolute, without an empty part, . or ..\n' \
+                "$format" "$folder" /t -c "$scratch/kernel" "$scratch/kernel.2"
+        done
     done
     check 'one file twice that is no dry run' 1 '' "zigrunk: $scratch/empty: both dry runs are the same file"$'\n' \
         json /w /t -c "$scratch/empty" "$scratch/empty"

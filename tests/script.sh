@@ -309,6 +309,14 @@ END
     same 'files left' "$(ls -A tmp)" ''
     end
 
+    for form in ROOM/tmp/ ROOM//tmp ROOM/./tmp ROOM/tmp/. ROOM/work/../tmp ./../tmp; do
+        begin "a TMPDIR in the form $form"
+        script TMPDIR="${form/ROOM/"$room"}" -c k.cu -o k.o
+        same output "$(cat "$room/out" "$room/err")" ''
+        holds calls "$room/log" "ninja [-f] [$room/tmp/zigrunk-$user/zigrunk-name/zigrunk.tmp/ninja]"
+        end
+    done
+
     begin 'a TMPDIR that is missing'
     script "${plain[@]}" TMPDIR="$room/missing" -c k.cu -o k.o
     same status "$status" 5

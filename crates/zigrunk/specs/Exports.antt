@@ -26,6 +26,7 @@ use Rattle.programs.specs.PlanText.{program_setting, all_suffixes}
 use Rattle.zigrunk.specs.declared.call.Format.{Format}
 use Rattle.zigrunk.specs.declared.call.Format.TheVariants.{Shell, Ninja, Json, Dot, Compdb}
 use Rattle.zigrunk.specs.Calls.{ExportOf}
+use Rattle.zigrunk.specs.Directories.{is_plain}
 
 -- a writer's answer, with a refusal as text
 abbrev pub written : Result (List ℕ) Refusal → Result (List ℕ) Stop
@@ -77,12 +78,18 @@ plan_of_runs call which runs =
     planned_with (keep_dir_of call.keeps call.plan.tmp) (program_setting call.plan.cwd call.plan.tmp call.plan.flag) which runs
     (all_suffixes call.plan.suffixes)
 
--- why two files can't be the dry runs of a call, if they can't: the call names one file twice, or one has no line of a dry run
+-- why a call's directories can't be those of a plan, if they can't
+abbrev pub odd_directory : PlanOf → Option (List ℕ)
+odd_directory call =
+    if not (is_plain call.cwd) then Some (codes "the working directory has to be absolute, without an empty part, . or ..") else
+    if is_plain call.tmp then None else Some (codes "the directory for temporary files has to be absolute, without an empty part, . or ..")
+
+-- why a call can't be planned, if it can't: it names one file twice, one has no line of a dry run, or a directory is odd
 abbrev pub unfit : PlanOf → List ℕ → List ℕ → Option (List ℕ)
 unfit call first second =
     if bytes_eq call.dry1 call.dry2 then Some (codes "both dry runs are the same file") else
     if not (is_dry_run first) then Some (codes "the first file is no dry run: no line begins with \"#$ \"") else
-    if is_dry_run second then None else Some (codes "the second file is no dry run: no line begins with \"#$ \"")
+    if is_dry_run second then odd_directory call else Some (codes "the second file is no dry run: no line begins with \"#$ \"")
 
 -- what the program writes for a call
 abbrev pub exported : ExportOf → LookUp → List ℕ → List ℕ → Result (List ℕ) Stop

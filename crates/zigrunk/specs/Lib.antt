@@ -1,4 +1,5 @@
 pub mod Calls
+pub mod Directories
 pub mod Endings
 pub mod Environment
 pub mod Exports

@@ -18,6 +18,7 @@ ghost use Rattle.zigrunk.specs.Calls.{export_of};
 ghost use Rattle.zigrunk.specs.Exports as spec;
 
 use crate::call::{ExportCall, Format};
+use crate::directory::is_plain;
 use command_groups::{NvccGeneratedSubcommand, Plan, PlanWithOrigins, plan_of_parsed};
 use cuda_below::compiler::NvccHostCompiler;
 use dry_runs::{ParsedRuns, Which};
@@ -166,7 +167,20 @@ fn plan_of<L: Which>(
     )
 }
 
-// Why two files can't be the dry runs of a call, if they can't.
+// Why a call's directories can't be those of a plan, if they can't.
+fn odd_directory(call: &PlanCall<'_>) -> Option<&'static str>
+    ensures { option_copied result ≡ spec.odd_directory (plan_seen call.now) }
+{
+    if !is_plain(call.cwd) {
+        Some("the working directory has to be absolute, without an empty part, . or ..")
+    } else if is_plain(call.tmp) {
+        None
+    } else {
+        Some("the directory for temporary files has to be absolute, without an empty part, . or ..")
+    }
+}
+
+// Why a call can't be planned, if it can't.
 fn unfit(call: &PlanCall<'_>, dry1: &[u8], dry2: &[u8]) -> Option<&'static str>
     ensures { option_copied result ≡ spec.unfit (plan_seen call.now) dry1.now dry2.now }
 {
@@ -175,7 +189,7 @@ fn unfit(call: &PlanCall<'_>, dry1: &[u8], dry2: &[u8]) -> Option<&'static str>
     } else if !is_dry_run(dry1) {
         Some("the first file is no dry run: no line begins with \"#$ \"")
     } else if is_dry_run(dry2) {
-        None
+        odd_directory(call)
     } else {
         Some("the second file is no dry run: no line begins with \"#$ \"")
     }

@@ -11,6 +11,7 @@ use std::process::ExitCode;
 use std::rt::Env;
 
 mod call;
+mod directory;
 mod environment;
 mod export;
 mod input;

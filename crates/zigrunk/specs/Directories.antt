@@ -1,0 +1,40 @@
+-- Which directories have one text only. Two commands are taken to use the same file if its paths are the same text, so a plan whose directory has
+-- several texts would lack needs.
+use Rattle.std.specs.Prelude.{◌≡◌, ◌||◌, ◌&&◌, ℕ, List, Bool, true, false, not, nat_eq, codes, refl}
+use Rattle.std.specs.List.{ends_with, starts_with}
+use Rattle.std.specs.Str.{bytes_eq}
+use Rattle.canonical_names.specs.Alike.{holds}
+
+-- whether a part inside a path is empty, `.` or `..`
+abbrev pub has_odd_part : List ℕ → Bool
+has_odd_part path = holds (codes "//") path || (holds (codes "/./") path || holds (codes "/../") path)
+
+-- whether the last part is
+abbrev pub has_odd_end : List ℕ → Bool
+has_odd_end path = ends_with nat_eq path (codes "/") || (ends_with nat_eq path (codes "/.") || ends_with nat_eq path (codes "/.."))
+
+-- whether a path is absolute and plain: the root, or no part of it is empty, `.` or `..`
+abbrev pub is_plain : List ℕ → Bool
+is_plain path = bytes_eq path (codes "/") || (starts_with nat_eq path (codes "/") && (not (has_odd_part path) && not (has_odd_end path)))
+
+-- examples
+pub root_is_plain : is_plain (codes "/") ≡ true
+root_is_plain = refl
+
+pub folder_is_plain : is_plain (codes "/t/.a/..b/c.") ≡ true
+folder_is_plain = refl
+
+pub relative_is_odd : is_plain (codes "../t") ≡ false
+relative_is_odd = refl
+
+pub two_slashes_are_odd : is_plain (codes "//t") ≡ false
+two_slashes_are_odd = refl
+
+pub inner_dot_is_odd : is_plain (codes "/t/./u") ≡ false
+inner_dot_is_odd = refl
+
+pub last_dots_are_odd : is_plain (codes "/t/..") ≡ false
+last_dots_are_odd = refl
+
+pub last_slash_is_odd : is_plain (codes "/t/") ≡ false
+last_slash_is_odd = refl
