@@ -220,9 +220,16 @@ def is_later_failure(line: str, want: Ran, got: Ran, found: Difference) -> bool:
     return both_fail(want, got) and (kept or other)
 
 
-def is_status_of_threads(line: str, want: Ran, got: Ran, found: Difference) -> bool:
-    """--threads: the status of a failure is the command's, not 255."""
-    return found[0] == "STATUS" and both_fail(want, got) and want["status"] == 255 and re.search(r"--threads|-t[ =\d]", line) is not None
+def is_failure_of_threads(line: str, want: Ran, got: Ran, found: Difference) -> bool:
+    """--threads: the status of a failure is the command's, not 255, and messages end with the first command that fails."""
+    if not both_fail(want, got) or want["status"] != 255 or re.search(r"--threads|-t[ =\d]", line) is None:
+        return False
+    return found[0] == "STATUS" or (found[0] == "SAID" and found[1].startswith("lacks [], has []"))
+
+
+def is_directory_of_ptxas(line: str, want: Ran, got: Ran, found: Difference) -> bool:
+    """--keep-dir: ptxas's messages name no directory."""
+    return found[0] == "SAID" and "keep-dir" in line and re.sub(r"ptxas \S*/", "ptxas ", want["err"]) == got["err"]
 
 
 def is_source_in_ptx(line: str, want: Ran, got: Ran, found: Difference) -> bool:
@@ -242,7 +249,7 @@ def is_host_code_of_dependencies(line: str, want: Ran, got: Ran, found: Differen
 
 # The rows of docs/DIFFERENCES.md, "From nvcc", that such calls can show.
 KNOWN: list[Callable[[str, Ran, Ran, Difference], bool]] = [
-    is_lto, is_debug, is_kept_stub, is_later_failure, is_status_of_threads, is_source_in_ptx, is_host_code_of_dependencies,
+    is_lto, is_debug, is_kept_stub, is_later_failure, is_failure_of_threads, is_directory_of_ptxas, is_source_in_ptx, is_host_code_of_dependencies,
 ]
 
 

@@ -7,6 +7,7 @@
 #
 # Usage: tests/refused_memory.sh [FILE..]     files of crates/test_lines/data or crates/test_plans/data; all files, and the
 #                                             calls of the programs, unless named
+#        tests/refused_memory.sh --calls      the calls of the programs alone
 #
 # The last line is 'N passed, M failed': each failed allocation is a case.
 #
@@ -20,7 +21,9 @@ test_lines=$root/crates/test_lines/out/test_lines
 test_plans=$root/crates/test_plans/out/test_plans
 cudaplan=$root/crates/cudaplan/out/cudaplan
 zigrunk=$root/crates/zigrunk/out/zigrunk
-for built in "$test_lines" "$test_plans" "$cudaplan" "$zigrunk"; do
+needed=("$cudaplan" "$zigrunk")
+[ "${1-}" = --calls ] || needed+=("$test_lines" "$test_plans")
+for built in "${needed[@]}"; do
     if [ ! -x "$built" ]; then
         echo "not built: $built"
         exit 2
@@ -52,13 +55,14 @@ judged() {
     passed=$((passed + (failed == before)))
 }
 
-# run_refused N CMD..: runs a command whose Nth allocation fails, or from the Nth on all, if N ends in a minus. Leaves its
-# output, its status, and whether an allocation failed.
+# run_refused N CMD..: runs a command whose Nth allocation fails, or from the Nth on all, if N ends in a minus. Leaves what it
+# writes, as OUTPUT|MESSAGES, its status, and whether an allocation failed.
 run_refused() {
     local number=$1
     shift
-    printed=$(REFUSED=$number LD_PRELOAD=$work/hook.so "$@" 9> told 2>&1)
+    printed=$(REFUSED=$number LD_PRELOAD=$work/hook.so "$@" 9> told 2> messages)
     status=$?
+    printed+="|$(< messages)"
     read -r met growths < told
 }
 
@@ -83,15 +87,21 @@ judge_same() {
     fi
 }
 
+# What zigrunk says if there is no memory for more.
+short='|zigrunk: cannot read input
+|zigrunk: gcc: not found
+|zigrunk: bad generated suffixes
+|zigrunk: both dry runs are the same file
+|zigrunk: the first file is no dry run: no line begins with "#$ "
+'
+
 # judge_call NAME N: judges a run of a program. It says that it is out of memory, or why the call fails anyway. If there is no
-# memory for zigrunk's message, that is shorter. If a program can't read its own arguments, it prints its usage.
+# memory for zigrunk's message, that is shorter. Either is on standard error, and nothing on standard output.
 judge_call() {
     if [ "$status" -eq 1 ] &&
-        [[ $printed == 'cudaplan: out of memory' || $printed == 'zigrunk: out of memory' || $printed == 'zigrunk: cannot read '*': out of memory' ]]; then
+        [[ $printed == '|cudaplan: out of memory' || $printed == '|zigrunk: out of memory' || $printed == '|zigrunk: cannot read '*': out of memory' ]]; then
         answered=$((answered + 1))
-    elif [ "$status" -eq 2 ] && [[ $printed == "usage: "* ]]; then
-        :
-    elif [ "$status" -eq "$expected_status" ] && [[ $printed == 'zigrunk: cannot read input' || $printed == 'zigrunk: gcc: not found' ]]; then
+    elif [ "$status" -eq "$expected_status" ] && [[ $short == *"$printed"$'\n'* ]]; then
         same=$((same + 1))
     else
         judge_same "$1" "$2"
@@ -231,7 +241,10 @@ program_calls() {
     echo "calls of the programs: failed allocations $((refused - before)), after $SECONDS s"
 }
 
-if [ $# -eq 0 ]; then
+if [ "${1-}" = --calls ]; then
+    program_calls
+    shift
+elif [ $# -eq 0 ]; then
     program_calls
     for file in *.txt; do
         case $file in

@@ -163,6 +163,11 @@ plans() {
     same 'status and messages without a plan' "$status $(cat "$room/out" "$room/err")" '1 zigrunk: why'
     leaves_nothing
     end
+    begin 'zigrunk-plan and ZIGRUNK_TMP'
+    mkdir "$room/shared"
+    as=$planner script ZIGRUNK_TMP="$room/shared" json nvcc -c k.cu
+    same 'where' "$(grep -c "json\] \[$room/work\] \[$room/shared/zigrunk-$user/zigrunk-name\]" "$room/log")" 1
+    end
     begin 'zigrunk-plan of a line that keeps files'
     as=$planner script KEEP_DIR=/kept json nvcc -c k.cu
     same 'with --keep' "$(grep -c 'json\] \[--keep\] ' "$room/log")" 1
@@ -297,7 +302,7 @@ END
     end
 
     begin 'no TMPDIR'
-    script TMPDIR= -c k.cu -o k.o
+    script ZIGRUNK_TMP= TMPDIR= -c k.cu -o k.o
     same 'where' "$(grep -c "^ninja \[-f\] \[/tmp/zigrunk[^/]*\(/zigrunk-name\)\?/zigrunk.tmp/ninja\]$" "$room/log")" 1
     end
 
@@ -499,6 +504,14 @@ END
     as=$room/bin/nvcc script PATH="$room/before:$room/bin:$PATH" -c k.cu -o k.o
     holds calls "$room/log" "zigrunk [directory] [$room/work] [$scratch/bin/nvcc] [-c] [k.cu] [-o] [k.o]"
     end
+    if [ ! -e /usr/bin/nvcc ]; then
+        begin 'it is on PATH twice, and another nvcc in front of it'
+        installed ln -s
+        mkdir "$room/before" "$room/tools" && ln -s "$scratch/bin/nvcc" "$room/before/nvcc" && ln -s "$scratch"/bin/{zigrunk,ninja} "$room/tools"
+        as=$room/bin/nvcc script PATH="$room/before:$room/bin:$room/bin:$room/tools:/usr/bin:/bin" -c k.cu -o k.o
+        holds calls "$room/log" "zigrunk [directory] [$room/work] [$room/before/nvcc] [-c] [k.cu] [-o] [k.o]"
+        end
+    fi
     begin 'there is no other nvcc'
     installed ln -s
     for tool in "${shell[0]}" timeout wc; do ln -s "$(command -v "$tool")" "$room/bin"; done

@@ -339,6 +339,35 @@ if command -v python3 > /dev/null; then
     printf '%s\n' '[' '{"begin": 1}' "$bad" >> "$room/calls.log"
     "${script%/*}/zigrunk-report" "$room/calls.log" > report
     same 'lines that are no entries' "$(tail -n 1 report)" '3 lines are no entries of such a log'
+    cat > small.log << 'END'
+{"begin":10.0,"end":14.0,"status":0,"commands":[{"kind":"gcc -E","asked":10.0,"begin":10.5,"end":11.5,"status":0},{"kind":"cicc compute_80","asked":11.0,"begin":12.0,"end":14.0,"status":0}],"words":["nvcc","-c","a.cu"]}
+{"begin":12.0,"end":15.0,"status":2,"commands":[{"kind":"cicc compute_90","asked":12.0,"begin":12.0,"end":15.0,"status":2}],"words":["nvcc","-c","b.cu"]}
+{"begin":15.0,"end":16.0,"status":0,"reason":"it links","commands":[],"words":["nvcc","a.o"]}
+{"hint":"do this"}
+no entry
+END
+    "${script%/*}/zigrunk-report" --trace small.trace small.log > report
+    same 'the report of a small log' "$(cat report)" "calls: 3, failed: 1
+split: 2 of 3 (67 %)
+       1  to nvcc: it links
+  hint: do this
+
+commands:
+       2       5.00 s     2.50 s each  cicc
+       1       1.00 s     1.00 s each  gcc
+
+the slowest:
+       3.00 s  cicc compute_90  of  nvcc -c b.cu
+       2.00 s  cicc compute_80  of  nvcc -c a.cu
+       1.00 s  gcc -E  of  nvcc -c a.cu
+
+from the first call's begin to the last one's end: 6.00 s
+commands of split calls, one after the other: 6.00 s; those calls: 7.00 s, of which commands waited 1.50 s for a slot, some at the same time
+commands that ran at once, on average: 1.0
+
+1 lines are no entries of such a log"
+    same 'its trace' "$(python3 -c 'import json; [print(it["name"], it["tid"], it["ts"], it["dur"], it["args"]["status"]) for it in json.load(open("small.trace"))["traceEvents"]]')" \
+        $'gcc -E 0 10500000.0 1000000.0 0\ncicc compute_80 0 12000000.0 2000000.0 0\ncicc compute_90 1 12000000.0 3000000.0 2\nnvcc 0 15000000.0 1000000.0 0'
     "${script%/*}/zigrunk-report" missing > report 2>&1
     same 'no log' "$? $(cat report)" "1 zigrunk-report: [Errno 2] No such file or directory: 'missing'"
 fi
