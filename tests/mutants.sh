@@ -664,9 +664,6 @@ new:
 a second command is a word
 old:     return if grep { /^(?:&&|\)|\$.*)$/ } @words;
 new: 
-a program that is an option
-old: $command[0] =~ /^[^-=][^=]*$/
-new: $command[0] =~ /^[^=]+$/
 a program that is a variable
 old: $command[0] =~ /^[^-=][^=]*$/
 new: $command[0] =~ /^[^-]/

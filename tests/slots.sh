@@ -135,13 +135,14 @@ mkdir "$room/bin"
 printf '%s\n' '#!/bin/sh' 'pwd' 'echo "parent $(cat /proc/$PPID/comm)"' 'printf "<%s>\n" "$@"' 'env | grep -v "^_="' 'echo said >&2' \
     '[ -z "${KILL-}" ] || kill -"$KILL" $$' 'exit ${CODE-0}' > "$room/bin/tool"
 chmod +x "$room/bin/tool"
-front="( cd '$room/a dir' && env 'A=b c' 'Q='\\''q'\\''\"' 'EMPTY=' 'SAME=\$x' PATH=$PATH" variables='${ZIGRUNK_RUNNER-} ${ZIGRUNK_LAUNCHER-}'
+front="( cd '$room/a dir' && env 'A=b c' 'Q='\\''q'\\''\"' 'EMPTY=' 'SAME=\$x' E=a=b PATH=$PATH" variables='${ZIGRUNK_RUNNER-} ${ZIGRUNK_LAUNCHER-}'
 words="$room/bin/tool -Da=b 'a  b' '' 'it'\\''s' '*' '\$HOME' '\\' 'ü'" behind=") && touch '$room/a dir/stamp'"
 alike 'words and variables' perl "$front $variables $words $behind"
 alike 'no launcher' perl "$front \${ZIGRUNK_RUNNER-} $words $behind"
 alike 'another character' sh "$front $variables $words;b $behind"
 alike 'a runner and a launcher' perl "$front $variables $words $behind" ZIGRUNK_RUNNER='env  R=1' ZIGRUNK_LAUNCHER="nice -n 1"
 alike 'a runner of odd words' '' "$front $variables $words $behind" ZIGRUNK_RUNNER='env A=* B=?'
+alike 'a runner with a pattern' '' "$front $variables $words $behind" ZIGRUNK_RUNNER='echo /u?r'
 alike 'a launcher of odd words' '' "$front $variables $words $behind" ZIGRUNK_LAUNCHER=$'env\tA=b'
 alike 'a launcher that is missing' '' "$front $variables $words $behind" ZIGRUNK_LAUNCHER=missing-launcher
 alike 'a launcher by the new PATH' perl "${front%PATH=*}PATH=$room/bin:$PATH $variables $words $behind" ZIGRUNK_LAUNCHER=tool
@@ -156,6 +157,7 @@ alike 'a signal without a name' perl "$front $variables $words $behind" KILL=INT
 alike 'no place for the stamp' '' "$front $variables $words ) && touch '$room/missing/stamp'"
 alike 'a word that looks like the end' perl "$front $variables $room/bin/tool ') && touch x' $behind"
 alike 'two commands' '' "$front $variables $room/bin/tool a && env B=c $room/bin/tool b $behind"
+alike 'another program than env' '' "${front/ env / nice } $variables $words $behind"
 alike 'an odd variable' '' "${front} 'A-B=c' $variables $room/bin/tool $behind"
 alike 'no PWD' perl "$front $variables $words $behind" -u PWD
 end
