@@ -22,7 +22,7 @@ help:
 	@echo 'make odd-calls        the same for 145 calls with odd words, and for 100 random calls'
 	@echo 'make random-calls     the same for calls whose words are drawn from nvcc'\''s options; SEED=1 COUNT=1000'
 	@echo 'make versions         the same with nvcc 11.2, 11.8 and 12.4, which it downloads from Debian, up to 3 GB; or CUDA_VERSIONS=FOLDER'
-	@echo 'make cache            compare rebuilds through sccache with and without zigrunk-nvcc; needs sccache 0.9'
+	@echo 'make cache            compare builds and rebuilds with and without ccache and sccache; needs both, sccache 0.9 or later'
 	@echo 'make peer             build Debian'\''s sccache as it is and on libzigrunk, which it downloads with its crates, 30 MB; run its tests'
 	@echo '                      and calls of nvcc by both; needs nvcc and cargo 1.85. No part of the gate'
 	@echo 'make field            build the CUDA code of real projects by nvcc and by zigrunk-nvcc, and compare; needs nvcc and CMake;'
