@@ -78,7 +78,7 @@ printf '%s\n' "ninja \$*" >> "\$LOG"
 exec $(command -v ninja) "\$@"
 END
 printf '%s\n' '#!/bin/sh' 'printf "%s\n" "runner $*" >> "$LOG"' 'exec "$@"' > "$scratch/bin/runner"
-printf '%s\n' '#!/bin/sh' 'while [ "$1" != -o ]; do shift; done' '[ -n "${LOSE-}" ] || echo made > "$2"' > "$scratch/bin/gcc"
+printf '%s\n' '#!/bin/sh' 'while [ "$#" -gt 0 ] && [ "$1" != -o ]; do shift; done' '[ -n "${LOSE-}" ] || [ "$#" = 0 ] || echo made > "$2"' > "$scratch/bin/gcc"
 chmod +x "$scratch"/bin/*
 mkdir "$scratch/opt" && ln -s ../bin/nvcc "$scratch/opt/nvcc"
 export PATH=$scratch/bin:$PATH
@@ -124,6 +124,25 @@ lists() {
     same made "$(sort made | uniq -c | tr -s ' \n' ' ')" ' 2 a 3 b 1 whole '
     same 'runs of Ninja' "$(logged '^ninja ')" 2
     same 'calls of nvcc' "$(grep '^nvcc ' "$room/log")" 'nvcc [-c] [whole.cu] [-o] [w.o]'
+    end
+
+    begin 'a call ends beside the commands of others'
+    write a.cu 'echo a'
+    write b.cu 'i=0; until [ "$(ls -d "$TMPDIR"/../../zigrunk-*/call-* | wc -l)" = 1 ] || [ "$i" = 100 ]; do sleep 0.1; i=$((i + 1)); done; echo "$i" > waited'
+    list=$'-c a.cu -o a.o\n-c b.cu -o b.o'
+    batch
+    same 'status and output' "$status$(cat "$room/out" "$room/err")" 0a
+    same 'tenths of a second that the directory stays' "$(($(cat waited) < 100))" 1
+    end
+
+    begin 'a folder nvcc'
+    mkdir nvcc
+    list=$'-c whole.cu -o w.o\ntrue'
+    write whole.cu ':'
+    batch
+    same 'status and folder' "$status$(ls -d nvcc)" 0nvcc
+    batch ZIGRUNK_NINJA=false
+    same 'status and folder' "$status$(ls -d nvcc)" 1nvcc
     end
 
     begin 'words of a line'
@@ -228,7 +247,7 @@ lists() {
 # lost WHAT PRODUCT LINE..: a list of one call whose product isn't made, though all that runs ends with 0; LOSE is the way.
 lost() {
     same "status, $1" "$status" 1
-    same "messages, $1" "$(cat "$room/err")" "zigrunk-batch: line 1: no new $PWD/$2, though the call ended with 0"$'\n'"zigrunk-batch: line 1: exit status 1: $list"
+    same "messages, $1" "$(cat "$room/err")" "zigrunk-batch: no new $PWD/$2, though the call ended with 0"$'\n'"zigrunk-batch: line 1: exit status 1: $list"
 }
 
 products() {
@@ -249,8 +268,12 @@ products() {
         echo old > p
         batch LOSE=1
         lost 'an old one is there' p
-        batch ZIGRUNK_RUNNER=true
-        lost 'the runner does nothing' p
+        case $list in
+        *whole.cu* | gcc*)
+            batch ZIGRUNK_RUNNER=true
+            lost 'the runner does nothing' p
+            ;;
+        esac
         batch
         same 'status, messages and product' "$status$(cat "$room/err" p)" 0made
         batch
@@ -258,24 +281,49 @@ products() {
         end
     done
 
-    for line in 'nvcc -c sub/a.cu,a.o' '-dc -include x.c sub/a.b.cu,a.b.o' 'nvcc --ptx a.cu -I x,a.ptx' 'gcc -c a.c,a.o' 'nvcc -cubin a.cu,a.cubin'; do
+    for line in 'nvcc -c sub/a.cu,a.o' '-dc -include x.c sub/a.b.cu,a.b.o' 'nvcc --ptx a.cu -I x,a.ptx' 'gcc -c a.c,a.o' 'nvcc -cubin a.cu,a.cubin' '-odir sub -c a.cu,sub/a.o' '-c a.cu --output-directory=sub,sub/a.o'; do
         begin "a product that is named after the source: $line"
         mkdir sub
         write a.cu ':'
         write sub/a.cu ':'
         write sub/a.b.cu ':'
         list=${line%,*}
-        batch LOSE=1 ZIGRUNK_RUNNER=true
+        batch LOSE=1
         lost "none is there" "${line#*,}"
         end
     done
 
-    for list in 'nvcc --dryrun -c a.cu -o p' 'nvcc --version -o p' 'nvcc -c a.cu b.cu' 'nvcc -E a.cu' 'nvcc -c -x cu a.cu' 'nvcc -M -c a.cu' 'nvcc -c a.cu -o /dev/null' 'gcc -fsyntax-only -c a.c -o p'; do
+    for list in 'nvcc --dryrun -c a.cu -o p' 'nvcc --version -o p' 'nvcc a.cu b.cu' 'nvcc -E a.cu' 'nvcc -c -x cu a.cu' 'nvcc -M -c a.cu' 'nvcc -c a.cu -o /dev/null' 'gcc -fsyntax-only -c a.c -o p'; do
         begin "no product: $list"
         batch ZIGRUNK_RUNNER=true ZIGRUNK_PROGRAM=false
         same 'status and messages' "$status$(cat "$room/err")" 0
         end
     done
+
+    begin 'products of several sources'
+    write whole.cu ':'
+    write b.cu ':'
+    list='nvcc -c whole.cu b.cu'
+    touch whole.o
+    batch LOSE=1
+    lost 'none is there' whole.o
+    write b.cu 'echo made > whole.o'
+    batch LOSE=1
+    lost 'one is there' b.o
+    write b.cu 'echo made > whole.o; echo made > b.o'
+    batch LOSE=1
+    same 'status and messages, both are there' "$status$(cat "$room/err")" 0
+    end
+
+    begin 'a product that a shared disk shows late'
+    printf '%s\n' '#!/bin/sh' '(sleep 1.5; echo made > p) > /dev/null 2>&1 &' > "$room/late"
+    chmod +x "$room/late"
+    list='gcc -c a.c -o p'
+    batch ZIGRUNK_RUNNER="$room/late"
+    same 'status and messages' "$status$(cat "$room/err")" 0
+    rm p
+    same 'files left beside it' "$(ls -A)" ''
+    end
 
     begin 'an old product that the call removes'
     write a.cu 'rm p'
@@ -291,7 +339,7 @@ products() {
     write b.cu ':'
     list=$'-c a.cu -o near/a.o\n-c b.cu -o near/b.o'
     batch LOSE=1
-    same 'status and messages' "$status $(grep '^zigrunk-batch' "$room/err" | head -n 2)" "3 zigrunk-batch: line 1: exit status 3: -c a.cu -o near/a.o"$'\n'"zigrunk-batch: line 2: no new $room/far/b.o, though the call ended with 0"
+    same 'status and messages' "$status $(grep '^zigrunk-batch' "$room/err" | head -n 2)" "3 zigrunk-batch: line 1: exit status 3: -c a.cu -o near/a.o"$'\n'"zigrunk-batch: no new $room/far/b.o, though the call ended with 0"
     end
 }
 
@@ -401,7 +449,7 @@ failures() {
     list=$'-c a.cu -o a.o\n-c whole.cu -o w.o'
     batch --progress
     same 'status and output' "$status$(cat "$room/out")" 0
-    same messages "$(sed 's/commands: -c .*\.o$/commands: CALL/' "$room/err" | grep -v '^zigrunk-batch: \(plans 1 of 2$\|[123] of 4 \)')" $'zigrunk-batch: plans 2 of 2\nzigrunk-batch: 4 of 4 commands: CALL'
+    same messages "$(sed 's/commands: -c .*\.o$/commands: CALL/' "$room/err" | grep -v '^zigrunk-batch: \(plans 1 of 2$\|[1234] of 5 \)')" $'zigrunk-batch: plans 2 of 2\nzigrunk-batch: 5 of 5 commands: CALL'
     same 'the call that runs' "$(grep -o 'commands: -c a.cu -o a.o' "$room/err" | sort -u)" 'commands: -c a.cu -o a.o'
     end
 }

@@ -67,7 +67,7 @@ a product may be missing
 old: [ -e "$product" ] &&
 new: true &&
 a product may be old
-old: && [ "$(identity "$product")" != "$(cat "$batch/$1.before")" ]
+old: && [ "$(identity "$product")" != "$before" ]
 new: 
 the product of a link is lost
 old: stat -L -c
@@ -85,23 +85,44 @@ a dry run has a product
 old: --dryrun | -dryrun | --help
 new: --help
 a product without -o is unknown
-old: || output=${source%.*}$suffix
-new: || :
+old: [ -z "$named" ] && [ -n "$suffix" ] || return
+new: return
 nvcc's other products are objects
 old: suffix=.${word##*-} ;;
 new: suffix=.o ;;
-two sources have one product
-old: [ "$sources" != 1 ] ||
-new: 
+only the first source has a product
+old: while IFS= read -r output; do note "$prefix" "$output"; done < "$prefix.made"
+new: IFS= read -r output < "$prefix.made" && note "$prefix" "$output"
+-odir is no directory
+old: -odir | --output-directory) folder=$word before='' && continue ;;
+new: -odir | --output-directory) before='' && continue ;;
+--output-directory=NAME is no directory
+old: -odir=* | --output-directory=*) folder=${word#*=} ;;
+new: -odir=* | --output-directory=*) ;;
+a disk isn't asked again
+old: && [ "$look" != 3 ] || break
+new: && false || break
+a file stays beside a product
+old: 2> /dev/null) && rm -f "$file"
+new: 2> /dev/null)
+calls end after the graph
+old: printf 'build %s.reported: report' "$number"
+new: printf 'build %s.reported: phony' "$number"
+the folder nvcc goes
+old: *.plan:/*) rm -rf
+new: *.plan:*) rm -rf
+the directory above the calls' stays
+old: *.again:/*) rmdir "${tmp%/*}" ;;
+new: *.again:/*) ;;
 a preprocessor's call has a product
 old: -E | --preprocess | -M
 new: --preprocess | -MMM
 other compilers have no products
-old: compiler) output "$@" ;;
-new: compiler) output='' ;;
+old: compiler) outputs "$@" ;;
+new: compiler) ;;
 a lost call has status 0
-old:         code=1
-new:         code=0
+old: made "$1" >> "$1.err" || code=1
+new: made "$1" >> "$1.err" || :
 two calls may make one file
 old: fail 1 "$(echo "$unit"
 new: : "$(echo "$unit"
@@ -187,8 +208,8 @@ Ninja goes on after a signal
 old: kill "$process" && wait;
 new: :;
 the calls' directories stay
-old: rm -rf "$tmp" && rmdir "${tmp%/*}" 2> /dev/null
-new: :
+old: rm -rf "$tmp" && rmdir "${tmp%/*}" ;;
+new: : ;;
 a call is planned by the runner
 old: run planning "$here" 0
 new: run planning "$jobs" 0
