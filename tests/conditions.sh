@@ -116,18 +116,19 @@ closed() {
     esac
 }
 
-# nvcc itself makes nothing without standard input, where a process that it starts gets its number for something else.
+# nvcc itself makes nothing without standard input, where a process that it starts gets its number for something else. zigrunk-nvcc may make the
+# product there, and say that a source is bad.
 closed_streams() {
     local streams quiet word status
     for streams in in out err 'out err' 'in out err'; do
         quiet='' status=0
         [[ $streams != *err* ]] || quiet=yes
         in_room closed "$streams" nvcc -c k.cu -o k.o > /dev/null 2>&1 || status=$?
-        makes "a call without $streams" "$room/k.o" "$status" in_room closed "$streams" zigrunk-nvcc -c k.cu -o k.o
+        makes "a call without $streams" "$room/k.o" "0 $status" in_room closed "$streams" zigrunk-nvcc -c k.cu -o k.o
         [ "$status" != 0 ] || split "a call without $streams"
         makes "a list without $streams" "$room/k.o" "0 $status" in_room closed "$streams" zigrunk-batch list
         in_room closed "$streams" nvcc -c bad.cu -o bad.o > /dev/null 2>&1
-        makes "a bad source without $streams" "$room/bad.o" "$?" in_room closed "$streams" zigrunk-nvcc -c bad.cu -o bad.o
+        makes "a bad source without $streams" "$room/bad.o" "$? 2" in_room closed "$streams" zigrunk-nvcc -c bad.cu -o bad.o
         for word in zigrunk cudaplan; do
             # what these print is lost, and a fault if it's on standard output
             closed "$streams" "$word" line cicc /w k.cpp1.ii -o k.ptx > "$scratch/out" 2> "$scratch/err"

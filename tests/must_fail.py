@@ -102,7 +102,6 @@ class WrongBody:
             found.append((path, text.count("\n", 0, around[0][0]) + 1, text.count("\n", 0, around[0][1]) + 1))
         return found
 
-
     def is_of_table(self) -> bool:
         """Returns whether it edits the entries of an option table. Only the function that answers the table sees them: other functions
         know them by its contract."""

@@ -117,9 +117,9 @@ alike() {
         mkdir "$room/a dir" "$room/commands"
         printf '%s || { code=$?; echo $code > %s/commands/it.status; exit $code; }' "$3" "$room" > "$room/commands/it.sh"
         if [ "$by" = shell ]; then
-            { env "${@:4}" OF=env sh "$room/commands/it.sh" > "$room/commands/it.out" 2> "$room/commands/it.err"; } 2> /dev/null
+            { env --default-signal=INT "${@:4}" OF=env sh "$room/commands/it.sh" > "$room/commands/it.out" 2> "$room/commands/it.err"; } 2> /dev/null
         else
-            env "${@:4}" OF=env perl "${script%/*}/zigrunk-slot" 0 '' "$room/commands/it" > "$room/said" 2>&1
+            env --default-signal=INT "${@:4}" OF=env perl "${script%/*}/zigrunk-slot" 0 '' "$room/commands/it" > "$room/said" 2>&1
         fi
         echo "$?" > "$room/commands/code"
         parent=$(sed -n 's/^parent //p' "$room/commands/it.out")
