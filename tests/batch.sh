@@ -128,7 +128,7 @@ lists() {
 
     begin 'a call ends beside the commands of others'
     write a.cu 'echo a'
-    write b.cu 'i=0; until [ "$(ls -d "$TMPDIR"/../../zigrunk-*/call-* | wc -l)" = 1 ] || [ "$i" = 100 ]; do sleep 0.1; i=$((i + 1)); done; echo "$i" > waited'
+    write b.cu 'i=0; until [ "$(ls -d "$TMPDIR"/../../zigrunk-*/call-* 2> /dev/null | wc -l)" = 1 ] || [ "$i" = 100 ]; do sleep 0.1; i=$((i + 1)); done; echo "$i" > waited'
     list=$'-c a.cu -o a.o\n-c b.cu -o b.o'
     batch
     same 'status and output' "$status$(cat "$room/out" "$room/err")" 0a
