@@ -5,15 +5,14 @@ Usage: tests/must_fail.py [CRATE..]                   all crates, or those named
        tests/must_fail.py --gate FOLDER LOG           beside an `rt ci` that runs in FOLDER and writes to LOG; there is a file
                                                       LOG.status once it has ended
 
-`rt must-fail` tries the same files one after the other, each in a check of the whole crate. This script tries all of a crate in one
-run, if it can. The result is the same: a function is proved against the contracts of what it calls, never against their bodies, so a wrong
+`rt must-fail` tries the same files one after the other, each in a check of the whole crate. This script tries all of a crate in two
+runs. The result is the same: a function is proved against the contracts of what it calls, never against their bodies, so a wrong
 body can't make another function's proof fail.
 
-- A check of the edited functions alone tries all wrong bodies of a crate at once. It proves again all that these functions call. It names
-  functions that call a wrong one, and that doesn't count as a rejection.
-- Most functions have no written answers: `search` proves each goal. If that is so of all edited functions of a crate but one,
-  `rattle check --start` takes less: it searches for their goals alone, and writes a hole for each that it doesn't prove. A check tries
-  what it can't start.
+- Most functions have no written answers: `search` proves each goal. `rattle check --start` searches for the goals of these functions
+  alone, and writes a hole for each that it doesn't prove. That takes half the time of a check, which proves again all that they call.
+- A check tries the others, tables too, and the few functions that `--start` can't start. It names functions that call a wrong one, and
+  that doesn't count as a rejection.
 - A second edit of a function takes another run. An edit of a definition is tried alone.
 
 An edit has lines 'file:', 'old:' and 'new:', and a line 'refused:' with the function whose goals have to stay open, by its path
@@ -131,18 +130,15 @@ def is_searched(body: WrongBody, texts: Texts) -> bool:
 
 
 def tried_together(left: List[WrongBody], texts: Texts) -> Tuple[List[WrongBody], Optional[Texts]]:
-    """Returns those of these wrong bodies that one run can try, and the crate's texts with them. If the first can't be tried, returns it
-    alone, and None."""
+    """Returns those of these wrong bodies that one run can try, and the crate's texts with them. All are searched, or none is. If the
+    first can't be tried, returns it alone, and None."""
     if left[0].edited(texts) is None:
         return [left[0]], None
     together: List[WrongBody] = []
-    edited = texts
-    # one that needs a check is tried apart: it calls little, and the others take less by search
-    apart = sum(not is_searched(it, texts) for it in left) == 1
+    edited, searched = texts, is_searched(left[0], texts)
     for it in left:
         with_it = it.edited(edited)
-        fits = not apart or is_searched(it, texts) == is_searched(left[0], texts)
-        if with_it is None or not fits or it.function in [other.function for other in together]:
+        if with_it is None or it.function in [other.function for other in together] or is_searched(it, texts) != searched:
             continue
         if it.bodies(texts) or it.is_of_table():
             together, edited = [*together, it], with_it
@@ -238,7 +234,7 @@ class Attempt:
         """Tries them. Returns for each whether it is rejected, and the message to print."""
         if not self.edited:
             return [(False, "BAD EDIT: an 'old:' text isn't in its file exactly once") for _ in self.bodies]
-        if not all(is_searched(it, self.texts) for it in self.bodies):
+        if not is_searched(self.bodies[0], self.texts):
             return self.checked(self.bodies)
         found = self.searched()
         left = [it for it, verdict in zip(self.bodies, found) if verdict is None]
