@@ -49,8 +49,8 @@ FAILURES = (1, 2)
 LONG = ("lines", "plans", "programs")
 
 # The crates that a library for C is made of, beside those below them, and the tests of it in C that have long input.
-C_CRATES = ("c_texts", "c_plans", "c_lines", "zigrunk_c")
-C_TESTS = ("lines", "line_records", "plans", "records")
+C_CRATES = ("c_texts", "c_plans", "c_steps", "c_lines", "zigrunk_c")
+C_TESTS = ("lines", "line_records", "plans", "records", "steps")
 
 # A run of a case: its status, the seconds that it took, and the numbers of the bodies that would give up in it. And the runs by case.
 Run = tuple[int | None, float, list[int]]

@@ -1,5 +1,5 @@
 -- What expanding within a limit makes, and when a text is too long.
-use Rattle.std.proofs.Common.{◌≡◌, ℕ, ◌+◌, true, false, cond, List, [], ◌∷◌, ◌++◌, Option, Some, None, Bor, MatchOption, refl, ap, sym, ◌∙◌, subst, fold, length, drop, nat_le, arith}
+use Rattle.std.proofs.Common.{◌≡◌, ℕ, ◌+◌, ◌-◌, true, false, cond, List, [], ◌∷◌, ◌++◌, Option, Some, None, Bor, MatchOption, refl, ap, sym, ◌∙◌, subst, fold, length, drop, nat_le, arith}
 use Rattle.std.specs.Option.{option_map}
 use Rattle.std.proofs.lemmas.List.{length-append}
 use Rattle.texts.specs.Path.{lacks}
@@ -9,25 +9,50 @@ use Rattle.dry_runs.specs.Environment.{Variable, refers, expanded}
 use Rattle.dry_runs.specs.Replacing.{replaced}
 use Rattle.dry_runs.specs.FirstReferred.{behind_dollars}
 use Rattle.dry_runs.specs.FirstReferred.{refers as refers_by}
-use Rattle.dry_runs.specs.Limit.{fitting, expanded_fitting, expanded_within}
+use Rattle.dry_runs.specs.Limit.{fitting, begun, made, expanded_fitting, expanded_within, words_left}
 use Rattle.dry_runs.proofs.ExpansionLemmas.{refers-nothing, refers-behind}
 
 -- one more variable, by what follows each `$` of the text
-pub fitting-unreferred : (left : ℕ) (env : List Variable) (name value text : List ℕ) → refers_by name (behind_dollars text) ≡ false → fold (expanded_fitting left) (Some text) ((name, value) ∷ env) ≡ fold (expanded_fitting left) (Some text) env
+pub fitting-unreferred : (left : ℕ) (env : List Variable) (name value text : List ℕ) → refers_by name (behind_dollars text) ≡ false → fold expanded_fitting (Some (left, text)) ((name, value) ∷ env) ≡ fold expanded_fitting (Some (left, text)) env
 fitting-unreferred left env name value text h = rw (refers-behind name text ∙ h) refl
 
-pub fitting-referred : (left : ℕ) (env : List Variable) (name value text : List ℕ) → refers_by name (behind_dollars text) ≡ true → fold (expanded_fitting left) (Some text) ((name, value) ∷ env) ≡ fold (expanded_fitting left) (fitting left (replaced (36 ∷ name) value text)) env
+pub fitting-referred : (left : ℕ) (env : List Variable) (name value text : List ℕ) → refers_by name (behind_dollars text) ≡ true → fold expanded_fitting (Some (left, text)) ((name, value) ∷ env) ≡ fold expanded_fitting (made left (replaced (36 ∷ name) value text)) env
 fitting-referred left env name value text h = rw (refers-behind name text ∙ h) refl
 
 -- a text without `$` stays
-pub fitting-nothing : (left : ℕ) (env : List Variable) (text : List ℕ) → lacks 36 text ≡ true → fold (expanded_fitting left) (Some text) env ≡ Some text
+pub fitting-nothing : (left : ℕ) (env : List Variable) (text : List ℕ) → lacks 36 text ≡ true → fold expanded_fitting (Some (left, text)) env ≡ Some (left, text)
 fitting-nothing left [] text h = refl
 fitting-nothing left (v ∷ env) text h = rw (refers-nothing v.0 text h) (fitting-nothing left env text h)
 
 -- nothing stays nothing
-pub fitting-none : (left : ℕ) (env : List Variable) → fold (expanded_fitting left) None env ≡ None
-fitting-none left [] = refl
-fitting-none left (v ∷ env) = fitting-none left env
+pub fitting-none : (env : List Variable) → fold expanded_fitting None env ≡ None
+fitting-none [] = refl
+fitting-none (v ∷ env) = fitting-none env
+
+pub begins : (left : ℕ) (text : List ℕ) → nat_le (length text) left ≡ true → begun left text ≡ Some (left, text)
+begins left text h = rw h refl
+
+begins-not : (left : ℕ) (text : List ℕ) → nat_le (length text) left ≡ false → begun left text ≡ None
+begins-not left text h = rw h refl
+
+-- what a text that is made leaves, by whether it fits
+pub made-none : (left : ℕ) (text : List ℕ) → None ≡ fitting left text → None ≡ made left text
+made-none left text =
+    elim (nat_le (length text) left)
+    as (λ b. None ≡ cond {A = Option (List ℕ)} b (Some text) None → None ≡ cond {A = Option (ℕ × List ℕ)} b (Some (left - length text, text)) None)
+    [ true ↦ λ h. cc | false ↦ λ h. refl ]
+
+pub made-some : (left : ℕ) (text t : List ℕ) → Some t ≡ fitting left text → Some (left - length t, t) ≡ made left text
+made-some left text t =
+    elim (nat_le (length text) left)
+    as (λ b. Some t ≡ cond {A = Option (List ℕ)} b (Some text) None → Some (left - length t, t) ≡ cond {A = Option (ℕ × List ℕ)} b (Some (left - length text, text)) None)
+    [ true ↦ λ h. (let same : t ≡ text = cc in ap (λ x. Some (left - length x, x)) same) | false ↦ λ h. cc ]
+
+pub made-fits : (left : ℕ) (text t : List ℕ) → Some t ≡ fitting left text → nat_le (length t) left ≡ true
+made-fits left text t =
+    elim (nat_le (length text) left)
+    as (λ b. nat_le (length text) left ≡ b → Some t ≡ cond {A = Option (List ℕ)} b (Some text) None → nat_le (length t) left ≡ true)
+    [ true ↦ λ e h. (let same : t ≡ text = cc in ap (λ x. nat_le (length x) left) same ∙ e) | false ↦ λ e h. cc ] refl
 
 pub fits : (left : ℕ) (text : List ℕ) → nat_le (length text) left ≡ true → fitting left text ≡ Some text
 fits left text h = rw h refl
@@ -43,57 +68,57 @@ pub exceeds-from : (left : ℕ) (front rest whole : List ℕ) → front ++ rest 
 exceeds-from left front rest whole is h =
     exceeds left whole (ap (λ t. nat_le (length t) left) (sym is) ∙ ap (λ n. nat_le n left) (length-append front rest) ∙ longer (length front) (length rest) left h)
 
-no-text : (t x y : List ℕ) → None ≡ Some t → x ≡ y
+no-text : (t : ℕ × List ℕ) (x y : List ℕ) → None ≡ Some t → x ≡ y
 no-text t x y h = cc
 
 -- a text that fits, by what becomes of it
-by-length : (left : ℕ) (env : List Variable) (t new : List ℕ) → (fold (expanded_fitting left) (Some new) env ≡ Some t → expanded env new ≡ t) → fold (expanded_fitting left) (fitting left new) env ≡ Some t → expanded env new ≡ t
-by-length left env t new step =
+by-length : (n left : ℕ) (env : List Variable) (t : ℕ × List ℕ) (new : List ℕ) → (fold expanded_fitting (Some (n, new)) env ≡ Some t → expanded env new ≡ t.1) → fold expanded_fitting (cond {A = Option (ℕ × List ℕ)} (nat_le (length new) left) (Some (n, new)) None) env ≡ Some t → expanded env new ≡ t.1
+by-length n left env t new step =
     elim (nat_le (length new) left)
-    as (λ b. fold (expanded_fitting left) (cond {A = Option (List ℕ)} b (Some new) None) env ≡ Some t → expanded env new ≡ t)
-    [ true ↦ step | false ↦ λ k. no-text t (expanded env new) t (sym (fitting-none left env) ∙ k) ]
+    as (λ b. fold expanded_fitting (cond {A = Option (ℕ × List ℕ)} b (Some (n, new)) None) env ≡ Some t → expanded env new ≡ t.1)
+    [ true ↦ step | false ↦ λ k. no-text t (expanded env new) t.1 (sym (fitting-none env) ∙ k) ]
 
 -- what is expanded within a limit is what is expanded without one
-pub fold-expanded : (left : ℕ) (env : List Variable) (text t : List ℕ) → fold (expanded_fitting left) (Some text) env ≡ Some t → expanded env text ≡ t
-fold-expanded left [] text t h = let same : text ≡ t = cc in same
+pub fold-expanded : (left : ℕ) (env : List Variable) (text : List ℕ) (t : ℕ × List ℕ) → fold expanded_fitting (Some (left, text)) env ≡ Some t → expanded env text ≡ t.1
+fold-expanded left [] text t h = let same : (left, text) ≡ t = cc in ap (λ (s : ℕ × List ℕ). s.1) same
 fold-expanded left (v ∷ env) text t h =
     let new : List ℕ = replaced (36 ∷ v.0) v.1 text in
     (elim (refers (36 ∷ v.0) text)
-    as (λ b. fold (expanded_fitting left) (cond {A = Option (List ℕ)} b (fitting left new) (Some text)) env ≡ Some t → expanded env (cond {A = List ℕ} b new text) ≡ t)
-    [ true ↦ by-length left env t new (fold-expanded left env new t) | false ↦ fold-expanded left env text t ]) h
+    as (λ b. fold expanded_fitting (cond {A = Option (ℕ × List ℕ)} b (made left new) (Some (left, text))) env ≡ Some t → expanded env (cond {A = List ℕ} b new text) ≡ t.1)
+    [ true ↦ by-length (left - length new) left env t new (fold-expanded (left - length new) env new t) | false ↦ fold-expanded left env text t ]) h
 
-pub within-expanded : (left : ℕ) (env : List Variable) (text t : List ℕ) → expanded_within left env text ≡ Some t → expanded env text ≡ t
-within-expanded left env text t = by-length left env t text (fold-expanded left env text t)
+pub within-expanded : (left : ℕ) (env : List Variable) (text : List ℕ) (t : ℕ × List ℕ) → expanded_within left env text ≡ Some t → expanded env text ≡ t.1
+within-expanded left env text t = by-length left left env t text (fold-expanded left env text t)
 
 -- the words of a text that is expanded within a limit
-pub within-words : (left : ℕ) (env : List Variable) (text : List ℕ) (words : Option (List (List ℕ))) (within : Option (List ℕ)) → expanded_within left env text ≡ within → Some words ≡ option_map shell_words within → words ≡ shell_words (expanded env text)
+pub within-words : (left : ℕ) (env : List Variable) (text : List ℕ) (words : Option (List (List ℕ)) × ℕ) (within : Option (ℕ × List ℕ)) → expanded_within left env text ≡ within → Some words ≡ option_map words_left within → words.0 ≡ shell_words (expanded env text)
 within-words left env text words None is h = cc
 within-words left env text words (Some t) is h =
-    let same : words ≡ shell_words t = cc in
-    same ∙ ap shell_words (sym (within-expanded left env text t is))
+    let same : words ≡ words_left t = cc in
+    ap (λ (w : Option (List (List ℕ)) × ℕ). w.0) same ∙ ap shell_words (sym (within-expanded left env text t is))
 
-pub words-too_long : (left : ℕ) (env : List Variable) (text : List ℕ) → nat_le (length text) left ≡ false → None ≡ option_map shell_words (expanded_within left env text)
-words-too_long left env text h = sym (ap (option_map shell_words) (ap (λ o. fold (expanded_fitting left) o env) (exceeds left text h) ∙ fitting-none left env))
+pub words-too_long : (left : ℕ) (env : List Variable) (text : List ℕ) → nat_le (length text) left ≡ false → None ≡ option_map words_left (expanded_within left env text)
+words-too_long left env text h = sym (ap (option_map words_left) (ap (λ o. fold expanded_fitting o env) (begins-not left text h) ∙ fitting-none env))
 
-pub words-from : (left : ℕ) (env : List Variable) (text : List ℕ) (within : Option (List ℕ)) → nat_le (length text) left ≡ true → fold (expanded_fitting left) (Some text) env ≡ within → option_map shell_words within ≡ option_map shell_words (expanded_within left env text)
-words-from left env text within h is = sym (ap (option_map shell_words) (ap (λ o. fold (expanded_fitting left) o env) (fits left text h) ∙ is))
+pub words-from : (left : ℕ) (env : List Variable) (text : List ℕ) (within : Option (ℕ × List ℕ)) → nat_le (length text) left ≡ true → fold expanded_fitting (Some (left, text)) env ≡ within → option_map words_left within ≡ option_map words_left (expanded_within left env text)
+words-from left env text within h is = sym (ap (option_map words_left) (ap (λ o. fold expanded_fitting o env) (begins left text h) ∙ is))
 
 -- what a reference says, by whether there is one
 module _ (left : ℕ) (env : List Variable) (from : ℕ) (text : List ℕ) where
   abbrev FirstIs : Option Reference → Type 0
   FirstIs o = MatchOption o
-      ((left : ℕ) → fold (expanded_fitting left) (Some text) (drop from env) ≡ Some text)
-      (λ r. (left : ℕ) → fold (expanded_fitting left) (Some text) (drop from env) ≡ fold (expanded_fitting left) (fitting left (replaced (36 ∷ r.name.now) r.value.now text)) (drop r.next env))
+      ((left : ℕ) → fold expanded_fitting (Some (left, text)) (drop from env) ≡ Some (left, text))
+      (λ r. (left : ℕ) → fold expanded_fitting (Some (left, text)) (drop from env) ≡ fold expanded_fitting (made left (replaced (36 ∷ r.name.now) r.value.now text)) (drop r.next env))
 
-  pub first-none : (o : Option Reference) → o ≡ None → FirstIs o → fold (expanded_fitting left) (Some text) (drop from env) ≡ Some text
+  pub first-none : (o : Option Reference) → o ≡ None → FirstIs o → fold expanded_fitting (Some (left, text)) (drop from env) ≡ Some (left, text)
   first-none None is h = h left
   first-none (Some r) is h = cc
 
-  pub first-some : (o : Option Reference) (r : Reference) → o ≡ Some r → FirstIs o → fold (expanded_fitting left) (Some text) (drop from env) ≡ fold (expanded_fitting left) (fitting left (replaced (36 ∷ r.name.now) r.value.now text)) (drop r.next env)
+  pub first-some : (o : Option Reference) (r : Reference) → o ≡ Some r → FirstIs o → fold expanded_fitting (Some (left, text)) (drop from env) ≡ fold expanded_fitting (made left (replaced (36 ∷ r.name.now) r.value.now text)) (drop r.next env)
   first-some None r is h = cc
   first-some (Some q) r is h =
       let same : q ≡ r = cc in
-      subst (λ (x : Reference). fold (expanded_fitting left) (Some text) (drop from env) ≡ fold (expanded_fitting left) (fitting left (replaced (36 ∷ x.name.now) x.value.now text)) (drop x.next env)) same (h left)
+      subst (λ (x : Reference). fold expanded_fitting (Some (left, text)) (drop from env) ≡ fold expanded_fitting (made left (replaced (36 ∷ x.name.now) x.value.now text)) (drop x.next env)) same (h left)
 
 -- what writing a reference says, by whether it fits
 module _ (left : ℕ) (out name value after new : List ℕ) where

@@ -1,9 +1,9 @@
 -- Where variables stand by the beginnings of their names, and which of them a text refers to first.
 use Rattle.std.proofs.Common.{◌≡◌, ℕ, zero, suc, ◌+◌, ◌<◌, ◌≤◌, Bool, true, false, cond, eqb, eqb-true, not, ◌&&◌, ◌||◌, nat_le, List, [], ◌∷◌, ◌++◌, Option, Some, None, Result, Ok, Err, OnErr, refl, ap, sym, ◌∙◌, subst, fold, map, length, drop, get_or, string_bytes, String, append_assoc, add-one, arith}
 use Rattle.std.specs.declared.alloc.Global.{Global}
-use Rattle.std.specs.List.{prefix_len, slice_get}
+use Rattle.std.specs.List.{prefix_len, list_all, slice_get}
 use Rattle.std.specs.Str.{chars, bytes_eq, IsUtf8, IsCharBoundary}
-use Rattle.std.proofs.lemmas.Bool.{false≢true, lt-ltb}
+use Rattle.std.proofs.lemmas.Bool.{false≢true, lt-ltb, and_parts}
 use Rattle.std.proofs.lemmas.List.{map-append, length-map}
 use Rattle.std.proofs.lemmas.List.Sums.{prefix_len-le-length}
 use Rattle.std.proofs.lemmas.Option.{slice_get-get_or, slice_get-map, slice_get_past, slice_get_within}
@@ -16,9 +16,9 @@ use Rattle.texts.specs.Lists.{is_some_and, rest_after}
 use Rattle.texts.specs.Path.{lacks}
 use Rattle.texts.specs.Variables.{pair_of}
 use Rattle.dry_runs.specs.Environment.{Variable, is_name_byte, begins_otherwise, is_followed}
-use Rattle.dry_runs.specs.Limit.{fitting, expanded_fitting}
+use Rattle.dry_runs.specs.Limit.{made, expanded_fitting}
 use Rattle.dry_runs.specs.FirstReferred.{behind_dollars, refers, first_below, follows_at, follows_from, refers_at, IsFirstReferred}
-use Rattle.dry_runs.specs.Places.{beginning, Places, with_place, places_from}
+use Rattle.dry_runs.specs.Places.{beginning, behind_beginning, are_plain, Places, with_place, places_from}
 use Rattle.dry_runs.specs.Replacing.{replaced}
 use Rattle.dry_runs.proofs.ExpansionLemmas.{behind-cut, behind-nothing}
 use Rattle.dry_runs.proofs.FittingLemmas.{fitting-unreferred, fitting-referred}
@@ -125,7 +125,68 @@ places-more pairs more pair places placed n name grown known count same noted =
     ∙ sym (λ i start. places-pushed 0 env (pair_of pair) start i)
     ∙ ap (places_from 0) (sym (ap (map pair_of) grown ∙ map-append pair_of pairs (pair ∷ [])))
 
+-- whether the names are plain, with one more
+plain-pushed : (env : List Variable) (v : Variable) → are_plain (env ++ v ∷ []) ≡ (are_plain env && list_all is_name_byte v.0)
+plain-pushed [] v = by (list_all is_name_byte v.0) where
+  by : (b : Bool) → (b && true) ≡ b
+  by true = refl
+  by false = refl
+plain-pushed (w ∷ ws) v = ap (λ b. list_all is_name_byte w.0 && b) (plain-pushed ws v) ∙ by (list_all is_name_byte w.0) where
+  by : (b : Bool) → (b && (are_plain ws && list_all is_name_byte v.0)) ≡ ((b && are_plain ws) && list_all is_name_byte v.0)
+  by true = refl
+  by false = refl
+
+pub plain-more : (pairs more : List (String Global × String Global)) (pair : String Global × String Global) (was is : Bool) → more ≡ pairs ++ pair ∷ [] → was ≡ are_plain (map pair_of pairs) → is ≡ (was && list_all is_name_byte (string_bytes pair.0)) → is ≡ are_plain (map pair_of more)
+plain-more pairs more pair was is grown known noted =
+    noted
+    ∙ ap (λ b. b && list_all is_name_byte (string_bytes pair.0)) known
+    ∙ sym (plain-pushed (map pair_of pairs) (pair_of pair))
+    ∙ ap are_plain (sym (ap (map pair_of) grown ∙ map-append pair_of pairs (pair ∷ [])))
+
+-- Where a text doesn't end a name, no plain name is one that it refers to.
+
+behind-byte : (c : ℕ) (cs : List ℕ) → is_name_byte c ≡ true → behind_beginning (c ∷ cs) ≡ behind_beginning cs
+behind-byte c cs h = rw (h, one-more (prefix_len is_name_byte cs)) refl
+
+unended : (after : List ℕ) → begins_otherwise (chars (behind_beginning after)) ≡ false → begins_otherwise (chars after) ≡ false
+unended [] h = h
+unended (c ∷ cs) h =
+    elim (is_name_byte c) as (λ b. is_name_byte c ≡ b → begins_otherwise (chars (c ∷ cs)) ≡ false) [
+      | true ↦ λ e. name-first c cs e
+      | false ↦ λ e. subst (λ n. begins_otherwise (chars (drop n (c ∷ cs))) ≡ false) (ap (λ b. cond b (1 + prefix_len is_name_byte cs) 0) e) h
+    ] refl
+
+plain-fails : (name after : List ℕ) → list_all is_name_byte name ≡ true → begins_otherwise (chars (behind_beginning after)) ≡ false → is_followed (rest_after name after) ≡ false
+plain-fails [] after plain h = unended after h
+plain-fails (c ∷ cs) [] plain h = refl
+plain-fails (c ∷ cs) (d ∷ ds) plain h =
+    let parts = and_parts (is_name_byte c) (list_all is_name_byte cs) plain in
+    elim (eqb c d) as (λ b. eqb c d ≡ b → is_followed (cond b (rest_after cs ds) None) ≡ false) [
+      | true ↦ λ e. plain-fails cs ds parts.1 (subst (λ t. begins_otherwise (chars t) ≡ false) (behind-byte d ds (subst (λ x. is_name_byte x ≡ true) (eqb-true c d e) parts.0)) h)
+      | false ↦ λ e. refl
+    ] refl
+
+plain-at : (env : List Variable) (place : ℕ) (after : List ℕ) → are_plain env ≡ true → begins_otherwise (chars (behind_beginning after)) ≡ false → follows_at env after place ≡ false
+plain-at [] zero after plain h = refl
+plain-at [] (suc place) after plain h = refl
+plain-at (v ∷ vs) zero after plain h = plain-fails v.0 after (and_parts (list_all is_name_byte v.0) (are_plain vs) plain).0 h
+plain-at (v ∷ vs) (suc place) after plain h = plain-at vs place after (and_parts (list_all is_name_byte v.0) (are_plain vs) plain).1 h
+
 -- The first place below a bound.
+
+none-passes : (test : ℕ → Bool) (bound : ℕ) (places : List ℕ) → ((p : ℕ) → test p ≡ false) → first_below test bound places ≡ bound
+none-passes test bound [] h = refl
+none-passes test bound (p ∷ ps) h =
+    elim (nat_le bound p) as (λ b. cond b bound (cond (test p) p (first_below test bound ps)) ≡ bound)
+    [ true ↦ refl | false ↦ ap (λ b. cond b p (first_below test bound ps)) (h p) ∙ none-passes test bound ps h ]
+
+-- a text that doesn't end a name refers to no variable of a plain name
+pub first-unended : (env : List Variable) (from bound : ℕ) (after : List ℕ) (places : List ℕ) → are_plain env ≡ true → begins_otherwise (chars (behind_beginning after)) ≡ false → bound ≡ first_below (follows_from from env after) bound places
+first-unended env from bound after places plain h =
+    sym (none-passes (follows_from from env after) bound places (λ p. ap (λ b. nat_le from p && b) (plain-at env p after plain h) ∙ none (nat_le from p))) where
+      none : (b : Bool) → (b && false) ≡ false
+      none true = refl
+      none false = refl
 
 pub first-within : (test : ℕ → Bool) (bound : ℕ) (places : List ℕ) → first_below test bound places ≤ bound
 first-within test bound [] = omega arith
@@ -228,7 +289,7 @@ refers-none env text place h =
 
 module _ (left : ℕ) (text : List ℕ) where
   -- no variable from a place on
-  pub none-referred : (env : List Variable) (from : ℕ) → ((i : ℕ) → from ≤ i → refers_at env text i ≡ false) → fold (expanded_fitting left) (Some text) (drop from env) ≡ Some text
+  pub none-referred : (env : List Variable) (from : ℕ) → ((i : ℕ) → from ≤ i → refers_at env text i ≡ false) → fold expanded_fitting (Some (left, text)) (drop from env) ≡ Some (left, text)
   none-referred [] zero h = refl
   none-referred [] (suc from) h = refl
   none-referred (v ∷ env) zero h = fitting-unreferred left env v.0 v.1 text (h 0 (omega arith)) ∙ none-referred env 0 (λ i le. h (suc i) (omega arith))
@@ -236,11 +297,11 @@ module _ (left : ℕ) (text : List ℕ) where
 
   -- this variable, and none before it
   pub first-referred : (env : List Variable) (from place : ℕ) (v : Variable) → from ≤ place → slice_get env place ≡ Some v → refers v.0 (behind_dollars text) ≡ true → ((i : ℕ) → from ≤ i → i < place → refers_at env text i ≡ false)
-      → fold (expanded_fitting left) (Some text) (drop from env) ≡ fold (expanded_fitting left) (fitting left (replaced (36 ∷ v.0) v.1 text)) (drop (suc place) env)
+      → fold expanded_fitting (Some (left, text)) (drop from env) ≡ fold expanded_fitting (made left (replaced (36 ∷ v.0) v.1 text)) (drop (suc place) env)
   first-referred [] from place v le at told h = cc
   first-referred (w ∷ env) zero zero v le at told h =
       let same : w ≡ v = cc in
-      subst (λ (x : Variable). fold (expanded_fitting left) (Some text) (x ∷ env) ≡ fold (expanded_fitting left) (fitting left (replaced (36 ∷ v.0) v.1 text)) env) (sym same) (fitting-referred left env v.0 v.1 text told)
+      subst (λ (x : Variable). fold expanded_fitting (Some (left, text)) (x ∷ env) ≡ fold expanded_fitting (made left (replaced (36 ∷ v.0) v.1 text)) env) (sym same) (fitting-referred left env v.0 v.1 text told)
   first-referred (w ∷ env) zero (suc place) v le at told h =
       fitting-unreferred left env w.0 w.1 text (h 0 (omega arith) (omega arith))
       ∙ first-referred env 0 place v (omega arith) at told (λ i low high. h (suc i) (omega arith) (omega (arith, high)))
@@ -305,7 +366,7 @@ module _ (left : ℕ) (env : List Variable) (from : ℕ) (text : List ℕ) (plac
   past : (i : ℕ) → length env ≤ i → refers_at env text i ≡ false
   past i le = ap (λ o. is_some_and (λ (v : Variable). refers v.0 (behind_dollars text)) o) (slice_get_past env i le)
 
-  pub first-none-there : slice_get env place ≡ None → fold (expanded_fitting left) (Some text) (drop from env) ≡ Some text
+  pub first-none-there : slice_get env place ≡ None → fold expanded_fitting (Some (left, text)) (drop from env) ≡ Some (left, text)
   first-none-there none =
       none-referred left text env from (λ i low.
       elim (nat_le (length env) i) as (λ b. nat_le (length env) i ≡ b → refers_at env text i ≡ false) [
@@ -327,7 +388,7 @@ module _ (left : ℕ) (env : List Variable) (from : ℕ) (text : List ℕ) (plac
           ]
           refl
 
-  pub first-there : (v : Variable) → slice_get env place ≡ Some v → fold (expanded_fitting left) (Some text) (drop from env) ≡ fold (expanded_fitting left) (fitting left (replaced (36 ∷ v.0) v.1 text)) (drop (suc place) env)
+  pub first-there : (v : Variable) → slice_get env place ≡ Some v → fold expanded_fitting (Some (left, text)) (drop from env) ≡ fold expanded_fitting (made left (replaced (36 ∷ v.0) v.1 text)) (drop (suc place) env)
   first-there v at =
       let inside : place < length env = slice_get_within env place v at in
       let is = first.is_one inside in

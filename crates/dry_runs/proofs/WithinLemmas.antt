@@ -22,7 +22,7 @@ use Rattle.dry_runs.specs.CommandLines.{CommandLine}
 use Rattle.dry_runs.specs.DryRun.{LookUp, Meaning, Ignored, Assigns, Runs, Bad, meaning, meaning_found, meaning_by_path, environment_after, fault_of}
 use Rattle.dry_runs.specs.DryRunLines.{marked_text}
 use Rattle.dry_runs.specs.Environment.{Variable, expanded}
-use Rattle.dry_runs.specs.Limit.{UnlessMemoryWithin, expanded_within, fits_assigned, fits_marked, text_fits, stated_within, held_by, left_behind, left_behind_line, too_long_from, first_too_long, answer_within}
+use Rattle.dry_runs.specs.Limit.{UnlessMemoryWithin, expanded_within, words_left, left_assigned, left_marked, left_by_texts, left_holding, stated_marked_within, stated_within, held_by, left_behind, left_behind_line, too_long_from, first_too_long, answer_within}
 use Rattle.dry_runs.specs.Reading.{meaning_stated, found_or_fault, said_left, said_next, next_within, next_held}
 use Rattle.dry_runs.specs.Statement.{stated, stated_marked, stated_assigned, stated_by_words}
 use Rattle.dry_runs.proofs.FittingLemmas.{within-expanded}
@@ -30,55 +30,57 @@ use Rattle.dry_runs.proofs.ReadingLemmas.{environment-next, not_found-next}
 use Rattle.dry_runs.proofs.StatementLemmas.{meaning-stated}
 
 -- a command, by its text
-pub command-within : (left : ℕ) (env : List Variable) (text : List ℕ) (within : Option (List ℕ)) → expanded_within left env text ≡ within → option_map stated_by_words (option_map shell_words within) ≡ cond {A = Option Statement} (is_some within) (Some (stated_by_words (shell_words (expanded env text)))) None
-command-within left env text None is = refl
-command-within left env text (Some t) is = ap (λ e. Some (stated_by_words (shell_words e))) (sym (within-expanded left env text t is))
+abbrev by_words : Option (List (List ℕ)) × ℕ → Statement × ℕ
+by_words w = (stated_by_words w.0, w.1)
 
-pub marked-command : (left : ℕ) (env : List Variable) (text : List ℕ) (assigned : Option Variable) → None ≡ assigned → option_map stated_by_words (option_map shell_words (expanded_within left env text)) ≡ cond {A = Option Statement} (fits_assigned left env text assigned) (Some (stated_assigned env text assigned)) None
+pub command-within : (left : ℕ) (env : List Variable) (text : List ℕ) (within : Option (ℕ × List ℕ)) → expanded_within left env text ≡ within → option_map by_words (option_map words_left within) ≡ option_map (λ less. (stated_by_words (shell_words (expanded env text)), less)) (option_map (λ (s : ℕ × List ℕ). s.0) within)
+command-within left env text None is = refl
+command-within left env text (Some t) is = ap (λ e. Some (stated_by_words (shell_words e), t.0)) (sym (within-expanded left env text t is))
+
+pub marked-command : (left : ℕ) (env : List Variable) (text : List ℕ) (assigned : Option Variable) → None ≡ assigned → option_map by_words (option_map words_left (expanded_within left env text)) ≡ option_map (λ less. (stated_assigned env text assigned, less)) (left_assigned left env text assigned)
 marked-command left env text None is = command-within left env text (expanded_within left env text) refl
 marked-command left env text (Some v) is = cc
 
-pub within-no_text : (left : ℕ) (env : List Variable) (line : List ℕ) → (IsUtf8 line → ⊥) → Some NotUtf8 ≡ stated_within left env line
+pub within-no_text : (left : ℕ) (env : List Variable) (line : List ℕ) → (IsUtf8 line → ⊥) → ◌≡◌ {A = Option (Statement × ℕ)} (Some (NotUtf8, left)) (stated_within left env line)
 within-no_text left env line h =
-    elim (is_utf8 line) as (λ b. is_utf8 line ≡ b → Some NotUtf8 ≡ cond {A = Option Statement} (cond b (fits_marked left env (marked_text line)) true) (Some (cond b (stated_marked env (marked_text line)) NotUtf8)) None)
+    elim (is_utf8 line) as (λ b. is_utf8 line ≡ b → ◌≡◌ {A = Option (Statement × ℕ)} (Some (NotUtf8, left)) (option_map (λ less. (cond b (stated_marked env (marked_text line)) NotUtf8, less)) (cond {A = Option ℕ} b (left_marked left env (marked_text line)) (Some left))))
     [ true ↦ λ e. absurd (h (IsUtf8-from_is_utf8 line e)) | false ↦ λ e. refl ] refl
 
-abbrev marked_within : ℕ → List Variable → List ℕ → Option Statement
-marked_within left env text = cond {A = Option Statement} (fits_marked left env (marked_text text)) (Some (stated_marked env (marked_text text))) None
+abbrev marked_within : ℕ → List Variable → List ℕ → Option (Statement × ℕ)
+marked_within left env text = stated_marked_within left env (marked_text text)
 
 same-within : (left : ℕ) (env : List Variable) (text line : List ℕ) → text ≡ line → IsUtf8 line → marked_within left env text ≡ stated_within left env line
 same-within left env text line same h =
     ap (marked_within left env) same
-    ∙ sym (ap (λ b. cond {A = Option Statement} (cond b (fits_marked left env (marked_text line)) true) (Some (cond b (stated_marked env (marked_text line)) NotUtf8)) None) (is_utf8-from_IsUtf8 line h))
+    ∙ sym (ap (λ b. option_map (λ less. (cond b (stated_marked env (marked_text line)) NotUtf8, less)) (cond {A = Option ℕ} b (left_marked left env (marked_text line)) (Some left))) (is_utf8-from_IsUtf8 line h))
 
-pub within-text : (left : ℕ) (env : List Variable) (text line : List ℕ) (r : Result (Option Statement) AllocError) → text ≡ line → IsUtf8 line → IfOk r (λ s. s ≡ marked_within left env text) → IfOk r (λ s. s ≡ stated_within left env line)
+pub within-text : (left : ℕ) (env : List Variable) (text line : List ℕ) (r : Result (Option (Statement × ℕ)) AllocError) → text ≡ line → IsUtf8 line → IfOk r (λ s. s ≡ marked_within left env text) → IfOk r (λ s. s ≡ stated_within left env line)
 within-text left env text line r same h told = subst (λ q. IfOk r (λ s. s ≡ q)) (same-within left env text line same h) told
 
 -- a statement within a limit is the one without
-pub stated-some : (fits : Bool) (s t : Statement) → Some s ≡ cond {A = Option Statement} fits (Some t) None → s ≡ t
-stated-some true s t h = cc
-stated-some false s t h = cc
+pub stated-some : (room : Option ℕ) (s t : Statement) (less : ℕ) → ◌≡◌ {A = Option (Statement × ℕ)} (Some (s, less)) (option_map (λ n. (t, n)) room) → (s ≡ t) × (room ≡ Some less)
+stated-some None s t less h = cc
+stated-some (Some n) s t less h =
+    let same : ◌≡◌ {A = Statement × ℕ} (s, less) (t, n) = cc in
+    (ap (λ (x : Statement × ℕ). x.0) same, ap (λ (x : Statement × ℕ). Some x.1) (sym same))
 
-stated-fits : (fits : Bool) (s t : Statement) → Some s ≡ cond {A = Option Statement} fits (Some t) None → fits ≡ true
-stated-fits true s t h = refl
-stated-fits false s t h = cc
-
-stated-none : (fits : Bool) (t : Statement) → None ≡ cond {A = Option Statement} fits (Some t) None → fits ≡ false
-stated-none true t h = cc
-stated-none false t h = refl
+stated-none : (room : Option ℕ) (t : Statement) → ◌≡◌ {A = Option (Statement × ℕ)} None (option_map (λ n. (t, n)) room) → room ≡ None
+stated-none None t h = refl
+stated-none (Some n) t h = cc
 
 -- A line that is read with a look-up and a working directory.
 module _ (which : LookUp) (run : ℕ) (cwd : List ℕ) where
   pub line-too_long : (left number : ℕ) (env : List Variable) (line : List ℕ) (said : Result Said Fault) → None ≡ stated_within left env line → next_within run number (left_behind_line which run cwd left env (number, line)) said ≡ Err (TooLong run number)
   line-too_long left number env line said h =
-      ap (λ b. next_within run number (cond {A = Option ℕ} b (left_behind left (held_by (meaning which run cwd env (number, line)))) None) said) (stated-none (text_fits left env line) (stated env line) h)
+      ap (λ room. next_within run number (left_holding (held_by (meaning which run cwd env (number, line))) room) said) (stated-none (left_by_texts left env line) (stated env line) h)
 
-  pub line-fits : (left number : ℕ) (s : Said) (line : List ℕ) (statement : Statement) → Some statement ≡ stated_within left s.env line → next_held run number left s (meaning_stated which run cwd number s.env statement) ≡ next_within run number (left_behind_line which run cwd left s.env (number, line)) (said_next s (meaning which run cwd s.env (number, line)))
-  line-fits left number s line statement h =
+  pub line-fits : (left less number : ℕ) (s : Said) (line : List ℕ) (statement : Statement) → ◌≡◌ {A = Option (Statement × ℕ)} (Some (statement, less)) (stated_within left s.env line) → next_held run number less s (meaning_stated which run cwd number s.env statement) ≡ next_within run number (left_behind_line which run cwd left s.env (number, line)) (said_next s (meaning which run cwd s.env (number, line)))
+  line-fits left less number s line statement h =
       let m = meaning which run cwd s.env (number, line) in
-      ap (λ t. next_held run number left s (meaning_stated which run cwd number s.env t)) (stated-some (text_fits left s.env line) statement (stated s.env line) h)
-      ∙ ap (next_held run number left s) (meaning-stated which run cwd number s.env line)
-      ∙ sym (ap (λ b. next_within run number (cond {A = Option ℕ} b (left_behind left (held_by m)) None) (said_next s m)) (stated-fits (text_fits left s.env line) statement (stated s.env line) h))
+      let parts = stated-some (left_by_texts left s.env line) statement (stated s.env line) less h in
+      ap (λ t. next_held run number less s (meaning_stated which run cwd number s.env t)) parts.0
+      ∙ ap (next_held run number less s) (meaning-stated which run cwd number s.env line)
+      ∙ sym (ap (λ room. next_within run number (left_holding (held_by m) room) (said_next s m)) parts.1)
 
 -- what a step within a limit says of the step without one
 next-ok : (run number : ℕ) (room : Option ℕ) (said : Result Said Fault) (t : Said) (less : ℕ) → next_within run number room said ≡ Ok (t, less) → (room ≡ Some less) × (said ≡ Ok t)

@@ -13,26 +13,26 @@ use Rattle.dry_runs.specs.Limit.{dry_run_within}
 abbrev pub first_within : ℕ → List ℕ → Result (List CommandLine × List Variable) LimitedFault
 first_within limit bytes = dry_run_within limit 1 bytes (codes "/w") first_dir
 
--- `PATH` and `/b` hold eight bytes, and `/b/gcc` seven, not the four of `gcc`
+-- `PATH` and `/b` hold eight bytes, and `/b/gcc` seven, not the four of `gcc`. Each line counts 4,096 more
 abbrev pub AllThatIsHeldCounts : Type 0
 AllThatIsHeldCounts =
-    (first_within 15 (codes "#$ PATH=/b\n#$ gcc\n")
+    (first_within 8207 (codes "#$ PATH=/b\n#$ gcc\n")
     ≡ Ok ((1, codes "/b/gcc", []) ∷ [], (codes "PATH", codes "/b") ∷ []))
-    × (first_within 14 (codes "#$ PATH=/b\n#$ gcc\n") ≡ Err (TooLong 1 1))
-    × (first_within 7 (codes "#$ PATH=/b\n#$ gcc\n") ≡ Err (TooLong 1 0))
+    × (first_within 8206 (codes "#$ PATH=/b\n#$ gcc\n") ≡ Err (TooLong 1 1))
+    × (first_within 4103 (codes "#$ PATH=/b\n#$ gcc\n") ≡ Err (TooLong 1 0))
 
--- the variables hold twenty bytes, and the command nine, but its text is eleven bytes long in between: `gcc $B$B$B.`
+-- the variables hold twenty bytes, and the command nine. Expanding makes eleven bytes more, `gcc $B$B$B.`, and then five, `gcc .`
 abbrev pub TextsOnTheWayCount : Type 0
 TextsOnTheWayCount =
-    (first_within 31 (codes "#$ PATH=/b\n#$ A=$B$B$B\n#$ B=\n#$ gcc $A.\n")
+    (first_within 16429 (codes "#$ PATH=/b\n#$ A=$B$B$B\n#$ B=\n#$ gcc $A.\n")
     ≡ Ok ((3, codes "/b/gcc", codes "." ∷ []) ∷ [], (codes "PATH", codes "/b") ∷ (codes "A", codes "$B$B$B") ∷ (codes "B", []) ∷ []))
-    × (first_within 30 (codes "#$ PATH=/b\n#$ A=$B$B$B\n#$ B=\n#$ gcc $A.\n") ≡ Err (TooLong 1 3))
+    × (first_within 16428 (codes "#$ PATH=/b\n#$ A=$B$B$B\n#$ B=\n#$ gcc $A.\n") ≡ Err (TooLong 1 3))
 
 -- a bad line ends the reading, and a line that exceeds the limit does too: the first one decides
 abbrev pub FirstOfBothDecides : Type 0
 FirstOfBothDecides =
-    (first_within 7 (255 ∷ 10 ∷ codes "#$ PATH=/b\n") ≡ Err (limited.Fault (NotUtf8 1 0)))
-    × (first_within 7 (codes "#$ PATH=/b\n" ++ 255 ∷ 10 ∷ []) ≡ Err (TooLong 1 0))
+    (first_within 4103 (255 ∷ 10 ∷ codes "#$ PATH=/b\n") ≡ Err (limited.Fault (NotUtf8 1 0)))
+    × (first_within 4103 (codes "#$ PATH=/b\n" ++ 255 ∷ 10 ∷ []) ≡ Err (TooLong 1 0))
 
 -- lines without the mark count nothing
 abbrev pub UnmarkedLinesAreFree : Type 0

@@ -25,19 +25,19 @@ MissingProgramIsFirst =
     × (bad_line (lacking (codes "./gcc")) (codes "/w") (parsed_of 1 open_quote) ≡ Some 2)
     × (bad_line (lacking []) (codes "/w") (parsed_of 1 open_quote) ≡ Some 3)
 
--- each command counts the value of `PATH`: `PATH` and `/b` hold eight bytes, and `/bgcc` and `x` eight
+-- each command counts the value of `PATH`: `PATH` and `/b` hold eight bytes, and `/bgcc` and `x` eight. Each line counts 4,096 more
 abbrev pub PathCounts : Type 0
 PathCounts =
-    (parsed_within 16 1 (codes "#$ PATH=/b\n#$ gcc x\n") ≡ Ok (parsed_of 1 (codes "#$ PATH=/b\n#$ gcc x\n")))
-    × (parsed_within 15 1 (codes "#$ PATH=/b\n#$ gcc x\n") ≡ Err (TooLong 1 1))
+    (parsed_within 8208 1 (codes "#$ PATH=/b\n#$ gcc x\n") ≡ Ok (parsed_of 1 (codes "#$ PATH=/b\n#$ gcc x\n")))
+    × (parsed_within 8207 1 (codes "#$ PATH=/b\n#$ gcc x\n") ≡ Err (TooLong 1 1))
 
--- a run that holds sixteen bytes: `PATH` and `/b` eight, `/bgcc` and `x` eight
+-- a run that counts 8,208 bytes: `PATH` and `/b` eight, `/bgcc` and `x` eight, and each line 4,096 more
 abbrev gcc_run : List ℕ
 gcc_run = codes "#$ PATH=/b\n#$ gcc x\n"
 
 -- each of two runs has the whole limit, and the first one that exceeds it decides
 abbrev pub EachRunHasTheLimit : Type 0
 EachRunHasTheLimit =
-    (both_parsed_within 16 gcc_run gcc_run ≡ Ok (both_parsed gcc_run gcc_run))
-    × (both_parsed_within 15 gcc_run gcc_run ≡ Err (TooLong 1 1))
-    × (both_parsed_within 15 [] gcc_run ≡ Err (TooLong 2 1))
+    (both_parsed_within 8208 gcc_run gcc_run ≡ Ok (both_parsed gcc_run gcc_run))
+    × (both_parsed_within 8207 gcc_run gcc_run ≡ Err (TooLong 1 1))
+    × (both_parsed_within 8207 [] gcc_run ≡ Err (TooLong 2 1))

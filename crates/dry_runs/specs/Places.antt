@@ -1,12 +1,20 @@
 -- Where the variables of an environment stand, by the beginnings of their names.
-use Rattle.std.specs.Prelude.{◌≡◌, ℕ, ◌+◌, List, [], ◌∷◌, ◌++◌, if◌then◌else◌, refl, codes}
-use Rattle.std.specs.List.{take_while}
+use Rattle.std.specs.Prelude.{◌≡◌, ℕ, ◌+◌, List, [], ◌∷◌, ◌++◌, Bool, drop, if◌then◌else◌, refl, codes}
+use Rattle.std.specs.List.{take_while, prefix_len, list_all}
 use Rattle.std.specs.Str.{bytes_eq}
 use Rattle.dry_runs.specs.Environment.{Variable, is_name_byte}
 
 -- the bytes of a name that a text begins with. A name and a text that refers to it begin with the same ones
 abbrev pub beginning : List ℕ → List ℕ
 beginning text = take_while is_name_byte text
+
+-- what follows them
+abbrev pub behind_beginning : List ℕ → List ℕ
+behind_beginning text = drop (prefix_len is_name_byte text) text
+
+-- whether all names are made of such bytes alone, as those of environment lines are
+abbrev pub are_plain : List Variable → Bool
+are_plain env = list_all (λ v. list_all is_name_byte v.0) env
 
 -- the places of variables, for each beginning of their names
 abbrev pub Places : Type 0

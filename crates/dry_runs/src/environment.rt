@@ -36,7 +36,7 @@ pub(crate) fn is_name_byte(byte: u8) -> bool
 }
 
 // Whether a text is made of such bytes.
-fn is_of_name_bytes(text: &[u8]) -> bool
+pub(crate) fn is_of_name_bytes(text: &[u8]) -> bool
     ensures { result ≡ list_all spec.is_name_byte text.now }
 {
     text.iter().all(|byte| is_name_byte(*byte))
@@ -78,7 +78,7 @@ pub fn assignment(text: &str) -> Option<(&str, &str)>
 }
 
 // Whether a text begins with a character that no name goes on with.
-fn begins_otherwise(text: &str) -> bool
+pub(crate) fn begins_otherwise(text: &str) -> bool
     ensures { result ≡ spec.begins_otherwise (chars text.now) }
 {
     let mut chars = text.chars();
@@ -186,74 +186,99 @@ fn replaced(
     }
 }
 
-// A text with a variable that it refers to expanded, and then those behind it, one after the other, or `None` if one of
-// these texts is longer than `left`.
+// What is left of the limit, and a text with the references to one variable expanded, which counts, or `None` if it
+// exceeds what was left.
+fn made(
+    alloc: Global,
+    text: &str,
+    name: &str,
+    value: &str,
+    left: usize,
+) -> Result<Option<(usize, String)>, AllocError>
+    ensures { IfOk result (λ t. option_map limit.text_seen t ≡ limit.made left (replacing.replaced (codes "$" ++ name.now) value.now text.now)) }
+{
+    let Some(text) = replaced(alloc, text, name, value, left)? else {
+        return Ok(None);
+    };
+    match left.checked_sub(text.len()) {
+        None => Ok(None),
+        Some(less) => Ok(Some((less, text))),
+    }
+}
+
+// What is left of the limit, and a text with a variable that it refers to expanded, and then those behind it, one after
+// the other, or `None` if these texts together are longer than `left`.
 fn expanded(
     alloc: Global,
     env: &SetVariables,
     text: &str,
     first: Reference,
     left: usize,
-) -> Result<Option<String>, AllocError>
-    ensures { IfOk result (λ t. option_map string_bytes t
-        ≡ fold (limit.expanded_fitting left) (limit.fitting left (replacing.replaced (codes "$" ++ first.entry.name.now) first.entry.value.now text.now)) (drop first.entry.next env.now)) }
+) -> Result<Option<(usize, String)>, AllocError>
+    ensures { IfOk result (λ t. option_map limit.text_seen t
+        ≡ fold limit.expanded_fitting (limit.made left (replacing.replaced (codes "$" ++ first.entry.name.now) first.entry.value.now text.now)) (drop first.entry.next env.now)) }
 {
-    let Some(mut expanded) = replaced(alloc, text, first.name, first.value, left)? else {
+    let Some((mut room, mut expanded)) = made(alloc, text, first.name, first.value, left)? else {
         return Ok(None);
     };
     let mut from = first.next;
     while let Some(next) = env.first_reference(from, expanded.as_str()) {
-        let Some(more) = replaced(alloc, expanded.as_str(), next.name, next.value, left)? else {
+        let Some((less, more)) = made(alloc, expanded.as_str(), next.name, next.value, room)? else {
             return Ok(None);
         };
+        room = less;
         expanded = more;
         from = next.next;
     }
-    Ok(Some(expanded))
+    Ok(Some((room, expanded)))
 }
 
-// The shell words of a text: an inner `None` if it doesn't split.
-fn words_alone(alloc: Global, text: &str) -> Result<Option<Option<Vec<String>>>, AllocError>
-    ensures { IfOk result (λ found. option_map (option_map (λ v. map string_bytes v.items)) found ≡ Some (shell_words text.now)) }
+// The shell words of a text, `None` if it doesn't split, and what is left of the limit.
+fn words_alone(
+    alloc: Global,
+    text: &str,
+    left: usize,
+) -> Result<Option<(Option<Vec<String>>, usize)>, AllocError>
+    ensures { IfOk result (λ found. option_map limit.words_seen found ≡ Some (limit.words_left (left, text.now))) }
 {
-    Ok(Some(words_of(alloc, text)?))
+    Ok(Some((words_of(alloc, text)?, left)))
 }
 
-// The shell words of a text with a variable that it refers to expanded, and then those behind it: an inner `None` if the
-// result doesn't split, and an outer one if one of these texts is longer than `left`.
+// The shell words of a text with a variable that it refers to expanded, and then those behind it, and what is left of
+// the limit: an inner `None` if the result doesn't split, and an outer one if these texts together are longer than `left`.
 fn words_of_expanded(
     alloc: Global,
     env: &SetVariables,
     text: &str,
     first: Reference,
     left: usize,
-) -> Result<Option<Option<Vec<String>>>, AllocError>
-    ensures { IfOk result (λ found. option_map (option_map (λ v. map string_bytes v.items)) found
-        ≡ option_map shell_words (fold (limit.expanded_fitting left) (limit.fitting left (replacing.replaced (codes "$" ++ first.entry.name.now) first.entry.value.now text.now)) (drop first.entry.next env.now))) }
+) -> Result<Option<(Option<Vec<String>>, usize)>, AllocError>
+    ensures { IfOk result (λ found. option_map limit.words_seen found
+        ≡ option_map limit.words_left (fold limit.expanded_fitting (limit.made left (replacing.replaced (codes "$" ++ first.entry.name.now) first.entry.value.now text.now)) (drop first.entry.next env.now))) }
 {
     match expanded(alloc, env, text, first, left)? {
         None => Ok(None),
-        Some(expanded) => words_alone(alloc, expanded.as_str()),
+        Some((room, expanded)) => words_alone(alloc, expanded.as_str(), room),
     }
 }
 
-// The shell words of a text in which the variables of an environment are expanded: an inner `None` if the result doesn't
-// split, and an outer one if the text, or one of those that the expansion makes, is longer than `left`. A text that
-// refers to no variable isn't copied.
+// The shell words of a text in which the variables of an environment are expanded, and what is left of the limit: an inner
+// `None` if the result doesn't split, and an outer one if the text, or all texts together that the expansion makes, are
+// longer than `left`. A text that refers to no variable isn't copied.
 pub fn expanded_words_within(
     alloc: Global,
     env: &SetVariables,
     text: &str,
     left: usize,
-) -> Result<Option<Option<Vec<String>>>, AllocError>
-    ensures { IfOk result (λ found. option_map (option_map (λ v. map string_bytes v.items)) found
-        ≡ option_map shell_words (limit.expanded_within left env.now text.now)) }
+) -> Result<Option<(Option<Vec<String>>, usize)>, AllocError>
+    ensures { IfOk result (λ found. option_map limit.words_seen found
+        ≡ option_map limit.words_left (limit.expanded_within left env.now text.now)) }
 {
     if text.len() > left {
         return Ok(None);
     }
     match env.first_reference(0, text) {
-        None => words_alone(alloc, text),
+        None => words_alone(alloc, text, left),
         Some(first) => words_of_expanded(alloc, env, text, first, left),
     }
 }
@@ -270,6 +295,6 @@ pub fn expanded_words(
 {
     match expanded_words_within(alloc, env, text, usize::MAX)? {
         None => Err(AllocError),
-        Some(words) => Ok(words),
+        Some((words, _)) => Ok(words),
     }
 }

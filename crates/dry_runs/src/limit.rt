@@ -41,7 +41,7 @@ impl LimitedFault {
     ghost use Rattle.dry_runs.specs.Limit.{without_limit};
 
     /// Returns the fault of a reader that has no limit: `Fault::Memory` if a line exceeds even the largest limit, since no
-    /// memory can hold such a line.
+    /// memory can hold such a line, and no time suffices to make such texts.
     pub fn without_limit(self) -> Fault
         ensures { result ≡ without_limit self }
     {
@@ -87,6 +87,10 @@ impl<T: Drop> From<AllocFailed<T>> for LimitedFault {
     }
 }
 
+// What a variable and a command count beside their texts: each is compared with those before it, and each of a thousand
+// commands in two runs can wait for all before it, which makes half a million needs.
+const LINE_COST: usize = 4096;
+
 // What is left of a limit once a word is held.
 fn left_behind_word(left: usize, word: &str) -> Option<usize>
     ensures { result ≡ spec.left_behind left (length word.now + 1) }
@@ -105,16 +109,18 @@ fn left_behind_words(left: usize, words: &[String]) -> Option<usize>
     Some(room)
 }
 
-// What is left of a limit once a command is held: its program's path, and its words.
+// What is left of a limit once a command is held, with its program's path and its words.
 pub(crate) fn left_behind_command(left: usize, path: &str, words: &[String]) -> Option<usize>
-    ensures { result ≡ spec.left_behind left (spec.bytes_of_words (path.now ∷ map string_bytes words.now)) }
+    ensures { result ≡ spec.left_behind left (spec.line_cost + spec.bytes_of_words (path.now ∷ map string_bytes words.now)) }
 {
-    left_behind_words(left_behind_word(left, path)?, words)
+    let room = left.checked_sub(LINE_COST)?;
+    left_behind_words(left_behind_word(room, path)?, words)
 }
 
 // What is left of a limit once a variable is held.
 pub(crate) fn left_behind_variable(left: usize, name: &str, value: &str) -> Option<usize>
-    ensures { result ≡ spec.left_behind left (spec.bytes_of_words (name.now ∷ value.now ∷ [])) }
+    ensures { result ≡ spec.left_behind left (spec.line_cost + spec.bytes_of_words (name.now ∷ value.now ∷ [])) }
 {
-    left_behind_word(left_behind_word(left, name)?, value)
+    let room = left.checked_sub(LINE_COST)?;
+    left_behind_word(left_behind_word(room, name)?, value)
 }

@@ -1,12 +1,13 @@
 //! The places of variables in an environment, found by the beginnings of their names.
 
 ghost use Rattle.std.specs.Prelude.{◌≡◌, length, OnErr, OnOk};
+ghost use Rattle.std.specs.Str.{chars};
 ghost use Rattle.std.specs.List.{prefix_len};
 ghost use Rattle.dry_runs.specs.Environment as environment;
 ghost use Rattle.dry_runs.specs.Places as spec;
 ghost use Rattle.dry_runs.specs.PlacesView.{places_seen};
 
-use crate::environment::is_name_byte;
+use crate::environment::{begins_otherwise, is_name_byte};
 use std::alloc::{AllocError, Global};
 use std::collections::HashMap;
 
@@ -30,6 +31,21 @@ fn beginning(text: &str) -> &str
 {
     let (front, _) = text.split_at(name_len(text.as_bytes()));
     front
+}
+
+// What follows these bytes.
+fn behind_beginning(text: &str) -> &str
+    ensures { result.now ≡ spec.behind_beginning text.now }
+{
+    let (_, behind) = text.split_at(name_len(text.as_bytes()));
+    behind
+}
+
+// Whether a reference to a name of such bytes alone can begin a text: no word character follows them.
+pub(crate) fn ends_a_name(text: &str) -> bool
+    ensures { result ≡ environment.begins_otherwise (chars (spec.behind_beginning text.now)) }
+{
+    begins_otherwise(behind_beginning(text))
 }
 
 /// The places of variables, in ascending order for each beginning of their names. Contracts see the function from a

@@ -94,9 +94,10 @@ pub fn parse_dry_run_within(
 /// What the lines so far hold, and the texts that a line is expanded to on the way, are counted:
 ///
 /// - A variable holds its name and its value, and a command its program's path and its words. Each of these texts
-///   counts its bytes and one more, so that empty words count too.
-/// - The text of a command, and each text that expanding one variable after the other makes, may be as long as what is
-///   left of the limit.
+///   counts its bytes and one more, so that empty words count too. Each variable and each command counts 4,096 bytes
+///   beside its texts, since later steps compare it with others.
+/// - Each text that expanding one variable after the other makes counts its bytes. The text of a command itself may be as
+///   long as what is left of the limit.
 ///
 /// Lines without the mark count nothing, and each run has the whole limit. The first line that exceeds the limit refuses the
 /// run with `LimitedFault::TooLong`, unless a line before it is bad. Such a line, or any other fault, gives
@@ -212,11 +213,12 @@ impl Said {
             self.old.env (number, line.now)))) }
         ensures kept { OnErr result (self.new ≡ self.old) }
     {
-        let Some(statement) = statement_within(setting.alloc, &self.env, line, left)? else {
+        let stated = statement_within(setting.alloc, &self.env, line, left)?;
+        let Some((statement, less)) = stated else {
             let run = setting.run;
             return Err(LimitedFault::TooLong { run, line: number });
         };
-        self.take(setting, left, number, statement)
+        self.take(setting, less, number, statement)
     }
 
     // Takes what the line of this number says.

@@ -1,14 +1,16 @@
 //! The variables that environment lines set, found by their names.
 
-ghost use Rattle.std.specs.Prelude.{◌≡◌, ◌∷◌, [], ◌++◌, ◌<◌, ◌≤◌, ℕ, Some, fold, drop, length, map, codes, IfSome, MatchOption, OnErr, OnOk, string_bytes};
+ghost use Rattle.std.specs.Prelude.{◌≡◌, ◌∷◌, [], ◌++◌, ◌&&◌, ◌<◌, ◌≤◌, ℕ, Some, fold, drop, length, map, codes, IfSome, MatchOption, OnErr, OnOk, string_bytes};
 ghost use Rattle.texts.specs.Variables.{pair_of};
+ghost use Rattle.std.specs.List.{list_all};
+ghost use Rattle.dry_runs.specs.Environment.{is_name_byte};
 ghost use Rattle.dry_runs.specs.FirstReferred as first;
 ghost use Rattle.dry_runs.specs.Limit as limit;
 ghost use Rattle.dry_runs.specs.Places as spec;
 ghost use Rattle.dry_runs.specs.Replacing as replacing;
 
-use crate::environment::{is_reference, parted};
-use crate::places::NamePlaces;
+use crate::environment::{is_of_name_bytes, is_reference, parted};
+use crate::places::{NamePlaces, ends_a_name};
 use std::alloc::{AllocError, Global};
 use std::marker::Model;
 use texts::variables::Variables;
@@ -21,19 +23,28 @@ use texts::variables::Variables;
 pub struct SetVariables {
     pairs: Vec<(String, String)>,
     places: NamePlaces,
+    // Whether all names are made of the bytes of a name alone, as those of environment lines are.
+    is_plain: bool,
 }
 
 impl Model for SetVariables {
     ghost use Rattle.std.specs.Prelude.{◌≡◌, List, ℕ, map};
     ghost use Rattle.texts.specs.Variables.{pair_of};
-    ghost use Rattle.dry_runs.specs.Places.{places_from};
+    ghost use Rattle.dry_runs.specs.Places.{are_plain, places_from};
     ghost use Rattle.dry_runs.specs.PlacesView.{places_seen};
 
     ghost Value = { List (List ℕ × List ℕ) };
 
     ghost view = { λ s. map pair_of s.pairs.items };
 
-    ghost invariant = { λ s. places_seen s.places ≡ places_from 0 (map pair_of s.pairs.items) };
+    ghost invariant = { λ s. (places_seen s.places ≡ places_from 0 (map pair_of s.pairs.items)) × (s.is_plain ≡ are_plain (map pair_of s.pairs.items)) };
+}
+
+// Whether all names are plain, with one more.
+fn stays_plain(is_plain: bool, name: &str) -> bool
+    ensures { result ≡ (is_plain && list_all is_name_byte name.now) }
+{
+    is_plain && is_of_name_bytes(name.as_bytes())
 }
 
 // A variable that a text refers to, and the place behind it.
@@ -52,6 +63,7 @@ impl SetVariables {
         SetVariables {
             pairs: Vec::new(alloc),
             places: NamePlaces::new(alloc),
+            is_plain: true,
         }
     }
 
@@ -77,7 +89,9 @@ impl SetVariables {
         let place = self.pairs.as_slice().len();
         self.pairs.reserve(1)?;
         self.places.add(alloc, name.as_str(), place)?;
+        let is_plain = stays_plain(self.is_plain, name.as_str());
         self.pairs.push_reserved((name, value));
+        self.is_plain = is_plain;
         Ok(())
     }
 
@@ -114,10 +128,14 @@ impl SetVariables {
         bound
     }
 
-    // The same, of the places of all variables.
+    // The same, of the places of all variables. If their names are plain, the text has to end a name: else none of them is
+    // tried, however often a name was set.
     fn first_place(&self, from: usize, after: &str, bound: usize) -> usize
         ensures { result ≡ first.first_below (first.follows_from from self.now after.now) bound (spec.places_from 0 self.now (spec.beginning after.now)) }
     {
+        if self.is_plain && !ends_a_name(after) {
+            return bound;
+        }
         self.first_of(self.places.of(after), from, after, bound)
     }
 
@@ -141,9 +159,9 @@ impl SetVariables {
     // The first variable from `from` on that a text refers to.
     pub(crate) fn first_reference(&self, from: usize, text: &str) -> Option<Reference<'_>>
         ensures found { MatchOption result
-            ((left : ℕ) → fold (limit.expanded_fitting left) (Some text.now) (drop from self.now) ≡ Some text.now)
-            (λ r. (left : ℕ) → fold (limit.expanded_fitting left) (Some text.now) (drop from self.now)
-            ≡ fold (limit.expanded_fitting left) (limit.fitting left (replacing.replaced (codes "$" ++ r.name.now) r.value.now text.now)) (drop r.next self.now)) }
+            ((left : ℕ) → fold limit.expanded_fitting (Some (left, text.now)) (drop from self.now) ≡ Some (left, text.now))
+            (λ r. (left : ℕ) → fold limit.expanded_fitting (Some (left, text.now)) (drop from self.now)
+            ≡ fold limit.expanded_fitting (limit.made left (replacing.replaced (codes "$" ++ r.name.now) r.value.now text.now)) (drop r.next self.now)) }
         ensures later { IfSome result (λ r. from < r.next) }
         ensures within { IfSome result (λ r. r.next ≤ length self.now) }
     {

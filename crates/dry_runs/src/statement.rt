@@ -1,8 +1,7 @@
 //! What a line of a dry run says.
 
-ghost use Rattle.std.specs.Prelude.{◌≡◌, Some, IfOk, if◌then◌else◌, None};
+ghost use Rattle.std.specs.Prelude.{◌≡◌, Some, IfOk, map, string_bytes};
 ghost use Rattle.std.specs.Option.{option_map};
-ghost use Rattle.shell_words.specs.Shell.Splitting.{shell_words};
 ghost use Rattle.dry_runs.specs.DryRunLines.{marked_text};
 ghost use Rattle.dry_runs.specs.Limit as limit;
 ghost use Rattle.dry_runs.specs.Statement as spec;
@@ -29,67 +28,78 @@ pub enum Statement {
     NotUtf8,
 }
 
-// What a command says, by the text behind its mark, or `None` if its expansion makes a text longer than `left`.
+// What a command says, by its words.
+fn stated_by(words: Option<Vec<String>>) -> Statement
+    ensures { result ≡ spec.stated_by_words (option_map (λ v. map string_bytes v.items) words) }
+{
+    match words {
+        None => Statement::BadShell,
+        Some(words) => Statement::Runs(Words::from_vec(words)),
+    }
+}
+
+// What a command says, by the text behind its mark, and what is left of the limit, or `None` if its expansion makes texts
+// that together are longer than `left`.
 fn command(
     alloc: Global,
     env: &SetVariables,
     text: &str,
     left: usize,
-) -> Result<Option<Statement>, AllocError>
-    ensures { IfOk result (λ s. s ≡ option_map spec.stated_by_words (option_map shell_words (limit.expanded_within left env.now text.now))) }
+) -> Result<Option<(Statement, usize)>, AllocError>
+    ensures { IfOk result (λ s. s ≡ option_map (λ w. (spec.stated_by_words w.0, w.1)) (option_map limit.words_left (limit.expanded_within left env.now text.now))) }
 {
     match expanded_words_within(alloc, env, text, left)? {
         None => Ok(None),
-        Some(None) => Ok(Some(Statement::BadShell)),
-        Some(Some(words)) => Ok(Some(Statement::Runs(Words::from_vec(words)))),
+        Some((words, less)) => Ok(Some((stated_by(words), less))),
     }
 }
 
-// What a marked line says, by the text behind its mark, or `None` as for a command.
+// What a marked line says, by the text behind its mark, and what is left of the limit, or `None` as for a command.
 fn marked_line(
     alloc: Global,
     env: &SetVariables,
     text: &str,
     left: usize,
-) -> Result<Option<Statement>, AllocError>
-    ensures { IfOk result (λ s. s ≡ (if limit.fits_marked left env.now (Some text.now) then Some (spec.stated_marked env.now (Some text.now)) else None)) }
+) -> Result<Option<(Statement, usize)>, AllocError>
+    ensures { IfOk result (λ s. s ≡ limit.stated_marked_within left env.now (Some text.now)) }
 {
     match assignment(text) {
-        Some((name, value)) => Ok(Some(Statement::Sets(
-            Text::copy_of(alloc, name)?,
-            Text::copy_of(alloc, value)?,
-        ))),
+        Some((name, value)) => {
+            let name = Text::copy_of(alloc, name)?;
+            Ok(Some((Statement::Sets(name, Text::copy_of(alloc, value)?), left)))
+        }
         None => command(alloc, env, text, left),
     }
 }
 
-// What a line says that is text, or `None` as for a command.
+// What a line says that is text, and what is left of the limit, or `None` as for a command.
 fn text_line(
     alloc: Global,
     env: &SetVariables,
     line: &str,
     left: usize,
-) -> Result<Option<Statement>, AllocError>
-    ensures { IfOk result (λ s. s ≡ (if limit.fits_marked left env.now (marked_text line.now) then Some (spec.stated_marked env.now (marked_text line.now)) else None)) }
+) -> Result<Option<(Statement, usize)>, AllocError>
+    ensures { IfOk result (λ s. s ≡ limit.stated_marked_within left env.now (marked_text line.now)) }
 {
     match marked(line) {
-        None => Ok(Some(Statement::Nothing)),
+        None => Ok(Some((Statement::Nothing, left))),
         Some(text) => marked_line(alloc, env, text, left),
     }
 }
 
-/// What `line` says behind the environment lines that set `env`, as `statement_of`, or `None` if the line is a command and
-/// its text, or one of the texts that expanding one variable after the other makes, is longer than `left` bytes.
+/// What `line` says behind the environment lines that set `env`, as `statement_of`, and how many of `left` bytes are left
+/// once the texts are counted that expanding one variable after the other makes. It is `None` if the line is a command and its
+/// text, or these texts together, are longer than `left` bytes.
 pub fn statement_within(
     alloc: Global,
     env: &SetVariables,
     line: &[u8],
     left: usize,
-) -> Result<Option<Statement>, AllocError>
+) -> Result<Option<(Statement, usize)>, AllocError>
     ensures { IfOk result (λ s. s ≡ limit.stated_within left env.now line.now) }
 {
     match str::from_utf8(line) {
-        Err(_) => Ok(Some(Statement::NotUtf8)),
+        Err(_) => Ok(Some((Statement::NotUtf8, left))),
         Ok(text) => text_line(alloc, env, text, left),
     }
 }
@@ -102,6 +112,6 @@ pub fn statement_of(alloc: Global, env: &SetVariables, line: &[u8]) -> Result<St
 {
     match statement_within(alloc, env, line, usize::MAX)? {
         None => Err(AllocError),
-        Some(statement) => Ok(statement),
+        Some((statement, _)) => Ok(statement),
     }
 }

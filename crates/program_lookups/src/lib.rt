@@ -8,12 +8,14 @@
 mod asking;
 mod disk;
 pub mod laws;
+mod limit;
 mod lookup;
 mod search_path;
 mod snapshot;
 
 pub use asking::{asked_lookups, asked_lookups_of_both, lookups_of_runs};
 pub use disk::{snapshot_by, snapshot_for, snapshot_of};
+pub use limit::parse_within;
 pub use lookup::Lookup;
 pub use search_path::candidates;
 pub use snapshot::{Entry, Snapshot};

@@ -9,7 +9,12 @@ use texts::text::join;
 use texts::words::Words;
 
 // The path of a program in a part of `PATH`.
-fn in_part(alloc: Global, program: &str, folder: &str, part: &str) -> Result<String, AllocError>
+pub(crate) fn in_part(
+    alloc: Global,
+    program: &str,
+    folder: &str,
+    part: &str,
+) -> Result<String, AllocError>
     ensures { IfOk result (λ path. string_bytes path ≡ path_in_part program.now folder.now part.now) }
 {
     let base = join(alloc, folder, part)?;
@@ -17,7 +22,7 @@ fn in_part(alloc: Global, program: &str, folder: &str, part: &str) -> Result<Str
 }
 
 // The first part of a `PATH` and what follows its `:`, or `None` if all of it is one part.
-fn first_part(path: &str) -> Option<(&str, &str)>
+pub(crate) fn first_part(path: &str) -> Option<(&str, &str)>
     ensures parts { MatchOption result (parts_of path.now ≡ path.now ∷ []) (λ cut. parts_of path.now ≡ cut.0.now ∷ parts_of cut.1.now) }
     ensures less { IfSome result (λ cut. length cut.1.now < length path.now) }
 {

@@ -68,17 +68,17 @@ fn origins_in(planned: &Result<PlanWithOrigins, LimitedFault>) -> usize {
 #[test]
 fn runs_within_the_limit_are_planned(rt: HostRuntime) {
     let alloc = rt.alloc();
-    assert!(rt; groups_in(&planned(alloc, ONE_KERNEL, 10_000)) == 3);
-    assert!(rt; origins_in(&with_origins(alloc, ONE_KERNEL, 10_000)) == 7);
+    assert!(rt; groups_in(&planned(alloc, ONE_KERNEL, 100_000)) == 3);
+    assert!(rt; origins_in(&with_origins(alloc, ONE_KERNEL, 100_000)) == 7);
 }
 
 #[test]
 fn the_run_and_the_line_over_the_limit_are_named(rt: HostRuntime) {
     let alloc = rt.alloc();
-    let first = planned(alloc, ONE_KERNEL, 10);
+    let first = planned(alloc, ONE_KERNEL, 4_106);
     assert!(rt; matches!(&first, Err(LimitedFault::TooLong { run: 1, line: 1 })));
     let other =
         b"#$ PATH=/b\n#$ A=$A$A$A$A$A$A$A$A\n#$ A=$A$A$A$A$A$A$A$A\n#$ A=$A$A$A$A$A$A$A$A\n#$ A=$A$A$A$A$A$A$A$A\n#$ A=$A$A$A$A$A$A$A$A\n#$ $A.\n";
-    let second = with_origins(alloc, other, 10_000);
+    let second = with_origins(alloc, other, 100_000);
     assert!(rt; matches!(&second, Err(LimitedFault::TooLong { run: 2, line: 6 })));
 }

@@ -48,7 +48,7 @@ fn stated_within(
     limit: usize,
 ) -> Result<Answer, CaseError> {
     match statement_within(alloc, env, line, limit)? {
-        Some(statement) => said(alloc, &statement),
+        Some((statement, _)) => said(alloc, &statement),
         None => Answer::of(alloc, &["too-long"]),
     }
 }

@@ -1,7 +1,7 @@
 use Rattle.std.proofs.Common.{◌∙◌, ℕ, Vec, String, ap, sym, refl, map, string_bytes}
 use Rattle.std.specs.Option.{option_map}
 use Rattle.std.specs.declared.alloc.Global.{Global}
-use Rattle.dry_runs.specs.Limit.{expanded_within}
+use Rattle.dry_runs.specs.Limit.{expanded_within, words_seen}
 use Rattle.dry_runs.proofs.FittingLemmas.{within-words}
 use Rattle.dry_runs.proofs.environment.expanded_words.Goals as goal
 
@@ -10,5 +10,5 @@ returns-in-Some c =
     let env = c.args.env.now in
     let text = c.args.text.now in
     let limit : ℕ = 18446744073709551615 in
-    within-words limit env text (option_map (λ (v : Vec (String Global) Global). map string_bytes v.items) c.in-Some.words) (expanded_within limit env text) refl
-    (ap (option_map (option_map (λ (v : Vec (String Global) Global). map string_bytes v.items))) (sym c.in-Some.is) ∙ c.in_ok-expanded_words_within.ensures)
+    within-words limit env text (words_seen (c.in-Some.words, c.in-Some.field-0-1)) (expanded_within limit env text) refl
+    (ap (option_map words_seen) (sym c.in-Some.is) ∙ c.in_ok-expanded_words_within.ensures)

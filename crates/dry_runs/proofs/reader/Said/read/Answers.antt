@@ -11,7 +11,7 @@ returns-clause-said g c =
     let answer = g.W.Which.answer setting.which.now in
     let self = c.args.self.now in
     subst (λ e. UnlessMemoryWithin (said_left c.take.result c.take.new.self) e)
-    (line-fits answer setting.run setting.cwd.now c.args.left c.args.number self c.args.line.now c.in-Some.statement (sym c.in-Some.is ∙ c.in_ok-statement.ensures))
+    (line-fits answer setting.run setting.cwd.now c.args.left c.in-Some.less c.args.number self c.args.line.now c.in-Some.statement (sym c.in-Some.is ∙ c.in_ok-stated.ensures))
     c.take.ensures.said
 
 pub returns-in_default-clause-said : goal.returns-in_default-clause-said
@@ -20,4 +20,4 @@ returns-in_default-clause-said g c =
     let answer = g.W.Which.answer setting.which.now in
     let self = c.args.self.now in
     line-too_long answer setting.run setting.cwd.now c.args.left c.args.number self.env c.args.line.now (said_next self (meaning answer setting.run setting.cwd.now self.env (c.args.number, c.args.line.now)))
-    (sym c.in_default.is ∙ c.in_ok-statement.ensures)
+    (sym c.in_default.is ∙ c.in_ok-stated.ensures)

@@ -1,7 +1,7 @@
 use Rattle.std.proofs.Common.{◌∷◌, ◌∙◌, Some, ap, sym, fold, drop, map, add-one}
 use Rattle.std.proofs.lemmas.Option.{slice_get-get_or}
 use Rattle.texts.specs.Variables.{pair_of}
-use Rattle.dry_runs.specs.Limit.{expanded_fitting, fitting}
+use Rattle.dry_runs.specs.Limit.{expanded_fitting, made}
 use Rattle.dry_runs.specs.Replacing.{replaced}
 use Rattle.dry_runs.proofs.PlaceLemmas.{first-none-there, first-there, no-pair, pair-there}
 use Rattle.dry_runs.proofs.set_variables.SetVariables.first_reference.Goals as goal
@@ -23,4 +23,4 @@ returns-in-Some-clause-found c = λ left.
     let there = slice_get-get_or pairs place pair c.in-Some.ensures.lookup.3.0 ∙ ap Some (sym (c.in-Some.ensures.lookup.3.1 pair)) in
     first-there left env c.args.from text place c.first_referred-place.ensures (pair_of pair)
     (pair-there pairs env place pair (ap (map pair_of) c.as_slice.ensures.value ∙ c.self.view_is) there)
-    ∙ (λ i. fold (expanded_fitting left) (fitting left (replaced (36 ∷ sym c.as_str.ensures.value i) (sym c.as_str-in-Some.ensures.value i) text)) (drop (sym (add-one place) i) env))
+    ∙ (λ i. fold expanded_fitting (made left (replaced (36 ∷ sym c.as_str.ensures.value i) (sym c.as_str-in-Some.ensures.value i) text)) (drop (sym (add-one place) i) env))
