@@ -726,11 +726,11 @@ statuses() {
     judge 'the status of a command that failed' 7 $'7\n' ''
 }
 
-# counts NAME NUMBER PATTERN WORD..: a call that succeeds, and prints text that matches the pattern so many times.
+# counts NAME NUMBER PATTERN WORD..: a call that succeeds with a large limit, and prints text that matches the pattern so many times.
 counts() {
     local name=$1 number=$2 pattern=$3
     shift 3
-    "$program" "$@" > "$scratch/text" 2> "$scratch/err"
+    "$program" --limit 100000000 "$@" > "$scratch/text" 2> "$scratch/err"
     echo $? > "$scratch/status"
     grep -o -e "$pattern" "$scratch/text" | wc -l > "$scratch/out"
     judge "$name" 0 "$number"$'\n' ''
@@ -1070,7 +1070,7 @@ long_messages() {
     run_of bad "${suffixes[@]/#./#$ A=}" "#\$ '"
     check 'a bad line behind a thousand variables' 1 '' \
         "zigrunk: $scratch/bad:$(wc -l < "$scratch/bad"): the command has an open quote or ends in a backslash"$'\n'"    #\$ '"$'\n' \
-        json /w /t -c "$scratch/kernel" "$scratch/bad"
+        json --limit 100000000 /w /t -c "$scratch/kernel" "$scratch/bad"
     lines_of bad "#\$ PATH=/$long" '#$ nowhere'
     check 'a program that is not in a path of a megabyte' 1 '' \
         "zigrunk: $scratch/bad:2: cannot find nowhere in PATH (/${long:0:999}..)"$'\n    #$ nowhere\n' json /w /t -c "$scratch/kernel" "$scratch/bad"
@@ -1119,14 +1119,15 @@ escaped_words() {
     escaped 1 "$scratch/$text" "$scratch/$text"
 }
 
-# escaped LINES DRY1 DRY2 SUFFIX..: a call that fails with so many lines on standard error, or with the usage text if a word isn't UTF-8.
+# escaped LINES DRY1 DRY2 SUFFIX..: a call that fails with so many lines on standard error, or with two for wrong usage if a word isn't
+# UTF-8.
 escaped() {
     local lines=$1
     shift
     "$program" json /w /t -c "$@" >> "$scratch/out" 2>> "$scratch/err"
     case $? in
         1) lines_told=$((lines_told + lines)) ;;
-        2) lines_told=$((lines_told + 1)) ;;
+        2) lines_told=$((lines_told + 2)) ;;
         *) wrong='another status' ;;
     esac
 }
@@ -1181,6 +1182,13 @@ doubling() {
     echo '#$ $A.'
 }
 
+# dry runs of a megabyte of each kind that takes work: answered or refused within three seconds of the processor and 300 MB
+hostile_input() {
+    local said
+    said=$(tests/hostile_input.py "$program" 2>&1) && said=''
+    count 'hostile input' "$said"
+}
+
 # fastest RUN: the seconds of processor that the plan of a run takes as text: the fewest of ten calls, since other work may share a core.
 fastest() {
     local TIMEFORMAT='%3U + %3S'
@@ -1195,8 +1203,8 @@ limits() {
     lines_of small '#$ PATH=/b'
     run_of within '#$ gcc -D__NVCC__ x.i'
     local room within=$'\n    #$ gcc -D__NVCC__ x.i\n'
-    # PATH and its value, and PATH with gcc behind it, -D__NVCC__ and x.i: each counts one byte more
-    room=$(($(sed -n 's/^#\$ PATH=//p' "$scratch/within" | tr -d '\n' | wc -c) * 2 + 25))
+    # PATH and its value, and PATH with gcc behind it, -D__NVCC__ and x.i: each counts one byte more, and each line 4,096
+    room=$(($(sed -n 's/^#\$ PATH=//p' "$scratch/within" | tr -d '\n' | wc -c) * 2 + 25 + 2 * 4096))
     local exceeded=":2: with this line, the dry run makes over $((room - 1)) bytes: --limit allows more$within"
     out=$("$program" json /w /t -c "$scratch/within" "$scratch/within.2"; printf .)
     check 'dry runs that just fit' 0 "${out%.}" '' --limit "$room" json /w /t -c "$scratch/within" "$scratch/within.2"
@@ -1224,47 +1232,88 @@ limits() {
     awk "BEGIN { print ($(fastest doubling) < 3 * $(fastest plain)) }" > "$scratch/out" 2> "$scratch/err"
     echo 0 > "$scratch/status"
     judge 'the time of a refusal' 0 $'1\n' ''
-    local usage
-    usage=$("$program" 2>&1; printf .)
-    for out in '' '--limit' '--limit 5' '--limit x json' '--limit -1 json' '--limit 5 --limit 5 json'; do
-        # shellcheck disable=SC2086 # words
-        check "a limit without a number or a call: $out" 2 '' "${usage%.}" $out ${out:+/w /t -c "$scratch/within" "$scratch/within.2"}
+}
+
+# misuse MESSAGE FORM WORD..: words that are no call: what the program says is wrong with them, and the form that it shows.
+misuse() {
+    local message=$1 form=$2
+    shift 2
+    check "wrong usage: $(printf '%.20q ' "$@")" 2 '' "zigrunk: $message"$'\n'"usage: zigrunk $form"$'\n' "$@"
+}
+
+# words that are no call
+wrong_usage() {
+    local all='shell|ninja|json|dot|compdb|plan|calls|directory|line .., or --help'
+    local none="no command, or a word or variable that isn't UTF-8" bytes='--limit needs a number of bytes' odd='unexpected option' line='line cicc|ptxas|cudafe++ CWD WORD..'
+    local plan='CWD TMP FLAG DRY1 DRY2 SUFFIX..' options='[--limit BYTES] [--keep] [--whole]' one=$scratch/kernel two=$scratch/kernel.2 name
+    misuse "$none" "$all"
+    misuse "$none" "$all" --limit 5
+    misuse "$none" "$all" calls /w /t nvcc -c k.cu -o $'\xff'
+    misuse "$none" "$all" $'\xff'
+    misuse 'unknown command ' "$all" ''
+    misuse 'unknown command nija' "$all" nija
+    misuse 'unknown command Ninja' "$all" Ninja /w /t -c "$one" "$two"
+    misuse 'unknown command a\u{1}b' "$all" $'a\x01b' --limit 5
+    misuse 'unknown command graph' "$all" --limit 5 graph /w /t -c "$one" "$two"
+    misuse "$odd --hlep" "$all" --hlep
+    misuse "$odd --keep" "$all" --keep ninja /w /t -c "$one" "$two"
+    misuse "$odd --limit=5" "$all" --limit=5 json /w /t -c "$one" "$two"
+    misuse "$odd --limit" "$all" --limit 5 --limit 5 json /w /t -c "$one" "$two"
+    misuse "$bytes" "$all" --limit
+    misuse "$bytes, not json" "$all" --limit json
+    misuse "$bytes, not x" "json $options $plan" --limit x json /w /t -c "$one" "$two"
+    misuse "$bytes, not -1" "json $options $plan" --limit -1 json /w /t -c "$one" "$two"
+    misuse "$bytes, not 2M" "dot $options $plan" --limit 2M dot /w /t -c "$one" "$two"
+    misuse "$bytes, not 18446744073709551616" "json $options $plan" --limit 18446744073709551616 json /w /t -c "$one" "$two"
+    misuse "$bytes, not 3k" "shell $options $plan" shell --keep --limit 3k /w /t -c "$one" "$two"
+    misuse "$bytes" "shell $options $plan" shell --whole --limit
+    for name in shell ninja json dot compdb; do
+        misuse "$name needs CWD" "$name $options $plan" "$name"
+        misuse "$name needs DRY2" "$name $options $plan" "$name" /w /t -c "$one"
+        misuse "$name needs DRY1" "$name $options $plan" --limit 9 "$name" --whole --keep /w /t -c
+        misuse "$odd --kep" "$name $options $plan" "$name" --kep /w /t -c "$one" "$two"
+    done
+    misuse "$odd --keep" "json $options $plan" json --keep --keep --whole --keep /w /t -c "$one" "$two"
+    misuse "$odd -" "json $options $plan" json - /t -c "$one" "$two"
+    misuse 'ninja needs TMP' "ninja $options $plan" ninja --keep /w
+    misuse 'ninja needs FLAG' "ninja $options $plan" ninja --limit 5 /w /t
+    misuse 'plan needs CWD' "plan $plan" plan
+    misuse 'plan needs DRY2' "plan $plan" plan /w /t -c "$one"
+    misuse 'calls needs CWD' 'calls CWD TMP NVCC WORD..' calls
+    misuse 'calls needs NVCC' 'calls CWD TMP NVCC WORD..' calls /w /t
+    misuse 'directory needs CWD' 'directory CWD NVCC WORD..' directory
+    misuse 'directory needs NVCC' 'directory CWD NVCC WORD..' directory /w
+    misuse 'line needs a tool' "$line" line
+    misuse 'line needs CWD' "$line" line ptxas
+    misuse 'line reads cicc, ptxas and cudafe++, not nvcc' "$line" line nvcc /w -c k.cu
+    misuse 'line reads cicc, ptxas and cudafe++, not Cicc' "$line" line Cicc /w x
+    misuse 'unexpected words behind --help' --help --help me
+    misuse 'unexpected words behind -h' -h -h me
+    misuse 'unexpected words behind --version' --version --version 1
+    for name in NVCC_PREPEND_FLAGS NVCC_APPEND_FLAGS ZIGRUNK_JOBS MAKEFLAGS; do
+        export "$name"=$'\xff'
+        misuse "$none" "$all" calls /w /t nvcc -c k.cu -o k.o
+        unset "$name"
     done
 }
 
-# the pages, and words that are no call
+# the pages
 zigrunk_pages() {
-    local out
+    local out name
     check 'the version' 0 $'zigrunk 0.1.0\n' '' --version
     "$program" --help > "$scratch/help" 2> "$scratch/err"
     echo $? > "$scratch/status"
     head -n 4 "$scratch/help" > "$scratch/out"
-    judge 'the help' 0 "usage: zigrunk [--limit BYTES] FORMAT [--keep] [--whole]
+    judge 'the help' 0 "usage: zigrunk FORMAT [--limit BYTES] [--keep] [--whole]
                    CWD TMP FLAG DRY1 DRY2 SUFFIX..
        zigrunk calls CWD TMP NVCC WORD..
        zigrunk directory CWD NVCC WORD..
 " ''
     out=$("$program" --help; printf .)
     check 'the help by one letter' 0 "${out%.}" '' -h
-    local usage=$'usage: zigrunk [--limit BYTES] shell|ninja|json|dot|compdb [--keep] [--whole] CWD TMP FLAG DRY1 DRY2 SUFFIX.. | calls CWD TMP NVCC WORD.. | directory CWD NVCC WORD.. | line TOOL CWD WORD.. | plan CWD TMP FLAG DRY1 DRY2 SUFFIX.. | -h | --help | --version\n' format
-    check 'no words for zigrunk' 2 '' "$usage"
-    check 'a directory without nvcc' 2 '' "$usage" directory /w
-    check 'a line of another tool' 2 '' "$usage" line nvcc /w -c k.cu
-    check 'a plan with one file' 2 '' "$usage" plan /w /t -c "$scratch/kernel"
-    check 'help and a word' 2 '' "$usage" --help me
-    check 'help by one letter and a word' 2 '' "$usage" -h me
-    check 'version and a word' 2 '' "$usage" --version 1
-    check 'calls without nvcc' 2 '' "$usage" calls /w /t
-    for format in shell ninja json dot compdb; do
-        check "$format alone" 2 '' "$usage" "$format"
-        check "$format with one file" 2 '' "$usage" "$format" /w /t -c "$scratch/kernel"
-        check "$format with names kept and one file" 2 '' "$usage" "$format" --keep /w /t -c "$scratch/kernel"
-    done
-    check 'a word of nvcc that is not UTF-8' 2 '' "$usage" calls /w /t nvcc -c k.cu -o $'\xff'
-    for format in NVCC_PREPEND_FLAGS NVCC_APPEND_FLAGS ZIGRUNK_JOBS MAKEFLAGS; do
-        export "$format"=$'\xff'
-        check "$format isn't UTF-8" 2 '' "$usage" calls /w /t nvcc -c k.cu -o k.o
-        unset "$format"
+    for name in json calls line plan nija --version; do
+        check "the help of $name" 0 "${out%.}" '' "$name" --help
+        check "the help of $name by one letter" 0 "${out%.}" '' --limit 5 "$name" -h
     done
 }
 
@@ -1285,6 +1334,6 @@ unset NVCC_PREPEND_FLAGS NVCC_APPEND_FLAGS ZIGRUNK_JOBS MAKEFLAGS
 run \
     nvcc_lines jobs_at_once directories forms_of_cudaplan long_nvcc_lines options_files odd_nvcc_words refused_nvcc_lines kernel_programs \
     plan_scripts plan_files plan_views plan_schema whole_plans unfit_files programs_on_disk unread_files long_values many_names no_memory statuses \
-    long_exports refused_exports limits messages \
-    long_messages escapes standard_input zigrunk_pages
+    long_exports refused_exports limits hostile_input messages \
+    long_messages escapes standard_input zigrunk_pages wrong_usage
 summary

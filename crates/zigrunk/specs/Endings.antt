@@ -10,6 +10,7 @@ use Rattle.dry_runs.specs.Parsed.{both_parsed_within}
 use Rattle.nvcc_calls.specs.Directory.{directory_name}
 use Rattle.program_lookups.specs.declared.snapshot.Entry.{Entry}
 use Rattle.program_lookups.specs.Asked.{asked_of_both}
+use Rattle.program_lookups.specs.Limit.{both_fitting}
 use Rattle.program_lookups.specs.Snapshot.{answer_in, IsSnapshotOf}
 use Rattle.programs.specs.declared.stop.Stop.{Stop}
 use Rattle.programs.specs.declared.stop.Stop.TheVariants.{Fault, NotCompilation, ToNvcc, Unwritable, Write}
@@ -17,7 +18,7 @@ use Rattle.programs.specs.Calls.{PlanOf}
 use Rattle.programs.specs.Delivery.{Delivers}
 use Rattle.programs.specs.LineText.{shown_line}
 use Rattle.programs.specs.PlanText.{ReadsFirst, out_of_memory, shown_plan}
-use Rattle.zigrunk.specs.Calls.{CallOf, ExportOf, exports, reads, names, rewrites, plans, helps, tells_version}
+use Rattle.usage.specs.Calls.{CallOf, ExportOf, exports, reads, names, rewrites, plans, helps, tells_version}
 use Rattle.zigrunk.specs.Exports.{exported}
 use Rattle.complaints.specs.Messages.{over_limit}
 use Rattle.zigrunk.specs.NvccText.{nvcc_text}
@@ -85,11 +86,11 @@ ExportsFitting c first second answer before after =
     × IsSnapshotOf (asked_of_both first second c.plan.cwd) programs
     × Delivers answer (exported c (answer_in programs) first second) before after
 
--- the same, unless a dry run exceeds the limit or memory runs out before
+-- the same, unless a dry run, or the paths that its look-ups try, exceed the limit, or memory runs out before
 abbrev pub ExportsBytes : ℕ → ExportOf → List ℕ → List ℕ → Result (Unit {0}) Stop → Option (List ℕ) → Option (List ℕ) → Type 0
 ExportsBytes limit c first second answer before after =
     Delivers answer out_of_memory before after
-    ⊎ WithinLimit (both_parsed_within limit first second) (ExportsFitting c first second answer before after) answer before after
+    ⊎ WithinLimit (both_fitting limit c.plan.cwd first second) (ExportsFitting c first second answer before after) answer before after
 
 -- the same, given what files may hold, the bytes of the first file and the engine's answer
 abbrev pub ExportsSecond :

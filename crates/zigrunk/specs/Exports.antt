@@ -23,9 +23,9 @@ use Rattle.programs.specs.declared.stop.Stop.TheVariants as stops
 use Rattle.programs.specs.Calls.{PlanOf}
 use Rattle.programs.specs.DryRunText.{is_dry_run}
 use Rattle.programs.specs.PlanText.{program_setting, all_suffixes}
-use Rattle.zigrunk.specs.declared.call.Format.{Format}
-use Rattle.zigrunk.specs.declared.call.Format.TheVariants.{Shell, Ninja, Json, Dot, Compdb}
-use Rattle.zigrunk.specs.Calls.{ExportOf}
+use Rattle.usage.specs.declared.call.Format.{Format}
+use Rattle.usage.specs.declared.call.Format.TheVariants.{Shell, Ninja, Json, Dot, Compdb}
+use Rattle.usage.specs.Calls.{ExportOf}
 use Rattle.zigrunk.specs.Directories.{is_plain}
 
 -- a writer's answer, with a refusal as text

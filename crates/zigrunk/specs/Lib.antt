@@ -1,4 +1,3 @@
-pub mod Calls
 pub mod Directories
 pub mod Endings
 pub mod Environment

@@ -10,7 +10,7 @@ lines_of lines = flat_map (λ line. line ++ 10 ∷ []) lines
 abbrev pub help_text : List ℕ
 help_text =
     lines_of
-    (codes "usage: zigrunk [--limit BYTES] FORMAT [--keep] [--whole]" ∷
+    (codes "usage: zigrunk FORMAT [--limit BYTES] [--keep] [--whole]" ∷
     codes "                   CWD TMP FLAG DRY1 DRY2 SUFFIX.." ∷
     codes "       zigrunk calls CWD TMP NVCC WORD.." ∷
     codes "       zigrunk directory CWD NVCC WORD.." ∷

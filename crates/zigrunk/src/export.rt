@@ -12,12 +12,11 @@ ghost use Rattle.plan_json.specs.Compdb.{database};
 ghost use Rattle.plan_exports.specs.Message.{message_of};
 ghost use Rattle.programs.specs.declared.stop.Stop.TheVariants as stops;
 ghost use Rattle.programs.specs.Delivery.{Answers, Delivers, text_of};
-ghost use Rattle.zigrunk.specs.declared.call.Format.TheVariants as formats;
+ghost use Rattle.usage.specs.declared.call.Format.TheVariants as formats;
 ghost use Rattle.programs.specs.Calls.{plan_of as plan_seen};
-ghost use Rattle.zigrunk.specs.Calls.{export_of};
+ghost use Rattle.usage.specs.Calls.{export_of};
 ghost use Rattle.zigrunk.specs.Exports as spec;
 
-use crate::call::{ExportCall, Format};
 use crate::directory::is_plain;
 use command_groups::{NvccGeneratedSubcommand, Plan, PlanWithOrigins, plan_of_parsed};
 use cuda_below::compiler::NvccHostCompiler;
@@ -29,6 +28,7 @@ use std::alloc::Global;
 use std::io::Write;
 use texts::fault::Fault;
 use texts::text::Text;
+use usage::{ExportCall, Format};
 
 // The text of a refusal, as the reason why the program stops.
 fn unwritable(alloc: Global, refusal: Refusal) -> Result<String, Stop>

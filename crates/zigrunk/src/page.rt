@@ -3,17 +3,11 @@
 ghost use Rattle.std.specs.Prelude.{◌≡◌};
 ghost use Rattle.zigrunk.specs.Pages as spec;
 
-/// What the program writes to standard error for wrong usage.
-pub const USAGE: &str =
-    "usage: zigrunk [--limit BYTES] shell|ninja|json|dot|compdb [--keep] [--whole] CWD TMP FLAG DRY1 DRY2 SUFFIX.. \
-| calls CWD TMP NVCC WORD.. | directory CWD NVCC WORD.. | line TOOL CWD WORD.. | plan CWD TMP FLAG DRY1 DRY2 SUFFIX.. \
-| -h | --help | --version\n";
-
 /// What `--help` writes.
 pub fn help() -> &'static str
     ensures { result.now ≡ spec.help_text }
 {
-    "usage: zigrunk [--limit BYTES] FORMAT [--keep] [--whole]
+    "usage: zigrunk FORMAT [--limit BYTES] [--keep] [--whole]
                    CWD TMP FLAG DRY1 DRY2 SUFFIX..
        zigrunk calls CWD TMP NVCC WORD..
        zigrunk directory CWD NVCC WORD..

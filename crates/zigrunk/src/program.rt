@@ -13,26 +13,26 @@ ghost use Rattle.nvcc_calls.specs.Calls.{nvcc_of};
 ghost use Rattle.nvcc_calls.specs.Directory as directories;
 ghost use Rattle.programs.specs.Delivery.{Delivers};
 ghost use Rattle.programs.specs.PlanText.{out_of_memory, shown_plan};
-ghost use Rattle.zigrunk.specs.Calls as forms;
+ghost use Rattle.usage.specs.Calls as forms;
 ghost use Rattle.zigrunk.specs.Endings as spec;
 
-use crate::call::{Call, ExportCall, limited_call_of};
 use crate::export::{refused, write_export};
 use crate::nvcc_text::write_nvcc_text;
 use crate::options_files::options_files;
-use crate::page::{USAGE, help, version};
+use crate::page::{help, version};
 use complaints::{
     OVER_LIMIT, Place, complain_of, complain_of_excess, complain_of_file, complain_of_plan,
     place_of_excess,
 };
 use dry_runs::{FirstDir, LimitedFault, ParsedRuns, Which, parse_dry_runs_within};
 use nvcc_calls::{DirectoryCall, NvccCall, directory_name};
-use program_lookups::{Snapshot, snapshot_for};
+use program_lookups::{Snapshot, parse_within, snapshot_for};
 use programs::{PlanCall, Sources, Stop, deliver, write_line, write_plan};
 use std::alloc::{AllocError, Global};
 use std::fs::Files;
 use std::io::Write;
 use texts::fault::Fault;
+use usage::{Call, ExportCall, complain_of_misuse, limited_call_of};
 
 // The bytes of a file. If it can't be read, it first says why.
 fn read<S: Sources, E: Write>(
@@ -165,7 +165,7 @@ fn export_bytes<R: Files + AllocGlobal, W: Write, E: Write>(
     ensures { spec.ExportsBytes limit (forms.export_of call.now) dry1.now dry2.now result (W.contents out.old) (W.contents out.new) }
 {
     let alloc = rt.alloc();
-    match parse_dry_runs_within(alloc, dry1, dry2, limit) {
+    match parse_within(alloc, dry1, dry2, call.plan.cwd, limit) {
         Ok(runs) => export_parsed(rt, call, dry1, dry2, runs, out, err),
         Err(fault) => stop_unparsed(alloc, &call.plan, dry1, dry2, limit, fault, out, err),
     }
@@ -385,7 +385,7 @@ pub fn run_program<R: Files + AllocGlobal, S: Sources, W: Write, E: Write>(
     ensures { spec.Ends (S.holds sources.now) result (forms.limited_call_of (map string_bytes words.now)) (map pair_of variables.now) (W.contents out.old) (W.contents out.new) }
 {
     let Some((limit, call)) = limited_call_of(words) else {
-        let _ = err.write_all(USAGE.as_bytes());
+        let _ = complain_of_misuse(rt.alloc(), words, err);
         return 2;
     };
     let answer = serve(rt, sources, limit, &call, variables, out, err);

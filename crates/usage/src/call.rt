@@ -2,9 +2,9 @@
 
 ghost use Rattle.std.specs.Prelude.{◌≡◌, map, string_bytes};
 ghost use Rattle.std.specs.Option.{option_map};
-ghost use Rattle.host_lines.specs.KeepThreads.{number_of};
-ghost use Rattle.zigrunk.specs.Calls as spec;
+ghost use Rattle.usage.specs.Calls as spec;
 
+use crate::settings::{begins_option, number_in, options_taken, past};
 use nvcc_calls::{DirectoryCall, NvccCall, directory_call, nvcc_call};
 use programs::{LineCall, PlanCall, line_call, plan_call};
 
@@ -66,28 +66,25 @@ fn format_named(name: &str) -> Option<Format>
     }
 }
 
-// Whether words begin with an option, and the words behind it.
-fn past<'a>(option: &str, words: &'a [String]) -> (bool, &'a [String])
-    ensures { (result.0, map string_bytes result.1.now) ≡ spec.past option.now (map string_bytes words.now) }
+// Parses `OPTION.. CWD TMP FLAG DRY1 DRY2 SUFFIX..`. No working directory begins with `-`.
+fn export_call<'a>(
+    limit: usize,
+    format: Format,
+    words: &'a [String],
+) -> Option<(usize, ExportCall<'a>)>
+    ensures { option_map spec.limited_export result ≡ spec.export_call_of limit format (map string_bytes words.now) }
 {
-    match words {
-        [word, rest @ ..] if word.as_str() == option => (true, rest),
-        _ => (false, words),
+    let (settings, words) = options_taken(limit, words);
+    if begins_option(words) {
+        return None;
     }
-}
-
-// Parses `[--keep] [--whole] CWD TMP FLAG DRY1 DRY2 SUFFIX..`.
-fn export_call<'a>(format: Format, words: &'a [String]) -> Option<ExportCall<'a>>
-    ensures { option_map spec.export_of result ≡ spec.export_call_of format (map string_bytes words.now) }
-{
-    let (keeps, words) = past("--keep", words);
-    let (whole, words) = past("--whole", words);
-    Some(ExportCall {
+    let call = ExportCall {
         format,
-        keeps,
-        whole,
+        keeps: settings.keeps,
+        whole: settings.whole,
         plan: plan_call(words)?,
-    })
+    };
+    Some((settings.limit, call))
 }
 
 // The call, if no further words follow.
@@ -100,45 +97,62 @@ fn alone<'a>(call: Call<'a>, words: &'a [String]) -> Option<Call<'a>>
     }
 }
 
-// Parses the calls of the pages and those that write a plan for another tool.
-fn other_call<'a>(name: &str, words: &'a [String]) -> Option<Call<'a>>
-    ensures { option_map spec.seen result ≡ spec.other_call name.now (map string_bytes words.now) }
-{
-    match name {
-        "--help" | "-h" => alone(Call::Help, words),
-        "--version" => alone(Call::Version, words),
-        _ => Some(Call::Export(export_call(format_named(name)?, words)?)),
-    }
-}
-
-// Parses all calls, by their names.
-fn named_call<'a>(name: &str, words: &'a [String]) -> Option<Call<'a>>
-    ensures { option_map spec.seen result ≡ spec.named_call name.now (map string_bytes words.now) }
+// Parses the calls without options, by their names.
+fn plain_call<'a>(name: &str, words: &'a [String]) -> Option<Call<'a>>
+    ensures { option_map spec.seen result ≡ spec.plain_call name.now (map string_bytes words.now) }
 {
     match name {
         "calls" => Some(Call::Nvcc(nvcc_call(words)?)),
         "directory" => Some(Call::Directory(directory_call(words)?)),
         "line" => Some(Call::Line(line_call(words)?)),
         "plan" => Some(Call::Plan(plan_call(words)?)),
-        _ => other_call(name, words),
+        "--help" | "-h" => alone(Call::Help, words),
+        "--version" => alone(Call::Version, words),
+        _ => None,
+    }
+}
+
+// Parses all calls, by their names.
+fn named_call<'a>(limit: usize, name: &str, words: &'a [String]) -> Option<(usize, Call<'a>)>
+    ensures { option_map spec.seen_limited result ≡ spec.named_call limit name.now (map string_bytes words.now) }
+{
+    match format_named(name) {
+        Some(format) => {
+            let (limit, call) = export_call(limit, format, words)?;
+            Some((limit, Call::Export(call)))
+        }
+        None => Some((limit, plain_call(name, words)?)),
+    }
+}
+
+// Whether a word asks for help.
+fn asks_help(word: &str) -> bool
+    ensures { result ≡ spec.asks_help word.now }
+{
+    word == "--help" || word == "-h"
+}
+
+// Whether words are one that asks for help.
+fn are_help(words: &[String]) -> bool
+    ensures { result ≡ spec.are_help (map string_bytes words.now) }
+{
+    match words {
+        [word] => asks_help(word.as_str()),
+        _ => false,
     }
 }
 
 // Parses a call behind its limit.
-fn call_of<'a>(words: &'a [String]) -> Option<Call<'a>>
-    ensures { option_map spec.seen result ≡ spec.call_of (map string_bytes words.now) }
+fn call_of<'a>(limit: usize, words: &'a [String]) -> Option<(usize, Call<'a>)>
+    ensures { option_map spec.seen_limited result ≡ spec.call_of limit (map string_bytes words.now) }
 {
-    let [verb, rest @ ..] = words else {
+    let [name, rest @ ..] = words else {
         return None;
     };
-    named_call(verb.as_str(), rest)
-}
-
-// The number that a word is.
-fn number_in(word: &str) -> Option<usize>
-    ensures { result ≡ number_of word.now }
-{
-    word.parse::<usize>().ok()
+    if are_help(rest) {
+        return Some((limit, Call::Help));
+    }
+    named_call(limit, name.as_str(), rest)
 }
 
 // Parses `BYTES` and a call.
@@ -148,18 +162,17 @@ fn call_behind_limit<'a>(words: &'a [String]) -> Option<(usize, Call<'a>)>
     let [number, rest @ ..] = words else {
         return None;
     };
-    let limit = number_in(number.as_str())?;
-    Some((limit, call_of(rest)?))
+    call_of(number_in(number.as_str())?, rest)
 }
 
 /// Parses the words after the program's name, `[--limit BYTES]` and one of these calls, and gives the limit too:
 ///
-/// - `shell|ninja|json|dot|compdb [--keep] [--whole] CWD TMP FLAG DRY1 DRY2 SUFFIX..`, with `--keep` if generated files keep
-///   nvcc's names, and `--whole` if a plan that dropped a command is an error;
+/// - `shell|ninja|json|dot|compdb OPTION.. CWD TMP FLAG DRY1 DRY2 SUFFIX..`, with the options `--keep` if generated files keep
+///   nvcc's names, `--whole` if a plan that dropped a command is an error, and `--limit BYTES`, in any order;
 /// - `calls CWD TMP NVCC WORD..`;
 /// - `directory CWD NVCC WORD..`;
 /// - `line TOOL CWD WORD..` or `plan CWD TMP FLAG DRY1 DRY2 SUFFIX..`, as `cudaplan`;
-/// - `--help`, `-h` or `--version`.
+/// - `--help`, `-h` or `--version`, and `--help` or `-h` behind any other name.
 pub fn limited_call_of<'a>(words: &'a [String]) -> Option<(usize, Call<'a>)>
     ensures { option_map spec.seen_limited result ≡ spec.limited_call_of (map string_bytes words.now) }
 {
@@ -167,5 +180,5 @@ pub fn limited_call_of<'a>(words: &'a [String]) -> Option<(usize, Call<'a>)>
     if is_limited {
         return call_behind_limit(rest);
     }
-    Some((DEFAULT_LIMIT, call_of(words)?))
+    call_of(DEFAULT_LIMIT, words)
 }
