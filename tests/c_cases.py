@@ -41,6 +41,14 @@ REASONS: dict[int | None, str] = {
 FAULTS = [(r"run \d+ line \d+: (not UTF-8|no PATH)|Could not (parse|split) shell line", Status.BAD_DRY_RUN),
           (r".*: not found", Status.NOT_FOUND), ("bad generated suffixes", Status.BAD_SUFFIXES), (".*", Status.BAD_LINE)]
 OPEN_QUOTE = "open quote or backslash at the end"
+# the messages of a plan as records, and those that cases expect for the same: their lines count from 0
+OLDER = [("the line isn't UTF-8", "run {run} line {line}: not UTF-8"), ("no line before this one sets PATH", "run {run} line {line}: no PATH"),
+         ("the command has an open quote or ends in a backslash", "Could not parse shell line"),
+         ("the command has no words", "Could not split shell line"), ("cannot find (.*)", "{found}: not found"),
+         (r"with this line, the dry run makes over (\d+) bytes", "run {run} line {line}: over the limit of {found} bytes")]
+# the options that say what nvcc makes
+FLAGS = ["", "-c", "--compile", "-dc", "--device-c", "-dw", "--device-w", "-ptx", "--ptx", "-cubin", "--cubin", "-fatbin", "--fatbin",
+         "-optix-ir", "--optix-ir"]
 
 # Kinds that tell all that a case expects, and kinds that tell a part of it, each with the fewest cases to be made. A wrong case
 # of the second kind may look right.
@@ -363,6 +371,41 @@ def normal_form(case: Case) -> list[Result]:
 # ---- plans ----
 
 
+def no_dry_runs(call: zigrunk.PlanCall) -> Answer | None:
+    """The answer to a call whose texts can't be its dry runs, or None. Only a plan as records looks."""
+    for text, name in ((call.dry1, "first"), (call.dry2, "second")):
+        if not any(line.startswith(b"#$ ") for line in text.split(b"\n")):
+            return Status.NO_DRY_RUN, f'the {name} text is no dry run: no line begins with "#$ "'
+    return None if call.flag in FLAGS else (Status.NO_DRY_RUN, "the flag isn't an option that says what nvcc makes")
+
+
+def older(message: str) -> str:
+    """The message of a plan as records as cases expect it."""
+    place = re.fullmatch(r"dry run ([12]), line (\d+): (.*)", message, re.DOTALL)
+    if place is None:
+        return message
+    form, found = next((form, it) for cause, form in OLDER if (it := re.fullmatch(cause, place[3], re.DOTALL)))
+    return form.format(run=place[1], line=int(place[2]) - 1, found=found[found.lastindex or 0])
+
+
+def planned(call: zigrunk.PlanCall) -> Answer:
+    """A plan as records, or why there is none."""
+    status, plan = told(zigrunk.plan_records, call, first_dir)
+    return (status, plan) if status == Status.OK else (status, older(plan))
+
+
+def has_commands(facts: Facts) -> bool:
+    return any(name in ("yes", "no") for name, *_ in facts)
+
+
+def as_records(call: zigrunk.PlanCall, expected: Answer, whole: bool) -> Result:
+    """A plan as records beside what is expected."""
+    if expected[0] == Status.OK and not has_commands(expected[1]):
+        expected = Status.NO_DRY_RUN, "the plan has no command"
+    status, plan = planned(call)
+    return "plan as records", no_dry_runs(call) or expected, (status, records_facts(plan, whole) if status == Status.OK else plan)
+
+
 def records_facts(plan: zigrunk.Plan, whole: bool) -> Facts:
     """The records of a plan, as facts."""
     facts = []
@@ -421,18 +464,19 @@ def plan(case: Case) -> list[Result]:
     if suffixes is None:
         return []
     call, whole = plan_call(case, suffixes, others, variables), case.call == "plan_whole"
-    records, text = told(zigrunk.plan_records, call, which=first_dir), told(zigrunk.plan, call, zigrunk.Form.JSON, first_dir)
-    lines = told(zigrunk.plan, call, zigrunk.Form.TEXT, first_dir)
+    text, lines = (told(zigrunk.plan, call, form, first_dir) for form in (zigrunk.Form.JSON, zigrunk.Form.TEXT))
     expected = refused(case, call.limit)
     if expected is not None:
-        return [("plan as records", expected, records), ("plan as JSON", expected, text), ("plan as text", expected, lines)]
+        return [as_records(call, expected, whole), ("plan as JSON", expected, text), ("plan as text", expected, lines)]
     results: list[Result] = [
-        ("plan as records", (Status.OK, case.facts), (records[0], records_facts(records[1], whole) if records[0] == 0 else records[1])),
+        as_records(call, (Status.OK, case.facts), whole),
         ("plan as JSON", (Status.OK, case.facts), (text[0], json_facts(json.loads(text[1]), whole) if text[0] == 0 else text[1])),
-        # a text has no environments
         ("plan as text", (Status.OK, text_of_facts(case.facts)), lines),
     ]
-    return results[:2] if case.file == WRONG and whole else results
+    if case.file == WRONG:
+        # a text has no environments, and a plan without a command is refused as records, however wrong its facts are
+        return results[not has_commands(case.facts):3 - whole]
+    return results
 
 
 def plan_text(case: Case) -> list[Result]:
@@ -468,14 +512,18 @@ def files_and_needs(case: Case) -> list[Result]:
     return [(case.call, case.facts, facts)]
 
 
+def beside_another(run: bytes, number: str, other: bytes, cwd: str, limit: int | None = None) -> zigrunk.PlanCall:
+    """The call with a dry run as the first or the second one, and another."""
+    return zigrunk.PlanCall(*((run, other) if number == "1" else (other, run)), cwd, "/t", keep_dir="/t", limit=limit)
+
+
 def read(case: Case) -> list[Result]:
-    """A dry run that can't be read, as one of the two of a plan. The other is empty."""
+    """A dry run that can't be read, as one of the two of a plan as records. The other has no command."""
     number, cwd, *settings = case.settings
     if case.facts[0][0] != "fault" or number not in ("1", "2"):
         return []
-    run = dry_runs(case, split_settings(settings)[1])[0]
-    call = zigrunk.PlanCall(*((run, b"") if number == "1" else (b"", run)), cwd, "/t")
-    return [("read", fault(case.facts[0][1:]), told(zigrunk.plan_records, call, first_dir))]
+    call = beside_another(dry_runs(case, split_settings(settings)[1])[0], number, b"#$ _=\n", cwd)
+    return [("read", no_dry_runs(call) or fault(case.facts[0][1:]), planned(call))]
 
 
 def read_within(case: Case) -> list[Result]:
@@ -483,9 +531,8 @@ def read_within(case: Case) -> list[Result]:
     number, cwd, limit, *settings = case.settings
     if limit == "0" or number not in ("1", "2"):
         return []
-    run = dry_runs(case, split_settings(settings)[1])[0]
-    call = zigrunk.PlanCall(*((run, b"") if number == "1" else (b"", run)), cwd, "/t", keep_dir="/t", limit=int(limit))
-    status, plan = told(zigrunk.plan_records, call, first_dir)
+    call = beside_another(dry_runs(case, split_settings(settings)[1])[0], number, b"", cwd, int(limit))
+    status, plan = told(zigrunk.plan, call, zigrunk.Form.TEXT, first_dir)
     expected = refused(case, limit)
     if expected is None:
         return [("read_within", Status.OK, status)]

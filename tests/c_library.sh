@@ -85,6 +85,9 @@ calls() {
     cat "$scratch/said" >> "$programs/answers"
     check "records.c" compiled gcc tests/c/records.c "$programs/records" "$library"
     check 'the records' "$programs/records" 1000 "$data" "${real_calls[@]}"
+    check "steps.c" compiled gcc tests/c/steps.c "$programs/steps" "$library"
+    check 'the plans for programs that run them' "$programs/steps" 1000 "$data" "${real_calls[@]}"
+    grep '^digest' "$scratch/said" >> "$programs/answers"
     check "limits.c" compiled gcc tests/c/limits.c "$programs/limits" "$library"
     check 'the limits' "$programs/limits"
     grep '^digest' "$scratch/said" >> "$programs/answers"
@@ -95,7 +98,7 @@ calls() {
     check 'the records of lines' "$programs/line_records" 1000
     cat "$scratch/said" >> "$programs/answers"
     check 'failing_memory.c' compiled gcc tests/c/failing_memory.c "$programs/failing_memory" "$library" "${memory_functions[@]}"
-    check 'each allocation failing in turn' "$programs/failing_memory"
+    check 'allocations failing in turn, and by lot' "$programs/failing_memory" 2000 "$data" "${real_calls[@]}"
     check 'threads.c' compiled gcc tests/c/threads.c "$programs/threads" "$library" -pthread
     check 'the calls of eight threads' "$programs/threads" 2000
 }
@@ -107,6 +110,7 @@ memchecked() {
         check 'the calls under memcheck' valgrind -q --error-exitcode=9 --leak-check=full "$programs/calls" 100
         check 'the plans under memcheck' valgrind -q --error-exitcode=9 --leak-check=full "$programs/plans" "$data" "${real_calls[0]}"
         check 'the records under memcheck' valgrind -q --error-exitcode=9 --leak-check=full "$programs/records" 20 "$data" "${real_calls[0]}"
+        check 'the steps under memcheck' valgrind -q --error-exitcode=9 --leak-check=full "$programs/steps" 10 "$data" "${real_calls[0]}"
         check 'the limits under memcheck' valgrind -q --error-exitcode=9 --leak-check=full "$programs/limits" watched
         check 'the lines under memcheck' valgrind -q --error-exitcode=9 --leak-check=full "$programs/lines"
         check 'the records of lines under memcheck' valgrind -q --error-exitcode=9 --leak-check=full "$programs/line_records" 50
@@ -124,6 +128,8 @@ sanitized() {
         check 'the plans under ASan and UBSan' "$programs/sanitized_plans" "$data" "${real_calls[@]}"
         check 'records.c with sanitizers' compiled clang tests/c/records.c "$programs/sanitized_records" "$library" -fsanitize=address,undefined -fno-sanitize-recover=all
         check 'the records under ASan and UBSan' "$programs/sanitized_records" 1000 "$data" "${real_calls[@]}"
+        check 'steps.c with sanitizers' compiled clang tests/c/steps.c "$programs/sanitized_steps" "$library" -fsanitize=address,undefined -fno-sanitize-recover=all
+        check 'the steps under ASan and UBSan' "$programs/sanitized_steps" 1000 "$data" "${real_calls[@]}"
         check 'limits.c with sanitizers' compiled clang tests/c/limits.c "$programs/sanitized_limits" "$library" -fsanitize=address,undefined -fno-sanitize-recover=all
         check 'the limits under ASan and UBSan' "$programs/sanitized_limits" watched
         check 'lines.c with sanitizers' compiled clang tests/c/lines.c "$programs/sanitized_lines" "$library" -fsanitize=address,undefined -fno-sanitize-recover=all
@@ -158,6 +164,47 @@ shared() {
     check 'the plan in C' gcc "${c_flags[@]}" bindings/c/plan.c -o "$library/programs/plan" $words
     check 'the script that it writes' script "$library" "$library/programs/plan"
     check 'the calls of the shared object' env LD_LIBRARY_PATH="$library/lib" "$library/programs/shared" 100
+}
+
+# is_alike ONE OTHER: whether two products are equal, but for the names that nvcc draws by lot for symbols.
+is_alike() {
+    local file
+    ! cmp -s "$1" "$2" || return 0
+    for file in "$1" "$2"; do
+        objcopy --strip-unneeded "$file" "$file.stripped" || return 1
+        nm -S "$file" | cut -d ' ' -f 2- | sed 's/[0-9a-f]*_\(tmpxft\|x_0\)_.*/NAME/; s/_[0-9a-f]\{8\}_.*/NAME/' | sort > "$file.names"
+    done
+    cmp -s "$1.stripped" "$2.stripped" || cmp "$1.names" "$2.names"
+}
+
+# made FOLDER PROGRAM WORD..: makes `out` of k.cu there, and prints what the program says and its status.
+made() {
+    (cd "$1" && rm -f out k.d && TMPDIR=$1/tmp "${@:2}" k.cu -o out 2>&1)
+    echo "status $?"
+}
+
+# scheduled LIBRARY: the example that runs plans makes what nvcc makes, SCHEDULES times (once, if that isn't set).
+scheduled() {
+    local library=$1 folder=$1/scheduled words round said number gencode=()
+    has nvcc gcc objcopy || return
+    for number in 75 80 86 89 90 100; do gencode+=("-gencode=arch=compute_$number,code=sm_$number"); done
+    check 'schedule.c' compiled gcc bindings/c/schedule.c "$library/programs/schedule" "$library"
+    mkdir -p "$folder/tmp"
+    printf '#include "k.h"\n__global__ void k(float *x) { x[threadIdx.x] *= FACTOR; }\nvoid call() { k<<<1, 1>>>(nullptr); }\n' > "$folder/k.cu"
+    echo '#define FACTOR 2' > "$folder/k.h"
+    for words in -c "-c ${gencode[*]}" -dc '-MD -MF k.d -c' "-fatbin ${gencode[*]:1:2}" -ptx; do
+        # shellcheck disable=SC2086 # words
+        said=$(made "$folder" nvcc $words) && mv "$folder/out" "$folder/wanted"
+        [ ! -f "$folder/k.d" ] || mv "$folder/k.d" "$folder/wanted.d"
+        for ((round = 1; round <= ${SCHEDULES:-1}; round++)); do
+            # shellcheck disable=SC2086 # words
+            check "what schedule $words says" prints "$said" made "$folder" "$library/programs/schedule" $words
+            check "what schedule $words makes" is_alike "$folder/wanted" "$folder/out"
+            [ ! -f "$folder/wanted.d" ] || check 'its dependency file' cmp "$folder/wanted.d" "$folder/k.d"
+        done
+        rm -f "$folder/wanted.d"
+    done
+    check 'that it leaves nothing' rmdir "$folder/tmp"
 }
 
 # python LIBRARY: the binding for Python, and its example.
@@ -228,6 +275,7 @@ join_lanes
 lane memchecked memchecked "$library"
 lane sanitized sanitized "$library"
 lane shared shared "$library"
+lane scheduled scheduled "$library"
 join_lanes
 
 summary

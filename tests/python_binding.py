@@ -15,7 +15,7 @@ import sys
 import tempfile
 import unittest
 from collections.abc import Callable
-from typing import Any
+from typing import Any, Optional
 
 import runner
 import zigrunk
@@ -77,48 +77,81 @@ class Calls(unittest.TestCase):
                 records, said = zigrunk.plan_records(call, first), json.loads(zigrunk.plan(call, which=first))
                 commands = [{"program": it["exe"], "arguments": tuple(it["args"]), "variables": tuple(map(tuple, it["env"])),
                              "cwd": it["cwd"], "group": it["group"], "reason": None, "cacheable": it["cacheable"], "run": it["run"],
-                             "line": it["line"] - 1} for it in said["commands"]]
-                self.assertEqual([dataclasses.asdict(it) for it in records.commands], commands)
+                             "line": it["line"] - 1, **{part: tuple(it[part]) for part in ("needs", "reads", "writes", "may_write")},
+                             } for it in said["commands"]]
+                made = [dataclasses.asdict(it) for it in records.commands]
+                self.assertEqual([it.pop("missing") is None for it in made], [it["complete"] for it in said["commands"]])
+                stems = [os.path.basename(it["exe"]).partition(".")[0] for it in said["commands"]]
+                tools = {"cicc": zigrunk.CommandTool.CICC, "ptxas": zigrunk.CommandTool.PTXAS, "cudafe++": zigrunk.CommandTool.CUDAFE,
+                         "fatbinary": zigrunk.CommandTool.FATBINARY, "nvlink": zigrunk.CommandTool.NVLINK}
+                self.assertEqual([it.pop("tool") for it in made], [tools.get(it, zigrunk.CommandTool.HOST) for it in stems])
+                self.assertEqual(made, commands)
                 self.assertEqual(len(records.groups), said["groups"])
                 for number, group in enumerate(records.groups):
                     self.assertEqual({it.group for it in group.commands} - {number}, set())
                 stages = [group.stage for group in records.groups]
                 self.assertEqual(stages, [zigrunk.Stage.FRONT] + [zigrunk.Stage.DEVICE] * (len(stages) - 2) + [zigrunk.Stage.FINAL])
                 dropped = [{"program": it["exe"], "arguments": tuple(it["args"]), "variables": (), "cwd": "", "group": None,
-                            "cacheable": False, "run": it["run"], "line": it["line"] - 1} for it in said["dropped"]]
+                            "cacheable": False, "run": it["run"], "line": it["line"] - 1, "needs": (), "reads": (), "writes": (),
+                            "may_write": (), "tool": None, "missing": None} for it in said["dropped"]]
                 reasons = [zigrunk.Reason(it.reason or 0).name.replace("_", "").lower() for it in records.dropped]
                 self.assertEqual(reasons, [it["reason"].lower() for it in said["dropped"]])
                 self.assertEqual([dataclasses.asdict(dataclasses.replace(it, reason=None)) for it in records.dropped],
                                  [{**it, "reason": None} for it in dropped])
 
     def test_records_of_a_small_call(self) -> None:
-        run = b"#$ PATH=/b\n#$ gcc -D__NVCC__ -E k.cu -o k.cpp1.ii\n#$ cicc k.cpp1.ii -o k.ptx\n#$ cicc n.ii -o n.ptx\n#$ rm k\n"
+        run = b"#$ PATH=/b\n#$ gcc -D__NVCC__ -E k.cu -o k.cpp1.ii\n#$ cicc --module_id_file_name m k.cpp1.ii -o k.ptx\n#$ cicc n.ii\n#$ rm k\n"
         call = zigrunk.PlanCall(run, run, "/w", "/t", environment={"PATH": "/old", "A": "1"})
         plan = zigrunk.plan_records(call, first)
         environment = (("PATH", "/b"), ("A", "1"))
         self.assertEqual(plan.groups, (
             zigrunk.Group(zigrunk.Stage.FRONT, ()),
             zigrunk.Group(zigrunk.Stage.DEVICE, (
-                zigrunk.Command("/b/gcc", ("-D__NVCC__", "-E", "k.cu", "-o", "x_0.cpp1.ii"), environment, "/w", 1, None, False, 2, 1),
-                zigrunk.Command("/b/cicc", ("x_0.cpp1.ii", "-o", "k.ptx"), environment, "/t", 1, None, True, 1, 2))),
+                zigrunk.Command("/b/gcc", ("-D__NVCC__", "-E", "k.cu", "-o", "x_0.cpp1.ii"), environment, "/w", 1, None, False, 2, 1,
+                                (), ("/w/k.cu",), ("/w/x_0.cpp1.ii",), (), zigrunk.CommandTool.HOST, zigrunk.Missing.HEADERS),
+                zigrunk.Command("/b/cicc", ("--module_id_file_name", "m", "x_0.cpp1.ii", "-o", "k.ptx"), environment, "/t", 1, None, True,
+                                1, 2, (), ("/t/x_0.cpp1.ii", "/t/m"), ("/t/k.ptx",), (), zigrunk.CommandTool.CICC))),
             zigrunk.Group(zigrunk.Stage.FINAL, ())))
         self.assertEqual(plan.dropped, (
-            zigrunk.Command("/b/cicc", ("n.ii", "-o", "n.ptx"), (), "", None, zigrunk.Reason.NO_CICC_GROUP, False, 1, 3),
+            zigrunk.Command("/b/cicc", ("n.ii",), (), "", None, zigrunk.Reason.NO_CICC_GROUP, False, 1, 3),
             zigrunk.Command("/b/rm", ("k",), (), "", None, zigrunk.Reason.NOT_CUDA, False, 2, 4)))
 
     def test_records_of_a_long_call(self) -> None:
-        run = b"#$ PATH=/b\n" + b"".join(b"#$ cicc k%d.cpp1.ii -o k%d.ptx\n" % (it, it) for it in range(2000))
+        run = b"#$ PATH=/b\n" + b"".join(b"#$ cicc k%d.cpp1.ii -o k%d.ptx\n" % (it, it) for it in range(2000)) + b"#$ nvlink\n"
         call = zigrunk.PlanCall(run, run, "/w", "/t")
         self.assertEqual([it.line for it in zigrunk.plan_records(call, first).dropped], list(range(1, 2001)))
 
     def test_errors_of_records(self) -> None:
         run = b"#$ PATH=/b\n#$ gcc -D__NVCC__ -c k.cpp\n"
         call = zigrunk.PlanCall(run, run, "/w", "/t")
-        self.rejects(zigrunk.Status.NOT_FOUND, "gcc: not found", zigrunk.plan_records, call, lambda lookup, folder: None)
+        self.rejects_at(zigrunk.Field.DRY2, 2, zigrunk.Status.NOT_FOUND, "dry run 2, line 2: cannot find gcc", zigrunk.PlanCall(
+            b"#$ PATH=/b\n#$ cicc k.cpp1.ii\n", run, "/w", "/t"), lambda lookup, folder: "/b/cicc" if lookup.program == "cicc" else None)
         call.suffixes = ["gpu"]
-        self.rejects(zigrunk.Status.BAD_SUFFIXES, "bad generated suffixes", zigrunk.plan_records, call, first)
-        call.cwd = "\udcff"
-        self.rejects(zigrunk.Status.NOT_UTF8, "a text is not UTF-8", zigrunk.plan_records, call, first)
+        self.rejects_at(zigrunk.Field.SUFFIXES, None, zigrunk.Status.BAD_SUFFIXES, "bad generated suffixes", call, first)
+        for name, field in (("cwd", "CWD"), ("tmp", "TMP"), ("flag", "FLAG"), ("keep_dir", "KEEP_DIR")):
+            bad = dataclasses.replace(call, **{name: "\udcff"})
+            self.rejects_at(zigrunk.Field[field], None, zigrunk.Status.NOT_UTF8, "a text is not UTF-8", bad, lambda lookup, folder: "/b/x")
+
+    def rejects_at(self, field: zigrunk.Field, line: Optional[int], status: zigrunk.Status, message: str, call: zigrunk.PlanCall,
+                   which: Callable[[zigrunk.Lookup, str], Optional[str]]) -> None:
+        with self.assertRaises(zigrunk.ZigrunkError) as caught:
+            zigrunk.plan_records(call, which)
+        error = caught.exception
+        self.assertEqual((error.place, error.number, str(error)), (zigrunk.Place(field, line), status, message))
+
+    def test_what_is_no_dry_run(self) -> None:
+        run = b"#$ PATH=/b\n#$ gcc -D__NVCC__ -c k.cpp\n"
+        call = zigrunk.PlanCall(run, run, "/w", "/t")
+        self.assertEqual(len(zigrunk.plan_records(call, first).commands), 1)
+        cases: list[tuple[zigrunk.Field, str, str, Any]] = [
+            (zigrunk.Field.DRY1, 'the first text is no dry run: no line begins with "#$ "', "dry1", b"nvcc: not found\n"),
+            (zigrunk.Field.DRY2, 'the second text is no dry run: no line begins with "#$ "', "dry2", b""),
+            (zigrunk.Field.FLAG, "the flag isn't an option that says what nvcc makes", "flag", "-C"),
+        ]
+        for field, message, name, value in cases:
+            self.rejects_at(field, None, zigrunk.Status.NO_DRY_RUN, message, dataclasses.replace(call, **{name: value}), first)
+        empty = dataclasses.replace(call, dry1=b"#$ PATH=/b\n", dry2=b"#$ PATH=/b\n#$ rm k\n")
+        self.rejects(zigrunk.Status.NO_DRY_RUN, "the plan has no command", zigrunk.plan_records, empty, first)
 
     def test_an_answer_that_grows(self) -> None:
         calls: list[tuple[int, int]] = []
@@ -136,6 +169,7 @@ class Calls(unittest.TestCase):
     def test_a_reason_of_a_later_library(self) -> None:
         self.assertEqual([zigrunk._reason(it) for it in (0, 4, 5)], [None, zigrunk.Reason.SUPERSEDED, 5])
         self.assertEqual([zigrunk._known(zigrunk.Stage, it) for it in (2, 3)], [zigrunk.Stage.FINAL, 3])
+        self.assertEqual([zigrunk._known(zigrunk.CommandTool, it) for it in (8, 9)], [zigrunk.CommandTool.HOST, 9])
         with self.assertRaises(zigrunk.ZigrunkError) as caught:
             zigrunk._checked(99, b"new")
         self.assertEqual((caught.exception.number, str(caught.exception)), (99, "new"))
@@ -174,16 +208,16 @@ class Calls(unittest.TestCase):
 
     def test_limits(self) -> None:
         run = b"#$ PATH=/b\n#$ gcc -D__NVCC__ x.i\n"
-        call = zigrunk.PlanCall(run, run, "/w", "/t", limit=30)
+        call = zigrunk.PlanCall(run, run, "/w", "/t", limit=8222)
         self.assertEqual(len(zigrunk.plan_records(call, first).commands), 1)
-        call.limit = 29
-        planners: list[Callable[..., object]] = [zigrunk.plan, zigrunk.plan_records]
-        for make in planners:
-            self.rejects(zigrunk.Status.OVER_LIMIT, "run 1 line 1: over the limit of 29 bytes", make, call, which=first)
+        call.limit = 8221
+        self.rejects(zigrunk.Status.OVER_LIMIT, "run 1 line 1: over the limit of 8221 bytes", zigrunk.plan, call, which=first)
+        message = "dry run 1, line 2: with this line, the dry run makes over 8221 bytes"
+        self.rejects_at(zigrunk.Field.DRY1, 2, zigrunk.Status.OVER_LIMIT, message, call, first)
         call.dry1 = b""
-        self.rejects(zigrunk.Status.OVER_LIMIT, "run 2 line 1: over the limit of 29 bytes", zigrunk.plan, call, which=first)
-        self.assertEqual(zigrunk.lookups(run, run, "/w", 29), [zigrunk.Lookup("gcc", "/b")])
-        self.rejects(zigrunk.Status.OVER_LIMIT, "run 1 line 1: over the limit of 28 bytes", zigrunk.lookups, run, run, "/w", 28)
+        self.rejects(zigrunk.Status.OVER_LIMIT, "run 2 line 1: over the limit of 8221 bytes", zigrunk.plan, call, which=first)
+        self.assertEqual(zigrunk.lookups(run, run, "/w", 8221), [zigrunk.Lookup("gcc", "/b")])
+        self.rejects(zigrunk.Status.OVER_LIMIT, "run 1 line 1: over the limit of 8220 bytes", zigrunk.lookups, run, run, "/w", 8220)
         for limit in 0, -1, 1 << 64:
             call.limit = limit
             calls: list[Callable[[], object]] = [lambda: zigrunk.plan(call, which=first), lambda: zigrunk.lookups(run, run, "/w", limit)]
@@ -198,7 +232,8 @@ class Calls(unittest.TestCase):
         call = zigrunk.PlanCall(run, run, "/w", "/t", limit=2 << 20)
         message = "run 1 line 26: over the limit of 2097152 bytes"
         self.rejects(zigrunk.Status.OVER_LIMIT, message, zigrunk.plan, call, which=first)
-        self.rejects(zigrunk.Status.OVER_LIMIT, message, zigrunk.plan_records, call, which=first)
+        message = "dry run 1, line 27: with this line, the dry run makes over 2097152 bytes"
+        self.rejects_at(zigrunk.Field.DRY1, 27, zigrunk.Status.OVER_LIMIT, message, call, first)
 
     def test_lines(self) -> None:
         words = "-arch=sm_80 k.ptx -o k.cubin".split()
@@ -267,6 +302,8 @@ class Layout(unittest.TestCase):
         structs = re.findall(r"typedef struct \w+ \{(.*?)\} (\w+);", code, re.DOTALL)
         header = {name: re.findall(r"(\w+);", fields) for fields, name in structs}
         self.assertGreaterEqual(len(header), 15)
+        # the module makes no call with this answer
+        header.pop("zigrunk_records_answer")
         self.assertEqual({name: [field[0] for field in record._fields_] for name, record in self.records().items()}, header)
 
     @unittest.skipUnless(shutil.which("cc"), "needs cc")

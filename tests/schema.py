@@ -90,7 +90,7 @@ def findings(plan: Json, runs: list[list[str]]) -> list[str]:
 
 
 def ran_in_threads(plan: Json) -> list[int]:
-    """Runs a stand-in for each command, as the example of README does. Returns the ids in the order in which they ended."""
+    """Runs a stand-in for each command, as the example in man zigrunk does. Returns the ids in the order in which they ended."""
     ended: list[int] = []
     jobs: list[concurrent.futures.Future[None]] = []
 

@@ -54,6 +54,7 @@ extern "C" {
 #define ZIGRUNK_BAD_LINE 9     /* a line of a tool can't be read, or isn't to be cached */
 #define ZIGRUNK_TO_NVCC 10     /* the line goes to nvcc as it is: the text has the reason */
 #define ZIGRUNK_OVER_LIMIT 11  /* a line of a dry run exceeds your limit: the text says which */
+#define ZIGRUNK_NO_DRY_RUN 12  /* your texts aren't the two dry runs of a call. Only zigrunk_plan_steps looks */
 
 /* Forms of a plan. */
 #define ZIGRUNK_JSON 0u  /* all there is to know, for programs: zigrunk(1) describes it */
@@ -66,13 +67,16 @@ extern "C" {
 #define ZIGRUNK_MSVC 1u
 #define ZIGRUNK_NVHPC 2u
 
-/* Tools that lines are of. */
+/* Tools: those that lines are of, and those that commands run. */
 #define ZIGRUNK_TOOL_CICC 0u
 #define ZIGRUNK_TOOL_PTXAS 1u
 #define ZIGRUNK_TOOL_CUDAFE 2u /* cudafe++ */
 #define ZIGRUNK_TOOL_NVCC 3u
 #define ZIGRUNK_TOOL_NVC 4u   /* nvc of nvhpc */
 #define ZIGRUNK_TOOL_NVCXX 5u /* nvc++ of nvhpc */
+#define ZIGRUNK_TOOL_FATBINARY 6u /* this and the others: of a command alone */
+#define ZIGRUNK_TOOL_NVLINK 7u
+#define ZIGRUNK_TOOL_HOST 8u /* a host compiler, or any other program */
 
 /* Languages: that of a line's input, or what the tool makes of it. */
 #define ZIGRUNK_LANGUAGE_C 0u
@@ -100,6 +104,26 @@ extern "C" {
 #define ZIGRUNK_NO_CICC_GROUP 2u  /* a cicc command whose input no preprocess step before it makes */
 #define ZIGRUNK_NO_PTXAS_GROUP 3u /* a ptxas command whose input no cicc command of a device group makes */
 #define ZIGRUNK_SUPERSEDED 4u     /* of a device group that a later preprocess step opened again */
+
+/* Why a command may touch more files than its words name. */
+#define ZIGRUNK_NONE_MISSING 0u    /* it doesn't */
+#define ZIGRUNK_UNREAD_MISSING 1u  /* its line can't be read, so nothing is known */
+#define ZIGRUNK_HEADERS_MISSING 2u /* it preprocesses, so it also reads headers */
+#define ZIGRUNK_INPUTS_MISSING 3u  /* it also reads what its input includes, and libraries */
+
+/* Fields of zigrunk_plan_call: where a call is refused. */
+#define ZIGRUNK_NO_FIELD 0u
+#define ZIGRUNK_FIELD_DRY1 1u
+#define ZIGRUNK_FIELD_DRY2 2u
+#define ZIGRUNK_FIELD_CWD 3u
+#define ZIGRUNK_FIELD_TMP 4u
+#define ZIGRUNK_FIELD_FLAG 5u
+#define ZIGRUNK_FIELD_KEEP_DIR 6u
+#define ZIGRUNK_FIELD_VARIABLES 7u
+#define ZIGRUNK_FIELD_SUFFIXES 8u
+#define ZIGRUNK_FIELD_PROGRAMS 9u
+#define ZIGRUNK_FIELD_KEEPS 10u
+#define ZIGRUNK_FIELD_HOST_COMPILER 11u
 
 #if defined(__GNUC__) || defined(__clang__)
 #define ZIGRUNK_CHECK_RESULT __attribute__((warn_unused_result))
@@ -224,6 +248,38 @@ typedef struct zigrunk_records_answer {
     size_t length;
 } zigrunk_records_answer;
 
+/* What a program that runs a command has to know of it, beside zigrunk_command. Paths are absolute if the directories that you
+ * passed are. */
+typedef struct zigrunk_step {
+    zigrunk_range needs;     /* which elements of the list of numbers: the commands that have to end before it starts, ascending */
+    zigrunk_range reads;     /* which texts are the paths of the files that it reads */
+    zigrunk_range writes;    /* which texts are the paths of the files that it writes */
+    zigrunk_range may_write; /* which texts are the paths of the files that it may write or leave out */
+    uint32_t tool;           /* ZIGRUNK_TOOL_CICC .. */
+    uint32_t missing;        /* whether there are more files, and which: ZIGRUNK_NONE_MISSING .. */
+} zigrunk_step;
+
+/* Where a call is refused. All of it is 0 if it isn't, or if no single field is at fault. */
+typedef struct zigrunk_place {
+    size_t run;        /* the dry run of the line that is refused: 1 or 2 */
+    size_t line;       /* the number of that line, from 1 */
+    uint32_t field;    /* the field of the call: ZIGRUNK_NO_FIELD .. */
+    uint32_t reserved; /* 0 */
+} zigrunk_place;
+
+/* The answer of a call that writes a plan for a program that runs it: where the call is refused, how many groups, commands, steps,
+ * numbers and ranges there are, and the length of all texts together. */
+typedef struct zigrunk_steps_answer {
+    int32_t status;
+    zigrunk_place place;
+    size_t groups;
+    size_t commands;
+    size_t steps;
+    size_t numbers;
+    size_t ranges;
+    size_t length;
+} zigrunk_steps_answer;
+
 /* What a line of a tool says. Its texts are elements of the list of ranges, each of which says where the bytes are. Words and
  * paths are `length` texts from number `offset` on. (*) A field of sccache's that these tools' lines don't set. */
 typedef struct zigrunk_line_record {
@@ -311,6 +367,20 @@ ZIGRUNK_CHECK_RESULT zigrunk_text_answer zigrunk_plan(const zigrunk_plan_call *c
  * enough, and nothing otherwise. If it refuses, only the message is written, and the three other counts are 0. */
 ZIGRUNK_CHECK_RESULT zigrunk_records_answer zigrunk_plan_records(const zigrunk_plan_call *call,
     zigrunk_group *groups, size_t groups_size, zigrunk_command *commands, size_t commands_size,
+    zigrunk_range *ranges, size_t ranges_size, uint8_t *out, size_t out_size);
+
+/* Plans the same commands for a program that runs them: writes what zigrunk_plan_records writes, and for each command of a group
+ * what it needs and which files it reads and writes. Element i of the steps is of element i of the commands; dropped commands have
+ * none. A command may start as soon as all that it needs have ended, in whatever group they are. All of it is written if each of
+ * the six buffers is large enough, and nothing otherwise.
+ *
+ * It refuses what zigrunk_plan_records refuses, and says where: answer.place. It also refuses a text without a line that begins
+ * with "#$ ", a flag that is no option of nvcc's that says what it makes, and a plan without a command (ZIGRUNK_NO_DRY_RUN).
+ * One text may be both dry runs: of a C or C++ source, nvcc prints the same twice. If it refuses, only the message is written, and the
+ * other counts are 0. */
+ZIGRUNK_CHECK_RESULT zigrunk_steps_answer zigrunk_plan_steps(const zigrunk_plan_call *call,
+    zigrunk_group *groups, size_t groups_size, zigrunk_command *commands, size_t commands_size,
+    zigrunk_step *steps, size_t steps_size, size_t *numbers, size_t numbers_size,
     zigrunk_range *ranges, size_t ranges_size, uint8_t *out, size_t out_size);
 
 /* Reads a line of a tool and writes what it says as JSON: its input, its outputs, and its words by what they are for.

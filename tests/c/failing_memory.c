@@ -1,6 +1,7 @@
-/* Each allocation of a call fails in turn, in one process. Link with --wrap for malloc, realloc and free. */
+/* Each allocation of a call fails in turn, in one process. `failing_memory REFUSALS FOLDER NAME..` then also has so many allocations fail
+ * by lot, in all calls and in plans of the dry runs in files. Link with --wrap for malloc, realloc and free. */
+#include "files.h"
 #include "lines.h"
-#include "plans.h"
 
 void *__real_malloc(size_t size);
 void *__real_realloc(void *at, size_t size);
@@ -9,9 +10,18 @@ void __real_free(void *at);
 static int is_counting;       /* whether a call of the library runs */
 static long asked, held;      /* allocations of that call so far; blocks that it holds */
 static long failing = -1;     /* which of them fails */
+static uint64_t odds;         /* if it isn't 0, one of so many fails by lot */
+static long refused;          /* allocations that have failed */
+
+static int is_refused(void) {
+    int fails = is_counting && (asked == failing || (odds > 0 && random_below(odds) == 0));
+    asked += is_counting;
+    refused += fails;
+    return fails;
+}
 
 void *__wrap_malloc(size_t size) {
-    if (is_counting && asked++ == failing) {
+    if (is_refused()) {
         return NULL;
     }
     void *at = __real_malloc(size);
@@ -20,7 +30,7 @@ void *__wrap_malloc(size_t size) {
 }
 
 void *__wrap_realloc(void *at, size_t size) {
-    if (is_counting && asked++ == failing) {
+    if (is_refused()) {
         return NULL;
     }
     void *moved = __real_realloc(at, size);
@@ -37,41 +47,78 @@ void __wrap_free(void *at) {
 typedef struct buffers {
     zigrunk_range ranges[4096];
     uint8_t out[1 << 16];
+    zigrunk_group groups[64];
+    zigrunk_command commands[256];
+    zigrunk_step steps[256];
+    size_t numbers[1 << 11];
 } buffers;
 
 typedef zigrunk_list_answer tried(buffers *into);
 
-static buffers whole, part;
+static buffers blank, whole, part;
+
+/* Makes a call of which allocations fail. It answers as with memory (`right`, `whole`), or says that it is out of memory and writes
+ * nothing else. Returns whether it says so. */
+static int is_told(tried *call, zigrunk_list_answer right) {
+    static const char message[] = "out of memory";
+    memcpy(&part, &blank, sizeof part);
+    asked = held = 0;
+    is_counting = 1;
+    zigrunk_list_answer a = call(&part);
+    is_counting = 0;
+    CHECK(held == 0);
+    if (a.status != ZIGRUNK_OUT_OF_MEMORY) {
+        CHECK(a.status == right.status && a.count == right.count && a.length == right.length);
+        CHECK(memcmp(&part, &whole, sizeof part) == 0);
+        return 0;
+    }
+    CHECK(a.count == 0 && a.length == strlen(message) && memcmp(part.out, message, strlen(message)) == 0);
+    memcpy(part.out, blank.out, strlen(message));
+    CHECK(memcmp(&part, &blank, sizeof part) == 0);
+    return 1;
+}
+
+/* What a call answers with memory. */
+static zigrunk_list_answer right_answer(tried *call) {
+    memset(&blank, UNWRITTEN, sizeof blank);
+    memcpy(&whole, &blank, sizeof whole);
+    zigrunk_list_answer right = call(&whole);
+    CHECK(right.count <= sizeof whole.ranges / sizeof *whole.ranges && right.length <= sizeof whole.out);
+    return right;
+}
 
 /* Tries a call with the first allocation failing, then the second, and so on until none fails. */
 static void try_all(const char *name, tried *call) {
-    long nth = 0, told = 0, done = 0;
-    memset(&whole, UNWRITTEN, sizeof whole);
-    zigrunk_list_answer right = call(&whole);
-    for (;; nth++) {
-        memset(&part, UNWRITTEN, sizeof part);
-        failing = nth;
-        asked = held = 0;
-        is_counting = 1;
-        zigrunk_list_answer a = call(&part);
-        is_counting = 0;
-        CHECK(held == 0);
-        if (asked <= nth) {
+    long told = 0, done = 0;
+    zigrunk_list_answer right = right_answer(call);
+    for (failing = 0;; failing++) {
+        int is_out = is_told(call, right);
+        if (asked <= failing) {
+            CHECK(!is_out);
             break;
         }
-        if (a.status == ZIGRUNK_OUT_OF_MEMORY) {
-            told++;
-            CHECK(a.count == 0 && a.length == 13 && memcmp(part.out, "out of memory", 13) == 0);
-            CHECK(is_unwritten(part.ranges, sizeof part.ranges) && is_unwritten(part.out + 13, sizeof part.out - 13));
-        } else {
-            done++;
-            CHECK(a.status == right.status && a.count == right.count && a.length == right.length);
-            CHECK(memcmp(&part, &whole, sizeof part) == 0);
-        }
+        told += is_out;
+        done += !is_out;
     }
     CHECK(told > 0);
-    CHECK(memcmp(&part, &whole, sizeof part) == 0);
-    printf("%s: %ld allocations failed in turn, %ld told, %ld done without\n", name, nth, told, done);
+    printf("%s: %ld allocations failed in turn, %ld told, %ld done without\n", name, failing, told, done);
+    failing = -1;
+}
+
+/* Tries a call until so many more of its allocations have failed by lot: one of few, or one of about as many as it makes. */
+static void try_by_lot(const char *name, tried *call, long more) {
+    long until = refused + more, calls = 0, told = 0;
+    zigrunk_list_answer right = right_answer(call);
+    odds = 0;
+    CHECK(!is_told(call, right));
+    uint64_t most = 2 * (uint64_t)asked + 2;
+    for (; refused < until; calls++) {
+        odds = 1 + random_below(random_below(2) ? 50 : most);
+        told += is_told(call, right);
+    }
+    odds = 0;
+    CHECK(told > 0);
+    printf("%s: %ld allocations failed by lot, in %ld calls, %ld told\n", name, more, calls, told);
 }
 
 static zigrunk_list_answer as_list(zigrunk_text_answer a) {
@@ -100,18 +147,32 @@ static zigrunk_list_answer try_message(buffers *into) {
 static const char run[] = "#$ PATH=/b\n#$ gcc -D__NVCC__ -E k.cu -o k.cpp1.ii\n#$ cicc k.cpp1.ii -o k.ptx\n"
                           "#$ ptxas k.ptx -o k.cubin\n";
 
+static const char other_run[] = "#$ PATH=/b\n#$ gcc -D__NVCC__ -E k.cu -o /t/k.cpp1.ii\n";
+
 /* The form that stands for records here. */
 #define RECORDS UINT32_MAX
 
 /* A plan as records. Their ranges and texts are answered as a list. */
 static zigrunk_list_answer records_of(const zigrunk_plan_call *call, buffers *into) {
-    static zigrunk_group groups[8];
-    static zigrunk_command commands[16];
-    zigrunk_records_answer a = zigrunk_plan_records(call, groups, 8, commands, 16, into->ranges, 4096, into->out, sizeof into->out);
+    zigrunk_records_answer a = zigrunk_plan_records(call, into->groups, 64, into->commands, 256, into->ranges, 4096, into->out,
+        sizeof into->out);
     CHECK(a.status == ZIGRUNK_OK ? a.groups == 3 && a.commands == 3 : a.groups == 0 && a.commands == 0);
     zigrunk_list_answer list = {a.status, a.ranges, a.length};
     return list;
 }
+
+/* The same for a program that runs it. */
+static zigrunk_list_answer steps_of(const zigrunk_plan_call *call, buffers *into) {
+    zigrunk_steps_answer a = zigrunk_plan_steps(call, into->groups, 64, into->commands, 256, into->steps, 256, into->numbers, 1 << 11,
+        into->ranges, 4096, into->out, sizeof into->out);
+    CHECK(a.status == ZIGRUNK_OK ? a.groups > 2 && a.groups <= 64 && a.steps > 1 && a.commands <= 256 && a.numbers > 0 && a.numbers <= 1 << 11
+        : a.groups == 0 && a.commands == 0 && a.steps == 0 && a.numbers == 0);
+    zigrunk_list_answer list = {a.status, a.ranges, a.length};
+    return list;
+}
+
+/* The form that stands for these, for which the two dry runs have to differ. */
+#define STEPS (UINT32_MAX - 1)
 
 static zigrunk_list_answer try_plan(uint32_t form, size_t programs, size_t limit, buffers *into) {
     zigrunk_found_program rows[] = {row("gcc", "/b", "/b/gcc"), row("cicc", "/b", "/b/cicc"), row("ptxas", "/b", "/b/ptxas")};
@@ -125,6 +186,10 @@ static zigrunk_list_answer try_plan(uint32_t form, size_t programs, size_t limit
     call.programs = rows;
     call.programs_count = programs;
     call.limit = limit;
+    if (form == STEPS) {
+        call.dry2 = text_of(other_run);
+        return steps_of(&call, into);
+    }
     return form == RECORDS ? records_of(&call, into) : as_list(zigrunk_plan(&call, form, into->out, sizeof into->out));
 }
 
@@ -149,7 +214,7 @@ static zigrunk_list_answer try_refused_plan(buffers *into) {
 }
 
 static zigrunk_list_answer try_limited_plan(buffers *into) {
-    return try_plan(ZIGRUNK_TEXT, 3, 1000, into);
+    return try_plan(ZIGRUNK_TEXT, 3, 100000, into);
 }
 
 static zigrunk_list_answer try_exceeding_plan(buffers *into) {
@@ -160,13 +225,25 @@ static zigrunk_list_answer try_exceeding_records(buffers *into) {
     return try_plan(RECORDS, 3, 50, into);
 }
 
+static zigrunk_list_answer try_steps(buffers *into) {
+    return try_plan(STEPS, 3, 0, into);
+}
+
+static zigrunk_list_answer try_refused_steps(buffers *into) {
+    return try_plan(STEPS, 2, 0, into);
+}
+
+static zigrunk_list_answer try_exceeding_steps(buffers *into) {
+    return try_plan(STEPS, 3, 50, into);
+}
+
 static zigrunk_list_answer try_lookups(buffers *into) {
     three more = {{text_of(run), text_of(run), text_of("/w")}};
     return call_lookups(&more, into->ranges, 4096, into->out, sizeof into->out);
 }
 
 static zigrunk_list_answer try_limited_lookups(buffers *into) {
-    limited_runs more = {{{text_of(run), text_of(run), text_of("/w")}}, 200};
+    limited_runs more = {{{text_of(run), text_of(run), text_of("/w")}}, 100000};
     return call_lookups_within(&more, into->ranges, 4096, into->out, sizeof into->out);
 }
 
@@ -235,30 +312,41 @@ static zigrunk_list_answer try_remap(buffers *into) {
     return call_remap(&more, into->ranges, 4096, into->out, sizeof into->out);
 }
 
-int main(void) {
-    try_all("split", try_split);
-    try_all("refused split", try_refused_split);
-    try_all("quote", try_quote);
-    try_all("message", try_message);
-    try_all("JSON", try_json);
-    try_all("Ninja", try_ninja);
-    try_all("refused plan", try_refused_plan);
-    try_all("plan within a limit", try_limited_plan);
-    try_all("plan over a limit", try_exceeding_plan);
-    try_all("records", try_records);
-    try_all("refused records", try_refused_records);
-    try_all("records over a limit", try_exceeding_records);
-    try_all("look-ups", try_lookups);
-    try_all("look-ups within a limit", try_limited_lookups);
-    try_all("look-ups over a limit", try_exceeding_lookups);
-    try_all("candidates", try_candidates);
-    try_all("line", try_line);
-    try_all("written line", try_line_words);
-    try_all("refused line", try_refused_line);
-    try_all("line as records", try_line_records);
-    try_all("refused line as records", try_refused_line_records);
-    try_all("nvcc line", try_nvcc_line);
-    try_all("passed line", try_passed_line);
-    try_all("canonical names", try_remap);
+/* A plan of the dry runs in files. */
+static planned_files files;
+
+static zigrunk_list_answer try_files(buffers *into) {
+    return steps_of(&files.call, into);
+}
+
+static const struct {
+    const char *name;
+    tried *call;
+} calls[] = {
+    {"split", try_split}, {"refused split", try_refused_split}, {"quote", try_quote}, {"message", try_message}, {"JSON", try_json},
+    {"Ninja", try_ninja}, {"refused plan", try_refused_plan}, {"plan within a limit", try_limited_plan},
+    {"plan over a limit", try_exceeding_plan}, {"records", try_records}, {"refused records", try_refused_records},
+    {"records over a limit", try_exceeding_records}, {"steps", try_steps}, {"refused steps", try_refused_steps},
+    {"steps over a limit", try_exceeding_steps}, {"look-ups", try_lookups}, {"look-ups within a limit", try_limited_lookups},
+    {"look-ups over a limit", try_exceeding_lookups}, {"candidates", try_candidates}, {"line", try_line},
+    {"written line", try_line_words}, {"refused line", try_refused_line}, {"line as records", try_line_records},
+    {"refused line as records", try_refused_line_records}, {"nvcc line", try_nvcc_line}, {"passed line", try_passed_line},
+    {"canonical names", try_remap},
+};
+
+int main(int count, char **arguments) {
+    long refusals = count > 1 ? atol(arguments[1]) : 0;
+    size_t all = sizeof calls / sizeof *calls, named = count > 3 ? (size_t)count - 3 : 0;
+    for (size_t i = 0; i < all; i++) {
+        try_all(calls[i].name, calls[i].call);
+    }
+    for (size_t i = 0; i < all && refusals > 0; i++) {
+        try_by_lot(calls[i].name, calls[i].call, refusals / (long)(all + named));
+    }
+    for (size_t i = 0; i < named; i++) {
+        files = files_of(arguments[2], arguments[i + 3]);
+        try_by_lot(arguments[i + 3], try_files, refusals / (long)(all + named));
+        release_files(files);
+    }
     return report();
 }

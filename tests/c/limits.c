@@ -6,10 +6,10 @@
 #include <time.h>
 
 /* `PATH` and its value count eight bytes. The path of the program, its options and its word count 22 more in a plan. Look-ups
- * count 21: the value of `PATH` and the name of the program stand for the path. */
+ * count 21: the value of `PATH` and the name of the program stand for the path. Each of the two lines counts 4,096 more. */
 static const char fits[] = "#$ PATH=/b\n#$ gcc -D__NVCC__ x.i\n";
-#define PLAN_ROOM 30u
-#define LOOKUPS_ROOM 29u
+#define PLAN_ROOM 8222u
+#define LOOKUPS_ROOM 8221u
 
 static zigrunk_found_program gcc;
 
@@ -48,9 +48,9 @@ static void check_plans(void) {
     call.limit = SIZE_MAX;
     ends(&call, ZIGRUNK_OK, NULL);
     call.limit = PLAN_ROOM - 1;
-    ends(&call, ZIGRUNK_OVER_LIMIT, "run 1 line 1: over the limit of 29 bytes");
+    ends(&call, ZIGRUNK_OVER_LIMIT, "run 1 line 1: over the limit of 8221 bytes");
     call = limited_call("", fits, PLAN_ROOM - 1);
-    ends(&call, ZIGRUNK_OVER_LIMIT, "run 2 line 1: over the limit of 29 bytes");
+    ends(&call, ZIGRUNK_OVER_LIMIT, "run 2 line 1: over the limit of 8221 bytes");
     call.limit = 1;
     ends(&call, ZIGRUNK_OVER_LIMIT, "run 2 line 0: over the limit of 1 bytes");
     /* what is bad before that comes first, and so does the first run */
@@ -59,7 +59,7 @@ static void check_plans(void) {
     call = limited_call("#$ gcc x\n", fits, PLAN_ROOM - 1);
     ends(&call, ZIGRUNK_BAD_DRY_RUN, "run 1 line 0: no PATH");
     call = limited_call(fits, "#$ gcc x\n", PLAN_ROOM - 1);
-    ends(&call, ZIGRUNK_OVER_LIMIT, "run 1 line 1: over the limit of 29 bytes");
+    ends(&call, ZIGRUNK_OVER_LIMIT, "run 1 line 1: over the limit of 8221 bytes");
     zigrunk_text suffix = text_of("y");
     call.suffixes = &suffix;
     call.suffixes_count = 1;
@@ -74,10 +74,10 @@ static void check_lookups(void) {
     CHECK(a.status == ZIGRUNK_OK && a.count == 2 && is_word(&a, 0, "gcc") && is_word(&a, 1, "/b"));
     release(a);
     a = lookups_within(text_of(fits), text_of(""), text_of("/w"), LOOKUPS_ROOM - 1);
-    CHECK(a.status == ZIGRUNK_OVER_LIMIT && a.count == 0 && is_text(&a, "run 1 line 1: over the limit of 28 bytes"));
+    CHECK(a.status == ZIGRUNK_OVER_LIMIT && a.count == 0 && is_text(&a, "run 1 line 1: over the limit of 8220 bytes"));
     release(a);
     a = lookups_within(text_of(""), text_of(fits), text_of("/w"), LOOKUPS_ROOM - 1);
-    CHECK(a.status == ZIGRUNK_OVER_LIMIT && a.count == 0 && is_text(&a, "run 2 line 1: over the limit of 28 bytes"));
+    CHECK(a.status == ZIGRUNK_OVER_LIMIT && a.count == 0 && is_text(&a, "run 2 line 1: over the limit of 8220 bytes"));
     release(a);
     /* a bad line is none of its refusals */
     a = lookups_within(text_of("#$ gcc x\n"), text_of(fits), text_of("/w"), LOOKUPS_ROOM);

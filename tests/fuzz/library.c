@@ -16,9 +16,10 @@
 
 #define BUDGET ((size_t)16 << 20)
 #define SLOW 2.0 /* seconds */
+#define LONGEST 3.0 /* seconds of a call within zigrunk's own limit: it takes less than 0.5 on an idle machine */
 
 static struct {
-    unsigned long inputs, calls, too_large, injected, slow, statuses[12];
+    unsigned long inputs, calls, too_large, injected, slow, statuses[ZIGRUNK_NO_DRY_RUN + 1];
     double longest;
     size_t most_memory;
 } told;
@@ -141,7 +142,7 @@ static void begin(unsigned long failing) {
 static double end(int32_t status) {
     double took = now() - started;
     holds(in_use == 0, "all memory is free after a call");
-    holds(status >= 0 && status <= ZIGRUNK_OVER_LIMIT, "a known status");
+    holds(status >= 0 && status <= ZIGRUNK_NO_DRY_RUN, "a known status");
     told.calls++;
     told.statuses[status]++;
     told.longest = took > told.longest ? took : told.longest;
@@ -745,6 +746,91 @@ static size_t count_needs(zigrunk_text json) {
     return count;
 }
 
+/* The steps of a plan's commands, and what they point at. */
+typedef struct steps {
+    zigrunk_steps_answer sizes;
+    records all;
+    zigrunk_step *at;
+    size_t *numbers;
+} steps;
+
+static zigrunk_steps_answer ask_parts(const zigrunk_plan_call *call, steps *it, zigrunk_steps_answer room) {
+    begin(0);
+    zigrunk_steps_answer sizes = zigrunk_plan_steps(call, it->all.groups, room.groups, it->all.commands, room.commands, it->at, room.steps,
+        it->numbers, room.numbers, it->all.texts.ranges, room.ranges, it->all.texts.out, room.length);
+    end(sizes.status);
+    return sizes;
+}
+
+/* Makes room for an answer's parts. */
+static void make_room(steps *it, zigrunk_steps_answer sizes) {
+    it->all.groups = (zigrunk_group *)room(sizes.groups * sizeof *it->all.groups);
+    it->all.commands = (zigrunk_command *)room(sizes.commands * sizeof *it->all.commands);
+    it->all.texts = (answer){sizes.status, sizes.ranges, sizes.length, NULL, NULL};
+    it->all.texts.ranges = (zigrunk_range *)room(sizes.ranges * sizeof *it->all.texts.ranges);
+    it->all.texts.out = room(sizes.length);
+    it->at = (zigrunk_step *)room(sizes.steps * sizeof *it->at);
+    it->numbers = (size_t *)room(sizes.numbers * sizeof *it->numbers);
+}
+
+static void release_steps(steps *it) {
+    release_records(&it->all);
+    free(it->at);
+    free(it->numbers);
+}
+
+static steps ask_steps(const zigrunk_plan_call *call) {
+    static const zigrunk_steps_answer nothing;
+    steps it = {.sizes = nothing}, none = {.sizes = nothing};
+    make_room(&none, nothing);
+    it.sizes = ask_parts(call, &none, nothing);
+    release_steps(&none);
+    make_room(&it, it.sizes);
+    zigrunk_steps_answer again = ask_parts(call, &it, it.sizes);
+    holds(memcmp(&again.place, &it.sizes.place, sizeof again.place) == 0 && again.status == it.sizes.status && again.groups == it.sizes.groups &&
+        again.commands == it.sizes.commands && again.steps == it.sizes.steps && again.numbers == it.sizes.numbers &&
+        again.ranges == it.sizes.ranges && again.length == it.sizes.length, "the same sizes of steps");
+    return it;
+}
+
+/* Each step's texts and needs are there, one behind the other, and a command needs commands before it. */
+static void check_steps(const steps *it) {
+    size_t need = 0, text = it->sizes.steps > 0 ? it->at[0].reads.offset : 0;
+    for (size_t i = 0; i < it->sizes.steps; i++) {
+        const zigrunk_step *step = &it->at[i];
+        holds(step->needs.offset == need && step->needs.length <= it->sizes.numbers - need, "needs are one behind the other");
+        for (size_t j = 0; j < step->needs.length; j++, need++) {
+            holds(it->numbers[need] < i && (j == 0 || it->numbers[need - 1] < it->numbers[need]), "needs are earlier commands, ascending");
+        }
+        const zigrunk_range files[3] = {step->reads, step->writes, step->may_write};
+        for (size_t j = 0; j < 3; text += files[j++].length) {
+            holds(files[j].offset == text && files[j].length <= it->sizes.ranges - text, "files are one behind the other");
+        }
+    }
+    holds(need == it->sizes.numbers && (it->sizes.steps == 0 || text == it->sizes.ranges), "steps have all needs and all files");
+}
+
+/* Compares a plan's records with those for a program that runs it. */
+static void try_steps(const zigrunk_plan_call *call, const records *all) {
+    steps it = ask_steps(call);
+    const zigrunk_place *place = &it.sizes.place;
+    holds(it.sizes.status == all->sizes.status || it.sizes.status == ZIGRUNK_NO_DRY_RUN, "steps refuse what records refuse");
+    holds((place->run > 0) == (place->line > 0) && (place->run == 0 || place->run == place->field) && place->run <= 2, "a line is of a dry run");
+    holds((place->line > 0) == (it.sizes.status == ZIGRUNK_BAD_DRY_RUN || it.sizes.status == ZIGRUNK_NOT_FOUND ||
+        it.sizes.status == ZIGRUNK_OVER_LIMIT), "a bad line has a place");
+    if (it.sizes.status == ZIGRUNK_OK) {
+        holds(it.sizes.steps > 0 && it.sizes.steps == count_grouped(all), "a step for each command of a group");
+        holds(it.sizes.groups == all->sizes.groups && it.sizes.commands == all->sizes.commands && it.sizes.ranges >= all->sizes.ranges &&
+            it.sizes.length >= all->sizes.length, "steps have all records");
+        holds(memcmp(it.all.groups, all->groups, all->sizes.groups * sizeof *all->groups) == 0 &&
+            memcmp(it.all.commands, all->commands, all->sizes.commands * sizeof *all->commands) == 0 &&
+            memcmp(it.all.texts.ranges, all->texts.ranges, all->sizes.ranges * sizeof *all->texts.ranges) == 0 &&
+            memcmp(it.all.texts.out, all->texts.out, all->sizes.length) == 0, "steps begin as records do");
+        check_steps(&it);
+    }
+    release_steps(&it);
+}
+
 /* Compares a written plan with its records. */
 static void try_records(const planned *it, const answer *plan) {
     records all = ask_records(&it->call);
@@ -761,6 +847,7 @@ static void try_records(const planned *it, const answer *plan) {
             holds(count_needs(text) == grouped, "each command in JSON says what it needs");
         }
     }
+    try_steps(&it->call, &all);
     release_records(&all);
 }
 
@@ -772,6 +859,21 @@ static void try_limit(planned *it, const answer *lookups, const answer *plan, si
     holds(!lookups_within.out || lookups_within.status == ZIGRUNK_OVER_LIMIT || is_same(&lookups_within, lookups), "look-ups within a limit are those without one");
     release(plan_within);
     release(lookups_within);
+    it->call.limit = 0;
+}
+
+/* Within zigrunk's own limit no call takes long, whatever it is given. */
+static void try_default_limit(planned *it) {
+    asker *const asked[] = {asks_plan, asks_lookups_within};
+    void *what[] = {it, &it->call};
+    zigrunk_range no_range;
+    uint8_t no_byte;
+    it->call.limit = 2u << 20;
+    for (int i = 0; i < 2; i++) {
+        begin(0);
+        zigrunk_list_answer a = asked[i](what[i], &no_range, 0, &no_byte, 0);
+        holds(end(a.status) < LONGEST, "a call within 2 MiB takes less than three seconds");
+    }
     it->call.limit = 0;
 }
 
@@ -808,6 +910,7 @@ static void try_plan(planned *it, int misses, unsigned long failing, size_t limi
     if (plan.out && lookups.out) {
         try_records(it, &plan);
         try_limit(it, &lookups, &plan, limit);
+        try_default_limit(it);
     }
     release(plan);
     free(rows);
@@ -824,7 +927,7 @@ static void tell(void) {
     fprintf(file, "inputs %lu\ncalls %lu\ncalls beyond %zu bytes %lu\ncalls with a failed allocation %lu\ncalls over %.0f s %lu\n", told.inputs,
         told.calls, BUDGET, told.too_large, told.injected, SLOW, told.slow);
     fprintf(file, "longest call %.3f s\nmost memory %zu bytes\n", told.longest, told.most_memory);
-    for (int i = 0; i <= ZIGRUNK_OVER_LIMIT; i++) {
+    for (int i = 0; i <= ZIGRUNK_NO_DRY_RUN; i++) {
         fprintf(file, "status %d: %lu\n", i, told.statuses[i]);
     }
     fclose(file);

@@ -16,11 +16,11 @@ import os
 import struct
 import sys
 from dataclasses import dataclass, field
-from typing import Callable, Iterable, List, Mapping, Optional, Sequence, Tuple, Type, TypeVar, Union
+from typing import Any, Callable, Dict, Iterable, List, Mapping, Optional, Sequence, Tuple, Type, TypeVar, Union
 
-__all__ = ["ColorMode", "Command", "Form", "Group", "HostCompiler", "Language", "Line", "Lookup", "NvccLine", "Output", "Plan",
-           "PlanCall", "Reason", "Stage", "Status", "Tool", "ZigrunkError", "candidates", "find", "line", "line_records", "line_words",
-           "lookups", "nvcc_line", "plan", "plan_records", "quote", "remap", "split", "version"]
+__all__ = ["ColorMode", "Command", "CommandTool", "Field", "Form", "Group", "HostCompiler", "Language", "Line", "Lookup", "Missing",
+           "NvccLine", "Output", "Place", "Plan", "PlanCall", "Reason", "Stage", "Status", "Tool", "ZigrunkError", "candidates", "find",
+           "line", "line_records", "line_words", "lookups", "nvcc_line", "plan", "plan_records", "quote", "remap", "split", "version"]
 
 _ABI_VERSION = 1
 
@@ -42,6 +42,7 @@ class Status(enum.IntEnum):
     BAD_LINE = 9
     TO_NVCC = 10
     OVER_LIMIT = 11
+    NO_DRY_RUN = 12
 
 
 class Form(enum.IntEnum):
@@ -116,12 +117,62 @@ class Reason(enum.IntEnum):
     """Of a device group that a later preprocess step opened again."""
 
 
-class ZigrunkError(Exception):
-    """The library rejected a call. The text is its message, and `number` its status."""
+class CommandTool(enum.IntEnum):
+    """The tool that a command runs. The first three are those of `Tool`, whose lines `line_records` reads."""
 
-    def __init__(self, number: int, message: str) -> None:
+    CICC = 0
+    PTXAS = 1
+    CUDAFE = 2
+    FATBINARY = 6
+    NVLINK = 7
+    HOST = 8
+    """A host compiler, or any other program."""
+
+
+class Missing(enum.IntEnum):
+    """Which files a command touches that its words don't name."""
+
+    UNREAD = 1
+    """Its line can't be read, so nothing is known."""
+    HEADERS = 2
+    """It preprocesses, so it also reads headers."""
+    INPUTS = 3
+    """It also reads what its input includes, and libraries."""
+
+
+class Field(enum.IntEnum):
+    """A field of `PlanCall`. VARIABLES is `environment`, and PROGRAMS what `which` found."""
+
+    DRY1 = 1
+    DRY2 = 2
+    CWD = 3
+    TMP = 4
+    FLAG = 5
+    KEEP_DIR = 6
+    VARIABLES = 7
+    SUFFIXES = 8
+    PROGRAMS = 9
+    HOST_COMPILER = 11
+
+
+@dataclass(frozen=True)
+class Place:
+    """Where `plan_records` rejects a call."""
+
+    field: Union[Field, int]
+    """The field. A number if a later library has one that this module doesn't know."""
+    line: Optional[int] = None
+    """The number of the line, from 1, if the field is a dry run and one of its lines is at fault."""
+
+
+class ZigrunkError(Exception):
+    """The library rejected a call. The text is its message, `number` its status, and `place` says where, if the call tells it and one
+    field is at fault: `plan_records` does."""
+
+    def __init__(self, number: int, message: str, place: Optional[Place] = None) -> None:
         super().__init__(message)
         self.number = number
+        self.place = place
 
 
 @dataclass(frozen=True)
@@ -180,6 +231,20 @@ class Command:
     """The dry run that it is of: 1 or 2."""
     line: int
     """Its line in that dry run, from 0. (The JSON form counts from 1.)"""
+    needs: Tuple[int, ...] = ()
+    """The commands that have to end before it starts: their places in `Plan.commands`, in ascending order. Empty if it was dropped,
+    and so are the files."""
+    reads: Tuple[str, ...] = ()
+    """The paths of the files that it reads by its words: see `missing`."""
+    writes: Tuple[str, ...] = ()
+    """The paths of the files that it writes."""
+    may_write: Tuple[str, ...] = ()
+    """The paths of the files that it may write or leave out."""
+    tool: Union[CommandTool, int, None] = None
+    """The tool that it runs, or None if it was dropped. A number if a later library has a tool that this module doesn't know."""
+    missing: Union[Missing, int, None] = None
+    """Which files it touches that aren't among these, or None if they are all. Among them may be files that commands which it needs
+    write. A number if a later library has a reason that this module doesn't know."""
 
 
 @dataclass(frozen=True)
@@ -197,7 +262,8 @@ class Plan:
     """What one nvcc call runs: groups of commands, and the commands that were dropped."""
 
     groups: Tuple[Group, ...]
-    """The groups, in the order in which they may run: the front group, the device groups, the final group."""
+    """The groups, in plan order: the front group, the device groups, the final group. To run commands side by side, go by
+    `Command.needs`: device groups may need each other."""
     dropped: Tuple[Command, ...]
     """The commands that the plan dropped, each with its reason."""
 
@@ -340,10 +406,21 @@ class _Command(ctypes.Structure):
     ]
 
 
-class _RecordsAnswer(ctypes.Structure):
+class _Step(ctypes.Structure):
     _fields_ = [
-        ("status", ctypes.c_int32), ("groups", ctypes.c_size_t), ("commands", ctypes.c_size_t), ("ranges", ctypes.c_size_t),
-        ("length", ctypes.c_size_t),
+        ("needs", _Range), ("reads", _Range), ("writes", _Range), ("may_write", _Range), ("tool", ctypes.c_uint32),
+        ("missing", ctypes.c_uint32),
+    ]
+
+
+class _Place(ctypes.Structure):
+    _fields_ = [("run", ctypes.c_size_t), ("line", ctypes.c_size_t), ("field", ctypes.c_uint32), ("reserved", ctypes.c_uint32)]
+
+
+class _StepsAnswer(ctypes.Structure):
+    _fields_ = [
+        ("status", ctypes.c_int32), ("place", _Place), ("groups", ctypes.c_size_t), ("commands", ctypes.c_size_t),
+        ("steps", ctypes.c_size_t), ("numbers", ctypes.c_size_t), ("ranges", ctypes.c_size_t), ("length", ctypes.c_size_t),
     ]
 
 
@@ -380,8 +457,9 @@ _CALLS = {
     "zigrunk_lookups_within": (_ListAnswer, _TEXT * 3 + [ctypes.c_size_t] + _RANGES + _OUT),
     "zigrunk_candidates": (_ListAnswer, _TEXT * 3 + _RANGES + _OUT),
     "zigrunk_plan": (_TextAnswer, [ctypes.POINTER(_PlanCall), ctypes.c_uint32] + _OUT),
-    "zigrunk_plan_records": (_RecordsAnswer, [
+    "zigrunk_plan_steps": (_StepsAnswer, [
         ctypes.POINTER(_PlanCall), ctypes.POINTER(_Group), ctypes.c_size_t, ctypes.POINTER(_Command), ctypes.c_size_t,
+        ctypes.POINTER(_Step), ctypes.c_size_t, ctypes.POINTER(ctypes.c_size_t), ctypes.c_size_t,
     ] + _RANGES + _OUT),
     "zigrunk_line": (_TextAnswer, [ctypes.POINTER(_LineCall)] + _OUT),
     "zigrunk_line_records": (_LineAnswer, [ctypes.POINTER(_LineCall), ctypes.POINTER(_Output), ctypes.c_size_t] + _RANGES + _OUT),
@@ -466,9 +544,9 @@ def _unsettled() -> RuntimeError:
     return RuntimeError("the answer grew with each call: another thread changes what the call reads")
 
 
-def _checked(status: int, text: bytes) -> None:
+def _checked(status: int, text: bytes, place: Optional[Place] = None) -> None:
     if status != Status.OK:
-        raise ZigrunkError(status, text.decode("utf-8"))
+        raise ZigrunkError(status, text.decode("utf-8"), place)
 
 
 def _texts(ranges: ctypes.Array[_Range], count: int, data: bytes) -> List[str]:
@@ -547,8 +625,7 @@ def _rows(call: PlanCall, which: Callable[[Lookup, str], Optional[str]]) -> Iter
         yield _FoundProgram(_text(_bytes(lookup.program)), _text(_bytes(lookup.path)), _text(_bytes(found or "")), found is not None, 0)
 
 
-def _record(call: PlanCall, which: Callable[[Lookup, str], Optional[str]]) -> _PlanCall:
-    rows = list(_rows(call, which))
+def _record(call: PlanCall, rows: Sequence[_FoundProgram]) -> _PlanCall:
     return _PlanCall(
         _text(call.dry1), _text(call.dry2), _text(_bytes(call.cwd)), _text(_bytes(call.tmp)), _text(_bytes(call.flag)),
         _text(_bytes(call.keep_dir or "")),
@@ -564,7 +641,7 @@ def plan(call: PlanCall, form: Form = Form.JSON, which: Callable[[Lookup, str], 
     Raises `ZigrunkError` if a dry run can't be read, or not within the limit, if a program isn't found, if the suffixes break a
     rule, or if the form can't represent the plan.
     """
-    return _ask_text(_library.zigrunk_plan, ctypes.byref(_record(call, which)), int(form))
+    return _ask_text(_library.zigrunk_plan, ctypes.byref(_record(call, list(_rows(call, which)))), int(form))
 
 
 def _known(kind: Type[_Number], number: int) -> Union[_Number, int]:
@@ -578,38 +655,67 @@ def _reason(number: int) -> Union[Reason, int, None]:
     return _known(Reason, number) if number else None
 
 
-def _command(it: _Command, texts: Sequence[str]) -> Command:
-    arguments, variables = (texts[part.offset:part.offset + part.length] for part in (it.arguments, it.variables))
+def _place(it: _Place) -> Optional[Place]:
+    return Place(_known(Field, it.field), it.line or None) if it.field else None
+
+
+_NO_STEP = _Step(tool=0)
+
+
+def _command(it: _Command, step: Optional[_Step], numbers: Sequence[int], texts: Sequence[str]) -> Command:
+    def of(part: _Range) -> Tuple[str, ...]:
+        return tuple(texts[part.offset:part.offset + part.length])
+
+    variables, more = of(it.variables), step or _NO_STEP
     return Command(
-        texts[it.program], tuple(arguments), tuple(zip(variables[::2], variables[1::2])), texts[it.cwd],
-        it.group if it.reason == 0 else None, _known(Reason, it.reason) if it.reason else None, it.cacheable == 1, it.run, it.line,
+        texts[it.program], of(it.arguments), tuple(zip(variables[::2], variables[1::2])), texts[it.cwd],
+        it.group if step else None, _reason(it.reason), it.cacheable == 1, it.run, it.line,
+        tuple(numbers[more.needs.offset:more.needs.offset + more.needs.length]), of(more.reads), of(more.writes), of(more.may_write),
+        _known(CommandTool, more.tool) if step else None, _known(Missing, more.missing) if more.missing else None,
     )
+
+
+# The parts of the answer of zigrunk_plan_steps, what each has, and how many are guessed.
+_PARTS: Dict[str, Any] = {
+    "groups": _Group, "commands": _Command, "steps": _Step, "numbers": ctypes.c_size_t, "ranges": _Range, "length": ctypes.c_char,
+}
+_SIZES = [16, 64, 64, 256, 4096, 65536]
 
 
 def plan_records(call: PlanCall, which: Callable[[Lookup, str], Optional[str]] = find) -> Plan:
     """Plans an nvcc call, and gives the plan as objects. `which` finds a program from the working directory.
 
-    Raises `ZigrunkError` as `plan` does, except for the form.
+    Raises `ZigrunkError` as `plan` does, except for the form, and says where. It also raises it if the dry runs have no line of one, if
+    the flag is no option of nvcc's that says what it makes, and if the plan has no command.
     """
-    record = _record(call, which)
-    sizes = _RecordsAnswer(0, 16, 64, 4096, 65536)
+    rows: List[_FoundProgram] = []
+    refusal: Optional[ZigrunkError] = None
+    try:
+        rows = list(_rows(call, which))
+    except ZigrunkError as error:
+        # the call below refuses most of what listing the look-ups refuses, and says where
+        refusal = error
+    record, sizes = _record(call, rows), _SIZES
     for _ in range(_ATTEMPTS):
-        groups, commands, ranges = (_Group * sizes.groups)(), (_Command * sizes.commands)(), (_Range * sizes.ranges)()
-        out = ctypes.create_string_buffer(sizes.length)
-        answer = _library.zigrunk_plan_records(
-            ctypes.byref(record), groups, sizes.groups, commands, sizes.commands, ranges, sizes.ranges, out, sizes.length)
-        wanted = [max(getattr(answer, name), getattr(sizes, name)) for name in ("groups", "commands", "ranges", "length")]
-        if wanted == [sizes.groups, sizes.commands, sizes.ranges, sizes.length]:
+        buffers: List[Any] = [(kind * size)() for kind, size in zip(_PARTS.values(), sizes)]
+        pairs = [it for pair in zip(buffers, sizes) for it in pair]
+        answer = _library.zigrunk_plan_steps(ctypes.byref(record), *pairs)
+        counts: List[int] = [getattr(answer, name) for name in _PARTS]
+        if all(count <= size for count, size in zip(counts, sizes)):
+            groups, commands, steps, numbers, ranges, out = buffers
             data = out.raw[: answer.length]
-            _checked(answer.status, data)
+            if refusal and refusal.number != answer.status:
+                raise refusal
+            _checked(answer.status, data, _place(answer.place))
             texts = _texts(ranges, answer.ranges, data)
-            made = tuple(_command(it, texts) for it in commands[: answer.commands])
+            made = tuple(_command(it, steps[at] if at < answer.steps else None, numbers, texts)
+                         for at, it in enumerate(commands[: answer.commands]))
             return Plan(
                 tuple(Group(_known(Stage, it.stage), made[it.commands.offset:it.commands.offset + it.commands.length])
                       for it in groups[: answer.groups]),
-                tuple(it for it in made if it.reason is not None),
+                made[answer.steps:],
             )
-        sizes = _RecordsAnswer(0, *wanted)
+        sizes = [max(pair) for pair in zip(counts, sizes)]
     raise _unsettled()
 
 

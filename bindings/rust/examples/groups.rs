@@ -1,8 +1,8 @@
 //! The commands of one nvcc call, grouped as a compiler cache needs them: `groups CWD TMP FLAG DRY1 DRY2`. The files hold what
 //! nvcc's two dry runs print on standard error.
 //!
-//! A cache runs the front group, then the device groups side by side, then the final group. It looks up the outputs of each
-//! cacheable command, and runs the others. A program that isn't on this machine counts as being at the first path that its look-up tries,
+//! A cache starts a command once those that it needs have ended, looks up the outputs of each cacheable command, and runs the others.
+//! A program that isn't on this machine counts as being at the first path that its look-up tries,
 //! so that you can plan for another machine.
 
 use std::error::Error;
@@ -18,6 +18,7 @@ struct Subcommand {
     variables: Vec<(String, String)>,
     cwd: PathBuf,
     cacheable: bool,
+    needs: Vec<usize>,
 }
 
 /// Commands that run one after the other.
@@ -34,6 +35,7 @@ fn owned(plan: &Plan) -> Vec<Group> {
         variables: command.variables().map(|(name, value)| (name.into(), value.into())).collect(),
         cwd: command.cwd().into(),
         cacheable: command.is_cacheable(),
+        needs: command.needs().to_vec(),
     };
     plan.groups().map(|group| Group { stage: group.stage(), commands: group.commands().map(subcommand).collect() }).collect()
 }
@@ -50,10 +52,10 @@ fn programs(dry1: &[u8], dry2: &[u8], cwd: &str) -> Result<Vec<FoundProgram>, zi
 fn print(groups: &[Group]) -> Result<(), zigrunk::Error> {
     for (number, group) in groups.iter().enumerate() {
         println!("group {number}, {:?}", group.stage);
-        for Subcommand { program, arguments, variables, cwd, cacheable } in &group.commands {
+        for Subcommand { program, arguments, variables, cwd, cacheable, needs } in &group.commands {
             let cached = if *cacheable { "cached" } else { "run" };
             println!(
-                "    {cached} in {}: {} {} (variables: {})",
+                "    {cached} in {}: {} {} (variables: {}, needs: {needs:?})",
                 cwd.display(),
                 program.display(),
                 quote(arguments)?,

@@ -2,6 +2,8 @@
 
 use std::fmt;
 
+use crate::sys;
+
 /// The kinds of errors: one for each status of `zigrunk.h`, and one of this crate.
 #[derive(Debug, Clone, Copy, PartialEq, Eq, Hash)]
 #[non_exhaustive]
@@ -28,6 +30,9 @@ pub enum ErrorKind {
     ToNvcc,
     /// A line of a dry run exceeds the limit of the call.
     OverLimit,
+    /// The texts aren't the two dry runs of a call: one has no line that begins with `#$ `, both are the same, the flag is none of
+    /// nvcc's that says what it makes, or the plan has no command.
+    NoDryRun,
     /// The answer didn't fit into buffers of the sizes that the call itself had asked for, several times. The library can't cause
     /// that: something changes the memory that the call reads, such as a file that is mapped into memory.
     Unsettled,
@@ -36,7 +41,7 @@ pub enum ErrorKind {
 }
 
 /// The kinds with the numbers of their statuses.
-const KINDS: [(i32, ErrorKind); 12] = [
+const KINDS: [(i32, ErrorKind); 13] = [
     (-1, ErrorKind::Unsettled),
     (1, ErrorKind::OutOfMemory),
     (2, ErrorKind::NotUtf8),
@@ -49,29 +54,96 @@ const KINDS: [(i32, ErrorKind); 12] = [
     (9, ErrorKind::BadLine),
     (10, ErrorKind::ToNvcc),
     (11, ErrorKind::OverLimit),
+    (12, ErrorKind::NoDryRun),
 ];
 
-/// Why a call failed: the kind, and the library's message for people.
+/// A field of [`PlanCall`](crate::PlanCall).
+#[derive(Debug, Clone, Copy, PartialEq, Eq, Hash)]
+#[non_exhaustive]
+pub enum Field {
+    /// `dry1`.
+    Dry1,
+    /// `dry2`.
+    Dry2,
+    /// `cwd`.
+    Cwd,
+    /// `tmp`.
+    Tmp,
+    /// `flag`.
+    Flag,
+    /// `keep_dir`.
+    KeepDir,
+    /// `variables`.
+    Variables,
+    /// `suffixes`.
+    Suffixes,
+    /// `programs`.
+    Programs,
+    /// `host_compiler`.
+    HostCompiler,
+    /// A number that a later library may have.
+    Other(u32),
+}
+
+/// Where [`plan`](crate::plan()) refuses a call.
+#[derive(Debug, Clone, Copy, PartialEq, Eq, Hash)]
+#[non_exhaustive]
+pub struct Place {
+    /// The field of the call.
+    pub field: Field,
+    /// The number of the line, from 1, if the field is a dry run and one of its lines is refused.
+    pub line: Option<usize>,
+}
+
+impl Place {
+    /// The place of a record, if it is one.
+    fn of(place: sys::Place) -> Option<Self> {
+        let field = match place.field {
+            0 => return None,
+            1 => Field::Dry1,
+            2 => Field::Dry2,
+            3 => Field::Cwd,
+            4 => Field::Tmp,
+            5 => Field::Flag,
+            6 => Field::KeepDir,
+            7 => Field::Variables,
+            8 => Field::Suffixes,
+            9 => Field::Programs,
+            11 => Field::HostCompiler,
+            other => Field::Other(other),
+        };
+        Some(Place { field, line: (place.line > 0).then_some(place.line) })
+    }
+}
+
+/// Why a call failed: the kind, the library's message for people, and the place if the call says it.
 ///
 /// ```
-/// let error = zigrunk::split("it's").unwrap_err();
-/// assert_eq!(error.kind(), zigrunk::ErrorKind::OpenQuote);
-/// assert_eq!(error.to_string(), "open quote or backslash at the end");
+/// use zigrunk::{plan, ErrorKind, Field, PlanCall};
+/// let error = plan(&PlanCall { dry1: b"nvcc: not found", dry2: b"", cwd: "/w", tmp: "/t", ..PlanCall::default() }).unwrap_err();
+/// assert_eq!(error.kind(), ErrorKind::NoDryRun);
+/// assert_eq!(error.to_string(), "the first text is no dry run: no line begins with \"#$ \"");
+/// assert_eq!(error.place().map(|place| place.field), Some(Field::Dry1));
 /// ```
 #[derive(Debug, Clone, PartialEq, Eq)]
 pub struct Error {
     kind: ErrorKind,
     message: String,
+    place: Option<Place>,
 }
 
 impl Error {
     pub(crate) fn new(status: i32, message: String) -> Self {
         let kind = KINDS.iter().find(|it| it.0 == status && status > 0).map_or(ErrorKind::Other(status), |it| it.1);
-        Error { kind, message }
+        Error { kind, message, place: None }
+    }
+
+    pub(crate) fn at(status: i32, message: String, place: sys::Place) -> Self {
+        Error { place: Place::of(place), ..Error::new(status, message) }
     }
 
     pub(crate) fn unsettled() -> Self {
-        Error { kind: ErrorKind::Unsettled, message: "the answer grew with each call".to_string() }
+        Error { kind: ErrorKind::Unsettled, message: "the answer grew with each call".to_string(), place: None }
     }
 
     /// The kind.
@@ -94,6 +166,12 @@ impl Error {
     pub fn message(&self) -> &str {
         &self.message
     }
+
+    /// Where the call is refused, if the call says it and one field is at fault: [`plan`](crate::plan()) does.
+    #[must_use]
+    pub fn place(&self) -> Option<Place> {
+        self.place
+    }
 }
 
 impl fmt::Display for Error {
@@ -114,10 +192,22 @@ mod tests {
             let error = if status < 0 { Error::unsettled() } else { Error::new(status, String::new()) };
             assert_eq!((error.kind(), error.status()), (kind, status));
         }
-        for status in [-1, 12, i32::MAX] {
+        for status in [-1, 13, i32::MAX] {
             let error = Error::new(status, "new".to_string());
             assert_eq!((error.kind(), error.status(), error.message()), (ErrorKind::Other(status), status, "new"));
         }
         assert_eq!(Error::unsettled().to_string(), "the answer grew with each call");
+    }
+
+    #[test]
+    fn places() {
+        let place = |run, line, field| Place::of(sys::Place { run, line, field, reserved: 0 });
+        assert_eq!(place(0, 0, 0), None);
+        assert_eq!(place(1, 7, 1), Some(Place { field: Field::Dry1, line: Some(7) }));
+        assert_eq!(place(0, 0, 2), Some(Place { field: Field::Dry2, line: None }));
+        let known = [Field::Cwd, Field::Tmp, Field::Flag, Field::KeepDir, Field::Variables, Field::Suffixes, Field::Programs];
+        assert!((3..).zip(known).all(|(number, field)| place(0, 0, number) == Some(Place { field, line: None })));
+        assert_eq!(place(0, 0, 11).map(|it| it.field), Some(Field::HostCompiler));
+        assert_eq!(place(0, 0, 10).map(|it| it.field), Some(Field::Other(10)));
     }
 }

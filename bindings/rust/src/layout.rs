@@ -49,7 +49,9 @@ records! {
     "zigrunk_list_answer" sys::ListAnswer { status, count, length }
     "zigrunk_group" sys::Group { commands, stage, reserved }
     "zigrunk_command" sys::Command { arguments, variables, program, cwd, group, run, line, reason, cacheable }
-    "zigrunk_records_answer" sys::RecordsAnswer { status, groups, commands, ranges, length }
+    "zigrunk_step" sys::Step { needs, reads, writes, may_write, tool, missing }
+    "zigrunk_place" sys::Place { run, line, field, reserved }
+    "zigrunk_steps_answer" sys::StepsAnswer { status, place, groups, commands, steps, numbers, ranges, length }
     "zigrunk_line_record" sys::LineRecord {
         input, compilation_flag, depfile, dependency_args, preprocessor_args, common_args, arch_args, unhashed_args, extra_dist_files,
         extra_hash_files, too_hard_for_preprocessor_cache_mode, language, color_mode, double_dash_input, msvc_explicit_language,

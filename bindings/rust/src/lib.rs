@@ -24,10 +24,8 @@
 //! let environment: Vec<_> = std::env::vars_os().collect();
 //! let (dry1, dry2, variables, programs) = (&dry1, &dry2, &variables(&environment), &programs);
 //! let call = PlanCall { dry1, dry2, cwd, tmp, flag: "-c", variables, programs, ..PlanCall::default() };
-//! for (number, group) in plan(&call)?.groups().enumerate() {
-//!     for command in group.commands() {
-//!         println!("group {number}, cacheable {}: {}", command.is_cacheable(), command.program());
-//!     }
+//! for (number, command) in plan(&call)?.commands().enumerate() {
+//!     println!("{number}, when {:?} have ended: {}", command.needs(), command.program());
 //! }
 //! # Ok::<(), Box<dyn std::error::Error>>(())
 //! ```
@@ -58,10 +56,10 @@ mod variable;
 mod words;
 
 pub use call::{plan_text, Form, HostCompiler, PlanCall};
-pub use error::{Error, ErrorKind};
+pub use error::{Error, ErrorKind, Field, Place};
 pub use line::{line_records, ColorMode, Language, Line, Output};
 pub use needs::needs;
-pub use plan::{plan, Command, Commands, Group, Groups, Plan, Reason, Stage, Variables};
+pub use plan::{plan, Command, CommandTool, Commands, Group, Groups, Missing, Plan, Reason, Stage, Variables};
 pub use programs::{
     candidates, find_program, find_programs, find_programs_within, lookups, lookups_within, FoundProgram, Lookup,
 };

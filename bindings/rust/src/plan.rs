@@ -2,11 +2,10 @@
 
 use std::fmt;
 use std::iter::FusedIterator;
-use std::slice;
 
 use crate::sys::{self, Range};
 use crate::texts::cut;
-use crate::{buffers, Error, PlanCall, TextsIter};
+use crate::{buffers, Error, PlanCall, TextsIter, Tool};
 
 /// What a group of a plan is.
 #[derive(Debug, Clone, Copy, PartialEq, Eq, Hash)]
@@ -38,13 +37,88 @@ pub enum Reason {
     Other(u32),
 }
 
+/// The tool that a command runs.
+#[derive(Debug, Clone, Copy, PartialEq, Eq, Hash)]
+#[non_exhaustive]
+pub enum CommandTool {
+    /// cicc, which compiles device code to PTX.
+    Cicc,
+    /// ptxas, the assembler.
+    Ptxas,
+    /// cudafe++, the front end for host code.
+    CudaFe,
+    /// fatbinary, which packs device code.
+    Fatbinary,
+    /// nvlink, which links device code.
+    NvLink,
+    /// A host compiler, or any other program.
+    Host,
+    /// A number that a later library may have.
+    Other(u32),
+}
+
+impl CommandTool {
+    fn of(number: u32) -> Self {
+        match number {
+            0 => CommandTool::Cicc,
+            1 => CommandTool::Ptxas,
+            2 => CommandTool::CudaFe,
+            6 => CommandTool::Fatbinary,
+            7 => CommandTool::NvLink,
+            8 => CommandTool::Host,
+            other => CommandTool::Other(other),
+        }
+    }
+
+    /// The tool for [`line_records`](crate::line_records), if it reads lines of this one.
+    #[must_use]
+    pub fn for_lines(self) -> Option<Tool> {
+        match self {
+            CommandTool::Cicc => Some(Tool::Cicc),
+            CommandTool::Ptxas => Some(Tool::Ptxas),
+            CommandTool::CudaFe => Some(Tool::CudaFe),
+            _ => None,
+        }
+    }
+}
+
+/// Which files a command touches that its words don't name.
+#[derive(Debug, Clone, Copy, PartialEq, Eq, Hash)]
+#[non_exhaustive]
+pub enum Missing {
+    /// Its line can't be read, so nothing is known.
+    Unread,
+    /// It preprocesses, so it also reads headers.
+    Headers,
+    /// It also reads what its input includes, and libraries.
+    Inputs,
+    /// A number that a later library may have.
+    Other(u32),
+}
+
 /// What one nvcc call runs: groups of commands, and the commands that were dropped.
 ///
-/// It owns four lists: groups, commands, and all texts one behind the other with where each is. What it gives borrows from them.
+/// It owns six lists: groups, commands and what else there is to know of them, numbers, and all texts one behind the other with where
+/// each is. What it gives borrows from them.
+///
+/// ```
+/// # let dry1 = b"#$ PATH=/b\n#$ gcc -D__NVCC__ -E k.cu -o k.cpp1.ii\n#$ cicc --module_id_file_name m k.cpp1.ii -o k.ptx\n";
+/// # let dry2 = b"#$ PATH=/b\n#$ gcc -D__NVCC__ -E k.cu -o /t/k.cpp1.ii\n#$ cicc --module_id_file_name m k.cpp1.ii -o k.ptx\n";
+/// # let lookups = zigrunk::lookups(dry1, dry2, "/w")?;
+/// # let programs: Vec<_> = lookups.into_iter().map(|it| zigrunk::FoundProgram { found: Some(format!("/b/{}", it.program)), lookup: it }).collect();
+/// use zigrunk::{plan, PlanCall};
+/// let plan = plan(&PlanCall { dry1, dry2, cwd: "/w", tmp: "/t", flag: "-c", programs: &programs, ..PlanCall::default() })?;
+/// let cicc = plan.commands().last().expect("a command");
+/// assert_eq!(cicc.needs(), [0]);
+/// assert!(cicc.reads().eq(["/t/x_0.cpp1.ii", "/t/m"]) && cicc.writes().eq(["/t/k.ptx"]));
+/// # Ok::<(), zigrunk::Error>(())
+/// ```
 #[derive(Clone, PartialEq, Eq)]
 pub struct Plan {
     groups: Vec<sys::Group>,
     commands: Vec<sys::Command>,
+    steps: Vec<sys::Step>,
+    numbers: Vec<usize>,
     ranges: Vec<Range>,
     texts: String,
 }
@@ -53,25 +127,28 @@ pub struct Plan {
 ///
 /// # Errors
 ///
-/// [`ErrorKind::BadSuffixes`](crate::ErrorKind), [`ErrorKind::BadDryRun`](crate::ErrorKind), [`ErrorKind::NotFound`](crate::ErrorKind) and [`ErrorKind::OverLimit`](crate::ErrorKind) for the first bad line of the first
-/// run or of the second, [`ErrorKind::OutOfMemory`](crate::ErrorKind).
+/// [`ErrorKind::NotUtf8`](crate::ErrorKind) for a variable. `NoDryRun` for texts that aren't the dry runs of a call, a flag that is none
+/// of nvcc's, and a plan without a command. `BadSuffixes`, `BadDryRun`, `NotFound` and `OverLimit` for the first bad line of the first
+/// run or of the second, `OutOfMemory`. [`Error::place`] says where.
 pub fn plan(call: &PlanCall<'_>) -> Result<Plan, Error> {
     // SAFETY: the record and all that it points to live through the call.
     call.with_record(|record| buffers::settled(estimate(call), |sizes| unsafe { try_plan(record, sizes) })?)
 }
 
-/// The sizes of the buffers for a first call. The texts of real plans took at most 1.2 bytes for each byte of their dry runs,
+/// The sizes of the buffers for a first call. The texts of real plans took at most 1.4 bytes for each byte of their dry runs,
 /// and the environment once for each command.
-fn estimate(call: &PlanCall<'_>) -> sys::RecordsAnswer {
+fn estimate(call: &PlanCall<'_>) -> sys::StepsAnswer {
     let length = call.dry_length();
     let commands = length / 256 + 16;
     let variables: usize = call.variables.iter().map(crate::Variable::length).sum();
-    sys::RecordsAnswer {
-        status: 0,
+    sys::StepsAnswer {
         groups: commands / 2,
         commands,
-        ranges: length / 12 + 2 * commands * call.variables.len() + 64,
-        length: length * 5 / 4 + commands * variables + 256,
+        steps: commands,
+        numbers: commands * 8,
+        ranges: length / 12 + (2 * call.variables.len() + 4) * commands + 64,
+        length: length * 3 / 2 + commands * variables + 256,
+        ..sys::StepsAnswer::default()
     }
 }
 
@@ -80,19 +157,25 @@ fn estimate(call: &PlanCall<'_>) -> sys::RecordsAnswer {
 /// # Safety
 ///
 /// The record and all that it points to live through the call.
-unsafe fn try_plan(record: &sys::PlanCall<'_>, sizes: sys::RecordsAnswer) -> Result<Result<Plan, Error>, sys::RecordsAnswer> {
+unsafe fn try_plan(record: &sys::PlanCall<'_>, sizes: sys::StepsAnswer) -> Result<Result<Plan, Error>, sys::StepsAnswer> {
     let mut groups: Vec<sys::Group> = Vec::with_capacity(sizes.groups);
     let mut commands: Vec<sys::Command> = Vec::with_capacity(sizes.commands);
+    let mut steps: Vec<sys::Step> = Vec::with_capacity(sizes.steps);
+    let mut numbers: Vec<usize> = Vec::with_capacity(sizes.numbers);
     let mut ranges: Vec<Range> = Vec::with_capacity(sizes.ranges);
     let mut out: Vec<u8> = Vec::with_capacity(sizes.length.max(buffers::LEAST));
-    // SAFETY: the caller's duty for the record. The four buffers are exclusive.
+    // SAFETY: the caller's duty for the record. The six buffers are exclusive.
     let answer = unsafe {
-        sys::zigrunk_plan_records(
+        sys::zigrunk_plan_steps(
             record,
             groups.as_mut_ptr(),
             groups.capacity(),
             commands.as_mut_ptr(),
             commands.capacity(),
+            steps.as_mut_ptr(),
+            steps.capacity(),
+            numbers.as_mut_ptr(),
+            numbers.capacity(),
             ranges.as_mut_ptr(),
             ranges.capacity(),
             out.as_mut_ptr(),
@@ -101,49 +184,49 @@ unsafe fn try_plan(record: &sys::PlanCall<'_>, sizes: sys::RecordsAnswer) -> Res
     };
     if answer.groups > groups.capacity()
         || answer.commands > commands.capacity()
+        || answer.steps > steps.capacity()
+        || answer.numbers > numbers.capacity()
         || answer.ranges > ranges.capacity()
         || answer.length > out.capacity()
     {
         return Err(answer);
     }
-    // SAFETY: all four fit, so the call has written them.
+    // SAFETY: all six fit, so the call has written them.
     let plan = unsafe {
         Plan {
             groups: buffers::written(groups, answer.groups),
             commands: buffers::written(commands, answer.commands),
+            steps: buffers::written(steps, answer.steps),
+            numbers: buffers::written(numbers, answer.numbers),
             ranges: buffers::written(ranges, answer.ranges),
             texts: buffers::utf8(buffers::written(out, answer.length)),
         }
     };
-    Ok(if answer.status == 0 { Ok(plan) } else { Err(Error::new(answer.status, plan.texts)) })
+    Ok(if answer.status == 0 { Ok(plan) } else { Err(Error::at(answer.status, plan.texts, answer.place)) })
 }
 
 impl Plan {
-    /// The groups, in the order in which they may run: the front group, the device groups, the final group.
+    /// The groups, in plan order: the front group, the device groups, the final group. To run commands side by side, go by
+    /// [`Command::needs`]: device groups may need each other.
     #[must_use]
     pub fn groups(&self) -> Groups<'_> {
-        Groups { records: self.groups.iter(), plan: self }
+        Groups { numbers: 0..self.groups.len(), plan: self }
     }
 
     /// The commands of all groups, in plan order.
     #[must_use]
     pub fn commands(&self) -> Commands<'_> {
-        self.commands_of(&self.commands[..self.grouped()])
+        self.commands_of(0, self.steps.len())
     }
 
     /// The commands that the plan dropped: [`Command::reason`] says why.
     #[must_use]
     pub fn dropped(&self) -> Commands<'_> {
-        self.commands_of(&self.commands[self.grouped()..])
+        self.commands_of(self.steps.len(), self.commands.len())
     }
 
-    /// How many commands are in groups. They come before those that were dropped.
-    fn grouped(&self) -> usize {
-        self.commands.partition_point(|command| command.reason == 0)
-    }
-
-    fn commands_of<'a>(&'a self, records: &'a [sys::Command]) -> Commands<'a> {
-        Commands { records: records.iter(), plan: self }
+    fn commands_of(&self, from: usize, to: usize) -> Commands<'_> {
+        Commands { numbers: from..to, plan: self }
     }
 
     fn text(&self, number: usize) -> &str {
@@ -178,6 +261,10 @@ impl PartialEq for Group<'_> {
 impl Eq for Group<'_> {}
 
 impl<'a> Group<'a> {
+    fn of(number: usize, plan: &'a Plan) -> Self {
+        Group { record: &plan.groups[number], plan }
+    }
+
     /// What the group is.
     #[must_use]
     pub fn stage(&self) -> Stage {
@@ -193,7 +280,7 @@ impl<'a> Group<'a> {
     #[must_use]
     pub fn commands(&self) -> Commands<'a> {
         let Range { offset, length } = self.record.commands;
-        self.plan.commands_of(&self.plan.commands[offset..offset + length])
+        self.plan.commands_of(offset, offset + length)
     }
 }
 
@@ -207,24 +294,82 @@ impl fmt::Debug for Group<'_> {
 #[derive(Clone, Copy)]
 pub struct Command<'a> {
     record: &'a sys::Command,
+    step: Option<&'a sys::Step>,
     plan: &'a Plan,
 }
 
 impl PartialEq for Command<'_> {
     /// Whether they say the same, also of different plans.
     fn eq(&self, other: &Self) -> bool {
-        let places = |it: &Self| (it.group(), it.reason(), it.is_cacheable(), it.run(), it.line());
+        let places = |it: &Self| (it.group(), it.reason(), it.is_cacheable(), it.run(), it.line(), it.tool(), it.missing());
         self.program() == other.program()
             && self.cwd() == other.cwd()
             && self.arguments().eq(other.arguments())
             && self.variables().eq(other.variables())
             && places(self) == places(other)
+            && self.needs() == other.needs()
+            && self.reads().eq(other.reads())
+            && self.writes().eq(other.writes())
+            && self.may_write().eq(other.may_write())
     }
 }
 
 impl Eq for Command<'_> {}
 
 impl<'a> Command<'a> {
+    fn of(number: usize, plan: &'a Plan) -> Self {
+        Command { record: &plan.commands[number], step: plan.steps.get(number), plan }
+    }
+
+    /// The texts that a field of its step names; none if it was dropped.
+    fn step_texts(&self, range: fn(&sys::Step) -> Range) -> TextsIter<'a> {
+        self.plan.texts_of(self.step.map(range).unwrap_or_default())
+    }
+
+    /// The commands that have to end before it starts: their places in [`Plan::commands`], in ascending order. None if it was dropped.
+    #[must_use]
+    pub fn needs(&self) -> &'a [usize] {
+        let Range { offset, length } = self.step.map(|step| step.needs).unwrap_or_default();
+        &self.plan.numbers[offset..offset + length]
+    }
+
+    /// The paths of the files that it reads by its words: see [`missing`](Command::missing). None if it was dropped.
+    #[must_use]
+    pub fn reads(&self) -> TextsIter<'a> {
+        self.step_texts(|step| step.reads)
+    }
+
+    /// The paths of the files that it writes. None if it was dropped.
+    #[must_use]
+    pub fn writes(&self) -> TextsIter<'a> {
+        self.step_texts(|step| step.writes)
+    }
+
+    /// The paths of the files that it may write or leave out. None if it was dropped.
+    #[must_use]
+    pub fn may_write(&self) -> TextsIter<'a> {
+        self.step_texts(|step| step.may_write)
+    }
+
+    /// The tool that it runs, or `None` if it was dropped.
+    #[must_use]
+    pub fn tool(&self) -> Option<CommandTool> {
+        self.step.map(|step| CommandTool::of(step.tool))
+    }
+
+    /// Which files it touches that aren't among these, or `None` if they are all (or if it was dropped). Among them may be files that
+    /// commands which it needs write.
+    #[must_use]
+    pub fn missing(&self) -> Option<Missing> {
+        match self.step?.missing {
+            0 => None,
+            1 => Some(Missing::Unread),
+            2 => Some(Missing::Headers),
+            3 => Some(Missing::Inputs),
+            other => Some(Missing::Other(other)),
+        }
+    }
+
     /// The program's path.
     #[must_use]
     pub fn program(&self) -> &'a str {
@@ -299,6 +444,12 @@ impl fmt::Debug for Command<'_> {
             .field("is_cacheable", &self.is_cacheable())
             .field("run", &self.run())
             .field("line", &self.line())
+            .field("needs", &self.needs())
+            .field("reads", &self.reads())
+            .field("writes", &self.writes())
+            .field("may_write", &self.may_write())
+            .field("tool", &self.tool())
+            .field("missing", &self.missing())
             .finish()
     }
 }
@@ -336,7 +487,7 @@ macro_rules! records {
         $(#[$doc])*
         #[derive(Clone)]
         pub struct $name<'a> {
-            records: slice::Iter<'a, sys::$item>,
+            numbers: std::ops::Range<usize>,
             plan: &'a Plan,
         }
 
@@ -344,17 +495,17 @@ macro_rules! records {
             type Item = $item<'a>;
 
             fn next(&mut self) -> Option<$item<'a>> {
-                Some($item { record: self.records.next()?, plan: self.plan })
+                Some($item::of(self.numbers.next()?, self.plan))
             }
 
             fn size_hint(&self) -> (usize, Option<usize>) {
-                self.records.size_hint()
+                self.numbers.size_hint()
             }
         }
 
         impl DoubleEndedIterator for $name<'_> {
             fn next_back(&mut self) -> Option<Self::Item> {
-                Some($item { record: self.records.next_back()?, plan: self.plan })
+                Some($item::of(self.numbers.next_back()?, self.plan))
             }
         }
 
@@ -377,4 +528,17 @@ records! {
 records! {
     /// Some commands of a plan.
     Commands of Command
+}
+
+#[cfg(test)]
+mod tests {
+    use super::*;
+
+    #[test]
+    fn numbers_of_a_later_library() {
+        assert_eq!(CommandTool::of(9), CommandTool::Other(9));
+        assert_eq!(CommandTool::Other(9).for_lines(), None);
+        let tools = [CommandTool::Fatbinary, CommandTool::NvLink, CommandTool::Host];
+        assert!((6..).zip(tools).all(|(number, tool)| CommandTool::of(number) == tool && tool.for_lines().is_none()));
+    }
 }

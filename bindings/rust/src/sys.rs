@@ -149,13 +149,38 @@ pub(crate) struct Command {
     pub(crate) cacheable: u32,
 }
 
-/// The answer of a call that writes a plan as records.
+/// What a program that runs a command has to know of it.
 #[repr(C)]
-#[derive(Clone, Copy)]
-pub(crate) struct RecordsAnswer {
+#[derive(Clone, Copy, Debug, PartialEq, Eq)]
+pub(crate) struct Step {
+    pub(crate) needs: Range,
+    pub(crate) reads: Range,
+    pub(crate) writes: Range,
+    pub(crate) may_write: Range,
+    pub(crate) tool: u32,
+    pub(crate) missing: u32,
+}
+
+/// Where a call is refused.
+#[repr(C)]
+#[derive(Clone, Copy, Debug, Default)]
+pub(crate) struct Place {
+    pub(crate) run: usize,
+    pub(crate) line: usize,
+    pub(crate) field: u32,
+    pub(crate) reserved: u32,
+}
+
+/// The answer of a call that writes a plan for a program that runs it.
+#[repr(C)]
+#[derive(Clone, Copy, Default)]
+pub(crate) struct StepsAnswer {
     pub(crate) status: i32,
+    pub(crate) place: Place,
     pub(crate) groups: usize,
     pub(crate) commands: usize,
+    pub(crate) steps: usize,
+    pub(crate) numbers: usize,
     pub(crate) ranges: usize,
     pub(crate) length: usize,
 }
@@ -279,15 +304,19 @@ extern "C" {
         out_size: usize,
     ) -> ListAnswer;
     pub(crate) fn zigrunk_plan(call: *const PlanCall<'_>, form: u32, out: *mut u8, out_size: usize) -> TextAnswer;
-    pub(crate) fn zigrunk_plan_records(
+    pub(crate) fn zigrunk_plan_steps(
         call: *const PlanCall<'_>,
         groups: *mut Group,
         groups_size: usize,
         commands: *mut Command,
         commands_size: usize,
+        steps: *mut Step,
+        steps_size: usize,
+        numbers: *mut usize,
+        numbers_size: usize,
         ranges: *mut Range,
         ranges_size: usize,
         out: *mut u8,
         out_size: usize,
-    ) -> RecordsAnswer;
+    ) -> StepsAnswer;
 }

@@ -51,6 +51,7 @@ fn a_list_of_texts() {
 fn messages() {
     assert_eq!(message(0).unwrap(), "success");
     assert_eq!(message(6).unwrap(), "a program is not found");
+    assert_eq!(message(12).unwrap(), "the texts are not the dry runs of a call");
     for status in [-1, 1000, i32::MIN, i32::MAX] {
         let error = message(status).unwrap_err();
         assert_eq!((error.kind(), error.message(), error.status()), (ErrorKind::BadNumber, "a number has no meaning", 3));

@@ -56,7 +56,7 @@ fn lines_of_device_tools_as_values() {
     assert!(matches!(line_records(&LineCall { tool: Tool::CudaFe, ..call }).map(|line| line.language()), Ok(Language::CudaFe)));
     let refused = line_records(&LineCall { words: &[], ..call });
     let error = refused.unwrap_err();
-    assert_eq!((error.kind(), error.message()), (ErrorKind::BadLine, "not a compilation"));
+    assert_eq!((error.kind(), error.message(), error.place()), (ErrorKind::BadLine, "not a compilation", None));
     let long: Vec<String> = (0..2000).map(|number| format!("-DNAME_{number}")).chain(given.clone()).collect();
     assert_eq!(line_records(&LineCall { words: &long, ..call }).unwrap().common_args().len(), 2003);
 }

@@ -5,11 +5,15 @@ use std::num::NonZeroUsize;
 use std::path::PathBuf;
 
 use zigrunk::{
-    candidates, find_programs, find_programs_within, lookups, lookups_within, needs, plan, plan_text, variables, Command, Error,
-    ErrorKind, Form, FoundProgram, HostCompiler, Plan, PlanCall, Reason, Stage, Variable,
+    candidates, find_programs, find_programs_within, line_words, lookups, lookups_within, needs, plan, plan_text, variables,
+    Command, CommandTool, Error, ErrorKind, Field, Form, FoundProgram, HostCompiler, LineCall, Missing, Plan, PlanCall, Reason,
+    Stage, Tool, Variable,
 };
 
 const RUN: &[u8] = b"#$ PATH=/b\n#$ gcc -D__NVCC__ -E k.cu -o k.cpp1.ii\n#$ cicc --x k.gpu k.cpp1.ii -o k.ptx\n";
+
+/// A dry run of the same call that isn't the same text.
+const RUN2: &[u8] = b"#$ PATH=/b\n#$ gcc -D__NVCC__ -E k.cu -o k.cpp1.ii\n#$ cicc --x k.gpu k.cpp1.ii -o k.ptx\n#$ rm k\n";
 
 /// Answers each look-up with the first path that it tries, as if all programs were there.
 fn first_candidates(dry1: &[u8], dry2: &[u8]) -> Vec<FoundProgram> {
@@ -21,6 +25,11 @@ fn first_candidates(dry1: &[u8], dry2: &[u8]) -> Vec<FoundProgram> {
 fn said<T: std::fmt::Debug>(answer: Result<T, Error>) -> (ErrorKind, String) {
     let error = answer.unwrap_err();
     (error.kind(), error.to_string())
+}
+
+/// The field and the line of the place of an error.
+fn place<T: std::fmt::Debug>(answer: Result<T, Error>) -> Option<(Field, Option<usize>)> {
+    answer.unwrap_err().place().map(|place| (place.field, place.line))
 }
 
 fn call<'a>(run: &'a [u8], programs: &'a [FoundProgram]) -> PlanCall<'a> {
@@ -107,24 +116,50 @@ fn real_calls_as_records_are_their_texts() {
 fn records_of_a_small_call() {
     let run =
         b"#$ PATH=/b\n#$ gcc -D__NVCC__ -E k.cu -o k.cpp1.ii\n#$ cicc k.cpp1.ii -o k.ptx\n#$ cicc none.ii -o n.ptx\n#$ rm k\n";
-    let programs = first_candidates(run, run);
+    let second = b"#$ PATH=/b\n#$ gcc -D__NVCC__ -E k.cu -o /t/k.cpp1.ii\n#$ cicc\n#$ cicc\n#$ rm k\n";
+    let programs = first_candidates(run, second);
     let given = [Variable::new("PATH", "/old"), Variable::new("A", "1")];
-    let plan = plan(&PlanCall { variables: &given, ..call(run, &programs) }).unwrap();
+    let plan = plan(&PlanCall { variables: &given, dry2: second, ..call(run, &programs) }).unwrap();
     let cicc = plan.commands().next_back().unwrap();
     assert_eq!((cicc.program(), cicc.cwd(), cicc.group(), cicc.is_cacheable()), ("/b/cicc", "/t", Some(1), true));
     assert_eq!(cicc.arguments().collect::<Vec<_>>(), ["x_0.cpp1.ii", "-o", "k.ptx"]);
     assert_eq!(cicc.variables().collect::<Vec<_>>(), [("PATH", "/b"), ("A", "1")]);
-    assert_eq!(cicc.line(), 2);
-    assert!(cicc.run() == 1 || cicc.run() == 2);
-    assert!(plan.dropped().any(|command| command.reason() == Some(Reason::NoCiccGroup)), "{plan:?}");
+    assert_eq!((cicc.line(), cicc.run()), (2, 1));
     assert_eq!(plan, plan.clone());
     assert!(plan.commands().eq(plan.clone().commands()) && plan.groups().eq(plan.clone().groups()));
     assert!(plan.commands().next() != Some(cicc) && plan.groups().next() != plan.groups().nth(1));
     let shown = concat!(
         r#"Command { program: "/b/cicc", arguments: ["x_0.cpp1.ii", "-o", "k.ptx"], variables: [("PATH", "/b"), ("A", "1")], "#,
-        r#"cwd: "/t", group: Some(1), reason: None, is_cacheable: true, run: 1, line: 2 }"#,
+        r#"cwd: "/t", group: Some(1), reason: None, is_cacheable: true, run: 1, line: 2, needs: [0], reads: ["/t/x_0.cpp1.ii"], "#,
+        r#"writes: ["/t/k.ptx"], may_write: [], tool: Some(Cicc), missing: None }"#,
     );
     assert_eq!(format!("{cicc:?}"), shown);
+    let gcc = plan.commands().next().unwrap();
+    assert_eq!((gcc.tool(), gcc.missing()), (Some(CommandTool::Host), Some(Missing::Headers)));
+    assert!(gcc.reads().eq(["/w/k.cu"]) && gcc.writes().eq(["/t/x_0.cpp1.ii"]) && gcc.may_write().len() == 0);
+    let dropped = plan.dropped().find(|command| command.reason() == Some(Reason::NoCiccGroup)).unwrap();
+    assert_eq!((dropped.needs(), dropped.tool(), dropped.missing()), ([].as_slice(), None, None));
+    assert_eq!((dropped.reads().len(), dropped.writes().len(), dropped.may_write().len()), (0, 0, 0));
+}
+
+#[test]
+fn a_command_for_a_cache() {
+    let (dry1, dry2) = (read("two_targets", ".dry1"), read("two_targets", ".dry2"));
+    let programs = first_candidates(&dry1, &dry2);
+    let plan = plan(&PlanCall { dry2: &dry2, ..call(&dry1, &programs) }).unwrap();
+    let tools: Vec<CommandTool> = plan.commands().filter_map(|command| command.tool()).collect();
+    assert_eq!(tools.iter().filter(|tool| tool.for_lines() == Some(Tool::Cicc)).count(), 2);
+    assert!(tools.contains(&CommandTool::Fatbinary) && CommandTool::Host.for_lines().is_none());
+    for command in plan.commands() {
+        let reads_headers = command.missing() == Some(Missing::Headers);
+        assert_eq!(reads_headers, command.arguments().any(|word| word == "-E"), "{command:?}");
+        let Some(tool) = command.tool().and_then(CommandTool::for_lines) else { continue };
+        let words: Vec<&str> = command.arguments().collect();
+        let line = zigrunk::line_records(&LineCall { tool, cwd: command.cwd(), words: &words, variables: &[] }).unwrap();
+        assert!(line.outputs().all(|it| command.writes().chain(command.may_write()).any(|path| path == it.path)));
+        assert!(line_words(&LineCall { tool, cwd: command.cwd(), words: &words, variables: &[] }).is_ok());
+        assert_eq!(command.missing(), None);
+    }
 }
 
 /// The needs of one of the real calls.
@@ -169,24 +204,54 @@ fn words_that_look_like_needs() {
 
 #[test]
 fn needs_of_calls_without_a_plan() {
-    assert_eq!(said(needs(&call(RUN, &[]))), (ErrorKind::NotFound, "gcc: not found".to_string()));
+    let without = PlanCall { dry2: RUN2, ..call(RUN, &[]) };
+    assert_eq!(said(needs(&without)), (ErrorKind::NotFound, "dry run 1, line 2: cannot find gcc".to_string()));
 }
 
 #[test]
 fn errors_of_records() {
-    assert_eq!(said(plan(&call(RUN, &[]))), (ErrorKind::NotFound, "gcc: not found".to_string()));
-    let programs = first_candidates(RUN, RUN);
-    let bad = PlanCall { suffixes: &["gpu"], ..call(RUN, &programs) };
+    let call = |programs| PlanCall { dry2: RUN2, ..call(RUN, programs) };
+    assert_eq!(said(plan(&call(&[]))), (ErrorKind::NotFound, "dry run 1, line 2: cannot find gcc".to_string()));
+    assert_eq!(place(plan(&call(&[]))), Some((Field::Dry1, Some(2))));
+    let programs = first_candidates(RUN, RUN2);
+    let found: Vec<FoundProgram> = programs.iter().filter(|it| it.lookup.program != "rm").cloned().collect();
+    assert_eq!(place(plan(&call(&found))), Some((Field::Dry2, Some(4))));
+    let bad = PlanCall { suffixes: &["gpu"], ..call(&programs) };
     assert_eq!(said(plan(&bad)), (ErrorKind::BadSuffixes, "bad generated suffixes".to_string()));
+    assert_eq!(place(plan(&bad)), Some((Field::Suffixes, None)));
+    let broken = PlanCall { dry2: b"#$ PATH=/b\n\n#$ cicc '\n", ..call(&programs) };
+    let open = "dry run 2, line 3: the command has an open quote or ends in a backslash";
+    assert_eq!(said(plan(&broken)), (ErrorKind::BadDryRun, open.to_string()));
+    assert_eq!(place(plan(&broken)), Some((Field::Dry2, Some(3))));
+    let name = std::os::unix::ffi::OsStringExt::from_vec(vec![0xFF]);
+    let pairs: [(std::ffi::OsString, &str); 1] = [(name, "1")];
+    let unreadable = PlanCall { variables: &variables(&pairs), ..call(&programs) };
+    assert_eq!(said(plan(&unreadable)), (ErrorKind::NotUtf8, "a text is not UTF-8".to_string()));
+    assert_eq!(place(plan(&unreadable)), Some((Field::Variables, None)));
+    assert_eq!(place(plan_text(&unreadable, Form::Json)), None);
 }
 
 #[test]
-fn a_variable_that_is_not_utf8() {
-    let programs = first_candidates(RUN, RUN);
-    let name: std::ffi::OsString = std::os::unix::ffi::OsStringExt::from_vec(vec![0xFF]);
-    let pairs = [(name, "1")];
-    let unreadable = PlanCall { variables: &variables(&pairs), ..call(RUN, &programs) };
-    assert_eq!(said(plan(&unreadable)), (ErrorKind::NotUtf8, "a text is not UTF-8".to_string()));
+fn what_is_no_dry_run() {
+    let programs = first_candidates(RUN, RUN2);
+    let good = PlanCall { dry2: RUN2, ..call(RUN, &programs) };
+    assert!(plan(&good).is_ok());
+    let refused = |call: PlanCall<'_>| (said(plan(&call)), place(plan(&call)));
+    let no_line = |which| (ErrorKind::NoDryRun, format!("the {which} text is no dry run: no line begins with \"#$ \""));
+    assert_eq!(refused(PlanCall { dry1: b"", ..good }), (no_line("first"), Some((Field::Dry1, None))));
+    assert_eq!(refused(PlanCall { dry1: b"x #$ gcc\n#$gcc\n", ..good }), (no_line("first"), Some((Field::Dry1, None))));
+    assert_eq!(refused(PlanCall { dry2: b"\xFF", ..good }), (no_line("second"), Some((Field::Dry2, None))));
+    assert!(plan(&PlanCall { dry2: RUN, ..good }).is_ok(), "as nvcc prints for a C source");
+    let flag = (ErrorKind::NoDryRun, "the flag isn't an option that says what nvcc makes".to_string());
+    for flag_of_none in ["-C", "c", "-c ", "-E", "--dryrun"] {
+        assert_eq!(refused(PlanCall { flag: flag_of_none, ..good }), (flag.clone(), Some((Field::Flag, None))));
+    }
+    for flag in ["", "-c", "--device-c", "-dw", "-ptx", "--cubin", "-fatbin", "-optix-ir"] {
+        assert!(plan(&PlanCall { flag, ..good }).is_ok(), "{flag}");
+    }
+    let nothing = PlanCall { dry1: b"#$ PATH=/b\n", dry2: b"#$ PATH=/b\n#$ rm k\n", ..good };
+    assert_eq!(refused(nothing), ((ErrorKind::NoDryRun, "the plan has no command".to_string()), None));
+    assert_eq!(plan(&nothing).unwrap_err().status(), 12);
 }
 
 #[test]
@@ -241,9 +306,10 @@ fn long_runs() {
     for number in 0..2000 {
         run.extend(format!("#$ cicc k{number}.cpp1.ii -o k{number}.ptx\n").bytes());
     }
-    let programs = first_candidates(&run, &run);
+    let second = [run.as_slice(), b"#$ gcc -D__NVCC__ -c k.cpp\n"].concat();
+    let programs = first_candidates(&run, &second);
     let pairs = vec![("N".repeat(100), "v".repeat(100)); 4];
-    let call = PlanCall { variables: &variables(&pairs), ..call(&run, &programs) };
+    let call = PlanCall { variables: &variables(&pairs), dry2: &second, ..call(&run, &programs) };
     let json = plan_text(&call, Form::Json).unwrap();
     assert!(json.starts_with('{') && json.ends_with('}'));
     let records = plan(&call).unwrap();
@@ -261,25 +327,33 @@ fn threads_may_call() {
     });
 }
 
-/// The error of a line that exceeds a limit.
+/// What is said of a line that exceeds a limit: without its place as fields, and with it.
 fn over_limit(run: usize, line: usize, limit: usize) -> (ErrorKind, String) {
     (ErrorKind::OverLimit, format!("run {run} line {line}: over the limit of {limit} bytes"))
+}
+
+fn over_limit_at(run: usize, line: usize, limit: usize) -> (ErrorKind, String) {
+    let message = format!("dry run {run}, line {}: with this line, the dry run makes over {limit} bytes", line + 1);
+    (ErrorKind::OverLimit, message)
 }
 
 #[test]
 fn limits_are_exact() {
     let run: &[u8] = b"#$ PATH=/b\n#$ gcc -D__NVCC__ x.i\n";
-    let programs = first_candidates(run, run);
-    let limited = |limit| PlanCall { limit: NonZeroUsize::new(limit), ..call(run, &programs) };
-    assert_eq!(plan(&limited(30)).unwrap(), plan(&limited(0)).unwrap());
-    assert_eq!(said(plan(&limited(29))), over_limit(1, 1, 29));
-    assert_eq!(said(plan_text(&limited(29), Form::Json)), over_limit(1, 1, 29));
-    assert_eq!(said(plan(&PlanCall { dry1: b"", ..limited(29) })), over_limit(2, 1, 29));
-    assert_eq!(plan(&limited(29)).unwrap_err().status(), 11);
+    let second: &[u8] = b"#$ PATH=/b\n#$ gcc -D__NVCC__ x.j\n";
+    let programs = first_candidates(run, second);
+    let limited = |limit| PlanCall { dry2: second, limit: NonZeroUsize::new(limit), ..call(run, &programs) };
+    assert_eq!(plan(&limited(8222)).unwrap(), plan(&limited(0)).unwrap());
+    assert_eq!(said(plan(&limited(8221))), over_limit_at(1, 1, 8221));
+    assert_eq!(place(plan(&limited(8221))), Some((Field::Dry1, Some(2))));
+    assert_eq!(said(plan_text(&limited(8221), Form::Json)), over_limit(1, 1, 8221));
+    let short = PlanCall { dry1: b"#$ PATH=/b\n", ..limited(8221) };
+    assert_eq!((said(plan(&short)), place(plan(&short))), (over_limit_at(2, 1, 8221), Some((Field::Dry2, Some(2)))));
+    assert_eq!(plan(&short).unwrap_err().status(), 11);
     let asked = |limit| lookups_within(run, run, "/w", NonZeroUsize::new(limit));
-    assert_eq!(asked(29), lookups(run, run, "/w"));
-    assert_eq!(said(asked(28)), over_limit(1, 1, 28));
-    assert_eq!(said(find_programs_within(run, run, "/w", NonZeroUsize::new(28))), over_limit(1, 1, 28));
+    assert_eq!(asked(8221), lookups(run, run, "/w"));
+    assert_eq!(said(asked(8220)), over_limit(1, 1, 8220));
+    assert_eq!(said(find_programs_within(run, run, "/w", NonZeroUsize::new(8220))), over_limit(1, 1, 8220));
 }
 
 #[test]
@@ -289,7 +363,7 @@ fn a_text_that_explodes_is_refused() {
         run += &format!("#$ {0}=${1}.${1}.\n", names[0], names[1]);
     }
     run += "#$ $A.\n";
-    let limited = PlanCall { limit: NonZeroUsize::new(2 << 20), ..call(run.as_bytes(), &[]) };
-    assert_eq!(said(plan(&limited)), over_limit(1, 26, 2 << 20));
+    let limited = PlanCall { limit: NonZeroUsize::new(2 << 20), dry2: RUN, ..call(run.as_bytes(), &[]) };
+    assert_eq!(said(plan(&limited)), over_limit_at(1, 26, 2 << 20));
     assert_eq!(said(plan_text(&limited, Form::Shell)), over_limit(1, 26, 2 << 20));
 }

@@ -26,7 +26,7 @@ pairs-are [] = refl
 pairs-are (p ∷ variables) = ap (λ t. p ∷ t) (pairs-are variables)
 
 -- a part behind others
-part-behind : {X : Type 0} (before here behind : List X) → take (length here) (drop (length before) (before ++ (here ++ behind))) ≡ here
+pub part-behind : {X : Type 0} (before here behind : List X) → take (length here) (drop (length before) (before ++ (here ++ behind))) ≡ here
 part-behind before here behind = ap (take (length here)) (drop-append_seam before (here ++ behind)) ∙ take-append_seam here behind
 
 read-one : (before rest : List (List ℕ)) (e : Entry) → entry_in (before ++ (texts_of e ++ rest)) (record_at (length before) e) ≡ e
@@ -59,17 +59,21 @@ read-one before rest e =
       cacheable = e.cacheable;
     }
 
-entries-read : (before : List (List ℕ)) (entries : List Entry) → map (entry_in (before ++ flat_map texts_of entries)) (records_at (length before) entries) ≡ entries
-entries-read before [] = refl
-entries-read before (e ∷ entries) =
+-- commands by their texts, with others before and behind them
+pub entries-read : (before : List (List ℕ)) (entries : List Entry) (behind : List (List ℕ)) →
+    map (entry_in (before ++ (flat_map texts_of entries ++ behind))) (records_at (length before) entries) ≡ entries
+entries-read before [] behind = refl
+entries-read before (e ∷ entries) behind =
     let here = texts_of e in
-    let there = flat_map texts_of entries in
+    let there = flat_map texts_of entries ++ behind in
     let next = length before + length here in
     let moved : map (entry_in ((before ++ here) ++ there)) (records_at next entries) ≡ entries =
-    subst (λ n. map (entry_in ((before ++ here) ++ there)) (records_at n entries) ≡ entries) (length-append before here) (entries-read (before ++ here) entries) in
+    subst (λ n. map (entry_in ((before ++ here) ++ there)) (records_at n entries) ≡ entries) (length-append before here) (entries-read (before ++ here) entries behind) in
     let rest : map (entry_in (before ++ (here ++ there))) (records_at next entries) ≡ entries =
     subst (λ q. map (entry_in q) (records_at next entries) ≡ entries) (append_assoc before here there) moved in
-    ap (λ t. t ∷ map (entry_in (before ++ (here ++ there))) (records_at next entries)) (read-one before there e) ∙ ap (λ t. e ∷ t) rest
+    ap (λ q. map (entry_in (before ++ q)) (records_at (length before) (e ∷ entries))) (append_assoc here (flat_map texts_of entries) behind)
+    ∙ ap (λ t. t ∷ map (entry_in (before ++ (here ++ there))) (records_at next entries)) (read-one before there e)
+    ∙ ap (λ t. e ∷ t) rest
 
 -- ---- groups
 
@@ -217,7 +221,7 @@ module _ (origins : List Origin) where
 
 -- ---- plans
 
-plan-is : (planned : PlanWithOrigins) → HasOrigins planned → plan_of (groups_at (length planned.plan.groups - 1) 0 0 planned.plan.groups) (entries_of planned) ≡ planned
+pub plan-is : (planned : PlanWithOrigins) → HasOrigins planned → plan_of (groups_at (length planned.plan.groups - 1) 0 0 planned.plan.groups) (entries_of planned) ≡ planned
 plan-is planned has =
     let origins = planned.origins in
     let groups = planned.plan.groups in
@@ -238,8 +242,8 @@ records-read-back planned has =
     let groups = groups_at (length planned.plan.groups - 1) 0 0 planned.plan.groups in
     let entries = entries_of planned in
     let texts = flat_map texts_of entries in
-    ap (λ ts. plan_of groups (map (entry_in ts) (records_at 0 entries))) (cut_behind [] texts)
-    ∙ ap (plan_of groups) (entries-read [] entries)
+    ap (λ ts. plan_of groups (map (entry_in ts) (records_at 0 entries))) (cut_behind [] texts ∙ sym (append-nil texts))
+    ∙ ap (plan_of groups) (entries-read [] entries [])
     ∙ plan-is planned has
 
 pub records-are-one-to-one : (one other : PlanWithOrigins) → HasOrigins one → HasOrigins other → records_of one ≡ records_of other → one ≡ other

@@ -4,9 +4,10 @@ use Rattle.std.specs.List.{flat_map}
 use Rattle.program_lookups.specs.declared.lookup.Lookup.{Lookup}
 use Rattle.dry_runs.specs.declared.limit.LimitedFault.{LimitedFault}
 use Rattle.dry_runs.specs.declared.parsed_runs.ParsedRuns.{ParsedRuns}
-use Rattle.dry_runs.specs.Parsed.{both_parsed, both_parsed_within}
+use Rattle.dry_runs.specs.Parsed.{both_parsed}
 use Rattle.program_lookups.specs.Asked.{asked_by}
 use Rattle.program_lookups.specs.Candidates.{candidates_of}
+use Rattle.program_lookups.specs.Limit.{both_fitting}
 use Rattle.c_texts.specs.Failures.{if_utf8}
 use Rattle.c_texts.specs.Outcomes.{Outcome, of_texts}
 use Rattle.c_texts.specs.Memory.{text_of}
@@ -33,10 +34,10 @@ abbrev pub lookups_told : ℕ → Result ParsedRuns LimitedFault → List ℕ �
 lookups_told limit (Ok runs) cwd = lookups_by runs cwd
 lookups_told limit (Err fault) cwd = failed_within limit fault
 
--- the look-ups of two dry runs within a limit, unless that is 0
+-- the look-ups of two dry runs within a limit, which counts the paths that they try too, unless it is 0
 abbrev pub lookups_within : ℕ → List ℕ → List ℕ → List ℕ → Outcome
 lookups_within limit dry1 dry2 cwd =
-    within_limit limit (lookups_from dry1 dry2 cwd) (lookups_told limit (both_parsed_within limit dry1 dry2) cwd)
+    within_limit limit (lookups_from dry1 dry2 cwd) (lookups_told limit (both_fitting limit cwd dry1 dry2) cwd)
 
 -- the same, if the directory is UTF-8
 abbrev pub limited_lookups_outcome : ℕ → List ℕ → List ℕ → List ℕ → Outcome

@@ -22,18 +22,18 @@ PlansWithoutLimit =
 abbrev pub LookupsWithoutLimit : Type 0
 LookupsWithoutLimit = (dry1 dry2 cwd : List ℕ) → limited_lookups_outcome 0 dry1 dry2 cwd ≡ lookups_outcome dry1 dry2 cwd
 
--- a run that holds `PATH` and `/b`, which are eight bytes, and `/bgcc` and `x`, which are eight
+-- a run that holds `PATH` and `/b`, which are eight bytes, and `/bgcc` and `x`, which are eight; each line counts 4,096 more
 abbrev gcc_run : List ℕ
 gcc_run = codes "#$ PATH=/b\n#$ gcc x\n"
 
-pub both_fit : limited_lookups_outcome 16 gcc_run gcc_run (codes "/w") ≡ lookups_outcome gcc_run gcc_run (codes "/w")
+pub both_fit : limited_lookups_outcome 8208 gcc_run gcc_run (codes "/w") ≡ lookups_outcome gcc_run gcc_run (codes "/w")
 unfolding dry_runs_compute
 both_fit = refl
 
-pub first_exceeds : limited_lookups_outcome 15 gcc_run gcc_run (codes "/w") ≡ over_limit 15 1 1
+pub first_exceeds : limited_lookups_outcome 8207 gcc_run gcc_run (codes "/w") ≡ over_limit 8207 1 1
 unfolding dry_runs_compute
 first_exceeds = refl
 
-pub second_exceeds : limited_lookups_outcome 15 [] gcc_run (codes "/w") ≡ over_limit 15 2 1
+pub second_exceeds : limited_lookups_outcome 8207 [] gcc_run (codes "/w") ≡ over_limit 8207 2 1
 unfolding dry_runs_compute
 second_exceeds = refl

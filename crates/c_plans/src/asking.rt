@@ -10,8 +10,8 @@ ghost use Rattle.c_plans.specs.Asking as spec;
 
 use crate::limits::failed_within;
 use c_texts::{ListAnswer, Outcome, Range, Status, give_list, refused, text_of};
-use dry_runs::{LimitedFault, ParsedRuns, parse_dry_runs, parse_dry_runs_within};
-use program_lookups::{Lookup, lookups_of_runs};
+use dry_runs::{LimitedFault, ParsedRuns, parse_dry_runs};
+use program_lookups::{Lookup, lookups_of_runs, parse_within};
 use std::alloc::{AllocError, Global};
 use texts::fault::Fault;
 
@@ -66,7 +66,7 @@ fn lookups_fitting(
     if limit == 0 {
         return lookups_by(alloc, &parse_dry_runs(alloc, dry1, dry2)?, cwd);
     }
-    let runs = parse_dry_runs_within(alloc, dry1, dry2, limit);
+    let runs = parse_within(alloc, dry1, dry2, cwd, limit);
     lookups_told(alloc, limit, runs, cwd)
 }
 
@@ -102,7 +102,7 @@ pub fn lookups(
 }
 
 /// The same, of dry runs that someone else wrote: refuses them if a line of one exceeds `limit`, as
-/// `dry_runs::parse_dry_runs_within` counts. A limit of 0 is none.
+/// `program_lookups::parse_within` counts. A limit of 0 is none.
 pub fn lookups_within(
     alloc: Global,
     dry1: &[u8],

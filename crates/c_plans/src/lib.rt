@@ -19,8 +19,12 @@ mod renaming;
 mod room;
 
 pub use asking::{candidates, lookups, lookups_within};
-pub use plan_call::{FoundProgram, PlanCall};
+pub use plan_call::{
+    FoundProgram, PlanCall, Tables, Texts, has_numbers, host_of, tables_of, texts_of,
+};
+pub use plan_entries::records_of;
 pub use planned_records::plan_records;
-pub use planning::plan;
+pub use planning::{plan, planned};
 pub use record::{CommandRecord, GroupRecord, RecordsAnswer};
+pub use recorded::Recorded;
 pub use renaming::remap;

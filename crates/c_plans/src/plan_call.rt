@@ -60,7 +60,7 @@ pub struct PlanCall<'a> {
 }
 
 /// The host compiler with a number.
-pub(crate) fn host_of(number: u32) -> Option<NvccHostCompiler>
+pub fn host_of(number: u32) -> Option<NvccHostCompiler>
     ensures { result ≡ spec.host_of number }
 {
     match number {
@@ -80,7 +80,7 @@ fn have_numbers(rows: &[FoundProgram<'_>]) -> bool
 }
 
 /// Whether the flags of a call, and the reserved numbers of its rows, have a meaning.
-pub(crate) fn has_numbers(call: &PlanCall<'_>) -> bool
+pub fn has_numbers(call: &PlanCall<'_>) -> bool
     ensures { result ≡ spec.has_numbers call.now }
 {
     call.keeps <= 1 && have_numbers(call.lookups)
@@ -88,15 +88,15 @@ pub(crate) fn has_numbers(call: &PlanCall<'_>) -> bool
 
 /// The texts of a call but those of its tables.
 #[derive(Clone, Copy)]
-pub(crate) struct Texts<'a> {
-    pub(crate) cwd: &'a str,
-    pub(crate) tmp: &'a str,
-    pub(crate) flag: &'a str,
-    pub(crate) keep_dir: &'a str,
+pub struct Texts<'a> {
+    pub cwd: &'a str,
+    pub tmp: &'a str,
+    pub flag: &'a str,
+    pub keep_dir: &'a str,
 }
 
 /// These texts of a call, if all are UTF-8.
-pub(crate) fn texts_of<'a>(call: &PlanCall<'a>) -> Option<Texts<'a>>
+pub fn texts_of<'a>(call: &PlanCall<'a>) -> Option<Texts<'a>>
     ensures { option_map spec.texts_seen result ≡ spec.texts_of call.now }
 {
     Some(Texts {
@@ -177,14 +177,14 @@ fn entries_of(
 
 /// Copies of the tables of a call.
 #[derive(Drop)]
-pub(crate) struct Tables {
-    pub(crate) suffixes: Words,
-    pub(crate) variables: Variables,
-    pub(crate) found: Snapshot,
+pub struct Tables {
+    pub suffixes: Words,
+    pub variables: Variables,
+    pub found: Snapshot,
 }
 
 /// The tables of a call, if all their texts are UTF-8.
-pub(crate) fn tables_of(
+pub fn tables_of(
     alloc: Global,
     cwd: &str,
     call: &PlanCall<'_>,

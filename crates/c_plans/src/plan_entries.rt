@@ -186,7 +186,7 @@ fn push_dropped(
 }
 
 /// A plan as records.
-pub(crate) fn records_of(alloc: Global, planned: &PlanWithOrigins) -> Result<Recorded, AllocError>
+pub fn records_of(alloc: Global, planned: &PlanWithOrigins) -> Result<Recorded, AllocError>
     ensures { IfOk result (λ recorded. recorded ≡ spec.records_of planned.now) }
 {
     let groups = planned.plan.groups.as_slice();

@@ -77,7 +77,7 @@ fn planned_within(
 }
 
 /// The plan of a call, or why there is none.
-pub(crate) fn planned(
+pub fn planned(
     alloc: Global,
     call: &PlanCall<'_>,
     host: NvccHostCompiler,

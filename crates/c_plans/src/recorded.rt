@@ -16,10 +16,10 @@ use std::marker::Model;
 
 /// A status and texts, and the records that say what the texts are.
 #[derive(Drop)]
-pub(crate) struct Recorded {
-    outcome: Outcome,
-    groups: Vec<GroupRecord>,
-    commands: Vec<CommandRecord>,
+pub struct Recorded {
+    pub outcome: Outcome,
+    pub groups: Vec<GroupRecord>,
+    pub commands: Vec<CommandRecord>,
 }
 
 impl Model for Recorded {
@@ -95,7 +95,7 @@ fn push_texts(texts: &mut Outcome, entry: Entry<'_>) -> Result<CommandRecord, Al
 
 impl Recorded {
     /// An outcome without records.
-    pub(crate) fn of_outcome(alloc: Global, outcome: Outcome) -> Recorded
+    pub fn of_outcome(alloc: Global, outcome: Outcome) -> Recorded
         ensures { result ≡ spec.without_records outcome }
     {
         Recorded {

@@ -1,7 +1,7 @@
 -- The statuses of calls.
 use Rattle.std.specs.Prelude.{ℕ, ℤ, pos, negsuc, ◌==◌, if◌then◌else◌, List, Option, Some, None, codes}
 use Rattle.c_texts.specs.declared.status.Status.{Status}
-use Rattle.c_texts.specs.declared.status.Status.TheVariants.{Success, Memory, NotUtf8, BadNumber, OpenQuote, BadDryRun, NotFound, BadSuffixes, Unwritable, BadLine, ToNvcc, OverLimit}
+use Rattle.c_texts.specs.declared.status.Status.TheVariants.{Success, Memory, NotUtf8, BadNumber, OpenQuote, BadDryRun, NotFound, BadSuffixes, Unwritable, BadLine, ToNvcc, OverLimit, NoDryRun}
 
 -- a status's number
 abbrev pub number : Status → ℤ
@@ -17,6 +17,7 @@ number Unwritable = pos 8
 number BadLine = pos 9
 number ToNvcc = pos 10
 number OverLimit = pos 11
+number NoDryRun = pos 12
 
 -- the status with this number, if it isn't negative
 abbrev pub with_natural : ℕ → Option Status
@@ -33,6 +34,7 @@ with_natural n =
     else if n == 9 then Some BadLine
     else if n == 10 then Some ToNvcc
     else if n == 11 then Some OverLimit
+    else if n == 12 then Some NoDryRun
     else None
 
 -- the status with this number
@@ -54,3 +56,4 @@ text Unwritable = codes "the form cannot represent the plan"
 text BadLine = codes "a line of a tool cannot be read"
 text ToNvcc = codes "the line goes to nvcc"
 text OverLimit = codes "a dry run exceeds the limit"
+text NoDryRun = codes "the texts are not the dry runs of a call"

@@ -35,6 +35,8 @@ pub enum Status {
     ToNvcc,
     /// Reading a dry run makes more text than the limit of the call allows.
     OverLimit,
+    /// The texts aren't the two dry runs of a call.
+    NoDryRun,
 }
 
 impl Status {
@@ -55,6 +57,7 @@ impl Status {
             Status::BadLine => 9,
             Status::ToNvcc => 10,
             Status::OverLimit => 11,
+            Status::NoDryRun => 12,
         }
     }
 
@@ -75,6 +78,7 @@ impl Status {
             9 => Some(Status::BadLine),
             10 => Some(Status::ToNvcc),
             11 => Some(Status::OverLimit),
+            12 => Some(Status::NoDryRun),
             _ => None,
         }
     }
@@ -96,6 +100,7 @@ impl Status {
             Status::BadLine => "a line of a tool cannot be read",
             Status::ToNvcc => "the line goes to nvcc",
             Status::OverLimit => "a dry run exceeds the limit",
+            Status::NoDryRun => "the texts are not the dry runs of a call",
         }
     }
 }

@@ -1,4 +1,4 @@
-//! The exports of libzigrunk: for each call of `c_texts`, `c_lines` and `c_plans`, one C function. The header is `bindings/c/zigrunk.h`.
+//! The exports of libzigrunk: for each call of `c_texts`, `c_lines`, `c_plans` and `c_steps`, one C function. The header is `bindings/c/zigrunk.h`.
 #![tactic(auto)]
 
 ghost use Rattle.std.specs.Prelude.{◌≡◌, map};
@@ -11,6 +11,8 @@ ghost use Rattle.c_plans.specs.PlanRecords.{plan_records};
 ghost use Rattle.c_plans.specs.Planning.{plan_outcome};
 ghost use Rattle.c_plans.specs.Records.{GivesRecords};
 ghost use Rattle.c_plans.specs.Renaming.{remap_outcome};
+ghost use Rattle.c_steps.specs.PlanSteps.{plan_steps};
+ghost use Rattle.c_steps.specs.StepBuffers.{GivesSteps};
 ghost use Rattle.c_texts.specs.Memory.{bytes_of};
 ghost use Rattle.c_texts.specs.Outcomes.{GivesList, GivesText, TellsText, described, of_text};
 ghost use Rattle.c_texts.specs.Shell.{quote_outcome, split_outcome};
@@ -19,6 +21,7 @@ ghost use Rattle.c_texts.specs.Version as version;
 
 use c_lines::{LineAnswer, LineCall, NvccLineCall, OutputRecord};
 use c_plans::{CommandRecord, GroupRecord, PlanCall, RecordsAnswer};
+use c_steps::{StepRecord, StepsAnswer};
 use c_texts::{InputText, ListAnswer, Range, TextAnswer};
 use std::alloc::Global;
 
@@ -145,6 +148,25 @@ pub extern "C" fn zigrunk_plan_records(
         (record { groups = groups.new; commands = commands.new; ranges = ranges.new; bytes = out.new }) }
 {
     c_plans::plan_records(alloc, call, groups, commands, ranges, out)
+}
+
+/// Plans two dry runs of one nvcc call for a program that runs the commands, as records.
+#[unsafe(no_mangle)]
+pub extern "C" fn zigrunk_plan_steps(
+    alloc: Global,
+    call: &PlanCall<'_>,
+    groups: &mut [GroupRecord],
+    commands: &mut [CommandRecord],
+    steps: &mut [StepRecord],
+    numbers: &mut [usize],
+    ranges: &mut [Range],
+    out: &mut [u8],
+) -> StepsAnswer
+    ensures { GivesSteps (plan_steps call.now) result
+        (record { groups = groups.old; commands = commands.old; steps = steps.old; numbers = numbers.old; ranges = ranges.old; bytes = out.old })
+        (record { groups = groups.new; commands = commands.new; steps = steps.new; numbers = numbers.new; ranges = ranges.new; bytes = out.new }) }
+{
+    c_steps::plan_steps(alloc, call, groups, commands, steps, numbers, ranges, out)
 }
 
 /// Writes what a line of a tool says as JSON.

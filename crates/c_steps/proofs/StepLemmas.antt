@@ -1,0 +1,144 @@
+-- The files and needs of commands, one behind the other.
+use Rattle.std.proofs.Common.{◌≡◌, ◌++◌, ◌+◌, ◌∷◌, [], ℕ, suc, List, length, refl, sym, ap, ◌∙◌, arith, length-append, append_assoc}
+use Rattle.std.specs.List.{flat_map}
+use Rattle.command_groups.specs.declared.plan.NvccGeneratedSubcommand.{NvccGeneratedSubcommand}
+use Rattle.c_texts.proofs.TextLemmas.{texts-then, count-then}
+use Rattle.c_texts.specs.declared.memory.Range.{Range}
+use Rattle.c_texts.specs.Outcomes.{Outcome, with_texts}
+use Rattle.c_steps.specs.declared.step_record.StepRecord.{StepRecord}
+use Rattle.c_steps.specs.Steps.{Extra, Stepped, extra_of, extras_from, file_texts, files_at, step_at, steps_at, with_extra, with_extras}
+
+-- a command, and others behind it
+pub extra-then : (s : Stepped) (e : Extra) (extras : List Extra) → with_extras (with_extra s e) extras ≡ with_extras s (e ∷ extras)
+extra-then s e extras =
+    let outcome = s.recorded.0 in
+    let here : StepRecord = step_at (length outcome.1.0) (length s.numbers) e in
+    let there : List StepRecord = steps_at (length (with_texts outcome (file_texts e)).1.0) (length (s.numbers ++ e.needs)) extras in
+    let steps : (s.steps ++ here ∷ []) ++ there ≡ s.steps ++ steps_at (length outcome.1.0) (length s.numbers) (e ∷ extras) =
+    append_assoc s.steps (here ∷ []) there
+    ∙ (λ i. s.steps ++ here ∷ steps_at (count-then outcome (file_texts e) i) (length-append s.numbers e.needs i) extras) in
+    let numbers : (s.numbers ++ e.needs) ++ flat_map (λ e. e.needs) extras ≡ s.numbers ++ (e.needs ++ flat_map (λ e. e.needs) extras) =
+    append_assoc s.numbers e.needs (flat_map (λ e. e.needs) extras) in
+    λ i. record {
+      place = s.place;
+      recorded = (texts-then outcome (file_texts e) (flat_map file_texts extras) i, s.recorded.1);
+      steps = steps i;
+      numbers = numbers i;
+    }
+
+-- the texts of a command's files, added one after the other
+pub file-texts-are : (t0 t1 t2 t3 : Outcome) (e : Extra) →
+    t1 ≡ with_texts t0 e.files.reads → t2 ≡ with_texts t1 e.files.writes → t3 ≡ with_texts t2 e.files.may_write → t3 ≡ with_texts t0 (file_texts e)
+file-texts-are t0 t1 t2 t3 e first second third =
+    let f = e.files in
+    let two : t2 ≡ with_texts t0 (f.reads ++ f.writes) = second ∙ ap (λ t. with_texts t f.writes) first ∙ texts-then t0 f.reads f.writes in
+    third
+    ∙ ap (λ t. with_texts t f.may_write) two
+    ∙ texts-then t0 (f.reads ++ f.writes) f.may_write
+    ∙ ap (with_texts t0) (append_assoc f.reads f.writes f.may_write)
+
+-- a command's record, by how many texts there are before each part
+pub step-record-is : (t0 t1 t2 : Outcome) (needs : Range) (e : Extra) → t1 ≡ with_texts t0 e.files.reads → t2 ≡ with_texts t1 e.files.writes →
+    record {
+      needs = needs;
+      reads = record { offset = length t0.1.0; length = length e.files.reads };
+      writes = record { offset = length t1.1.0; length = length e.files.writes };
+      may_write = record { offset = length t2.1.0; length = length e.files.may_write };
+      tool = e.tool;
+      missing = e.missing;
+    } ≡ files_at (length t0.1.0) needs e
+step-record-is t0 t1 t2 needs e first second =
+    let f = e.files in
+    let one : length t1.1.0 ≡ length t0.1.0 + length f.reads = ap (λ (t : Outcome). length t.1.0) first ∙ count-then t0 f.reads in
+    let two : length t2.1.0 ≡ length t0.1.0 + length f.reads + length f.writes =
+    ap (λ (t : Outcome). length t.1.0) second ∙ count-then t1 f.writes ∙ ap (λ n. n + length f.writes) one in
+    λ i. record {
+      needs = needs;
+      reads = record { offset = length t0.1.0; length = length f.reads };
+      writes = record { offset = one i; length = length f.writes };
+      may_write = record { offset = two i; length = length f.may_write };
+      tool = e.tool;
+      missing = e.missing;
+    }
+
+-- ---- commands behind commands
+
+texts-append : (xs ys : List Extra) → flat_map file_texts (xs ++ ys) ≡ flat_map file_texts xs ++ flat_map file_texts ys
+texts-append [] ys = refl
+texts-append (x ∷ xs) ys = ap (λ t. file_texts x ++ t) (texts-append xs ys) ∙ sym (append_assoc (file_texts x) (flat_map file_texts xs) (flat_map file_texts ys))
+
+needs-append : (xs ys : List Extra) → flat_map (λ e. e.needs) (xs ++ ys) ≡ flat_map (λ e. e.needs) xs ++ flat_map (λ e. e.needs) ys
+needs-append [] ys = refl
+needs-append (x ∷ xs) ys =
+    ap (λ t. x.needs ++ t) (needs-append xs ys) ∙ sym (append_assoc x.needs (flat_map (λ e. e.needs) xs) (flat_map (λ e. e.needs) ys))
+
+steps-length : (text number : ℕ) (extras : List Extra) → length (steps_at text number extras) ≡ length extras
+steps-length text number [] = refl
+steps-length text number (e ∷ extras) = ap suc (steps-length (text + length (file_texts e)) (number + length e.needs) extras)
+
+steps-append : (text number : ℕ) (xs ys : List Extra) →
+    steps_at text number (xs ++ ys) ≡
+    steps_at text number xs ++ steps_at (text + length (flat_map file_texts xs)) (number + length (flat_map (λ e. e.needs) xs)) ys
+steps-append text number [] ys =
+    let same : text ≡ text + 0 = omega arith in
+    let alike : number ≡ number + 0 = omega arith in
+    λ i. steps_at (same i) (alike i) ys
+steps-append text number (x ∷ xs) ys =
+    let files = flat_map file_texts xs in
+    let needs = flat_map (λ e. e.needs) xs in
+    let texts : length (file_texts x ++ files) ≡ length (file_texts x) + length files = length-append (file_texts x) files in
+    let numbers : length (x.needs ++ needs) ≡ length x.needs + length needs = length-append x.needs needs in
+    let same : text + length (file_texts x) + length files ≡ text + length (file_texts x ++ files) = omega (arith, texts) in
+    let alike : number + length x.needs + length needs ≡ number + length (x.needs ++ needs) = omega (arith, numbers) in
+    ap (λ t. step_at text number x ∷ t) (steps-append (text + length (file_texts x)) (number + length x.needs) xs ys)
+    ∙ (λ i. step_at text number x ∷ (steps_at (text + length (file_texts x)) (number + length x.needs) xs ++ steps_at (same i) (alike i) ys))
+
+-- commands, and others behind them
+extras-then : (s : Stepped) (xs ys : List Extra) → with_extras (with_extras s xs) ys ≡ with_extras s (xs ++ ys)
+extras-then s xs ys =
+    let outcome = s.recorded.0 in
+    let here : List StepRecord = steps_at (length outcome.1.0) (length s.numbers) xs in
+    let files = flat_map file_texts xs in
+    let needs = flat_map (λ e. e.needs) xs in
+    let there : List StepRecord = steps_at (length (with_texts outcome files).1.0) (length (s.numbers ++ needs)) ys in
+    let steps : (s.steps ++ here) ++ there ≡ s.steps ++ steps_at (length outcome.1.0) (length s.numbers) (xs ++ ys) =
+    append_assoc s.steps here there
+    ∙ (λ i. s.steps ++ (here ++ steps_at (count-then outcome files i) (length-append s.numbers needs i) ys))
+    ∙ ap (λ t. s.steps ++ t) (sym (steps-append (length outcome.1.0) (length s.numbers) xs ys)) in
+    let numbers : (s.numbers ++ needs) ++ flat_map (λ e. e.needs) ys ≡ s.numbers ++ flat_map (λ e. e.needs) (xs ++ ys) =
+    append_assoc s.numbers needs (flat_map (λ e. e.needs) ys) ∙ ap (λ t. s.numbers ++ t) (sym (needs-append xs ys)) in
+    let texts : with_texts (with_texts outcome files) (flat_map file_texts ys) ≡ with_texts outcome (flat_map file_texts (xs ++ ys)) =
+    texts-then outcome files (flat_map file_texts ys) ∙ ap (with_texts outcome) (sym (texts-append xs ys)) in
+    λ i. record { place = s.place; recorded = (texts i, s.recorded.1); steps = steps i; numbers = numbers i }
+
+module _ (needs : List (List ℕ)) where
+  extras-length : (id : ℕ) (commands : List NvccGeneratedSubcommand) → length (extras_from needs id commands) ≡ length commands
+  extras-length id [] = refl
+  extras-length id (c ∷ commands) = ap suc (extras-length (id + 1) commands)
+
+  extras-append : (id : ℕ) (xs ys : List NvccGeneratedSubcommand) →
+      extras_from needs id (xs ++ ys) ≡ extras_from needs id xs ++ extras_from needs (id + length xs) ys
+  extras-append id [] ys =
+      let same : id ≡ id + 0 = omega arith in
+      ap (λ n. extras_from needs n ys) same
+  extras-append id (x ∷ xs) ys =
+      let same : id + 1 + length xs ≡ id + suc (length xs) = omega arith in
+      ap (λ t. extra_of needs id x ∷ t) (extras-append (id + 1) xs ys)
+      ∙ ap (λ n. extra_of needs id x ∷ (extras_from needs (id + 1) xs ++ extras_from needs n ys)) same
+
+  -- a group's commands, and others behind them
+  pub group-then : (before after : Stepped) (commands left : List NvccGeneratedSubcommand) →
+      after ≡ with_extras before (extras_from needs (length before.steps) commands) →
+      with_extras after (extras_from needs (length after.steps) left) ≡ with_extras before (extras_from needs (length before.steps) (commands ++ left))
+  group-then before after commands left pushed =
+      let n = length before.steps in
+      let extras : List Extra = extras_from needs n commands in
+      let now : Stepped = with_extras before extras in
+      let here : List StepRecord = steps_at (length before.recorded.0.1.0) (length before.numbers) extras in
+      let counted : length now.steps ≡ n + length commands =
+      length-append before.steps here
+      ∙ ap (λ k. n + k) (steps-length (length before.recorded.0.1.0) (length before.numbers) extras ∙ extras-length n commands) in
+      ap (λ (s : Stepped). with_extras s (extras_from needs (length s.steps) left)) pushed
+      ∙ ap (λ k. with_extras now (extras_from needs k left)) counted
+      ∙ extras-then before extras (extras_from needs (n + length commands) left)
+      ∙ ap (with_extras before) (sym (extras-append n commands left))

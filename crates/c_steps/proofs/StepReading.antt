@@ -1,0 +1,109 @@
+-- What the records of a plan's commands say.
+use Rattle.std.proofs.Common.{◌≡◌, ◌++◌, ◌+◌, ◌∷◌, [], ℕ, List, Bool, true, false, ◌==◌, map, length, take, drop, refl, sym, ap, subst, ◌∙◌, arith, length-append, append_assoc}
+use Rattle.std.specs.Prelude.{◌-◌, nat_le, if◌then◌else◌}
+use Rattle.std.specs.List.{flat_map}
+use Rattle.command_files.specs.PlanNeeds.{plan_needs, preprocesses}
+use Rattle.command_groups.specs.declared.plan.NvccGeneratedSubcommand.{NvccGeneratedSubcommand}
+use Rattle.c_texts.proofs.RangeLemmas.{cut_behind}
+use Rattle.c_texts.proofs.TextLemmas.{ranges-length, texts-then}
+use Rattle.c_texts.specs.Memory.{cut}
+use Rattle.c_texts.specs.Outcomes.{Outcome, of_texts, with_texts}
+use Rattle.c_plans.proofs.RecordReading.{entries-read, part-behind, plan-is}
+use Rattle.c_plans.specs.Records.{entries_of, groups_at, records_at, texts_of}
+use Rattle.c_plans.specs.RecordsRead.{entry_in, plan_of}
+use Rattle.c_steps.specs.Steps.{Extra, commands_of, extra_of, extras_from, extras_of, file_texts, missing_of, step_at, steps_at, steps_of}
+use Rattle.c_steps.specs.StepLaws.{StepsReadBack, PlansReadBack, extra_in}
+
+-- ---- commands are read back
+
+-- a command's files are all if nothing is missing
+any-missing : (unread preprocesses : Bool) → ((if unread then 1 else if preprocesses then 2 else 3) == 0) ≡ false
+any-missing true preprocesses = refl
+any-missing false true = refl
+any-missing false false = refl
+
+complete-is : (tool : ℕ) (complete preprocesses : Bool) → (missing_of tool complete preprocesses == 0) ≡ complete
+complete-is tool true preprocesses = refl
+complete-is tool false preprocesses = any-missing (nat_le tool 2) preprocesses
+
+-- a part of a list at an offset
+part-at : {X : Type 0} (before here behind all : List X) (offset : ℕ) → all ≡ before ++ (here ++ behind) → offset ≡ length before →
+    take (length here) (drop offset all) ≡ here
+part-at before here behind all offset whole at = (λ i. take (length here) (drop (at i) (whole i))) ∙ part-behind before here behind
+
+one-read : (before rest : List (List ℕ)) (numbers more : List ℕ) (e : Extra) → (e.missing == 0) ≡ e.files.complete →
+    extra_in (before ++ (file_texts e ++ rest)) (numbers ++ (e.needs ++ more)) (step_at (length before) (length numbers) e) ≡ e
+one-read before rest numbers more e complete =
+    let f = e.files in
+    let all = before ++ ((f.reads ++ (f.writes ++ f.may_write)) ++ rest) in
+    let first : all ≡ before ++ (f.reads ++ ((f.writes ++ f.may_write) ++ rest)) = ap (λ t. before ++ t) (append_assoc f.reads (f.writes ++ f.may_write) rest) in
+    let second : all ≡ (before ++ f.reads) ++ (f.writes ++ (f.may_write ++ rest)) =
+    first ∙ sym (append_assoc before f.reads ((f.writes ++ f.may_write) ++ rest)) ∙ ap (λ t. (before ++ f.reads) ++ t) (append_assoc f.writes f.may_write rest) in
+    let third : all ≡ ((before ++ f.reads) ++ f.writes) ++ (f.may_write ++ rest) = second ∙ sym (append_assoc (before ++ f.reads) f.writes (f.may_write ++ rest)) in
+    let one : length before + length f.reads ≡ length (before ++ f.reads) = sym (length-append before f.reads) in
+    let two : length before + length f.reads + length f.writes ≡ length ((before ++ f.reads) ++ f.writes) =
+    ap (λ n. n + length f.writes) one ∙ sym (length-append (before ++ f.reads) f.writes) in
+    let reads = part-at before f.reads ((f.writes ++ f.may_write) ++ rest) all (length before) first refl in
+    let writes = part-at (before ++ f.reads) f.writes (f.may_write ++ rest) all (length before + length f.reads) second one in
+    let may_write = part-at ((before ++ f.reads) ++ f.writes) f.may_write rest all (length before + length f.reads + length f.writes) third two in
+    λ i. record {
+      needs = part-behind numbers e.needs more i;
+      files = record { reads = reads i; writes = writes i; may_write = may_write i; complete = complete i };
+      tool = e.tool;
+      missing = e.missing;
+    }
+
+module _ (needs : List (List ℕ)) where
+  extras-read : (before : List (List ℕ)) (numbers : List ℕ) (id : ℕ) (commands : List NvccGeneratedSubcommand) →
+      map (extra_in (before ++ flat_map file_texts (extras_from needs id commands)) (numbers ++ flat_map (λ e. e.needs) (extras_from needs id commands)))
+      (steps_at (length before) (length numbers) (extras_from needs id commands)) ≡
+      extras_from needs id commands
+  extras-read before numbers id [] = refl
+  extras-read before numbers id (c ∷ commands) =
+      let e : Extra = extra_of needs id c in
+      let left : List Extra = extras_from needs (id + 1) commands in
+      let texts = flat_map file_texts left in
+      let more = flat_map (λ e. e.needs) left in
+      let all = before ++ (file_texts e ++ texts) in
+      let every = numbers ++ (e.needs ++ more) in
+      let counted : map (extra_in ((before ++ file_texts e) ++ texts) ((numbers ++ e.needs) ++ more))
+      (steps_at (length before + length (file_texts e)) (length numbers + length e.needs) left) ≡ left =
+      subst (λ n. map (extra_in ((before ++ file_texts e) ++ texts) ((numbers ++ e.needs) ++ more)) (steps_at n (length numbers + length e.needs) left) ≡ left)
+      (length-append before (file_texts e))
+      (subst (λ n. map (extra_in ((before ++ file_texts e) ++ texts) ((numbers ++ e.needs) ++ more)) (steps_at (length (before ++ file_texts e)) n left) ≡ left)
+      (length-append numbers e.needs)
+      (extras-read (before ++ file_texts e) (numbers ++ e.needs) (id + 1) commands)) in
+      let rest : map (extra_in all every) (steps_at (length before + length (file_texts e)) (length numbers + length e.needs) left) ≡ left =
+      subst (λ ts. map (extra_in ts every) (steps_at (length before + length (file_texts e)) (length numbers + length e.needs) left) ≡ left)
+      (append_assoc before (file_texts e) texts)
+      (subst (λ ns. map (extra_in ((before ++ file_texts e) ++ texts) ns) (steps_at (length before + length (file_texts e)) (length numbers + length e.needs) left) ≡ left)
+      (append_assoc numbers e.needs more) counted) in
+      let own : extra_in all every (step_at (length before) (length numbers) e) ≡ e =
+      one-read before texts numbers more e (complete-is e.tool e.files.complete (preprocesses c.args)) in
+      λ i. own i ∷ rest i
+
+-- the texts of a plan, and behind them those of files
+both-texts : (texts more : List (List ℕ)) → with_texts (of_texts texts) more ≡ of_texts (texts ++ more)
+both-texts texts more = texts-then (of_texts []) texts more
+
+cut-texts : (texts more : List (List ℕ)) → map (cut (with_texts (of_texts texts) more).1.1) (with_texts (of_texts texts) more).1.0 ≡ texts ++ more
+cut-texts texts more = ap (λ (o : Outcome). map (cut o.1.1) o.1.0) (both-texts texts more) ∙ cut_behind [] (texts ++ more)
+
+pub steps-read-back : StepsReadBack
+steps-read-back planned =
+    let plan = planned.plan in
+    let texts = flat_map texts_of (entries_of planned) in
+    let extras = extras_of plan in
+    ap (λ ts. map (extra_in ts (steps_of planned).numbers) (steps_of planned).steps) (cut-texts texts (flat_map file_texts extras))
+    ∙ ap (λ n. map (extra_in (texts ++ flat_map file_texts extras) (flat_map (λ e. e.needs) extras)) (steps_at n 0 extras)) (ranges-length 0 texts)
+    ∙ extras-read (plan_needs plan) texts [] 0 (commands_of plan.groups)
+
+pub plans-read-back : PlansReadBack
+plans-read-back planned has =
+    let groups = groups_at (length planned.plan.groups - 1) 0 0 planned.plan.groups in
+    let entries = entries_of planned in
+    let texts = flat_map texts_of entries in
+    let more = flat_map file_texts (extras_of planned.plan) in
+    ap (λ ts. plan_of groups (map (entry_in ts) (records_at 0 entries))) (cut-texts texts more)
+    ∙ ap (plan_of groups) (entries-read [] entries more)
+    ∙ plan-is planned has

@@ -1,0 +1,8 @@
+use Rattle.c_steps.proofs.StepReading.{steps-read-back, plans-read-back}
+use Rattle.c_steps.proofs.laws.steps_read_back.Goals as goal
+
+pub returns-clause-steps : goal.returns-clause-steps
+returns-clause-steps c = steps-read-back
+
+pub returns-clause-plan : goal.returns-clause-plan
+returns-clause-plan c = plans-read-back

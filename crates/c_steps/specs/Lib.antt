@@ -1,0 +1,9 @@
+pub mod Causes
+pub mod Fields
+pub mod Fitness
+pub mod Places
+pub mod PlanSteps
+pub mod StepBuffers
+pub mod StepLaws
+pub mod Steps
+pub mod Tools

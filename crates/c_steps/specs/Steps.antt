@@ -1,0 +1,120 @@
+-- A plan as records, with what a program that runs the commands has to know of each.
+use Rattle.std.specs.Prelude.{ℕ, ◌+◌, List, [], ◌∷◌, ◌++◌, Bool, nat_le, if◌then◌else◌, length}
+use Rattle.std.specs.List.{flat_map}
+use Rattle.command_files.specs.declared.files.CommandFiles.{CommandFiles}
+use Rattle.command_files.specs.CommandFiles.{files_of_words}
+use Rattle.command_files.specs.Order.{needs_at}
+use Rattle.command_files.specs.PlanNeeds.{plan_needs, preprocesses}
+use Rattle.command_groups.specs.declared.origins.PlanWithOrigins.{PlanWithOrigins}
+use Rattle.command_groups.specs.declared.plan.NvccGeneratedSubcommand.{NvccGeneratedSubcommand}
+use Rattle.command_groups.specs.declared.plan.Plan.{Plan}
+use Rattle.c_texts.specs.declared.memory.Range.{Range}
+use Rattle.c_texts.specs.Outcomes.{Outcome, with_texts}
+use Rattle.c_plans.specs.Records.{Recorded, records_of, without_records}
+use Rattle.c_steps.specs.declared.step_record.PlaceRecord.{PlaceRecord}
+use Rattle.c_steps.specs.declared.step_record.StepRecord.{StepRecord}
+use Rattle.c_steps.specs.declared.stepped.Extra.{Extra as HeldExtra}
+use Rattle.c_steps.specs.Places.{nowhere}
+use Rattle.c_steps.specs.Tools.{tool_of}
+
+-- what there is to know of a command beside its record: what it needs, its files, its tool, and why these aren't all files
+pub record Extra : Type 0 where
+  pub needs : List ℕ
+  pub files : CommandFiles
+  pub tool : ℕ
+  pub missing : ℕ
+
+-- the same, as the code holds it
+abbrev pub extra_seen : HeldExtra → Extra
+extra_seen e = record { needs = e.needs.now; files = e.files.now; tool = e.tool; missing = e.missing }
+
+-- Why the files of a command's words aren't all files of the compilation that it touches: 0 if they are. Else 1 says that the line of
+-- a device tool can't be read, 2 that a host compiler also reads headers, and 3 that it, or nvlink, also reads what its input includes,
+-- and libraries.
+abbrev pub missing_of : ℕ → Bool → Bool → ℕ
+missing_of tool complete preprocesses = if complete then 0 else if nat_le tool 2 then 1 else if preprocesses then 2 else 3
+
+-- the command with a number, given what each command needs: its files are those of its words
+abbrev pub extra_of : List (List ℕ) → ℕ → NvccGeneratedSubcommand → Extra
+extra_of needs id c =
+    let files = files_of_words c.exe c.args c.cwd in
+    let tool = tool_of c.exe in
+    record { needs = needs_at needs id; files = files; tool = tool; missing = missing_of tool files.complete (preprocesses c.args) }
+
+-- commands from a number on
+abbrev pub extras_from : List (List ℕ) → ℕ → List NvccGeneratedSubcommand → List Extra
+extras_from needs id [] = []
+extras_from needs id (c ∷ commands) = extra_of needs id c ∷ extras_from needs (id + 1) commands
+
+-- the commands of groups, in order
+abbrev pub commands_of : List (List NvccGeneratedSubcommand) → List NvccGeneratedSubcommand
+commands_of groups = flat_map (λ group. group) groups
+
+-- the commands of a plan's groups, in plan order: their files and needs are those of `command_files`, as in the JSON form
+abbrev pub extras_of : Plan → List Extra
+extras_of plan = extras_from (plan_needs plan) 0 (commands_of plan.groups)
+
+-- the texts of a command's files
+abbrev pub file_texts : Extra → List (List ℕ)
+file_texts e = e.files.reads ++ (e.files.writes ++ e.files.may_write)
+
+-- a command's record, if the first of these texts has this number, and if these numbers are its needs
+abbrev pub files_at : ℕ → Range → Extra → StepRecord
+files_at text needs e = record {
+  needs = needs;
+  reads = record { offset = text; length = length e.files.reads };
+  writes = record { offset = text + length e.files.reads; length = length e.files.writes };
+  may_write = record { offset = text + length e.files.reads + length e.files.writes; length = length e.files.may_write };
+  tool = e.tool;
+  missing = e.missing;
+}
+
+-- the same, if its first need is the one with this number
+abbrev pub step_at : ℕ → ℕ → Extra → StepRecord
+step_at text number e = files_at text (record { offset = number; length = length e.needs }) e
+
+-- the records of commands
+abbrev pub steps_at : ℕ → ℕ → List Extra → List StepRecord
+steps_at text number [] = []
+steps_at text number (e ∷ extras) = step_at text number e ∷ steps_at (text + length (file_texts e)) (number + length e.needs) extras
+
+-- what the call ends with: the place of a refusal, a plan's records, and what else there is to know of its commands
+pub record Stepped : Type 0 where
+  pub place : PlaceRecord
+  pub recorded : Recorded
+  pub steps : List StepRecord
+  pub numbers : List ℕ
+
+-- records alone
+abbrev pub of_recorded : Recorded → Stepped
+of_recorded recorded = record { place = nowhere; recorded = recorded; steps = []; numbers = [] }
+
+-- a refusal at a place
+abbrev pub refused_at : PlaceRecord → Outcome → Stepped
+refused_at place outcome = record { place = place; recorded = without_records outcome; steps = []; numbers = [] }
+
+-- records with further texts behind the others
+abbrev pub with_file_texts : Recorded → List (List ℕ) → Recorded
+with_file_texts recorded texts = (with_texts recorded.0 texts, recorded.1)
+
+-- records with what there is to know of a further command
+abbrev pub with_extra : Stepped → Extra → Stepped
+with_extra s e = record {
+  place = s.place;
+  recorded = with_file_texts s.recorded (file_texts e);
+  steps = s.steps ++ step_at (length s.recorded.0.1.0) (length s.numbers) e ∷ [];
+  numbers = s.numbers ++ e.needs;
+}
+
+-- the same of commands
+abbrev pub with_extras : Stepped → List Extra → Stepped
+with_extras s extras = record {
+  place = s.place;
+  recorded = with_file_texts s.recorded (flat_map file_texts extras);
+  steps = s.steps ++ steps_at (length s.recorded.0.1.0) (length s.numbers) extras;
+  numbers = s.numbers ++ flat_map (λ e. e.needs) extras;
+}
+
+-- a plan as records: those of `plan_records`, with the texts of files behind all others
+abbrev pub steps_of : PlanWithOrigins → Stepped
+steps_of planned = with_extras (of_recorded (records_of planned)) (extras_of planned.plan)

@@ -1,0 +1,208 @@
+//! A plan's records with what each command reads, writes and needs, and writing them into the caller's memory.
+
+ghost use Rattle.std.specs.Prelude.{◌≡◌, ◌++◌, [], true, IfOk, OnOk, length, map, string_bytes};
+ghost use Rattle.c_texts.specs.declared.status.Status.TheVariants.{Memory};
+ghost use Rattle.c_texts.specs.Memory.{fits, filled};
+ghost use Rattle.c_texts.specs.Outcomes.{refused, refused_with, with_texts};
+ghost use Rattle.c_texts.specs.Statuses.{text};
+ghost use Rattle.c_steps.specs.Places.{nowhere};
+ghost use Rattle.c_steps.specs.Steps as spec;
+ghost use Rattle.c_steps.specs.StepBuffers as buffers;
+
+use crate::place::nowhere;
+use crate::step_record::{PlaceRecord, StepRecord, StepsAnswer};
+use c_plans::{CommandRecord, GroupRecord, Recorded};
+use c_texts::{Outcome, Range, Status, tell_text};
+use command_files::CommandFiles;
+use std::alloc::{AllocError, Global};
+use std::marker::Model;
+
+/// The place of a refusal, a plan's records, and what else there is to know of its commands.
+#[derive(Drop)]
+pub(crate) struct Stepped {
+    place: PlaceRecord,
+    recorded: Recorded,
+    steps: Vec<StepRecord>,
+    numbers: Vec<usize>,
+}
+
+impl Model for Stepped {
+    ghost use Rattle.c_steps.specs.Steps.{Stepped};
+
+    ghost Value = { Stepped };
+
+    ghost view = { λ s. record { place = s.place; recorded = s.recorded; steps = s.steps.items; numbers = s.numbers.items } };
+}
+
+/// What there is to know of a command beside its record.
+#[derive(Clone, Copy)]
+pub(crate) struct Extra<'a> {
+    pub(crate) needs: &'a [usize],
+    pub(crate) files: &'a CommandFiles,
+    pub(crate) tool: u32,
+    pub(crate) missing: u32,
+}
+
+// Adds numbers, and says which elements of the list they are.
+fn push_numbers(numbers: &mut Vec<usize>, more: &[usize]) -> Result<Range, AllocError>
+    ensures numbers { OnOk result (numbers.new.items ≡ numbers.old.items ++ more.now) }
+    ensures range { IfOk result (λ range. range ≡ record { offset = length numbers.old.items; length = length more.now }) }
+{
+    let offset = numbers.len();
+    numbers.extend_from_slice(more)?;
+    Ok(Range {
+        offset,
+        length: more.len(),
+    })
+}
+
+// Adds the texts of a command's files, and makes its record, given which numbers are its needs.
+fn push_files(texts: &mut Outcome, needs: Range, extra: Extra<'_>) -> Result<StepRecord, AllocError>
+    ensures texts { OnOk result (texts.new ≡ with_texts texts.old (spec.file_texts (spec.extra_seen extra.entry))) }
+    ensures record { IfOk result (λ r. r ≡ spec.files_at (length texts.old.1.0) needs (spec.extra_seen extra.entry)) }
+{
+    let reads = texts.push_list(extra.files.reads.as_slice())?;
+    let writes = texts.push_list(extra.files.writes.as_slice())?;
+    let may_write = texts.push_list(extra.files.may_write.as_slice())?;
+    Ok(StepRecord {
+        needs,
+        reads,
+        writes,
+        may_write,
+        tool: extra.tool,
+        missing: extra.missing,
+    })
+}
+
+impl Stepped {
+    /// Records alone.
+    pub(crate) fn of_recorded(alloc: Global, recorded: Recorded) -> Stepped
+        ensures { result ≡ spec.of_recorded recorded }
+    {
+        Stepped {
+            place: nowhere(),
+            recorded,
+            steps: Vec::new(alloc),
+            numbers: Vec::new(alloc),
+        }
+    }
+
+    /// A refusal at a place.
+    pub(crate) fn refused_at(alloc: Global, place: PlaceRecord, outcome: Outcome) -> Stepped
+        ensures { result ≡ spec.refused_at place outcome }
+    {
+        Stepped {
+            place,
+            recorded: Recorded::of_outcome(alloc, outcome),
+            steps: Vec::new(alloc),
+            numbers: Vec::new(alloc),
+        }
+    }
+
+    /// How many commands there are so far.
+    pub(crate) fn count(&self) -> usize
+        ensures { result ≡ length self.now.steps }
+    {
+        self.steps.len()
+    }
+
+    /// Adds what there is to know of a command.
+    pub(crate) fn push(&mut self, extra: Extra<'_>) -> Result<(), AllocError>
+        ensures { OnOk result (self.new ≡ spec.with_extra self.old (spec.extra_seen extra.entry)) }
+    {
+        let needs = push_numbers(&mut self.numbers, extra.needs)?;
+        let record = push_files(&mut self.recorded.outcome, needs, extra)?;
+        self.steps.push(record)?;
+        Ok(())
+    }
+}
+
+// Writes a list into memory of the caller, if all of an answer fits.
+fn put<T: Copy>(all: bool, items: &[T], memory: &mut [T])
+    requires { all ≡ true → fits items.now memory.now ≡ true }
+    ensures { memory.new ≡ filled all items.now memory.old }
+{
+    if all {
+        memory[..items.len()].copy_from_slice(items);
+    }
+}
+
+// Writes all parts of an answer into memory of the caller, if all fit.
+fn tell_steps(
+    stepped: &Stepped,
+    groups: &mut [GroupRecord],
+    commands: &mut [CommandRecord],
+    steps: &mut [StepRecord],
+    numbers: &mut [usize],
+    ranges: &mut [Range],
+    out: &mut [u8],
+) -> StepsAnswer
+    ensures { buffers.TellsSteps stepped.now result
+        (record { groups = groups.old; commands = commands.old; steps = steps.old; numbers = numbers.old; ranges = ranges.old; bytes = out.old })
+        (record { groups = groups.new; commands = commands.new; steps = steps.new; numbers = numbers.new; ranges = ranges.new; bytes = out.new }) }
+{
+    let recorded = &stepped.recorded;
+    let places = recorded.outcome.ranges();
+    let text = recorded.outcome.text().as_bytes();
+    let all = recorded.groups.len() <= groups.len()
+        && recorded.commands.len() <= commands.len()
+        && stepped.steps.len() <= steps.len()
+        && stepped.numbers.len() <= numbers.len()
+        && places.len() <= ranges.len()
+        && text.len() <= out.len();
+    put(all, recorded.groups.as_slice(), groups);
+    put(all, recorded.commands.as_slice(), commands);
+    put(all, stepped.steps.as_slice(), steps);
+    put(all, stepped.numbers.as_slice(), numbers);
+    put(all, places, ranges);
+    put(all, text, out);
+    StepsAnswer {
+        status: recorded.outcome.status(),
+        place: stepped.place,
+        groups: recorded.groups.len(),
+        commands: recorded.commands.len(),
+        steps: stepped.steps.len(),
+        numbers: stepped.numbers.len(),
+        ranges: places.len(),
+        length: text.len(),
+    }
+}
+
+// Tells the caller that an allocation failed: writes the message, if it fits.
+fn tell_memory(out: &mut [u8]) -> StepsAnswer
+    ensures answer { result ≡ buffers.sizes_of (spec.refused_at nowhere (refused Memory)) }
+    ensures text { out.new ≡ filled (fits (text Memory) out.old) (text Memory) out.old }
+{
+    let told = tell_text(Status::Memory.number(), Status::Memory.text(), out);
+    StepsAnswer {
+        status: told.status,
+        place: nowhere(),
+        groups: 0,
+        commands: 0,
+        steps: 0,
+        numbers: 0,
+        ranges: 0,
+        length: told.length,
+    }
+}
+
+/// Tells the caller a plan as records or a refusal, or that an allocation failed.
+pub(crate) fn give_steps(
+    outcome: Result<Stepped, AllocError>,
+    groups: &mut [GroupRecord],
+    commands: &mut [CommandRecord],
+    steps: &mut [StepRecord],
+    numbers: &mut [usize],
+    ranges: &mut [Range],
+    out: &mut [u8],
+) -> StepsAnswer
+    ensures { (expected : spec.Stepped) → IfOk outcome (λ stepped. stepped ≡ expected)
+        → buffers.GivesSteps expected result
+        (record { groups = groups.old; commands = commands.old; steps = steps.old; numbers = numbers.old; ranges = ranges.old; bytes = out.old })
+        (record { groups = groups.new; commands = commands.new; steps = steps.new; numbers = numbers.new; ranges = ranges.new; bytes = out.new }) }
+{
+    match outcome {
+        Ok(stepped) => tell_steps(&stepped, groups, commands, steps, numbers, ranges, out),
+        Err(_) => tell_memory(out),
+    }
+}

@@ -1,0 +1,324 @@
+/* Plans for programs that run them: small ones, refusals with their places, and the plans of dry runs in files: `steps FOLDER NAME..`
+ * compares all that a plan says with its JSON form, and its first parts with those of zigrunk_plan_records. */
+#include "cursor.h"
+#include "records.h"
+#include "steps.h"
+
+static const char run1[] = "#$ PATH=/b:/c\n#$ gcc -D__NVCC__ -E k.cu -o k.cpp1.ii\n#$ rm k.o\n"
+                           "#$ cicc --gen_module_id_file --module_id_file_name m k.cpp1.ii -o k.ptx\n#$ ptxas k.ptx -o k.cubin\n"
+                           "#$ nvlink -o j.o\n";
+static const char run2[] = "#$ PATH=/b:/c\n#$ gcc -D__NVCC__ -E k.cu -o /t/k.cpp1.ii\n#$ rm \"k\\\\\\\"\" ''\n"
+                           "#$ cicc\n#$ ptxas\n#$ ar j.a\n";
+
+static zigrunk_found_program rows[6];
+
+static zigrunk_plan_call small_call(void) {
+    static const char *const names[] = {"gcc", "cicc", "rm", "ptxas", "nvlink", "ar"};
+    static char found[6][16];
+    for (int i = 0; i < 6; i++) {
+        snprintf(found[i], sizeof found[i], "/b/%s", names[i]);
+        rows[i] = row(names[i], "/b:/c", found[i]);
+    }
+    zigrunk_plan_call call = call_of(text_of(run1), text_of(run2), "-c");
+    call.programs = rows;
+    call.programs_count = 6;
+    return call;
+}
+
+/* The texts of a range, as an array of strings. */
+static void next_strings(cursor *c, const stepped *s, zigrunk_range texts) {
+    next_text(c, "[");
+    for (size_t i = 0; i < texts.length; i++) {
+        next_text(c, i > 0 ? "," : "");
+        next_string(c, step_text(s, texts.offset + i));
+    }
+    next_text(c, "]");
+}
+
+static void next_variables(cursor *c, const stepped *s, zigrunk_range texts) {
+    next_text(c, "[");
+    for (size_t i = 0; i < texts.length; i += 2) {
+        zigrunk_range pair = {texts.offset + i, 2};
+        next_text(c, i > 0 ? "," : "");
+        next_strings(c, s, pair);
+    }
+    next_text(c, "]");
+}
+
+static void next_needs(cursor *c, const stepped *s, zigrunk_range needs) {
+    next_text(c, "[");
+    for (size_t i = 0; i < needs.length; i++) {
+        next_text(c, i > 0 ? "," : "");
+        next_number(c, number_of(s, needs.offset + i));
+    }
+    next_text(c, "]");
+}
+
+static void next_member_number(cursor *c, const char *name, size_t number) {
+    next_text(c, name);
+    next_number(c, number);
+}
+
+/* A command of a group: its whole object. */
+static void next_command(cursor *c, const stepped *s, size_t id) {
+    const zigrunk_command *command = command_of(s, id);
+    const zigrunk_step *step = step_of(s, id);
+    next_text(c, id > 0 ? ",{\"args\":" : "{\"args\":");
+    next_strings(c, s, command->arguments);
+    next_text(c, command->cacheable ? ",\"cacheable\":true,\"complete\":" : ",\"cacheable\":false,\"complete\":");
+    next_text(c, step->missing == ZIGRUNK_NONE_MISSING ? "true,\"cwd\":" : "false,\"cwd\":");
+    next_string(c, step_text(s, command->cwd));
+    next_text(c, ",\"env\":");
+    next_variables(c, s, command->variables);
+    next_text(c, ",\"exe\":");
+    next_string(c, step_text(s, command->program));
+    next_member_number(c, ",\"group\":", command->group);
+    next_member_number(c, ",\"id\":", id);
+    next_member_number(c, ",\"line\":", command->line + 1);
+    next_text(c, ",\"may_write\":");
+    next_strings(c, s, step->may_write);
+    next_text(c, ",\"needs\":");
+    next_needs(c, s, step->needs);
+    next_text(c, ",\"reads\":");
+    next_strings(c, s, step->reads);
+    next_member_number(c, ",\"run\":", command->run);
+    next_text(c, ",\"writes\":");
+    next_strings(c, s, step->writes);
+    next_text(c, "}");
+}
+
+/* The groups, commands, ranges and texts begin as those of the same plan without steps. */
+static void check_records(const zigrunk_plan_call *call, const stepped *s) {
+    records r = plan_records(call);
+    CHECK(r.sizes.status == ZIGRUNK_OK && r.sizes.groups == s->sizes.groups && r.sizes.commands == s->sizes.commands);
+    CHECK(r.sizes.ranges <= s->sizes.ranges && r.sizes.length <= s->sizes.length);
+    CHECK(memcmp(r.groups, s->parts[0], r.sizes.groups * sizeof *r.groups) == 0);
+    CHECK(memcmp(r.commands, s->parts[1], r.sizes.commands * sizeof *r.commands) == 0);
+    CHECK(memcmp(r.ranges, s->parts[4], r.sizes.ranges * sizeof *r.ranges) == 0);
+    CHECK(memcmp(r.out, s->parts[5], r.sizes.length) == 0);
+    release_records(r);
+}
+
+/* A command's tool is that of its program's name, and it may have a reason for more files only if the tool can have it. */
+static void check_tool(const stepped *s, size_t id) {
+    static const char *const names[] = {"/cicc", "/ptxas", "/cudafe++", "", "", "", "/fatbinary", "/nvlink"};
+    zigrunk_text program = step_text(s, command_of(s, id)->program);
+    uint32_t tool = step_of(s, id)->tool, missing = step_of(s, id)->missing;
+    const char *end = tool < 8 ? names[tool] : "";
+    CHECK(tool <= ZIGRUNK_TOOL_HOST && (tool < 3 || tool > 5) && missing <= ZIGRUNK_INPUTS_MISSING);
+    CHECK(program.length >= strlen(end) && memcmp(program.bytes + program.length - strlen(end), end, strlen(end)) == 0);
+    CHECK(tool < 3 ? missing <= ZIGRUNK_UNREAD_MISSING : missing != ZIGRUNK_UNREAD_MISSING);
+    CHECK((tool == ZIGRUNK_TOOL_FATBINARY) <= (missing == ZIGRUNK_NONE_MISSING));
+}
+
+/* Compares a plan with its JSON form, from the first byte to the end of its commands. */
+static void check_against_json(const zigrunk_plan_call *call) {
+    stepped s = plan_steps(call);
+    answer json = plan(call, ZIGRUNK_JSON);
+    CHECK(s.sizes.status == ZIGRUNK_OK && json.status == ZIGRUNK_OK);
+    CHECK(s.sizes.place.run == 0 && s.sizes.place.line == 0 && s.sizes.place.field == ZIGRUNK_NO_FIELD);
+    cursor c = {(const char *)json.out, json.length};
+    next_text(&c, "{\"commands\":[");
+    for (size_t i = 0; i < s.sizes.steps; i++) {
+        CHECK(command_of(&s, i)->reason == ZIGRUNK_IN_GROUP);
+        next_command(&c, &s, i);
+        check_tool(&s, i);
+    }
+    next_text(&c, "],\"cwd\":");
+    for (size_t i = s.sizes.steps; i < s.sizes.commands; i++) {
+        CHECK(command_of(&s, i)->reason != ZIGRUNK_IN_GROUP);
+    }
+    check_records(call, &s);
+    release(json);
+    release_steps(s);
+}
+
+static int step_text_is(const stepped *s, zigrunk_range texts, size_t index, const char *text) {
+    zigrunk_text found = step_text(s, texts.offset + index);
+    return index < texts.length && found.length == strlen(text) && memcmp(found.bytes, text, found.length) == 0;
+}
+
+static void check_small_plan(void) {
+    zigrunk_plan_call call = small_call();
+    stepped s = plan_steps(&call);
+    CHECK(s.sizes.status == ZIGRUNK_OK && s.sizes.groups == 3 && s.sizes.commands == 6 && s.sizes.steps == 4);
+    const zigrunk_step *gcc = step_of(&s, 0), *cicc = step_of(&s, 1), *ptxas = step_of(&s, 2), *nvlink = step_of(&s, 3);
+    CHECK(gcc->tool == ZIGRUNK_TOOL_HOST && gcc->missing == ZIGRUNK_HEADERS_MISSING && gcc->needs.length == 0);
+    CHECK(step_text_is(&s, gcc->reads, 0, "/w/k.cu") && step_text_is(&s, gcc->writes, 0, "/t/x_0.cpp1.ii"));
+    CHECK(cicc->tool == ZIGRUNK_TOOL_CICC && cicc->missing == ZIGRUNK_NONE_MISSING);
+    CHECK(cicc->needs.length == 1 && number_of(&s, cicc->needs.offset) == 0);
+    CHECK(cicc->reads.length == 2 && step_text_is(&s, cicc->reads, 0, "/t/x_0.cpp1.ii") && step_text_is(&s, cicc->reads, 1, "/t/m"));
+    CHECK(step_text_is(&s, cicc->writes, 0, "/t/k.ptx") && cicc->may_write.length == 0);
+    CHECK(ptxas->tool == ZIGRUNK_TOOL_PTXAS && ptxas->needs.length == 1 && number_of(&s, ptxas->needs.offset) == 1);
+    CHECK(nvlink->tool == ZIGRUNK_TOOL_NVLINK && nvlink->missing == ZIGRUNK_INPUTS_MISSING && nvlink->needs.length == 3);
+    release_steps(s);
+    check_against_json(&call);
+    /* without -c, cicc keeps the word that makes it write the module id */
+    call.flag = text_of("-fatbin");
+    s = plan_steps(&call);
+    CHECK(step_of(&s, 1)->may_write.length == 1 && step_text_is(&s, step_of(&s, 1)->may_write, 0, "/t/m"));
+    release_steps(s);
+    check_against_json(&call);
+}
+
+/* Its message alone is written, and it says where. */
+static void refuses(const zigrunk_plan_call *call, int32_t status, uint32_t field, size_t line, const char *message) {
+    stepped s = plan_steps(call);
+    CHECK(s.sizes.status == status && s.sizes.place.field == field && s.sizes.place.line == line);
+    CHECK(s.sizes.place.run == (line > 0 ? field : 0) && s.sizes.groups == 0 && s.sizes.commands == 0 && s.sizes.steps == 0);
+    CHECK(s.sizes.numbers == 0 && s.sizes.ranges == 0);
+    CHECK(s.sizes.length == strlen(message) && memcmp(s.parts[5], message, s.sizes.length) == 0);
+    release_steps(s);
+}
+
+static void check_bad_fields(void) {
+    static const zigrunk_text bad = {(const uint8_t *)"a\xFF", 2};
+    static const char not_utf8[] = "a text is not UTF-8", bad_number[] = "a number has no meaning";
+    zigrunk_plan_call call = small_call();
+    zigrunk_variable variables[] = {{text_of("A"), text_of("1")}, {text_of("B"), bad}};
+    rows[1].found = bad;
+    refuses(&call, ZIGRUNK_NOT_UTF8, ZIGRUNK_FIELD_PROGRAMS, 0, not_utf8);
+    call.variables = variables;
+    call.variables_count = 2;
+    refuses(&call, ZIGRUNK_NOT_UTF8, ZIGRUNK_FIELD_VARIABLES, 0, not_utf8);
+    call.suffixes = &bad;
+    call.suffixes_count = 1;
+    refuses(&call, ZIGRUNK_NOT_UTF8, ZIGRUNK_FIELD_SUFFIXES, 0, not_utf8);
+    call.keep_dir = bad;
+    refuses(&call, ZIGRUNK_NOT_UTF8, ZIGRUNK_FIELD_KEEP_DIR, 0, not_utf8);
+    call.flag = bad;
+    refuses(&call, ZIGRUNK_NOT_UTF8, ZIGRUNK_FIELD_FLAG, 0, not_utf8);
+    call.tmp = bad;
+    refuses(&call, ZIGRUNK_NOT_UTF8, ZIGRUNK_FIELD_TMP, 0, not_utf8);
+    call.cwd = bad;
+    refuses(&call, ZIGRUNK_NOT_UTF8, ZIGRUNK_FIELD_CWD, 0, not_utf8);
+    rows[2].reserved = 1;
+    refuses(&call, ZIGRUNK_BAD_NUMBER, ZIGRUNK_FIELD_PROGRAMS, 0, bad_number);
+    call.keeps = 2;
+    refuses(&call, ZIGRUNK_BAD_NUMBER, ZIGRUNK_FIELD_KEEPS, 0, bad_number);
+    call.host_compiler = ZIGRUNK_NVHPC + 1;
+    refuses(&call, ZIGRUNK_BAD_NUMBER, ZIGRUNK_FIELD_HOST_COMPILER, 0, bad_number);
+}
+
+static void check_bad_runs(void) {
+    zigrunk_plan_call call = small_call();
+    zigrunk_text suffixes[] = {text_of(".x"), text_of("y")};
+    static const size_t none[PARTS];
+    char message[100];
+    for (size_t line = 0; line < 4 && call.limit < 1 << 16;) {
+        call.limit += 16;
+        stepped s = call_steps(&call, none);
+        line = s.sizes.place.line;
+        release_steps(s);
+    }
+    snprintf(message, sizeof message, "dry run 1, line 4: with this line, the dry run makes over %zu bytes", call.limit);
+    refuses(&call, ZIGRUNK_OVER_LIMIT, ZIGRUNK_FIELD_DRY1, 4, message);
+    call.limit = 0;
+    call.programs_count = 5;
+    refuses(&call, ZIGRUNK_NOT_FOUND, ZIGRUNK_FIELD_DRY2, 6, "dry run 2, line 6: cannot find ar");
+    call.programs_count = 2;
+    refuses(&call, ZIGRUNK_NOT_FOUND, ZIGRUNK_FIELD_DRY1, 3, "dry run 1, line 3: cannot find rm");
+    call = small_call();
+    call.dry2 = text_of("#$ PATH=/b:/c\n#$ gcc\n\n\xFF\n");
+    refuses(&call, ZIGRUNK_BAD_DRY_RUN, ZIGRUNK_FIELD_DRY2, 4, "dry run 2, line 4: the line isn't UTF-8");
+    call.dry2 = text_of("#$ PATH=/b:/c\n#$ gcc 'a\n");
+    refuses(&call, ZIGRUNK_BAD_DRY_RUN, ZIGRUNK_FIELD_DRY2, 2,
+        "dry run 2, line 2: the command has an open quote or ends in a backslash");
+    call.dry2 = text_of("#$ PATH=/b:/c\n#$ # note\n");
+    refuses(&call, ZIGRUNK_BAD_DRY_RUN, ZIGRUNK_FIELD_DRY2, 2, "dry run 2, line 2: the command has no words");
+    call.dry1 = text_of("#$ gcc x\n");
+    refuses(&call, ZIGRUNK_BAD_DRY_RUN, ZIGRUNK_FIELD_DRY1, 1, "dry run 1, line 1: no line before this one sets PATH");
+    call.suffixes = suffixes;
+    call.suffixes_count = 2;
+    refuses(&call, ZIGRUNK_BAD_SUFFIXES, ZIGRUNK_FIELD_SUFFIXES, 0, "bad generated suffixes");
+}
+
+static void check_no_dry_runs(void) {
+    static const char *const flags[] = {"", "-c", "--compile", "-dc", "--device-c", "-dw", "--device-w", "-ptx", "--ptx", "-cubin", "--cubin",
+        "-fatbin", "--fatbin", "-optix-ir", "--optix-ir"};
+    static const char *const no_flags[] = {"c", "-C", "-c ", " -c", "-E", "-dlink", "--compiler", "k.cu"};
+    static const char *const texts[] = {"", "hello", "x #$ gcc\n", "#$gcc\n", " #$ gcc\n", "#$\n", "\xFF"};
+    zigrunk_plan_call call = small_call();
+    for (size_t i = 0; i < sizeof flags / sizeof *flags; i++) {
+        call.flag = text_of(flags[i]);
+        check_against_json(&call);
+    }
+    for (size_t i = 0; i < sizeof no_flags / sizeof *no_flags; i++) {
+        call.flag = text_of(no_flags[i]);
+        refuses(&call, ZIGRUNK_NO_DRY_RUN, ZIGRUNK_FIELD_FLAG, 0, "the flag isn't an option that says what nvcc makes");
+    }
+    /* as nvcc prints for a C source, of which it generates no file */
+    call.flag = text_of("-c");
+    call.dry2 = call.dry1;
+    check_against_json(&call);
+    for (size_t i = 0; i < sizeof texts / sizeof *texts; i++) {
+        call.dry2 = text_of(texts[i]);
+        refuses(&call, ZIGRUNK_NO_DRY_RUN, ZIGRUNK_FIELD_DRY2, 0, "the second text is no dry run: no line begins with \"#$ \"");
+    }
+    for (size_t i = 0; i < sizeof texts / sizeof *texts; i++) {
+        call.dry1 = text_of(texts[i]);
+        refuses(&call, ZIGRUNK_NO_DRY_RUN, ZIGRUNK_FIELD_DRY1, 0, "the first text is no dry run: no line begins with \"#$ \"");
+    }
+    call = small_call();
+    call.dry1 = text_of("#$ PATH=/b:/c\n");
+    call.dry2 = text_of("#$ PATH=/b:/c\n#$ rm k\n");
+    refuses(&call, ZIGRUNK_NO_DRY_RUN, ZIGRUNK_NO_FIELD, 0, "the plan has no command");
+}
+
+/* Lines of random words: each answer has the sizes that its records and ranges say, or is refused with the JSON form's status. */
+static void check_random_plans(size_t rounds) {
+    static const char *const words[] = {"gcc", "cicc", "ptxas", "-E", "-D__NVCC__", "k.cpp1.ii", "/t/k.ptx", "-o", "'", "\"a b\"",
+        "\n#$ ", "\n#$ PATH=/b:/c\n#$ ", "\xFF", "rm", "nvlink", "--module_id_file_name", "j.cpp1.ii", "\\"};
+    for (size_t i = 0; i < rounds; i++) {
+        char text[2][512] = {"#$ PATH=/b:/c\n#$ ", "#$ PATH=/b:/c\n#$ "};
+        for (int run = 0; run < 2; run++) {
+            for (size_t left = random_below(24); left > 0; left--) {
+                strcat(text[run], words[random_below(sizeof words / sizeof *words)]);
+                strcat(text[run], " ");
+            }
+        }
+        zigrunk_plan_call call = small_call();
+        call.dry1 = text_of(text[0]);
+        call.dry2 = text_of(text[1]);
+        int32_t json = zigrunk_plan(&call, ZIGRUNK_JSON, (uint8_t *)"", 0).status;
+        stepped s = plan_steps(&call);
+        CHECK(s.sizes.status == json || s.sizes.status == ZIGRUNK_NO_DRY_RUN);
+        CHECK((s.sizes.place.line > 0) == (json != ZIGRUNK_OK && s.sizes.status != ZIGRUNK_NO_DRY_RUN));
+        if (s.sizes.status == ZIGRUNK_OK) {
+            check_against_json(&call);
+        }
+        release_steps(s);
+    }
+}
+
+/* Many commands: no size is fixed. */
+static void check_long_plan(void) {
+    zigrunk_text dry = repeated("#$ PATH=/b\n", "#$ cicc k.cpp1.ii -o k.ptx\n#$ nvlink a -o c\n", 300);
+    zigrunk_found_program found[] = {row("cicc", "/b", "/b/cicc"), row("nvlink", "/b", "/b/nvlink")};
+    zigrunk_plan_call call = call_of(dry, text_of("#$ PATH=/b\n"), "-c");
+    call.programs = found;
+    call.programs_count = 2;
+    check_against_json(&call);
+    free((void *)dry.bytes);
+}
+
+/* The plan of the dry runs in files. */
+static void check_files(const char *folder, const char *name) {
+    planned_files files = files_of(folder, name);
+    check_against_json(&files.call);
+    release_files(files);
+}
+
+int main(int count, char **arguments) {
+    size_t rounds = count > 1 ? (size_t)atoi(arguments[1]) : 1000;
+    check_small_plan();
+    check_bad_fields();
+    check_bad_runs();
+    check_no_dry_runs();
+    check_long_plan();
+    check_random_plans(rounds);
+    for (int i = 3; i < count; i++) {
+        check_files(arguments[2], arguments[i]);
+    }
+    return report();
+}
