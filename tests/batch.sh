@@ -61,7 +61,7 @@ esac
 END
 cat > "$scratch/bin/nvcc" << 'END'
 #!/bin/sh
-case $* in *--dryrun*) echo '#$ cicc' >&2 && exit ;; esac
+case $* in *--dryrun*) eval "${DRY_RUN-}"; echo '#$ cicc' >&2 && exit ;; esac
 line=nvcc
 for word; do line="$line [$word]"; done
 printf '%s\n' "$line" >> "$LOG"
@@ -80,6 +80,7 @@ END
 printf '%s\n' '#!/bin/sh' 'printf "%s\n" "runner $*" >> "$LOG"' 'exec "$@"' > "$scratch/bin/runner"
 printf '%s\n' '#!/bin/sh' 'while [ "$#" -gt 0 ] && [ "$1" != -o ]; do shift; done' '[ -n "${LOSE-}" ] || [ "$#" = 0 ] || echo made > "$2"' > "$scratch/bin/gcc"
 chmod +x "$scratch"/bin/*
+for name in gcc-12 g++ g++-12 clang clang-14 clang++-14 cc; do ln -s gcc "$scratch/bin/$name"; done
 mkdir "$scratch/opt" && ln -s ../bin/nvcc "$scratch/opt/nvcc"
 export PATH=$scratch/bin:$PATH
 
@@ -98,6 +99,11 @@ batch() {
     : > "$room/log"
     env LOG="$room/log" TMPDIR="$room/tmp" "${settings[@]}" "${shell[@]}" "$script" "$@" > "$room/out" 2> "$room/err" <<< "${list-}"
     status=$?
+}
+
+# lacks WHAT TEXT: a problem if a message has this text.
+lacks() {
+    ! grep -qF -e "$2" "$room/err" || problems+="  $1: '$2' is in '$(cat "$room/err")'"$'\n'
 }
 
 # logged PATTERN: how many lines of the log match.
@@ -189,6 +195,9 @@ lists() {
     list="[{\"directory\": \"$room/work\", \"file\": \"a.cu\", \"command\": \"nvcc -c a.cu\"}, {\"directory\": \"sub\", \"file\": \"a.cu\", \"command\": \"gcc -c a.c -o ../a.o\"}]"
     batch
     same 'status and messages, entries' "$status $(cat "$room/err")" "1 zigrunk-batch: entries 1 and 2 make one file: $room/work/a.o"
+    list=$(printf -- '-c a.cu -o %s.o\n' 1 2 3 4 5 6 7 8 0 0)
+    batch
+    same 'status and messages, ten lines' "$status $(cat "$room/err")" "1 zigrunk-batch: lines 9 and 10 make one file: $room/work/0.o"
     [ ! -e made ] || problems+='  a command runs'$'\n'
     end
 
@@ -300,6 +309,42 @@ products() {
         end
     done
 
+    for compiler in gcc-12 g++ g++-12 clang clang-14 clang++-14 cc "$scratch/bin/cc"; do
+        begin "a product of $compiler"
+        list="$compiler -c a.c -o p"
+        batch LOSE=1
+        lost 'none is there' p
+        end
+    done
+
+    begin "products that the environment doesn't name"
+    write a.cu ':'
+    write 'a\b.cu' ':'
+    list='-c a.cu'
+    batch LOSE=1 output=p
+    lost 'a variable' a.o
+    batch LOSE=1 NVCC_APPEND_FLAGS='-DA -o p'
+    lost "nvcc's variable" p
+    list="-c 'a\\b.cu'"
+    batch LOSE=1
+    lost 'a backslash' 'a\b.o'
+    end
+
+    # busybox takes its own sleep, whatever is on the path
+    if [ "${shell[0]}" != busybox ]; then
+        begin 'a product of this machine is not waited for'
+        mkdir "$room/bin"
+        printf '%s\n' '#!/bin/sh' 'echo "sleep $*" >> "$LOG"' > "$room/bin/sleep" && chmod +x "$room/bin/sleep"
+        list='gcc -c a.c -o p'
+        batch LOSE=1 PATH="$room/bin:$PATH"
+        lost 'none is there' p
+        same sleeps "$(logged '^sleep')" 0
+        batch LOSE=1 PATH="$room/bin:$PATH" ZIGRUNK_RUNNER=env
+        lost 'none is there, by a runner' p
+        same 'sleeps with a runner' "$(logged '^sleep')" 2
+        end
+    fi
+
     begin 'products of several sources'
     write whole.cu ':'
     write b.cu ':'
@@ -374,6 +419,7 @@ failures() {
     batch
     same 'status and output' "$status $(cat "$room/out")" $'2 a\na'
     same 'messages that name the line' "$(grep '^zigrunk' "$room/err")" "zigrunk-batch: line 5: exit status 2: -c 'b.cu"
+    lacks 'no plan' '5.plan'
     same 'calls of nvcc' "$(logged '^nvcc ')" 0
     end
 
@@ -405,13 +451,29 @@ failures() {
     list='-c a.cu -o a.o'
     batch ZIGRUNK_NINJA="$room/broken"
     same 'status and messages' "$status $(cat "$room/err")" '1 zigrunk-batch: ninja: fatal: no'
+    printf '%s\n' '#!/bin/sh' 'case $* in *planning*) exec ninja "$@" ;; esac' 'printf "ninja: fatal: %s\n" "$(head -c 1000 /dev/zero | tr "\\0" x)"; exit 1' > "$room/broken"
+    batch ZIGRUNK_NINJA="$room/broken"
+    same 'the length of a long message' "$(wc -c < "$room/err")" 216
+    end
+
+    begin 'closed streams'
+    write a.cu 'echo a'
+    write whole.cu 'exit 3'
+    printf '%s\n' '-c a.cu -o a.o' '-c whole.cu -o w.o' > list
+    env LOG="$room/log" TMPDIR="$room/tmp" "${shell[@]}" "$script" list 2> "$room/err" >&-
+    same 'status and messages, standard output' "$? $(cat "$room/err")" '3 zigrunk-batch: line 2: exit status 3: -c whole.cu -o w.o'
+    env LOG="$room/log" TMPDIR="$room/tmp" "${shell[@]}" "$script" list > "$room/out" 2>&-
+    same 'status and output, standard error' "$? $(cat "$room/out")" '3 a'
     end
 
     begin 'wrong usage'
-    for words in 'one two' -x '-j' '-j 0' '-j x' '-k -1' '-k 01' '-jx' '--version1'; do
+    for words in 'one two:one list at a time, not two too' '-x:unexpected option -x' '-j:-j needs a number' '-j 0:-j needs a number from 1, not 0' \
+        '-j x:-j needs a number from 1, not x' '-k -1:-k needs a number from 1, not -1' '-k 01:-k needs a number from 1, not 01' \
+        '-jx:-j needs a number from 1, not x' '--version1:unexpected option --version1'; do
         # shellcheck disable=SC2086 # several words
-        batch $words
-        same "status and messages, $words" "$status $(cat "$room/err")" '2 usage: zigrunk-batch [-j N] [-k N] [--progress] [FILE]'
+        batch ${words%:*}
+        same "status and messages, $words" "$status $(cat "$room/err")" \
+            "2 zigrunk-batch: ${words##*:}"$'\n''usage: zigrunk-batch [-j N] [-k N] [--progress] [FILE]'
     done
     for word in -h --help; do
         batch "$word"
@@ -451,6 +513,9 @@ failures() {
     same 'status and output' "$status$(cat "$room/out")" 0
     same messages "$(sed 's/commands: -c .*\.o$/commands: CALL/' "$room/err" | grep -v '^zigrunk-batch: \(plans 1 of 2$\|[1234] of 5 \)')" $'zigrunk-batch: plans 2 of 2\nzigrunk-batch: 5 of 5 commands: CALL'
     same 'the call that runs' "$(grep -o 'commands: -c a.cu -o a.o' "$room/err" | sort -u)" 'commands: -c a.cu -o a.o'
+    list='-c a.cu -o a.o'
+    batch DRY_RUN='sleep 0.6' --progress
+    same 'messages while nothing has ended' "$(head -n 1 "$room/err")" 'zigrunk-batch: plans 1 of 1'
     end
 }
 
@@ -469,6 +534,13 @@ END
     same output "$(cat "$room/out")" "a in $room/work/o dd"$'\n'"b in $room/work/sub"$'\nother *'
     same messages "$(cat "$room/err")" 'zigrunk-batch: entry 2: exit status 6: b.cu'
     same words "$(logged '\[a b.cu\] \[-DQ=\*;x\] \[-o\]')$(logged '\[-DT=two$')" 22
+    end
+
+    begin 'a compile_commands.json with bytes that are no text'
+    write a.cu 'echo a'
+    printf '[{"directory": ".", "file": "a\377", "command": "nvcc -c a.cu -DA=\377 -o a.o"}]' > compile_commands.json
+    batch LC_ALL=C compile_commands.json
+    same 'status, output and words' "$status $(cat "$room/out" "$room/err") $(LC_ALL=C grep -c $'calls.*\[-DA=\377\]' "$room/log")" '0 a 1'
     end
 
     begin 'a compile_commands.json on standard input'
@@ -607,7 +679,7 @@ stops() {
     printf '%s\n' '-c a.cu -o a.o' '-c whole.cu -o w.o' > list
     if [ "$3" = plans ]; then
         mkdir "$room/bin"
-        printf '%s\n' '#!/bin/sh' 'echo started >> "$STARTED"' 'sleep 30' > "$room/bin/nvcc"
+        printf '%s\n' '#!/bin/sh' 'trap "sleep 0.5; ls -d \"\$ZIGRUNK_BATCH\" >> \"\$STARTED.there\"; exit 143" HUP INT TERM' 'echo started >> "$STARTED"' 'sleep 30 &' wait > "$room/bin/nvcc"
         chmod +x "$room/bin/nvcc"
         rm whole.cu && printf '%s\n' '-c a.cu -o a.o' > list
     fi
@@ -622,6 +694,7 @@ stops() {
     [ $((${EPOCHREALTIME/./} - ${begun/./})) -lt 10000000 ] || problems+='  it takes ten seconds'$'\n'
     within 10 none_run || problems+="  processes: $(pgrep -af "$room")"$'\n'
     [ ! -e made ] || problems+='  a command goes on'$'\n'
+    [ "$3" != plans ] || same 'calls that end while the batch has its directory' "$(wc -l < started.there)" 1
     end
 }
 

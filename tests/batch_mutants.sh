@@ -21,7 +21,7 @@ try() {
     fi
     printf '%s\n' "${text/"$2"/$3}" > "$file"
     chmod +x "$file"
-    if SHELLS=${SHELLS-dash} STOP_EARLY=1 tests/batch.sh "$file" > "$scratch/said" 2>&1; then
+    if SHELLS=${SHELLS-dash} STOP_EARLY=1 timeout 900 tests/batch.sh "$file" > "$scratch/said" 2>&1; then
         count "$1" 'no test fails'
     else
         count "$1" ''
@@ -33,6 +33,45 @@ SHELLS=${SHELLS-dash} tests/batch.sh || exit 1
 while IFS= read -r name && IFS= read -r old && IFS= read -r new; do
     [[ $name$old$new != *"$only"* ]] || try "$name" "${old#old: }" "${new#new: }"
 done << 'END'
+it tells how many of none
+old: [ -n "$count" ] && [ "$1 $count
+new: [ "$1 $count
+the output comes from the environment
+old: output='' before='' suffix=''
+new: before='' suffix=''
+a backslash in a source's name is lost
+old: while IFS= read -r source
+new: while IFS= read source
+a call that this machine makes waits for its product
+old: [ -n "${ZIGRUNK_RUNNER-}" ] && [ "$look" != 3 ] || break
+new: [ "$look" != 3 ] || break
+a message if a plan is missing
+old: IFS= read -r plan 2> /dev/null < "$batch/$number.plan" || continue
+new: IFS= read -r plan < "$batch/$number.plan" || continue
+standard output may be closed
+old: [ -e /proc/self/fd/1 ] || exec > /dev/null
+new: 
+bytes of a database are characters
+old: with open(path, encoding="utf-8", errors="surrogateescape") as file:
+new: with open(path, encoding="utf-8") as file:
+two calls of one file in the order of texts
+old: sed 's,^\./\([0-9]*\)\.product:,\1 ,' | sort -n |
+new: sed 's,^\./\([0-9]*\)\.product:,\1 ,' | sort |
+clang is no compiler
+old:  | *clang | *clang-[0-9]*) kind=compiler
+new: ) kind=compiler
+a compiler with a version is none
+old: *gcc | *gcc-[0-9]* | *++ | *++-[0-9]* |
+new: *gcc | *++ |
+messages of Ninja of any length
+old:  | cut -c 1-200)"
+new: )"
+what NVCC_APPEND_FLAGS names has no product
+old: outputs ${NVCC_PREPEND_FLAGS-} "$@" ${NVCC_APPEND_FLAGS-}
+new: outputs ${NVCC_PREPEND_FLAGS-} "$@"
+Ninja thinks that a planning call has ended at a signal
+old: command = trap : HUP INT TERM; sh ./call
+new: command = sh ./call
 a line that can't be planned ends the graph
 old: < "$batch/$number.plan" || continue
 new: < "$batch/$number.plan" || break

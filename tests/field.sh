@@ -7,6 +7,7 @@
 #
 #   PROJECTS='bart ceres'        only these of tests/field
 #   GENERATORS='Ninja'           only these of Ninja, make and own; make is CMake's too, and own is a project's own make
+#   ONLY=PATTERN                 only the objects whose paths match, for each project; some projects' files name such a part themselves
 #   ZIGRUNK_FIELD=FOLDER         what it downloads and builds, else zigrunk/field in your cache folder
 #   SCCACHE=PATH                 sccache, if it isn't the one on the path; one before 0.9 doesn't know nvcc's tools
 #   JOBS=N                       so many processes at once, else as many as there are processors
@@ -44,7 +45,7 @@ patch() { patches+=("$1" "$2"); }
 gencode() { echo '-gencode arch=compute_75,code=sm_75 -gencode arch=compute_86,code=sm_86'; }
 
 # make_objects FOLDER JOBS WORD..: has make build the objects of the sources that it reads, in a folder and with these words.
-make_objects() { LC_ALL=C sort | sed 's/\.cu$/.o/' | xargs make -C "$1" -k -j "$2" V=1 NVCC="$nvcc" "${@:3}"; }
+make_objects() { LC_ALL=C sort | sed 's/\.cu$/.o/' | grep -E "${only:-.}" | xargs make -C "$1" -k -j "$2" V=1 NVCC="$nvcc" "${@:3}"; }
 
 # fetch: downloads the project's files, unless they are there, and checks their sums.
 fetch() {
@@ -163,6 +164,7 @@ one() {
     project=$1
     # shellcheck source=/dev/null # each has the same variables
     . "tests/field/$project.sh"
+    only=${ONLY:-$only}
     [ "${#settings[@]}" -gt 0 ] || generators=own
     fetch
     case $? in

@@ -17,7 +17,8 @@ try() {
         return
     fi
     printf '%s\n' "${text/"$2"/$3}" > "$file"
-    if SHELLS=${SHELLS-dash} STOP_EARLY=1 "$tests" "$scratch/zigrunk-nvcc" > "$scratch/said" 2>&1; then
+    # some edits wait for ever
+    if SHELLS=${SHELLS-dash} STOP_EARLY=1 timeout 900 "$tests" "$scratch/zigrunk-nvcc" > "$scratch/said" 2>&1; then
         count "$1" 'no test fails'
     else
         count "$1" ''
@@ -36,6 +37,48 @@ tries() {
 shopt -u patsub_replacement 2> /dev/null
 SHELLS=${SHELLS-dash} tests/script.sh && tests/slots.sh || exit 1
 tries zigrunk-nvcc tests/script.sh << 'END'
+zigrunk-slot isn't found behind a link
+old: [ ! -h "$here" ] || here=$(readlink -f "$here")
+new: :
+perl is taken where there is none
+old: command -v perl > /dev/null || helper=''
+new: :
+a log without perl
+old: log=${helper:+${ZIGRUNK_LOG-}}
+new: log=${ZIGRUNK_LOG-}
+blanks at the end of a line count
+old: s/ *$//
+new: 
+the order of the dry run's lines counts
+old: ; p' "$1" 2> /dev/null | sort
+new: ; p' "$1" 2> /dev/null
+a directory's name is a pattern
+old: sed 's/[][\\.*^$,]/\\&/g; s/.*/
+new: sed 's/.*/
+a lock file that was removed is a lock
+old: [ "$base/$name.lock" -ef /proc/self/fd/9 ] && left_directory
+new: left_directory
+slots with a runner
+old:     [ -z "${ZIGRUNK_RUNNER-}" ] || slots=0
+new: 
+without perl, what a command prints isn't kept
+old: sh "$$1.sh" > "$$1.out" 2>
+new: sh "$$1.sh" 2>
+a dollar in a name is Ninja's
+old: s/.*/'&'/; s/\\$/\$\$/g
+new: s/.*/'&'/
+the helper's path isn't quoted
+old: "$(quoted "$helper")" "$slots"
+new: "$helper" "$slots"
+mv without a file
+old:     [ "$#" -eq 0 ] || mv -f
+new:     mv -f
+what a wrapper calls doesn't know of the second one
+old: { export ZIGRUNK_INSIDE="$ZIGRUNK_INSIDE$found:" && exec
+new: { exec
+a backslash in the directory is lost
+old: IFS= read -r first <
+new: IFS= read first <
 zigrunk's path is ignored
 old: ${ZIGRUNK_PROGRAM:-zigrunk}
 new: zigrunk
@@ -97,8 +140,8 @@ no standard for TMPDIR
 old: ${TMPDIR:-/tmp}
 new: $TMPDIR
 a relative TMPDIR stays so
-old: temporary=$PWD/$temporary
-new: :
+old: [!/]* | *//* | */./*
+new: *//* | */./*
 all users have one directory
 old: $temporary/zigrunk-$user
 new: $temporary/zigrunk-all
@@ -328,7 +371,7 @@ the dry runs are swapped
 old: "$own/dry1" "$own/dry2"
 new: "$own/dry2" "$own/dry1"
 any plan is run
-old: plain "$(printf '%s\n' "$reason" | sed 1q)" "$@"
+old: plain "$reason" "$@"
 new: :
 a command that fails has nvcc's order
 old: ! devices_first || plain
@@ -345,6 +388,12 @@ new: s/^  command = /  command = sh ${out}.sh
 there is no dependency file
 old: echo "build \${tmp}
 new: echo "# \${tmp}
+the product doesn't wait for the dependency file
+old: ; /^build /{ N; $s,\n, || ${tmp}/zigrunk.tmp/depended&,; }
+new: 
+each command waits for the dependency file
+old: N; $s,\n, ||
+new: N; s,\n, ||
 an empty command for the dependency file
 old: "$dependencies" > "$own/dependencies"
 new: '' > "$own/dependencies"
@@ -490,8 +539,8 @@ the reason has zigrunk's own words
 old: "${calls#zigrunk: goes to nvcc: }"
 new: "$calls"
 a reason has two lines
-old: "$(printf '%s\n' "$reason" | sed 1q)"
-new: "$reason"
+old: reason=${1%%"$newline"*}
+new: reason=$1
 a dependency file on standard output is lost
 old: cat "$own/depended.out"
 new: :
@@ -538,8 +587,11 @@ the dependency file is made before the source is preprocessed
 old: ${preprocessed:+ |$preprocessed}
 new: 
 no dependency file of a call that fails
-old: || sh "$own/dependencies" 2> /dev/null > "$own/depended.out"
-new: || :
+old: || sh "$own/dependencies" 2> /dev/null > "$own/depended.out" ||
+new: ||
+a dependency file that fails is no matter
+old: plain 'its dependency file fails' "$@"
+new: :
 a failure is silent
 old:  || silent
 new:  || :
@@ -589,6 +641,27 @@ old: { read -r _; dry_runs "$@"; } &
 new: dry_runs "$@" &
 END
 tries zigrunk-slot tests/slots.sh << 'END'
+slots are in /tmp
+old: ($ENV{XDG_RUNTIME_DIR} || '/tmp')
+new: '/tmp'
+calls with many slots take the first ones
+old: "queue-$count", reverse 1 .. $count
+new: "queue-$count", 1 .. $count
+a command keeps the lock of its call
+old:     close $held if open $held, '>&=', 9;
+new: 
+lines of a terminal end in two characters
+old:     substr $modes, 4, 4, pack('L', 0);
+new: 
+the log says that each call began when it ended
+old: [9] || $end;
+new: [0] && $end;
+a signal of nvcc is a status
+old:     $SIG{$_} = 'DEFAULT' for keys %numbers;
+new: 
+preprocessors and compilers are of one kind
+old:     $kind .= " $1" if $text =~ / (-E|-c) /;
+new: 
 there are no slots
 old: my $slot = $count && slot($count);
 new: 
@@ -628,6 +701,15 @@ new: sysopen my $log, $file, 0101
 a hint comes again and again
 old: unless open $log, '<', $file and grep { $_ eq $line } <$log>
 new: 
+a random name has no hint
+old: \@words, random_name($call));
+new: \@words);
+each random name has the hint
+old:     return if -d _ && $status[4] == $>
+new:     return if 0
+a directory that others may read has no hint
+old:  && ($status[2] & 07777) == 0700
+new: 
 the log has no command
 old: if ($asked && open my $times
 new: if (0 && open my $times
@@ -638,7 +720,7 @@ nvcc's status is lost
 old: exit $shown;
 new: exit 0;
 a command has no terminal
-old: my ($master, $slave) = $ENV{ZIGRUNK_TERMINAL} ? terminal : ();
+old: my ($master, $slave) = $ENV{ZIGRUNK_TERMINAL} ? terminal() : ();
 new: my ($master, $slave);
 each command has a shell
 old: become($command) if $command;
@@ -761,6 +843,12 @@ old:     1 while syswrite STDOUT, "\n" x 4096;
 new:     syswrite STDOUT, "\n";
 END
 tries zigrunk-report tests/slots.sh << 'END'
+long lines are whole
+old: [:100]}
+new: }
+six commands are the slowest
+old: [:5]
+new: [:6]
 lines that are no entries aren't counted
 old:     return calls, hints, bad
 new:     return calls, hints, 0
@@ -781,9 +869,12 @@ old: open(options.trace, "w",
 new: open(options.trace, "a",
 END
 tries zigrunk-plan tests/script.sh << 'END'
-a path is taken for a relative one
-old: /*) ;;
-new: x) ;;
+the keep directory comes from the environment
+old: flag='' keep_dir=''
+new: flag=''
+a relative TMPDIR stays so
+old: [!/]* | *//* | */./*
+new: *//* | */./*
 what nvcc says of a dry run is lost
 old: { sed '/^#\$ /d' "$own/$run" >&2 && fail
 new: { fail

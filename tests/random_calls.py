@@ -247,9 +247,23 @@ def is_host_code_of_dependencies(line: str, want: Ran, got: Ran, found: Differen
     return (found[0] == "SAID" and found[1].startswith("lacks [], has []")) or (found[0] == "FILE-LACKS" and found[1].endswith(".cpp4.ii"))
 
 
+def is_name_of_generated(line: str, want: Ran, got: Ran, found: Difference) -> bool:
+    """The host compiler finds fault with a generated file: its messages have the canonical name, and mark as many characters."""
+    def unnamed(said: str) -> str:
+        return re.sub(r"(?m)^ +\| +\^~*$", "", re.sub(r"(?:x_0|[\w.]+(?: ace)?)\.cudafe1\.", "NAME.cudafe1.", said))
+
+    return found[0] == "SAID" and want["err"] != got["err"] and unnamed(want["err"]) == unnamed(got["err"])
+
+
+def is_left_by_nvcc(line: str, want: Ran, got: Ran, found: Difference) -> bool:
+    """nvcc leaves a file of a failed cicc in TMPDIR: ours leaves nothing."""
+    return found[0] == "LEFT" and both_fail(want, got) and not got["left"]
+
+
 # The rows of docs/DIFFERENCES.md, "From nvcc", that such calls can show.
 KNOWN: list[Callable[[str, Ran, Ran, Difference], bool]] = [
     is_lto, is_debug, is_kept_stub, is_later_failure, is_failure_of_threads, is_directory_of_ptxas, is_source_in_ptx, is_host_code_of_dependencies,
+    is_name_of_generated, is_left_by_nvcc,
 ]
 
 

@@ -174,6 +174,15 @@ plans() {
     as=$planner script KEEP_DIR=/kept text nvcc -c k.cu
     same 'text has no --keep' "$(grep -c 'plan\] \[/.*\[-c\]' "$room/log")" 1
     end
+    begin 'zigrunk-plan, and a keep directory that only the environment names'
+    as=$planner script KEEP_DIR=none keep_dir=/kept json nvcc -c k.cu
+    same 'without --keep' "$(grep -c 'json\] \[/' "$room/log")" 1
+    end
+    begin 'zigrunk-plan and a relative TMPDIR'
+    mkdir tmp
+    as=$planner script TMPDIR=tmp json nvcc -c k.cu
+    same 'where' "$(grep -c "json\] \[$room/work\] \[$room/work/tmp/zigrunk-$user/zigrunk-name\]" "$room/log")" 1
+    end
     begin 'zigrunk-plan of a line that goes to nvcc'
     as=$planner script REASON='goes to nvcc: it links' json nvcc k.cu
     same 'status and messages' "$status $(cat "$room/out" "$room/err")" '3 zigrunk: goes to nvcc: it links'
@@ -181,14 +190,16 @@ plans() {
     end
     begin 'zigrunk-plan of dry runs that fail'
     as=$planner script SECOND=1 WARNING=bad json nvcc -c k.cu
-    same 'status and messages' "$status $(cat "$room/out" "$room/err")" $'1 a warning of the normal form\nzigrunk-plan: a dry run fails'
+    same 'status, output and messages' "$status$(cat "$room/out") $(cat "$room/err")" $'1 a warning of the normal form\nzigrunk-plan: a dry run fails'
     leaves_nothing
     end
-    for words in '' 'yaml nvcc' json 'json --'; do
+    for words in ':a format is missing' 'yaml nvcc:unknown format yaml' 'json:nvcc and its words are missing' 'json --:nvcc and its words are missing' \
+        '-- nvcc:unexpected option --' '--json nvcc:unexpected option --json'; do
         begin "the usage of zigrunk-plan: $words"
         # shellcheck disable=SC2086 # one or several words
-        as=$planner script $words
-        same 'status and messages' "$status $(cat "$room/out" "$room/err")" '2 usage: zigrunk-plan json|ninja|dot|shell|compdb|text [--] NVCC WORD..'
+        as=$planner script ${words%:*}
+        same 'status and messages' "$status $(cat "$room/out" "$room/err")" \
+            "2 zigrunk-plan: ${words##*:}"$'\n''usage: zigrunk-plan json|ninja|dot|shell|compdb|text [--] NVCC WORD..'
         end
     done
 }
@@ -224,6 +235,25 @@ END
     begin 'the script by a relative path'
     as=../../../zigrunk-nvcc script NINJA_DOES='grep "^slot" "$tmp/zigrunk.tmp/ninja" > "$LOG.slot"' -c k.cu -o k.o
     same 'the helper' "$(cat "$room/log.slot")" "slot = exec perl $room/work/../../../zigrunk-slot '' ''"
+    end
+    begin 'the script in a directory with odd characters'
+    mkdir "$room/a \$'d" && cp "$script" "$room/a \$'d" && ln -s "$scratch/zigrunk-slot" "$room/a \$'d"
+    as="$room/a \$'d/zigrunk-nvcc" script NINJA_DOES='grep "^slot" "$tmp/zigrunk.tmp/ninja" > "$LOG.slot"' -c k.cu -o k.o
+    same 'the helper' "$(cat "$room/log.slot")" "slot = exec perl '$room/a \$\$'\\''d/zigrunk-slot' '' ''"
+    end
+    begin 'the script by a link'
+    ln -s "$script" "$room/link"
+    as=$room/link script ZIGRUNK_RUNNER=env NINJA_DOES='grep "^slot" "$tmp/zigrunk.tmp/ninja" > "$LOG.slot"' -c k.cu -o k.o
+    same 'the helper, and no slot with a runner' "$(cat "$room/log.slot")" "slot = exec perl $scratch/zigrunk-slot '0' ''"
+    end
+    begin 'perl is missing'
+    mkdir "$room/bin"
+    for tool in "${shell[0]}" cat cut find flock grep head id ls mkdir mktemp mv rm rmdir sed sh sort stat tail timeout touch tr wc xargs; do ln -s "$(command -v "$tool")" "$room/bin"; done
+    script PATH="$scratch/bin:$room/bin" ZIGRUNK_LOG="$room/calls.log" NINJA_DOES='grep "^slot" "$tmp/zigrunk.tmp/ninja" > "$LOG.slot"' -c k.cu -o k.o
+    same 'status, messages and log' "$status$(cat "$room/err" "$room/calls.log" 2> /dev/null)" 0
+    same 'what runs a command' "$(cat "$room/log.slot")" 'slot = trap : HUP INT TERM; run() { sh "$$1.sh" > "$$1.out" 2> "$$1.err" 9>&-; }; run'
+    script PATH="$scratch/bin:$room/bin" ZIGRUNK_LOG="$room/calls.log" "${plain[@]}" REASON=why -c k.cu -o k.o
+    by_nvcc 'zigrunk: why'
     end
     begin 'directories'
     script NINJA_DOES='stat -c %a "${tmp%/*}" > "$LOG.mode"; echo "$TMPDIR" > "$LOG.tmp"; echo x > "$TMPDIR/x"' -c k.cu -o k.o
@@ -367,6 +397,17 @@ END
         end
     fi
 
+    if [ "${shell[0]}" != busybox ]; then
+        begin 'another call removes the lock just now'
+        mkdir -m 700 "$room/tmp/zigrunk-$user"
+        mkdir "$room/bin" "$split"
+        echo other > "$split/file"
+        printf '%s\n' '#!/bin/sh' "rm -f '$split.lock'" "exec $(command -v flock) \"\$@\"" > "$room/bin/flock" && chmod +x "$room/bin/flock"
+        script PATH="$room/bin:$PATH" -c k.cu -o k.o
+        same 'the file of the other' "$(cat "$split/file")" other
+        end
+    fi
+
     begin 'the directory of a call in two steps'
     mkdir "$room/batch"
     script ZIGRUNK_PLAN="$room/batch/plan" -c k.cu -o k.o
@@ -498,6 +539,12 @@ END
         same 'one call' "$(grep -v '^zigrunk' "$room/log")" 'nvcc [-o] [a b] []'
     done
     end
+    begin 'two wrappers of it'
+    mkdir "$room/one" "$room/two"
+    for folder in one two; do printf '%s\n' '#!/bin/sh' "exec $script \"\$@\"" > "$room/$folder/nvcc" && chmod +x "$room/$folder/nvcc"; done
+    script PATH="$room/one:$room/two:$PATH" "${plain[@]}" REASON=why -o 'a b' ''
+    by_nvcc 'zigrunk: why'
+    end
     begin 'the next nvcc is the one behind it'
     installed ln -s
     mkdir "$room/before" && ln -s "$scratch/bin/nvcc" "$room/before/nvcc"
@@ -532,7 +579,7 @@ END
     same messages "$(cat "$room/err")" 'nvcc says'
     end
     begin 'zigrunk refuses the directory'
-    script "${plain[@]}" DIRECTORY_DOES='echo "zigrunk: no" >&2; exit 2' -c k.cu -o k.o
+    script "${plain[@]}" DIRECTORY_DOES='printf "%s\n" "zigrunk: no" "usage: zigrunk" >&2; exit 2' -c k.cu -o k.o
     by_nvcc 'zigrunk: no'
     end
     begin 'the reason of a call that goes to nvcc'
@@ -629,6 +676,18 @@ END
     script "${plain[@]}" LINE_DOES='echo "#\$ gcc -E k.cu -o \"k.cpp4.ii\" " >&2' -c k.cu -o k.o
     by_nvcc 'nvcc reads the line otherwise'
     end
+    begin 'the order of the lines of two dry runs, and blanks at their ends'
+    script "${plain[@]}" FRONT=cudafe++ HOST=gcc LINE_FORM='1!G; h; $!d; s/$/  /' -c k.cu -o k.o
+    same 'status and messages' "$status$(cat "$room/err")" 0
+    end
+    begin 'a directory whose name has characters of patterns'
+    mkdir 'a.[b' a.b && cd 'a.[b' || exit 1
+    script "${plain[@]}" HOST="cicc \"$PWD/k.cu\"" LINE_FORM="s,\"/.*/k,\"k," -c k.cu -o k.o
+    same 'status and messages' "$status$(cat "$room/err")" 0
+    cd ../a.b || exit 1
+    script "${plain[@]}" HOST="cicc \"$room/work/aab/k.cu\"" LINE_FORM="s,\"/.*/k,\"k," -c k.cu -o k.o
+    by_nvcc 'nvcc reads the line otherwise'
+    end
     begin "the line's own dry run has the words of the environment, which nvcc gets once"
     touch -- -a.cu -b.cu
     script NVCC_PREPEND_FLAGS='-DA  -*' NVCC_APPEND_FLAGS=' -o j.o' LINE_DOES='echo "${NVCC_PREPEND_FLAGS-none} ${NVCC_APPEND_FLAGS-none}" > "$LOG.flags"' -c k.cu -o 'k o'
@@ -720,6 +779,10 @@ END
     script KEEP_DIR="$room/work" NINJA_DOES='echo new > "$tmp/k.ptx"; echo kept > "$tmp/k.o"; sleep 1.1; echo object > k.o' -c k.cu -o k.o
     same 'the files' "$status $(cat k.ptx k.o)" $'0 new\nobject'
     end
+    begin 'no files are kept'
+    script KEEP_DIR="$room/work" -c k.cu -o k.o
+    same 'status and messages' "$status$(cat "$room/err")" 0
+    end
     begin 'files that are kept of a call that fails'
     script KEEP_DIR="$room/work" NINJA_DOES='echo 3 > "$tmp/zigrunk.0.0.status"; touch "$tmp/k.ii"; echo bad > "$tmp/zigrunk.0.0.err"' NINJA_STATUS_IS=1 -c k.cu -o k.o
     same status "$status" 3
@@ -781,6 +844,10 @@ END
     script DEPENDENCIES='( echo made > k.d )' HOST='gcc -DA -E k.cu -o k.ii' NINJA_DOES='echo bad > "$tmp/zigrunk.0.1.err"; echo 6 > "$tmp/zigrunk.0.1.status"' NINJA_STATUS_IS=1 -c k.cu -o k.o
     same 'status and file' "$status $(cat k.d)" '6 made'
     end
+    begin 'a command fails, and so does the dependency file'
+    script "${plain[@]}" DEPENDENCIES='( exit 4 )' NINJA_DOES='echo bad > "$tmp/zigrunk.0.1.err"; echo 6 > "$tmp/zigrunk.0.1.status"' NINJA_STATUS_IS=1 -c k.cu -o k.o
+    by_nvcc 'its dependency file fails'
+    end
     begin 'a command fails, and nvcc runs cicc before cudafe++'
     fails='echo bad > "$tmp/zigrunk.0.1.err"; echo 6 > "$tmp/zigrunk.0.1.status"'
     script "${plain[@]}" HOST='/a/cudafe++ k.cpp4.ii' NINJA_DOES="$fails" NINJA_STATUS_IS=1 -c k.cu -o k.o
@@ -793,6 +860,12 @@ END
     done
     script FRONT='cudafe++ k.cpp4.ii' NINJA_DOES="$fails" NINJA_STATUS_IS=1 -c k.cu -o k.o
     same 'status with cudafe++ first' "$status$(cat "$room/err")" 6bad
+    end
+    begin 'the first line of a plan, and the last command, which waits for the dependency file'
+    local last='build ${tmp}/zigrunk.1.0: run ${tmp}/zigrunk.0.0'
+    script PLAN_DOES="printf '%s\\n' 'tmp = /a\\b' 'build \${tmp}/zigrunk.0.0: run' '  line = build' '$last' '  line = last'; exit" \
+        NINJA_DOES='sed -n "2p; /zigrunk.0.0/,\$p" "$2" > "$LOG.edges"' -c k.cu -o k.o
+    same edges "$(cat "$room/log.edges")" 'tmp = /a\b'$'\n''build ${tmp}/zigrunk.0.0: run'$'\n  line = build\n'"$last || "'${tmp}/zigrunk.tmp/depended'$'\n  line = last'
     end
     begin 'a dependency file that fails'
     script "${plain[@]}" DEPENDENCIES='( exit 4 )' NINJA_DOES='sh -c "$command" || { echo "ninja: build stopped"; exit 1; }' -c k.cu -o k.o

@@ -28,7 +28,7 @@ calls)
     case $* in *whole*) echo 'zigrunk: goes to nvcc: it links' >&2 && exit 3 ;; esac
     jobs=${ZIGRUNK_JOBS-}
     case ${MAKEFLAGS-} in *--jobserver*) jobs=1 ;; esac
-    printf '%s\n' 'first_dry_run="nvcc --dryrun"' 'second_dry_run=:' flag=-c "dependencies=''" "keep_dir=''" "jobs='$jobs'"
+    printf '%s\n' 'first_dry_run="nvcc --dryrun"' 'second_dry_run=:' flag=-c "dependencies='${DEPENDENCIES-}'" "keep_dir=''" "jobs='$jobs'"
     ;;
 ninja)
     while [ "$1" != "${1#-}" ] || [ "$1" = ninja ]; do shift; done
@@ -164,10 +164,19 @@ end
 
 begin 'a call alone' 0.4
 graph 1
+begun=$SECONDS
 ZIGRUNK_SLOTS=3 "$script" -c 1.cu -o 1.o > said 2>&1
 same 'status and messages' "$? $(cat said)" '0 '
+[ $((SECONDS - begun)) -lt 30 ] || problems+='  it takes half a minute'$'\n'
 same commands "$(grep -c '^+' "$LOG")" 4
 at_most 3 3
+same 'files left' "$(ls "$room/tmp")" ''
+end
+
+begin 'a dependency file that cannot be written'
+graph 1
+DEPENDENCIES='( sleep 0.5; exit 1 )' "$script" -c 1.cu -o 1.o > said 2>&1
+same 'commands' "$(grep -c '^-' "$LOG")" 3
 same 'files left' "$(ls "$room/tmp")" ''
 end
 
@@ -194,6 +203,23 @@ at_most 2 2
 same 'files left' "$(ls "$room/tmp")" ''
 end
 
+begin 'a folder of slots that is not the user'"'"'s alone' 0.3
+graph 1
+mkdir -m 755 "$room/run/zigrunk-slots-$(id -u)"
+ZIGRUNK_SLOTS=1 "$script" -c 1.cu -o 1.o
+same 'files in it' "$(ls -A "$room/run"/*)" ''
+rmdir "$room/run"/*
+ZIGRUNK_SLOTS=1 "$script" -c 1.cu -o 1.o
+same 'files in a new one' "$(cd "$room/run" && echo */*)" "zigrunk-slots-$(id -u)/1 zigrunk-slots-$(id -u)/queue-1"
+end
+
+begin 'calls with more slots leave the first ones to others'
+graph 1
+echo 'flock -n "$XDG_RUNTIME_DIR/zigrunk-slots-$(id -u)/1" true || echo taken >> taken' > command
+ZIGRUNK_SLOTS=4 ZIGRUNK_JOBS=1 "$script" -c 1.cu -o 1.o > said 2>&1
+same 'status, messages and the first slot' "$? $(cat said taken 2> /dev/null)" '0 '
+end
+
 begin 'dry runs of many calls'
 graph 12
 DRY_RUN='echo "+ dry run" >> "$LOG"; sleep 0.05; echo "- dry run" >> "$LOG"' ZIGRUNK_SLOTS=2 ninja -j12 > said 2>&1
@@ -213,6 +239,19 @@ same commands "$(grep -c '^+' "$LOG")" 32
 at_most 3 2
 end
 
+begin 'calls with fewer slots hold up no others'
+graph 2
+mkdir -m 700 "$room/run/zigrunk-slots-$(id -u)"
+exec 5> "$room/run/zigrunk-slots-$(id -u)/1" && flock 5
+ZIGRUNK_SLOTS=1 "$script" -c 1.cu -o 1.o > said 2>&1 5>&- &
+within 20 has "$room/run/zigrunk-slots-$(id -u)/queue-1" || problems+='  nobody waits'$'\n'
+ZIGRUNK_SLOTS=2 timeout 60 "$script" -c 2.cu -o 2.o > said.2 2>&1 5>&-
+same 'status and commands' "$? $(grep -c '^-' "$LOG")" '0 4'
+exec 5>&-
+wait "$!"
+same 'status and commands of both' "$? $(grep -c '^-' "$LOG")" '0 8'
+end
+
 begin 'no limit' 0.3
 graph 4
 ZIGRUNK_SLOTS=0 ZIGRUNK_JOBS=4 ninja -j4 > said 2>&1
@@ -226,6 +265,13 @@ make -j3 > said 2>&1
 same 'status' "$?" 0
 same commands "$(grep -c '^+' "$LOG")" 48
 at_most 3 2
+end
+
+begin 'make with more jobs than processors'
+graph 2
+taskset -c "$(taskset -cp $$ | sed 's/.*[:,-] *//')" make -j3 > said 2>&1
+same 'status and commands' "$? $(grep -c '^-' "$LOG")" '0 8'
+at_most 1
 end
 
 begin 'make with its jobserver'
@@ -333,6 +379,7 @@ if command -v python3 > /dev/null; then
     same 'calls' "$(sed -n 1,2p report)" $'calls: 16, failed: 0\nsplit: 12 of 16 (75 %)'
     same 'reasons' "$(grep -c '  2  to nvcc: it links$' report) $(grep -c 'to nvcc: .*cannot run .*missing-ninja' report) $(grep -c '  hint: install Ninja' report)" '1 1 1'
     same 'commands' "$(grep -c '^      48 .* s each  sh$\|^      48 .* s each  command$' report)" 1
+    same 'the slowest' "$(sed -n '/^the slowest/,/^$/p' report | wc -l)" 7
     same 'events of the trace' "$(python3 -c 'import json; print(len(json.load(open("trace"))["traceEvents"]))')" 52
     same 'rows of the trace' "$(python3 -c 'import json; print(max(e["tid"] for e in json.load(open("trace"))["traceEvents"] if e["name"] != "nvcc"))')" 2
     "${script%/*}/zigrunk-report" --trace trace "$room/calls.log" > report
@@ -343,7 +390,7 @@ if command -v python3 > /dev/null; then
     same 'lines that are no entries' "$(tail -n 1 report)" '3 lines are no entries of such a log'
     cat > small.log << 'END'
 {"begin":10.0,"end":14.0,"status":0,"commands":[{"kind":"gcc -E","asked":10.0,"begin":10.5,"end":11.5,"status":0},{"kind":"cicc compute_80","asked":11.0,"begin":12.0,"end":14.0,"status":0}],"words":["nvcc","-c","a.cu"]}
-{"begin":12.0,"end":15.0,"status":2,"commands":[{"kind":"cicc compute_90","asked":12.0,"begin":12.0,"end":15.0,"status":2}],"words":["nvcc","-c","b.cu"]}
+{"begin":12.0,"end":15.0,"status":2,"commands":[{"kind":"cicc compute_90","asked":12.0,"begin":12.0,"end":15.0,"status":2}],"words":["nvcc","-c","b.cu","-DNAME=a_value_that_goes_on_and_on_until_the_line_is_longer_than_what_the_report_prints_of_it"]}
 {"begin":15.0,"end":16.0,"status":0,"reason":"it links","commands":[],"words":["nvcc","a.o"]}
 {"hint":"do this"}
 no entry
@@ -359,7 +406,7 @@ commands:
        1       1.00 s     1.00 s each  gcc
 
 the slowest:
-       3.00 s  cicc compute_90  of  nvcc -c b.cu
+       3.00 s  cicc compute_90  of  nvcc -c b.cu -DNAME=a_value_that_goes_on_and_on_until_the_line_is_longer_than_what_the_report_prints
        2.00 s  cicc compute_80  of  nvcc -c a.cu
        1.00 s  gcc -E  of  nvcc -c a.cu
 
@@ -375,6 +422,15 @@ commands that ran at once, on average: 1.0
 fi
 end
 
+begin 'the kinds of commands in the log'
+for words in '/a/gcc -E -D__CUDA_ARCH__=800 k.cu' "'/b c/g++' -c k.cu" 'cicc -arch compute_80 k.ii' 'ptxas -arch=sm_90a k.ptx' 'cudafe++ k.ii'; do
+    printf '%s' "( cd '$room' && env ${words%%[ c]*}=b \${ZIGRUNK_RUNNER-} \${ZIGRUNK_LAUNCHER-} $words ) && touch '$room/stamp'" > it.sh
+    ZIGRUNK_LOG=x perl "${script%/*}/zigrunk-slot" 0 '' "$room/work/it"
+    sed 's/^{"kind":"\([^"]*\)".*/\1/' it.time && echo
+done > kinds
+same kinds "$(cat kinds)" $'gcc -E __CUDA_ARCH__=800\ng++ -c\ncicc compute_80\nptxas sm_90a\ncudafe++'
+end
+
 begin 'the log of an nvcc that fails'
 printf '%s\n' '#!/bin/sh' 'case $* in *-dryrun*) exit ;; esac' 'echo "$*"; exit 7' > "$room/some-nvcc" && chmod +x "$room/some-nvcc"
 ZIGRUNK_LOG=$room/calls.log "$script" "$room/some-nvcc" whole.cu > said 2>&1
@@ -385,6 +441,7 @@ rm "$room/calls.log"
 printf '%s\n' '#!/bin/sh' 'kill -TERM $$' > "$room/some-nvcc"
 { ZIGRUNK_LOG=$room/calls.log "$script" "$room/some-nvcc" whole.cu > said 2>&1; } 2> /dev/null
 same 'status' "$? $(grep -o '"status":143' "$room/calls.log")" '143 "status":143'
+same 'signal' "$(ZIGRUNK_LOG=$room/calls.log perl -e 'system @ARGV; print $? & 127' "$script" "$room/some-nvcc" whole.cu)" 15
 end
 
 begin 'the log of a command that fails'
@@ -393,6 +450,21 @@ echo 'echo bad >&2; exit 6' > command
 ZIGRUNK_LOG=$room/calls.log "$script" -c 1.cu -o 1.o > said 2>&1
 same 'status and messages' "$? $(cat said)" '6 bad'
 same 'statuses in the log' "$(grep -o '"status":[0-9]*' "$room/calls.log" | tr '\n' ' ')" '"status":6 "status":6 '
+sed 's/^{"begin":\([0-9.]*\),"end":\([0-9.]*\).*/\1 \2/' "$room/calls.log" | awk '{ exit $2 <= $1 }' || problems+='  the call took no time'$'\n'
+end
+
+begin 'the log of calls whose directory has a random name' 0.3
+graph 1
+mkdir -p "$room/tmp/zigrunk-$(id -u)/other"
+chmod 755 "$room/tmp/zigrunk-$(id -u)"
+export ZIGRUNK_LOG=$room/calls.log
+for _ in 1 2; do "$script" -c 1.cu -o 1.o > said 2>&1; done
+same 'hints' "$(grep '^{"hint' "$ZIGRUNK_LOG")" "{\"hint\":\"make zigrunk-UID below TMPDIR yours alone, with mode 700: the same call then always has the same directory\"}"
+rm "$ZIGRUNK_LOG" && chmod 700 "$room/tmp/zigrunk-$(id -u)"
+for _ in 1 2; do "$script" -c 1.cu -o 1.o > said 2>&1 & done
+wait
+same 'directories and hints' "$(sed -n 's/^+ //p' "$LOG" | sort -u | wc -l) $(grep -c . "$ZIGRUNK_LOG") $(grep -c hint "$ZIGRUNK_LOG")" '4 2 0'
+unset ZIGRUNK_LOG
 end
 
 begin 'a terminal'
@@ -400,6 +472,7 @@ graph 1
 printf '%s\n' '[ ! -t 2 ] || echo colours >&2; printf "%s\n" "a line" >&2' > command
 command -v script > /dev/null && script -qec "'$script' -c 1.cu -o 1.o" said > /dev/null < /dev/null
 same 'messages' "$(tr -d '\r' < said | grep -c '^colours$')$(tr -d '\r' < said | grep -c '^a line$')" 44
+same 'lines that end twice' "$(grep -c $'\r\r' said)" 0
 "$script" -c 1.cu -o 1.o 2> said
 same 'messages' "$(sort -u said)" 'a line'
 end
@@ -419,6 +492,20 @@ printf '%s\n' 'echo "+ $1" >> "$LOG"' > command
 same 'status and messages' "$? $(cat said)" '0 '
 same 'directories' "$(sed -n 's/^+ //p' "$LOG" | sort -u)" "$directory"
 same 'files left' "$(ls "$room/tmp")" ''
+end
+
+begin 'the script is killed, and what a command has started lives on' 30
+graph 1
+sed -i '1i setsid sleep 4 > /dev/null 2>&1 < /dev/null &' command
+"$script" -c 1.cu -o 1.o > said 2>&1 &
+process=$!
+within 20 begins 1 || problems+='  no command begins'$'\n'
+kill -KILL "$process"
+{ wait "$process"; } 2> /dev/null
+within 3 none_run || problems+='  its commands go on'$'\n'
+printf '%s\n' 'echo "+ $1" >> "$LOG"' > command
+"$script" -c 1.cu -o 1.o > said 2>&1
+same 'directories' "$(sed -n 's/^+ //p' "$LOG" | sort -u | wc -l)" 1
 end
 
 begin 'Ninja is killed' 30
