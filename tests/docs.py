@@ -16,6 +16,10 @@ TOP = os.path.realpath(f"{os.path.dirname(os.path.realpath(__file__))}/..")
 PAGES = ["README.md", "CHANGELOG.md", "CONTRIBUTING.md", *(f"docs/{name}" for name in sorted(os.listdir(f"{TOP}/docs")) if name.endswith(".md"))]
 
 
+# An exported function that only tests cover: std's contracts don't say which errors a file can give.
+WITHOUT_CLAUSE = {"unread_of"}
+
+
 def text_of(path: str) -> str:
     with open(f"{TOP}/{path}", encoding="utf-8") as file:
         return file.read()
@@ -97,6 +101,24 @@ def files() -> Iterator[str]:
                 yield f"crates/{crate}/{name} doesn't begin with a sentence on what it is"
 
 
+def contracts() -> Iterator[str]:
+    """Functions that a library exports but docs/contracts doesn't print with a clause."""
+    said = subprocess.run([f"{TOP}/docs/contracts"], capture_output=True, encoding="utf-8", check=True).stdout
+    printed = set(re.findall(r"^(\w+)/.*?(?:: )?(\w+)\n    (?:requires|ensures)", said, re.MULTILINE))
+    for crate in crates():
+        lib = f"crates/{crate}/src/lib.rt"
+        if not os.path.exists(f"{TOP}/{lib}") or crate.startswith("test_"):
+            continue
+        for names in re.findall(r"^pub use [\w:]+::\{([^}]*)\}|^pub use [\w:]+::([a-z_]+);", text_of(lib), re.MULTILINE):
+            for name in re.findall(r"\b[a-z_0-9]+\b", " ".join(names)):
+                if (crate, name) not in printed and name not in WITHOUT_CLAUSE and re.search(rf"^pub fn {name}\b", sources_of(crate), re.MULTILINE):
+                    yield f"docs/contracts has no clause of {crate}'s {name}"
+
+
+def sources_of(crate: str) -> str:
+    return "\n".join(text_of(f"crates/{crate}/src/{name}.rt") for name in files_below(f"crates/{crate}/src", ".rt"))
+
+
 def architecture() -> Iterator[str]:
     """Crates that ARCHITECTURE's picture lacks, and crates and files that it names but aren't there."""
     text = text_of("docs/ARCHITECTURE.md")
@@ -151,7 +173,7 @@ def version() -> Iterator[str]:
 
 def main() -> int:
     checks: list[tuple[str, Iterable[str]]] = [(page, links(page)) for page in PAGES]
-    checks += [("", check()) for check in (calling, files, architecture, definitions, version)]
+    checks += [("", check()) for check in (calling, files, contracts, architecture, definitions, version)]
     checks += [("", words(page)) for page in ("docs/DEFINITIONS.md", "docs/GUARANTEES.md")]
     counts = Counts()
     for name, findings in checks:

@@ -3,6 +3,7 @@
 The folder is ZIGRUNK_PROOFS, or zigrunk/proofs in the user's cache folder. A library whose sources, or those of a library below it,
 have changed has another digest, so nothing in the folder goes stale: remove it whenever you like. The gate never reads it."""
 
+import fcntl
 import hashlib
 import os
 import shutil
@@ -37,6 +38,11 @@ def kit() -> str:
     return subprocess.run(["rt", "version"], capture_output=True, text=True, check=True).stdout
 
 
+def key_of(version: str, crate: Any) -> str:
+    """Returns the name under which a library of this kit is kept: it differs if its sources do, or those below."""
+    return f"{crate.name}-{hashlib.sha256((version + digest_of(crate)).encode()).hexdigest()[:24]}"
+
+
 def work_folder(crate: Any) -> str:
     """Returns where checks of this crate keep what they have proved of it, so that the next one proves only what changed."""
     folder = f"{FOLDER}/work/{crate.name}"
@@ -53,12 +59,16 @@ def started(command: str, words: List[str], folder: str) -> "subprocess.Popen[st
 
 
 def build(crate: Any, jobs: int, say: Callable[[str], None]) -> bool:
-    """Proves and builds a library, unless it is kept. The libraries below it are built. Returns whether it is there."""
+    """Proves and builds a library, unless it is kept. The libraries below it are built. Returns whether it is there. A second run waits for
+    a first that proves the same."""
     if os.path.isdir(crate.rlib):
         return True
-    say(f"proving {crate.name}, which is below and not kept")
     os.makedirs(os.path.dirname(crate.rlib), exist_ok=True)
-    with tempfile.TemporaryDirectory(dir=FOLDER) as room:
+    with open(f"{os.path.dirname(crate.rlib)}/lock", "w", encoding="utf-8") as lock, tempfile.TemporaryDirectory(dir=FOLDER) as room:
+        fcntl.flock(lock, fcntl.LOCK_EX)
+        if os.path.isdir(crate.rlib):
+            return True
+        say(f"proving {crate.name}, which is below and not kept")
         made = f"{room}/{crate.name}.rlib"
         words = [*crate.words(["--jobs", str(jobs)], keeps=False), "--incremental", work_folder(crate), "-o", made]
         with started("build", words, crate.folder) as ran:
@@ -66,11 +76,10 @@ def build(crate: Any, jobs: int, say: Callable[[str], None]) -> bool:
         if ran.returncode:
             say("\n".join(it for it in said.split("\n") if not it.endswith(": proved")))
             return False
-        try:
-            os.rename(made, crate.rlib)
-        except OSError:
-            # another run has kept the same meanwhile
-            return os.path.isdir(crate.rlib)
+        if key_of(kit(), crate) not in crate.rlib:
+            say(f"{crate.name} isn't kept: its sources changed while it was proved")
+            return False
+        os.rename(made, crate.rlib)
     return True
 
 
@@ -79,8 +88,7 @@ def build_below(crates: List[Any], jobs: int, say: Callable[[str], None]) -> boo
     the crates' words name the kept libraries. Returns whether all are there."""
     version, below = kit(), list(dict.fromkeys(it for crate in crates for it in crate.below()))
     for it in below:
-        key = hashlib.sha256((version + digest_of(it)).encode()).hexdigest()[:24]
-        it.rlib = f"{FOLDER}/{it.name}-{key}/{it.name}.rlib"
+        it.rlib = f"{FOLDER}/{key_of(version, it)}/{it.name}.rlib"
     lacking = [it for it in below if not os.path.isdir(it.rlib)]
     os.makedirs(FOLDER, exist_ok=True)
     # its first call sets a signal's handler, which only the main thread may
