@@ -142,7 +142,9 @@ def definitions() -> Iterator[str]:
     """Crates with definitions that DEFINITIONS has no place for."""
     lines = re.findall(r"^(`\w+`(?:, `\w+`)*)$", text_of("docs/DEFINITIONS.md"), re.MULTILINE)
     there = {*words_in_code(" ".join(lines))}
-    yield from (f"DEFINITIONS has no place for {crate}" for crate in crates() if specs_of(crate) and not crate.startswith("test_") and crate not in there)
+    for crate in crates():
+        if specs_of(crate) and not crate.startswith("test_") and crate not in there:
+            yield f"DEFINITIONS has no place for {crate}"
 
 
 def words(page: str) -> Iterator[str]:
