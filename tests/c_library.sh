@@ -97,6 +97,9 @@ calls() {
     check "line_records.c" compiled gcc tests/c/line_records.c "$programs/line_records" "$library"
     check 'the records of lines' "$programs/line_records" 1000
     cat "$scratch/said" >> "$programs/answers"
+    check "keys.c" compiled gcc tests/c/keys.c "$programs/keys" "$library"
+    check 'the keys' "$programs/keys" 1000
+    cat "$scratch/said" >> "$programs/answers"
     check 'failing_memory.c' compiled gcc tests/c/failing_memory.c "$programs/failing_memory" "$library" "${memory_functions[@]}"
     check 'allocations failing in turn, and by lot' "$programs/failing_memory" 2000 "$data" "${real_calls[@]}"
     check 'threads.c' compiled gcc tests/c/threads.c "$programs/threads" "$library" -pthread
@@ -114,6 +117,7 @@ memchecked() {
         check 'the limits under memcheck' valgrind -q --error-exitcode=9 --leak-check=full "$programs/limits" watched
         check 'the lines under memcheck' valgrind -q --error-exitcode=9 --leak-check=full "$programs/lines"
         check 'the records of lines under memcheck' valgrind -q --error-exitcode=9 --leak-check=full "$programs/line_records" 50
+        check 'the keys under memcheck' valgrind -q --error-exitcode=9 --leak-check=full "$programs/keys" 50
         check 'the threads under helgrind' valgrind -q --tool=helgrind --error-exitcode=9 "$programs/threads" 20
     fi
 }
@@ -136,6 +140,8 @@ sanitized() {
         check 'the lines under ASan and UBSan' "$programs/sanitized_lines"
         check 'line_records.c with sanitizers' compiled clang tests/c/line_records.c "$programs/sanitized_line_records" "$library" -fsanitize=address,undefined -fno-sanitize-recover=all
         check 'the records of lines under ASan and UBSan' "$programs/sanitized_line_records" 1000
+        check 'keys.c with sanitizers' compiled clang tests/c/keys.c "$programs/sanitized_keys" "$library" -fsanitize=address,undefined -fno-sanitize-recover=all
+        check 'the keys under ASan and UBSan' "$programs/sanitized_keys" 1000
     fi
 }
 

@@ -49,8 +49,8 @@ FAILURES = (1, 2)
 LONG = ("lines", "plans", "programs")
 
 # The crates that a library for C is made of, beside those below them, and the tests of it in C that have long input.
-C_CRATES = ("c_texts", "c_plans", "c_steps", "c_lines", "zigrunk_c")
-C_TESTS = ("lines", "line_records", "plans", "records", "steps")
+C_CRATES = ("c_texts", "c_plans", "c_steps", "c_keys", "c_lines", "zigrunk_c")
+C_TESTS = ("keys", "lines", "line_records", "plans", "records", "steps")
 
 # A run of a case: its status, the seconds that it took, and the numbers of the bodies that would give up in it. And the runs by case.
 Run = tuple[int | None, float, list[int]]
@@ -264,9 +264,9 @@ programs | plan_json/json | json_text | long_body::has_large(planned.plan.groups
 programs | plan_json/json | json_text | planned.plan.dropped.as_slice().len() > 500
 programs | plan_json/json | put_texts | texts.len() > 500
 programs | plan_json/json | put_texts | long_body::has_long(texts, 50_000)
-programs | plan_exports/dot | dot_text | plan.groups.as_slice().len() > 50
-programs | plan_exports/dot | dot_text | long_body::has_large(plan.groups.as_slice(), 500)
-programs | plan_exports/dot | dot_text | plan.dropped.as_slice().len() > 500
+programs | plan_graphs/dot | dot_text | plan.groups.as_slice().len() > 50
+programs | plan_graphs/dot | dot_text | long_body::has_large(plan.groups.as_slice(), 500)
+programs | plan_graphs/dot | dot_text | plan.dropped.as_slice().len() > 500
 programs | plan_json/compdb | compdb_text | plan.groups.as_slice().len() > 50
 programs | plan_json/compdb | compdb_text | long_body::has_large(plan.groups.as_slice(), 500)
 programs | plan_json/compdb | push_command | command.args.as_slice().len() > 5_000
@@ -305,6 +305,9 @@ c | c_plans/planning | plan_outcome | call.dry1.bytes.len() > 50_000
 c | c_plans/planned_records | records_outcome | call.dry1.bytes.len() > 50_000
 c | c_plans/plan_entries | push_groups | long_body::has_large(groups, 500)
 c | c_plans/renaming | remap_outcome | words.len() > 10_000
+
+c | c_keys/keying | key_by | call.words.len() > 10_000
+c | c_keys/keying | key_by | call.variables.len() > 10_000
 
 c | c_lines/lines | json_outcome | call.words.len() > 10_000
 c | c_lines/lines | json_outcome | call.variables.len() > 10_000

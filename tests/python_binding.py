@@ -277,6 +277,15 @@ class Calls(unittest.TestCase):
         self.assertEqual(zigrunk.remap([]), [])
         self.rejects(zigrunk.Status.BAD_SUFFIXES, "bad generated suffixes", zigrunk.remap, ["k"], ["gpu"])
 
+    def test_keys(self) -> None:
+        tool = zigrunk.CommandTool.CICC
+        environment = {"PWD": "/t", "HOME": "/"}
+        self.assertEqual(zigrunk.command_key(tool, ["cicc", "\udcff/t/a"], environment, ["/t"]), b"cicc\x000\xff\0A/a\x000PWD\x001\0A\x002")
+        self.assertEqual(zigrunk.command_key(zigrunk.CommandTool.HOST, []), b"")
+        self.assertEqual(len(zigrunk.command_key(tool, ["w" * 100_000])), 100_002)
+        self.rejects(zigrunk.Status.BAD_LINE, "a text contains NUL", zigrunk.command_key, tool, ["a\0b"])
+        self.rejects(zigrunk.Status.BAD_NUMBER, "a number has no meaning", zigrunk.command_key, tool, [], {}, ["/t"] * 27)
+
     def test_example(self) -> None:
         for name in NAMES:
             with self.subTest(name):

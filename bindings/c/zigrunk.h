@@ -2,8 +2,8 @@
  *
  * How to call
  *
- *   - A text is a pointer and a length in bytes. It may contain any character, also NUL, and has to be UTF-8. Only a dry run may
- *     contain any bytes. No text that a call writes ends in a NUL, unless it is part of the text.
+ *   - A text is a pointer and a length in bytes. It may contain any character, also NUL, and has to be UTF-8. Only a dry run and
+ *     the texts of zigrunk_command_key may contain any bytes. No text that a call writes ends in a NUL, unless it is part of the text.
  *   - You own all memory. A call reads what you pass, writes into the buffers that you pass, and keeps neither. Nothing
  *     has to be freed: what a call allocates for itself, it frees.
  *   - Each buffer comes with its size. If the whole answer fits, the call writes it; otherwise it writes nothing. Either
@@ -196,6 +196,18 @@ typedef struct zigrunk_nvcc_call {
     size_t variables_count;
     uint64_t reserved; /* 0 */
 } zigrunk_nvcc_call;
+
+/* A command whose key a cache asks for. Set all of it to zero first, then give each list a pointer that isn't NULL. */
+typedef struct zigrunk_key_call {
+    const zigrunk_text *words; /* the program, then its words; any bytes but NUL, and so are the other texts */
+    size_t words_count;
+    const zigrunk_variable *variables; /* its environment; of a name that occurs twice, the last value counts */
+    size_t variables_count;
+    const zigrunk_text *roots; /* directories whose paths don't count, at most 26; one that is in another comes before it */
+    size_t roots_count;
+    uint32_t tool;     /* ZIGRUNK_TOOL_CICC .. as zigrunk_step has it */
+    uint32_t reserved; /* 0 */
+} zigrunk_key_call;
 
 /* A part of an answer: `length` bytes of its text, or elements of a list, from `offset` on. */
 typedef struct zigrunk_range {
@@ -404,6 +416,15 @@ ZIGRUNK_CHECK_RESULT zigrunk_list_answer zigrunk_line_words(const zigrunk_line_c
  * reason, if the line doesn't compile one source, or has an options file (--options-file), which the library doesn't read. */
 ZIGRUNK_CHECK_RESULT zigrunk_list_answer zigrunk_nvcc_line(const zigrunk_nvcc_call *call,
     zigrunk_range *ranges, size_t ranges_size, uint8_t *out, size_t out_size);
+
+/* Writes the key of a command, the text that a cache hashes together with the contents of the command's files and whatever tells one
+ * version of the tool from another. The key has the words and those variables that may change what the tool makes, and a mark
+ * in place of each root, wherever a text has it. So commands with the same key differ only in their roots, and a command has the
+ * same key in another temporary directory, unless the path of that one also occurs elsewhere in the command. PWD counts for cicc and
+ * host compilers, whose debugging information has it: set it to the command's directory, or leave it out.
+ *
+ * ZIGRUNK_BAD_NUMBER if a number has no meaning or there are more than 26 roots, ZIGRUNK_BAD_LINE if a text contains NUL. */
+ZIGRUNK_CHECK_RESULT zigrunk_text_answer zigrunk_command_key(const zigrunk_key_call *call, uint8_t *out, size_t out_size);
 
 /* Lists words with canonical names for the files that nvcc generates: as many words, in their order. Pass the words of all
  * commands of a dry run, one command behind the other. Your suffixes are behind the standard ones. */

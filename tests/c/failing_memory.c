@@ -312,6 +312,13 @@ static zigrunk_list_answer try_remap(buffers *into) {
     return call_remap(&more, into->ranges, 4096, into->out, sizeof into->out);
 }
 
+static zigrunk_list_answer try_key(buffers *into) {
+    line_words words = words_of("cicc -arch compute_75 /t/k.cpp1.ii -o /t/k.ptx"), roots = words_of("/t /w");
+    zigrunk_variable variables[] = {{text_of("PWD"), text_of("/w")}, {text_of("HOME"), text_of("/h")}};
+    zigrunk_key_call call = {words.words, words.count, variables, 2, roots.words, roots.count, ZIGRUNK_TOOL_CICC, 0};
+    return as_list(zigrunk_command_key(&call, into->out, sizeof into->out));
+}
+
 /* A plan of the dry runs in files. */
 static planned_files files;
 
@@ -331,7 +338,7 @@ static const struct {
     {"look-ups over a limit", try_exceeding_lookups}, {"candidates", try_candidates}, {"line", try_line},
     {"written line", try_line_words}, {"refused line", try_refused_line}, {"line as records", try_line_records},
     {"refused line as records", try_refused_line_records}, {"nvcc line", try_nvcc_line}, {"passed line", try_passed_line},
-    {"canonical names", try_remap},
+    {"canonical names", try_remap}, {"key", try_key},
 };
 
 int main(int count, char **arguments) {

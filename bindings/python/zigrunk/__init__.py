@@ -19,8 +19,8 @@ from dataclasses import dataclass, field
 from typing import Any, Callable, Dict, Iterable, List, Mapping, Optional, Sequence, Tuple, Type, TypeVar, Union
 
 __all__ = ["ColorMode", "Command", "CommandTool", "Field", "Form", "Group", "HostCompiler", "Language", "Line", "Lookup", "Missing",
-           "NvccLine", "Output", "Place", "Plan", "PlanCall", "Reason", "Stage", "Status", "Tool", "ZigrunkError", "candidates", "find",
-           "line", "line_records", "line_words", "lookups", "nvcc_line", "plan", "plan_records", "quote", "remap", "split", "version"]
+           "NvccLine", "Output", "Place", "Plan", "PlanCall", "Reason", "Stage", "Status", "Tool", "ZigrunkError", "candidates", "command_key",
+           "find", "line", "line_records", "line_words", "lookups", "nvcc_line", "plan", "plan_records", "quote", "remap", "split", "version"]
 
 _ABI_VERSION = 1
 
@@ -383,6 +383,15 @@ class _NvccCall(ctypes.Structure):
     ]
 
 
+class _KeyCall(ctypes.Structure):
+    _fields_ = [
+        ("words", ctypes.POINTER(_Text)), ("words_count", ctypes.c_size_t),
+        ("variables", ctypes.POINTER(_Variable)), ("variables_count", ctypes.c_size_t),
+        ("roots", ctypes.POINTER(_Text)), ("roots_count", ctypes.c_size_t),
+        ("tool", ctypes.c_uint32), ("reserved", ctypes.c_uint32),
+    ]
+
+
 class _Range(ctypes.Structure):
     _fields_ = [("offset", ctypes.c_size_t), ("length", ctypes.c_size_t)]
 
@@ -465,6 +474,7 @@ _CALLS = {
     "zigrunk_line_records": (_LineAnswer, [ctypes.POINTER(_LineCall), ctypes.POINTER(_Output), ctypes.c_size_t] + _RANGES + _OUT),
     "zigrunk_line_words": (_ListAnswer, [ctypes.POINTER(_LineCall)] + _RANGES + _OUT),
     "zigrunk_nvcc_line": (_ListAnswer, [ctypes.POINTER(_NvccCall)] + _RANGES + _OUT),
+    "zigrunk_command_key": (_TextAnswer, [ctypes.POINTER(_KeyCall)] + _OUT),
     "zigrunk_remap": (_ListAnswer, [ctypes.POINTER(_Text), ctypes.c_size_t] * 2 + _RANGES + _OUT),
 }
 
@@ -554,7 +564,7 @@ def _texts(ranges: ctypes.Array[_Range], count: int, data: bytes) -> List[str]:
     return [data[offset:offset + length].decode("utf-8") for offset, length in struct.iter_unpack("NN", used)]
 
 
-def _ask_text(call: Callable[..., _TextAnswer], *arguments: object) -> str:
+def _ask_bytes(call: Callable[..., _TextAnswer], *arguments: object) -> bytes:
     size = 4096
     for _ in range(_ATTEMPTS):
         out = ctypes.create_string_buffer(size)
@@ -562,9 +572,13 @@ def _ask_text(call: Callable[..., _TextAnswer], *arguments: object) -> str:
         if answer.length <= size:
             data = out.raw[: answer.length]
             _checked(answer.status, data)
-            return data.decode("utf-8")
+            return data
         size = answer.length
     raise _unsettled()
+
+
+def _ask_text(call: Callable[..., _TextAnswer], *arguments: object) -> str:
+    return _ask_bytes(call, *arguments).decode("utf-8")
 
 
 def _ask_list(call: Callable[..., _ListAnswer], *arguments: object) -> List[str]:
@@ -800,6 +814,22 @@ def nvcc_line(cwd: str, tmp: str, nvcc: str, words: Sequence[str],
     """
     record = _NvccCall(_text(_bytes(cwd)), _text(_bytes(tmp)), _text(_bytes(nvcc)), *_array(words), *_variables(environment), 0)
     return NvccLine(*_ask_list(_library.zigrunk_nvcc_line, ctypes.byref(record)))
+
+
+def command_key(tool: CommandTool, words: Sequence[str],
+                environment: Union[Mapping[str, str], Sequence[Tuple[str, str]]] = (), roots: Sequence[str] = ()) -> bytes:
+    """The key of a command, for a cache, which hashes it together with the contents of the command's files and whatever tells one version of
+    the tool from another.
+
+    `words` begins with the program. The key has these words and those variables that may change what the tool makes, and a mark in place of
+    each root, wherever a text has it: a directory whose path doesn't count, such as the temporary one. One that is in another comes
+    before it. So commands with the same key differ only in their roots. PWD counts for cicc and host compilers, whose debugging
+    information has it: set it to the command's directory, or leave it out.
+
+    Raises `ZigrunkError` if there are more than 26 roots, or if a text contains NUL.
+    """
+    record = _KeyCall(*_array(words), *_variables(environment), *_array(roots), int(tool), 0)
+    return _ask_bytes(_library.zigrunk_command_key, ctypes.byref(record))
 
 
 def remap(words: Sequence[str], suffixes: Sequence[str] = ()) -> List[str]:

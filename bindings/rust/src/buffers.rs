@@ -37,12 +37,12 @@ pub(crate) fn settled<S, A>(mut sizes: S, mut attempt: impl FnMut(S) -> Result<A
     Err(Error::unsettled())
 }
 
-/// The status and the text of a call that writes a text into a buffer of a size.
+/// The status and the bytes of a call that writes a text into a buffer of a size.
 ///
 /// # Safety
 ///
 /// `call` writes nothing but the buffer, and all of its answer if that fits.
-pub(crate) unsafe fn text(estimate: usize, mut call: impl FnMut(*mut u8, usize) -> TextAnswer) -> Result<(i32, String), Error> {
+unsafe fn bytes(estimate: usize, mut call: impl FnMut(*mut u8, usize) -> TextAnswer) -> Result<(i32, Vec<u8>), Error> {
     settled(estimate, |size| {
         let mut out: Vec<u8> = Vec::with_capacity(size.max(LEAST));
         let answer = call(out.as_mut_ptr(), out.capacity());
@@ -50,15 +50,39 @@ pub(crate) unsafe fn text(estimate: usize, mut call: impl FnMut(*mut u8, usize) 
             return Err(answer.length);
         }
         // SAFETY: it fits, so the call has written it.
-        Ok((answer.status, utf8(unsafe { written(out, answer.length) })))
+        Ok((answer.status, unsafe { written(out, answer.length) }))
     })
+}
+
+/// The status and the text of such a call.
+///
+/// # Safety
+///
+/// As for `bytes`.
+pub(crate) unsafe fn text(estimate: usize, call: impl FnMut(*mut u8, usize) -> TextAnswer) -> Result<(i32, String), Error> {
+    // SAFETY: the caller's duty.
+    let (status, bytes) = unsafe { bytes(estimate, call) }?;
+    Ok((status, utf8(bytes)))
+}
+
+/// A text of any bytes, or the error of the call.
+///
+/// # Safety
+///
+/// As for `bytes`.
+pub(crate) unsafe fn bytes_or_error(estimate: usize, call: impl FnMut(*mut u8, usize) -> TextAnswer) -> Result<Vec<u8>, Error> {
+    // SAFETY: the caller's duty.
+    match unsafe { bytes(estimate, call) }? {
+        (0, bytes) => Ok(bytes),
+        (status, message) => Err(Error::new(status, utf8(message))),
+    }
 }
 
 /// A text, or the error of the call.
 ///
 /// # Safety
 ///
-/// As for `text`.
+/// As for `bytes`.
 pub(crate) unsafe fn text_or_error(estimate: usize, call: impl FnMut(*mut u8, usize) -> TextAnswer) -> Result<String, Error> {
     // SAFETY: the caller's duty.
     match unsafe { text(estimate, call) }? {

@@ -44,6 +44,7 @@ records! {
     }
     "zigrunk_line_call" sys::LineCall<'_> { cwd, words, words_count, variables, variables_count, tool, reserved }
     "zigrunk_nvcc_call" sys::NvccCall<'_> { cwd, tmp, nvcc, words, words_count, variables, variables_count, reserved }
+    "zigrunk_key_call" sys::KeyCall<'_> { words, words_count, variables, variables_count, roots, roots_count, tool, reserved }
     "zigrunk_range" sys::Range { offset, length }
     "zigrunk_text_answer" sys::TextAnswer { status, length }
     "zigrunk_list_answer" sys::ListAnswer { status, count, length }

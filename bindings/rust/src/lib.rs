@@ -43,6 +43,7 @@
 mod buffers;
 mod call;
 mod error;
+mod key;
 #[cfg(test)]
 mod layout;
 mod line;
@@ -57,6 +58,7 @@ mod words;
 
 pub use call::{plan_text, Form, HostCompiler, PlanCall};
 pub use error::{Error, ErrorKind, Field, Place};
+pub use key::{command_key, KeyCall};
 pub use line::{line_records, ColorMode, Language, Line, Output};
 pub use needs::needs;
 pub use plan::{plan, Command, CommandTool, Commands, Group, Groups, Missing, Plan, Reason, Stage, Variables};

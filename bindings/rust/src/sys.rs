@@ -100,6 +100,20 @@ pub(crate) struct NvccCall<'a> {
     pub(crate) reserved: u64,
 }
 
+/// A command whose key is asked for.
+#[repr(C)]
+#[derive(Clone, Copy)]
+pub(crate) struct KeyCall<'a> {
+    pub(crate) words: *const Text<'a>,
+    pub(crate) words_count: usize,
+    pub(crate) variables: *const Variable<'a>,
+    pub(crate) variables_count: usize,
+    pub(crate) roots: *const Text<'a>,
+    pub(crate) roots_count: usize,
+    pub(crate) tool: u32,
+    pub(crate) reserved: u32,
+}
+
 /// A part of an answer.
 #[repr(C)]
 #[derive(Clone, Copy, Debug, Default, PartialEq, Eq)]
@@ -268,6 +282,7 @@ extern "C" {
         out: *mut u8,
         out_size: usize,
     ) -> ListAnswer;
+    pub(crate) fn zigrunk_command_key(call: *const KeyCall<'_>, out: *mut u8, out_size: usize) -> TextAnswer;
     pub(crate) fn zigrunk_remap(
         words: *const Text<'_>,
         words_count: usize,

@@ -1,6 +1,13 @@
 //! Calls of each function: answers, errors, and input of all sizes.
 
-use zigrunk::{candidates, find_program, lookups, message, quote, split, Error, ErrorKind, Lookup};
+use std::ffi::OsStr;
+use std::os::unix::ffi::OsStrExt;
+use std::path::Path;
+
+use zigrunk::{
+    candidates, command_key, find_program, lookups, message, quote, split, CommandTool, Error, ErrorKind, KeyCall, Lookup,
+    Variable,
+};
 
 fn words_of(text: &str) -> Vec<String> {
     split(text).unwrap().iter().map(String::from).collect()
@@ -45,6 +52,25 @@ fn a_list_of_texts() {
     }
     assert_eq!(count, 5);
     assert_eq!(words, words.clone());
+}
+
+#[test]
+fn keys() {
+    let (word, root) = (OsStr::from_bytes(b"\xff/t/a"), Path::new("/t"));
+    let variables = [Variable::new("PWD", "/t"), Variable::new("HOME", "/")];
+    let call = KeyCall { tool: CommandTool::Cicc, words: &[OsStr::new("cicc"), word], variables: &variables, roots: &[root] };
+    assert_eq!(command_key(&call).unwrap(), b"cicc\x000\xff\0A/a\x000PWD\x001\0A\x002");
+    let none: KeyCall<'_, &str> = KeyCall::default();
+    assert_eq!(command_key(&none).unwrap(), b"");
+    let long = "w".repeat(100_000);
+    assert_eq!(command_key(&KeyCall { words: &[&long], ..KeyCall::default() }).unwrap().len(), long.len() + 2);
+    let error = command_key(&KeyCall { words: &["a\0b"], ..KeyCall::default() }).unwrap_err();
+    assert_eq!((error.kind(), error.message()), (ErrorKind::BadLine, "a text contains NUL"));
+    for tool in [3, 9] {
+        let error = command_key(&KeyCall { tool: CommandTool::Other(tool), ..none }).unwrap_err();
+        assert_eq!(error.kind(), ErrorKind::BadNumber);
+    }
+    assert_eq!(command_key(&KeyCall { roots: &[root; 27], ..none }).unwrap_err().kind(), ErrorKind::BadNumber);
 }
 
 #[test]

@@ -1,7 +1,8 @@
-//! The exports of libzigrunk: for each call of `c_texts`, `c_lines`, `c_plans` and `c_steps`, one C function. The header is `bindings/c/zigrunk.h`.
+//! The exports of libzigrunk: for each call of `c_texts`, `c_lines`, `c_plans`, `c_steps` and `c_keys`, one C function. The header is `bindings/c/zigrunk.h`.
 #![tactic(auto)]
 
 ghost use Rattle.std.specs.Prelude.{◌≡◌, map};
+ghost use Rattle.c_keys.specs.KeyCalls.{key_outcome};
 ghost use Rattle.c_lines.specs.LineRecordCalls.{line_records};
 ghost use Rattle.c_lines.specs.LineRecords.{GivesLine};
 ghost use Rattle.c_lines.specs.Lines as lines;
@@ -19,6 +20,7 @@ ghost use Rattle.c_texts.specs.Shell.{quote_outcome, split_outcome};
 ghost use Rattle.c_texts.specs.Statuses.{with_number};
 ghost use Rattle.c_texts.specs.Version as version;
 
+use c_keys::KeyCall;
 use c_lines::{LineAnswer, LineCall, NvccLineCall, OutputRecord};
 use c_plans::{CommandRecord, GroupRecord, PlanCall, RecordsAnswer};
 use c_steps::{StepRecord, StepsAnswer};
@@ -217,6 +219,18 @@ pub extern "C" fn zigrunk_line_records(
         (record { outputs = outputs.new; ranges = ranges.new; bytes = out.new }) }
 {
     c_lines::line_records(alloc, call, outputs, ranges, out)
+}
+
+/// Writes the key of a command.
+#[unsafe(no_mangle)]
+pub extern "C" fn zigrunk_command_key(
+    alloc: Global,
+    call: &KeyCall<'_>,
+    out: &mut [u8],
+) -> TextAnswer
+    ensures { GivesText (key_outcome call.now) result out.old out.new }
+{
+    c_keys::command_key(alloc, call, out)
 }
 
 /// Lists words with canonical names of generated files.

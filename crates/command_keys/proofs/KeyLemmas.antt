@@ -1,0 +1,158 @@
+-- Keys are read back, and roots are renamed.
+use Rattle.std.proofs.Common.{◌≡◌, ℕ, zero, ◌+◌, ◌-◌, ◌==◌, Bool, true, false, not, cond, ◌&&◌, List, [], ◌∷◌, ◌++◌, refl, ap, sym, ◌∙◌, nat_lt, map, append_assoc, arith}
+use Rattle.std.specs.List.{flat_map, list_all}
+use Rattle.std.proofs.lemmas.Bool.{and_parts, and_from, not-true, le-ltb}
+use Rattle.texts.specs.Path.{lacks}
+use Rattle.command_keys.specs.declared.marks.Part.{Part}
+use Rattle.command_keys.specs.declared.marks.Part.TheVariants.{Byte, Root}
+use Rattle.command_keys.specs.Marks.{parts, text_of, renamed, are_told}
+use Rattle.command_keys.specs.Keys.{Command, Ended, texts_of, texts_of_variable, key_of_part, key_of_text, command_key, is_plain, is_plain_variable, with_texts, renamed_command, word_end, name_end, value_end, first_mark}
+use Rattle.command_keys.specs.KeyReading.{EndedParts, with_part, read_from, words_of, variables_behind, command_of, restored}
+use Rattle.command_keys.specs.KeyLaws.{KeysReadBack, EqualKeysRename, RenamedKeysAreEqual}
+use Rattle.command_keys.proofs.MarkLemmas.{text-parts, parts-told, plain-past, is_plain_part}
+
+-- the letter of a root is none of what ends a text, and says its number
+letter-is_root : (number : ℕ) → nat_lt (first_mark + number) first_mark ≡ false
+letter-is_root number = le-ltb (first_mark + number) first_mark (omega arith)
+
+letter-number : (number : ℕ) → first_mark + number - first_mark ≡ number
+letter-number number = omega arith
+
+-- one text is read back, in front of the rest of a key
+read-text : (ps : List Part) (end : ℕ) (rest : List ℕ) → list_all is_plain_part ps ≡ true → nat_lt end first_mark ≡ true →
+    read_from false (flat_map key_of_part ps ++ 0 ∷ end ∷ rest) ≡ (ps, end) ∷ read_from false rest
+read-text [] end rest plain small = ap (λ b. cond b (([], end) ∷ read_from false rest) (with_part (Root (end - first_mark)) (read_from false rest))) small
+read-text (Byte byte ∷ ps) end rest plain small =
+    let both = and_parts (not (byte == 0)) (list_all is_plain_part ps) plain in
+    let some = not-true (byte == 0) both.0 in
+    let behind = flat_map key_of_part ps ++ 0 ∷ end ∷ rest in
+    ap (λ b. cond b (read_from b behind) (with_part (Byte byte) (read_from b behind))) some
+    ∙ ap (with_part (Byte byte)) (read-text ps end rest both.1 small)
+read-text (Root number ∷ ps) end rest plain small =
+    let behind = flat_map key_of_part ps ++ 0 ∷ end ∷ rest in
+    ap (λ b. cond b (([], first_mark + number) ∷ read_from false behind) (with_part (Root (first_mark + number - first_mark)) (read_from false behind))) (letter-is_root number)
+    ∙ ap (λ n. with_part (Root n) (read_from false behind)) (letter-number number)
+    ∙ ap (with_part (Root number)) (read-text ps end rest plain small)
+
+-- what is asked of texts: no NUL in them, and an end below the letters
+abbrev is_readable : Ended → Bool
+is_readable text = lacks 0 text.0 && nat_lt text.1 first_mark
+
+-- all texts are read back
+read-texts : (roots : List (List ℕ)) (texts : List Ended) → list_all is_readable texts ≡ true →
+    read_from false (flat_map (key_of_text roots) texts) ≡ map (λ text. (parts roots text.0, text.1)) texts
+read-texts roots [] all = refl
+read-texts roots (text ∷ texts) all =
+    let both = and_parts (is_readable text) (list_all is_readable texts) all in
+    let this = and_parts (lacks 0 text.0) (nat_lt text.1 first_mark) both.0 in
+    let rest = flat_map (key_of_text roots) texts in
+    ap (read_from false) (append_assoc (flat_map key_of_part (parts roots text.0)) (0 ∷ text.1 ∷ []) rest)
+    ∙ read-text (parts roots text.0) text.1 rest (plain-past roots zero text.0 this.0) this.1
+    ∙ ap (λ more. (parts roots text.0, text.1) ∷ more) (read-texts roots texts both.1)
+
+all-append : {X : Type 0} (test : X → Bool) (xs ys : List X) → list_all test xs ≡ true → list_all test ys ≡ true → list_all test (xs ++ ys) ≡ true
+all-append test [] ys first second = second
+all-append test (x ∷ xs) ys first second =
+    let both = and_parts (test x) (list_all test xs) first in
+    and_from (test x) (list_all test (xs ++ ys)) both.0 (all-append test xs ys both.1 second)
+
+readable-words : (words : List (List ℕ)) → list_all (lacks 0) words ≡ true → list_all is_readable (map (λ word. (word, word_end)) words) ≡ true
+readable-words [] all = refl
+readable-words (word ∷ words) all =
+    let both = and_parts (lacks 0 word) (list_all (lacks 0) words) all in
+    and_from (is_readable (word, word_end)) (list_all is_readable (map (λ word. (word, word_end)) words)) (and_from (lacks 0 word) true both.0 refl) (readable-words words both.1)
+
+readable-variables : (variables : List (List ℕ × List ℕ)) → list_all is_plain_variable variables ≡ true → list_all is_readable (flat_map texts_of_variable variables) ≡ true
+readable-variables [] all = refl
+readable-variables (v ∷ variables) all =
+    let both = and_parts (is_plain_variable v) (list_all is_plain_variable variables) all in
+    let this = and_parts (lacks 0 v.0) (lacks 0 v.1) both.0 in
+    let rest = list_all is_readable (flat_map texts_of_variable variables) in
+    and_from (is_readable (v.0, name_end)) (is_readable (v.1, value_end) && rest) (and_from (lacks 0 v.0) true this.0 refl)
+    (and_from (is_readable (v.1, value_end)) rest (and_from (lacks 0 v.1) true this.1 refl) (readable-variables variables both.1))
+
+readable : (command : Command) → is_plain command ≡ true → list_all is_readable (texts_of command) ≡ true
+readable command plain =
+    let both = and_parts (list_all (lacks 0) command.0) (list_all is_plain_variable command.1) plain in
+    all-append is_readable (map (λ word. (word, word_end)) command.0) (flat_map texts_of_variable command.1) (readable-words command.0 both.0) (readable-variables command.1 both.1)
+
+-- a command is made of its texts again
+no-words : (variables : List (List ℕ × List ℕ)) → words_of (flat_map texts_of_variable variables) ≡ []
+no-words [] = refl
+no-words (v ∷ variables) = no-words variables
+
+words-again : (words : List (List ℕ)) (texts : List Ended) → words_of texts ≡ [] → words_of (map (λ word. (word, word_end)) words ++ texts) ≡ words
+words-again [] texts none = none
+words-again (word ∷ words) texts none = ap (λ ws. word ∷ ws) (words-again words texts none)
+
+variables-again : (name : List ℕ) (variables : List (List ℕ × List ℕ)) → variables_behind name (flat_map texts_of_variable variables) ≡ variables
+variables-again name [] = refl
+variables-again name (v ∷ variables) = ap (λ vs. v ∷ vs) (variables-again v.1 variables)
+
+variables-behind_words : (name : List ℕ) (words : List (List ℕ)) (variables : List (List ℕ × List ℕ)) → variables_behind name (map (λ word. (word, word_end)) words ++ flat_map texts_of_variable variables) ≡ variables
+variables-behind_words name [] variables = variables-again name variables
+variables-behind_words name (word ∷ words) variables = variables-behind_words word words variables
+
+command-again : (command : Command) → command_of (texts_of command) ≡ command
+command-again command =
+    λ i. (words-again command.0 (flat_map texts_of_variable command.1) (no-words command.1) i, variables-behind_words [] command.0 command.1 i)
+
+-- the texts of a command, each changed
+abbrev changed : (List ℕ → List ℕ) → Ended → Ended
+changed change text = (change text.0, text.1)
+
+changed-variables : (change : List ℕ → List ℕ) (variables : List (List ℕ × List ℕ)) → flat_map texts_of_variable (map (λ v. (change v.0, change v.1)) variables) ≡ map (changed change) (flat_map texts_of_variable variables)
+changed-variables change [] = refl
+changed-variables change (v ∷ variables) = ap (λ ts. (change v.0, name_end) ∷ (change v.1, value_end) ∷ ts) (changed-variables change variables)
+
+changed-texts : (change : List ℕ → List ℕ) (words : List (List ℕ)) (variables : List (List ℕ × List ℕ)) → texts_of (with_texts change (words, variables)) ≡ map (changed change) (texts_of (words, variables))
+changed-texts change [] variables = changed-variables change variables
+changed-texts change (word ∷ words) variables = ap (λ ts. (change word, word_end) ∷ ts) (changed-texts change words variables)
+
+map-twice : {X Y Z : Type 0} (f : X → Y) (g : Y → Z) (xs : List X) → map g (map f xs) ≡ map (λ x. g (f x)) xs
+map-twice f g [] = refl
+map-twice f g (x ∷ xs) = ap (λ t. g (f x) ∷ t) (map-twice f g xs)
+
+-- a key that is read with other roots is the command with these
+restored-key : (roots others : List (List ℕ)) (command : Command) → is_plain command ≡ true → restored others (command_key roots command) ≡ renamed_command roots others command
+restored-key roots others command plain =
+    let seen : EndedParts → Ended = λ text. (text_of others text.0, text.1) in
+    let cut : Ended → EndedParts = λ text. (parts roots text.0, text.1) in
+    ap (λ texts. command_of (map seen texts)) (read-texts roots (texts_of command) (readable command plain))
+    ∙ ap command_of (map-twice cut seen (texts_of command))
+    ∙ ap command_of (sym (changed-texts (renamed roots others) command.0 command.1))
+    ∙ command-again (renamed_command roots others command)
+
+-- the same roots change nothing
+same-words : (change : List ℕ → List ℕ) → ((text : List ℕ) → change text ≡ text) → (words : List (List ℕ)) → map change words ≡ words
+same-words change same [] = refl
+same-words change same (word ∷ words) = λ i. same word i ∷ same-words change same words i
+
+same-variables : (change : List ℕ → List ℕ) → ((text : List ℕ) → change text ≡ text) → (variables : List (List ℕ × List ℕ)) → map (λ v. (change v.0, change v.1)) variables ≡ variables
+same-variables change same [] = refl
+same-variables change same (v ∷ variables) = λ i. (same v.0 i, same v.1 i) ∷ same-variables change same variables i
+
+renamed-same : (roots : List (List ℕ)) (command : Command) → renamed_command roots roots command ≡ command
+renamed-same roots command =
+    λ i. (same-words (renamed roots roots) (text-parts roots) command.0 i, same-variables (renamed roots roots) (text-parts roots) command.1 i)
+
+pub keys-read_back : KeysReadBack
+keys-read_back roots command plain = restored-key roots roots command plain ∙ renamed-same roots command
+
+pub equal-keys_rename : EqualKeysRename
+equal-keys_rename roots others command other plain plain' same =
+    sym (keys-read_back others other plain') ∙ ap (restored others) (sym same) ∙ restored-key roots others command plain
+
+-- a text with other roots in place of its own has the same parts
+same-keys : (roots others : List (List ℕ)) (texts : List Ended) → list_all (λ text. are_told others (parts roots text.0)) texts ≡ true →
+    flat_map (key_of_text others) (map (changed (renamed roots others)) texts) ≡ flat_map (key_of_text roots) texts
+same-keys roots others [] all = refl
+same-keys roots others (text ∷ texts) all =
+    let both = and_parts (are_told others (parts roots text.0)) (list_all (λ text. are_told others (parts roots text.0)) texts) all in
+    let this : parts others (renamed roots others text.0) ≡ parts roots text.0 = parts-told others (parts roots text.0) both.0 in
+    λ i. (flat_map key_of_part (this i) ++ 0 ∷ text.1 ∷ []) ++ same-keys roots others texts both.1 i
+
+pub renamed-keys_are_equal : RenamedKeysAreEqual
+renamed-keys_are_equal roots others command free =
+    ap (flat_map (key_of_text others)) (changed-texts (renamed roots others) command.0 command.1)
+    ∙ same-keys roots others (texts_of command) free

@@ -1,0 +1,188 @@
+-- Roots in texts: a text is that of its parts, and parts are found again where no root begins elsewhere.
+use Rattle.std.proofs.Common.{◌≡◌, ℕ, zero, suc, ◌+◌, ◌-◌, ◌<◌, ◌==◌, Bool, true, false, not, cond, ◌&&◌, List, [], ◌∷◌, ◌++◌, Option, Some, None, MatchOption, Bor, length-append, refl, ap, sym, ◌∙◌, subst, eqb-true, length, take, drop, get_or, arith}
+use Rattle.std.specs.List.{position_from, list_all}
+use Rattle.std.proofs.lemmas.Bool.{false≢true, and_parts, and_from, false_from_ne_true}
+use Rattle.std.proofs.lemmas.List.{take-append-drop}
+use Rattle.std.proofs.lemmas.Slice.Eq.{bytes_eq-Decides}
+use Rattle.std.specs.Str.{bytes_eq}
+use Rattle.texts.specs.Path.{lacks}
+use Rattle.command_keys.specs.declared.marks.Part.{Part}
+use Rattle.command_keys.specs.declared.marks.Part.TheVariants.{Byte, Root}
+use Rattle.command_keys.specs.Marks.{begins_with, root_at, root_of, part_at, length_behind, parts_past, parts, text_of_part, text_of, is_told, are_told}
+
+pub one-less : (n : ℕ) → suc n - 1 ≡ n
+one-less n = omega arith
+
+-- a text that begins with a root is the root and the rest
+begins-split : (c : ℕ) (cs root : List ℕ) → begins_with (c ∷ cs) root ≡ true → root ++ drop (length root - 1) cs ≡ c ∷ cs
+begins-split c cs [] h = absurd (false≢true h)
+begins-split c cs (r ∷ rs) h =
+    let front : r ∷ rs ≡ take (length (r ∷ rs)) (c ∷ cs) = (bytes_eq-Decides (r ∷ rs) (take (length (r ∷ rs)) (c ∷ cs))).0 h in
+    ap (λ n. (r ∷ rs) ++ drop n cs) (one-less (length rs))
+    ∙ ap (λ t. t ++ drop (length rs) cs) front
+    ∙ take-append-drop (length (r ∷ rs)) (c ∷ cs)
+
+-- the position that is found, counted from the first of the list
+record Found (text : List ℕ) (roots : List (List ℕ)) (start number : ℕ) : Type 0 where
+  pub place : ℕ
+  pub is : number ≡ start + place
+  pub within : place < length roots
+  pub begins : begins_with text (get_or roots place []) ≡ true
+
+same-number : (m n : ℕ) → Some m ≡ Some n → m ≡ n
+same-number m n e = ap (λ (o : Option ℕ). value o) e where
+  value : Option ℕ → ℕ
+  value None = 0
+  value (Some n) = n
+
+none-some : {P : Type 0} (n : ℕ) → None ≡ Some n → P
+none-some n e = absurd (false≢true (ap has e)) where
+  has : Option ℕ → Bool
+  has None = false
+  has (Some n) = true
+
+found-from : (text : List ℕ) (roots : List (List ℕ)) (start number : ℕ) → position_from (begins_with text) start roots ≡ Some number → Found text roots start number
+found-from text [] start number e = none-some number e
+found-from text (root ∷ roots) start number e =
+    elim (begins_with text root) as (λ b. begins_with text root ≡ b → cond b (Some start) (position_from (begins_with text) (start + 1) roots) ≡ Some number → Found text (root ∷ roots) start number) [
+      | true ↦ λ is e.
+          let same : start ≡ number = same-number start number e in
+          record { place = 0; is = omega (arith, same); within = omega arith; begins = is }
+      | false ↦ λ is e.
+          let more = found-from text roots (start + 1) number e in
+          let at : number ≡ start + 1 + more.place = more.is in
+          let below : more.place < length roots = more.within in
+          record { place = suc more.place; is = omega (arith, at); within = omega (arith, below); begins = more.begins }
+    ] refl e
+
+-- a root that is found begins the text, and has a number of the list
+pub root-begins : (roots : List (List ℕ)) (text : List ℕ) (number : ℕ) → root_at roots text ≡ Some number → begins_with text (root_of roots number) ≡ true
+root-begins roots text number e =
+    let found = found-from text roots 0 number e in
+    let same : number ≡ found.place = found.is ∙ (omega arith) in
+    subst (λ n. begins_with text (root_of roots n) ≡ true) (sym same) found.begins
+
+pub root-within : (roots : List (List ℕ)) (text : List ℕ) (number : ℕ) → root_at roots text ≡ Some number → number < length roots
+root-within roots text number e =
+    let found = found-from text roots 0 number e in
+    let at : number ≡ 0 + found.place = found.is in
+    let below : found.place < length roots = found.within in
+    omega (arith, at, below)
+
+-- the text of the parts is the text
+pub text-past : (roots : List (List ℕ)) (skipped : ℕ) (text : List ℕ) → text_of roots (parts_past skipped roots text) ≡ drop skipped text
+text-past roots zero [] = refl
+text-past roots (suc skipped) [] = refl
+text-past roots (suc skipped) (c ∷ cs) = text-past roots skipped cs
+text-past roots zero (c ∷ cs) =
+    elim (root_at roots (c ∷ cs)) as (λ o. root_at roots (c ∷ cs) ≡ o → text_of_part roots (part_at o c) ++ text_of roots (parts_past (length_behind roots o) roots cs) ≡ c ∷ cs) [
+      | None ↦ λ _. ap (λ t. c ∷ t) (text-past roots zero cs)
+      | Some number ↦ λ e.
+          ap (λ t. root_of roots number ++ t) (text-past roots (length (root_of roots number) - 1) cs)
+          ∙ begins-split c cs (root_of roots number) (root-begins roots (c ∷ cs) number e)
+    ] refl
+
+pub text-parts : (roots : List (List ℕ)) (text : List ℕ) → text_of roots (parts roots text) ≡ text
+text-parts roots text = text-past roots zero text
+
+-- passing over the beginning of a text
+parts-behind : (roots : List (List ℕ)) (front back : List ℕ) → parts_past (length front) roots (front ++ back) ≡ parts_past 0 roots back
+parts-behind roots [] back = refl
+parts-behind roots (c ∷ front) back = parts-behind roots front back
+
+told-byte : (byte : ℕ) (o : Option ℕ) → is_told (Byte byte) o ≡ true → o ≡ None
+told-byte byte None h = refl
+told-byte byte (Some number) h = absurd (false≢true h)
+
+told-root : (number : ℕ) (o : Option ℕ) → is_told (Root number) o ≡ true → o ≡ Some number
+told-root number None h = absurd (false≢true h)
+told-root number (Some other) h = ap Some (sym (eqb-true number other h))
+
+-- the parts of a text that begins with a root
+root-first : (roots : List (List ℕ)) (number : ℕ) (root rest : List ℕ) → root_of roots number ≡ root → begins_with (root ++ rest) root ≡ true → root_at roots (root ++ rest) ≡ Some number → parts roots (root ++ rest) ≡ Root number ∷ parts roots rest
+root-first roots number [] rest is begins e = absurd (nothing-begins rest begins) where
+  nothing-begins : (rest : List ℕ) → begins_with rest [] ≡ true → ⊥
+  nothing-begins rest h = false≢true h
+root-first roots number (r ∷ rs) rest is begins e =
+    ap (λ o. part_at o r ∷ parts_past (length_behind roots o) roots (rs ++ rest)) e
+    ∙ ap (λ root. Root number ∷ parts_past (length root - 1) roots (rs ++ rest)) is
+    ∙ ap (λ n. Root number ∷ parts_past n roots (rs ++ rest)) (one-less (length rs))
+    ∙ ap (λ ps. Root number ∷ ps) (parts-behind roots rs rest)
+
+-- parts are found again in their text
+pub parts-told : (roots : List (List ℕ)) (ps : List Part) → are_told roots ps ≡ true → parts roots (text_of roots ps) ≡ ps
+parts-told roots [] h = refl
+parts-told roots (Byte byte ∷ ps) h =
+    let rest = text_of roots ps in
+    let both = and_parts (is_told (Byte byte) (root_at roots (byte ∷ rest))) (are_told roots ps) h in
+    let none = told-byte byte (root_at roots (byte ∷ rest)) both.0 in
+    ap (λ o. part_at o byte ∷ parts_past (length_behind roots o) roots rest) none
+    ∙ ap (λ qs. Byte byte ∷ qs) (parts-told roots ps both.1)
+parts-told roots (Root number ∷ ps) h =
+    let root = root_of roots number in
+    let rest = text_of roots ps in
+    let both = and_parts (is_told (Root number) (root_at roots (root ++ rest))) (are_told roots ps) h in
+    let at = told-root number (root_at roots (root ++ rest)) both.0 in
+    root-first roots number root rest refl (root-begins roots (root ++ rest) number at) at
+    ∙ ap (λ qs. Root number ∷ qs) (parts-told roots ps both.1)
+
+-- a text without NUL has no part that is NUL
+abbrev pub is_plain_part : Part → Bool
+is_plain_part (Byte byte) = not (byte == 0)
+is_plain_part (Root number) = true
+
+pub plain-past : (roots : List (List ℕ)) (skipped : ℕ) (text : List ℕ) → lacks 0 text ≡ true → list_all is_plain_part (parts_past skipped roots text) ≡ true
+plain-past roots zero [] h = refl
+plain-past roots (suc skipped) [] h = refl
+plain-past roots (suc skipped) (c ∷ cs) h = plain-past roots skipped cs (and_parts (not (c == 0)) (lacks 0 cs) h).1
+plain-past roots zero (c ∷ cs) h =
+    let both = and_parts (not (c == 0)) (lacks 0 cs) h in
+    elim (root_at roots (c ∷ cs)) as (λ o. (is_plain_part (part_at o c) && list_all is_plain_part (parts_past (length_behind roots o) roots cs)) ≡ true) [
+      | None ↦ and_from (not (c == 0)) (list_all is_plain_part (parts_past 0 roots cs)) both.0 (plain-past roots zero cs both.1)
+      | Some number ↦ plain-past roots (length (root_of roots number) - 1) cs both.1
+    ]
+
+-- the number of the first root of a text, behind roots that don't begin it
+pub root-step : (text : List ℕ) (number : ℕ) (root : List ℕ) (roots : List (List ℕ)) (all : Option ℕ) → begins_with text root ≡ false → position_from (begins_with text) number (root ∷ roots) ≡ all → position_from (begins_with text) (number + 1) roots ≡ all
+root-step text number root roots all other h = ap (λ b. cond b (Some number) (position_from (begins_with text) (number + 1) roots)) (sym other) ∙ h
+
+pub root-stop : (text : List ℕ) (number : ℕ) (root : List ℕ) (roots : List (List ℕ)) (all : Option ℕ) → begins_with text root ≡ true → position_from (begins_with text) number (root ∷ roots) ≡ all → Some number ≡ all
+root-stop text number root roots all is h = ap (λ b. cond b (Some number) (position_from (begins_with text) (number + 1) roots)) (sym is) ∙ h
+
+-- what std says of a root that is stripped off
+pub stripped : (text root : List ℕ) (rest : Option (Bor (List ℕ))) → (length root == 0) ≡ false →
+    MatchOption rest (bytes_eq (take (length root) text) root ≡ false) (λ r. (bytes_eq (take (length root) text) root ≡ true) × (r.now ≡ drop (length root) text) × (length r.now + length root ≡ length text)) →
+    MatchOption rest (begins_with text root ≡ false) (λ r. (begins_with text root ≡ true) × (text ≡ root ++ r.now))
+stripped text [] rest some h = absurd (false≢true (sym some))
+stripped text (c ∷ cs) None some h =
+    let root = c ∷ cs in
+    let front = take (length root) text in
+    false_from_ne_true (begins_with text root) (λ is. false≢true (sym h ∙ (bytes_eq-Decides front root).1 (sym ((bytes_eq-Decides root front).0 is))))
+stripped text (c ∷ cs) (Some rest) some h =
+    let root = c ∷ cs in
+    let front = take (length root) text in
+    let same : front ≡ root = (bytes_eq-Decides front root).0 h.0 in (
+      (bytes_eq-Decides root front).1 (sym same),
+      sym (take-append-drop (length root) text) ∙ ap (λ t. t ++ drop (length root) text) same ∙ ap (λ t. root ++ t) (sym h.1),
+    )
+
+-- a text that begins with a root, and what follows it
+some-root : (text root : List ℕ) → begins_with text root ≡ true → 0 < length root
+some-root text [] h = absurd (false≢true h)
+some-root text (c ∷ cs) h = omega arith
+
+pub first-root : (roots : List (List ℕ)) (text rest : List ℕ) (number : ℕ) → root_at roots text ≡ Some number → text ≡ root_of roots number ++ rest → (parts roots text ≡ Root number ∷ parts roots rest) × (length rest < length text)
+first-root roots text rest number e is =
+    let root = root_of roots number in
+    let at : root_at roots (root ++ rest) ≡ Some number = ap (root_at roots) (sym is) ∙ e in
+    let begins = root-begins roots (root ++ rest) number at in
+    let some : 0 < length root = some-root (root ++ rest) root begins in
+    let long : length text ≡ length root + length rest = ap length is ∙ length-append root rest in (
+      ap (parts roots) is ∙ root-first roots number root rest refl begins at,
+      omega (arith, some, long),
+    )
+
+pub first-byte : (roots : List (List ℕ)) (text rest : List ℕ) (byte : ℕ) → root_at roots text ≡ None → text ≡ byte ∷ rest → parts roots text ≡ Byte byte ∷ parts roots rest
+first-byte roots text rest byte e is =
+    let at : root_at roots (byte ∷ rest) ≡ None = ap (root_at roots) (sym is) ∙ e in
+    ap (parts roots) is ∙ ap (λ o. part_at o byte ∷ parts_past (length_behind roots o) roots rest) at

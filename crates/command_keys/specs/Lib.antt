@@ -1,0 +1,6 @@
+pub mod Fitting
+pub mod KeyLaws
+pub mod KeyReading
+pub mod Keys
+pub mod Marks
+pub mod ToolVariables

@@ -1,0 +1,45 @@
+-- The environment variables that count in a key.
+--
+-- How they were found: a library put before the C library (LD_PRELOAD) wrote down each `getenv` of the tools of nvcc 13.0 with gcc 12, for calls
+-- with -c, -G, -g, -lineinfo, -dlto and -rdc=true; `strings` on ptxas and nvlink showed one more. gcc's manual has the rest of gcc's, which it
+-- reads only for some sources. Left out are those for temporary files, colours, logs, numbers of threads and PATH: they change where
+-- something is, or a message, and a program that PATH finds is part of what a cache knows of the tool.
+use Rattle.std.specs.Prelude.{◌≡◌, ℕ, List, [], ◌∷◌, if◌then◌else◌, Option, Some, None, refl, codes}
+use Rattle.std.specs.List.{flat_map}
+use Rattle.std.specs.Str.{bytes_eq}
+use Rattle.texts.specs.Lists.{latest}
+use Rattle.command_keys.specs.declared.environment.KeyTool.{KeyTool}
+use Rattle.command_keys.specs.declared.environment.KeyTool.TheVariants.{Cicc, Ptxas, CudaFe, Fatbinary, Nvlink, Host}
+
+-- the variables that a tool reads, in the order of a key
+abbrev pub read_by : KeyTool → List (List ℕ)
+read_by Cicc =
+    codes "EDG_BASE" ∷ codes "EDG_MODULES_PATH" ∷ codes "LLVM_OVERRIDE_PRODUCER" ∷ codes "NVVMCCWIZ" ∷ codes "NVVM_IR_VER_CHK"
+    ∷ codes "NV_NVVM_VERSION" ∷ codes "PWD" ∷ codes "USR_INCLUDE" ∷ []
+read_by Ptxas = codes "CAN_FINALIZE_DEBUG" ∷ codes "DUMP_KNOBS_TO_FILE" ∷ []
+read_by CudaFe = codes "EDG_BASE" ∷ codes "EDG_MODULES_PATH" ∷ codes "USR_INCLUDE" ∷ []
+read_by Fatbinary = []
+read_by Nvlink = codes "CAN_FINALIZE_DEBUG" ∷ codes "LIBRARY_PATH" ∷ []
+read_by Host =
+    codes "COMPILER_PATH" ∷ codes "CPATH" ∷ codes "CPLUS_INCLUDE_PATH" ∷ codes "C_INCLUDE_PATH" ∷ codes "DEPENDENCIES_OUTPUT"
+    ∷ codes "GCC_EXEC_PREFIX" ∷ codes "LANG" ∷ codes "LC_ALL" ∷ codes "LC_CTYPE" ∷ codes "LC_MESSAGES" ∷ codes "LIBRARY_PATH"
+    ∷ codes "PWD" ∷ codes "SOURCE_DATE_EPOCH" ∷ codes "SUNPRO_DEPENDENCIES" ∷ []
+
+-- the value of a variable in an environment; of a name that occurs twice, the last one
+abbrev pub last_value : List ℕ → List (List ℕ × List ℕ) → Option (List ℕ)
+last_value name [] = None
+last_value name (variable ∷ rest) = latest (if bytes_eq variable.0 name then Some variable.1 else None) (last_value name rest)
+
+abbrev pub set_variable : List ℕ → Option (List ℕ) → List (List ℕ × List ℕ)
+set_variable name None = []
+set_variable name (Some value) = (name, value) ∷ []
+
+-- the variables that a tool reads, as far as an environment sets them
+abbrev pub tool_variables : KeyTool → List (List ℕ × List ℕ) → List (List ℕ × List ℕ)
+tool_variables tool environment = flat_map (λ name. set_variable name (last_value name environment)) (read_by tool)
+
+-- An example: the order of the environment doesn't count, and of two values the last one does.
+pub variables_of_cudafe :
+    tool_variables CudaFe ((codes "USR_INCLUDE", codes "/a") ∷ (codes "HOME", codes "/") ∷ (codes "EDG_BASE", codes "/b") ∷ (codes "USR_INCLUDE", codes "/c") ∷ [])
+    ≡ (codes "EDG_BASE", codes "/b") ∷ (codes "USR_INCLUDE", codes "/c") ∷ []
+variables_of_cudafe = refl

@@ -1,0 +1,92 @@
+//! The environment variables that count in a key.
+
+ghost use Rattle.std.specs.Prelude.{◌≡◌, map, IfOk};
+ghost use Rattle.std.specs.Option.{option_copied};
+ghost use Rattle.command_keys.specs.Keys.{shown, shown_variable};
+ghost use Rattle.command_keys.specs.ToolVariables as spec;
+
+use std::alloc::{AllocError, Global};
+
+/// The kinds of tools that a command runs.
+#[derive(Clone, Copy, Debug)]
+pub enum KeyTool {
+    Cicc,
+    Ptxas,
+    CudaFe,
+    Fatbinary,
+    Nvlink,
+    /// A host compiler: gcc, or clang.
+    Host,
+}
+
+fn names_of(tool: KeyTool) -> &'static [&'static str]
+    ensures { map shown result.now ≡ spec.read_by tool }
+{
+    match tool {
+        KeyTool::Cicc => &[
+            "EDG_BASE",
+            "EDG_MODULES_PATH",
+            "LLVM_OVERRIDE_PRODUCER",
+            "NVVMCCWIZ",
+            "NVVM_IR_VER_CHK",
+            "NV_NVVM_VERSION",
+            "PWD",
+            "USR_INCLUDE",
+        ],
+        KeyTool::Ptxas => &["CAN_FINALIZE_DEBUG", "DUMP_KNOBS_TO_FILE"],
+        KeyTool::CudaFe => &["EDG_BASE", "EDG_MODULES_PATH", "USR_INCLUDE"],
+        KeyTool::Fatbinary => &[],
+        KeyTool::Nvlink => &["CAN_FINALIZE_DEBUG", "LIBRARY_PATH"],
+        KeyTool::Host => &[
+            "COMPILER_PATH",
+            "CPATH",
+            "CPLUS_INCLUDE_PATH",
+            "C_INCLUDE_PATH",
+            "DEPENDENCIES_OUTPUT",
+            "GCC_EXEC_PREFIX",
+            "LANG",
+            "LC_ALL",
+            "LC_CTYPE",
+            "LC_MESSAGES",
+            "LIBRARY_PATH",
+            "PWD",
+            "SOURCE_DATE_EPOCH",
+            "SUNPRO_DEPENDENCIES",
+        ],
+    }
+}
+
+// The value of the last variable of an environment with a name.
+fn last_value<'a>(environment: &[(&'a [u8], &'a [u8])], name: &[u8]) -> Option<&'a [u8]>
+    ensures { option_copied result ≡ spec.last_value name.now (map shown_variable environment.now) }
+{
+    let mut last = None;
+    for variable in environment {
+        if variable.0 == name {
+            last = Some(variable.1);
+        }
+    }
+    last
+}
+
+/// The variables that a tool reads, with their values, as far as `environment` sets them: always in one order, whatever
+/// the environment's is. Of a name that occurs twice, the last value counts.
+///
+/// They are those that may change what the tool makes (`specs/ToolVariables` says how they were found). A caller that also wants the
+/// working directory in a key, which debugging information has, sets `PWD` to it.
+pub fn tool_variables<'a>(
+    alloc: Global,
+    tool: KeyTool,
+    environment: &[(&'a [u8], &'a [u8])],
+) -> Result<Vec<(&'a [u8], &'a [u8])>, AllocError>
+    ensures { IfOk result (λ chosen. map shown_variable chosen.items ≡ spec.tool_variables tool (map shown_variable environment.now)) }
+{
+    let mut chosen = Vec::new(alloc);
+    for name in names_of(tool) {
+        let name: &'a [u8] = name.as_bytes();
+        if let Some(value) = last_value(environment, name) {
+            chosen.push((name, value))?;
+        }
+    }
+    Ok(chosen)
+}

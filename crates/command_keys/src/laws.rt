@@ -1,0 +1,11 @@
+//! What holds of all keys.
+
+ghost use Rattle.command_keys.specs.KeyLaws as spec;
+
+/// A key says which command it is of (`read_back`), so commands with one key are the same but for their roots (`equal`). The
+/// command with other roots has the same key, if these occur nowhere else in it (`renamed`).
+pub fn keys()
+    ensures read_back { spec.KeysReadBack }
+    ensures equal { spec.EqualKeysRename }
+    ensures renamed { spec.RenamedKeysAreEqual }
+{}

@@ -1,0 +1,240 @@
+/* Keys of commands: whole keys, refusals, and `keys COUNT` random commands, whose keys are compared with those of an encoder of its
+ * own, and with those of the same commands elsewhere. */
+#include "checks.h"
+
+static zigrunk_text_answer call_key(const void *more, uint8_t *out, size_t out_size) {
+    return zigrunk_command_key(more, out, out_size);
+}
+
+static const zigrunk_text no_text;
+static const zigrunk_variable no_variable;
+
+static zigrunk_key_call key_call_of(uint32_t tool, const zigrunk_text *words, size_t count) {
+    zigrunk_key_call call;
+    memset(&call, 0, sizeof call);
+    call.words = words;
+    call.words_count = count;
+    call.variables = &no_variable;
+    call.roots = &no_text;
+    call.tool = tool;
+    return call;
+}
+
+static int is_bytes(const answer *a, const char *bytes, size_t length) {
+    return a->status == ZIGRUNK_OK && a->length == length && memcmp(a->out, bytes, length) == 0;
+}
+
+#define IS_KEY(a, key) is_bytes(a, key, sizeof key - 1)
+
+static zigrunk_variable variable_of(const char *name, const char *value) {
+    zigrunk_variable made = {text_of(name), text_of(value)};
+    return made;
+}
+
+static void check_words(void) {
+    zigrunk_text words[] = {text_of("cicc"), text_of("-I/t/u/t"), text_of(""), text_of("/tt"), text_of("\xff")};
+    zigrunk_text roots[] = {text_of("/t/u"), text_of(""), text_of("/t")};
+    zigrunk_key_call call = key_call_of(ZIGRUNK_TOOL_CICC, words, 5);
+    answer a = ask_text(call_key, &call);
+    CHECK(IS_KEY(&a, "cicc\0000-I/t/u/t\0000\0000/tt\0000\xff\0000"));
+    release(a);
+    call.roots = roots, call.roots_count = 3;
+    a = ask_text(call_key, &call);
+    CHECK(IS_KEY(&a, "cicc\0000-I\0A\0C\0000\0000\0Ct\0000\xff\0000"));
+    release(a);
+    call.words_count = 0;
+    a = ask_text(call_key, &call);
+    CHECK(IS_KEY(&a, ""));
+    release(a);
+}
+
+/* Variables: those of the tool, in one order, the last value of each. */
+static void check_variables(void) {
+    zigrunk_text word = text_of("g++"), root = text_of("/t");
+    zigrunk_variable variables[] = {variable_of("PWD", "/a"), variable_of("HOME", "/t"), variable_of("CPATH", ":/t:/u"),
+        variable_of("USR_INCLUDE", "/i"), variable_of("PWD", "/t"), variable_of("CPATHS", "x")};
+    zigrunk_key_call call = key_call_of(ZIGRUNK_TOOL_HOST, &word, 1);
+    call.variables = variables, call.variables_count = 6, call.roots = &root, call.roots_count = 1;
+    answer a = ask_text(call_key, &call);
+    CHECK(IS_KEY(&a, "g++\0000CPATH\0001:\0A:/u\0002PWD\0001\0A\0002"));
+    release(a);
+    call.tool = ZIGRUNK_TOOL_CICC;
+    a = ask_text(call_key, &call);
+    CHECK(IS_KEY(&a, "g++\0000PWD\0001\0A\0002USR_INCLUDE\0001/i\0002"));
+    release(a);
+    const uint32_t others[] = {ZIGRUNK_TOOL_PTXAS, ZIGRUNK_TOOL_FATBINARY, ZIGRUNK_TOOL_NVLINK};
+    for (int i = 0; i < 3; i++) {
+        call.tool = others[i];
+        a = ask_text(call_key, &call);
+        CHECK(IS_KEY(&a, "g++\0000"));
+        release(a);
+    }
+    call.tool = ZIGRUNK_TOOL_CUDAFE;
+    a = ask_text(call_key, &call);
+    CHECK(IS_KEY(&a, "g++\0000USR_INCLUDE\0001/i\0002"));
+    release(a);
+}
+
+static void refuses(const zigrunk_key_call *call, int32_t status, const char *message) {
+    answer a = ask_text(call_key, call);
+    CHECK(a.status == status && is_text(&a, message));
+    release(a);
+}
+
+static void check_refusals(void) {
+    static const char bad_number[] = "a number has no meaning", nul[] = "a text contains NUL";
+    zigrunk_text word = text_of("cicc"), roots[27], with_nul = {(const uint8_t *)"a\0b", 3};
+    for (int i = 0; i < 27; i++) {
+        roots[i] = text_of("/t");
+    }
+    zigrunk_key_call call = key_call_of(ZIGRUNK_TOOL_CICC, &word, 1);
+    call.roots = roots, call.roots_count = 26;
+    answer a = ask_text(call_key, &call);
+    CHECK(IS_KEY(&a, "cicc\0000"));
+    release(a);
+    call.roots_count = 27;
+    refuses(&call, ZIGRUNK_BAD_NUMBER, bad_number);
+    call.roots_count = 0, call.reserved = 1;
+    refuses(&call, ZIGRUNK_BAD_NUMBER, bad_number);
+    call.reserved = 0;
+    for (uint32_t tool = 0; tool < 12; tool++) {
+        call.tool = tool;
+        if ((tool >= ZIGRUNK_TOOL_NVCC && tool <= ZIGRUNK_TOOL_NVCXX) || tool > ZIGRUNK_TOOL_HOST) {
+            refuses(&call, ZIGRUNK_BAD_NUMBER, bad_number);
+        } else {
+            a = ask_text(call_key, &call);
+            CHECK(IS_KEY(&a, "cicc\0000"));
+            release(a);
+        }
+    }
+    call.tool = ZIGRUNK_TOOL_CICC, call.words = &with_nul;
+    refuses(&call, ZIGRUNK_BAD_LINE, nul);
+    zigrunk_variable variable = {text_of("PWD"), with_nul};
+    call.words = &word, call.variables = &variable, call.variables_count = 1;
+    refuses(&call, ZIGRUNK_BAD_LINE, nul);
+    variable.name = text_of("HOME");
+    a = ask_text(call_key, &call);
+    CHECK(IS_KEY(&a, "cicc\0000"));
+    release(a);
+    call.variables_count = 0, call.roots = &with_nul, call.roots_count = 1;
+    a = ask_text(call_key, &call);
+    CHECK(IS_KEY(&a, "cicc\0000"));
+    release(a);
+}
+
+/* Random commands. Their words are made of pieces, some of which are roots. */
+enum { WORDS = 6, ROOTS = 3, ROOM = 4096 };
+
+static const char *const here[ROOTS] = {"/t/u", "/t", "/w"}, *const there[ROOTS] = {"/T/.Y", "/T", "/V/V"};
+
+typedef struct command {
+    char bytes[ROOM];
+    zigrunk_text words[WORDS];
+} command;
+
+static size_t put(char *at, const char *text) {
+    memcpy(at, text, strlen(text));
+    return strlen(text);
+}
+
+/* The same command twice, in two places, and its key. */
+static size_t made(command *one, command *other, char *key) {
+    static const char *const pieces[] = {"-o", "a", "/", "/a.o", "=", ":", "t", "\x01", "A0", "\xc3"};
+    size_t first = 0, second = 0, length = 0;
+    for (int i = 0; i < WORDS; i++) {
+        size_t first_start = first, second_start = second;
+        for (uint64_t left = random_below(7); left > 0; left--) {
+            size_t number = random_below(ROOTS + sizeof pieces / sizeof *pieces);
+            if (number < ROOTS) {
+                first += put(one->bytes + first, here[number]);
+                second += put(other->bytes + second, there[number]);
+                key[length++] = '\0', key[length++] = (char)('A' + number);
+                /* "/t" and then "/u" would be another root. */
+                first += put(one->bytes + first, "."), second += put(other->bytes + second, ".");
+                key[length++] = '.';
+            } else {
+                const char *piece = pieces[number - ROOTS];
+                /* "/" and then "t" would be a root. */
+                const char *end = strcmp(piece, "/") == 0 ? "-" : "";
+                first += put(one->bytes + first, piece), second += put(other->bytes + second, piece);
+                length += put(key + length, piece);
+                first += put(one->bytes + first, end), second += put(other->bytes + second, end);
+                length += put(key + length, end);
+            }
+        }
+        key[length++] = '\0', key[length++] = '0';
+        one->words[i].bytes = (const uint8_t *)one->bytes + first_start, one->words[i].length = first - first_start;
+        other->words[i].bytes = (const uint8_t *)other->bytes + second_start, other->words[i].length = second - second_start;
+    }
+    return length;
+}
+
+static void check_random(long count) {
+    static command one, other;
+    static char key[ROOM];
+    zigrunk_text first[ROOTS], second[ROOTS];
+    for (int i = 0; i < ROOTS; i++) {
+        first[i] = text_of(here[i]), second[i] = text_of(there[i]);
+    }
+    for (long i = 0; i < count; i++) {
+        size_t length = made(&one, &other, key);
+        zigrunk_key_call call = key_call_of(ZIGRUNK_TOOL_PTXAS, one.words, WORDS);
+        call.roots = first, call.roots_count = ROOTS;
+        answer a = ask_text(call_key, &call);
+        CHECK(is_bytes(&a, key, length));
+        release(a);
+        call.words = other.words, call.roots = second;
+        a = ask_text(call_key, &call);
+        CHECK(is_bytes(&a, key, length));
+        release(a);
+    }
+}
+
+/* A long word, all of it the beginning of a root or roots. */
+static void check_long(void) {
+    enum { LENGTH = 1 << 20 };
+    char *word = room(LENGTH, 1);
+    memset(word, 'a', LENGTH);
+    zigrunk_text words = {(const uint8_t *)word, LENGTH}, roots[] = {text_of("aaaab"), text_of("aa")};
+    zigrunk_key_call call = key_call_of(ZIGRUNK_TOOL_CICC, &words, 1);
+    call.roots = roots, call.roots_count = 2;
+    answer a = ask_text(call_key, &call);
+    CHECK(a.status == ZIGRUNK_OK && a.length == LENGTH + 2);
+    for (size_t i = 0; i + 2 < a.length; i += 2) {
+        if (a.out[i] != 0 || a.out[i + 1] != 'B') {
+            CHECK(!"a root in its place");
+            break;
+        }
+    }
+    release(a);
+    free(word);
+}
+
+/* Many words, and many variables, of which one counts. */
+static void check_many(void) {
+    enum { COUNT = 20000 };
+    zigrunk_text *words = room(COUNT, sizeof *words), root = text_of("/t");
+    zigrunk_variable *variables = room(COUNT, sizeof *variables);
+    for (int i = 0; i < COUNT; i++) {
+        words[i] = text_of("/t");
+        variables[i] = variable_of(i == 1 ? "PWD" : "HOME", "/t");
+    }
+    zigrunk_key_call call = key_call_of(ZIGRUNK_TOOL_CICC, words, COUNT);
+    call.variables = variables, call.variables_count = COUNT, call.roots = &root, call.roots_count = 1;
+    answer a = ask_text(call_key, &call);
+    CHECK(a.status == ZIGRUNK_OK && a.length == 4 * COUNT + 9);
+    CHECK(a.length > 9 && memcmp(a.out + a.length - 9, "PWD\0001\0A\0002", 9) == 0);
+    release(a);
+    free(variables);
+    free(words);
+}
+
+int main(int count, char **arguments) {
+    check_words();
+    check_variables();
+    check_refusals();
+    check_random(count > 1 ? atol(arguments[1]) : 1000);
+    check_long();
+    check_many();
+    return report();
+}

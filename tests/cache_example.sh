@@ -1,0 +1,90 @@
+#!/usr/bin/env bash
+# Tests the cache that is an example of the crate for Rust, as ZIGRUNK_LAUNCHER of zigrunk-nvcc and by itself: which commands it takes from the
+# cache, in another temporary directory too, and which not, after changes of a header, an option and a tool. The last line is
+# 'N passed, M failed'.
+#
+#   tests/cache_example.sh [PROGRAM [FOLDER]]     PROGRAM is the zigrunk that `make build` leaves, and FOLDER has the library that `make lib`
+#                                                 leaves, unless given
+cd "$(dirname "$0")/.." || exit 1
+. tests/lib.sh
+require 'the cache in Rust' cargo cc nvcc "${ZIGRUNK_NINJA:-ninja}"
+ZIGRUNK_PROGRAM=$(realpath "${1:-${ZIGRUNK_PROGRAM:-crates/zigrunk/out/zigrunk}}")
+ZIGRUNK_LIB_DIR=$(realpath "${2:-${ZIGRUNK_LIB_DIR:-out/lib}}")
+unset NVCC_PREPEND_FLAGS NVCC_APPEND_FLAGS MAKEFLAGS "${!CACHE_@}"
+export ZIGRUNK_PROGRAM ZIGRUNK_LIB_DIR CARGO_TARGET_DIR=${CARGO_TARGET_DIR:-$scratch/cargo} CACHE_FOLDER=$scratch/entries CACHE_LOG=$scratch/log
+manifest=(--offline --locked --manifest-path bindings/rust/Cargo.toml)
+check 'the digests of the example' cargo test -q "${manifest[@]}" --example cache
+check 'the example' cargo build -q --release "${manifest[@]}" --example cache
+cache=$CARGO_TARGET_DIR/release/examples/cache
+wrapper=$PWD/bin/zigrunk-nvcc
+mkdir "$scratch/work" "$scratch/tools"
+cd "$scratch/work" || exit 1
+printf '#include "k.h"\n__global__ void k(float *x) { x[threadIdx.x] *= FACTOR; }\nvoid call() { k<<<1, 1>>>(nullptr); }\n' > k.cu
+echo '#define FACTOR 2' > k.h
+words=(-c k.cu -o k.o -gencode 'arch=compute_75,code=sm_75' -gencode 'arch=compute_80,code=[sm_80,compute_80]')
+
+# compiled TMP WORD..: compiles through the cache, with temporary files in a directory of its own, and prints how many commands of each
+# kind there were.
+compiled() {
+    mkdir -p "$scratch/$1"
+    : > "$CACHE_LOG"
+    rm -f k.o
+    TMPDIR=$scratch/$1 ZIGRUNK_LAUNCHER=$cache "$wrapper" "${@:2}" 2> "$scratch/errors" || echo "status $?"
+    cut -d ' ' -f 1 "$CACHE_LOG" | sort | uniq -c | awk '{ printf "%s %s,", $2, $1 }'
+}
+
+# (cudafe++, two of cicc, two of ptxas, and the host compiler)
+check 'the first build' prints 'miss 6,' compiled one "${words[@]}"
+cp k.o first.o
+check 'the same build elsewhere' prints 'hit 6,' compiled a/b/two "${words[@]}"
+check 'what it makes' cmp first.o k.o
+check 'a macro that is not used' prints 'hit 6,' compiled one "${words[@]}" -DUNUSED
+check 'an option of ptxas' prints 'hit 3,miss 3,' compiled one "${words[@]}" -Xptxas -O1
+check 'an option of all tools' prints 'miss 6,' compiled one "${words[@]}" -lineinfo
+echo '#define FACTOR 3' > k.h
+check 'a header' prints 'miss 6,' compiled one "${words[@]}"
+check 'that it makes something else' test "$(cmp -s first.o k.o && echo same)" = ''
+cp k.o second.o
+check 'the changed header elsewhere' prints 'hit 6,' compiled three "${words[@]}"
+check 'what that makes' cmp second.o k.o
+echo '#define FACTOR 2' > k.h
+check 'the header as it was' prints 'hit 6,' compiled four "${words[@]}"
+check 'what was made before' cmp first.o k.o
+check 'another environment' prints 'hit 5,miss 1,' env CPATH=/nowhere bash -c "$(declare -f compiled)"'; wrapper=$1 cache=$2 scratch=$3 compiled five "${@:4}"' \
+    - "$wrapper" "$cache" "$scratch" "${words[@]}"
+echo 'error' >> k.h
+for round in first second; do
+    check "an error, the $round time" prints $'status 2\nmiss 1,' compiled one "${words[@]}"
+done
+
+# A tool of our own, which copies its input.
+printf '#!/bin/sh\necho made >&2\ncp "$2" "$4"\n' > "$scratch/tools/ptxas"
+chmod +x "$scratch/tools/ptxas"
+line=("$scratch/tools/ptxas" -arch=sm_75 k.ptx -o k.cubin)
+
+# assembled WORD..: runs the tool through the cache with variables, and prints what it says, what it makes and what the cache did.
+assembled() {
+    : > "$CACHE_LOG"
+    rm -f k.cubin
+    env "$@" "$cache" "${line[@]}" 2>&1
+    cat k.cubin
+    cut -d ' ' -f 1 "$CACHE_LOG"
+}
+
+echo one > k.ptx
+check 'a tool' prints $'made\none\nmiss' assembled
+check 'its message and product again' prints $'made\none\nhit' assembled
+check 'a variable that it does not read' prints $'made\none\nhit' assembled HOME=/nowhere
+check 'a variable that it reads' prints $'made\none\nmiss' assembled CAN_FINALIZE_DEBUG=1
+touch -d 2020-01-01 "$scratch/tools/ptxas"
+check 'a changed tool' prints $'made\none\nmiss' assembled
+echo two > k.ptx
+check 'a changed input' prints $'made\ntwo\nmiss' assembled
+echo three > k.ptx
+check 'a cache without room' prints $'made\nthree\nmiss' assembled CACHE_LIMIT=0
+check 'that it kept nothing' prints $'made\nthree\nmiss' assembled
+check 'a cache that cannot be written' prints $'made\nthree\nmiss' assembled CACHE_FOLDER=/dev/null/none
+check 'a command that is not cached' prints 'a b' "$cache" "$(command -v echo)" a b
+check 'that it just ran' prints 'run echo' tail -n 1 "$CACHE_LOG"
+check 'no half entry' prints '' find "$CACHE_FOLDER" "$scratch/work" -name 'new.*'
+summary
