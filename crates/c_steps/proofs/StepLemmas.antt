@@ -6,7 +6,7 @@ use Rattle.c_texts.proofs.TextLemmas.{texts-then, count-then}
 use Rattle.c_texts.specs.declared.memory.Range.{Range}
 use Rattle.c_texts.specs.Outcomes.{Outcome, with_texts}
 use Rattle.c_steps.specs.declared.step_record.StepRecord.{StepRecord}
-use Rattle.c_steps.specs.Steps.{Extra, Stepped, extra_of, extras_from, file_texts, files_at, step_at, steps_at, with_extra, with_extras}
+use Rattle.c_steps.specs.Steps.{Extra, Known, Stepped, extra_of, extras_from, file_texts, files_at, step_at, steps_at, with_extra, with_extras}
 
 -- a command, and others behind it
 pub extra-then : (s : Stepped) (e : Extra) (extras : List Extra) → with_extras (with_extra s e) extras ≡ with_extras s (e ∷ extras)
@@ -111,34 +111,34 @@ extras-then s xs ys =
     texts-then outcome files (flat_map file_texts ys) ∙ ap (with_texts outcome) (sym (texts-append xs ys)) in
     λ i. record { place = s.place; recorded = (texts i, s.recorded.1); steps = steps i; numbers = numbers i }
 
-module _ (needs : List (List ℕ)) where
-  extras-length : (id : ℕ) (commands : List NvccGeneratedSubcommand) → length (extras_from needs id commands) ≡ length commands
+module _ (known : Known) where
+  extras-length : (id : ℕ) (commands : List NvccGeneratedSubcommand) → length (extras_from known id commands) ≡ length commands
   extras-length id [] = refl
   extras-length id (c ∷ commands) = ap suc (extras-length (id + 1) commands)
 
   extras-append : (id : ℕ) (xs ys : List NvccGeneratedSubcommand) →
-      extras_from needs id (xs ++ ys) ≡ extras_from needs id xs ++ extras_from needs (id + length xs) ys
+      extras_from known id (xs ++ ys) ≡ extras_from known id xs ++ extras_from known (id + length xs) ys
   extras-append id [] ys =
       let same : id ≡ id + 0 = omega arith in
-      ap (λ n. extras_from needs n ys) same
+      ap (λ n. extras_from known n ys) same
   extras-append id (x ∷ xs) ys =
       let same : id + 1 + length xs ≡ id + suc (length xs) = omega arith in
-      ap (λ t. extra_of needs id x ∷ t) (extras-append (id + 1) xs ys)
-      ∙ ap (λ n. extra_of needs id x ∷ (extras_from needs (id + 1) xs ++ extras_from needs n ys)) same
+      ap (λ t. extra_of known id x ∷ t) (extras-append (id + 1) xs ys)
+      ∙ ap (λ n. extra_of known id x ∷ (extras_from known (id + 1) xs ++ extras_from known n ys)) same
 
   -- a group's commands, and others behind them
   pub group-then : (before after : Stepped) (commands left : List NvccGeneratedSubcommand) →
-      after ≡ with_extras before (extras_from needs (length before.steps) commands) →
-      with_extras after (extras_from needs (length after.steps) left) ≡ with_extras before (extras_from needs (length before.steps) (commands ++ left))
+      after ≡ with_extras before (extras_from known (length before.steps) commands) →
+      with_extras after (extras_from known (length after.steps) left) ≡ with_extras before (extras_from known (length before.steps) (commands ++ left))
   group-then before after commands left pushed =
       let n = length before.steps in
-      let extras : List Extra = extras_from needs n commands in
+      let extras : List Extra = extras_from known n commands in
       let now : Stepped = with_extras before extras in
       let here : List StepRecord = steps_at (length before.recorded.0.1.0) (length before.numbers) extras in
       let counted : length now.steps ≡ n + length commands =
       length-append before.steps here
       ∙ ap (λ k. n + k) (steps-length (length before.recorded.0.1.0) (length before.numbers) extras ∙ extras-length n commands) in
-      ap (λ (s : Stepped). with_extras s (extras_from needs (length s.steps) left)) pushed
-      ∙ ap (λ k. with_extras now (extras_from needs k left)) counted
-      ∙ extras-then before extras (extras_from needs (n + length commands) left)
+      ap (λ (s : Stepped). with_extras s (extras_from known (length s.steps) left)) pushed
+      ∙ ap (λ k. with_extras now (extras_from known k left)) counted
+      ∙ extras-then before extras (extras_from known (n + length commands) left)
       ∙ ap (with_extras before) (sym (extras-append n commands left))

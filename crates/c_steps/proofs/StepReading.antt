@@ -2,7 +2,7 @@
 use Rattle.std.proofs.Common.{◌≡◌, ◌++◌, ◌+◌, ◌∷◌, [], ℕ, List, Bool, true, false, ◌==◌, map, length, take, drop, refl, sym, ap, subst, ◌∙◌, arith, length-append, append_assoc}
 use Rattle.std.specs.Prelude.{◌-◌, nat_le, if◌then◌else◌}
 use Rattle.std.specs.List.{flat_map}
-use Rattle.command_files.specs.PlanNeeds.{plan_needs, preprocesses}
+use Rattle.command_files.specs.PlanNeeds.{plan_files, plan_needs, preprocesses}
 use Rattle.command_groups.specs.declared.plan.NvccGeneratedSubcommand.{NvccGeneratedSubcommand}
 use Rattle.c_texts.proofs.RangeLemmas.{cut_behind}
 use Rattle.c_texts.proofs.TextLemmas.{ranges-length, texts-then}
@@ -11,7 +11,7 @@ use Rattle.c_texts.specs.Outcomes.{Outcome, of_texts, with_texts}
 use Rattle.c_plans.proofs.RecordReading.{entries-read, part-behind, plan-is}
 use Rattle.c_plans.specs.Records.{entries_of, groups_at, records_at, texts_of}
 use Rattle.c_plans.specs.RecordsRead.{entry_in, plan_of}
-use Rattle.c_steps.specs.Steps.{Extra, commands_of, extra_of, extras_from, extras_of, file_texts, missing_of, step_at, steps_at, steps_of}
+use Rattle.c_steps.specs.Steps.{Extra, Known, commands_of, extra_of, extras_from, extras_of, file_texts, missing_of, step_at, steps_at, steps_of}
 use Rattle.c_steps.specs.StepLaws.{StepsReadBack, PlansReadBack, extra_in}
 
 -- ---- commands are read back
@@ -53,15 +53,15 @@ one-read before rest numbers more e complete =
       missing = e.missing;
     }
 
-module _ (needs : List (List ℕ)) where
+module _ (known : Known) where
   extras-read : (before : List (List ℕ)) (numbers : List ℕ) (id : ℕ) (commands : List NvccGeneratedSubcommand) →
-      map (extra_in (before ++ flat_map file_texts (extras_from needs id commands)) (numbers ++ flat_map (λ e. e.needs) (extras_from needs id commands)))
-      (steps_at (length before) (length numbers) (extras_from needs id commands)) ≡
-      extras_from needs id commands
+      map (extra_in (before ++ flat_map file_texts (extras_from known id commands)) (numbers ++ flat_map (λ e. e.needs) (extras_from known id commands)))
+      (steps_at (length before) (length numbers) (extras_from known id commands)) ≡
+      extras_from known id commands
   extras-read before numbers id [] = refl
   extras-read before numbers id (c ∷ commands) =
-      let e : Extra = extra_of needs id c in
-      let left : List Extra = extras_from needs (id + 1) commands in
+      let e : Extra = extra_of known id c in
+      let left : List Extra = extras_from known (id + 1) commands in
       let texts = flat_map file_texts left in
       let more = flat_map (λ e. e.needs) left in
       let all = before ++ (file_texts e ++ texts) in
@@ -96,7 +96,7 @@ steps-read-back planned =
     let extras = extras_of plan in
     ap (λ ts. map (extra_in ts (steps_of planned).numbers) (steps_of planned).steps) (cut-texts texts (flat_map file_texts extras))
     ∙ ap (λ n. map (extra_in (texts ++ flat_map file_texts extras) (flat_map (λ e. e.needs) extras)) (steps_at n 0 extras)) (ranges-length 0 texts)
-    ∙ extras-read (plan_needs plan) texts [] 0 (commands_of plan.groups)
+    ∙ extras-read (record { needs = plan_needs plan; files = plan_files plan }) texts [] 0 (commands_of plan.groups)
 
 pub plans-read-back : PlansReadBack
 plans-read-back planned has =

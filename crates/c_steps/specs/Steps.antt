@@ -1,10 +1,10 @@
 -- A plan as records, with what a program that runs the commands has to know of each.
-use Rattle.std.specs.Prelude.{ℕ, ◌+◌, List, [], ◌∷◌, ◌++◌, Bool, nat_le, if◌then◌else◌, length}
+use Rattle.std.specs.Prelude.{ℕ, ◌+◌, List, [], ◌∷◌, ◌++◌, Bool, nat_le, if◌then◌else◌, get_or, length, map, vec_items}
 use Rattle.std.specs.List.{flat_map}
 use Rattle.command_files.specs.declared.files.CommandFiles.{CommandFiles}
 use Rattle.command_files.specs.CommandFiles.{files_of_words}
 use Rattle.command_files.specs.Order.{needs_at}
-use Rattle.command_files.specs.PlanNeeds.{plan_needs, preprocesses}
+use Rattle.command_files.specs.PlanNeeds.{plan_files, plan_needs, preprocesses}
 use Rattle.command_groups.specs.declared.origins.PlanWithOrigins.{PlanWithOrigins}
 use Rattle.command_groups.specs.declared.plan.NvccGeneratedSubcommand.{NvccGeneratedSubcommand}
 use Rattle.command_groups.specs.declared.plan.Plan.{Plan}
@@ -14,6 +14,7 @@ use Rattle.c_plans.specs.Records.{Recorded, records_of, without_records}
 use Rattle.c_steps.specs.declared.step_record.PlaceRecord.{PlaceRecord}
 use Rattle.c_steps.specs.declared.step_record.StepRecord.{StepRecord}
 use Rattle.c_steps.specs.declared.stepped.Extra.{Extra as HeldExtra}
+use Rattle.c_steps.specs.declared.steps.Known.{Known as HeldKnown}
 use Rattle.c_steps.specs.Places.{nowhere}
 use Rattle.c_steps.specs.Tools.{tool_of}
 
@@ -34,17 +35,33 @@ extra_seen e = record { needs = e.needs.now; files = e.files.now; tool = e.tool;
 abbrev pub missing_of : ℕ → Bool → Bool → ℕ
 missing_of tool complete preprocesses = if complete then 0 else if nat_le tool 2 then 1 else if preprocesses then 2 else 3
 
--- the command with a number, given what each command needs: its files are those of its words
-abbrev pub extra_of : List (List ℕ) → ℕ → NvccGeneratedSubcommand → Extra
-extra_of needs id c =
-    let files = files_of_words c.exe c.args c.cwd in
+-- what is known of all commands: what each needs, and its files
+pub record Known : Type 0 where
+  pub needs : List (List ℕ)
+  pub files : List CommandFiles
+
+-- the same, as the code holds it
+abbrev pub known_seen : HeldKnown → Known
+known_seen k = record { needs = map vec_items k.needs.now; files = k.files.now }
+
+-- the files of the command with a number, which are those of its words
+abbrev pub files_of_command : List CommandFiles → ℕ → NvccGeneratedSubcommand → CommandFiles
+files_of_command files id c = get_or files id (files_of_words c.exe c.args c.cwd)
+
+-- a command, given what it needs and its files
+abbrev pub extra_with : List ℕ → CommandFiles → NvccGeneratedSubcommand → Extra
+extra_with needs files c =
     let tool = tool_of c.exe in
-    record { needs = needs_at needs id; files = files; tool = tool; missing = missing_of tool files.complete (preprocesses c.args) }
+    record { needs = needs; files = files; tool = tool; missing = missing_of tool files.complete (preprocesses c.args) }
+
+-- the command with a number
+abbrev pub extra_of : Known → ℕ → NvccGeneratedSubcommand → Extra
+extra_of known id c = extra_with (needs_at known.needs id) (files_of_command known.files id c) c
 
 -- commands from a number on
-abbrev pub extras_from : List (List ℕ) → ℕ → List NvccGeneratedSubcommand → List Extra
-extras_from needs id [] = []
-extras_from needs id (c ∷ commands) = extra_of needs id c ∷ extras_from needs (id + 1) commands
+abbrev pub extras_from : Known → ℕ → List NvccGeneratedSubcommand → List Extra
+extras_from known id [] = []
+extras_from known id (c ∷ commands) = extra_of known id c ∷ extras_from known (id + 1) commands
 
 -- the commands of groups, in order
 abbrev pub commands_of : List (List NvccGeneratedSubcommand) → List NvccGeneratedSubcommand
@@ -52,7 +69,7 @@ commands_of groups = flat_map (λ group. group) groups
 
 -- the commands of a plan's groups, in plan order: their files and needs are those of `command_files`, as in the JSON form
 abbrev pub extras_of : Plan → List Extra
-extras_of plan = extras_from (plan_needs plan) 0 (commands_of plan.groups)
+extras_of plan = extras_from (record { needs = plan_needs plan; files = plan_files plan }) 0 (commands_of plan.groups)
 
 -- the texts of a command's files
 abbrev pub file_texts : Extra → List (List ℕ)

@@ -10,9 +10,18 @@ use crate::missing::{missing_of, preprocesses};
 use crate::stepped::{Extra, Stepped};
 use crate::tool::tool_of;
 use c_plans::{Recorded, records_of};
-use command_files::{CommandFiles, files_of, needs};
+use command_files::{CommandFiles, files_and_needs, files_of};
 use command_groups::{NvccGeneratedSubcommand, Plan, PlanWithOrigins};
 use std::alloc::{AllocError, Global};
+
+/// What is known of all commands of a plan.
+#[derive(Clone, Copy)]
+pub(crate) struct Known<'a> {
+    /// What each needs.
+    pub(crate) needs: &'a [Vec<usize>],
+    /// Its files.
+    pub(crate) files: &'a [CommandFiles],
+}
 
 // What the command with a number needs.
 fn needs_at(needs: &[Vec<usize>], id: usize) -> &[usize]
@@ -35,38 +44,53 @@ fn missing_in(command: &NvccGeneratedSubcommand, files: &CommandFiles) -> u32
     )
 }
 
-// Adds a command of a plan.
+// Adds a command with these needs and files.
+fn push_with(
+    stepped: &mut Stepped,
+    needs: &[usize],
+    files: &CommandFiles,
+    command: &NvccGeneratedSubcommand,
+) -> Result<(), AllocError>
+    ensures { OnOk result (stepped.new ≡ spec.with_extra stepped.old (spec.extra_with needs.now files.now command.now)) }
+{
+    let extra = Extra {
+        needs,
+        files,
+        tool: tool_of(command.exe.as_str()),
+        missing: missing_in(command, files),
+    };
+    stepped.push(extra)
+}
+
+// Adds a command of a plan. Its files are known, so its words aren't read again.
 fn push_command(
     alloc: Global,
     stepped: &mut Stepped,
-    needs: &[Vec<usize>],
+    known: Known<'_>,
     command: &NvccGeneratedSubcommand,
 ) -> Result<(), AllocError>
-    ensures { OnOk result (stepped.new
-        ≡ spec.with_extra stepped.old (spec.extra_of (map vec_items needs.now) (length stepped.old.steps) command.now)) }
+    ensures { OnOk result (stepped.new ≡ spec.with_extra stepped.old (spec.extra_of (spec.known_seen known.entry) (length stepped.old.steps) command.now)) }
 {
-    let files = files_of(alloc, command)?;
-    let extra = Extra {
-        needs: needs_at(needs, stepped.count()),
-        files: &files,
-        tool: tool_of(command.exe.as_str()),
-        missing: missing_in(command, &files),
-    };
-    stepped.push(extra)
+    let id = stepped.count();
+    let needs = needs_at(known.needs, id);
+    match known.files.get(id) {
+        Some(files) => push_with(stepped, needs, files, command),
+        None => push_with(stepped, needs, &files_of(alloc, command)?, command),
+    }
 }
 
 // Adds the commands of a group.
 fn push_group(
     alloc: Global,
     stepped: &mut Stepped,
-    needs: &[Vec<usize>],
+    known: Known<'_>,
     commands: &[NvccGeneratedSubcommand],
 ) -> Result<(), AllocError>
     ensures { OnOk result (stepped.new
-        ≡ spec.with_extras stepped.old (spec.extras_from (map vec_items needs.now) (length stepped.old.steps) commands.now)) }
+        ≡ spec.with_extras stepped.old (spec.extras_from (spec.known_seen known.entry) (length stepped.old.steps) commands.now)) }
 {
     for command in commands {
-        push_command(alloc, stepped, needs, command)?;
+        push_command(alloc, stepped, known, command)?;
     }
     Ok(())
 }
@@ -75,15 +99,15 @@ fn push_group(
 fn push_groups(
     alloc: Global,
     stepped: &mut Stepped,
-    needs: &[Vec<usize>],
+    known: Known<'_>,
     groups: &[Vec<NvccGeneratedSubcommand>],
 ) -> Result<(), AllocError>
     ensures { OnOk result (stepped.new
         ≡ spec.with_extras stepped.old
-        (spec.extras_from (map vec_items needs.now) (length stepped.old.steps) (spec.commands_of (map vec_items groups.now)))) }
+        (spec.extras_from (spec.known_seen known.entry) (length stepped.old.steps) (spec.commands_of (map vec_items groups.now)))) }
 {
     for commands in groups {
-        push_group(alloc, stepped, needs, commands.as_slice())?;
+        push_group(alloc, stepped, known, commands.as_slice())?;
     }
     Ok(())
 }
@@ -93,13 +117,12 @@ fn with_steps(alloc: Global, recorded: Recorded, plan: &Plan) -> Result<Stepped,
     ensures { IfOk result (λ stepped. stepped ≡ spec.with_extras (spec.of_recorded recorded) (spec.extras_of plan.now)) }
 {
     let mut stepped = Stepped::of_recorded(alloc, recorded);
-    let needed = needs(alloc, plan)?;
-    push_groups(
-        alloc,
-        &mut stepped,
-        needed.as_slice(),
-        plan.groups.as_slice(),
-    )?;
+    let both = files_and_needs(alloc, plan)?;
+    let known = Known {
+        needs: both.needs.as_slice(),
+        files: both.files.as_slice(),
+    };
+    push_groups(alloc, &mut stepped, known, plan.groups.as_slice())?;
     Ok(stepped)
 }
 

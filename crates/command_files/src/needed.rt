@@ -4,10 +4,11 @@ ghost use Rattle.std.specs.Prelude.{◌≡◌, ◌++◌, IfOk, OnOk, map, vec_it
 ghost use Rattle.std.specs.List.Sorted.{IsStrictlyIncreasing};
 ghost use Rattle.command_files.specs.declared.steps.Role.TheVariants.{DeviceStep, Final};
 ghost use Rattle.command_files.specs.Order.{needs_by};
-ghost use Rattle.command_files.specs.PlanNeeds.{role_needs, step_needs, plan_needs};
+ghost use Rattle.command_files.specs.PlanNeeds.{role_needs, step_needs, plan_files, plan_needs};
 ghost use Rattle.command_files.specs.Touched as spec;
 
-use crate::steps::{Role, Step, steps_of};
+use crate::files::CommandFiles;
+use crate::steps::{Role, Step, files_of_steps, steps_of};
 use crate::touched::{Touched, push_below, push_touching};
 use command_groups::Plan;
 use std::alloc::{AllocError, Global};
@@ -210,4 +211,26 @@ pub fn needs(alloc: Global, plan: &Plan) -> Result<CommandNeeds, AllocError>
     let steps = steps_of(alloc, plan)?;
     let needs = needs_of_steps(alloc, steps.as_slice())?;
     Ok(CommandNeeds { needs })
+}
+
+/// The files of each command of a plan, and what each needs, both in plan order.
+#[derive(Debug, Drop)]
+pub struct FilesAndNeeds {
+    /// The files that each command reads and writes.
+    pub files: Vec<CommandFiles>,
+    /// What each command needs.
+    pub needs: CommandNeeds,
+}
+
+/// What [`files_of_plan`](crate::files_of_plan) and [`needs`] give, in half the time of both: it reads each line once.
+pub fn files_and_needs(alloc: Global, plan: &Plan) -> Result<FilesAndNeeds, AllocError>
+    ensures files { IfOk result (λ both. both.files.items ≡ plan_files plan.now) }
+    ensures needs { IfOk result (λ both. both.needs ≡ plan_needs plan.now) }
+{
+    let steps = steps_of(alloc, plan)?;
+    let needs = needs_of_steps(alloc, steps.as_slice())?;
+    Ok(FilesAndNeeds {
+        files: files_of_steps(alloc, steps)?,
+        needs: CommandNeeds { needs },
+    })
 }

@@ -129,13 +129,20 @@ pub fn steps_of(alloc: Global, plan: &Plan) -> Result<Vec<Step>, AllocError>
     steps_of_groups(alloc, plan.groups.as_slice())
 }
 
+/// The files of commands, in their order.
+pub fn files_of_steps(alloc: Global, steps: Vec<Step>) -> Result<Vec<CommandFiles>, AllocError>
+    ensures { IfOk result (λ files. files.items ≡ map (λ s. s.files) steps.items) }
+{
+    let mut files = Vec::new(alloc);
+    for step in steps {
+        files.push(step.files)?;
+    }
+    Ok(files)
+}
+
 /// The files that each command of a plan reads and writes, in plan order.
 pub fn files_of_plan(alloc: Global, plan: &Plan) -> Result<Vec<CommandFiles>, AllocError>
     ensures { IfOk result (λ files. files.items ≡ spec.plan_files plan.now) }
 {
-    let mut files = Vec::new(alloc);
-    for step in steps_of(alloc, plan)? {
-        files.push(step.files)?;
-    }
-    Ok(files)
+    files_of_steps(alloc, steps_of(alloc, plan)?)
 }

@@ -1,7 +1,0 @@
-use Rattle.std.proofs.Common.{◌≡◌, ◌++◌, map}
-use Rattle.command_files.specs.PlanNeeds.{plan_files}
-use Rattle.command_files.proofs.steps.files_of_plan.Given as goal
-
--- the files so far, and those of the commands that are left, are all
-abbrev pub invariant-loop-step : goal.invariant-loop-step
-invariant-loop-step l = l.files.items ++ map (λ s. s.files) l.step-iterator.rest.items ≡ plan_files l.plan
