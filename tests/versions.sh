@@ -2,14 +2,15 @@
 # Tests zigrunk-nvcc with other versions of nvcc: 11.2, 11.8 and 12.4 of Debian's archive, each with a g++ that suits it. With each it makes
 # the call lists beside that nvcc (tests/compare_calls.py), calls with other host compilers, lines with each option
 # (tests/nvcc_readings.py), a fatbin for several targets twenty times (tests/needs.sh), commands that have only their own files
-# (tests/isolated.py) and CMake projects (tests/cmake.sh). Each version and part has a line of counts, and one that fails doesn't stop the
-# others. The last line is 'N passed, M failed'.
+# (tests/isolated.py) and CMake projects (tests/cmake.sh), and with 11.8 has clang's tools read compilation databases
+# (tests/clang_tools.sh). Each version and part has a line of counts, and one that fails doesn't stop the others. The last line is
+# 'N passed, M failed'.
 #
 #   tests/versions.sh [PROGRAM]      PROGRAM is the zigrunk that `make build` leaves, unless given
 #
 #   CUDA_VERSIONS=FOLDER   the toolkits (tests/toolkits.sh), else out/versions. What it lacks is downloaded: up to 3 GB, 1 GB of which stay.
 #   VERSIONS='11.8 ..'     only these
-#   PARTS='calls ..'       only these of calls, hosts, options, needs, isolated, cmake
+#   PARTS='calls ..'       only these of calls, hosts, options, needs, isolated, cmake, clang
 #   CALLS='FILE ..'        other lists than tests/calls_quick.txt, calls.txt, calls_words.txt and calls_odd.txt
 #   JOBS=N                 so many calls at once, else as many as there are processors
 cd "$(dirname "$0")/.." || exit 1
@@ -19,7 +20,7 @@ mkdir -p "${CUDA_VERSIONS:-out/versions}"
 folder=$(realpath "${CUDA_VERSIONS:-out/versions}")
 read -ra versions <<< "${VERSIONS:-11.2 11.8 12.4}"
 read -ra lists <<< "${CALLS:-tests/calls_quick.txt tests/calls.txt tests/calls_words.txt tests/calls_odd.txt}"
-parts=${PARTS:-calls hosts options needs isolated cmake}
+parts=${PARTS:-calls hosts options needs isolated cmake clang}
 # In per cent, of the calls in the lists that nvcc compiles.
 readonly LEAST_SPLIT=65
 require 'other versions of nvcc' "${ZIGRUNK_NINJA:-ninja}" objcopy nm python3
@@ -67,5 +68,7 @@ for version in "${ready[@]}"; do
     [ "$version" != 11.2 ] || export BY_SYMBOLS=yes
     part "$version" cmake tests/cmake.sh "$program"
     unset BY_SYMBOLS
+    # clang 14 knows no other of these
+    [ "$version" != 11.8 ] || part "$version" clang tests/clang_tools.sh "$program"
 done
 summary

@@ -10,6 +10,7 @@ use Rattle.serde_json.specs.Data.{Data, string, depth, items_depth}
 use Rattle.serde_json.specs.View.{items_of}
 use Rattle.serde_json.specs.Read.{read, max_depth}
 use Rattle.serde_json.specs.Written.{has_float, items_have_float, compact_text}
+use Rattle.plan_json.specs.ClangWords.{line_for_clang}
 use Rattle.plan_json.specs.Compdb.{record_data, records_by, records_of, records_from, database}
 use Rattle.std.proofs.lemmas.Bool.{false≢true}
 use Rattle.plan_json.proofs.JsonLemmas.{items_within, neither, texts_float_free}
@@ -23,7 +24,7 @@ nothing_plain : Plain []
 nothing_plain = record { within = omega arith; float_free = refl }
 
 record_within : (c : NvccGeneratedSubcommand) (file : List ℕ) → depth (record_data c file) ≤ 2
-record_within c file = omega (arith, items_within 0 string (λ x. omega arith) (c.exe ∷ c.args))
+record_within c file = omega (arith, items_within 0 string (λ x. omega arith) (line_for_clang c.exe c.args))
 
 plain_records : (c : NvccGeneratedSubcommand) (files : List (List ℕ)) → Plain (map (record_data c) files)
 plain_records c [] = nothing_plain
@@ -31,7 +32,7 @@ plain_records c (file ∷ files) =
     let rest = plain_records c files in
     record {
       within = omega (arith, record_within c file, rest.within);
-      float_free = neither (neither (texts_float_free (c.exe ∷ c.args)) refl) rest.float_free;
+      float_free = neither (neither (texts_float_free (line_for_clang c.exe c.args)) refl) rest.float_free;
     }
 
 plain_joined : (ds es : List Data) → Plain ds → Plain es → Plain (ds ++ es)

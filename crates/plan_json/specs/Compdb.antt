@@ -5,6 +5,7 @@ use Rattle.command_groups.specs.declared.plan.NvccGeneratedSubcommand.{NvccGener
 use Rattle.command_groups.specs.declared.plan.Plan.{Plan}
 use Rattle.command_files.specs.declared.files.CommandFiles.{CommandFiles}
 use Rattle.command_files.specs.CommandFiles.{files_of_words}
+use Rattle.plan_json.specs.ClangWords.{line_for_clang}
 use Rattle.plan_json.specs.Json.{texts_data}
 use Rattle.serde_json.specs.Data.{Data, string, array, object, no_members, member}
 use Rattle.serde_json.specs.View.{items_of}
@@ -12,7 +13,7 @@ use Rattle.serde_json.specs.View.{items_of}
 -- the record of a command that compiles a file. The members are in the order of their names
 abbrev pub record_data : NvccGeneratedSubcommand → List ℕ → Data
 record_data c file =
-    object (member (codes "arguments") (texts_data (c.exe ∷ c.args))
+    object (member (codes "arguments") (texts_data (line_for_clang c.exe c.args))
     (member (codes "directory") (string c.cwd)
     (member (codes "file") (string file) no_members)))
 

@@ -1,3 +1,4 @@
+pub mod ClangWords
 pub mod Compdb
 pub mod Json
 pub mod JsonExamples

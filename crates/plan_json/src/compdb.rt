@@ -7,25 +7,13 @@ ghost use Rattle.serde_json.specs.Read.{read};
 ghost use Rattle.serde_json.specs.View.{items_of, view};
 ghost use Rattle.serde_json.specs.Written.{compact_text};
 ghost use Rattle.plan_json.specs.Compdb as spec;
-ghost use Rattle.plan_json.specs.Json.{texts_data};
 
-use crate::json::{push_text, put_text};
+use crate::clang_words::line_for_clang;
+use crate::json::{put_text, put_texts};
 use command_files::{CommandFiles, files_of};
 use command_groups::{NvccGeneratedSubcommand, Plan};
-use serde_json::{Map, Value, push, put};
+use serde_json::{Map, Value, push};
 use std::alloc::{AllocError, Global};
-
-// A list of a program and its words.
-fn arguments_value(alloc: Global, exe: &str, args: &[String]) -> Result<Value, AllocError>
-    ensures { IfOk result (λ v. view v ≡ texts_data (exe.now ∷ map string_bytes args.now)) }
-{
-    let mut list = Vec::new(alloc);
-    push_text(alloc, &mut list, exe)?;
-    for word in args {
-        push_text(alloc, &mut list, word.as_str())?;
-    }
-    Ok(Value::Array(list))
-}
 
 // The record of a command that compiles a file.
 fn record_value(
@@ -36,8 +24,8 @@ fn record_value(
     ensures { IfOk result (λ v. view v ≡ spec.record_data command.now file.now) }
 {
     let mut map = Map::new(alloc);
-    let arguments = arguments_value(alloc, command.exe.as_str(), command.args.as_slice())?;
-    put(&mut map, alloc, "arguments", arguments)?;
+    let line = line_for_clang(alloc, command.exe.as_str(), command.args.as_slice())?;
+    put_texts(alloc, &mut map, "arguments", line.as_slice())?;
     put_text(alloc, &mut map, "directory", command.cwd.as_str())?;
     put_text(alloc, &mut map, "file", file)?;
     Ok(Value::Object(map))
@@ -149,11 +137,15 @@ fn database_value(alloc: Global, plan: &Plan) -> Result<Value, AllocError>
 }
 
 /// The commands of a plan that compile its source, as `compile_commands.json`, without spaces: a list of records with `arguments`
-/// (the program and its words), `directory` and `file`. clang's tools read such a file.
+/// (a program and its words), `directory` and `file`, for clang's tools.
 ///
 /// These are the host compilers' commands of all groups but the last: the steps that preprocess the source, once for the host
-/// and once for each architecture. They have the words that decide what the compiler sees. The last group compiles only files
-/// that other commands of the plan wrote. Device tools don't read the source.
+/// and once for each architecture. The last group compiles only files that other commands of the plan wrote. Device tools don't
+/// read the source.
+///
+/// A step that preprocesses CUDA has the words that clang's own CUDA mode takes: `clang++`, the half of the source that the step is
+/// for, its architecture as `--cuda-gpu-arch`, `-x cuda`, and no macro of nvcc's own. clang finds the toolkit by itself if `ptxas` is
+/// on the path, or in `/usr/local/cuda`; else its tools need the word `--cuda-path=FOLDER` more. Any other step has its own words.
 ///
 /// Fails only if memory runs out, since JSON can represent every text.
 pub fn compdb_text(alloc: Global, plan: &Plan) -> Result<String, AllocError>

@@ -17,8 +17,8 @@ use cuda_below::command::Cacheable;
 use serde_json::{Map, Value, push, put};
 use std::alloc::{AllocError, Global};
 
-/// Adds a text to a list.
-pub fn push_text(alloc: Global, list: &mut Vec<Value>, text: &str) -> Result<(), AllocError>
+// Adds a text to a list.
+fn push_text(alloc: Global, list: &mut Vec<Value>, text: &str) -> Result<(), AllocError>
     ensures { OnOk result (map view list.new.items ≡ map view list.old.items ++ string text.now ∷ []) }
 {
     push(list, Value::try_from_str(alloc, text)?)

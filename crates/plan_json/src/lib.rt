@@ -1,6 +1,7 @@
 //! Plans for programs that read JSON: a plan as JSON, and as a compilation database.
 #![tactic(auto)]
 
+mod clang_words;
 mod compdb;
 mod json;
 pub mod laws;
