@@ -1,5 +1,5 @@
--- Characters that are escaped one after the other.
-use Rattle.std.proofs.Common.{ℕ, eqb, ◌<◌, ◌+◌, List, [], ◌∷◌, ◌++◌, ◌≡◌, not, cond, true, refl, sym, ap, subst, ◌∙◌, arith, append-nil, append_assoc, encode_utf8_all, length, get_or, Option, Some, None, MatchOption}
+-- A value is cut at its first `$`.
+use Rattle.std.proofs.Common.{ℕ, eqb, ◌<◌, ◌+◌, List, [], ◌∷◌, ◌++◌, ◌≡◌, not, cond, true, refl, sym, ap, subst, ◌∙◌, arith, encode_utf8_all, length, get_or, Option, Some, None, MatchOption}
 use Rattle.std.specs.Borrow.{Bor}
 use Rattle.std.specs.List.{flat_map}
 use Rattle.std.specs.Str.{IsUtf8, chars}
@@ -14,15 +14,6 @@ use Rattle.texts.proofs.PathLemmas.{lacks-places, not-is}
 use Rattle.plan_exports.specs.Graph.{escaped_char, escaped}
 use Rattle.plan_exports.proofs.ReadGraphLemmas.{lacks-encoded}
 use Rattle.plan_exports.proofs.TextLemmas.{plain_chars}
-
--- one more character
-pub escaped_push : (escape : ℕ → List ℕ) (old now new yielded : List ℕ) (c : ℕ) → now ≡ old ++ encode_utf8_all (flat_map escape yielded) → new ≡ now ++ encode_utf8_all (escape c) → new ≡ old ++ encode_utf8_all (flat_map escape (yielded ++ c ∷ []))
-escaped_push escape old now new yielded c before after =
-    after ∙ ap (λ t. t ++ encode_utf8_all (escape c)) before
-    ∙ append_assoc old (encode_utf8_all (flat_map escape yielded)) (encode_utf8_all (escape c))
-    ∙ ap (λ t. old ++ t) (sym (rw (flat_map-append, encodes-append) (ap (λ t. encode_utf8_all (flat_map escape yielded) ++ encode_utf8_all t) (append-nil (escape c)))))
-
--- A value is cut at its first `$`.
 
 -- what is in front of a `$` is text
 front-utf8 : (front behind : List ℕ) → IsUtf8 (front ++ 36 ∷ behind) → IsUtf8 front

@@ -1,6 +1,5 @@
 pub mod Answers
 pub mod CommandText
-pub mod Dot
 pub mod ExportExamples
 pub mod Graph
 pub mod Judging

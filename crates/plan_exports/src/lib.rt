@@ -1,15 +1,13 @@
-//! Plans for other tools: a plan as a shell script, as a Ninja file and as a picture.
+//! Plans for tools that run them: a plan as a shell script and as a Ninja file.
 #![tactic(auto)]
 
 mod command;
-mod dot;
 mod judging;
 pub mod laws;
 mod ninja;
 mod refusal;
 mod shell;
 
-pub use dot::dot_text;
 pub use ninja::ninja_file;
 pub use refusal::Refusal;
 pub use shell::shell_script;

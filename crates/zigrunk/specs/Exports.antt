@@ -13,7 +13,7 @@ use Rattle.command_groups.specs.Origins.{planning_of_parsed}
 use Rattle.command_groups.specs.Plan.{PlanSetting}
 use Rattle.plan_exports.specs.declared.refusal.Refusal.{Refusal}
 use Rattle.plan_json.specs.Compdb.{database}
-use Rattle.plan_exports.specs.Dot.{picture}
+use Rattle.plan_graphs.specs.Dot.{picture}
 use Rattle.plan_exports.specs.Graph.{ninja_answer}
 use Rattle.plan_json.specs.Json.{Described, data_of}
 use Rattle.plan_exports.specs.Message.{message_of}

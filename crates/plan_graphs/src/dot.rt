@@ -1,0 +1,322 @@
+//! A plan as a graph that Graphviz draws.
+
+ghost use Rattle.std.specs.Prelude.{◌≡◌, ◌+◌, ◌++◌, ◌∷◌, [], IfOk, OnOk, encode_utf8_all, length, map, string_bytes, vec_items};
+ghost use Rattle.std.specs.List.{flat_map};
+ghost use Rattle.plan_graphs.specs.Dot as spec;
+ghost use Rattle.command_files.specs.Numbered.{of_group, of_groups};
+
+use command_files::{CommandFiles, files_of, needs};
+use command_groups::{Dropped, NvccGeneratedSubcommand, Plan};
+use std::alloc::{AllocError, Global};
+use texts::decimal::push_number;
+use texts::text::file_name;
+use texts::words::Words;
+
+// Adds a character inside quotes.
+fn push_shown_char(text: &mut String, c: char) -> Result<(), AllocError>
+    ensures { OnOk result (string_bytes text.new ≡ string_bytes text.old ++ encode_utf8_all (spec.shown_char c)) }
+{
+    if c == '"' {
+        text.push_str("\\\"")
+    } else if c == '\\' {
+        text.push_str("\\\\")
+    } else if c == '&' {
+        text.push_str("&amp;")
+    } else if c == '\0' {
+        text.push_str("\\\\0")
+    } else {
+        text.push(c)
+    }
+}
+
+// Adds a text inside quotes.
+fn push_shown(text: &mut String, value: &str) -> Result<(), AllocError>
+    ensures { OnOk result (string_bytes text.new ≡ string_bytes text.old ++ spec.shown value.now) }
+{
+    for c in value.chars() {
+        push_shown_char(text, c)?;
+    }
+    Ok(())
+}
+
+// Adds a path's file name, or the path if it has none.
+fn push_name(text: &mut String, path: &str) -> Result<(), AllocError>
+    ensures { OnOk result (string_bytes text.new ≡ string_bytes text.old ++ spec.shown_name path.now) }
+{
+    match file_name(path) {
+        Some(name) => push_shown(text, name),
+        None => push_shown(text, path),
+    }
+}
+
+// Adds a further line of a node's text.
+fn push_further(text: &mut String, path: &str) -> Result<(), AllocError>
+    ensures { OnOk result (string_bytes text.new ≡ string_bytes text.old ++ spec.further_line path.now) }
+{
+    text.push_str("\\n")?;
+    push_name(text, path)
+}
+
+// Adds a further line for each path.
+fn push_all_further(text: &mut String, paths: &[String]) -> Result<(), AllocError>
+    ensures { OnOk result (string_bytes text.new ≡ string_bytes text.old ++ flat_map spec.further_line (map string_bytes paths.now)) }
+{
+    for path in paths {
+        push_further(text, path.as_str())?;
+    }
+    Ok(())
+}
+
+// Adds the text of a node.
+fn push_label(text: &mut String, exe: &str, files: &CommandFiles) -> Result<(), AllocError>
+    ensures { OnOk result (string_bytes text.new ≡ string_bytes text.old ++ spec.label exe.now files.now) }
+{
+    push_name(text, exe)?;
+    push_all_further(text, files.writes.as_slice())?;
+    push_all_further(text, files.may_write.as_slice())
+}
+
+// Adds the title of a device group.
+fn push_device_title(alloc: Global, text: &mut String, group: usize) -> Result<(), AllocError>
+    ensures { OnOk result (string_bytes text.new ≡ string_bytes text.old ++ spec.device_title group) }
+{
+    text.push_str("device group ")?;
+    push_number(alloc, text, group)
+}
+
+// Adds the title of the group numbered `group` of `count`.
+fn push_title(
+    alloc: Global,
+    text: &mut String,
+    count: usize,
+    group: usize,
+) -> Result<(), AllocError>
+    ensures { OnOk result (string_bytes text.new ≡ string_bytes text.old ++ spec.title count group) }
+{
+    if group == 0 {
+        text.push_str("front group")
+    } else if count.saturating_sub(group) == 1 {
+        text.push_str("final group")
+    } else {
+        push_device_title(alloc, text, group)
+    }
+}
+
+// Adds the box of a group, in front of a node.
+fn push_box(alloc: Global, text: &mut String, count: usize, group: usize) -> Result<(), AllocError>
+    ensures { OnOk result (string_bytes text.new ≡ string_bytes text.old ++ spec.box count group) }
+{
+    text.push_str("  subgraph cluster_")?;
+    push_number(alloc, text, group)?;
+    text.push_str(" { label=\"")?;
+    push_title(alloc, text, count, group)?;
+    text.push_str("\" ")
+}
+
+// Adds a node, which ends its box.
+fn push_node(
+    alloc: Global,
+    text: &mut String,
+    number: usize,
+    exe: &str,
+    files: &CommandFiles,
+) -> Result<(), AllocError>
+    ensures { OnOk result (string_bytes text.new ≡ string_bytes text.old ++ spec.node number exe.now files.now) }
+{
+    push_number(alloc, text, number)?;
+    text.push_str(" [label=\"")?;
+    push_label(text, exe, files)?;
+    text.push_str("\"] }\n")
+}
+
+// The line of the command numbered `number`, in the group numbered `group` of `count`.
+fn node_line(
+    alloc: Global,
+    count: usize,
+    number: usize,
+    group: usize,
+    command: &NvccGeneratedSubcommand,
+) -> Result<String, AllocError>
+    ensures { IfOk result (λ line. string_bytes line ≡ spec.node_line count number group command.now) }
+{
+    let files = files_of(alloc, command)?;
+    let mut line = String::new(alloc);
+    push_box(alloc, &mut line, count, group)?;
+    push_node(alloc, &mut line, number, command.exe.as_str(), &files)?;
+    Ok(line)
+}
+
+// Adds the line of a command to those of the commands before it.
+fn add_node(
+    alloc: Global,
+    nodes: &mut Words,
+    count: usize,
+    group: usize,
+    command: &NvccGeneratedSubcommand,
+) -> Result<(), AllocError>
+    ensures nodes { OnOk result (nodes.new ≡ nodes.old ++ spec.node_line count (length nodes.old) group command.now ∷ []) }
+    ensures length { OnOk result (length nodes.new ≡ length nodes.old + 1) }
+{
+    let line = node_line(alloc, count, nodes.len(), group, command)?;
+    nodes.push(line)
+}
+
+// Adds the lines of a group's commands.
+fn add_group(
+    alloc: Global,
+    nodes: &mut Words,
+    count: usize,
+    group: usize,
+    commands: &[NvccGeneratedSubcommand],
+) -> Result<(), AllocError>
+    ensures nodes { OnOk result (nodes.new ≡ nodes.old ++ of_group (spec.node_line count) (length nodes.old) group commands.now) }
+    ensures length { OnOk result (length nodes.new ≡ length nodes.old + length commands.now) }
+{
+    for command in commands {
+        add_node(alloc, nodes, count, group, command)?;
+    }
+    Ok(())
+}
+
+// The lines of the commands of groups.
+fn nodes_of(alloc: Global, groups: &[Vec<NvccGeneratedSubcommand>]) -> Result<Words, AllocError>
+    ensures { IfOk result (λ nodes. nodes ≡ of_groups (spec.node_line (length groups.now)) 0 0 (map vec_items groups.now)) }
+{
+    let mut nodes = Words::new(alloc);
+    for (group, commands) in groups.iter().enumerate() {
+        add_group(alloc, &mut nodes, groups.len(), group, commands.as_slice())?;
+    }
+    Ok(nodes)
+}
+
+// Adds lines.
+fn push_lines(text: &mut String, lines: &[String]) -> Result<(), AllocError>
+    ensures { OnOk result (string_bytes text.new ≡ string_bytes text.old ++ flat_map (λ line. line) (map string_bytes lines.now)) }
+{
+    for line in lines {
+        text.push_str(line.as_str())?;
+    }
+    Ok(())
+}
+
+// Adds the lines of a plan's commands.
+fn push_nodes(
+    alloc: Global,
+    text: &mut String,
+    groups: &[Vec<NvccGeneratedSubcommand>],
+) -> Result<(), AllocError>
+    ensures { OnOk result (string_bytes text.new ≡ string_bytes text.old
+        ++ flat_map (λ line. line) (of_groups (spec.node_line (length groups.now)) 0 0 (map vec_items groups.now))) }
+{
+    let nodes = nodes_of(alloc, groups)?;
+    push_lines(text, nodes.as_slice())
+}
+
+// Adds what points to the later end of an edge.
+fn push_arrow(alloc: Global, text: &mut String, later: usize) -> Result<(), AllocError>
+    ensures { OnOk result (string_bytes text.new ≡ string_bytes text.old ++ spec.arrow later) }
+{
+    text.push_str(" -> ")?;
+    push_number(alloc, text, later)?;
+    text.push_str("\n")
+}
+
+// Adds an edge.
+fn push_edge(
+    alloc: Global,
+    text: &mut String,
+    later: usize,
+    earlier: usize,
+) -> Result<(), AllocError>
+    ensures { OnOk result (string_bytes text.new ≡ string_bytes text.old ++ spec.edge later earlier) }
+{
+    text.push_str("  ")?;
+    push_number(alloc, text, earlier)?;
+    push_arrow(alloc, text, later)
+}
+
+// Adds the edges of a command, given what it needs.
+fn push_edges_of(
+    alloc: Global,
+    text: &mut String,
+    number: usize,
+    needs: &[usize],
+) -> Result<(), AllocError>
+    ensures { OnOk result (string_bytes text.new ≡ string_bytes text.old ++ flat_map (spec.edge number) needs.now) }
+{
+    for earlier in needs {
+        push_edge(alloc, text, number, *earlier)?;
+    }
+    Ok(())
+}
+
+// Adds the edges of commands, given what each needs.
+fn push_edges(alloc: Global, text: &mut String, needs: &[Vec<usize>]) -> Result<(), AllocError>
+    ensures { OnOk result (string_bytes text.new ≡ string_bytes text.old ++ spec.edges_from 0 (map vec_items needs.now)) }
+{
+    for (number, earlier) in needs.iter().enumerate() {
+        push_edges_of(alloc, text, number, earlier.as_slice())?;
+    }
+    Ok(())
+}
+
+// Adds the text of a dropped command's node.
+fn push_dropped_label(text: &mut String, dropped: &Dropped) -> Result<(), AllocError>
+    ensures { OnOk result (string_bytes text.new ≡ string_bytes text.old ++ spec.dropped_label dropped.now) }
+{
+    push_name(text, dropped.exe.as_str())?;
+    text.push_str("\\n")?;
+    text.push_str(dropped.reason.name())
+}
+
+// Adds the node of a dropped command, which is dashed.
+fn push_dropped(
+    alloc: Global,
+    text: &mut String,
+    place: usize,
+    dropped: &Dropped,
+) -> Result<(), AllocError>
+    ensures { OnOk result (string_bytes text.new ≡ string_bytes text.old ++ spec.dropped_line place dropped.now) }
+{
+    text.push_str("  d")?;
+    push_number(alloc, text, place)?;
+    text.push_str(" [label=\"")?;
+    push_dropped_label(text, dropped)?;
+    text.push_str("\" style=dashed]\n")
+}
+
+// Adds the nodes of dropped commands.
+fn push_all_dropped(alloc: Global, text: &mut String, dropped: &[Dropped]) -> Result<(), AllocError>
+    ensures { OnOk result (string_bytes text.new ≡ string_bytes text.old ++ spec.dropped_from 0 dropped.now) }
+{
+    for (place, command) in dropped.iter().enumerate() {
+        push_dropped(alloc, text, place, command)?;
+    }
+    Ok(())
+}
+
+// Adds what follows the nodes of a plan's groups.
+fn push_rest(alloc: Global, text: &mut String, plan: &Plan) -> Result<(), AllocError>
+    ensures { OnOk result (string_bytes text.new ≡ string_bytes text.old ++ spec.rest plan.now) }
+{
+    let needed = needs(alloc, plan)?;
+    push_edges(alloc, text, needed.as_slice())?;
+    push_all_dropped(alloc, text, plan.dropped.as_slice())?;
+    text.push_str("}\n")
+}
+
+/// A plan as a graph in the language of Graphviz: a node for each command, with its program and the files that it writes; an
+/// edge to each command from each that it needs ([`needs`](command_files::needs)); a box around the nodes of each group; and a
+/// dashed node for each dropped command, with the reason.
+///
+/// Nodes show file names, without folders. A node of a group has the command's number in the plan, from 0, as its name.
+///
+/// Fails only if memory runs out.
+pub fn dot_text(alloc: Global, plan: &Plan) -> Result<String, AllocError>
+    ensures { IfOk result (λ text. string_bytes text ≡ spec.picture plan.now) }
+{
+    let mut text = String::from_str(alloc, "digraph plan {\n  node [shape=box]\n")?;
+    push_nodes(alloc, &mut text, plan.groups.as_slice())?;
+    push_rest(alloc, &mut text, plan)?;
+    Ok(text)
+}
