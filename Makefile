@@ -3,7 +3,7 @@ PREFIX ?= /usr/local
 DESTDIR ?=
 target = $(DESTDIR)$(PREFIX)
 
-.PHONY: help demo build lib check install install-programs install-library uninstall dist bench drivers fuzz-library must-fail refused-memory end-to-end odd-calls random-calls versions cache peer cluster field mutants test-install dist-test check-docs lint test
+.PHONY: help demo build lib check install install-programs install-library uninstall dist bench drivers fuzz-library must-fail refused-memory end-to-end odd-calls random-calls versions cache cache-example peer cluster field mutants test-install dist-test check-docs lint test
 
 help:
 	@echo 'make demo             run cudaplan, unproved, on two calls; a minute from a fresh clone'
@@ -19,10 +19,11 @@ help:
 	@echo 'make fuzz-library     fuzz libzigrunk for an hour, guided by coverage; needs clang with libFuzzer; FUZZ_SECONDS=3600'
 	@echo 'make refused-memory   run the test cases again and again, each time with another allocation failing'
 	@echo 'make end-to-end       compare zigrunk-nvcc with nvcc; needs nvcc and ninja on the path'
-	@echo 'make odd-calls        the same for 145 calls with odd words, and for 100 random calls'
+	@echo 'make odd-calls        the same for 149 calls with odd words, and for 100 random calls'
 	@echo 'make random-calls     the same for calls whose words are drawn from nvcc'\''s options; SEED=1 COUNT=1000'
 	@echo 'make versions         the same with nvcc 11.2, 11.8 and 12.4, which it downloads from Debian, up to 3 GB; or CUDA_VERSIONS=FOLDER'
 	@echo 'make cache            compare builds and rebuilds with and without ccache and sccache; needs both, sccache 0.9 or later'
+	@echo 'make cache-example    test the small cache that is an example in Rust; needs nvcc, ninja, cargo, and make build and make lib before'
 	@echo 'make peer             build Debian'\''s sccache as it is and on libzigrunk, which it downloads with its crates, 30 MB; run its tests'
 	@echo '                      and calls of nvcc by both; needs nvcc and cargo 1.85. No part of the gate'
 	@echo 'make field            build the CUDA code of real projects by nvcc and by zigrunk-nvcc, and compare; needs nvcc and CMake;'
@@ -150,6 +151,9 @@ versions:
 cache:
 	@tests/cache.sh
 
+cache-example:
+	@tests/cache_example.sh
+
 # Outside the gate. It takes the proved libzigrunk if out/ has it. Otherwise it compiles one without proof, and says so.
 peer:
 	@tests/peer.sh
@@ -166,7 +170,6 @@ field:
 
 mutants:
 	@tests/mutants.sh
-	@tests/batch_mutants.sh
 
 # The pages name files, definitions and calls; this finds names that aren't there.
 check-docs:

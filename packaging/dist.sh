@@ -79,7 +79,7 @@ Version: $version
 Architecture: amd64
 Maintainer: Zigrunk maintainers <maintainers@users.noreply.zigrunk.example>
 Installed-Size: $(find "$root/usr" -type f -printf '%s\n' | awk '{ size += $1 } END { print int(size / 1024) + 1 }')
-Depends: libc6 (>= $glibc), ninja-build
+Depends: libc6 (>= $glibc), ninja-build, python3:any
 Suggests: sccache, slurm-client
 Section: devel
 Priority: optional

@@ -10,6 +10,8 @@
 #   RUNS=N              so many runs, of which it prints medians; 1 unless set
 #   TOOLS='nvcc ..'     only these of nvcc, ccache, sccache, zigrunk, zigrunk+sccache, ccache+zigrunk, ccache+zigrunk+sccache
 #   STAGES='cold ..'    only these of cold, unchanged, comment, host, kernel, target
+#   EXAMPLE=PATH        the example cache.rs of the crate for Rust, as `cargo build --release --example cache` leaves it: then zigrunk+example is
+#                       a tool too, zigrunk-nvcc with that inside
 #   SCCACHE=PATH        sccache, if it isn't the one on the path. Versions before 0.9 don't know cicc, ptxas and cudafe++
 cd "$(dirname "$0")/.." || exit 1
 . tests/lib.sh
@@ -20,7 +22,8 @@ version=$("$sccache" --version) || skip_all 'builds through caches' "$sccache do
 wrapper=$PWD/bin/zigrunk-nvcc
 tests=$PWD/tests
 program=$(realpath "${1:-${ZIGRUNK_PROGRAM:-crates/zigrunk/out/zigrunk}}")
-read -ra tools <<< "${TOOLS:-nvcc ccache sccache zigrunk zigrunk+sccache ccache+zigrunk ccache+zigrunk+sccache}"
+example=${EXAMPLE:+$(realpath "$EXAMPLE")}
+read -ra tools <<< "${TOOLS:-nvcc ccache sccache zigrunk zigrunk+sccache ${EXAMPLE:+zigrunk+example} ccache+zigrunk ccache+zigrunk+sccache}"
 read -ra stages <<< "${STAGES:-cold unchanged comment host kernel target}"
 unset NVCC_PREPEND_FLAGS NVCC_APPEND_FLAGS MAKEFLAGS CUDAFLAGS CUDACXX CUDAARCHS "${!CMAKE_@}" "${!ZIGRUNK_@}" "${!SCCACHE_@}" "${!CCACHE_@}"
 trap 'kill ${servers[@]} 2> /dev/null; rm -rf "$scratch"' EXIT
@@ -34,6 +37,7 @@ declare -A servers=() ports=()
 by() {
     local settings=(CCACHE_DIR="$scratch/$1.ccache" SCCACHE_SERVER_PORT="${ports[$1]}")
     [[ $1 != zigrunk+sccache && $1 != *+sccache ]] || settings+=(ZIGRUNK_LAUNCHER="$sccache")
+    [ "$1" != zigrunk+example ] || settings+=(ZIGRUNK_LAUNCHER="$example" CACHE_FOLDER="$scratch/$1.entries" CACHE_LOG="$scratch/$1.log")
     env "${settings[@]}" "${@:2}"
 }
 
@@ -52,7 +56,7 @@ configure() {
 # start_empty TOOL: a tool's caches are empty, and its sccache is a new process.
 start_empty() {
     [ -z "${servers[$1]-}" ] || { kill "${servers[$1]}" && wait "${servers[$1]}"; } 2> /dev/null
-    rm -rf "$scratch/$1.ccache" "$scratch/$1.sccache"
+    rm -rf "$scratch/$1.ccache" "$scratch/$1.sccache" "$scratch/$1.entries"
     case $1 in
     *sccache) ;;
     *) return ;;
@@ -74,8 +78,9 @@ work_of() {
     echo $(((fields[13] + fields[14] + fields[15] + fields[16]) * 100 / $(getconf CLK_TCK)))
 }
 
-# misses TOOL: how many commands sccache ran since its numbers were last set to zero.
+# misses TOOL: how many commands sccache, or the example, answered and ran since its numbers were last set to zero.
 misses() {
+    [ "$1" != zigrunk+example ] || { echo "$(grep -c '^hit' "$scratch/$1.log") $(grep -c '^miss' "$scratch/$1.log")" && return; }
     by "$1" "$sccache" --show-stats --stats-format json | python3 -c '
 import json, sys
 stats = json.load(sys.stdin)["stats"]
@@ -90,6 +95,7 @@ build() {
     [ "$2" != cold ] || cmake -DCMAKE_CUDA_ARCHITECTURES='75;80' "$scratch/work/build" > "$scratch/said" 2>&1
     make -C "$scratch/work/build" clean > /dev/null
     [ -z "${servers[$3]-}" ] || by "$3" "$sccache" --zero-stats > /dev/null 2>&1
+    : > "$scratch/$3.log"
     before=$(work_of "$3")
     TIMEFORMAT='%R %U %S'
     { time by "$3" make -C "$scratch/work/build" -j4 > "$scratch/$3.said" 2>&1; } 2> "$scratch/times"
@@ -97,7 +103,9 @@ build() {
     awk -v name="$3 $2" -v server=$(($(work_of "$3") - before)) '{ print name, $1, $2 + $3 + server / 100 }' "$scratch/times" >> "$scratch/figures"
     mv "$scratch/work/build" "$scratch/$3"
     count "run $1, $2, $3" "$([ "$status" = 0 ] || tail -n 20 "$scratch/$3.said")"
-    [ "$2 $3" != 'unchanged zigrunk+sccache' ] || same "run $1, hits and misses of $3" "$(misses "$3")" '72 0'
+    case "$2 $3" in
+    'unchanged zigrunk+sccache' | 'unchanged zigrunk+example') same "run $1, hits and misses of $3" "$(misses "$3")" '72 0' ;;
+    esac
 }
 
 # compare RUN STAGE: a case for each tool: its objects are nvcc's, but for the name of a temporary file.

@@ -681,9 +681,13 @@ plan_views() {
         '  subgraph cluster_2 { label="final group" 4 [label="gcc\nk.o"] }' \
         '  0 -> 1' '  0 -> 2' '  1 -> 3' '  2 -> 3' '  0 -> 4' '  1 -> 4' '  2 -> 4' '  3 -> 4' '  d0 [label="g++\nNotCuda" style=dashed]' '}')
     check 'a plan as a graph' 0 "${text%.}" '' dot /w /t -c "$scratch/views" "$scratch/views.2"
-    text="[{\"arguments\":[\"$bin/gcc\",\"-D__CUDACC__\",\"-E\",\"k.cu\",\"-o\",\"/t/x_0.cpp4.ii\"],\"directory\":\"/w\",\"file\":\"/w/k.cu\"}"
+    text="[{\"arguments\":[\"clang++\",\"--cuda-host-only\",\"-fsyntax-only\",\"k.cu\",\"-o\",\"/t/x_0.cpp4.ii\"],\"directory\":\"/w\",\"file\":\"/w/k.cu\"}"
     text+=",{\"arguments\":[\"$bin/gcc\",\"-D__NVCC__\",\"-E\",\"k.cu\",\"-o\",\"/t/x_0.cpp1.ii\"],\"directory\":\"/w\",\"file\":\"/w/k.cu\"}]"$'\n'
     check 'a plan as a compilation database' 0 "$text" '' compdb /w /t -c "$scratch/views" "$scratch/views.2"
+    run_of cuda '#$ gcc -D__CUDA_ARCH__=1030 -D__CUDA_ARCH_LIST__=1030 -E -x c++ -D__CUDACC__ -D__NVCC__ -D__CUDACC_RDC__ -I c++ -D X=1 k.cu -o k.cpp1.ii'
+    text="[{\"arguments\":[\"clang++\",\"--cuda-device-only\",\"--cuda-gpu-arch=sm_103\",\"-fsyntax-only\",\"-x\",\"cuda\",\"-fgpu-rdc\",\"-I\",\"c++\""
+    text+=",\"-D\",\"X=1\",\"k.cu\",\"-o\",\"x_0.cpp1.ii\"],\"directory\":\"/w\",\"file\":\"/w/k.cu\"}]"$'\n'
+    check 'a step for an architecture in a compilation database' 0 "$text" '' compdb /w /t -c "$scratch/cuda" "$scratch/cuda.2"
 }
 
 # the JSON of real plans, by its schema

@@ -7,7 +7,7 @@ use crate::mock_command::{CommandCreatorSync, RunCommand};
 use crate::util::run_input_output;
 use std::ffi::{OsStr, OsString};
 use std::path::{Path, PathBuf};
-use zigrunk::{find_programs, needs, plan, HostCompiler, Plan, PlanCall};
+use zigrunk::{find_programs, plan, HostCompiler, Plan, PlanCall};
 
 /// The front group, the device groups, which may run side by side, and the final group.
 type Groups = Vec<Vec<NvccGeneratedSubcommand>>;
@@ -58,7 +58,7 @@ impl NvccCall<'_> {
         let plan = plan(&call)?;
         anyhow::ensure!(plan.dropped().len() == 0, "the plan drops {:?}", plan.dropped());
         let mut groups: Groups = plan.groups().map(|group| group.commands().map(|it| self.subcommand(it)).collect()).collect();
-        if need_each_other(&plan, &needs(&call)?) {
+        if need_each_other(&plan) {
             let chain = groups.drain(1..plan.groups().len() - 1).flatten().collect();
             groups.insert(1, chain);
         }
@@ -87,11 +87,11 @@ impl NvccCall<'_> {
 }
 
 /// Whether a device group needs another one, as in a fatbin, where the first cicc writes what the others read.
-fn need_each_other(plan: &Plan, needs: &[Vec<usize>]) -> bool {
+fn need_each_other(plan: &Plan) -> bool {
     let groups: Vec<usize> = plan.commands().filter_map(|command| command.group()).collect();
     let devices = 1..plan.groups().len().saturating_sub(1);
     let crosses = |own: usize, need: usize| own != need && devices.contains(&own) && devices.contains(&need);
-    needs.iter().zip(&groups).any(|(needs, &own)| needs.iter().any(|&need| crosses(own, groups[need])))
+    plan.commands().zip(&groups).any(|(command, &own)| command.needs().iter().any(|&need| crosses(own, groups[need])))
 }
 
 fn text<S: AsRef<OsStr> + ?Sized>(value: &S) -> Result<&str> {
