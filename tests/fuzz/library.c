@@ -308,6 +308,11 @@ static zigrunk_list_answer asks_remap(void *what, zigrunk_range *ranges, size_t 
     return zigrunk_remap(it->words.at, it->words.count, it->suffixes.at, it->suffixes.count, ranges, ranges_size, out, out_size);
 }
 
+static zigrunk_list_answer asks_key(void *what, zigrunk_range *ranges, size_t ranges_size, uint8_t *out, size_t out_size) {
+    (void)ranges, (void)ranges_size;
+    return of_text(zigrunk_command_key(what, out, out_size));
+}
+
 static zigrunk_list_answer asks_candidates(void *what, zigrunk_range *ranges, size_t ranges_size, uint8_t *out, size_t out_size) {
     zigrunk_text *it = what;
     return zigrunk_candidates(it[0].bytes, it[0].length, it[1].bytes, it[1].length, it[2].bytes, it[2].length, ranges, ranges_size, out, out_size);
@@ -559,6 +564,54 @@ static int rereads(const zigrunk_line_call *it) {
     return it->cwd.length && it->cwd.bytes[0] == '/' && (it->tool == ZIGRUNK_TOOL_CUDAFE || (it->tool < ZIGRUNK_TOOL_CUDAFE && inputs <= 1));
 }
 
+/* How long the text is that a part of a key stands for, if a word has it there: a root or, with `root` NULL, one byte. Else 0. */
+static size_t part_length(zigrunk_text word, size_t read, const zigrunk_text *root, uint8_t byte) {
+    zigrunk_text wanted = root ? *root : (zigrunk_text){&byte, 1};
+    return wanted.length <= word.length - read && memcmp(word.bytes + read, wanted.bytes, wanted.length) == 0 ? wanted.length : 0;
+}
+
+/* Reads a word of a key, from `*at` on. Whether it is this word. */
+static int next_keyed(const zigrunk_key_call *it, const answer *key, size_t *at, zigrunk_text word) {
+    size_t read = 0;
+    while (*at < key->length) {
+        uint8_t byte = key->out[(*at)++], mark = byte == 0 && *at < key->length ? key->out[(*at)++] : 0;
+        if (mark == '0') {
+            return read == word.length;
+        }
+        size_t number = (size_t)(mark - 'A');
+        if (byte == 0 && (mark < 'A' || number >= it->roots_count)) {
+            return 0;
+        }
+        size_t length = part_length(word, read, byte == 0 ? &it->roots[number] : NULL, byte);
+        if (length == 0) {
+            return 0;
+        }
+        read += length;
+    }
+    return 0;
+}
+
+/* Reads the key of words, with the suffixes as roots. */
+static void try_key(const named *names) {
+    zigrunk_variable none = {{(const uint8_t *)"", 0}, {(const uint8_t *)"", 0}};
+    size_t roots = names->suffixes.count < 26 ? names->suffixes.count : 26;
+    zigrunk_key_call it = {names->words.at, names->words.count, &none, 0, names->suffixes.at, roots, ZIGRUNK_TOOL_HOST, 0};
+    int plain = 1;
+    for (size_t i = 0; i < it.words_count; i++) {
+        plain = plain && !memchr(it.words[i].bytes, 0, it.words[i].length);
+    }
+    answer key = ask(asks_key, &it, 0);
+    if (key.out && key.status != ZIGRUNK_OUT_OF_MEMORY) {
+        size_t at = 0;
+        holds(key.status == (plain ? ZIGRUNK_OK : ZIGRUNK_BAD_LINE), "a command without NUL has a key");
+        for (size_t i = 0; i < it.words_count && plain; i++) {
+            holds(next_keyed(&it, &key, &at, it.words[i]), "a key is read as the words of its command");
+        }
+        holds(!plain || at == key.length, "a key has no more than its command");
+    }
+    release(key);
+}
+
 /* Reads a line, writes it back and reads that. */
 static void try_line(zigrunk_line_call *it) {
     answer said = ask(asks_line, it, 0), words = ask(asks_line_words, it, 0);
@@ -613,6 +666,7 @@ static void try_text(zigrunk_text text, const zigrunk_plan_call *call, uint32_t 
         try_words(&words);
         named names = {words, {call->suffixes, call->suffixes_count}};
         try_names(&names);
+        try_key(&names);
         zigrunk_line_call line = {call->cwd, at, split.count, call->variables, call->variables_count, tool % 6, 0};
         try_line(&line);
         zigrunk_nvcc_call nvcc = {call->cwd, call->tmp, {(const uint8_t *)"nvcc", 4}, at, split.count, call->variables, call->variables_count, 0};

@@ -1,8 +1,8 @@
 -- The environment variables that count in a key.
 --
--- How they were found: a library put before the C library (LD_PRELOAD) wrote down each `getenv` of the tools of nvcc 13.0 with gcc 12, for calls
--- with -c, -G, -g, -lineinfo, -dlto and -rdc=true; `strings` on ptxas and nvlink showed one more. gcc's manual has the rest of gcc's, which it
--- reads only for some sources. Left out are those for temporary files, colours, logs, numbers of threads and PATH: they change where
+-- How they were found: a library put before the C library (LD_PRELOAD) wrote down each `getenv` of the tools of nvcc 13.0, of gcc 12 and of
+-- clang 14, for calls with -c, -G, -g, -lineinfo, -dlto and -rdc=true; `strings` on ptxas showed one more. gcc's manual has those for the
+-- language, which the C library reads. Left out are those for temporary files, colours, logs, numbers of threads and PATH: they change where
 -- something is, or a message, and a program that PATH finds is part of what a cache knows of the tool.
 use Rattle.std.specs.Prelude.{◌≡◌, ℕ, List, [], ◌∷◌, if◌then◌else◌, Option, Some, None, refl, codes}
 use Rattle.std.specs.List.{flat_map}
@@ -21,9 +21,11 @@ read_by CudaFe = codes "EDG_BASE" ∷ codes "EDG_MODULES_PATH" ∷ codes "USR_IN
 read_by Fatbinary = []
 read_by Nvlink = codes "CAN_FINALIZE_DEBUG" ∷ codes "LIBRARY_PATH" ∷ []
 read_by Host =
-    codes "COMPILER_PATH" ∷ codes "CPATH" ∷ codes "CPLUS_INCLUDE_PATH" ∷ codes "C_INCLUDE_PATH" ∷ codes "DEPENDENCIES_OUTPUT"
-    ∷ codes "GCC_EXEC_PREFIX" ∷ codes "LANG" ∷ codes "LC_ALL" ∷ codes "LC_CTYPE" ∷ codes "LC_MESSAGES" ∷ codes "LIBRARY_PATH"
-    ∷ codes "PWD" ∷ codes "SOURCE_DATE_EPOCH" ∷ codes "SUNPRO_DEPENDENCIES" ∷ []
+    codes "BINUTILS_ROOT" ∷ codes "CCC_OVERRIDE_OPTIONS" ∷ codes "COMPILER_PATH" ∷ codes "CPATH" ∷ codes "CPLUS_INCLUDE_PATH"
+    ∷ codes "C_INCLUDE_PATH" ∷ codes "DEPENDENCIES_OUTPUT" ∷ codes "G++_ROOT" ∷ codes "GCC_COMPARE_DEBUG" ∷ codes "GCC_EXEC_PREFIX"
+    ∷ codes "GCC_ROOT" ∷ codes "LANG" ∷ codes "LC_ALL" ∷ codes "LC_CTYPE" ∷ codes "LC_MESSAGES"
+    ∷ codes "LIBRARY_PATH" ∷ codes "LLVM_OVERRIDE_PRODUCER" ∷ codes "LPATH" ∷ codes "PWD" ∷ codes "SOURCE_DATE_EPOCH"
+    ∷ codes "SUNPRO_DEPENDENCIES" ∷ []
 
 -- the value of a variable in an environment; of a name that occurs twice, the last one
 abbrev pub last_value : List ℕ → List (List ℕ × List ℕ) → Option (List ℕ)
