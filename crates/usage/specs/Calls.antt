@@ -12,7 +12,7 @@ use Rattle.usage.specs.declared.call.Call.{Call}
 use Rattle.usage.specs.declared.call.Call.TheVariants as calls
 use Rattle.usage.specs.declared.call.ExportCall.{ExportCall}
 use Rattle.usage.specs.declared.call.Format.{Format}
-use Rattle.usage.specs.declared.call.Format.TheVariants.{Shell, Ninja, Json, Dot, Compdb}
+use Rattle.usage.specs.declared.call.Format.TheVariants.{Shell, Ninja, Json, Dot, Compdb, Makeflow}
 
 -- a call that writes a plan: the format, whether generated files keep nvcc's names, whether a plan that dropped a command is an
 -- error, and what to plan
@@ -55,7 +55,8 @@ format_of_name name =
     if bytes_eq name (codes "ninja") then Some Ninja else
     if bytes_eq name (codes "json") then Some Json else
     if bytes_eq name (codes "dot") then Some Dot else
-    if bytes_eq name (codes "compdb") then Some Compdb else None
+    if bytes_eq name (codes "compdb") then Some Compdb else
+    if bytes_eq name (codes "makeflow") then Some Makeflow else None
 
 -- a call that writes a plan, with its limit
 abbrev pub limited_export : ℕ × ExportCall → ℕ × ExportOf

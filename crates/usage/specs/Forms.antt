@@ -1,17 +1,14 @@
 -- The forms of the program's calls: by which words each goes on.
 use Rattle.std.specs.Prelude.{ℕ, List, [], ◌∷◌, Bool, ◌||◌, if◌then◌else◌, Option, Some, None, codes}
 use Rattle.std.specs.Str.{bytes_eq}
+use Rattle.usage.specs.Calls.{format_of_name}
+use Rattle.usage.specs.declared.call.Format.{Format}
 use Rattle.usage.specs.declared.form.Form.{Form}
 use Rattle.usage.specs.declared.form.Form.TheVariants.{Export, Plan, Calls, Directory, Line, Page}
 
--- the form of a call, by its name
-abbrev pub form_of : List ℕ → Option Form
-form_of name =
-    if bytes_eq name (codes "shell") then Some Export else
-    if bytes_eq name (codes "ninja") then Some Export else
-    if bytes_eq name (codes "json") then Some Export else
-    if bytes_eq name (codes "dot") then Some Export else
-    if bytes_eq name (codes "compdb") then Some Export else
+-- the form of a call that writes no format, by its name
+abbrev pub plain_form : List ℕ → Option Form
+plain_form name =
     if bytes_eq name (codes "plan") then Some Plan else
     if bytes_eq name (codes "calls") then Some Calls else
     if bytes_eq name (codes "directory") then Some Directory else
@@ -19,6 +16,14 @@ form_of name =
     if bytes_eq name (codes "--help") then Some Page else
     if bytes_eq name (codes "-h") then Some Page else
     if bytes_eq name (codes "--version") then Some Page else None
+
+-- the form of a call, by its name
+abbrev pub form_with : List ℕ → Option Format → Option Form
+form_with name (Some format) = Some Export
+form_with name None = plain_form name
+
+abbrev pub form_of : List ℕ → Option Form
+form_of name = form_with name (format_of_name name)
 
 -- the words that follow a call's name, as a message shows them
 abbrev pub words_of : Form → List ℕ

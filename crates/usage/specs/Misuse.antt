@@ -86,7 +86,7 @@ from_name words = words
 
 -- the names of all calls
 abbrev pub commands : List ℕ
-commands = codes "shell|ninja|json|dot|compdb|plan|calls|directory|line .., or --help"
+commands = codes "shell|ninja|json|dot|compdb|makeflow|plan|calls|directory|line .., or --help"
 
 -- the form of a call, by its name
 abbrev pub form_of_named : List ℕ → Option Form → List ℕ

@@ -20,6 +20,8 @@ pub enum Format {
     Dot,
     /// A compilation database.
     Compdb,
+    /// A Makeflow file.
+    Makeflow,
 }
 
 /// A call that writes the plan of two dry runs for another tool.
@@ -52,8 +54,8 @@ pub enum Call<'a> {
 /// The limit of a call that names none, in bytes: 2 MiB. The dry runs of a real call hold some hundred KiB.
 const DEFAULT_LIMIT: usize = 2_097_152;
 
-// The format of a name.
-fn format_named(name: &str) -> Option<Format>
+/// The format of a name.
+pub fn format_named(name: &str) -> Option<Format>
     ensures { result ≡ spec.format_of_name name.now }
 {
     match name {
@@ -62,6 +64,7 @@ fn format_named(name: &str) -> Option<Format>
         "json" => Some(Format::Json),
         "dot" => Some(Format::Dot),
         "compdb" => Some(Format::Compdb),
+        "makeflow" => Some(Format::Makeflow),
         _ => None,
     }
 }
@@ -167,7 +170,7 @@ fn call_behind_limit<'a>(words: &'a [String]) -> Option<(usize, Call<'a>)>
 
 /// Parses the words after the program's name, `[--limit BYTES]` and one of these calls, and gives the limit too:
 ///
-/// - `shell|ninja|json|dot|compdb OPTION.. CWD TMP FLAG DRY1 DRY2 SUFFIX..`, with the options `--keep` if generated files keep
+/// - `shell|ninja|json|dot|compdb|makeflow OPTION.. CWD TMP FLAG DRY1 DRY2 SUFFIX..`, with the options `--keep` if generated files keep
 ///   nvcc's names, `--whole` if a plan that dropped a command is an error, and `--limit BYTES`, in any order;
 /// - `calls CWD TMP NVCC WORD..`;
 /// - `directory CWD NVCC WORD..`;

@@ -4,6 +4,8 @@ ghost use Rattle.std.specs.Prelude.{◌≡◌, map, string_bytes};
 ghost use Rattle.std.specs.Option.{option_copied};
 ghost use Rattle.usage.specs.Forms as spec;
 
+use crate::call::format_named;
+
 /// What follows a call's name.
 #[derive(Clone, Copy)]
 pub enum Form {
@@ -21,18 +23,27 @@ pub enum Form {
     Page,
 }
 
-/// The form of a call, by its name.
-pub fn form_named(name: &str) -> Option<Form>
-    ensures { result ≡ spec.form_of name.now }
+// The form of a call that writes no format, by its name.
+fn plain_form(name: &str) -> Option<Form>
+    ensures { result ≡ spec.plain_form name.now }
 {
     match name {
-        "shell" | "ninja" | "json" | "dot" | "compdb" => Some(Form::Export),
         "plan" => Some(Form::Plan),
         "calls" => Some(Form::Calls),
         "directory" => Some(Form::Directory),
         "line" => Some(Form::Line),
         "--help" | "-h" | "--version" => Some(Form::Page),
         _ => None,
+    }
+}
+
+/// The form of a call, by its name.
+pub fn form_named(name: &str) -> Option<Form>
+    ensures { result ≡ spec.form_of name.now }
+{
+    match format_named(name) {
+        Some(_) => Some(Form::Export),
+        None => plain_form(name),
     }
 }
 

@@ -10,7 +10,8 @@ use std::alloc::{AllocError, Global};
 use std::io::{self, Write};
 
 // The names of all calls.
-const COMMANDS: &str = "shell|ninja|json|dot|compdb|plan|calls|directory|line .., or --help";
+const COMMANDS: &str =
+    "shell|ninja|json|dot|compdb|makeflow|plan|calls|directory|line .., or --help";
 
 // What it says if there is no memory for more.
 const SHORT: &str = "wrong usage: see zigrunk --help";

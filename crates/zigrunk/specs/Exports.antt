@@ -16,6 +16,8 @@ use Rattle.plan_json.specs.Compdb.{database}
 use Rattle.plan_graphs.specs.Dot.{picture}
 use Rattle.plan_exports.specs.Graph.{ninja_answer}
 use Rattle.plan_json.specs.Json.{Described, data_of}
+use Rattle.plan_makeflow.specs.Makeflow.{makeflow_answer}
+use Rattle.plan_makeflow.specs.CommandText.{has_long_command}
 use Rattle.plan_exports.specs.Message.{message_of}
 use Rattle.plan_exports.specs.Script.{shell_answer}
 use Rattle.programs.specs.declared.stop.Stop.{Stop}
@@ -24,7 +26,7 @@ use Rattle.programs.specs.Calls.{PlanOf}
 use Rattle.programs.specs.DryRunText.{is_dry_run}
 use Rattle.programs.specs.PlanText.{program_setting, all_suffixes}
 use Rattle.usage.specs.declared.call.Format.{Format}
-use Rattle.usage.specs.declared.call.Format.TheVariants.{Shell, Ninja, Json, Dot, Compdb}
+use Rattle.usage.specs.declared.call.Format.TheVariants.{Shell, Ninja, Json, Dot, Compdb, Makeflow}
 use Rattle.usage.specs.Calls.{ExportOf}
 use Rattle.zigrunk.specs.Directories.{is_plain}
 
@@ -37,6 +39,12 @@ written (Err refusal) = Err (stops.Unwritable (message_of refusal))
 abbrev pub described : PlanOf → PlanWithOrigins → Described
 described call planned = record { cwd = call.cwd; tmp = call.tmp; flag = call.flag; planned = planned }
 
+-- a plan as a Makeflow file, if Makeflow reads it
+abbrev pub makeflow_in : List ℕ → Plan → Result (List ℕ) Stop
+makeflow_in tmp plan =
+    if has_long_command plan then Err (stops.Unwritable (codes "a command of the plan has over 65000 bytes, which Makeflow doesn't read"))
+    else written (makeflow_answer tmp plan)
+
 -- a plan in a format. JSON and a compilation database end in a newline
 abbrev pub plan_in : Format → PlanOf → PlanWithOrigins → Result (List ℕ) Stop
 plan_in Shell call planned = written (shell_answer planned.plan)
@@ -44,6 +52,7 @@ plan_in Ninja call planned = written (ninja_answer call.tmp planned.plan)
 plan_in Json call planned = Ok (compact_text (data_of (described call planned)) ++ 10 ∷ [])
 plan_in Dot call planned = Ok (picture planned.plan)
 plan_in Compdb call planned = Ok (compact_text (database planned.plan) ++ 10 ∷ [])
+plan_in Makeflow call planned = makeflow_in call.tmp planned.plan
 
 -- why a plan lacks commands, if it does: it has none, or it has to be whole and dropped one
 abbrev pub lacking : Bool → Plan → Option (List ℕ)

@@ -20,8 +20,9 @@ help_text =
     [] ∷
     codes "FORMAT              Plan the two dry runs of an nvcc call, in the files DRY1 and" ∷
     codes "                    DRY2, and write the plan as a shell script (shell), a Ninja" ∷
-    codes "                    file (ninja), JSON (json), a graph for Graphviz (dot) or a" ∷
-    codes "                    compilation database for clang's tools (compdb). With --keep," ∷
+    codes "                    file (ninja), JSON (json), a graph for Graphviz (dot), a" ∷
+    codes "                    compilation database for clang's tools (compdb) or a Makeflow" ∷
+    codes "                    file for machines that share no disk (makeflow). With --keep," ∷
     codes "                    generated files keep nvcc's names. With --whole, it is an" ∷
     codes "                    error if the plan dropped a command." ∷
     codes "calls               Read the words of an nvcc line and write, for a shell's eval," ∷

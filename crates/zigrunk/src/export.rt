@@ -24,6 +24,7 @@ use dry_runs::{ParsedRuns, Which};
 use plan_exports::{Refusal, ninja_file, shell_script};
 use plan_graphs::dot_text;
 use plan_json::{compdb_text, json_text};
+use plan_makeflow::{has_long_command, makeflow_file};
 use programs::{PlanCall, Stop, all_suffixes, deliver, is_dry_run};
 use std::alloc::Global;
 use std::io::Write;
@@ -70,6 +71,19 @@ fn compdb_line(alloc: Global, plan: &Plan) -> Result<String, Stop>
     Ok(text)
 }
 
+// A plan as a Makeflow file, if Makeflow reads it.
+fn makeflow_text(alloc: Global, tmp: &str, plan: &Plan) -> Result<String, Stop>
+    ensures { Answers (text_of result) (spec.makeflow_in tmp.now plan.now) }
+{
+    if has_long_command(alloc, plan)? {
+        return refused(
+            alloc,
+            "a command of the plan has over 65000 bytes, which Makeflow doesn't read",
+        );
+    }
+    written(alloc, makeflow_file(alloc, tmp, plan))
+}
+
 // A plan in a format.
 fn plan_in(
     alloc: Global,
@@ -85,6 +99,7 @@ fn plan_in(
         Format::Json => json_line(alloc, call, planned),
         Format::Dot => Ok(dot_text(alloc, &planned.plan)?),
         Format::Compdb => compdb_line(alloc, &planned.plan),
+        Format::Makeflow => makeflow_text(alloc, call.tmp, &planned.plan),
     }
 }
 

@@ -17,8 +17,9 @@ pub fn help() -> &'static str
 
 FORMAT              Plan the two dry runs of an nvcc call, in the files DRY1 and
                     DRY2, and write the plan as a shell script (shell), a Ninja
-                    file (ninja), JSON (json), a graph for Graphviz (dot) or a
-                    compilation database for clang's tools (compdb). With --keep,
+                    file (ninja), JSON (json), a graph for Graphviz (dot), a
+                    compilation database for clang's tools (compdb) or a Makeflow
+                    file for machines that share no disk (makeflow). With --keep,
                     generated files keep nvcc's names. With --whole, it is an
                     error if the plan dropped a command.
 calls               Read the words of an nvcc line and write, for a shell's eval,

@@ -1,0 +1,3 @@
+pub mod DependencyLemmas
+pub mod MakeflowLemmas
+pub mod ReadBackLemmas

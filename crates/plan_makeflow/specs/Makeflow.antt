@@ -1,0 +1,40 @@
+-- A plan as a Makeflow file, in Makeflow's JSON form.
+use Rattle.std.specs.Prelude.{◌≡◌, ℕ, List, [], ◌∷◌, ◌++◌, map, Result, Some, codes}
+use Rattle.serde_json.specs.Data.{Data, boolean, string, array, object, no_members, member}
+use Rattle.serde_json.specs.Read.{read}
+use Rattle.serde_json.specs.View.{items_of}
+use Rattle.serde_json.specs.Written.{compact_text}
+use Rattle.command_groups.specs.declared.plan.Plan.{Plan}
+use Rattle.plan_exports.specs.declared.refusal.Refusal.{Refusal}
+use Rattle.plan_exports.specs.declared.refusal.Form.TheVariants.{Shell}
+use Rattle.plan_exports.specs.Judging.{judged_groups}
+use Rattle.plan_exports.specs.Script.{unless_refused}
+use Rattle.plan_json.specs.Json.{texts_data}
+use Rattle.plan_makeflow.specs.Rules.{Rule, rules}
+
+-- a rule. The members of an object are in the order of their names
+abbrev pub rule_data : Rule → Data
+rule_data r =
+    object (member (codes "command") (string r.command)
+    (member (codes "inputs") (texts_data r.sources)
+    (member (codes "local_job") (boolean r.is_local)
+    (member (codes "outputs") (texts_data r.targets) no_members))))
+
+-- the data of a plan: its rules, and the directory that they run in, which Makeflow doesn't read
+abbrev pub makeflow_data : List ℕ → Plan → Data
+makeflow_data tmp plan =
+    object (member (codes "directory") (string tmp) (member (codes "rules") (array (items_of (map rule_data (rules tmp plan)))) no_members))
+
+-- the file: its data and a newline
+abbrev pub makeflow_text : List ℕ → Plan → List ℕ
+makeflow_text tmp plan = compact_text (makeflow_data tmp plan) ++ 10 ∷ []
+
+-- The Makeflow file of a plan, or why there is none. JSON can represent every text, but a shell, which runs the commands, can't.
+abbrev pub makeflow_answer : List ℕ → Plan → Result (List ℕ) Refusal
+makeflow_answer tmp plan = unless_refused (judged_groups Shell plan.groups) (makeflow_text tmp plan)
+
+-- a text is JSON and a newline, and a reader of the JSON gets this data
+pub record ReadsAs (text : List ℕ) (data_read : Data) : Type 0 where
+  pub json : List ℕ
+  pub line : text ≡ json ++ 10 ∷ []
+  pub reads : read json ≡ Some data_read

@@ -1,0 +1,24 @@
+-- What a POSIX shell reads in what a rule runs. Its grammar (`Posix` of `shell_words`) has no reading for a text on which a shell would act.
+use Rattle.std.specs.Prelude.{◌≡◌, ℕ, List, [], ◌∷◌, ◌++◌, Bool, true, false, Some, codes}
+use Rattle.std.specs.Str.{chars}
+use Rattle.shell_words.specs.Posix.{Token, Word, Operator}
+use Rattle.command_groups.specs.declared.plan.NvccGeneratedSubcommand.{NvccGeneratedSubcommand}
+use Rattle.plan_exports.specs.ReadBack.{IsOfTexts, shell_tokens, word_tokens}
+use Rattle.plan_makeflow.specs.CommandText.{run_words}
+use Rattle.plan_makeflow.specs.Names.{stamp}
+use Rattle.plan_makeflow.specs.Rules.{line}
+
+-- a command where the rule runs, or in its directory and a shell of its own
+abbrev pub command_tokens : Bool → NvccGeneratedSubcommand → List Token
+command_tokens true c = word_tokens (run_words c)
+command_tokens false c =
+    Operator (codes "(") ∷ Word (codes "cd") ∷ Word (chars c.cwd) ∷ Operator (codes "&&") ∷ (word_tokens (run_words c) ++ Operator (codes ")") ∷ [])
+
+-- then `touch` and the stamp
+abbrev pub touch_tokens : ℕ → List Token
+touch_tokens number = Operator (codes "&&") ∷ Word (codes "touch") ∷ Word (chars (stamp number)) ∷ []
+
+-- a shell reads what a rule runs as its command's words and `touch`, if all texts of the command are UTF-8
+abbrev pub LinesReadBack : Type 0
+LinesReadBack =
+    (moves : Bool) (number : ℕ) (c : NvccGeneratedSubcommand) → IsOfTexts c → shell_tokens (line moves number c) ≡ Some (command_tokens moves c ++ touch_tokens number)

@@ -1,0 +1,13 @@
+//! Plans for machines that share no disk: a plan as a Makeflow file.
+#![tactic(auto)]
+
+mod command;
+mod facts;
+pub mod laws;
+mod makeflow;
+mod names;
+mod rules;
+mod writers;
+
+pub use command::has_long_command;
+pub use makeflow::makeflow_file;

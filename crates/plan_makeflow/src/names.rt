@@ -1,0 +1,178 @@
+//! The names by which rules name files.
+
+ghost use Rattle.std.specs.Prelude.{◌≡◌, ◌++◌, IfOk, OnOk, map, string_bytes};
+ghost use Rattle.std.specs.List.{list_all};
+ghost use Rattle.std.specs.Option.{option_copied};
+ghost use Rattle.texts.specs.Lists.{rest_after};
+ghost use Rattle.command_files.specs.Files.{is_among};
+ghost use Rattle.plan_makeflow.specs.Names as spec;
+ghost use Rattle.plan_makeflow.specs.Rules as rules;
+
+use crate::facts::{Facts, Side, written_by};
+use std::alloc::{AllocError, Global};
+use texts::decimal::push_number;
+use texts::words::Words;
+
+/// The name of the stamp of the command with a number.
+pub fn stamp(alloc: Global, number: usize) -> Result<String, AllocError>
+    ensures { IfOk result (λ name. string_bytes name ≡ spec.stamp number) }
+{
+    let mut name = String::from_str(alloc, "zigrunk.")?;
+    push_number(alloc, &mut name, number)?;
+    Ok(name)
+}
+
+// Whether a byte is a letter or a digit of ASCII, or `_`.
+fn is_letter(byte: u8) -> bool
+    ensures { result ≡ spec.is_letter byte }
+{
+    byte.is_ascii_alphanumeric() || byte == b'_'
+}
+
+// Whether a plain name may have a byte.
+fn is_name_char(byte: u8) -> bool
+    ensures { result ≡ spec.is_name_char byte }
+{
+    is_letter(byte) || byte == b'.' || byte == b'+' || byte == b'-'
+}
+
+// Whether a plain name may have all of these bytes.
+fn are_name_chars(bytes: &[u8]) -> bool
+    ensures { result ≡ list_all spec.is_name_char bytes.now }
+{
+    bytes.iter().all(|byte| is_name_char(*byte))
+}
+
+// Whether a name is plain.
+fn is_plain(name: &[u8]) -> bool
+    ensures { result ≡ spec.is_plain name.now }
+{
+    match name {
+        [first, rest @ ..] => is_letter(*first) && are_name_chars(rest),
+        [] => false,
+    }
+}
+
+// A name, if it's plain and no stamp's.
+fn plain_name(name: &str) -> Option<&str>
+    ensures { option_copied result ≡ spec.plain_name name.now }
+{
+    if name.as_bytes().starts_with(b"zigrunk.") {
+        None
+    } else if is_plain(name.as_bytes()) {
+        Some(name)
+    } else {
+        None
+    }
+}
+
+// What follows a text that a path begins with.
+fn rest_of<'a>(path: &'a str, text: &str) -> Option<&'a str>
+    ensures { option_copied result ≡ rest_after text.now path.now }
+{
+    path.strip_prefix(text)
+}
+
+/// The name of a file right in a directory, if it has one that can be handed on.
+pub fn name_in<'a>(directory: &str, path: &'a str) -> Option<&'a str>
+    ensures { option_copied result ≡ spec.name_in directory.now path.now }
+{
+    plain_name(rest_of(rest_of(path, directory)?, "/")?)
+}
+
+// Whether a name is among words.
+fn is_among(words: &[String], name: &str) -> bool
+    ensures { result ≡ is_among (map string_bytes words.now) name.now }
+{
+    for word in words {
+        if name == word.as_str() {
+            return true;
+        }
+    }
+    false
+}
+
+// Whether a file is on a side of the rule of the command with a number, given the only command that writes it.
+fn is_by(side: Side, facts: &Facts<'_>, number: usize, path: &str, writer: usize) -> bool
+    ensures { result ≡ rules.is_by side (rules.seen facts.now) number path.now writer }
+{
+    match side {
+        Side::Made => writer == number,
+        Side::Passed => writer < number && is_among(written_by(facts, writer), path),
+    }
+}
+
+// The same, given all commands that write it.
+fn by_one(side: Side, facts: &Facts<'_>, number: usize, path: &str, writers: &[usize]) -> bool
+    ensures { result ≡ rules.by_one side (rules.seen facts.now) number path.now writers.now }
+{
+    match writers {
+        [writer] => is_by(side, facts, number, path, *writer),
+        _ => false,
+    }
+}
+
+// Whether the rule of the command with a number names a file on a side.
+fn is_named(side: Side, facts: &Facts<'_>, number: usize, path: &str) -> bool
+    ensures { result ≡ rules.is_named side (rules.seen facts.now) number path.now }
+{
+    by_one(side, facts, number, path, facts.writers.of(path))
+}
+
+// Adds the name of a file, if it has one that can be handed on.
+fn push_name(alloc: Global, names: &mut Words, tmp: &str, path: &str) -> Result<(), AllocError>
+    ensures { OnOk result (names.new ≡ names.old ++ rules.listed (spec.name_in tmp.now path.now)) }
+{
+    match name_in(tmp, path) {
+        None => Ok(()),
+        Some(name) => names.push_str(alloc, name),
+    }
+}
+
+/// Adds the names of those files that the rule of the command with a number names on a side.
+pub fn push_names(
+    alloc: Global,
+    names: &mut Words,
+    side: Side,
+    facts: &Facts<'_>,
+    number: usize,
+    paths: &[String],
+) -> Result<(), AllocError>
+    ensures { OnOk result (names.new ≡ names.old ++ rules.names_of side (rules.seen facts.now) number (map string_bytes paths.now)) }
+{
+    for path in paths {
+        if is_named(side, facts, number, path.as_str()) {
+            push_name(alloc, names, facts.tmp, path.as_str())?;
+        }
+    }
+    Ok(())
+}
+
+// Whether there is a name and it's among words.
+fn is_word(words: &[String], name: Option<&str>) -> bool
+    ensures { result ≡ rules.is_word (map string_bytes words.now) (option_copied name.entry) }
+{
+    match name {
+        None => false,
+        Some(name) => is_among(words, name),
+    }
+}
+
+/// Whether the rule of the command with a number names all of these files on a side, and words name them as the rule does.
+pub fn are_named(
+    side: Side,
+    facts: &Facts<'_>,
+    number: usize,
+    words: &[String],
+    paths: &[String],
+) -> bool
+    ensures { result ≡ rules.are_named side (rules.seen facts.now) number (map string_bytes words.now) (map string_bytes paths.now) }
+{
+    for path in paths {
+        let name = name_in(facts.tmp, path.as_str());
+        if !(is_named(side, facts, number, path.as_str()) && is_word(words, name)) {
+            return false;
+        }
+    }
+    true
+}
