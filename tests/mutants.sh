@@ -157,11 +157,8 @@ all users have one directory
 old: $temporary/zigrunk-$user
 new: $temporary/zigrunk-all
 Ninja runs on after a signal
-old: { kill ${third:+"$third"} "$!"; wait; }
+old: { kill "$!"; wait; }
 new: :
-the line's own dry run goes on after a signal
-old: kill ${third:+"$third"} "$!"
-new: kill "$!"
 the directory goes while Ninja ends
 old: "$!"; wait;
 new: "$!";
@@ -295,8 +292,8 @@ a missing keep directory is ignored
 old: [ -d "${keep_dir:-/}" ] ||
 new: true ||
 the dry runs may fail
-old: wait "$third" || plain 'a dry run fails' "$@"
-new: wait "$third"
+old: wait "$!" || plain 'a dry run fails' "$@"
+new: wait "$!"
 the second dry run may fail
 old: "$own/dry2" &
 new: "$own/dry2" || :
@@ -304,7 +301,7 @@ the line's own dry run may fail
 old: for_one_thread "$@" || exit 1
 new: for_one_thread "$@"
 the dry runs aren't waited for
-old: wait "$third" || plain
+old: wait "$!" || plain
 new: true || plain
 a dry run goes on after a signal
 old: trap '{ kill "$!"; wait; } 2> /dev/null; exit 143' TERM

@@ -139,7 +139,7 @@ end() {
 # Cases of zigrunk-plan, which is beside the script.
 plans() {
     local split="$room/tmp/zigrunk-$user/zigrunk-name" dry_runs="[ROOM/tmp/zigrunk-plan/first_dry_run] [ROOM/tmp/zigrunk-plan/second_dry_run]"
-    for words in 'json [json]' 'ninja [ninja]' 'shell [shell]' 'dot [dot]' 'compdb [compdb]' 'text [plan]'; do
+    for words in 'json [json]' 'ninja [ninja]' 'shell [shell]' 'dot [dot]' 'compdb [compdb]' 'makeflow [makeflow]' 'text [plan]'; do
         begin "zigrunk-plan ${words% *}"
         as=$planner script "${words% *}" -- nvcc -c k.cu -o 'k o'
         same 'status and messages' "$status$(cat "$room/err")" 0
@@ -199,7 +199,7 @@ plans() {
         # shellcheck disable=SC2086 # one or several words
         as=$planner script ${words%:*}
         same 'status and messages' "$status $(cat "$room/out" "$room/err")" \
-            "2 zigrunk-plan: ${words##*:}"$'\n''usage: zigrunk-plan json|ninja|dot|shell|compdb|text [--] NVCC WORD..'
+            "2 zigrunk-plan: ${words##*:}"$'\n''usage: zigrunk-plan json|ninja|dot|shell|compdb|makeflow|text [--] NVCC WORD..'
         end
     done
 }
@@ -270,6 +270,10 @@ END
     same 'files left' "$(ls -A "$room/shared")" ''
     script ZIGRUNK_TMP="$room/shared" TMPDIR= NINJA_DOES='echo "$TMPDIR" > "$LOG.tmp"' -c k.cu -o k.o
     same 'TMPDIR of commands' "$(cat "$room/log.tmp")" /tmp
+    script ZIGRUNK_LAUNCHER=cache NINJA_DOES='echo "$TMPDIR" > "$LOG.tmp"' -c k.cu -o k.o
+    same 'TMPDIR of commands with a launcher' "$(cat "$room/log.tmp")" "$room/tmp"
+    script ZIGRUNK_LAUNCHER=cache TMPDIR= NINJA_DOES='echo "$TMPDIR" > "$LOG.tmp"' -c k.cu -o k.o
+    same 'the same without TMPDIR' "$(cat "$room/log.tmp")" /tmp
     leaves_nothing
     end
 
@@ -359,19 +363,21 @@ END
     same 'folders' "$(LC_ALL=C ls "$room")" "$(printf '%s\n' err log log.count out tmp work)"
     end
 
-    begin 'the directory is taken'
-    mkdir -m 700 "$room/tmp/zigrunk-$user"
-    mkdir "$split"
-    echo other > "$split/file"
-    exec 5> "$split.lock" && flock 5
-    script NINJA_DOES='[ -d "$tmp" ] && stat -c %a "$tmp" > "$LOG.mode"' -c k.cu -o k.o
-    same status "$status" 0
-    same 'where' "$(sed -n "s,^ninja \[-f\] \[\(.*\)/zigrunk.tmp.ninja\],\1,p" "$room/log" | grep -c "^$room/tmp/zigrunk\.......$")" 1
-    same 'mode' "$(cat "$room/log.mode")" 700
-    same output "$(cat "$room/out" "$room/err")" ''
-    same 'files left' "$(cd "$room/tmp" && find . -type f | sort | tr '\n' ' ')" "./zigrunk-$user/zigrunk-name.lock ./zigrunk-$user/zigrunk-name/file "
-    exec 5>&-
-    end
+    for how in -x -s; do
+        begin "the directory is taken, by flock $how"
+        mkdir -m 700 "$room/tmp/zigrunk-$user"
+        mkdir "$split"
+        echo other > "$split/file"
+        exec 5> "$split.lock" && flock "$how" 5
+        script NINJA_DOES='[ -d "$tmp" ] && stat -c %a "$tmp" > "$LOG.mode"' -c k.cu -o k.o
+        same status "$status" 0
+        same 'where' "$(sed -n "s,^ninja \[-f\] \[\(.*\)/zigrunk.tmp.ninja\],\1,p" "$room/log" | grep -c "^$room/tmp/zigrunk\.......$")" 1
+        same 'mode' "$(cat "$room/log.mode")" 700
+        same output "$(cat "$room/out" "$room/err")" ''
+        same 'files left' "$(cd "$room/tmp" && find . -type f | sort | tr '\n' ' ')" "./zigrunk-$user/zigrunk-name.lock ./zigrunk-$user/zigrunk-name/file "
+        exec 5>&-
+        end
+    done
 
     begin 'the directory of a call that was killed'
     mkdir -m 700 "$room/tmp/zigrunk-$user"
@@ -744,7 +750,9 @@ END
     end
 
     begin 'few open files'
-    (ulimit -n 16 && script "${plain[@]}" -c k.cu -o k.o; by_nvcc 'it may open too few files'; [ -z "$problems" ]) || problems+="  $(cat "$room/err")"
+    (ulimit -n 16 && script "${plain[@]}" -c k.cu -o k.o; echo "$status" > "$room/status")
+    status=$(cat "$room/status")
+    by_nvcc 'it may open too few files'
     end
 
     begin 'the number of commands'
@@ -813,7 +821,7 @@ END
     end
     begin 'a dependency file of what a host compiler with a path has preprocessed'
     shows='cat "$tmp/zigrunk.tmp/dependencies" > "$LOG.script"; grep depended: "$2" > "$LOG.edge"; ls "$tmp/zigrunk.tmp/host" > "$LOG.link"; :'
-    local by_path=(HOST='"/opt"/g++ -E k.cu -o k.ii' PLAN_DOES="$preprocesses" NINJA_DOES="$shows")
+    local by_path=(HOST='"/opt"/g++ -DA -E k.cu -o k.ii' PLAN_DOES="$preprocesses" NINJA_DOES="$shows")
     for words in '/opt/g++-12 "/opt"/g++-12' '/opt "/opt"/gcc'; do
         script "${by_path[@]}" DEPENDENCIES="( nvcc -ccbin ${words% *} -M -MF k.d )" HOST="${words#* } -DA -E k.cu -o k.ii" -c k.cu -o k.o
         host=${words##*/}
@@ -839,6 +847,7 @@ END
     done
     script DEPENDENCIES='( : -M -MF /dev/fd/22 -MT k.o )' -c k.cu -o k.o
     same status "$status" 0
+    holds 'calls for another descriptor' "$room/log" "ninja [-f] [$split/zigrunk.tmp/ninja]"
     end
     begin 'a command fails before the dependency file is made'
     script DEPENDENCIES='( echo made > k.d )' HOST='gcc -DA -E k.cu -o k.ii' NINJA_DOES='echo bad > "$tmp/zigrunk.0.1.err"; echo 6 > "$tmp/zigrunk.0.1.status"' NINJA_STATUS_IS=1 -c k.cu -o k.o

@@ -25,10 +25,11 @@ ln -sf libzigrunk.so.1 "$folder/lib/libzigrunk.so"
 cp zigrunk.h "$folder/include/zigrunk.h"
 cat > "$folder/lib/pkgconfig/zigrunk.pc" << END
 prefix=\${pcfiledir}/../..
+libdir=\${prefix}/lib
 
 Name: zigrunk
 Description: Plans the commands of one nvcc call
 Version: $(cat ../../VERSION)
 Cflags: -I\${prefix}/include
-Libs: -L\${prefix}/lib -lzigrunk
+Libs: -L\${libdir} -lzigrunk
 END
