@@ -270,6 +270,8 @@ programs | plan_graphs/dot | dot_text | plan.dropped.as_slice().len() > 500
 programs | plan_json/compdb | compdb_text | plan.groups.as_slice().len() > 50
 programs | plan_json/compdb | compdb_text | long_body::has_large(plan.groups.as_slice(), 500)
 programs | plan_json/compdb | push_command | command.args.as_slice().len() > 5_000
+programs | plan_makeflow/makeflow | makeflow_file | plan.groups.as_slice().len() > 50
+programs | plan_makeflow/makeflow | makeflow_file | long_body::has_large(plan.groups.as_slice(), 500)
 
 programs | nvcc_calls/answer | read_call | call.words.len() > 5_000
 programs | nvcc_calls/answer | read_call | long_body::has_long(call.words, 50_000)

@@ -690,6 +690,80 @@ plan_views() {
     check 'a step for an architecture in a compilation database' 0 "$text" '' compdb /w /t -c "$scratch/cuda" "$scratch/cuda.2"
 }
 
+# The dry runs of a call for one target, in which an output has a blank: farm_run FILE TMP.
+farm_run() {
+    run_of "$1" '#$ gcc -D__CUDACC__ -E k.cu -o k.cpp4.ii' '#$ cudafe++ --gen_c_file_name k.cudafe1.cpp --module_id_file_name k.id k.cpp4.ii' \
+        '#$ gcc -D__NVCC__ -E k.cu -o k.cpp1.ii' '#$ cicc --module_id_file_name k.id k.cpp1.ii -o k.ptx' '#$ ptxas k.ptx -o k.cubin' \
+        '#$ ptxas k.ptx -o "k x.cubin"' '#$ fatbinary --create=k.fatbin --image3=kind=elf,file=k.cubin "--image3=kind=elf,file=k x.cubin"' \
+        "#\$ gcc -D__NVCC__ \"-DA=it's\" k.cudafe1.cpp -o k.o"
+    sed -i "s# k\.\(cpp[14]\.ii\|cudafe1\.cpp\)# $2/k.\1#" "$scratch/$1.2"
+}
+
+# a plan as a Makeflow file
+makeflow_files() {
+    local bin=$scratch/bin env text
+    farm_run farm /t
+    env="env 'PATH=$scratch/none:$bin'"
+    # rule COMMAND INPUTS IS_LOCAL OUTPUTS
+    rule() { printf '{"command":"%s","inputs":[%s],"local_job":%s,"outputs":[%s]}' "$1" "$2" "$3" "$4"; }
+    text="{\"directory\":\"/t\",\"rules\":[$(rule "( cd /w && $env $bin/gcc -D__CUDACC__ -E k.cu -o /t/x_0.cpp4.ii ) && touch zigrunk.0" '' true '"zigrunk.0","x_0.cpp4.ii"')"
+    text+=,$(rule "$env $bin/cudafe++ --gen_c_file_name x_0.cudafe1.cpp --gen_module_id_file --module_id_file_name k.id x_0.cpp4.ii && touch zigrunk.1" \
+        '"zigrunk.0","x_0.cpp4.ii"' false '"zigrunk.1","x_0.cudafe1.cpp","k.id"')
+    text+=,$(rule "( cd /w && $env $bin/gcc -D__NVCC__ -E k.cu -o /t/x_0.cpp1.ii ) && touch zigrunk.2" '"zigrunk.0"' true '"zigrunk.2","x_0.cpp1.ii"')
+    text+=,$(rule "$env $bin/cicc --module_id_file_name k.id x_0.cpp1.ii -o k.ptx && touch zigrunk.3" \
+        '"zigrunk.1","zigrunk.2","x_0.cpp1.ii","k.id"' false '"zigrunk.3","k.ptx"')
+    text+=,$(rule "$env $bin/ptxas k.ptx -o k.cubin && touch zigrunk.4" '"zigrunk.3","k.ptx"' false '"zigrunk.4","k.cubin"')
+    text+=,$(rule "( cd /t && $env $bin/ptxas k.ptx -o 'k x.cubin' ) && touch zigrunk.5" '"zigrunk.3","k.ptx"' true '"zigrunk.5"')
+    text+=,$(rule "( cd /t && $env $bin/fatbinary --create=k.fatbin --image3=kind=elf,file=k.cubin '--image3=kind=elf,file=k x.cubin' ) && touch zigrunk.6" \
+        '"zigrunk.0","zigrunk.1","zigrunk.2","zigrunk.3","zigrunk.4","zigrunk.5","k.cubin"' true '"zigrunk.6","k.fatbin"')
+    text+=,$(rule "( cd /w && $env '__SCCACHE_THIS_IS_A_CUDA_COMPILATION__=' $bin/gcc -D__NVCC__ '-DA=it'\\\\''s' /t/x_0.cudafe1.cpp -o k.o ) && touch zigrunk.7" \
+        '"zigrunk.0","zigrunk.1","zigrunk.2","zigrunk.3","zigrunk.4","zigrunk.5","zigrunk.6","x_0.cudafe1.cpp"' true '"zigrunk.7"')
+    check 'a plan as a Makeflow file' 0 "$text]}"$'\n' '' makeflow /w /t -c "$scratch/farm" "$scratch/farm.2"
+}
+
+# by_makeflow WORD..: runs the plan in a new directory by Makeflow, called with these words, and prints the product.
+by_makeflow() {
+    rm -rf "$scratch/farm_tmp" "$scratch/farm_work"
+    mkdir -p "$scratch/farm_tmp" "$scratch/farm_work"
+    "$program" makeflow "$scratch/farm_work" "$scratch/farm_tmp" -c "$scratch/farm" "$scratch/farm.2" > "$scratch/farm_tmp/plan"
+    (cd "$scratch/farm_tmp" && timeout 60 makeflow --json "$@" plan > "$scratch/farm_log" 2>&1)
+    cat "$scratch/farm_work/k.o" 2>&1 || cat "$scratch/farm_log"
+}
+
+# what Makeflow makes, here and on a worker, is what a shell makes by the plan's script
+run_by_makeflow() {
+    export OMPI_ALLOW_RUN_AS_ROOT=1 OMPI_ALLOW_RUN_AS_ROOT_CONFIRM=1
+    if ! makeflow --version > /dev/null 2>&1 || ! work_queue_worker --version > /dev/null 2>&1; then
+        skip 'plans run by Makeflow' 'no coop-computing-tools'
+        return
+    fi
+    local name port=$((20000 + $$ % 20000)) worker
+    # each program writes what it and its words are, and what is in the files that its words name
+    for name in gcc cudafe++ cicc ptxas fatbinary; do
+        printf '#!/bin/sh\nPATH=/usr/bin:/bin\n%s\n' "name=$name; "'before= out= text="$name $*"
+            for word; do
+                case $before,$name,$word in
+                -o,* | --gen_c_file_name,* | --module_id_file_name,cudafe*) out="$out:$word" ;;
+                *,--create=*) out="$out:${word#--create=}" ;;
+                *) file=${word##*file=}; [ ! -f "$file" ] || text="$text ($(cat "$file"))" ;;
+                esac
+                before=$word
+            done
+            IFS=:; for file in ${out#:}; do echo "$text" > "$file" || exit 1; done' > "$scratch/bin/$name"
+        chmod +x "$scratch/bin/$name"
+    done
+    farm_run farm "$scratch/farm_tmp"
+    mkdir -p "$scratch/farm_tmp" "$scratch/farm_work" "$scratch/farm_worker"
+    "$program" shell "$scratch/farm_work" "$scratch/farm_tmp" -c "$scratch/farm" "$scratch/farm.2" | sh
+    cp "$scratch/farm_work/k.o" "$scratch/farm_product"
+    same 'a plan run by Makeflow' "$(by_makeflow -T local)" "$(< "$scratch/farm_product")"
+    work_queue_worker --cores 2 -t 60 -s "$scratch/farm_worker" localhost "$port" > "$scratch/farm_worker.log" 2>&1 &
+    worker=$!
+    same 'a plan run by Makeflow and a worker' "$(by_makeflow -T wq -p "$port")" "$(< "$scratch/farm_product")"
+    kill "$worker" 2> /dev/null
+    wait "$worker" 2> /dev/null
+}
+
 # the JSON of real plans, by its schema
 plan_schema() {
     local said
@@ -770,6 +844,8 @@ long_exports() {
         [ "$format" != shell ] || dropped=0
         counts "a thousand programs as $format" "$dropped" 'bin/p[0-9]\+' "$format" /w /t -c "$scratch/programs" "$scratch/programs.2"
     done
+    counts 'a group of a thousand commands as a Makeflow file' 1000 'o k[0-9]\+\.cubin' makeflow /w /t -c "$scratch/group" "$scratch/group.2"
+    counts 'a hundred device groups as a Makeflow file' 100 'o k[0-9]\+\.ptx' makeflow /w /t -c "$scratch/groups" "$scratch/groups.2"
     counts 'a fatbin of a thousand images as json' 2000 'k[0-9]\+\.cubin' json /w /t -c "$scratch/images" "$scratch/images.2"
     counts 'a group of a thousand commands as a graph' 1000 'ptxas.nk[0-9]\+\.cubin' dot /w /t -c "$scratch/group" "$scratch/group.2"
     counts 'a hundred device groups as a graph' 100 'cicc.nk[0-9]\+\.ptx' dot /w /t -c "$scratch/groups" "$scratch/groups.2"
@@ -887,7 +963,7 @@ holds() {
 
 # values and words of over 65,536 bytes, in each format that has them
 long_values() {
-    local long format
+    local long format name
     long=$(printf '%070000d' 0)
     run_of value "#\$ HOME=/h$long" "${KERNEL[2]}"
     run_of word "#\$ gcc -D__NVCC__ -E -DA=$long k.cu -o k.cpp1.ii"
@@ -902,6 +978,10 @@ long_values() {
     holds 'a dropped word of 70,000 bytes' json lost_word "w$long"
     holds 'a dropped word of 70,000 bytes' ninja lost_word "w$long"
     holds 'an output of 70,000 bytes' dot name "n$long"
+    for name in value word name; do
+        check "a $name of 70,000 bytes as makeflow" 1 '' $'zigrunk: a command of the plan has over 65000 bytes, which Makeflow doesn\'t read\n' \
+            makeflow /w /t -c "$scratch/$name" "$scratch/$name.2"
+    done
 }
 
 # a command of over 500 bytes that refers to sixty variables, and one that names sixty generated files
@@ -921,7 +1001,7 @@ no cd /w && $scratch/none/gcc -D__NVCC__$values -E k.cu -o k
 group 1
 yes cd /w && $scratch/none/gcc -D__NVCC__$renamed
 " '' plan /w /t -c "$scratch/names" "$scratch/names.2"
-    for format in shell ninja json compdb; do
+    for format in shell ninja json compdb makeflow; do
         counts "sixty variables as $format" 60 '-D[A-C][AEIO][AEIOU]-[0-9]' "$format" /w /t -c "$scratch/names" "$scratch/names.2"
     done
     counts 'sixty generated files as json' 60 '"x_[0-9]*.cpp1.ii"' json /w /t -c "$scratch/names" "$scratch/names.2"
@@ -967,6 +1047,8 @@ no_memory() {
     NVCC_APPEND_FLAGS=-g ZIGRUNK_JOBS=3 starves 'a call with variables' 0 "$lines" '' calls /w /t nvcc -c k.cu
     script=$("$program" shell /w /t -c "$scratch/starved" "$scratch/starved.2")
     starves 'a plan' 0 "$script" '' shell /w /t -c "$scratch/starved" "$scratch/starved.2"
+    lines=$("$program" makeflow /w /t -c "$scratch/starved" "$scratch/starved.2")
+    starves 'a plan as a Makeflow file' 0 "$lines" '' makeflow /w /t -c "$scratch/starved" "$scratch/starved.2"
     from=$scratch/starved starves 'a plan from standard input' 0 "$script" '' shell /w /t -c - "$scratch/starved.2"
     program=$cudaplan starves 'a line of cudaplan' 0 $'k.cpp1.ii\n-o\n/w/k.ptx' '' line cicc /w k.cpp1.ii -o k.ptx
     program=$cudaplan starves 'a plan by cudaplan' 0 "$(printf 'group 0\ngroup 1\nyes cd /w && %s/gcc -D__NVCC__ -c x.cpp' "$scratch/bin")" '' \
@@ -978,7 +1060,7 @@ unfit_files() {
     local format folder behind=$'no line begins with "#$ "\n'
     : > "$scratch/empty"
     printf '#$\n #$ gcc\n$# gcc\n' > "$scratch/prose"
-    for format in shell ninja json dot compdb; do
+    for format in shell ninja json dot compdb makeflow; do
         check "one file twice as $format" 1 '' "zigrunk: $scratch/kernel: both dry runs are the same file"$'\n' \
             "$format" /w /t -c "$scratch/kernel" "$scratch/kernel"
         check "a first file that is no dry run as $format" 1 '' "zigrunk: $scratch/prose: the first file is no dry run: $behind" \
@@ -988,7 +1070,7 @@ unfit_files() {
         check "a plan without commands as $format" 1 '' $'zigrunk: the plan has no command\n' \
             "$format" /w /t -c "$scratch/nothing" "$scratch/nothing.2"
     done
-    for format in shell ninja json dot compdb; do
+    for format in shell ninja json dot compdb makeflow; do
         for folder in w . ../w //w /w/ /w//x /w/./x /w/../w /w/. /w/..; do
             check "the directory $folder for temporary files as $format" 1 '' \
                 $'zigrunk: the directory for temporary files has to be absolute, without an empty part, . or ..\n' \
@@ -1149,7 +1231,7 @@ standard_input() {
 # plans that aren't written
 refused_exports() {
     local unread="zigrunk: cannot read $scratch/missing: No such file or directory"$'\n' unheld=$'zigrunk: a text of the plan holds a byte that the form can\'t\n' format
-    for format in shell ninja json dot compdb; do
+    for format in shell ninja json dot compdb makeflow; do
         check "no first file for $format" 1 '' "$unread" "$format" /w /t -c "$scratch/missing" "$scratch/kernel"
         check "no second file for $format" 1 '' "$unread" "$format" /w /t -c "$scratch/kernel" "$scratch/missing"
     done
@@ -1212,7 +1294,7 @@ limits() {
     local exceeded=":2: with this line, the dry run makes over $((room - 1)) bytes: --limit allows more$within"
     out=$("$program" json /w /t -c "$scratch/within" "$scratch/within.2"; printf .)
     check 'dry runs that just fit' 0 "${out%.}" '' --limit "$room" json /w /t -c "$scratch/within" "$scratch/within.2"
-    for form in shell ninja json dot compdb plan; do
+    for form in shell ninja json dot compdb makeflow plan; do
         check "$form: the first run exceeds the limit" 1 '' "zigrunk: $scratch/within$exceeded" \
             --limit $((room - 1)) "$form" /w /t -c "$scratch/within" "$scratch/within.2"
         check "$form: the second run exceeds the limit" 1 '' "zigrunk: $scratch/within.2$exceeded" \
@@ -1247,7 +1329,7 @@ misuse() {
 
 # words that are no call
 wrong_usage() {
-    local all='shell|ninja|json|dot|compdb|plan|calls|directory|line .., or --help'
+    local all='shell|ninja|json|dot|compdb|makeflow|plan|calls|directory|line .., or --help'
     local none="no command, or a word or variable that isn't UTF-8" bytes='--limit needs a number of bytes' odd='unexpected option' line='line cicc|ptxas|cudafe++ CWD WORD..'
     local plan='CWD TMP FLAG DRY1 DRY2 SUFFIX..' options='[--limit BYTES] [--keep] [--whole]' one=$scratch/kernel two=$scratch/kernel.2 name
     misuse "$none" "$all"
@@ -1271,7 +1353,7 @@ wrong_usage() {
     misuse "$bytes, not 18446744073709551616" "json $options $plan" --limit 18446744073709551616 json /w /t -c "$one" "$two"
     misuse "$bytes, not 3k" "shell $options $plan" shell --keep --limit 3k /w /t -c "$one" "$two"
     misuse "$bytes" "shell $options $plan" shell --whole --limit
-    for name in shell ninja json dot compdb; do
+    for name in shell ninja json dot compdb makeflow; do
         misuse "$name needs CWD" "$name $options $plan" "$name"
         misuse "$name needs DRY2" "$name $options $plan" "$name" /w /t -c "$one"
         misuse "$name needs DRY1" "$name $options $plan" --limit 9 "$name" --whole --keep /w /t -c
@@ -1337,7 +1419,7 @@ program=$zigrunk
 unset NVCC_PREPEND_FLAGS NVCC_APPEND_FLAGS ZIGRUNK_JOBS MAKEFLAGS
 run \
     nvcc_lines jobs_at_once directories forms_of_cudaplan long_nvcc_lines options_files odd_nvcc_words refused_nvcc_lines kernel_programs \
-    plan_scripts plan_files plan_views plan_schema whole_plans unfit_files programs_on_disk unread_files long_values many_names no_memory statuses \
+    plan_scripts plan_files plan_views makeflow_files plan_schema whole_plans unfit_files programs_on_disk unread_files long_values many_names no_memory statuses run_by_makeflow \
     long_exports refused_exports limits hostile_input messages \
     long_messages escapes standard_input zigrunk_pages wrong_usage
 summary

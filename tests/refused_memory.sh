@@ -203,6 +203,7 @@ good_zigrunk_calls() {
     call 'JSON' 0 "$zigrunk" json /w /t -c found found2
     call 'a graph' 0 "$zigrunk" dot /w /t -c found found2
     call 'a compilation database' 0 "$zigrunk" compdb /w /t -c found found2
+    call 'a Makeflow file' 0 "$zigrunk" makeflow /w /t -c found found2
 }
 
 # calls of zigrunk that fail, each for another reason

@@ -2,7 +2,8 @@
 """Validates the JSON of the plans of real nvcc calls by docs/plan.schema.json.
 
 The dry runs are those of crates/test_plans/data. Beyond the schema it checks that ids count from 0, that a command needs only
-earlier ones, that lines have the program that the command runs, and that the plan's commands can run in threads.
+earlier ones, that lines have the program that the command runs, and that the plan's commands can run in threads. Rules of the plan's
+Makeflow file wait for each other as the JSON says that commands need each other.
 
 Prints a line for each finding, and last 'N passed, M failed'; the status is 1 if one failed. Without python3-jsonschema it is skipped.
 
@@ -89,6 +90,19 @@ def findings(plan: Json, runs: list[list[str]]) -> list[str]:
     return found
 
 
+def unlike(plan: Json, rules: list[Json]) -> list[str]:
+    """Returns where a plan's Makeflow file differs from its JSON: which rules wait for which, and the files of those that aren't local."""
+    found = [f"{len(rules)} rules"] if len(rules) != len(plan["commands"]) else []
+    for rule, command in zip(rules, plan["commands"]):
+        waits = [number for number, other in enumerate(rules) if set(other["outputs"]) & set(rule["inputs"])]
+        if waits != command["needs"]:
+            found.append(f"rule {command['id']} waits for {waits}, not {command['needs']}")
+        reads, writes = ({os.path.basename(path) for path in command[files]} for files in ("reads", "writes"))
+        if not rule["local_job"] and not (command["complete"] and reads <= set(rule["inputs"]) and writes <= set(rule["outputs"])):
+            found.append(f"rule {command['id']} moves without its files")
+    return found
+
+
 def ran_in_threads(plan: Json) -> list[int]:
     """Runs a stand-in for each command, as the example in man zigrunk does. Returns the ids in the order in which they ended."""
     ended: list[int] = []
@@ -110,9 +124,10 @@ def check(name: str, zigrunk: str, validator: Any, room: str) -> list[str]:
     dry1, dry2 = with_programs(name, room)
     with open(f"{DATA}/{name}.flag", encoding="utf-8") as file:
         flag = file.read().strip()
-    ran = subprocess.run([zigrunk, "json", "/w", "/t", flag, dry1, dry2], capture_output=True, text=True, check=False)
-    if ran.returncode != 0:
-        return [f"status {ran.returncode}: {ran.stderr.strip()}"]
+    ran, rules = (subprocess.run([zigrunk, form, "/w", "/t", flag, dry1, dry2], capture_output=True, text=True, check=False)
+                  for form in ("json", "makeflow"))
+    if ran.returncode != 0 or rules.returncode != 0:
+        return [f"status {it.returncode}: {it.stderr.strip()}" for it in (ran, rules)]
     plan = json.loads(ran.stdout)
     found = [error.message for error in validator.iter_errors(plan)]
     if json.dumps(plan, separators=(",", ":"), sort_keys=True, ensure_ascii=False) + "\n" != ran.stdout:
@@ -121,7 +136,7 @@ def check(name: str, zigrunk: str, validator: Any, room: str) -> list[str]:
     for path in (dry1, dry2):
         with open(path, encoding="utf-8") as file:
             runs.append(file.read().splitlines())
-    found += findings(plan, runs)
+    found += findings(plan, runs) + unlike(plan, json.loads(rules.stdout)["rules"])
     if sorted(ran_in_threads(plan)) != list(range(len(plan["commands"]))):
         found.append("not every command ran")
     return found
