@@ -83,6 +83,10 @@ install-programs:
 	ln -sf zigrunk "$(target)/share/bash-completion/completions/zigrunk-nvcc"
 	ln -sf zigrunk "$(target)/share/bash-completion/completions/zigrunk-batch"
 	install -D -m 644 completions/_zigrunk "$(target)/share/zsh/site-functions/_zigrunk"
+	find examples -type f ! -path '*/__pycache__/*' | while read -r file; do \
+		[ -x "$$file" ] && mode=755 || mode=644; install -D -m "$$mode" "$$file" "$(target)/share/zigrunk/$$file" || exit 1; done
+	install -d -m 755 "$(target)/share/doc/zigrunk"
+	install -m 644 README.md docs/*.md docs/*.json docs/*.svg "$(target)/share/doc/zigrunk"
 
 # The library is linked here, from the archive: the header and the version are always those of this folder.
 install-library:
@@ -102,7 +106,7 @@ uninstall:
 	rm -f "$(target)/share/zsh/site-functions/_zigrunk"
 	rm -f "$(target)/lib/libzigrunk.a" "$(target)/lib/libzigrunk.so" "$(target)/lib/libzigrunk.so.1"
 	rm -f "$(target)/lib/pkgconfig/zigrunk.pc" "$(target)/include/zigrunk.h"
-	rm -rf "$(target)/share/zigrunk"
+	rm -rf "$(target)/share/zigrunk" "$(target)/share/doc/zigrunk"
 
 bench:
 	cd crates/cudabench && rt run -- line 100000 cicc /w --device-c -arch compute_80 --module_id_file_name kernel.module_id kernel.cpp1.ii --simt-only -o kernel.ptx

@@ -14,7 +14,8 @@ newest_glibc() {
 # both_have: the files of the library are in the tarball and in the Debian package.
 both_have() {
     local file
-    for file in lib/libzigrunk.a lib/libzigrunk.so lib/libzigrunk.so.1 lib/pkgconfig/zigrunk.pc include/zigrunk.h share/zigrunk/c/example.c share/zigrunk/rust/src/lib.rs; do
+    for file in lib/libzigrunk.a lib/libzigrunk.so lib/libzigrunk.so.1 lib/pkgconfig/zigrunk.pc include/zigrunk.h share/zigrunk/c/example.c share/zigrunk/rust/src/lib.rs \
+        share/zigrunk/examples/slurm/step.sh share/zigrunk/examples/makeflow/build.py share/doc/zigrunk/CLUSTER.md share/doc/zigrunk/plan.schema.json; do
         if [ ! -f "$here/$file" ] || [ ! -f "$scratch/deb/usr/$file" ]; then
             echo "missing: $file"
             return 1
