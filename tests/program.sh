@@ -684,9 +684,9 @@ plan_views() {
     text="[{\"arguments\":[\"clang++\",\"--cuda-host-only\",\"-fsyntax-only\",\"k.cu\",\"-o\",\"/t/x_0.cpp4.ii\"],\"directory\":\"/w\",\"file\":\"/w/k.cu\"}"
     text+=",{\"arguments\":[\"$bin/gcc\",\"-D__NVCC__\",\"-E\",\"k.cu\",\"-o\",\"/t/x_0.cpp1.ii\"],\"directory\":\"/w\",\"file\":\"/w/k.cu\"}]"$'\n'
     check 'a plan as a compilation database' 0 "$text" '' compdb /w /t -c "$scratch/views" "$scratch/views.2"
-    run_of cuda '#$ gcc -D__CUDA_ARCH__=1030 -D__CUDA_ARCH_LIST__=1030 -E -x c++ -D__CUDACC__ -D__NVCC__ -D__CUDACC_RDC__ -I c++ -D X=1 k.cu -o k.cpp1.ii'
+    run_of cuda '#$ gcc -D__CUDA_ARCH__=1030 -D__CUDA_ARCH_LIST__=1030 -E -x c++ -D__CUDACC__ -D__NVCC__ -D__CUDACC_RDC__ -I c++ -D __CUDA_OURS=1 k.cu -o k.cpp1.ii'
     text="[{\"arguments\":[\"clang++\",\"--cuda-device-only\",\"--cuda-gpu-arch=sm_103\",\"-fsyntax-only\",\"-x\",\"cuda\",\"-fgpu-rdc\",\"-I\",\"c++\""
-    text+=",\"-D\",\"X=1\",\"k.cu\",\"-o\",\"x_0.cpp1.ii\"],\"directory\":\"/w\",\"file\":\"/w/k.cu\"}]"$'\n'
+    text+=",\"-D\",\"__CUDA_OURS=1\",\"k.cu\",\"-o\",\"x_0.cpp1.ii\"],\"directory\":\"/w\",\"file\":\"/w/k.cu\"}]"$'\n'
     check 'a step for an architecture in a compilation database' 0 "$text" '' compdb /w /t -c "$scratch/cuda" "$scratch/cuda.2"
 }
 

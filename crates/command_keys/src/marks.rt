@@ -7,7 +7,7 @@ ghost use Rattle.command_keys.specs.Marks as spec;
 
 use std::alloc::AllocError;
 
-/// What stands in a text.
+/// A part of a text.
 #[derive(Clone, Copy, Debug)]
 pub enum Part {
     /// A byte that is of no root.

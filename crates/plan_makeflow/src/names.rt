@@ -73,7 +73,7 @@ fn rest_of<'a>(path: &'a str, text: &str) -> Option<&'a str>
     path.strip_prefix(text)
 }
 
-/// The name of a file right in a directory, if it has one that can be handed on.
+/// The name of a file right in a directory, if Work Queue can carry a file of that name.
 pub fn name_in<'a>(directory: &str, path: &'a str) -> Option<&'a str>
     ensures { option_copied result ≡ spec.name_in directory.now path.now }
 {
@@ -119,7 +119,7 @@ fn is_named(side: Side, facts: &Facts<'_>, number: usize, path: &str) -> bool
     by_one(side, facts, number, path, facts.writers.of(path))
 }
 
-// Adds the name of a file, if it has one that can be handed on.
+// Adds the name of a file, if Work Queue can carry one of that name.
 fn push_name(alloc: Global, names: &mut Words, tmp: &str, path: &str) -> Result<(), AllocError>
     ensures { OnOk result (names.new ≡ names.old ++ rules.listed (spec.name_in tmp.now path.now)) }
 {
