@@ -1,4 +1,4 @@
-//! The commands of two dry runs that are planned, in the order of their lines.
+//! The commands of two dry runs that are planned, in the order of the lines they come from.
 
 ghost use Rattle.std.specs.Prelude.{◌≡◌, map, IfOk, IsPermutation, IsSorted};
 ghost use Rattle.std.specs.Vec.Iter.{into_iter_items};
