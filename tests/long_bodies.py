@@ -80,12 +80,12 @@ lines | compilers/command | copy_of | env_vars.len() > 500
 lines | compilers/command | try_clone | self.arguments.len() > 500
 lines | compilers/command | try_clone | self.env_vars.len() > 500
 
-lines | cuda_below/gcc | parse_arguments | arguments.len() > 50_000
-lines | cuda_below/gcc | parse_arguments | long_body::has_long(arguments, 500_000)
-lines | cuda_below/gcc | gather before gathered.take_inputs | arguments.len() > 50_000
-lines | cuda_below/gcc/line | generate_compile_commands | parsed_args.common_args.len() > 50_000
-lines | cuda_below/gcc/line | generate_compile_commands | parsed_args.preprocessor_args.len() > 50_000
-lines | cuda_below/gcc/line | generate_compile_commands | env_vars.len() > 500
+lines | gcc_lines/gcc | parse_arguments | arguments.len() > 50_000
+lines | gcc_lines/gcc | parse_arguments | long_body::has_long(arguments, 500_000)
+lines | gcc_lines/gcc | gather before gathered.take_inputs | arguments.len() > 50_000
+lines | gcc_lines/gcc/line | generate_compile_commands | parsed_args.common_args.len() > 50_000
+lines | gcc_lines/gcc/line | generate_compile_commands | parsed_args.preprocessor_args.len() > 50_000
+lines | gcc_lines/gcc/line | generate_compile_commands | env_vars.len() > 500
 
 lines | device_lines/reader | parse_arguments | arguments.len() > 50_000 && matches!(language, Language::Ptx)
 lines | device_lines/reader | parse_arguments | arguments.len() > 50_000 && matches!(language, Language::Cubin)

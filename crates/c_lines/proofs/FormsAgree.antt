@@ -1,6 +1,6 @@
 -- JSON and records are of the same arguments, and have the same refusals.
 use Rattle.std.proofs.Common.{◌≡◌, Result, Ok, Err, refl}
-use Rattle.cuda_below.specs.Compiler.{Reading, accepted, cannot_cache, not_compilation}
+use Rattle.compilers.specs.Compiler.{Reading, accepted, cannot_cache, not_compilation}
 use Rattle.c_texts.specs.declared.status.Status.{Status}
 use Rattle.c_lines.specs.declared.line_call.LineTool.{LineTool}
 use Rattle.c_lines.specs.LineCalls.{Line, line_in}

@@ -1,7 +1,7 @@
 -- The call that writes what a line says as records.
 use Rattle.std.specs.Prelude.{Result, Ok, Err}
 use Rattle.compilers.specs.declared.arguments.ParsedArguments.{ParsedArguments}
-use Rattle.cuda_below.specs.Compiler.{Reading, accepted, cannot_cache, not_compilation}
+use Rattle.compilers.specs.Compiler.{Reading, accepted, cannot_cache, not_compilation}
 use Rattle.c_texts.specs.declared.status.Status.{Status}
 use Rattle.c_texts.specs.Outcomes.{Outcome, refused}
 use Rattle.c_lines.specs.declared.line_call.LineCall.{LineCall}

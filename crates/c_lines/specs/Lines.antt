@@ -1,12 +1,12 @@
 -- The calls on lines of tools.
 use Rattle.std.specs.Prelude.{ℕ, List, [], ◌++◌, true, false, Option, Some, None, Result, Ok, Err, codes}
 use Rattle.compilers.specs.declared.arguments.ParsedArguments.{ParsedArguments}
-use Rattle.cuda_below.specs.declared.command.Cacheable.{Cacheable}
-use Rattle.cuda_below.specs.declared.compiler.NvccHostCompiler.TheVariants.{Gcc}
-use Rattle.cuda_below.specs.declared.compiler.Places.{Places}
-use Rattle.cuda_below.specs.Command.{Writing, written}
-use Rattle.cuda_below.specs.Compiler.{Reading, accepted, cannot_cache, not_compilation}
-use Rattle.cuda_below.specs.GccLine.{gcc_words}
+use Rattle.compilers.specs.declared.command.Cacheable.{Cacheable}
+use Rattle.compilers.specs.declared.compiler.NvccHostCompiler.TheVariants.{Gcc}
+use Rattle.compilers.specs.declared.compiler.Places.{Places}
+use Rattle.compilers.specs.Command.{Writing, written}
+use Rattle.compilers.specs.Compiler.{Reading, accepted, cannot_cache, not_compilation}
+use Rattle.gcc_lines.specs.GccLine.{gcc_words}
 use Rattle.cuda_plans.specs.Nvcc.{nvcc_reading}
 use Rattle.cuda_plans.specs.NvccCommand.{nvcc_written}
 use Rattle.device_lines.specs.Cicc.{cicc_options}

@@ -2,7 +2,7 @@
 
 ghost use Rattle.std.specs.Prelude.{◌≡◌, [], IfOk, map, string_bytes};
 ghost use Rattle.texts.specs.Fault.{UnlessMemory};
-ghost use Rattle.cuda_below.specs.Compiler.{reading_of};
+ghost use Rattle.compilers.specs.Compiler.{reading_of};
 ghost use Rattle.c_lines.specs.LineCalls.{line_seen};
 ghost use Rattle.c_texts.specs.Failures.{answered};
 ghost use Rattle.c_texts.specs.Outcomes.{GivesList, GivesText, of_texts};
@@ -14,14 +14,14 @@ use c_texts::{
     ListAnswer, Outcome, Range, Status, TextAnswer, answered, give_list, give_text, refused,
     refused_with,
 };
-use cuda_below::arguments::{CompilerArguments, ParsedArguments};
-use cuda_below::command::CompileCommandImpl;
-use cuda_below::compiler::{CCompilerImpl, Places};
-use cuda_plans::cicc::Cicc;
-use cuda_plans::cudafe::CudaFE;
+use compilers::arguments::{CompilerArguments, ParsedArguments};
+use compilers::command::CompileCommandImpl;
+use compilers::compiler::{CCompilerImpl, Places};
 use cuda_plans::nvcc::Nvcc;
-use cuda_plans::nvhpc::Nvhpc;
-use cuda_plans::ptxas::Ptxas;
+use device_lines::cicc::Cicc;
+use device_lines::cudafe::CudaFE;
+use device_lines::ptxas::Ptxas;
+use host_lines::nvhpc::Nvhpc;
 use std::alloc::{AllocError, Global};
 use texts::fault::Fault;
 use texts::text::Text;

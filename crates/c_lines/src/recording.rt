@@ -1,7 +1,7 @@
 //! What a line says, as records.
 
 ghost use Rattle.std.specs.Prelude.{◌≡◌, IfOk};
-ghost use Rattle.cuda_below.specs.Compiler.{reading_of};
+ghost use Rattle.compilers.specs.Compiler.{reading_of};
 ghost use Rattle.c_lines.specs.LineCalls.{line_seen};
 ghost use Rattle.c_lines.specs.LineRecordCalls as spec;
 ghost use Rattle.c_lines.specs.LineRecords as records;
@@ -12,7 +12,7 @@ use crate::line_record::{LineAnswer, OutputRecord};
 use crate::lines::{no_compilation, read_by, uncached};
 use crate::recorded_line::{RecordedLine, give_line, records_of};
 use c_texts::{Range, refused};
-use cuda_below::arguments::{CompilerArguments, ParsedArguments};
+use compilers::arguments::{CompilerArguments, ParsedArguments};
 use std::alloc::{AllocError, Global};
 
 // The records of what a line was read as.

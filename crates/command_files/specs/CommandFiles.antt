@@ -5,9 +5,9 @@ use Rattle.std.specs.Option.{option_and_then}
 use Rattle.std.specs.Str.{bytes_eq}
 use Rattle.texts.specs.Lists.{word_after, rest_after}
 use Rattle.texts.specs.Path.{joined, file_stem_of}
-use Rattle.cuda_below.specs.Compiler.{Reading, accepted, cannot_cache, not_compilation}
-use Rattle.cuda_below.specs.declared.arguments.ParsedArguments.{ParsedArguments}
-use Rattle.cuda_below.specs.declared.outputs.ArtifactDescriptor.{ArtifactDescriptor}
+use Rattle.compilers.specs.Compiler.{Reading, accepted, cannot_cache, not_compilation}
+use Rattle.compilers.specs.declared.arguments.ParsedArguments.{ParsedArguments}
+use Rattle.compilers.specs.declared.outputs.ArtifactDescriptor.{ArtifactDescriptor}
 use Rattle.device_lines.specs.Cicc.{cicc_answer}
 use Rattle.device_lines.specs.CudaFE.{cudafe_answer}
 use Rattle.device_lines.specs.Ptxas.{ptxas_answer}

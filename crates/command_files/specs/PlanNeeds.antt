@@ -4,7 +4,7 @@ use Rattle.std.specs.List.{list_any}
 use Rattle.std.specs.Str.{bytes_eq}
 use Rattle.texts.specs.Path.{file_stem_of}
 use Rattle.texts.specs.Rows.{spaced}
-use Rattle.cuda_below.specs.declared.command.Cacheable.TheVariants.{Yes}
+use Rattle.compilers.specs.declared.command.Cacheable.TheVariants.{Yes}
 use Rattle.command_groups.specs.declared.plan.NvccGeneratedSubcommand.{NvccGeneratedSubcommand}
 use Rattle.command_groups.specs.declared.plan.Plan.{Plan}
 use Rattle.command_files.specs.declared.files.CommandFiles.{CommandFiles}

@@ -4,13 +4,13 @@ ghost use Rattle.std.specs.Prelude.{◌≡◌, ◌<◌, ◌++◌, ◌∷◌, [],
 ghost use Rattle.std.specs.Option.{option_copied};
 ghost use Rattle.texts.specs.Lists.{rest_after};
 ghost use Rattle.texts.specs.Path.{file_stem_of};
-ghost use Rattle.cuda_below.specs.Compiler.{reading_of};
+ghost use Rattle.compilers.specs.Compiler.{reading_of};
 ghost use Rattle.command_files.specs.CommandFiles as spec;
 
 use command_groups::NvccGeneratedSubcommand;
-use cuda_below::arguments::{CompilerArguments, ParsedArguments};
-use cuda_below::compiler::CCompilerImpl;
-use cuda_below::outputs::Outputs;
+use compilers::arguments::{CompilerArguments, ParsedArguments};
+use compilers::compiler::CCompilerImpl;
+use compilers::outputs::Outputs;
 use device_lines::cicc::Cicc;
 use device_lines::cudafe::CudaFE;
 use device_lines::ptxas::Ptxas;

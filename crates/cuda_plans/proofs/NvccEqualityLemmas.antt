@@ -7,8 +7,8 @@ use Rattle.std.proofs.lemmas.Bool.Decides.{Decides-and, Decides-like, Decides-eq
 use Rattle.std.proofs.lemmas.Slice.Eq.{bytes_eq-Decides}
 use denote.Enum.Bare.{sameb, same_true, true_same}
 use Rattle.texts.proofs.EqualityLemmas.{lists, options, same_variables, variables}
-use Rattle.cuda_below.specs.contracts.compiler.NvccHostCompiler as host
-use Rattle.cuda_below.specs.declared.compiler.NvccHostCompiler.{NvccHostCompiler}
+use Rattle.compilers.specs.contracts.compiler.NvccHostCompiler as host
+use Rattle.compilers.specs.declared.compiler.NvccHostCompiler.{NvccHostCompiler}
 use Rattle.cuda_plans.specs.declared.nvcc.Nvcc.{Nvcc}
 use Rattle.cuda_plans.specs.declared.nvcc.command.NvccCompileCommand.{NvccCompileCommand}
 

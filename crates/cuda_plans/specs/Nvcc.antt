@@ -1,11 +1,11 @@
 -- What an nvcc line is read as, and what is said of nvcc as a compiler.
 use Rattle.std.specs.Prelude.{ℕ, List, [], ◌∷◌, ◌++◌, false, not, ◌||◌, Option, Some, None, codes}
-use Rattle.cuda_below.specs.declared.arguments.ParsedArguments.{ParsedArguments}
-use Rattle.cuda_below.specs.declared.compiler.CCompilerKind.TheVariants as kinds
-use Rattle.cuda_below.specs.declared.gcc.options.ArgData.{ArgData}
-use Rattle.cuda_below.specs.Compiler.{Reading, accepted, cannot_cache, not_compilation}
-use Rattle.cuda_below.specs.Gcc.{profile_reading}
-use Rattle.cuda_below.specs.GccOptions.{gcc_entries}
+use Rattle.compilers.specs.declared.arguments.ParsedArguments.{ParsedArguments}
+use Rattle.compilers.specs.declared.compiler.CCompilerKind.TheVariants as kinds
+use Rattle.gcc_lines.specs.declared.gcc.options.ArgData.{ArgData}
+use Rattle.compilers.specs.Compiler.{Reading, accepted, cannot_cache, not_compilation}
+use Rattle.gcc_lines.specs.Gcc.{profile_reading}
+use Rattle.gcc_lines.specs.GccOptions.{gcc_entries}
 use Rattle.option_items.specs.Table.{Entry, longest_match, longer_choice}
 use Rattle.cuda_plans.specs.declared.nvcc.Nvcc.{Nvcc}
 use Rattle.host_lines.specs.NvccOptions.{nvcc_options}

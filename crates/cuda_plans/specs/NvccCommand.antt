@@ -1,17 +1,17 @@
 -- What nvcc arguments are written back as, and the two dry runs of that command.
 use Rattle.std.specs.Prelude.{ℕ, List, [], ◌∷◌, ◌++◌, Bool, true, false, if◌then◌else◌, Option, Result, Ok, Err, codes}
 use Rattle.std.specs.Option.{ok_or}
-use Rattle.cuda_below.specs.declared.arguments.ParsedArguments.{ParsedArguments}
-use Rattle.cuda_below.specs.declared.command.SingleCompileCommand.{SingleCompileCommand}
-use Rattle.cuda_below.specs.declared.command.Cacheable.{Cacheable}
-use Rattle.cuda_below.specs.declared.command.Cacheable.TheVariants.{No}
-use Rattle.cuda_below.specs.declared.compiler.Places.{Places}
+use Rattle.compilers.specs.declared.arguments.ParsedArguments.{ParsedArguments}
+use Rattle.compilers.specs.declared.command.SingleCompileCommand.{SingleCompileCommand}
+use Rattle.compilers.specs.declared.command.Cacheable.{Cacheable}
+use Rattle.compilers.specs.declared.command.Cacheable.TheVariants.{No}
+use Rattle.compilers.specs.declared.compiler.Places.{Places}
 use Rattle.texts.specs.declared.fault.Fault.{Fault}
 use Rattle.texts.specs.declared.fault.Fault.TheVariants.{NoFileName}
-use Rattle.cuda_below.specs.Arguments.{obj_of}
-use Rattle.cuda_below.specs.GccLine.{language_words}
+use Rattle.compilers.specs.Arguments.{obj_of}
+use Rattle.gcc_lines.specs.GccLine.{language_words}
 use Rattle.texts.specs.Path.{is_absolute_path, joined, file_name_of}
-use Rattle.cuda_below.specs.declared.compiler.NvccHostCompiler.{NvccHostCompiler}
+use Rattle.compilers.specs.declared.compiler.NvccHostCompiler.{NvccHostCompiler}
 use Rattle.cuda_plans.specs.declared.nvcc.command.NvccCompileCommand.{NvccCompileCommand}
 use Rattle.host_lines.specs.KeepThreads.{keep_of, threads_of}
 use Rattle.host_lines.specs.NvccEnvironment.{without_flags}

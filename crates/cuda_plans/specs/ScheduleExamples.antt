@@ -1,6 +1,6 @@
 -- Schedules worked out by hand: three kernels, and which of their commands run once one fails.
 use Rattle.std.proofs.Common.{◌≡◌, ℕ, ◌*◌, List, [], ◌∷◌, ◌++◌, map, pos, Ok, Err, codes, refl}
-use Rattle.cuda_below.specs.declared.command.Cacheable.TheVariants.{Yes, No}
+use Rattle.compilers.specs.declared.command.Cacheable.TheVariants.{Yes, No}
 use Rattle.texts.specs.declared.fault.Fault.TheVariants.{Process}
 use Rattle.command_groups.specs.declared.plan.NvccGeneratedSubcommand.{NvccGeneratedSubcommand}
 use Rattle.cuda_plans.specs.declared.runner.Answer.{Answer}

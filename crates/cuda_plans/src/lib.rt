@@ -11,8 +11,9 @@ pub mod runner;
 mod running;
 
 pub use command_groups as plan;
-pub use cuda_below::{arguments, command, compiler, gcc, outputs};
+pub use compilers::{arguments, command, compiler, outputs};
 pub use device_lines::{cicc, cudafe, ptxas};
+pub use gcc_lines::gcc;
 pub use host_lines::nvhpc;
 pub use option_items::{items, table, views};
 pub use shell_words as shell;

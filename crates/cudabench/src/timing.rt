@@ -2,8 +2,8 @@
 
 use crate::call::{Call, Work};
 use crate::report::Stop;
-use cuda_below::arguments::{CompilerArguments, ParsedArguments};
-use cuda_below::compiler::{CCompilerImpl, NvccHostCompiler, Places};
+use compilers::arguments::{CompilerArguments, ParsedArguments};
+use compilers::compiler::{CCompilerImpl, NvccHostCompiler, Places};
 use cuda_plans::cicc::Cicc;
 use cuda_plans::cudafe::CudaFE;
 use cuda_plans::dry_run::{FirstDir, Renames, Suffixes, read_dry_run, remap_generated_filenames};

@@ -3,7 +3,7 @@ use Rattle.std.proofs.Common.{◌≡◌, ◌≤◌, arith, length, ℕ, List, []
 use Rattle.std.specs.List.{filter_map, cons_option, flat_map, list_any, fold}
 use Rattle.std.proofs.lemmas.List.Sums.{fold-append}
 use Rattle.texts.specs.declared.language.Language.{Language}
-use Rattle.cuda_below.specs.Outputs.{with_entry}
+use Rattle.compilers.specs.Outputs.{with_entry}
 use Rattle.option_items.specs.Items.{Item, Said, item, option, Completes, words_of, kind_of}
 use Rattle.device_lines.specs.declared.options.ArgData.{ArgData}
 use Rattle.device_lines.specs.declared.reader.gathered.Gathered.{Gathered}

@@ -8,14 +8,14 @@ use Rattle.std.proofs.lemmas.List.Elements.{filter-append, filter_map-append}
 use Rattle.std.proofs.lemmas.List.Folds.{list_any-append}
 use Rattle.texts.specs.declared.language.Language.{Language}
 use Rattle.texts.specs.declared.language.Language.TheVariants.{C, Cxx, ObjectiveC, ObjectiveCxx, Cuda, CudaFE, Ptx, Cubin}
-use Rattle.cuda_below.specs.declared.outputs.ArtifactDescriptor.{ArtifactDescriptor}
-use Rattle.cuda_below.specs.declared.arguments.ParsedArguments.{ParsedArguments}
-use Rattle.cuda_below.specs.declared.command.SingleCompileCommand.{SingleCompileCommand}
-use Rattle.cuda_below.specs.declared.command.Cacheable.{Cacheable}
+use Rattle.compilers.specs.declared.outputs.ArtifactDescriptor.{ArtifactDescriptor}
+use Rattle.compilers.specs.declared.arguments.ParsedArguments.{ParsedArguments}
+use Rattle.compilers.specs.declared.command.SingleCompileCommand.{SingleCompileCommand}
+use Rattle.compilers.specs.declared.command.Cacheable.{Cacheable}
 use Rattle.option_items.specs.declared.table.ArgDisposition.TheVariants.{Separated}
-use Rattle.cuda_below.specs.Arguments.{plain_arguments}
+use Rattle.compilers.specs.Arguments.{plain_arguments}
 use Rattle.texts.specs.Path.{is_absolute_path, joined}
-use Rattle.cuda_below.specs.Outputs.{entries_from, entry_at}
+use Rattle.compilers.specs.Outputs.{entries_from, entry_at}
 use Rattle.option_items.specs.Table.{Entry, longest_match}
 use Rattle.option_items.specs.Items.{Item, with_value, items, words_of, kind_of, value_of}
 use Rattle.device_lines.specs.declared.options.ArgData.{ArgData}
@@ -25,8 +25,8 @@ use Rattle.device_lines.specs.CudaFE.{cudafe_options}
 use Rattle.device_lines.specs.Ptxas.{ptxas_options}
 use Rattle.device_lines.specs.Reading.{is_input_word, is_unhashed_kind, common_items, unhashed_items, made_at, output_of_kind, output_of, module_id_of_kind, module_id_of, is_generating, module_id, module_id_output, module_id_file, outputs_of, reading_of_items, input_place, reading}
 use Rattle.texts.specs.Lists.{last_of}
-use Rattle.cuda_below.specs.declared.command.Cacheable.TheVariants.{Yes}
-use Rattle.cuda_below.specs.Command.{single_command, written, written_to}
+use Rattle.compilers.specs.declared.command.Cacheable.TheVariants.{Yes}
+use Rattle.compilers.specs.Command.{single_command, written, written_to}
 use Rattle.device_lines.specs.DeviceWords.{cicc_words, cudafe_words}
 use Rattle.device_lines.specs.Reread.{is_filled, AllFilled, common_words, unhashed_words, Rereads, CiccLinesReread, PtxasLinesReread, CudaFELinesReread}
 use Rattle.device_lines.proofs.RereadWords.{or_false, all-append, Silent, common-kind, other-kind, unhashed-kind, common-again, all-unhashed_silent, kept-all, common-whole, unhashed-whole, kept-read, common-none_unhashed, unhashed-again}

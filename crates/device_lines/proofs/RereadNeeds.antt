@@ -4,17 +4,17 @@ use Rattle.std.specs.Option.{option_map}
 use Rattle.std.specs.Str.{bytes_eq}
 use Rattle.std.proofs.lemmas.Bool.{false≢true}
 use Rattle.texts.specs.declared.language.Language.TheVariants.{Ptx, CudaFE, Cubin}
-use Rattle.cuda_below.specs.declared.outputs.ArtifactDescriptor.{ArtifactDescriptor}
-use Rattle.cuda_below.specs.declared.arguments.ParsedArguments.{ParsedArguments}
-use Rattle.cuda_below.specs.Outputs.{entry_at}
+use Rattle.compilers.specs.declared.outputs.ArtifactDescriptor.{ArtifactDescriptor}
+use Rattle.compilers.specs.declared.arguments.ParsedArguments.{ParsedArguments}
+use Rattle.compilers.specs.Outputs.{entry_at}
 use Rattle.option_items.specs.Table.{longest_match}
 use Rattle.option_items.specs.Items.{items}
 use Rattle.device_lines.specs.Cicc.{cicc_options, cicc_reading}
 use Rattle.device_lines.specs.CudaFE.{cudafe_options, cudafe_reading}
 use Rattle.device_lines.specs.Ptxas.{ptxas_options, ptxas_reading}
 use Rattle.device_lines.specs.Reading.{made_at, reading_of_items}
-use Rattle.cuda_below.specs.declared.command.Cacheable.TheVariants.{Yes}
-use Rattle.cuda_below.specs.Command.{single_command}
+use Rattle.compilers.specs.declared.command.Cacheable.TheVariants.{Yes}
+use Rattle.compilers.specs.Command.{single_command}
 use Rattle.device_lines.specs.Reread.{AtMostOneInputWord, PtxasLinesRereadWithEmptyValues, CiccLinesRereadWithSeveralInputs, PtxasLinesRereadWithSeveralInputs, CiccLinesRereadAnywhere, PtxasLinesRereadAnywhere, CudaFELinesRereadAnywhere}
 
 -- two texts that a test tells apart

@@ -14,7 +14,7 @@ use Rattle.std.proofs.lemmas.List.Sums.{fold-append}
 use Rattle.std.proofs.lemmas.Map.Lookups.{exact_bytes}
 use Rattle.std.proofs.lemmas.Map.Text.{is_eq-slice_cmp}
 use Rattle.std.proofs.lemmas.Slice.Eq.{bytes_eq-Decides}
-use Rattle.cuda_below.specs.Outputs.{with_entry, entries_from, entry_at}
+use Rattle.compilers.specs.Outputs.{with_entry, entries_from, entry_at}
 
 module _ {K : Type 0} (R : K → K → Ordering) (total : IsTotalOrder R) where
   above : (x y : K) → R x y ≡ Less → R y x ≡ Greater

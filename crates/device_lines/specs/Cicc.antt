@@ -1,8 +1,8 @@
 -- cicc's options, and what its lines are read as.
 use Rattle.std.specs.Prelude.{ℕ, List, [], ◌∷◌, Option, codes}
-use Rattle.cuda_below.specs.declared.arguments.ParsedArguments.{ParsedArguments}
+use Rattle.compilers.specs.declared.arguments.ParsedArguments.{ParsedArguments}
 use Rattle.texts.specs.declared.language.Language.TheVariants.{Ptx}
-use Rattle.cuda_below.specs.Compiler.{Reading}
+use Rattle.compilers.specs.Compiler.{Reading}
 use Rattle.option_items.specs.Table.{Entry, longest_match}
 use Rattle.device_lines.specs.declared.options.ArgData.{ArgData}
 use Rattle.device_lines.specs.declared.options.ArgData.TheVariants.{Output, PassThrough, GenModuleIdFileFlag, ModuleIdFileName, UnhashedOutput}

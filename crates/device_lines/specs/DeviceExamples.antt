@@ -1,13 +1,13 @@
 -- Lines that are read and written back, worked out by hand.
 use Rattle.std.proofs.Common.{◌≡◌, ℕ, List, [], ◌∷◌, ◌++◌, false, Option, Some, None, Result, Ok, Err, codes, refl}
 use Rattle.texts.specs.declared.language.Language.TheVariants as languages
-use Rattle.cuda_below.specs.declared.command.SingleCompileCommand.{SingleCompileCommand}
-use Rattle.cuda_below.specs.declared.command.Cacheable.{Cacheable}
+use Rattle.compilers.specs.declared.command.SingleCompileCommand.{SingleCompileCommand}
+use Rattle.compilers.specs.declared.command.Cacheable.{Cacheable}
 use Rattle.texts.specs.declared.fault.Fault.{Fault}
 use Rattle.texts.specs.declared.fault.Fault.TheVariants.{MissingOutput}
-use Rattle.cuda_below.specs.declared.arguments.ParsedArguments.{ParsedArguments}
-use Rattle.cuda_below.specs.Arguments.{plain_arguments}
-use Rattle.cuda_below.specs.Command.{written}
+use Rattle.compilers.specs.declared.arguments.ParsedArguments.{ParsedArguments}
+use Rattle.compilers.specs.Arguments.{plain_arguments}
+use Rattle.compilers.specs.Command.{written}
 use Rattle.texts.specs.Rows.{spaced}
 use Rattle.device_lines.specs.Cicc.{cicc_reading}
 use Rattle.device_lines.specs.CudaFE.{cudafe_reading}

@@ -1,6 +1,6 @@
 -- The words that the arguments of a device tool and its output are written as.
 use Rattle.std.specs.Prelude.{ℕ, List, [], ◌∷◌, ◌++◌, codes}
-use Rattle.cuda_below.specs.declared.arguments.ParsedArguments.{ParsedArguments}
+use Rattle.compilers.specs.declared.arguments.ParsedArguments.{ParsedArguments}
 
 -- the words of a cicc or ptxas line: the common words, the unhashed ones, the input, and the output after `-o`
 abbrev pub cicc_words : ParsedArguments → List ℕ → List (List ℕ)

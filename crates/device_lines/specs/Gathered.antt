@@ -1,11 +1,11 @@
 -- What the reader of device tools' lines has gathered, and how one more item changes it.
 use Rattle.std.specs.Prelude.{ℕ, List, [], ◌++◌, Bool, false, ◌||◌, if◌then◌else◌, Option, Some, None, is_some}
 use Rattle.std.specs.List.{fold}
-use Rattle.cuda_below.specs.declared.arguments.ParsedArguments.{ParsedArguments}
+use Rattle.compilers.specs.declared.arguments.ParsedArguments.{ParsedArguments}
 use Rattle.texts.specs.declared.language.Language.{Language}
-use Rattle.cuda_below.specs.declared.outputs.ArtifactDescriptor.{ArtifactDescriptor}
-use Rattle.cuda_below.specs.Outputs.{with_entry}
-use Rattle.cuda_below.specs.Arguments.{plain_arguments}
+use Rattle.compilers.specs.declared.outputs.ArtifactDescriptor.{ArtifactDescriptor}
+use Rattle.compilers.specs.Outputs.{with_entry}
+use Rattle.compilers.specs.Arguments.{plain_arguments}
 use Rattle.option_items.specs.Items.{Item, words_of, kind_of}
 use Rattle.device_lines.specs.declared.options.ArgData.{ArgData}
 use Rattle.device_lines.specs.declared.reader.gathered.Gathered.{Gathered}

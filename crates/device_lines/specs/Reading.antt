@@ -5,14 +5,14 @@ use Rattle.std.specs.List.{filter_map, flat_map, list_any, remove}
 use Rattle.std.specs.Option.{option_map, option_to_list}
 use Rattle.texts.specs.declared.language.Language.{Language}
 use Rattle.texts.specs.declared.language.Language.TheVariants.{Ptx, Cubin}
-use Rattle.cuda_below.specs.declared.outputs.ArtifactDescriptor.{ArtifactDescriptor}
-use Rattle.cuda_below.specs.declared.arguments.ParsedArguments.{ParsedArguments}
-use Rattle.cuda_below.specs.Arguments.{plain_arguments}
+use Rattle.compilers.specs.declared.outputs.ArtifactDescriptor.{ArtifactDescriptor}
+use Rattle.compilers.specs.declared.arguments.ParsedArguments.{ParsedArguments}
+use Rattle.compilers.specs.Arguments.{plain_arguments}
 use Rattle.texts.specs.DeviceFiles.{is_cicc_word, is_ptxas_word}
 use Rattle.texts.specs.Lists.{last_of}
 use Rattle.texts.specs.Path.{joined}
-use Rattle.cuda_below.specs.Outputs.{entries_from}
-use Rattle.cuda_below.specs.Compiler.{Reading, accepted, not_compilation}
+use Rattle.compilers.specs.Outputs.{entries_from}
+use Rattle.compilers.specs.Compiler.{Reading, accepted, not_compilation}
 use Rattle.option_items.specs.Table.{Entry, longest_match}
 use Rattle.option_items.specs.Items.{Item, raw, unknown_flag, items, words_of, kind_of, text_of, value_of}
 use Rattle.device_lines.specs.declared.options.ArgData.{ArgData}

@@ -3,9 +3,9 @@ use Rattle.std.specs.Prelude.{◌≡◌, ℕ, ◌≤◌, List, ◌++◌, Bool, t
 use Rattle.std.specs.List.{AllByRecursion, flat_map, remove}
 use Rattle.texts.specs.declared.language.Language.{Language}
 use Rattle.texts.specs.declared.language.Language.TheVariants.{Ptx, CudaFE, Cubin}
-use Rattle.cuda_below.specs.declared.arguments.ParsedArguments.{ParsedArguments}
-use Rattle.cuda_below.specs.declared.command.SingleCompileCommand.{SingleCompileCommand}
-use Rattle.cuda_below.specs.declared.command.Cacheable.{Cacheable}
+use Rattle.compilers.specs.declared.arguments.ParsedArguments.{ParsedArguments}
+use Rattle.compilers.specs.declared.command.SingleCompileCommand.{SingleCompileCommand}
+use Rattle.compilers.specs.declared.command.Cacheable.{Cacheable}
 use Rattle.texts.specs.Path.{is_absolute_path}
 use Rattle.option_items.specs.Table.{Entry, longest_match}
 use Rattle.option_items.specs.Items.{Item, faulty, items, words_of}
@@ -15,7 +15,7 @@ use Rattle.device_lines.specs.Cicc.{cicc_options}
 use Rattle.device_lines.specs.CudaFE.{cudafe_options}
 use Rattle.device_lines.specs.Ptxas.{ptxas_options}
 use Rattle.device_lines.specs.Reading.{is_input_word, common_items, unhashed_items, input_place, reading}
-use Rattle.cuda_below.specs.Command.{written}
+use Rattle.compilers.specs.Command.{written}
 use Rattle.device_lines.specs.DeviceWords.{cicc_words, cudafe_words}
 
 module _ {T : Type 0} where

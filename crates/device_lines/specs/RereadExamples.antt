@@ -4,7 +4,7 @@ use Rattle.std.proofs.Common.{◌≡◌, ℕ, List, ◌++◌, Option, Some, Ok, 
 use Rattle.std.specs.Option.{option_map}
 use Rattle.texts.specs.declared.language.Language.TheVariants.{Cubin}
 use Rattle.texts.specs.declared.fault.Fault.TheVariants.{MissingOutput}
-use Rattle.cuda_below.specs.declared.arguments.ParsedArguments.{ParsedArguments}
+use Rattle.compilers.specs.declared.arguments.ParsedArguments.{ParsedArguments}
 use Rattle.texts.specs.Rows.{spaced}
 use Rattle.device_lines.specs.Cicc.{cicc_reading}
 use Rattle.device_lines.specs.CudaFE.{cudafe_reading}

@@ -3,8 +3,8 @@
 ghost use Rattle.std.specs.Prelude.{◌≡◌, None, Err, map, codes, IfOk};
 ghost use Rattle.option_items.specs.Table.{entry_of};
 ghost use Rattle.texts.specs.Variables.{pair_of};
-ghost use Rattle.cuda_below.specs.Outputs.{entry_at};
-ghost use Rattle.cuda_below.specs.Command.{written};
+ghost use Rattle.compilers.specs.Outputs.{entry_at};
+ghost use Rattle.compilers.specs.Command.{written};
 ghost use Rattle.texts.specs.Fault.{UnlessMemory};
 ghost use Rattle.texts.specs.declared.fault.Fault.TheVariants.{MissingOutput};
 ghost use Rattle.device_lines.specs.Cicc as spec;
@@ -14,8 +14,8 @@ pub use crate::input::{preprocess, read_bytes, read_file, read_input};
 pub use crate::options::ArgData;
 pub use crate::reader::parse_arguments;
 use crate::writer::option_words;
-use cuda_below::arguments::ParsedArguments;
-use cuda_below::command::{Cacheable, SingleCompileCommand};
+use compilers::arguments::ParsedArguments;
+use compilers::command::{Cacheable, SingleCompileCommand};
 use option_items::table::{ArgInfo, SEPARATED, Table};
 use std::alloc::{AllocError, Global};
 pub use texts::device_files::{

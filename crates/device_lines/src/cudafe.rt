@@ -3,8 +3,8 @@
 ghost use Rattle.std.specs.Prelude.{◌≡◌, None, Err, map, codes, IfOk};
 ghost use Rattle.option_items.specs.Table.{entry_of};
 ghost use Rattle.texts.specs.Variables.{pair_of};
-ghost use Rattle.cuda_below.specs.Outputs.{entry_at};
-ghost use Rattle.cuda_below.specs.Command.{written};
+ghost use Rattle.compilers.specs.Outputs.{entry_at};
+ghost use Rattle.compilers.specs.Command.{written};
 ghost use Rattle.texts.specs.Fault.{UnlessMemory};
 ghost use Rattle.texts.specs.declared.fault.Fault.TheVariants.{MissingOutput};
 ghost use Rattle.device_lines.specs.CudaFE as spec;
@@ -12,8 +12,8 @@ ghost use Rattle.device_lines.specs.DeviceWords as words;
 
 use crate::options::ArgData;
 use crate::writer::option_words;
-use cuda_below::arguments::ParsedArguments;
-use cuda_below::command::{Cacheable, SingleCompileCommand};
+use compilers::arguments::ParsedArguments;
+use compilers::command::{Cacheable, SingleCompileCommand};
 use option_items::table::{ArgInfo, SEPARATED, Table};
 use std::alloc::{AllocError, Global};
 use texts::fault::Fault;

@@ -6,7 +6,7 @@ ghost use Rattle.device_lines.specs.Input.{ReadsBytes, ReadsToEnd};
 ghost use Rattle.device_lines.specs.InputStep.{ReadsOn};
 ghost use Rattle.device_lines.specs.Input as spec;
 
-use cuda_below::arguments::ParsedArguments;
+use compilers::arguments::ParsedArguments;
 use std::alloc::{AllocError, Global};
 use std::fs::{self, Files};
 use std::io::{ErrorKind, Read};

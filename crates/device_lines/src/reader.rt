@@ -1,13 +1,13 @@
 //! The reader of device tools' lines, which cicc, ptxas and cudafe++ share.
 
 ghost use Rattle.std.specs.Prelude.{◌≡◌, ◌<◌, [], map, length, position, IfOk, IfSome, string_bytes, slice_index_or};
-ghost use Rattle.cuda_below.specs.Compiler.{accepted, reading_of};
+ghost use Rattle.compilers.specs.Compiler.{accepted, reading_of};
 ghost use Rattle.device_lines.specs.Reading as spec;
 
 mod gathered;
 
 use crate::options::ArgData;
-use cuda_below::arguments::{CompilerArguments, ParsedArguments};
+use compilers::arguments::{CompilerArguments, ParsedArguments};
 use gathered::Gathered;
 use option_items::items::Line;
 use option_items::table::SearchableArgInfo;

@@ -6,9 +6,9 @@ use crate::cicc::{self, Cicc};
 use crate::cudafe::{self, CudaFE};
 use crate::ptxas::{self, Ptxas};
 use crate::reader::parse_arguments;
-use cuda_below::arguments::{CompilerArguments, ParsedArguments};
-use cuda_below::command::{Cacheable, SingleCompileCommand};
-use cuda_below::compiler::{CCompilerImpl, CCompilerKind, Places};
+use compilers::arguments::{CompilerArguments, ParsedArguments};
+use compilers::command::{Cacheable, SingleCompileCommand};
+use compilers::compiler::{CCompilerImpl, CCompilerKind, Places};
 use std::alloc::{AllocError, Global};
 use texts::fault::Fault;
 use texts::language::Language;
@@ -26,10 +26,10 @@ impl Cicc {
 
 impl CCompilerImpl for Cicc {
     ghost use Rattle.std.specs.Prelude.{true};
-    ghost use Rattle.cuda_below.specs.declared.compiler.CCompilerKind.TheVariants as kinds;
+    ghost use Rattle.compilers.specs.declared.compiler.CCompilerKind.TheVariants as kinds;
     ghost use Rattle.device_lines.specs.Cicc as spec;
     ghost use Rattle.device_lines.specs.DeviceWords as words;
-    ghost use Rattle.cuda_below.specs.Command.{written};
+    ghost use Rattle.compilers.specs.Command.{written};
 
     type Command = SingleCompileCommand;
 
@@ -90,10 +90,10 @@ impl CudaFE {
 
 impl CCompilerImpl for CudaFE {
     ghost use Rattle.std.specs.Prelude.{true};
-    ghost use Rattle.cuda_below.specs.declared.compiler.CCompilerKind.TheVariants as kinds;
+    ghost use Rattle.compilers.specs.declared.compiler.CCompilerKind.TheVariants as kinds;
     ghost use Rattle.device_lines.specs.CudaFE as spec;
     ghost use Rattle.device_lines.specs.DeviceWords as words;
-    ghost use Rattle.cuda_below.specs.Command.{written};
+    ghost use Rattle.compilers.specs.Command.{written};
 
     type Command = SingleCompileCommand;
 
@@ -154,10 +154,10 @@ impl Ptxas {
 
 impl CCompilerImpl for Ptxas {
     ghost use Rattle.std.specs.Prelude.{true};
-    ghost use Rattle.cuda_below.specs.declared.compiler.CCompilerKind.TheVariants as kinds;
+    ghost use Rattle.compilers.specs.declared.compiler.CCompilerKind.TheVariants as kinds;
     ghost use Rattle.device_lines.specs.Ptxas as spec;
     ghost use Rattle.device_lines.specs.DeviceWords as words;
-    ghost use Rattle.cuda_below.specs.Command.{written};
+    ghost use Rattle.compilers.specs.Command.{written};
 
     type Command = SingleCompileCommand;
 

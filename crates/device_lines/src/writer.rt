@@ -2,7 +2,7 @@
 
 ghost use Rattle.std.specs.Prelude.{◌≡◌, ◌++◌, IfOk};
 
-use cuda_below::arguments::ParsedArguments;
+use compilers::arguments::ParsedArguments;
 use std::alloc::{AllocError, Global};
 use texts::words::Words;
 

@@ -1,7 +1,7 @@
 -- The one or two commands that preprocess an input.
 use Rattle.std.proofs.Common.{◌≡◌, ℕ, Bool, true, false, ◌==◌, List, [], ◌∷◌, length, refl, sym, arith}
 use Rattle.std.proofs.lemmas.Bool.{eqb-true, false≢true}
-use Rattle.cuda_below.specs.declared.command.SingleCompileCommand.{SingleCompileCommand}
+use Rattle.compilers.specs.declared.command.SingleCompileCommand.{SingleCompileCommand}
 use Rattle.host_lines.specs.Preprocess.{with_words, preprocess_commands}
 
 -- there are two where words for the dependencies are

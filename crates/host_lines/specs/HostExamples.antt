@@ -5,11 +5,11 @@ use Rattle.texts.specs.declared.fault.Fault.TheVariants.{KeepDirValue, ThreadsVa
 use Rattle.texts.specs.declared.language.Language.{Language}
 use Rattle.texts.specs.declared.language.Language.TheVariants.{C, Cxx, Cuda, Ptx}
 use Rattle.texts.specs.Rows.{spaced, Gives}
-use Rattle.cuda_below.specs.declared.arguments.ParsedArguments.{ParsedArguments}
-use Rattle.cuda_below.specs.declared.command.SingleCompileCommand.{SingleCompileCommand}
-use Rattle.cuda_below.specs.declared.compiler.NvccHostCompiler.TheVariants as host
-use Rattle.cuda_below.specs.Compiler.{Reading, accepted, not_compilation}
-use Rattle.cuda_below.specs.GccExamples.{compiled}
+use Rattle.compilers.specs.declared.arguments.ParsedArguments.{ParsedArguments}
+use Rattle.compilers.specs.declared.command.SingleCompileCommand.{SingleCompileCommand}
+use Rattle.compilers.specs.declared.compiler.NvccHostCompiler.TheVariants as host
+use Rattle.compilers.specs.Compiler.{Reading, accepted, not_compilation}
+use Rattle.gcc_lines.specs.GccExamples.{compiled}
 use Rattle.host_lines.specs.KeepThreads.{keep_of, threads_of}
 use Rattle.host_lines.specs.Nvhpc.{nvhpc_reading}
 use Rattle.host_lines.specs.Preprocess.{nvcc_dependency_words, nvcc_preprocess, nvhpc_preprocess}

@@ -4,14 +4,14 @@ use Rattle.std.specs.Str.{bytes_eq}
 use Rattle.std.specs.declared.alloc.Global.{Global}
 use Rattle.texts.specs.declared.language.Language.{Language}
 use Rattle.texts.specs.declared.language.Language.TheVariants.{Cuda}
-use Rattle.cuda_below.specs.declared.arguments.ParsedArguments.{ParsedArguments}
-use Rattle.cuda_below.specs.declared.command.SingleCompileCommand.{SingleCompileCommand}
+use Rattle.compilers.specs.declared.arguments.ParsedArguments.{ParsedArguments}
+use Rattle.compilers.specs.declared.command.SingleCompileCommand.{SingleCompileCommand}
 use Rattle.texts.specs.declared.fault.Fault.{Fault}
 use Rattle.texts.specs.declared.fault.Fault.TheVariants.{NoPreprocess}
-use Rattle.cuda_below.specs.Command.{single_command}
-use Rattle.cuda_below.specs.GccItems.{name_of_language}
-use Rattle.cuda_below.specs.declared.compiler.NvccHostCompiler.{NvccHostCompiler}
-use Rattle.cuda_below.specs.declared.compiler.NvccHostCompiler.TheVariants as host
+use Rattle.compilers.specs.Command.{single_command}
+use Rattle.gcc_lines.specs.GccItems.{name_of_language}
+use Rattle.compilers.specs.declared.compiler.NvccHostCompiler.{NvccHostCompiler}
+use Rattle.compilers.specs.declared.compiler.NvccHostCompiler.TheVariants as host
 use Rattle.host_lines.specs.NvccEnvironment.{without_flags}
 
 -- what both commands have: their first words are the preprocessor's, the common ones, `-x`, the language's name and the input

@@ -2,15 +2,15 @@
 
 ghost use Rattle.std.specs.Prelude.{◌≡◌, true, map, IfOk};
 ghost use Rattle.option_items.specs.Table.{entry_of};
-ghost use Rattle.cuda_below.specs.GccOptions.{differ};
+ghost use Rattle.gcc_lines.specs.GccOptions.{differ};
 ghost use Rattle.host_lines.specs.Nvhpc as spec;
 
 mod preprocessor;
 
-use cuda_below::arguments::{CompilerArguments, ParsedArguments};
-use cuda_below::command::{Cacheable, SingleCompileCommand};
-use cuda_below::compiler::{CCompilerImpl, CCompilerKind, Places};
-use cuda_below::gcc::{self, ArgData};
+use compilers::arguments::{CompilerArguments, ParsedArguments};
+use compilers::command::{Cacheable, SingleCompileCommand};
+use compilers::compiler::{CCompilerImpl, CCompilerKind, Places};
+use gcc_lines::gcc::{self, ArgData};
 use option_items::entries;
 use option_items::table::{ArgInfo, EITHER_WAY, EITHER_WAY_OR_EQUALS, JOINED, Pair, Table};
 use std::alloc::{AllocError, Global};
@@ -66,9 +66,9 @@ impl Nvhpc {
 }
 
 impl CCompilerImpl for Nvhpc {
-    ghost use Rattle.cuda_below.specs.declared.compiler.CCompilerKind.TheVariants as kinds;
-    ghost use Rattle.cuda_below.specs.Command.{written};
-    ghost use Rattle.cuda_below.specs.GccLine.{gcc_words};
+    ghost use Rattle.compilers.specs.declared.compiler.CCompilerKind.TheVariants as kinds;
+    ghost use Rattle.compilers.specs.Command.{written};
+    ghost use Rattle.gcc_lines.specs.GccLine.{gcc_words};
     ghost use Rattle.host_lines.specs.Nvhpc as spec;
 
     type Command = SingleCompileCommand;

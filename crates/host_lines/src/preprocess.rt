@@ -5,8 +5,8 @@ ghost use Rattle.texts.specs.Fault.{UnlessMemory};
 ghost use Rattle.texts.specs.declared.fault.Fault.TheVariants.{NoPreprocess};
 ghost use Rattle.host_lines.specs.Preprocess as spec;
 
-use cuda_below::arguments::ParsedArguments;
-use cuda_below::command::SingleCompileCommand;
+use compilers::arguments::ParsedArguments;
+use compilers::command::SingleCompileCommand;
 use std::alloc::{AllocError, Global};
 use texts::fault::Fault;
 use texts::text::Text;

@@ -8,11 +8,11 @@ use Rattle.texts.specs.Path.{joined}
 use Rattle.texts.specs.Results.{and_then}
 use Rattle.texts.specs.Rows.{spaced}
 use Rattle.shell_words.specs.Shell.Quoting.{written}
-use Rattle.cuda_below.specs.declared.arguments.ParsedArguments.{ParsedArguments}
-use Rattle.cuda_below.specs.declared.command.SingleCompileCommand.{SingleCompileCommand}
-use Rattle.cuda_below.specs.declared.compiler.NvccHostCompiler.TheVariants.{Gcc}
-use Rattle.cuda_below.specs.declared.compiler.Places.{Places}
-use Rattle.cuda_below.specs.Arguments.{plain_arguments}
+use Rattle.compilers.specs.declared.arguments.ParsedArguments.{ParsedArguments}
+use Rattle.compilers.specs.declared.command.SingleCompileCommand.{SingleCompileCommand}
+use Rattle.compilers.specs.declared.compiler.NvccHostCompiler.TheVariants.{Gcc}
+use Rattle.compilers.specs.declared.compiler.Places.{Places}
+use Rattle.compilers.specs.Arguments.{plain_arguments}
 use Rattle.cuda_plans.specs.declared.nvcc.command.NvccCompileCommand.{NvccCompileCommand}
 use Rattle.cuda_plans.specs.NvccCommand.{dry_runs, nvcc_written}
 use Rattle.host_lines.specs.KeepThreads.{keep_of, threads_of}

@@ -4,7 +4,7 @@ ghost use Rattle.std.specs.Prelude.{◌≡◌, ◌++◌, ◌∷◌, [], IfOk, On
 ghost use Rattle.shell_words.specs.Shell.Quoting.{written};
 ghost use Rattle.nvcc_calls.specs.Outline as spec;
 
-use cuda_below::command::SingleCompileCommand;
+use compilers::command::SingleCompileCommand;
 use shell_words::push_quoted;
 use std::alloc::{AllocError, Global};
 use texts::text::Text;

@@ -9,12 +9,12 @@ use Rattle.texts.proofs.EqualityLemmas.{lists}
 use Rattle.texts.specs.declared.language.Language.{Language}
 use Rattle.compilers.specs.declared.outputs.ArtifactDescriptor.{ArtifactDescriptor}
 use Rattle.compilers.specs.declared.compiler.CCompilerKind.TheVariants as kinds
-use Rattle.cuda_below.specs.declared.gcc.options.ArgData.{ArgData}
+use Rattle.gcc_lines.specs.declared.gcc.options.ArgData.{ArgData}
 use Rattle.compilers.specs.Compiler.{Reading, accepted, cannot_cache, not_compilation}
 use Rattle.compilers.specs.Outputs.{entry_at}
-use Rattle.cuda_below.specs.Gcc as gcc
-use Rattle.cuda_below.specs.GccItems.{asked_of, items_to_dashes, has_double_dash, first_refusal}
-use Rattle.cuda_below.specs.GccOptions.{gcc_entries}
+use Rattle.gcc_lines.specs.Gcc as gcc
+use Rattle.gcc_lines.specs.GccItems.{asked_of, items_to_dashes, has_double_dash, first_refusal}
+use Rattle.gcc_lines.specs.GccOptions.{gcc_entries}
 use Rattle.option_items.specs.Table.{longest_of_two}
 use Rattle.option_items.specs.Items.{Item}
 use Rattle.host_lines.specs.NvccOptions.{nvcc_options}

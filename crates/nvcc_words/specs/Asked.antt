@@ -3,7 +3,7 @@ use Rattle.std.specs.Prelude.{◌≡◌, ℕ, List, [], ◌∷◌, ◌++◌, Boo
 use Rattle.std.specs.Option.{option_or}
 use Rattle.std.specs.List.{list_all}
 use Rattle.std.specs.Str.{bytes_eq}
-use Rattle.cuda_below.specs.GccOptions.{gcc_entries}
+use Rattle.gcc_lines.specs.GccOptions.{gcc_entries}
 use Rattle.host_lines.specs.NvccOptions.{nvcc_options}
 use Rattle.option_items.specs.Table.{Entry, longest_match, longest_of_two}
 use Rattle.option_items.specs.Items.{Item, raw, unknown_flag, flag, with_value, faulty, items}

@@ -8,8 +8,8 @@ use Rattle.texts.specs.Variables.{first_value}
 use Rattle.compilers.specs.declared.arguments.ParsedArguments.{ParsedArguments}
 use Rattle.compilers.specs.declared.compiler.CCompilerKind.TheVariants as kinds
 use Rattle.compilers.specs.Outputs.{entry_at}
-use Rattle.cuda_below.specs.Gcc.{profile_reading}
-use Rattle.cuda_below.specs.GccOptions.{gcc_entries}
+use Rattle.gcc_lines.specs.Gcc.{profile_reading}
+use Rattle.gcc_lines.specs.GccOptions.{gcc_entries}
 use Rattle.compilers.specs.Compiler.{Reading, accepted, cannot_cache, not_compilation}
 use Rattle.option_items.specs.Table.{longest_of_two}
 use Rattle.host_lines.specs.NvccOptions.{nvcc_options}

@@ -14,7 +14,7 @@ use crate::reason::Reason;
 use crate::word_tests::{
     are_unexpanded, equals_word, has_no_operator, is_joinable, is_language, is_number,
 };
-use cuda_below::gcc;
+use gcc_lines::gcc;
 use host_lines::nvcc;
 use option_items::items::{ArgParseError, Line};
 use option_items::table::{Pair, SearchableArgInfo};

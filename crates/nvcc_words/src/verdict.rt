@@ -12,7 +12,7 @@ use crate::reason::Reason;
 use crate::word_tests::{are_unexpanded, is_cut_at_spaces};
 use compilers::arguments::{CompilerArguments, ParsedArguments};
 use compilers::compiler::CCompilerKind;
-use cuda_below::gcc;
+use gcc_lines::gcc;
 use host_lines::nvcc;
 use host_lines::nvcc::whole_line;
 use option_items::table::Pair;

@@ -1,7 +1,7 @@
 -- The texts of a small plan, worked out by hand.
 use Rattle.std.specs.Prelude.{◌≡◌, ℕ, List, [], ◌∷◌, map, codes, Some, None, Ok, Err, refl}
 use Rattle.std.specs.Str.{chars, is_utf8}
-use Rattle.cuda_below.specs.declared.command.Cacheable.TheVariants.{Yes}
+use Rattle.compilers.specs.declared.command.Cacheable.TheVariants.{Yes}
 use Rattle.command_groups.specs.declared.plan.NvccGeneratedSubcommand.{NvccGeneratedSubcommand}
 use Rattle.plan_exports.specs.declared.refusal.Refusal.TheVariants.{Unheld, VariableName}
 use Rattle.plan_exports.specs.declared.refusal.Form.TheVariants.{Shell, Ninja}

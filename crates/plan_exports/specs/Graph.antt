@@ -2,8 +2,8 @@
 use Rattle.std.specs.Prelude.{ℕ, Bool, ◌+◌, List, [], ◌∷◌, ◌++◌, length, drop, get_or, ◌==◌, ◌&&◌, if◌then◌else◌, codes, encode_utf8_all, Result, Ok, Err}
 use Rattle.std.specs.List.{flat_map, list_all}
 use Rattle.std.specs.Str.{chars}
-use Rattle.cuda_below.specs.declared.command.Cacheable.{Cacheable}
-use Rattle.cuda_below.specs.declared.command.Cacheable.TheVariants.{Yes, No}
+use Rattle.compilers.specs.declared.command.Cacheable.{Cacheable}
+use Rattle.compilers.specs.declared.command.Cacheable.TheVariants.{Yes, No}
 use Rattle.texts.specs.Numeral.{numeral}
 use Rattle.shell_words.specs.Shell.Quoting.{written}
 use Rattle.command_groups.specs.declared.plan.NvccGeneratedSubcommand.{NvccGeneratedSubcommand}

@@ -12,7 +12,7 @@ use crate::judging::{holds_text, holds_words, judge_groups};
 use crate::refusal::{Form, Refusal};
 use command_files::needs;
 use command_groups::{Dropped, NvccGeneratedSubcommand, Plan};
-use cuda_below::command::Cacheable;
+use compilers::command::Cacheable;
 use shell_words::push_quoted;
 use std::alloc::{AllocError, Global};
 use texts::decimal::push_number;

@@ -1,7 +1,7 @@
 -- A plan as JSON, version 1 of the format.
 use Rattle.std.specs.Prelude.{ℕ, ◌+◌, ◌-◌, ◌^◌, List, map, length, min, get_or, codes, Bool, true, false}
-use Rattle.cuda_below.specs.declared.command.Cacheable.{Cacheable}
-use Rattle.cuda_below.specs.declared.command.Cacheable.TheVariants.{Yes, No}
+use Rattle.compilers.specs.declared.command.Cacheable.{Cacheable}
+use Rattle.compilers.specs.declared.command.Cacheable.TheVariants.{Yes, No}
 use Rattle.command_groups.specs.declared.origins.Origin.{Origin}
 use Rattle.command_groups.specs.declared.origins.PlanWithOrigins.{PlanWithOrigins}
 use Rattle.command_groups.specs.declared.plan.NvccGeneratedSubcommand.{NvccGeneratedSubcommand}

@@ -13,7 +13,7 @@ ghost use Rattle.command_files.specs.Numbered.{of_group, of_groups};
 
 use command_files::{CommandFiles, files_of, needs};
 use command_groups::{Dropped, NvccGeneratedSubcommand, Origin, PlanWithOrigins};
-use cuda_below::command::Cacheable;
+use compilers::command::Cacheable;
 use serde_json::{Map, Value, push, put};
 use std::alloc::{AllocError, Global};
 

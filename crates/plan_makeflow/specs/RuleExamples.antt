@@ -1,7 +1,7 @@
 -- The rules of a real plan for two targets, and what two of them run, worked out by hand.
 use Rattle.std.specs.Prelude.{◌≡◌, ℕ, List, [], ◌∷◌, Bool, true, false, map, codes, refl}
 use Rattle.std.specs.Str.{chars, is_utf8}
-use Rattle.cuda_below.specs.declared.command.Cacheable.TheVariants.{Yes}
+use Rattle.compilers.specs.declared.command.Cacheable.TheVariants.{Yes}
 use Rattle.texts.specs.Rows.{spaced}
 use Rattle.command_groups.specs.declared.plan.NvccGeneratedSubcommand.{NvccGeneratedSubcommand}
 use Rattle.command_files.specs.PlanNeeds.{object_plan}

@@ -3,8 +3,8 @@ use Rattle.std.specs.Prelude.{ℕ, List, [], ◌∷◌, ◌++◌, Bool, true, fa
 use Rattle.std.specs.List.{list_all}
 use Rattle.std.specs.Str.{bytes_eq}
 use Rattle.shell_words.specs.Shell.Quoting.{written}
-use Rattle.cuda_below.specs.declared.command.Cacheable.{Cacheable}
-use Rattle.cuda_below.specs.declared.command.Cacheable.TheVariants.{Yes, No}
+use Rattle.compilers.specs.declared.command.Cacheable.{Cacheable}
+use Rattle.compilers.specs.declared.command.Cacheable.TheVariants.{Yes, No}
 use Rattle.command_groups.specs.declared.plan.NvccGeneratedSubcommand.{NvccGeneratedSubcommand}
 use Rattle.command_groups.specs.declared.plan.Plan.{Plan}
 use Rattle.command_files.specs.declared.files.CommandFiles.{CommandFiles}

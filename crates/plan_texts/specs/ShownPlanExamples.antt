@@ -1,7 +1,7 @@
 -- Texts of plans, worked out by hand.
 use Rattle.std.proofs.Common.{◌≡◌, ℕ, List, [], ◌∷◌, ◌++◌, codes, refl}
 use Rattle.std.specs.List.{flat_map}
-use Rattle.cuda_below.specs.declared.compiler.NvccHostCompiler.TheVariants.{Gcc}
+use Rattle.compilers.specs.declared.compiler.NvccHostCompiler.TheVariants.{Gcc}
 use Rattle.command_groups.specs.Plan.{plan_of}
 use Rattle.dry_runs.specs.OneKernel.{at, commands_of}
 use Rattle.command_groups.specs.PlanExamples.{setting, plan_of_both, step_and_cicc_twice}

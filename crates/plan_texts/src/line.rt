@@ -5,9 +5,9 @@ ghost use Rattle.texts.specs.Fault.{UnlessMemory};
 ghost use Rattle.plan_texts.specs.Shown as spec;
 
 use crate::tool::Tool;
-use cuda_below::arguments::{CompilerArguments, ParsedArguments};
-use cuda_below::command::CompileCommandImpl;
-use cuda_below::compiler::{CCompilerImpl, Places};
+use compilers::arguments::{CompilerArguments, ParsedArguments};
+use compilers::command::CompileCommandImpl;
+use compilers::compiler::{CCompilerImpl, Places};
 use device_lines::cicc::Cicc;
 use device_lines::cudafe::CudaFE;
 use device_lines::ptxas::Ptxas;

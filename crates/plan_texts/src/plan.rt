@@ -5,7 +5,7 @@ ghost use Rattle.std.specs.List.{flat_map};
 ghost use Rattle.plan_texts.specs.ShownPlan as spec;
 
 use command_groups::{Dropped, NvccGeneratedSubcommand, Plan};
-use cuda_below::command::Cacheable;
+use compilers::command::Cacheable;
 use std::alloc::{AllocError, Global};
 use texts::decimal::push_number;
 

@@ -1,6 +1,6 @@
 -- The text that a program writes for two dry runs.
 use Rattle.std.specs.Prelude.{ℕ, List, [], ◌++◌, if◌then◌else◌, ◌⊎◌, Option, Some, None, Result, Ok, Err}
-use Rattle.cuda_below.specs.declared.compiler.NvccHostCompiler.TheVariants.{Gcc}
+use Rattle.compilers.specs.declared.compiler.NvccHostCompiler.TheVariants.{Gcc}
 use Rattle.texts.specs.declared.fault.Fault.{Fault}
 use Rattle.texts.specs.declared.fault.Fault.TheVariants.{BadSuffixes, Memory, Read}
 use Rattle.canonical_names.specs.Generated.{standard_suffixes}

@@ -13,7 +13,7 @@ use crate::delivery::deliver;
 use crate::file::Sources;
 use crate::planning::plan_dry_runs;
 use crate::stop::Stop;
-use cuda_below::compiler::NvccHostCompiler;
+use compilers::compiler::NvccHostCompiler;
 use dry_runs::FirstDir;
 use plan_texts::{Tool, show_line, show_plan};
 use std::alloc::Global;

@@ -8,7 +8,7 @@ ghost use Rattle.programs.specs.PlanText as spec;
 
 use canonical_names::Suffixes;
 use command_groups::{Plan, group_nvcc_subcommands_by_compilation_stage};
-use cuda_below::compiler::NvccHostCompiler;
+use compilers::compiler::NvccHostCompiler;
 use dry_runs::Which;
 use std::alloc::{AllocError, Global};
 use texts::fault::Fault;

@@ -1,7 +1,7 @@
 //! Values that callers make and copy. The contracts say what each call returns unless an allocation fails. These tests show
 //! that the calls succeed if there is memory.
 
-use cuda_below::outputs::{ArtifactDescriptor, Outputs};
+use compilers::outputs::{ArtifactDescriptor, Outputs};
 use cuda_plans::cicc::Cicc;
 use cuda_plans::cudafe::CudaFE;
 use cuda_plans::nvcc::{Nvcc, NvccHostCompiler};

@@ -3,7 +3,7 @@
 use crate::reading;
 use crate::settings::Settings;
 use crate::tools::read;
-use cuda_below::arguments::{CompilerArguments, ParsedArguments};
+use compilers::arguments::{CompilerArguments, ParsedArguments};
 use device_lines::cicc;
 use std::alloc::Global;
 use std::fs::Files;

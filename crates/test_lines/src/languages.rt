@@ -1,12 +1,12 @@
 //! Calls on languages, and on compilers without a line.
 
 use crate::names::{language_name, language_named};
-use cuda_below::compiler::{CCompilerImpl, CCompilerKind, NvccHostCompiler};
-use cuda_below::gcc::language_to_gcc_arg;
+use compilers::compiler::{CCompilerImpl, CCompilerKind, NvccHostCompiler};
 use cuda_plans::nvcc::Nvcc;
 use device_lines::cicc::Cicc;
 use device_lines::cudafe::CudaFE;
 use device_lines::ptxas::Ptxas;
+use gcc_lines::gcc::language_to_gcc_arg;
 use host_lines::nvhpc::Nvhpc;
 use std::alloc::Global;
 use test_tables::{Answer, Case, CaseError};

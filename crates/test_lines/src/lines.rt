@@ -3,8 +3,8 @@
 use crate::settings::Settings;
 use crate::tools::{Written, preprocess, read, write};
 use crate::{reading, writing};
-use cuda_below::arguments::{CompilerArguments, ParsedArguments};
-use cuda_below::command::{Cacheable, CompileCommandImpl, SingleCompileCommand};
+use compilers::arguments::{CompilerArguments, ParsedArguments};
+use compilers::command::{Cacheable, CompileCommandImpl, SingleCompileCommand};
 use std::alloc::Global;
 use test_tables::{Answer, Case, CaseError, debugged, refused};
 use texts::fault::Fault;

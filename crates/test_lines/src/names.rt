@@ -1,7 +1,7 @@
 //! The names that cases use for languages, kinds of options and forms of values.
 
-use cuda_below::gcc;
 use device_lines::cicc;
+use gcc_lines::gcc;
 use option_items::table::ArgDisposition;
 use std::alloc::{AllocError, Global};
 use test_tables::CaseError;

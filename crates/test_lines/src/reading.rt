@@ -1,8 +1,8 @@
 //! Parsed lines, as facts.
 
 use crate::names::language_name;
-use cuda_below::arguments::{ColorMode, CompilerArguments, ParsedArguments};
-use cuda_below::outputs::{ArtifactDescriptor, Outputs};
+use compilers::arguments::{ColorMode, CompilerArguments, ParsedArguments};
+use compilers::outputs::{ArtifactDescriptor, Outputs};
 use std::alloc::{AllocError, Global};
 use test_tables::{Answer, CaseError};
 use texts::text::Text;

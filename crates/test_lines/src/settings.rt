@@ -2,9 +2,9 @@
 
 use crate::names::language_named;
 use crate::tools::{Tool, tool_named};
-use cuda_below::arguments::ParsedArguments;
-use cuda_below::compiler::Places;
-use cuda_below::outputs::Outputs;
+use compilers::arguments::ParsedArguments;
+use compilers::compiler::Places;
+use compilers::outputs::Outputs;
 use std::alloc::Global;
 use test_tables::{Case, CaseError};
 use texts::language::Language;

@@ -1,8 +1,8 @@
 //! Calls on option tables, and on the items that a table finds in a line.
 
 use crate::names::{Named, form_name};
-use cuda_below::gcc;
 use device_lines::{cicc, cudafe, ptxas};
+use gcc_lines::gcc;
 use host_lines::{nvcc, nvhpc};
 use option_items::items::{ArgsIter, Argument, NormalizedDisposition};
 use option_items::table::{ArgDisposition, ArgInfo, Pair, SearchableArgInfo, Table};

@@ -2,14 +2,14 @@
 
 use crate::names::language_named;
 use crate::settings::Settings;
-use cuda_below::arguments::{CompilerArguments, ParsedArguments};
-use cuda_below::command::{Cacheable, SingleCompileCommand};
-use cuda_below::compiler::{CCompilerImpl, CCompilerKind, NvccHostCompiler};
-use cuda_below::gcc;
+use compilers::arguments::{CompilerArguments, ParsedArguments};
+use compilers::command::{Cacheable, SingleCompileCommand};
+use compilers::compiler::{CCompilerImpl, CCompilerKind, NvccHostCompiler};
 use cuda_plans::nvcc::{Nvcc, NvccCompileCommand};
 use device_lines::cicc::{self, Cicc};
 use device_lines::cudafe::CudaFE;
 use device_lines::ptxas::Ptxas;
+use gcc_lines::gcc;
 use host_lines::nvhpc::Nvhpc;
 use option_items::table::{ArgInfo, Pair, Table};
 use std::alloc::{AllocError, Global};

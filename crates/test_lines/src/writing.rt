@@ -1,8 +1,8 @@
 //! Written commands, as facts.
 
 use crate::tools::Written;
-use cuda_below::command::{Cacheable, CompileCommandImpl, SingleCompileCommand};
-use cuda_below::compiler::NvccHostCompiler;
+use compilers::command::{Cacheable, CompileCommandImpl, SingleCompileCommand};
+use compilers::compiler::NvccHostCompiler;
 use cuda_plans::nvcc::NvccCompileCommand;
 use std::alloc::{AllocError, Global};
 use test_tables::{Answer, CaseError, refused};

@@ -6,7 +6,7 @@ use command_groups::{
     Plan, group_nvcc_subcommands_by_compilation_stage,
     group_nvcc_subcommands_by_compilation_stage_within,
 };
-use cuda_below::compiler::NvccHostCompiler;
+use compilers::compiler::NvccHostCompiler;
 use cuda_plans::nvcc::NvccCompileCommand;
 use dry_runs::{FirstDir, LimitedFault};
 use programs::{Stop as PlanStop, write_plan};

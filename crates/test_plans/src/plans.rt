@@ -6,7 +6,7 @@ use crate::limits::refused_within;
 use crate::plan_settings::PlanSettings;
 use crate::runs::refused_at;
 use command_groups::{Dropped, NvccGeneratedSubcommand, Plan};
-use cuda_below::command::Cacheable;
+use compilers::command::Cacheable;
 use dry_runs::LimitedFault;
 use programs::Stop as PlanStop;
 use std::alloc::{AllocError, Global};

@@ -19,7 +19,7 @@ ghost use Rattle.zigrunk.specs.Exports as spec;
 
 use crate::directory::is_plain;
 use command_groups::{NvccGeneratedSubcommand, Plan, PlanWithOrigins, plan_of_parsed};
-use cuda_below::compiler::NvccHostCompiler;
+use compilers::compiler::NvccHostCompiler;
 use dry_runs::{ParsedRuns, Which};
 use plan_exports::{Refusal, ninja_file, shell_script};
 use plan_graphs::dot_text;

@@ -6,8 +6,8 @@ ghost use Rattle.texts.specs.Fault.{UnlessMemory};
 ghost use Rattle.host_lines.specs.Preprocess as spec;
 
 use super::Nvcc;
-use cuda_below::arguments::ParsedArguments;
-use cuda_below::command::SingleCompileCommand;
+use compilers::arguments::ParsedArguments;
+use compilers::command::SingleCompileCommand;
 use host_lines::nvcc;
 use std::alloc::Global;
 use texts::fault::Fault;

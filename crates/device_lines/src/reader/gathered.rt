@@ -4,15 +4,15 @@ ghost use Rattle.std.specs.Prelude.{◌≡◌, ◌∷◌, [], true, false, IfOk,
 ghost use Rattle.std.specs.List.{fold};
 ghost use Rattle.option_items.specs.Items.{items};
 ghost use Rattle.option_items.specs.Views.{item_seen, item_viewed};
-ghost use Rattle.cuda_below.specs.Arguments.{plain_arguments};
-ghost use Rattle.cuda_below.specs.Compiler.{accepted, reading_of};
-ghost use Rattle.cuda_below.specs.Outputs.{with_entry};
+ghost use Rattle.compilers.specs.Arguments.{plain_arguments};
+ghost use Rattle.compilers.specs.Compiler.{accepted, reading_of};
+ghost use Rattle.compilers.specs.Outputs.{with_entry};
 ghost use Rattle.texts.specs.Path.{joined};
 ghost use Rattle.device_lines.specs.Reading as spec;
 
 use crate::options::ArgData;
-use cuda_below::arguments::{CompilerArguments, ParsedArguments};
-use cuda_below::outputs::{ArtifactDescriptor, OBJ, Outputs};
+use compilers::arguments::{CompilerArguments, ParsedArguments};
+use compilers::outputs::{ArtifactDescriptor, OBJ, Outputs};
 use option_items::items::{ArgParseError, Line};
 use option_items::table::SearchableArgInfo;
 use option_items::views::{ArgumentView, view_item};

@@ -2,10 +2,10 @@
 
 ghost use Rattle.std.specs.Prelude.{◌≡◌, true, map};
 ghost use Rattle.option_items.specs.Table.{entry_of};
-ghost use Rattle.cuda_below.specs.GccOptions.{differ};
+ghost use Rattle.gcc_lines.specs.GccOptions.{differ};
 ghost use Rattle.host_lines.specs.NvccOptions.{nvcc_options};
 
-use cuda_below::gcc::ArgData;
+use gcc_lines::gcc::ArgData;
 use option_items::entries;
 use option_items::table::{ArgInfo, EITHER_WAY, EITHER_WAY_OR_EQUALS, JOINED, SEPARATED, Table};
 

@@ -8,10 +8,10 @@ ghost use Rattle.host_lines.specs.Preprocess as spec;
 
 use super::environment::without_flags;
 use crate::preprocess::{commands, common_command, refused};
-use cuda_below::arguments::ParsedArguments;
-use cuda_below::command::SingleCompileCommand;
-use cuda_below::compiler::NvccHostCompiler;
-use cuda_below::gcc::language_to_gcc_arg;
+use compilers::arguments::ParsedArguments;
+use compilers::command::SingleCompileCommand;
+use compilers::compiler::NvccHostCompiler;
+use gcc_lines::gcc::language_to_gcc_arg;
 use indexmap::IndexSet;
 use std::alloc::{AllocError, Global};
 use texts::fault::Fault;

@@ -8,9 +8,9 @@ ghost use Rattle.host_lines.specs.Preprocess as spec;
 
 use super::Nvhpc;
 use crate::preprocess::{commands, common_command, refused};
-use cuda_below::arguments::ParsedArguments;
-use cuda_below::command::SingleCompileCommand;
-use cuda_below::gcc::language_to_gcc_arg;
+use compilers::arguments::ParsedArguments;
+use compilers::command::SingleCompileCommand;
+use gcc_lines::gcc::language_to_gcc_arg;
 use std::alloc::{AllocError, Global};
 use texts::fault::Fault;
 use texts::language::Language;

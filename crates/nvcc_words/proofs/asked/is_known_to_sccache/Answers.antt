@@ -1,7 +1,7 @@
 use Rattle.std.proofs.Common.{◌≡◌, ◌∙◌, ap, refl, map, is_some, Option, Some, None, option_map, option_copied, Bor}
 use Rattle.option_items.specs.declared.table.ArgInfo.{ArgInfo}
 use Rattle.option_items.specs.Table.{entry_of, longest_of_two}
-use Rattle.cuda_below.specs.GccOptions.{gcc_entries}
+use Rattle.gcc_lines.specs.GccOptions.{gcc_entries}
 use Rattle.nvcc_words.specs.Asked.{known_entries}
 use Rattle.nvcc_words.proofs.asked.is_known_to_sccache.Goals as goal
 

@@ -1,7 +1,7 @@
 use Rattle.std.proofs.Common.{◌≡◌, List, map, string_bytes, subst}
 use Rattle.std.specs.Result.{IfOk}
 use Rattle.texts.specs.declared.language.Language.TheVariants as languages
-use Rattle.cuda_below.specs.Compiler.{reading_of}
+use Rattle.compilers.specs.Compiler.{reading_of}
 use Rattle.option_items.specs.Table.{Entry}
 use Rattle.device_lines.specs.declared.options.ArgData.{ArgData}
 use Rattle.device_lines.specs.Reading.{tool_reading}

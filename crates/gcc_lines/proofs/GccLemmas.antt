@@ -1,0 +1,188 @@
+-- A gcc command line read item by item.
+use Rattle.std.proofs.Common.{◌≡◌, ℕ, Bool, true, false, cond, ◌||◌, List, [], ◌∷◌, ◌++◌, map, fold, Option, Some, None, Result, Ok, Err, ◌≤◌, length, arith, refl, ap, sym, ◌∙◌, append_assoc, append-nil}
+use Rattle.std.specs.List.{list_any}
+use Rattle.std.specs.Option.{option_or}
+use Rattle.gcc_lines.specs.declared.gcc.options.ArgData.{ArgData}
+use Rattle.gcc_lines.specs.declared.gcc.options.ArgData.TheVariants.{TooHard, TooHardFlag, PassThrough, PassThroughFlag, PreprocessorArgument, PreprocessorArgumentFlag, PreprocessorArgumentPath, DepArgumentPath, DepTarget, NeedDepTarget, DoCompilation, Output, Language, Arch, Standard, ExtraHashFile, Unhashed, UnhashedFlag}
+use Rattle.option_items.specs.declared.table.ArgDisposition.{ArgDisposition}
+use Rattle.texts.specs.Path.{joined}
+use Rattle.option_items.specs.Table.{Entry}
+use Rattle.option_items.specs.Items.{Item, raw, unknown_flag, flag, with_value, faulty, Said, item, option, said_of, last_item, separate_item, joined_form, may_stand_last, Completes, normal_form, value_words}
+use Rattle.gcc_lines.specs.GccItems.{Asked, is_double_dash, items_to_dashes, has_double_dash, first_refusal, refusal_of, words_to, inputs, common, preprocessor, unhashed, architectures, dependencies, hash_files, language_said, flag_said, output_said, dependency_file_said, target_said, needs_target_item, written_form}
+use Rattle.gcc_lines.specs.GccSteps.{with_option, with_item}
+use Rattle.gcc_lines.specs.Gcc.{unless_refused}
+use Rattle.option_items.proofs.ItemLemmas.{items-completed}
+
+-- the last thing said, after another
+abbrev said_after : {A B : Type 0} → (A → Option B) → Option B → List A → Option B
+said_after say before is = fold (λ so_far i. option_or (say i) so_far) before is
+
+-- what a line asks for whose first items asked for this, of the items that are left
+abbrev pub added : List ℕ → Asked → Bool → List (Item ArgData) → Asked
+added cwd g dashes is = record {
+  inputs = g.inputs ++ words_to inputs is;
+  double_dash_input = g.double_dash_input || dashes;
+  language = said_after language_said g.language is;
+  compilation_flag = said_after flag_said g.compilation_flag is;
+  obj = said_after output_said g.obj is;
+  dependency_file = said_after dependency_file_said g.dependency_file is;
+  target_needed = g.target_needed || list_any needs_target_item is;
+  target = said_after target_said g.target is;
+  common_args = g.common_args ++ words_to common is;
+  preprocessor_args = g.preprocessor_args ++ words_to preprocessor is;
+  arch_args = g.arch_args ++ words_to architectures is;
+  unhashed_args = g.unhashed_args ++ words_to unhashed is;
+  dependency_args = g.dependency_args ++ words_to dependencies is;
+  extra_hash_files = g.extra_hash_files ++ hash_files cwd is;
+}
+
+or-true : (b : Bool) → (b || true) ≡ true
+or-true true = refl
+or-true false = refl
+
+or-false : (b : Bool) → (b || false) ≡ b
+or-false true = refl
+or-false false = refl
+
+module _ (cwd : List ℕ) where
+  -- one more flag
+  flag-added : (g : Asked) (dashes : Bool) (text : List ℕ) (kind : ArgData) (is : List (Item ArgData)) → added cwd (with_option cwd g text [] (text ∷ []) kind) dashes is ≡ added cwd g dashes (flag text kind ∷ is)
+  flag-added g dashes text TooHard is = refl
+  flag-added g dashes text TooHardFlag is = refl
+  flag-added g dashes text PassThrough is = rw (append_assoc g.common_args (text ∷ []) (words_to common is)) refl
+  flag-added g dashes text PassThroughFlag is = rw (append_assoc g.common_args (text ∷ []) (words_to common is)) refl
+  flag-added g dashes text PreprocessorArgument is = rw (append_assoc g.preprocessor_args (text ∷ []) (words_to preprocessor is)) refl
+  flag-added g dashes text PreprocessorArgumentFlag is = rw (append_assoc g.preprocessor_args (text ∷ []) (words_to preprocessor is)) refl
+  flag-added g dashes text PreprocessorArgumentPath is = rw (append_assoc g.preprocessor_args (text ∷ []) (words_to preprocessor is)) refl
+  flag-added g dashes text DepArgumentPath is = rw (append_assoc g.dependency_args (text ∷ []) (words_to dependencies is)) refl
+  flag-added g dashes text DepTarget is = refl
+  flag-added g dashes text NeedDepTarget is = rw (append_assoc g.dependency_args (text ∷ []) (words_to dependencies is), or-true g.target_needed) refl
+  flag-added g dashes text DoCompilation is = refl
+  flag-added g dashes text Output is = refl
+  flag-added g dashes text Language is = refl
+  flag-added g dashes text Arch is = rw (append_assoc g.arch_args (text ∷ []) (words_to architectures is)) refl
+  flag-added g dashes text Standard is = rw (append_assoc g.common_args (text ∷ []) (words_to common is)) refl
+  flag-added g dashes text ExtraHashFile is = rw (append_assoc g.common_args (text ∷ []) (words_to common is), append_assoc g.extra_hash_files (joined cwd [] ∷ []) (hash_files cwd is)) refl
+  flag-added g dashes text Unhashed is = rw (append_assoc g.unhashed_args (text ∷ []) (words_to unhashed is)) refl
+  flag-added g dashes text UnhashedFlag is = rw (append_assoc g.unhashed_args (text ∷ []) (words_to unhashed is)) refl
+
+  -- the words of an option as it is written
+  abbrev option_words : List ℕ → List ℕ → ArgDisposition → List (List ℕ)
+  option_words text value form = value_words text value (normal_form (written_form (Some text)) form)
+
+  -- one more option with a value
+  value-added : (g : Asked) (dashes : Bool) (text value : List ℕ) (form : ArgDisposition) (kind : ArgData) (is : List (Item ArgData)) → added cwd (with_option cwd g text value (option_words text value form) kind) dashes is ≡ added cwd g dashes (with_value text kind value form ∷ is)
+  value-added g dashes text value form TooHard is = refl
+  value-added g dashes text value form TooHardFlag is = refl
+  value-added g dashes text value form PassThrough is = rw (append_assoc g.common_args (option_words text value form) (words_to common is)) refl
+  value-added g dashes text value form PassThroughFlag is = rw (append_assoc g.common_args (option_words text value form) (words_to common is)) refl
+  value-added g dashes text value form PreprocessorArgument is = rw (append_assoc g.preprocessor_args (option_words text value form) (words_to preprocessor is)) refl
+  value-added g dashes text value form PreprocessorArgumentFlag is = rw (append_assoc g.preprocessor_args (option_words text value form) (words_to preprocessor is)) refl
+  value-added g dashes text value form PreprocessorArgumentPath is = rw (append_assoc g.preprocessor_args (option_words text value form) (words_to preprocessor is)) refl
+  value-added g dashes text value form DepArgumentPath is = rw (append_assoc g.dependency_args (option_words text value form) (words_to dependencies is)) refl
+  value-added g dashes text value form DepTarget is = refl
+  value-added g dashes text value form NeedDepTarget is = rw (append_assoc g.dependency_args (option_words text value form) (words_to dependencies is), or-true g.target_needed) refl
+  value-added g dashes text value form DoCompilation is = refl
+  value-added g dashes text value form Output is = refl
+  value-added g dashes text value form Language is = refl
+  value-added g dashes text value form Arch is = rw (append_assoc g.arch_args (option_words text value form) (words_to architectures is)) refl
+  value-added g dashes text value form Standard is = rw (append_assoc g.common_args (option_words text value form) (words_to common is)) refl
+  value-added g dashes text value form ExtraHashFile is = rw (append_assoc g.common_args (option_words text value form) (words_to common is), append_assoc g.extra_hash_files (joined cwd value ∷ []) (hash_files cwd is)) refl
+  value-added g dashes text value form Unhashed is = rw (append_assoc g.unhashed_args (option_words text value form) (words_to unhashed is)) refl
+  value-added g dashes text value form UnhashedFlag is = rw (append_assoc g.unhashed_args (option_words text value form) (words_to unhashed is)) refl
+
+  -- one more item
+  item-added : (g : Asked) (dashes : Bool) (i : Item ArgData) (is : List (Item ArgData)) → added cwd (with_item cwd g i) dashes is ≡ added cwd g dashes (i ∷ is)
+  item-added g dashes (raw word) is = rw (append_assoc g.inputs (word ∷ []) (words_to inputs is)) refl
+  item-added g dashes (unknown_flag word) is = rw (append_assoc g.common_args (word ∷ []) (words_to common is)) refl
+  item-added g dashes (flag text kind) is = flag-added g dashes text kind is
+  item-added g dashes (with_value text kind value form) is = value-added g dashes text value form kind is
+  item-added g dashes faulty is = refl
+
+  -- no more items
+  added-nothing : (g : Asked) → added cwd g false [] ≡ g
+  added-nothing g = rw (append-nil g.inputs, append-nil g.common_args, append-nil g.preprocessor_args, append-nil g.arch_args, append-nil g.unhashed_args, append-nil g.dependency_args, append-nil g.extra_hash_files, or-false g.double_dash_input, or-false g.target_needed) refl
+
+-- what a line asks for whose first items asked for this, of the words that are left
+abbrev pub gathering_after : (List ℕ → Option (Entry ArgData)) → List ℕ → Asked → List (List ℕ) → Result Asked (List ℕ)
+gathering_after chosen cwd g line =
+    let is = items_to_dashes chosen line in
+    unless_refused (first_refusal is) (added cwd g (has_double_dash chosen line) is)
+
+-- the words after `--`
+first_refusal-raw : (line : List (List ℕ)) → first_refusal (map raw line) ≡ None
+first_refusal-raw [] = refl
+first_refusal-raw (w ∷ line) = first_refusal-raw line
+
+added-raw : (cwd : List ℕ) (g : Asked) (line : List (List ℕ)) → added cwd g true (map raw line) ≡ record g { inputs = g.inputs ++ line; double_dash_input = true }
+added-raw cwd g [] = rw (append-nil g.inputs, append-nil g.common_args, append-nil g.preprocessor_args, append-nil g.arch_args, append-nil g.unhashed_args, append-nil g.dependency_args, append-nil g.extra_hash_files, or-true g.double_dash_input, or-false g.target_needed) refl
+added-raw cwd g (w ∷ line) =
+    sym (item-added cwd g true (raw w) (map raw line))
+    ∙ added-raw cwd (with_item cwd g (raw w)) line
+    ∙ ap (λ (ws : List (List ℕ)). record g { inputs = ws; double_dash_input = true }) (append_assoc g.inputs (w ∷ []) line)
+
+-- an option is no `--`
+last_item-dashes : (e : Entry ArgData) → is_double_dash (last_item e) ≡ false
+last_item-dashes e = elim (may_stand_last e.form) as (λ b. is_double_dash (cond b (with_value e.text e.kind [] (joined_form e.form)) faulty) ≡ false) [ true ↦ refl | false ↦ refl ]
+
+-- an item leaves no more words than there were
+pub words-completed : (s : Said ArgData) (before : List (List ℕ)) (i : Item ArgData) (after : List (List ℕ)) → Completes s before i after → length after ≤ length before
+words-completed (item j) before i after h = rw h.1 (omega arith)
+words-completed (option e) [] i after h = rw h.1 (omega arith)
+words-completed (option e) (x ∷ rest) i after h = rw h.1 (omega arith)
+
+module _ (chosen : List ℕ → Option (Entry ArgData)) where
+  -- the items of a line that an item begins
+  abbrev begun : Item ArgData → List (List ℕ) → List (Item ArgData)
+  begun i after = cond (is_double_dash i) (map raw after) (i ∷ items_to_dashes chosen after)
+
+  last_begun : (s : Said ArgData) (i : Item ArgData) (after : List (List ℕ)) → Completes s [] i after → (elim s as (λ _. List (Item ArgData)) [ item j ↦ cond (is_double_dash j) [] (j ∷ []) | option e ↦ last_item e ∷ [] ]) ≡ begun i after
+  last_begun (item j) i after h = rw (h.0, h.1) refl
+  last_begun (option e) i after h = rw (h.0, h.1, last_item-dashes e) refl
+
+  next_begun : (s : Said ArgData) (x : List ℕ) (rest : List (List ℕ)) (i : Item ArgData) (after : List (List ℕ)) → Completes s (x ∷ rest) i after → (elim s as (λ _. List (Item ArgData)) [ item j ↦ cond (is_double_dash j) (map raw (x ∷ rest)) (j ∷ items_to_dashes chosen (x ∷ rest)) | option e ↦ separate_item e x ∷ items_to_dashes chosen rest ]) ≡ begun i after
+  next_begun (item j) x rest i after h = rw (h.0, h.1) refl
+  next_begun (option e) x rest i after h = rw (h.0, h.1) refl
+
+  items_to_dashes-completed : (w : List ℕ) (before : List (List ℕ)) (i : Item ArgData) (after : List (List ℕ)) → Completes (said_of w (chosen w)) before i after → items_to_dashes chosen (w ∷ before) ≡ begun i after
+  items_to_dashes-completed w [] i after h = last_begun (said_of w (chosen w)) i after h
+  items_to_dashes-completed w (x ∷ rest) i after h = next_begun (said_of w (chosen w)) x rest i after h
+
+  has_double_dash-completed : (w : List ℕ) (before : List (List ℕ)) (i : Item ArgData) (after : List (List ℕ)) → Completes (said_of w (chosen w)) before i after → has_double_dash chosen (w ∷ before) ≡ (is_double_dash i || has_double_dash chosen after)
+  has_double_dash-completed w before i after h = ap (list_any is_double_dash) (items-completed chosen w before i after h)
+
+  module _ (cwd : List ℕ) (g : Asked) (w : List ℕ) (before : List (List ℕ)) (i : Item ArgData) (after : List (List ℕ)) (h : Completes (said_of w (chosen w)) before i after) where
+    -- what a line asks for that an item begins which is no `--`
+    begun_by : is_double_dash i ≡ false → gathering_after chosen cwd g (w ∷ before) ≡ unless_refused (option_or (refusal_of i) (first_refusal (items_to_dashes chosen after))) (added cwd g (has_double_dash chosen after) (i ∷ items_to_dashes chosen after))
+    begun_by other =
+        let is : items_to_dashes chosen (w ∷ before) ≡ i ∷ items_to_dashes chosen after = items_to_dashes-completed w before i after h ∙ ap (λ b. cond b (map raw after) (i ∷ items_to_dashes chosen after)) other in
+        let dashes : has_double_dash chosen (w ∷ before) ≡ has_double_dash chosen after = has_double_dash-completed w before i after h ∙ ap (λ b. b || has_double_dash chosen after) other in
+        ap (λ (js : List (Item ArgData)). unless_refused (first_refusal js) (added cwd g (has_double_dash chosen (w ∷ before)) js)) is
+        ∙ ap (λ b. unless_refused (first_refusal (i ∷ items_to_dashes chosen after)) (added cwd g b (i ∷ items_to_dashes chosen after))) dashes
+
+    -- an item that doesn't refuse is taken
+    pub after_item : is_double_dash i ≡ false → refusal_of i ≡ None → gathering_after chosen cwd g (w ∷ before) ≡ gathering_after chosen cwd (with_item cwd g i) after
+    after_item other none =
+        begun_by other
+        ∙ ap (λ r. unless_refused (option_or r (first_refusal (items_to_dashes chosen after))) (added cwd g (has_double_dash chosen after) (i ∷ items_to_dashes chosen after))) none
+        ∙ ap (unless_refused (first_refusal (items_to_dashes chosen after))) (sym (item-added cwd g (has_double_dash chosen after) i (items_to_dashes chosen after)))
+
+    -- an item that refuses decides
+    pub after_refusal : (text : List ℕ) → is_double_dash i ≡ false → refusal_of i ≡ Some text → gathering_after chosen cwd g (w ∷ before) ≡ Err text
+    after_refusal text other some =
+        begun_by other
+        ∙ ap (λ r. unless_refused (option_or r (first_refusal (items_to_dashes chosen after))) (added cwd g (has_double_dash chosen after) (i ∷ items_to_dashes chosen after))) some
+
+    -- after `--` each word is an input
+    pub after_dashes : is_double_dash i ≡ true → gathering_after chosen cwd g (w ∷ before) ≡ Ok (record g { inputs = g.inputs ++ after; double_dash_input = true })
+    after_dashes dashes =
+        let is : items_to_dashes chosen (w ∷ before) ≡ map raw after = items_to_dashes-completed w before i after h ∙ ap (λ b. cond b (map raw after) (i ∷ items_to_dashes chosen after)) dashes in
+        let stands : has_double_dash chosen (w ∷ before) ≡ true = has_double_dash-completed w before i after h ∙ ap (λ b. b || has_double_dash chosen after) dashes in
+        ap (λ (js : List (Item ArgData)). unless_refused (first_refusal js) (added cwd g (has_double_dash chosen (w ∷ before)) js)) is
+        ∙ ap (λ b. unless_refused (first_refusal (map raw after)) (added cwd g b (map raw after))) stands
+        ∙ ap (λ r. unless_refused r (added cwd g true (map raw after))) (first_refusal-raw after)
+        ∙ ap Ok (added-raw cwd g after)
+
+  -- at the end of the line nothing is added
+  pub at_end : (cwd : List ℕ) (g : Asked) → gathering_after chosen cwd g [] ≡ Ok g
+  at_end cwd g = ap Ok (added-nothing cwd g)
