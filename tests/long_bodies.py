@@ -214,8 +214,8 @@ plans | command_groups/planning | group_nvcc_subcommands_by_compilation_stage_wi
 programs | command_groups/planning | plan_with_origins | dry1.len() > 10_000
 plans | command_groups/select | select_nvcc_subcommands before let commands | said.commands.as_slice().len() > 500
 plans | command_groups/select | select_nvcc_subcommands | env_vars.len() > 500
-plans | command_groups/plan | try_clone | self.args.len() > 50
-plans | command_groups/plan | try_clone | self.env_vars.len() > 50
+plans | plans/plan | try_clone | self.args.len() > 50
+plans | plans/plan | try_clone | self.env_vars.len() > 50
 
 plans | cuda_plans/nvcc/execution | execute before run_plan | plan.groups.as_slice().len() > 50 && self.num_parallel < 2
 plans | cuda_plans/nvcc/execution | execute before run_plan | plan.groups.as_slice().len() > 50 && self.num_parallel > 1

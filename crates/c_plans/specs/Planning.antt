@@ -2,7 +2,7 @@
 use Rattle.std.specs.Prelude.{ℕ, List, if◌then◌else◌, Result, Ok, Err}
 use Rattle.compilers.specs.declared.compiler.NvccHostCompiler.{NvccHostCompiler}
 use Rattle.texts.specs.declared.fault.Fault.{Fault}
-use Rattle.command_groups.specs.declared.origins.PlanWithOrigins.{PlanWithOrigins}
+use Rattle.plans.specs.declared.origins.PlanWithOrigins.{PlanWithOrigins}
 use Rattle.command_groups.specs.Origins.{planning_with_origins}
 use Rattle.command_groups.specs.Plan.{PlanSetting}
 use Rattle.command_groups.specs.PlanWithin.{planning_with_origins_within}

@@ -3,12 +3,12 @@ use Rattle.std.specs.Prelude.{◌≡◌, ◌⊎◌, ℕ, ◌+◌, ◌-◌, List,
 use Rattle.std.specs.List.{flat_map}
 use Rattle.compilers.specs.declared.command.Cacheable.{Cacheable}
 use Rattle.compilers.specs.declared.command.Cacheable.TheVariants.{Yes, No}
-use Rattle.command_groups.specs.declared.origins.Origin.{Origin}
-use Rattle.command_groups.specs.declared.origins.PlanWithOrigins.{PlanWithOrigins}
-use Rattle.command_groups.specs.declared.plan.Dropped.{Dropped}
-use Rattle.command_groups.specs.declared.plan.NvccGeneratedSubcommand.{NvccGeneratedSubcommand}
-use Rattle.command_groups.specs.declared.plan.Reason.{Reason}
-use Rattle.command_groups.specs.declared.plan.Reason.TheVariants.{NotCuda, NoCiccGroup, NoPtxasGroup, Superseded}
+use Rattle.plans.specs.declared.origins.Origin.{Origin}
+use Rattle.plans.specs.declared.origins.PlanWithOrigins.{PlanWithOrigins}
+use Rattle.plans.specs.declared.plan.Dropped.{Dropped}
+use Rattle.plans.specs.declared.plan.NvccGeneratedSubcommand.{NvccGeneratedSubcommand}
+use Rattle.plans.specs.declared.plan.Reason.{Reason}
+use Rattle.plans.specs.declared.plan.Reason.TheVariants.{NotCuda, NoCiccGroup, NoPtxasGroup, Superseded}
 use Rattle.plan_json.specs.Json.{origin_at}
 use Rattle.command_files.specs.Numbered.{of_groups}
 use Rattle.texts.specs.Variables.{pair_of}

@@ -1,7 +1,7 @@
 //! The commands of a plan as records.
 
 ghost use Rattle.std.specs.Prelude.{◌≡◌, ◌-◌, ◌∷◌, [], List, ℕ, IfOk, OnOk, length, map, vec_items};
-ghost use Rattle.command_groups.specs.declared.origins.Origin.{Origin};
+ghost use Rattle.plans.specs.declared.origins.Origin.{Origin};
 ghost use Rattle.plan_json.specs.Json.{origin_at};
 ghost use Rattle.command_files.specs.Numbered.{of_group, of_groups};
 ghost use Rattle.c_texts.specs.Outcomes.{of_texts};
@@ -11,8 +11,8 @@ use crate::record::GroupRecord;
 use crate::recorded::{Entry, Recorded};
 use crate::room::room_of;
 use c_texts::{Outcome, Range};
-use command_groups::{Dropped, NvccGeneratedSubcommand, Origin, PlanWithOrigins, Reason};
 use compilers::command::Cacheable;
+use plans::{Dropped, NvccGeneratedSubcommand, Origin, PlanWithOrigins, Reason};
 use std::alloc::{AllocError, Global};
 
 // The number of a reason.

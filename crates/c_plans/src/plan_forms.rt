@@ -6,10 +6,10 @@ ghost use Rattle.c_plans.specs.PlanForms as spec;
 
 use crate::refusal::written;
 use c_texts::Outcome;
-use command_groups::PlanWithOrigins;
 use plan_exports::{ninja_file, shell_script};
 use plan_json::json_text;
 use plan_texts::show_plan;
+use plans::PlanWithOrigins;
 use std::alloc::{AllocError, Global};
 
 /// The form that a plan is written in.

@@ -3,7 +3,7 @@
 ghost use Rattle.std.specs.Prelude.{◌≡◌, IfOk, Result};
 ghost use Rattle.dry_runs.specs.declared.limit.LimitedFault.{LimitedFault};
 ghost use Rattle.dry_runs.specs.Limit.{UnlessMemoryWithin};
-ghost use Rattle.command_groups.specs.declared.origins.PlanWithOrigins.{PlanWithOrigins};
+ghost use Rattle.plans.specs.declared.origins.PlanWithOrigins.{PlanWithOrigins};
 ghost use Rattle.c_texts.specs.Outcomes as outcomes;
 ghost use Rattle.c_plans.specs.Limits.{UnlessMemoryIsWithin, failed_within};
 ghost use Rattle.c_plans.specs.PlanRecords as spec;
@@ -16,9 +16,9 @@ use crate::planning::planned;
 use crate::record::{CommandRecord, GroupRecord, RecordsAnswer};
 use crate::recorded::{Recorded, give_records};
 use c_texts::{Range, Status, refused};
-use command_groups::PlanWithOrigins;
 use compilers::compiler::NvccHostCompiler;
 use dry_runs::LimitedFault;
+use plans::PlanWithOrigins;
 use std::alloc::{AllocError, Global};
 use texts::fault::Fault;
 

@@ -4,7 +4,7 @@ ghost use Rattle.std.specs.Prelude.{◌≡◌, fold, map, string_bytes, vec_item
 ghost use Rattle.texts.specs.Variables.{pair_of};
 ghost use Rattle.c_plans.specs.Rooms as spec;
 
-use command_groups::{Dropped, NvccGeneratedSubcommand, Plan};
+use plans::{Dropped, NvccGeneratedSubcommand, Plan};
 
 /// How many texts there are, and the bytes of all. A sum that no number can hold is the largest number.
 #[derive(Clone, Copy)]

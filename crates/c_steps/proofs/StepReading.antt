@@ -3,7 +3,7 @@ use Rattle.std.proofs.Common.{◌≡◌, ◌++◌, ◌+◌, ◌∷◌, [], ℕ, 
 use Rattle.std.specs.Prelude.{◌-◌, nat_le, if◌then◌else◌}
 use Rattle.std.specs.List.{flat_map}
 use Rattle.command_files.specs.PlanNeeds.{plan_files, plan_needs, preprocesses}
-use Rattle.command_groups.specs.declared.plan.NvccGeneratedSubcommand.{NvccGeneratedSubcommand}
+use Rattle.plans.specs.declared.plan.NvccGeneratedSubcommand.{NvccGeneratedSubcommand}
 use Rattle.c_texts.proofs.RangeLemmas.{cut_behind}
 use Rattle.c_texts.proofs.TextLemmas.{ranges-length, texts-then}
 use Rattle.c_texts.specs.Memory.{cut}

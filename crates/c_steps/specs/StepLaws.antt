@@ -1,6 +1,6 @@
 -- What holds of the records of a plan's commands.
 use Rattle.std.specs.Prelude.{◌≡◌, ℕ, List, ◌==◌, map}
-use Rattle.command_groups.specs.declared.origins.PlanWithOrigins.{PlanWithOrigins}
+use Rattle.plans.specs.declared.origins.PlanWithOrigins.{PlanWithOrigins}
 use Rattle.c_texts.specs.Memory.{cut}
 use Rattle.c_plans.specs.RecordsRead.{HasOrigins, part, plan_in}
 use Rattle.c_steps.specs.declared.step_record.StepRecord.{StepRecord}

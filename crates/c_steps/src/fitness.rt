@@ -4,7 +4,7 @@ ghost use Rattle.std.specs.Prelude.{◌≡◌, map, vec_items};
 ghost use Rattle.std.specs.Option.{option_map};
 ghost use Rattle.c_steps.specs.Fitness as spec;
 
-use command_groups::NvccGeneratedSubcommand;
+use plans::NvccGeneratedSubcommand;
 use programs::is_dry_run;
 
 // Whether a flag is one of those that nvcc's calls have.

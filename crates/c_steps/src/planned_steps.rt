@@ -3,7 +3,7 @@
 ghost use Rattle.std.specs.Prelude.{◌≡◌, IfOk, Result};
 ghost use Rattle.dry_runs.specs.declared.limit.LimitedFault.{LimitedFault};
 ghost use Rattle.dry_runs.specs.Limit.{UnlessMemoryWithin};
-ghost use Rattle.command_groups.specs.declared.origins.PlanWithOrigins.{PlanWithOrigins};
+ghost use Rattle.plans.specs.declared.origins.PlanWithOrigins.{PlanWithOrigins};
 ghost use Rattle.c_plans.specs.PlanCalls.{texts_seen};
 ghost use Rattle.c_steps.specs.Fitness.{misfit_seen};
 ghost use Rattle.c_steps.specs.Places.{given_seen};
@@ -22,9 +22,9 @@ use c_plans::{
     texts_of,
 };
 use c_texts::{Range, Status, refused, refused_with};
-use command_groups::PlanWithOrigins;
 use compilers::compiler::NvccHostCompiler;
 use dry_runs::LimitedFault;
+use plans::PlanWithOrigins;
 use std::alloc::{AllocError, Global};
 use texts::fault::Fault;
 

@@ -11,7 +11,7 @@ use crate::stepped::{Extra, Stepped};
 use crate::tool::tool_of;
 use c_plans::{Recorded, records_of};
 use command_files::{CommandFiles, files_and_needs, files_of};
-use command_groups::{NvccGeneratedSubcommand, Plan, PlanWithOrigins};
+use plans::{NvccGeneratedSubcommand, Plan, PlanWithOrigins};
 use std::alloc::{AllocError, Global};
 
 /// What is known of all commands of a plan.

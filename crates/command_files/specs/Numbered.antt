@@ -1,6 +1,6 @@
 -- The commands of a plan with their numbers: in plan order, from 0, and those of their groups.
 use Rattle.std.specs.Prelude.{ℕ, ◌+◌, List, [], ◌∷◌, ◌++◌, length}
-use Rattle.command_groups.specs.declared.plan.NvccGeneratedSubcommand.{NvccGeneratedSubcommand}
+use Rattle.plans.specs.declared.plan.NvccGeneratedSubcommand.{NvccGeneratedSubcommand}
 
 module _ {X : Type 0} (described : ℕ → ℕ → NvccGeneratedSubcommand → X) where
   -- the commands of a group from a number on, each described by its number and that of its group

@@ -5,8 +5,8 @@ use Rattle.std.specs.Str.{bytes_eq}
 use Rattle.texts.specs.Path.{file_stem_of}
 use Rattle.texts.specs.Rows.{spaced}
 use Rattle.compilers.specs.declared.command.Cacheable.TheVariants.{Yes}
-use Rattle.command_groups.specs.declared.plan.NvccGeneratedSubcommand.{NvccGeneratedSubcommand}
-use Rattle.command_groups.specs.declared.plan.Plan.{Plan}
+use Rattle.plans.specs.declared.plan.NvccGeneratedSubcommand.{NvccGeneratedSubcommand}
+use Rattle.plans.specs.declared.plan.Plan.{Plan}
 use Rattle.command_files.specs.declared.files.CommandFiles.{CommandFiles}
 use Rattle.command_files.specs.declared.files.Tool.{Tool}
 use Rattle.command_files.specs.declared.files.Tool.TheVariants as tools

@@ -7,13 +7,13 @@ ghost use Rattle.texts.specs.Path.{file_stem_of};
 ghost use Rattle.compilers.specs.Compiler.{reading_of};
 ghost use Rattle.command_files.specs.CommandFiles as spec;
 
-use command_groups::NvccGeneratedSubcommand;
 use compilers::arguments::{CompilerArguments, ParsedArguments};
 use compilers::compiler::CCompilerImpl;
 use compilers::outputs::Outputs;
 use device_lines::cicc::Cicc;
 use device_lines::cudafe::CudaFE;
 use device_lines::ptxas::Ptxas;
+use plans::NvccGeneratedSubcommand;
 use std::alloc::{AllocError, Global};
 use texts::text::{file_stem, join};
 use texts::words::{Words, word_after};

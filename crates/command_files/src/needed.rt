@@ -10,7 +10,7 @@ ghost use Rattle.command_files.specs.Touched as spec;
 use crate::files::CommandFiles;
 use crate::steps::{Role, Step, files_of_steps, steps_of};
 use crate::touched::{Touched, push_below, push_touching};
-use command_groups::Plan;
+use plans::Plan;
 use std::alloc::{AllocError, Global};
 use std::marker::Model;
 

@@ -5,7 +5,7 @@ ghost use Rattle.std.specs.List.{list_all};
 ghost use Rattle.command_files.specs.PlanOrders as spec;
 
 use crate::steps::{Role, Step, steps_of};
-use command_groups::Plan;
+use plans::Plan;
 use std::alloc::{AllocError, Global};
 
 // Whether a role is that of the final group.

@@ -6,7 +6,7 @@ ghost use Rattle.command_files.specs.CommandFiles.{tool_of_stem};
 ghost use Rattle.command_files.specs.PlanNeeds as spec;
 
 use crate::files::{CommandFiles, Tool, files_of, tool_of};
-use command_groups::{NvccGeneratedSubcommand, Plan};
+use plans::{NvccGeneratedSubcommand, Plan};
 use std::alloc::{AllocError, Global};
 
 /// What a command does in its plan, as far as others wait for it or it waits for others whatever the files.

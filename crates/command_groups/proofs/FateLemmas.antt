@@ -6,8 +6,8 @@ use Rattle.std.specs.Str.{bytes_eq}
 use Rattle.std.proofs.lemmas.Bool.{false≢true}
 use Rattle.std.proofs.lemmas.Slice.Eq.{bytes_eq-Decides}
 use Rattle.std.proofs.lemmas.List.Sorted.{IsPermutation-refl, IsPermutation-sym, IsPermutation-trans, IsPermutation-cons, IsPermutation-map, IsPermutation-middle, IsPermutation-append_left, IsPermutation-append_right}
-use Rattle.command_groups.specs.declared.plan.Reason.{Reason}
-use Rattle.command_groups.specs.declared.plan.Reason.TheVariants.{NoCiccGroup, NoPtxasGroup, Superseded}
+use Rattle.plans.specs.declared.plan.Reason.{Reason}
+use Rattle.plans.specs.declared.plan.Reason.TheVariants.{NoCiccGroup, NoPtxasGroup, Superseded}
 use Rattle.texts.specs.Lists.{is_some_and}
 use Rattle.texts.specs.Lists.{with_name}
 use Rattle.command_groups.specs.Stage.{Stage, linking, splitting, device_compiling, assembling, preprocessing, host_compiling, foreign, StagedCommand, opens}

@@ -2,7 +2,6 @@ pub mod CuttingLemmas
 pub mod EntryLemmas
 pub mod EnvironmentLemmas
 pub mod FateLemmas
-pub mod GroupLemmas
 pub mod GroupingLemmas
 pub mod MergeLemmas
 pub mod OpeningLemmas
@@ -13,6 +12,5 @@ pub mod PlanNeedLemmas
 pub mod PlanningLemmas
 pub mod PutLemmas
 pub mod RisingLemmas
-pub mod SameLemmas
 pub mod ShadowLawLemmas
 pub mod WordLemmas

@@ -9,8 +9,8 @@ use Rattle.texts.specs.Lists.{is_some_and, with_name}
 use Rattle.command_groups.specs.declared.openings.Opening.{Opening}
 use Rattle.command_groups.specs.declared.grouping.Label.{Label}
 use Rattle.command_groups.specs.declared.grouping.Label.TheVariants.{Front, Device, Final, Ungrouped}
-use Rattle.command_groups.specs.declared.plan.Reason.{Reason}
-use Rattle.command_groups.specs.declared.plan.Reason.TheVariants.{Superseded}
+use Rattle.plans.specs.declared.plan.Reason.{Reason}
+use Rattle.plans.specs.declared.plan.Reason.TheVariants.{Superseded}
 use Rattle.command_groups.specs.Fate.{Fate, front, device, final, ungrouped, device_or}
 use Rattle.command_groups.specs.Openings.{Opened, names_of, opening_at, further, opening_of, number_of, is_live, lower, first_live_after, first_live}
 use Rattle.command_groups.specs.Grouping.{device_label}

@@ -10,7 +10,7 @@ use Rattle.dry_runs.specs.Environment.{Variable}
 use Rattle.canonical_names.proofs.AlikeLemmas.{alike-runs_agree}
 use Rattle.canonical_names.specs.CanonicalNames.{AreSuffixes}
 use Rattle.canonical_names.specs.Renaming.{renamed}
-use Rattle.command_groups.specs.declared.plan.Plan.{Plan}
+use Rattle.plans.specs.declared.plan.Plan.{Plan}
 use Rattle.command_groups.specs.Fate.{Fate, PlacedCommand, fates, places}
 use Rattle.command_groups.specs.Merge.{MergedCommand, is_in_order, merged}
 use Rattle.command_groups.specs.MergeLaws.{InOrder}

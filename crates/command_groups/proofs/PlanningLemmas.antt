@@ -12,8 +12,8 @@ use Rattle.dry_runs.specs.Environment.{Variable}
 use Rattle.dry_runs.specs.Parsed.{IsParsed, both_parsed, resolved}
 use Rattle.dry_runs.specs.Reading.{dry_run_seen, run_seen}
 use Rattle.dry_runs.proofs.ParsedLemmas.{parses-then-resolves}
-use Rattle.command_groups.specs.declared.origins.PlanWithOrigins.{PlanWithOrigins}
-use Rattle.command_groups.specs.declared.plan.Plan.{Plan}
+use Rattle.plans.specs.declared.origins.PlanWithOrigins.{PlanWithOrigins}
+use Rattle.plans.specs.declared.plan.Plan.{Plan}
 use Rattle.command_groups.specs.MergeLaws.{Rises}
 use Rattle.command_groups.specs.Origins.{origins_or_fault, plan_alone, planning_of_parsed, planning_with_origins, ParsedRunsArePlanned}
 use Rattle.command_groups.specs.Plan.{PlanSetting}

@@ -33,7 +33,7 @@ use Rattle.canonical_names.proofs.RankLemmas.{bytes_eq-itself, eqb-turned}
 use Rattle.canonical_names.proofs.ShadowLemmas.{test-kept, class-by_end, plain-class, plain-word, bare-canonical, canonical-file_name, renamed-cicc, file-end, plain-outputs_stay_apart}
 use Rattle.canonical_names.proofs.ShadowRankLemmas.{cicc-joined_name, step-names_keep_rank}
 use Rattle.canonical_names.proofs.SuffixLemmas.{any-member, each-member}
-use Rattle.command_groups.specs.declared.plan.Reason.TheVariants.{NoCiccGroup}
+use Rattle.plans.specs.declared.plan.Reason.TheVariants.{NoCiccGroup}
 use Rattle.command_groups.specs.Fate.{device, device_or, PlacedCommand, place_of, places, fates}
 use Rattle.command_groups.specs.Merge.{MergedCommand, of_run, is_taken, is_nvcc_stem, is_host_stem, selected, is_in_order, put_in_order, in_order, merged}
 use Rattle.command_groups.specs.MergeLaws.{InOrder}

@@ -2,8 +2,8 @@
 use Rattle.std.specs.Prelude.{ℕ, List, [], ◌∷◌, ◌++◌, Bool, true, false, not, ◌&&◌, ◌||◌, if◌then◌else◌, Option, Some, None, find}
 use Rattle.std.specs.List.{list_any, fold}
 use Rattle.std.specs.Str.{bytes_eq}
-use Rattle.command_groups.specs.declared.plan.Reason.{Reason}
-use Rattle.command_groups.specs.declared.plan.Reason.TheVariants.{NotCuda, NoCiccGroup, NoPtxasGroup, Superseded}
+use Rattle.plans.specs.declared.plan.Reason.{Reason}
+use Rattle.plans.specs.declared.plan.Reason.TheVariants.{NotCuda, NoCiccGroup, NoPtxasGroup, Superseded}
 use Rattle.texts.specs.Lists.{last_of}
 use Rattle.texts.specs.Lists.{with_name}
 use Rattle.texts.specs.Lists.{is_some_and}

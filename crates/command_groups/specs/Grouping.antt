@@ -6,8 +6,8 @@ use Rattle.texts.specs.Lists.{last_of}
 use Rattle.command_groups.specs.declared.openings.Opening.{Opening}
 use Rattle.command_groups.specs.declared.grouping.Label.{Label}
 use Rattle.command_groups.specs.declared.grouping.Label.TheVariants.{Front, Device, Final, Ungrouped}
-use Rattle.command_groups.specs.declared.plan.Reason.{Reason}
-use Rattle.command_groups.specs.declared.plan.Reason.TheVariants.{NotCuda, NoCiccGroup, NoPtxasGroup}
+use Rattle.plans.specs.declared.plan.Reason.{Reason}
+use Rattle.plans.specs.declared.plan.Reason.TheVariants.{NotCuda, NoCiccGroup, NoPtxasGroup}
 use Rattle.command_groups.specs.Stage.{Stage, linking, splitting, device_compiling, assembling, preprocessing, host_compiling, foreign, StagedCommand, cicc_input, ptxas_input}
 use Rattle.command_groups.specs.Openings.{Opened, Made, opening_at, opening_of, number_of, first_live, with_file}
 

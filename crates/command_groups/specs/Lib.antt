@@ -21,7 +21,6 @@ pub mod PlanOfBytesExamples
 pub mod PlanWithin
 pub mod PlanWithinExamples
 pub mod PlanExamples
-pub mod Reasons
 pub mod Selection
 pub mod SelectionExamples
 pub mod SettingView
@@ -30,3 +29,4 @@ pub mod ShadowExamples
 pub mod Stage
 pub mod StageView
 pub mod WordPlace
+pub use Rattle.plans.specs.Reasons

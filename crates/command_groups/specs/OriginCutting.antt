@@ -1,7 +1,7 @@
 -- The origins of labelled commands, put into the groups of a plan step by step.
 use Rattle.std.specs.Prelude.{ℕ, suc, List, [], length, fold, replicate, Result, Ok, Err}
-use Rattle.command_groups.specs.declared.origins.Origin.{Origin}
-use Rattle.command_groups.specs.declared.plan.Reason.{Reason}
+use Rattle.plans.specs.declared.origins.Origin.{Origin}
+use Rattle.plans.specs.declared.plan.Reason.{Reason}
 use Rattle.command_groups.specs.Stage.{StagedCommand}
 use Rattle.command_groups.specs.Openings.{Opened}
 use Rattle.command_groups.specs.Grouping.{Labelled}

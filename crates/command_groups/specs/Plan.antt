@@ -1,9 +1,9 @@
 -- The plan of two dry runs.
 use Rattle.std.specs.Prelude.{ℕ, List, [], ◌∷◌, ◌++◌, Bool, true, false, ◌==◌, if◌then◌else◌, Option, Some, None, map, filter, filter_map, codes}
 use Rattle.compilers.specs.declared.compiler.NvccHostCompiler.{NvccHostCompiler}
-use Rattle.command_groups.specs.declared.plan.NvccGeneratedSubcommand.{NvccGeneratedSubcommand}
-use Rattle.command_groups.specs.declared.plan.Dropped.{Dropped}
-use Rattle.command_groups.specs.declared.plan.Plan.{Plan}
+use Rattle.plans.specs.declared.plan.NvccGeneratedSubcommand.{NvccGeneratedSubcommand}
+use Rattle.plans.specs.declared.plan.Dropped.{Dropped}
+use Rattle.plans.specs.declared.plan.Plan.{Plan}
 use Rattle.dry_runs.specs.CommandLines.{CommandLine}
 use Rattle.command_groups.specs.Merge.{MergedCommand, merged}
 use Rattle.dry_runs.specs.Environment.{with_variables}

@@ -7,7 +7,7 @@ use Rattle.dry_runs.specs.DryRunLines.{numbered_lines}
 use Rattle.dry_runs.specs.Environment.{Variable}
 use Rattle.canonical_names.specs.Alike.{is_clean, Alike}
 use Rattle.canonical_names.specs.CanonicalNames.{AreSuffixes}
-use Rattle.command_groups.specs.declared.plan.Plan.{Plan}
+use Rattle.plans.specs.declared.plan.Plan.{Plan}
 use Rattle.command_groups.specs.Fate.{Fate, opened_names, fates}
 use Rattle.command_groups.specs.FateLaws.{regrouped}
 use Rattle.command_groups.specs.Merge.{of_run, selected, is_nvcc_stem, is_host_stem, merged}

@@ -4,8 +4,8 @@ use Rattle.texts.specs.declared.fault.Fault.{Fault}
 use Rattle.texts.specs.declared.fault.Fault.TheVariants.{NoPath, BadShell}
 use Rattle.compilers.specs.declared.compiler.NvccHostCompiler.TheVariants.{Gcc}
 use Rattle.compilers.specs.declared.command.Cacheable.TheVariants.{Yes}
-use Rattle.command_groups.specs.declared.plan.Plan.{Plan}
-use Rattle.command_groups.specs.declared.plan.Reason.TheVariants.{NotCuda, NoCiccGroup, NoPtxasGroup}
+use Rattle.plans.specs.declared.plan.Plan.{Plan}
+use Rattle.plans.specs.declared.plan.Reason.TheVariants.{NotCuda, NoCiccGroup, NoPtxasGroup}
 use Rattle.dry_runs.specs.Computing.{dry_runs_compute}
 use Rattle.dry_runs.specs.FirstDir.{first_dir}
 use Rattle.canonical_names.specs.AlikeExamples.{one_kernel_is_alike}

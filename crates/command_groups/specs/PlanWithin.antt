@@ -5,8 +5,8 @@ use Rattle.dry_runs.specs.CommandLines.{CommandLine}
 use Rattle.dry_runs.specs.DryRun.{LookUp}
 use Rattle.dry_runs.specs.Environment.{Variable}
 use Rattle.dry_runs.specs.Limit.{dry_run_within}
-use Rattle.command_groups.specs.declared.origins.PlanWithOrigins.{PlanWithOrigins}
-use Rattle.command_groups.specs.declared.plan.Plan.{Plan}
+use Rattle.plans.specs.declared.origins.PlanWithOrigins.{PlanWithOrigins}
+use Rattle.plans.specs.declared.plan.Plan.{Plan}
 use Rattle.command_groups.specs.Origins.{plan_alone, plan_with_origins}
 use Rattle.command_groups.specs.Plan.{PlanSetting}
 use Rattle.command_groups.specs.PlanOfBytes.{named}

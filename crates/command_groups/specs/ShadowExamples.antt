@@ -11,7 +11,7 @@ use Rattle.canonical_names.specs.Alike.{is_clean}
 use Rattle.canonical_names.specs.Generated.{standard_suffixes}
 use Rattle.canonical_names.specs.Shadow.{appearances, is_shadow}
 use Rattle.canonical_names.specs.StepShadow.{is_step_shadow, bare_stub_commands}
-use Rattle.command_groups.specs.declared.plan.Reason.TheVariants.{NoCiccGroup, Superseded}
+use Rattle.plans.specs.declared.plan.Reason.TheVariants.{NoCiccGroup, Superseded}
 use Rattle.command_groups.specs.Fate.{Fate, front, device, final, ungrouped, fates}
 use Rattle.command_groups.specs.Plan.{PlanSetting, staged_commands}
 use Rattle.command_groups.specs.PlanOfBytes.{named}

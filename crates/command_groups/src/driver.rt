@@ -13,8 +13,9 @@ ghost use Rattle.command_groups.specs.Stage.{staged};
 use crate::cutting::plan_by_labels;
 use crate::grouping::Grouping;
 use crate::merge::SelectedCommand;
-use crate::origins::{PlanWithOrigins, origins_by_labels};
+use crate::origins::origins_by_labels;
 use crate::setting::Setting;
+use plans::PlanWithOrigins;
 use std::alloc::{AllocError, Global};
 use std::vec::IntoIter;
 

@@ -6,16 +6,16 @@ ghost use Rattle.command_groups.specs.GroupingView.{grouping_seen};
 ghost use Rattle.command_groups.specs.MadeView.{made_seen};
 ghost use Rattle.command_groups.specs.MergedView.{command_seen};
 ghost use Rattle.command_groups.specs.Stage.{staged, opened_name as opened_by};
-ghost use Rattle.command_groups.specs.declared.plan.Reason.TheVariants.{NoCiccGroup, NoPtxasGroup};
+ghost use Rattle.plans.specs.declared.plan.Reason.TheVariants.{NoCiccGroup, NoPtxasGroup};
 ghost use Rattle.command_groups.specs.StageView.{named_stage};
 
 use crate::merge::SelectedCommand;
 use crate::openings::{MadeFiles, OpenedNames, Opening};
-use crate::plan::Reason;
 use crate::stage::{
     Stage, cicc_input, edited_words, kind_of_program, last_word, opened_name, ptxas_input, stage_of,
 };
 use compilers::compiler::NvccHostCompiler;
+use plans::Reason;
 use std::alloc::{AllocError, Global};
 
 /// Where a command goes.

@@ -1,6 +1,5 @@
 //! Laws of plans, and plans worked out by hand, which the definitions compute.
 
-ghost use Rattle.texts.specs.Equality.{TellsEqual};
 ghost use Rattle.command_groups.specs.FateLaws.{EachHasOneFate, DeviceGroupsBeginWithTheirStep, OuterGroupsAreThere};
 ghost use Rattle.command_groups.specs.MergeLaws.{MergedIsInOrder, MergedAreTheSelected};
 ghost use Rattle.command_groups.specs.Origins.{ParsedRunsArePlanned};
@@ -13,17 +12,7 @@ ghost use Rattle.command_groups.specs.SelectionExamples as selections;
 ghost use Rattle.command_groups.specs.ShadowLaws.{ShadowsStandTogether, StepShadowsStandTogether};
 ghost use Rattle.command_groups.specs.ShadowExamples as shadows;
 
-use crate::plan::{Dropped, DroppedCommands, Groups, NvccGeneratedSubcommand, Plan, Reason};
-
-/// `==` on the records of plans compares all fields: it says whether two values are equal.
-pub fn equality()
-    ensures command { TellsEqual ⟦<NvccGeneratedSubcommand as PartialEq>⟧.eq }
-    ensures reason { TellsEqual ⟦<Reason as PartialEq>⟧.eq }
-    ensures dropped_command { TellsEqual ⟦<Dropped as PartialEq>⟧.eq }
-    ensures groups { TellsEqual ⟦<Groups as PartialEq>⟧.eq }
-    ensures dropped_commands { TellsEqual ⟦<DroppedCommands as PartialEq>⟧.eq }
-    ensures plan { TellsEqual ⟦<Plan as PartialEq>⟧.eq }
-{}
+pub use plans::laws::equality;
 
 /// Laws of the merged list: it is in order of line and run (`in_order`), and has the selected commands of both
 /// runs, each once (`selected`).

@@ -9,17 +9,18 @@ pub mod laws;
 mod merge;
 mod openings;
 mod origins;
-mod plan;
 mod planning;
 mod select;
 mod setting;
 mod stage;
 
-pub use origins::{Origin, Origins, PlanWithOrigins};
-pub use plan::{Dropped, DroppedCommands, Groups, NvccGeneratedSubcommand, Plan, Reason};
 pub use planning::{
     group_nvcc_subcommands_by_compilation_stage,
     group_nvcc_subcommands_by_compilation_stage_within, plan_of_parsed, plan_with_origins,
     plan_with_origins_within,
+};
+pub use plans::{
+    Dropped, DroppedCommands, Groups, NvccGeneratedSubcommand, Origin, Origins, Plan,
+    PlanWithOrigins, Reason,
 };
 pub use select::select_nvcc_subcommands;

@@ -9,7 +9,7 @@ ghost use Rattle.dry_runs.specs.CommandLines.{line_of};
 ghost use Rattle.dry_runs.specs.Limit.{UnlessMemoryWithin, dry_run_within};
 ghost use Rattle.dry_runs.specs.Parsed.{AreParsed, IsParsed, resolved};
 ghost use Rattle.dry_runs.specs.Reading.{dry_run_seen, dry_run_seen_within};
-ghost use Rattle.command_groups.specs.declared.origins.PlanWithOrigins.{PlanWithOrigins};
+ghost use Rattle.plans.specs.declared.origins.PlanWithOrigins.{PlanWithOrigins};
 ghost use Rattle.command_groups.specs.MergeLaws.{Rises};
 ghost use Rattle.command_groups.specs.Origins as origins;
 ghost use Rattle.command_groups.specs.Plan.{staged_commands, plan_of, plan_of_staged};
@@ -20,8 +20,6 @@ ghost use Rattle.command_groups.specs.SettingView.{call_seen, setting_seen};
 use crate::driver::plan_of_commands;
 use crate::environment::Environments;
 use crate::merge::merge;
-use crate::origins::PlanWithOrigins;
-use crate::plan::Plan;
 use crate::setting::{Call, Setting};
 use canonical_names::{Suffixes, remap_commands};
 use compilers::compiler::NvccHostCompiler;
@@ -29,6 +27,7 @@ use dry_runs::{
     Commands, DryRun, LimitedFault, ParsedRun, ParsedRuns, Which, parse_dry_runs,
     read_dry_run_within,
 };
+use plans::{Plan, PlanWithOrigins};
 use std::alloc::{AllocError, Global};
 use texts::fault::Fault;
 

@@ -6,7 +6,7 @@ use Rattle.texts.specs.declared.fault.Fault.{Fault}
 use Rattle.texts.specs.declared.fault.Fault.TheVariants.{Memory}
 use Rattle.texts.specs.declared.status.Output.{Output}
 use Rattle.texts.specs.Fault.{UnlessMemory}
-use Rattle.command_groups.specs.declared.plan.Plan.{Plan}
+use Rattle.plans.specs.declared.plan.Plan.{Plan}
 use Rattle.cuda_plans.specs.Schedule.{AccountEntry, Gains, RunsAs, ExecutesAs, due_steps}
 
 -- a refusal of the planning, before anything ran

@@ -24,7 +24,7 @@ pub use Rattle.command_groups.specs.Plan
 pub use Rattle.command_groups.specs.PlanOfBytes
 pub use Rattle.command_groups.specs.PlanOfBytesExamples
 pub use Rattle.command_groups.specs.PlanExamples
-pub use Rattle.command_groups.specs.Reasons
+pub use Rattle.plans.specs.Reasons
 pub use Rattle.command_groups.specs.Selection
 pub use Rattle.command_groups.specs.SelectionExamples
 pub use Rattle.command_groups.specs.Stage

@@ -2,7 +2,7 @@
 use Rattle.std.specs.Prelude.{ℕ, List, Result}
 use Rattle.texts.specs.declared.fault.Fault.{Fault}
 use Rattle.dry_runs.specs.DryRun.{LookUp}
-use Rattle.command_groups.specs.declared.plan.Plan.{Plan}
+use Rattle.plans.specs.declared.plan.Plan.{Plan}
 use Rattle.command_groups.specs.Plan.{PlanSetting}
 use Rattle.command_groups.specs.PlanOfBytes.{planning_of}
 use Rattle.cuda_plans.specs.declared.nvcc.command.NvccCompileCommand.{NvccCompileCommand}

@@ -8,7 +8,7 @@ ghost use Rattle.cuda_plans.specs.Schedule as spec;
 
 use crate::outcome::{aggregate_output, compile_result_to_output, error_to_output};
 use crate::runner::{Answer, Place, Runner};
-use command_groups::{Groups, NvccGeneratedSubcommand};
+use plans::{Groups, NvccGeneratedSubcommand};
 use std::alloc::{AllocError, Global};
 use texts::bytes::Bytes;
 use texts::fault::Fault;

@@ -7,8 +7,8 @@ use Rattle.std.proofs.lemmas.Str.{chars-nil}
 use Rattle.shell_words.specs.Posix.{Token, Word, Operator, Place, Between, After, Inside, Step, step, prepend, with_step, tokens_from, tokens, is_apart}
 use Rattle.shell_words.specs.Shell.Quoting.{written}
 use Rattle.shell_words.proofs.PosixLemmas.{quoted_before}
-use Rattle.command_groups.specs.declared.plan.NvccGeneratedSubcommand.{NvccGeneratedSubcommand}
-use Rattle.command_groups.specs.declared.plan.Plan.{Plan}
+use Rattle.plans.specs.declared.plan.NvccGeneratedSubcommand.{NvccGeneratedSubcommand}
+use Rattle.plans.specs.declared.plan.Plan.{Plan}
 use Rattle.plan_exports.specs.CommandText.{assignment, env_words, command_text}
 use Rattle.plan_exports.specs.Graph.{stamp_path, touch}
 use Rattle.plan_exports.specs.Script.{command_line, group_lines, groups_lines, script}

@@ -17,18 +17,18 @@ use Rattle.texts.specs.Path.{lacks}
 use Rattle.texts.proofs.PathLemmas.{lacks-places, lacks-append}
 use Rattle.shell_words.specs.Shell.{backslash, single_quote}
 use Rattle.shell_words.specs.Shell.Quoting.{is_plain, quoted_char, quoted_word, further, quoted, written}
-use Rattle.command_groups.specs.declared.plan.NvccGeneratedSubcommand.{NvccGeneratedSubcommand}
-use Rattle.command_groups.specs.declared.plan.Dropped.{Dropped}
-use Rattle.command_groups.specs.declared.plan.Reason.{Reason}
-use Rattle.command_groups.specs.declared.plan.Reason.TheVariants.{NotCuda, NoCiccGroup, NoPtxasGroup, Superseded}
-use Rattle.command_groups.specs.declared.plan.Plan.{Plan}
+use Rattle.plans.specs.declared.plan.NvccGeneratedSubcommand.{NvccGeneratedSubcommand}
+use Rattle.plans.specs.declared.plan.Dropped.{Dropped}
+use Rattle.plans.specs.declared.plan.Reason.{Reason}
+use Rattle.plans.specs.declared.plan.Reason.TheVariants.{NotCuda, NoCiccGroup, NoPtxasGroup, Superseded}
+use Rattle.plans.specs.declared.plan.Plan.{Plan}
 use Rattle.plan_exports.specs.declared.refusal.Refusal.{Refusal}
 use Rattle.plan_exports.specs.declared.refusal.Refusal.TheVariants.{Unheld}
 use Rattle.plan_exports.specs.declared.refusal.Form.TheVariants.{Ninja}
 use Rattle.plan_exports.specs.CommandText.{assignment, env_words, command_text}
 use Rattle.plan_exports.specs.Judging.{holds, holds_text, holds_variables, holds_command, judged_command, judged_group, judged_groups, and_then}
 use Rattle.plan_exports.specs.Script.{unless_refused}
-use Rattle.command_groups.specs.Reasons.{reason_name}
+use Rattle.plans.specs.Reasons.{reason_name}
 use Rattle.plan_exports.specs.Graph.{escaped_char, escaped, stamp, stamp_below, stamp_path, runner, touch, edge_command, edge_line, edge, places_in, places_from, plan_places, place_at, stamp_at, stamps_at, edges_from as written_edges, group_edges, comment, rule, head, graph, holds_dropped, judged_rest, ninja_answer}
 use Rattle.plan_exports.specs.ReadBack.{IsOfTexts}
 use Rattle.plan_exports.specs.ReadGraph.{parts_at, behind, Edge, path_of, head_parts, head_behind, with_edge, edges_from, edges_in, edges_of_lines, edges_of, path_at, edge_at, edges_at, plan_edges, IsDroppedText}

@@ -1,7 +1,7 @@
 -- The text of a command, as a shell runs it.
 use Rattle.std.specs.Prelude.{ℕ, List, [], ◌∷◌, ◌++◌, map, codes}
 use Rattle.shell_words.specs.Shell.Quoting.{written}
-use Rattle.command_groups.specs.declared.plan.NvccGeneratedSubcommand.{NvccGeneratedSubcommand}
+use Rattle.plans.specs.declared.plan.NvccGeneratedSubcommand.{NvccGeneratedSubcommand}
 
 -- a variable as `env` takes it
 abbrev pub assignment : List ℕ × List ℕ → List ℕ

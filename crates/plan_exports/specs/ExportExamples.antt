@@ -2,7 +2,7 @@
 use Rattle.std.specs.Prelude.{◌≡◌, ℕ, List, [], ◌∷◌, map, codes, Some, None, Ok, Err, refl}
 use Rattle.std.specs.Str.{chars, is_utf8}
 use Rattle.compilers.specs.declared.command.Cacheable.TheVariants.{Yes}
-use Rattle.command_groups.specs.declared.plan.NvccGeneratedSubcommand.{NvccGeneratedSubcommand}
+use Rattle.plans.specs.declared.plan.NvccGeneratedSubcommand.{NvccGeneratedSubcommand}
 use Rattle.plan_exports.specs.declared.refusal.Refusal.TheVariants.{Unheld, VariableName}
 use Rattle.plan_exports.specs.declared.refusal.Form.TheVariants.{Shell, Ninja}
 use Rattle.plan_exports.specs.Judging.{judged_command, judged_groups}

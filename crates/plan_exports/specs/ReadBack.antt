@@ -5,8 +5,8 @@ use Rattle.std.specs.List.{AllByRecursion, flat_map}
 use Rattle.std.specs.Str.{IsUtf8, chars}
 use Rattle.shell_words.specs.Posix.{Token, Word, Operator, tokens}
 use Rattle.shell_words.specs.Shell.Quoting.{written}
-use Rattle.command_groups.specs.declared.plan.NvccGeneratedSubcommand.{NvccGeneratedSubcommand}
-use Rattle.command_groups.specs.declared.plan.Plan.{Plan}
+use Rattle.plans.specs.declared.plan.NvccGeneratedSubcommand.{NvccGeneratedSubcommand}
+use Rattle.plans.specs.declared.plan.Plan.{Plan}
 use Rattle.plan_exports.specs.CommandText.{command_text, env_words}
 use Rattle.plan_exports.specs.Graph.{stamp_path, touch}
 use Rattle.plan_exports.specs.Script.{script}

@@ -1,8 +1,8 @@
 -- A plan as a shell script.
 use Rattle.std.specs.Prelude.{ℕ, List, [], ◌∷◌, ◌++◌, codes, Result, Ok, Err}
 use Rattle.std.specs.List.{flat_map}
-use Rattle.command_groups.specs.declared.plan.NvccGeneratedSubcommand.{NvccGeneratedSubcommand}
-use Rattle.command_groups.specs.declared.plan.Plan.{Plan}
+use Rattle.plans.specs.declared.plan.NvccGeneratedSubcommand.{NvccGeneratedSubcommand}
+use Rattle.plans.specs.declared.plan.Plan.{Plan}
 use Rattle.plan_exports.specs.declared.refusal.Refusal.{Refusal}
 use Rattle.plan_exports.specs.declared.refusal.Form.TheVariants.{Shell}
 use Rattle.plan_exports.specs.Judging.{judged_groups}

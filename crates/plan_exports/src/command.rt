@@ -5,7 +5,7 @@ ghost use Rattle.texts.specs.Variables.{pair_of};
 ghost use Rattle.shell_words.specs.Shell.Quoting.{written};
 ghost use Rattle.plan_exports.specs.CommandText as spec;
 
-use command_groups::NvccGeneratedSubcommand;
+use plans::NvccGeneratedSubcommand;
 use shell_words::push_quoted;
 use std::alloc::{AllocError, Global};
 use texts::words::Words;

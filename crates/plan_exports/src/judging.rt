@@ -7,7 +7,7 @@ ghost use Rattle.texts.specs.Variables.{pair_of};
 ghost use Rattle.plan_exports.specs.Judging as spec;
 
 use crate::refusal::{Form, Refusal};
-use command_groups::NvccGeneratedSubcommand;
+use plans::NvccGeneratedSubcommand;
 
 // Whether a form can represent a byte.
 fn holds(form: Form, byte: u8) -> bool

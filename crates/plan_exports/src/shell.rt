@@ -7,7 +7,7 @@ ghost use Rattle.plan_exports.specs.Script as spec;
 use crate::command::push_command;
 use crate::judging::judge_groups;
 use crate::refusal::{Form, Refusal};
-use command_groups::{NvccGeneratedSubcommand, Plan};
+use plans::{NvccGeneratedSubcommand, Plan};
 use std::alloc::{AllocError, Global};
 
 // Adds the line of a command.

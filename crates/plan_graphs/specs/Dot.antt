@@ -4,10 +4,10 @@ use Rattle.std.specs.List.{flat_map}
 use Rattle.std.specs.Str.{chars}
 use Rattle.texts.specs.Numeral.{numeral}
 use Rattle.texts.specs.Path.{file_name_of}
-use Rattle.command_groups.specs.declared.plan.NvccGeneratedSubcommand.{NvccGeneratedSubcommand}
-use Rattle.command_groups.specs.declared.plan.Dropped.{Dropped}
-use Rattle.command_groups.specs.declared.plan.Plan.{Plan}
-use Rattle.command_groups.specs.Reasons.{reason_name}
+use Rattle.plans.specs.declared.plan.NvccGeneratedSubcommand.{NvccGeneratedSubcommand}
+use Rattle.plans.specs.declared.plan.Dropped.{Dropped}
+use Rattle.plans.specs.declared.plan.Plan.{Plan}
+use Rattle.plans.specs.Reasons.{reason_name}
 use Rattle.command_files.specs.declared.files.CommandFiles.{CommandFiles}
 use Rattle.command_files.specs.CommandFiles.{files_of_words}
 use Rattle.command_files.specs.PlanNeeds.{plan_needs}

@@ -6,7 +6,7 @@ ghost use Rattle.plan_graphs.specs.Dot as spec;
 ghost use Rattle.command_files.specs.Numbered.{of_group, of_groups};
 
 use command_files::{CommandFiles, files_of, needs};
-use command_groups::{Dropped, NvccGeneratedSubcommand, Plan};
+use plans::{Dropped, NvccGeneratedSubcommand, Plan};
 use std::alloc::{AllocError, Global};
 use texts::decimal::push_number;
 use texts::text::file_name;

@@ -5,12 +5,12 @@ use Rattle.std.specs.List.{AllByRecursion, flat_map}
 use Rattle.std.specs.Str.{bytes_eq}
 use Rattle.compilers.specs.declared.command.Cacheable.{Cacheable}
 use Rattle.compilers.specs.declared.command.Cacheable.TheVariants.{Yes, No}
-use Rattle.command_groups.specs.declared.origins.Origin.{Origin}
-use Rattle.command_groups.specs.declared.plan.NvccGeneratedSubcommand.{NvccGeneratedSubcommand}
-use Rattle.command_groups.specs.declared.plan.Dropped.{Dropped}
-use Rattle.command_groups.specs.declared.plan.Reason.{Reason}
-use Rattle.command_groups.specs.declared.plan.Reason.TheVariants.{NotCuda, NoCiccGroup, NoPtxasGroup, Superseded}
-use Rattle.command_groups.specs.Reasons.{reason_name}
+use Rattle.plans.specs.declared.origins.Origin.{Origin}
+use Rattle.plans.specs.declared.plan.NvccGeneratedSubcommand.{NvccGeneratedSubcommand}
+use Rattle.plans.specs.declared.plan.Dropped.{Dropped}
+use Rattle.plans.specs.declared.plan.Reason.{Reason}
+use Rattle.plans.specs.declared.plan.Reason.TheVariants.{NotCuda, NoCiccGroup, NoPtxasGroup, Superseded}
+use Rattle.plans.specs.Reasons.{reason_name}
 use Rattle.serde_json.specs.Data.{Num, unsigned, negative, float, Data, null, boolean, number, string, array, object, Items, no_items, item, Members, no_members, member}
 use Rattle.serde_json.specs.View.{items_of}
 use Rattle.plan_json.specs.Json.{variable_data, is_cacheable, from_one, Known, origin_at, command_at, dropped_data, Described, known_of, data_of}

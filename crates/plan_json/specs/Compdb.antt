@@ -1,8 +1,8 @@
 -- The commands of a plan that compile its source, as a compilation database.
 use Rattle.std.specs.Prelude.{ℕ, ◌+◌, List, [], ◌∷◌, ◌++◌, map, length, ◌==◌, if◌then◌else◌, codes}
 use Rattle.std.specs.List.{flat_map}
-use Rattle.command_groups.specs.declared.plan.NvccGeneratedSubcommand.{NvccGeneratedSubcommand}
-use Rattle.command_groups.specs.declared.plan.Plan.{Plan}
+use Rattle.plans.specs.declared.plan.NvccGeneratedSubcommand.{NvccGeneratedSubcommand}
+use Rattle.plans.specs.declared.plan.Plan.{Plan}
 use Rattle.command_files.specs.declared.files.CommandFiles.{CommandFiles}
 use Rattle.command_files.specs.CommandFiles.{files_of_words}
 use Rattle.plan_json.specs.ClangWords.{line_for_clang}

@@ -11,7 +11,7 @@ ghost use Rattle.plan_json.specs.Compdb as spec;
 use crate::clang_words::line_for_clang;
 use crate::json::{put_text, put_texts};
 use command_files::{CommandFiles, files_of};
-use command_groups::{NvccGeneratedSubcommand, Plan};
+use plans::{NvccGeneratedSubcommand, Plan};
 use serde_json::{Map, Value, push};
 use std::alloc::{AllocError, Global};
 

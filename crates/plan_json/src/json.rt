@@ -6,14 +6,14 @@ ghost use Rattle.serde_json.specs.Read.{read};
 ghost use Rattle.serde_json.specs.View.{items_of, view, members_view};
 ghost use Rattle.serde_json.specs.Written.{compact_text};
 ghost use Rattle.texts.specs.Variables.{pair_of};
-ghost use Rattle.command_groups.specs.Reasons.{reason_name};
+ghost use Rattle.plans.specs.Reasons.{reason_name};
 ghost use Rattle.command_files.specs.Order.{needs_at};
 ghost use Rattle.plan_json.specs.Json as spec;
 ghost use Rattle.command_files.specs.Numbered.{of_group, of_groups};
 
 use command_files::{CommandFiles, files_of, needs};
-use command_groups::{Dropped, NvccGeneratedSubcommand, Origin, PlanWithOrigins};
 use compilers::command::Cacheable;
+use plans::{Dropped, NvccGeneratedSubcommand, Origin, PlanWithOrigins};
 use serde_json::{Map, Value, push, put};
 use std::alloc::{AllocError, Global};
 

@@ -1,6 +1,6 @@
 -- A Makeflow file's data has no float and nests no deeper than a text that is read may.
 use Rattle.std.proofs.Common.{◌≡◌, ℕ, ◌≤◌, List, false, Some, refl, subst, arith}
-use Rattle.command_groups.specs.declared.plan.Plan.{Plan}
+use Rattle.plans.specs.declared.plan.Plan.{Plan}
 use Rattle.serde_json.specs.Data.{Data, string, depth}
 use Rattle.serde_json.specs.Read.{read, max_depth}
 use Rattle.serde_json.specs.Written.{has_float, compact_text}

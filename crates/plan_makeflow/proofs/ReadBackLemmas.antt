@@ -12,7 +12,7 @@ use Rattle.texts.specs.Numeral.{numeral}
 use Rattle.shell_words.specs.Posix.{Token, Word, Operator, Place, Between, After, Inside, Step, step, prepend, with_step, tokens_from, tokens, is_apart}
 use Rattle.shell_words.specs.Shell.Quoting.{written}
 use Rattle.shell_words.proofs.PosixLemmas.{quoted_before}
-use Rattle.command_groups.specs.declared.plan.NvccGeneratedSubcommand.{NvccGeneratedSubcommand}
+use Rattle.plans.specs.declared.plan.NvccGeneratedSubcommand.{NvccGeneratedSubcommand}
 use Rattle.plan_exports.specs.CommandText.{assignment}
 use Rattle.plan_exports.specs.ReadBack.{IsOfTexts, shell_tokens, word_tokens}
 use Rattle.plan_exports.proofs.TextLemmas.{written_chars, plain_chars, assignments_utf8}

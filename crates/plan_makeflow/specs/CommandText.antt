@@ -2,8 +2,8 @@
 use Rattle.std.specs.Prelude.{ℕ, List, ◌∷◌, [], ◌++◌, Bool, false, nat_lt, map, length, if◌then◌else◌, codes}
 use Rattle.std.specs.List.{list_any}
 use Rattle.shell_words.specs.Shell.Quoting.{written}
-use Rattle.command_groups.specs.declared.plan.NvccGeneratedSubcommand.{NvccGeneratedSubcommand}
-use Rattle.command_groups.specs.declared.plan.Plan.{Plan}
+use Rattle.plans.specs.declared.plan.NvccGeneratedSubcommand.{NvccGeneratedSubcommand}
+use Rattle.plans.specs.declared.plan.Plan.{Plan}
 use Rattle.plan_exports.specs.CommandText.{assignment}
 
 -- a command's words, with `env` and its variables in front

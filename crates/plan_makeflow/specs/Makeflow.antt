@@ -4,7 +4,7 @@ use Rattle.serde_json.specs.Data.{Data, boolean, string, array, object, no_membe
 use Rattle.serde_json.specs.Read.{read}
 use Rattle.serde_json.specs.View.{items_of}
 use Rattle.serde_json.specs.Written.{compact_text}
-use Rattle.command_groups.specs.declared.plan.Plan.{Plan}
+use Rattle.plans.specs.declared.plan.Plan.{Plan}
 use Rattle.plan_exports.specs.declared.refusal.Refusal.{Refusal}
 use Rattle.plan_exports.specs.declared.refusal.Form.TheVariants.{Shell}
 use Rattle.plan_exports.specs.Judging.{judged_groups}

@@ -2,7 +2,7 @@
 use Rattle.std.specs.Prelude.{◌≡◌, ℕ, List, [], ◌∷◌, ◌++◌, Bool, true, false, Some, codes}
 use Rattle.std.specs.Str.{chars}
 use Rattle.shell_words.specs.Posix.{Token, Word, Operator}
-use Rattle.command_groups.specs.declared.plan.NvccGeneratedSubcommand.{NvccGeneratedSubcommand}
+use Rattle.plans.specs.declared.plan.NvccGeneratedSubcommand.{NvccGeneratedSubcommand}
 use Rattle.plan_exports.specs.ReadBack.{IsOfTexts, shell_tokens, word_tokens}
 use Rattle.plan_makeflow.specs.CommandText.{run_words}
 use Rattle.plan_makeflow.specs.Names.{stamp}

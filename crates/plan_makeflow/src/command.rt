@@ -7,7 +7,7 @@ ghost use Rattle.shell_words.specs.Shell.Quoting.{written};
 ghost use Rattle.plan_exports.specs.CommandText.{assignment};
 ghost use Rattle.plan_makeflow.specs.CommandText as spec;
 
-use command_groups::{NvccGeneratedSubcommand, Plan};
+use plans::{NvccGeneratedSubcommand, Plan};
 use shell_words::push_quoted;
 use std::alloc::{AllocError, Global};
 use texts::words::Words;

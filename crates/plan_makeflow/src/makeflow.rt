@@ -14,9 +14,9 @@ use crate::facts::Facts;
 use crate::rules::rule_value;
 use crate::writers::writers_of;
 use command_files::files_and_needs;
-use command_groups::{NvccGeneratedSubcommand, Plan};
 use plan_exports::{Refusal, shell_script};
 use plan_json::put_text;
+use plans::{NvccGeneratedSubcommand, Plan};
 use serde_json::{Map, Value, push, put};
 use std::alloc::{AllocError, Global};
 

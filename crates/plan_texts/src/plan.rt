@@ -4,8 +4,8 @@ ghost use Rattle.std.specs.Prelude.{◌≡◌, ◌++◌, IfOk, OnOk, map, string
 ghost use Rattle.std.specs.List.{flat_map};
 ghost use Rattle.plan_texts.specs.ShownPlan as spec;
 
-use command_groups::{Dropped, NvccGeneratedSubcommand, Plan};
 use compilers::command::Cacheable;
+use plans::{Dropped, NvccGeneratedSubcommand, Plan};
 use std::alloc::{AllocError, Global};
 use texts::decimal::push_number;
 

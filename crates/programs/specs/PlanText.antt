@@ -5,7 +5,7 @@ use Rattle.texts.specs.declared.fault.Fault.{Fault}
 use Rattle.texts.specs.declared.fault.Fault.TheVariants.{BadSuffixes, Memory, Read}
 use Rattle.canonical_names.specs.Generated.{standard_suffixes}
 use Rattle.canonical_names.specs.SuffixRule.{are_suffixes}
-use Rattle.command_groups.specs.declared.plan.Plan.{Plan}
+use Rattle.plans.specs.declared.plan.Plan.{Plan}
 use Rattle.command_groups.specs.Plan.{PlanSetting}
 use Rattle.command_groups.specs.PlanOfBytes.{planning_of}
 use Rattle.dry_runs.specs.DryRun.{LookUp}

@@ -7,9 +7,10 @@ ghost use Rattle.texts.specs.Variables.{pair_of};
 ghost use Rattle.programs.specs.PlanText as spec;
 
 use canonical_names::Suffixes;
-use command_groups::{Plan, group_nvcc_subcommands_by_compilation_stage};
+use command_groups::group_nvcc_subcommands_by_compilation_stage;
 use compilers::compiler::NvccHostCompiler;
 use dry_runs::Which;
+use plans::Plan;
 use std::alloc::{AllocError, Global};
 use texts::fault::Fault;
 use texts::words::Words;

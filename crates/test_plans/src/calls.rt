@@ -1,6 +1,6 @@
 //! The calls that cases make, by name.
 
-use crate::{expansion, limits, lookups, plan_runs, plans, renaming, runs, selection};
+use crate::{expansion, limits, lookups, plan_runs, renaming, runs, selection, whole_plans};
 use std::alloc::Global;
 use std::fs::Files;
 use test_tables::{Answer, Calls, Case, CaseError};
@@ -36,7 +36,7 @@ impl Calls for PlanCalls {
             | "files_debug"
             | "needs"
             | "keeps_orders"
-            | "needs_debug" => plans::answer(rt, alloc, case),
+            | "needs_debug" => whole_plans::answer(rt, alloc, case),
             "candidates" | "lookups" | "lookups_debug" | "read_found" => {
                 lookups::answer(rt, alloc, case)
             }

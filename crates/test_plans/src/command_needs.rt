@@ -1,7 +1,7 @@
 //! Calls on the files of a plan's commands, and on what each command needs.
 
 use command_files::{CommandFiles, files_of_plan, keeps_orders, needs};
-use command_groups::Plan;
+use plans::Plan;
 use std::alloc::Global;
 use test_tables::{Answer, CaseError, debugged};
 

@@ -15,12 +15,12 @@ mod limits;
 mod lookups;
 mod plan_runs;
 mod plan_settings;
-mod plans;
 mod renaming;
 mod run_settings;
 mod runs;
 mod scripted_runner;
 mod selection;
+mod whole_plans;
 
 fn main(rt: HostRuntime) -> ExitCode {
     let mut out = rt.stdout();

@@ -3,12 +3,12 @@
 use crate::handed::Handed;
 use canonical_names::Suffixes;
 use command_groups::{
-    Plan, group_nvcc_subcommands_by_compilation_stage,
-    group_nvcc_subcommands_by_compilation_stage_within,
+    group_nvcc_subcommands_by_compilation_stage, group_nvcc_subcommands_by_compilation_stage_within,
 };
 use compilers::compiler::NvccHostCompiler;
 use cuda_plans::nvcc::NvccCompileCommand;
 use dry_runs::{FirstDir, LimitedFault};
+use plans::Plan;
 use programs::{Stop as PlanStop, write_plan};
 use std::alloc::{AllocError, Global};
 use test_tables::{Case, CaseError};

@@ -3,8 +3,8 @@
 ghost use Rattle.std.specs.Prelude.{◌≡◌, ◌++◌, ◌∷◌, [], map};
 ghost use Rattle.cuda_plans.specs.Schedule.{AccountEntry};
 
-use command_groups::NvccGeneratedSubcommand;
 use cuda_plans::runner::{Answer, Place, Runner};
+use plans::NvccGeneratedSubcommand;
 use std::alloc::{AllocError, Global};
 use texts::bytes::Bytes;
 use texts::status::{ExitStatus, Output};

@@ -7,8 +7,8 @@ use Rattle.texts.specs.declared.fault.Fault.{Fault}
 use Rattle.dry_runs.specs.declared.parsed_runs.ParsedRuns.{ParsedRuns}
 use Rattle.dry_runs.specs.DryRun.{LookUp}
 use Rattle.dry_runs.specs.Parsed.{both_parsed}
-use Rattle.command_groups.specs.declared.origins.PlanWithOrigins.{PlanWithOrigins}
-use Rattle.command_groups.specs.declared.plan.Plan.{Plan}
+use Rattle.plans.specs.declared.origins.PlanWithOrigins.{PlanWithOrigins}
+use Rattle.plans.specs.declared.plan.Plan.{Plan}
 use Rattle.command_groups.specs.Origins.{planning_of_parsed}
 use Rattle.command_groups.specs.Plan.{PlanSetting}
 use Rattle.plan_exports.specs.declared.refusal.Refusal.{Refusal}

@@ -1,5 +1,5 @@
 use Rattle.std.proofs.Common.{◌+◌, List, ◌∷◌, length, drop, map, sym, ap, ◌∙◌, vec_items}
-use Rattle.command_groups.specs.declared.plan.NvccGeneratedSubcommand.{NvccGeneratedSubcommand}
+use Rattle.plans.specs.declared.plan.NvccGeneratedSubcommand.{NvccGeneratedSubcommand}
 use Rattle.command_files.specs.Numbered.{of_groups}
 use Rattle.command_files.proofs.Pushing.{next-left}
 use Rattle.c_plans.specs.Records.{command_entry, groups_at, with_groups}

@@ -1,5 +1,5 @@
 use Rattle.std.proofs.Common.{◌+◌, List, ◌∷◌, drop, length, map, vec_items, sym, ap, ◌∙◌}
-use Rattle.command_groups.specs.declared.plan.NvccGeneratedSubcommand.{NvccGeneratedSubcommand}
+use Rattle.plans.specs.declared.plan.NvccGeneratedSubcommand.{NvccGeneratedSubcommand}
 use Rattle.command_files.proofs.Pushing.{next-left}
 use Rattle.c_steps.specs.Steps.{commands_of, extras_from, known_seen, with_extras}
 use Rattle.c_steps.proofs.StepLemmas.{group-then}

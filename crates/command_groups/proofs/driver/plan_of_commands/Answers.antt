@@ -2,7 +2,7 @@ use Rattle.std.proofs.Common.{List, map, ap, ◌∙◌}
 use Rattle.std.specs.List.{flat_map}
 use Rattle.std.specs.Vec.Iter.{into_iter_items}
 use Rattle.command_groups.specs.declared.grouping.LabelledCommand.{LabelledCommand}
-use Rattle.command_groups.specs.declared.origins.Origin.{Origin}
+use Rattle.plans.specs.declared.origins.Origin.{Origin}
 use Rattle.command_groups.specs.Cutting.{plan_by_labels}
 use Rattle.command_groups.specs.Grouping.{GroupingState}
 use Rattle.command_groups.specs.GroupingView.{labelled_seen}

@@ -1,7 +1,7 @@
 -- The names of the reasons for which a command is in no group.
 use Rattle.std.specs.Prelude.{ℕ, List, codes}
-use Rattle.command_groups.specs.declared.plan.Reason.{Reason}
-use Rattle.command_groups.specs.declared.plan.Reason.TheVariants.{NotCuda, NoCiccGroup, NoPtxasGroup, Superseded}
+use Rattle.plans.specs.declared.plan.Reason.{Reason}
+use Rattle.plans.specs.declared.plan.Reason.TheVariants.{NotCuda, NoCiccGroup, NoPtxasGroup, Superseded}
 
 -- a reason's name
 abbrev pub reason_name : Reason → List ℕ

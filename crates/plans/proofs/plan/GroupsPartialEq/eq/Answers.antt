@@ -1,7 +1,7 @@
 use Rattle.std.proofs.Common.{◌∙◌}
-use Rattle.command_groups.specs.contracts.plan.NvccGeneratedSubcommandPartialEq.TheImpl as compared
-use Rattle.command_groups.proofs.GroupLemmas.{groups_compared}
-use Rattle.command_groups.proofs.plan.GroupsPartialEq.eq.Goals as goal
+use Rattle.plans.specs.contracts.plan.NvccGeneratedSubcommandPartialEq.TheImpl as compared
+use Rattle.plans.proofs.GroupLemmas.{groups_compared}
+use Rattle.plans.proofs.plan.GroupsPartialEq.eq.Goals as goal
 
 pub returns : goal.returns
 returns c =

@@ -1,5 +1,5 @@
-use Rattle.command_groups.proofs.SameLemmas.{commands, reasons, dropped, groups, dropped_commands, plans}
-use Rattle.command_groups.proofs.laws.equality.Goals as goal
+use Rattle.plans.proofs.SameLemmas.{commands, reasons, dropped, groups, dropped_commands, plans}
+use Rattle.plans.proofs.laws.equality.Goals as goal
 
 pub returns : goal.returns
 returns c = record {

@@ -10,11 +10,11 @@ use Rattle.compilers.specs.contracts.command.Cacheable as cacheable
 use Rattle.compilers.specs.declared.command.Cacheable.{Cacheable}
 use Rattle.texts.specs.Equality.{TellsEqual}
 use Rattle.texts.proofs.EqualityLemmas.{lists, same_variables, variables}
-use Rattle.command_groups.specs.contracts.plan.Reason as reason
-use Rattle.command_groups.specs.declared.plan.Reason.{Reason}
-use Rattle.command_groups.specs.declared.plan.NvccGeneratedSubcommand.{NvccGeneratedSubcommand}
-use Rattle.command_groups.specs.declared.plan.Dropped.{Dropped}
-use Rattle.command_groups.specs.declared.plan.Plan.{Plan}
+use Rattle.plans.specs.contracts.plan.Reason as reason
+use Rattle.plans.specs.declared.plan.Reason.{Reason}
+use Rattle.plans.specs.declared.plan.NvccGeneratedSubcommand.{NvccGeneratedSubcommand}
+use Rattle.plans.specs.declared.plan.Dropped.{Dropped}
+use Rattle.plans.specs.declared.plan.Plan.{Plan}
 
 -- numbers, and enums without fields
 numbers : TellsEqual nat_eq

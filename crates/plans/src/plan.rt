@@ -1,7 +1,7 @@
 //! A plan: the commands that one `nvcc` call runs, in groups, and those that it doesn't run.
 
 ghost use Rattle.std.specs.Prelude.{◌≡◌, map, vec_items, IfOk};
-ghost use Rattle.command_groups.specs.Reasons.{reason_name};
+ghost use Rattle.plans.specs.Reasons.{reason_name};
 
 use compilers::command::Cacheable;
 use std::alloc::{AllocError, Global};
@@ -91,7 +91,7 @@ pub struct Groups {
 
 impl Model for Groups {
     ghost use Rattle.std.specs.Prelude.{List, map, vec_items};
-    ghost use Rattle.command_groups.specs.declared.plan.NvccGeneratedSubcommand.{NvccGeneratedSubcommand};
+    ghost use Rattle.plans.specs.declared.plan.NvccGeneratedSubcommand.{NvccGeneratedSubcommand};
 
     ghost Value = { List (List NvccGeneratedSubcommand) };
 
@@ -123,7 +123,7 @@ impl Groups {
 
 impl PartialEq for Groups {
     ghost use Rattle.std.specs.Cmp.Lexicographic.{pointwise, lists_per};
-    ghost use Rattle.command_groups.specs.contracts.plan.NvccGeneratedSubcommandPartialEq.TheImpl.Laws.{laws-law};
+    ghost use Rattle.plans.specs.contracts.plan.NvccGeneratedSubcommandPartialEq.TheImpl.Laws.{laws-law};
 
     ghost eq = { pointwise (pointwise ⟦<NvccGeneratedSubcommand as PartialEq>⟧.eq) };
 
@@ -144,7 +144,7 @@ pub struct DroppedCommands {
 
 impl Model for DroppedCommands {
     ghost use Rattle.std.specs.Prelude.{List};
-    ghost use Rattle.command_groups.specs.declared.plan.Dropped.{Dropped};
+    ghost use Rattle.plans.specs.declared.plan.Dropped.{Dropped};
 
     ghost Value = { List Dropped };
 
@@ -176,7 +176,7 @@ impl DroppedCommands {
 
 impl PartialEq for DroppedCommands {
     ghost use Rattle.std.specs.Cmp.Lexicographic.{pointwise, lists_per};
-    ghost use Rattle.command_groups.specs.contracts.plan.DroppedPartialEq.TheImpl.Laws.{laws-law};
+    ghost use Rattle.plans.specs.contracts.plan.DroppedPartialEq.TheImpl.Laws.{laws-law};
 
     ghost eq = { pointwise ⟦<Dropped as PartialEq>⟧.eq };
 

@@ -1,0 +1,9 @@
+//! Plans: the commands that one `nvcc` call runs, in groups, those that it doesn't run, and the lines that they come from.
+#![tactic(auto)]
+
+pub mod laws;
+mod origins;
+mod plan;
+
+pub use origins::{Origin, Origins, PlanWithOrigins};
+pub use plan::{Dropped, DroppedCommands, Groups, NvccGeneratedSubcommand, Plan, Reason};
