@@ -4,13 +4,12 @@ use Rattle.std.specs.List.{list_all}
 use Rattle.std.proofs.lemmas.Bool.{false≢true, and_parts, or_parts, eqb-true, eq-eqb, lt-ltb, ltb-true}
 use Rattle.std.proofs.lemmas.List.Folds.{list_all-append}
 use Rattle.std.proofs.lemmas.List.Sorted.{IsPermutation-refl}
-use Rattle.texts.specs.Path.{file_stem_of}
 use Rattle.plans.specs.declared.plan.NvccGeneratedSubcommand.{NvccGeneratedSubcommand}
 use Rattle.plans.specs.declared.plan.Plan.{Plan}
 use Rattle.command_files.specs.declared.steps.Role.{Role}
 use Rattle.command_files.specs.declared.steps.Role.TheVariants as roles
 use Rattle.command_files.specs.declared.steps.Step.{Step}
-use Rattle.command_files.specs.CommandFiles.{tool_of_stem}
+use Rattle.plans.specs.Programs.{program_at}
 use Rattle.command_files.specs.Files.{Files, must_follow}
 use Rattle.command_files.specs.Order.{needs_by, needs_at, own_order, is_in, are_ordered, has_one_place, files_at, Effect, AllStayWithin, Hold}
 use Rattle.command_files.specs.PlanNeeds.{record_of, is_host_compiler, role_of, step_of, steps_from, plan_steps, plan_records, plan_needs, role_needs, step_needs}
@@ -81,7 +80,7 @@ final_by_group : (count group : ℕ) (compiles : Bool) → is_final (role_of cou
 final_by_group count group compiles = role_by (group == 0) (count - group == 1) compiles
 
 abbrev compiles_by : NvccGeneratedSubcommand → Bool
-compiles_by c = is_host_compiler (tool_of_stem (file_stem_of c.exe))
+compiles_by c = is_host_compiler (program_at c.exe)
 
 last_group : (count group : ℕ) (commands : List NvccGeneratedSubcommand) → is_last count group ≡ true → all_final (map (step_of count group) commands) ≡ true
 last_group count group [] e = refl

@@ -4,7 +4,7 @@ use Rattle.std.specs.List.{slice_split, starts_with}
 use Rattle.std.specs.Option.{option_and_then}
 use Rattle.std.specs.Str.{bytes_eq}
 use Rattle.texts.specs.Lists.{word_after, rest_after}
-use Rattle.texts.specs.Path.{joined, file_stem_of}
+use Rattle.texts.specs.Path.{joined}
 use Rattle.compilers.specs.Compiler.{Reading, accepted, cannot_cache, not_compilation}
 use Rattle.compilers.specs.declared.arguments.ParsedArguments.{ParsedArguments}
 use Rattle.compilers.specs.declared.outputs.ArtifactDescriptor.{ArtifactDescriptor}
@@ -12,8 +12,9 @@ use Rattle.device_lines.specs.Cicc.{cicc_answer}
 use Rattle.device_lines.specs.CudaFE.{cudafe_answer}
 use Rattle.device_lines.specs.Ptxas.{ptxas_answer}
 use Rattle.command_files.specs.declared.files.CommandFiles.{CommandFiles}
-use Rattle.command_files.specs.declared.files.Tool.{Tool}
-use Rattle.command_files.specs.declared.files.Tool.TheVariants as tools
+use Rattle.plans.specs.declared.program.Program.{Program}
+use Rattle.plans.specs.declared.program.Program.TheVariants as programs
+use Rattle.plans.specs.Programs.{program_at}
 
 -- the path of a text that is looked up from a folder, if there is one
 abbrev pub joined_option : List ℕ → Option (List ℕ) → List (List ℕ)
@@ -125,28 +126,18 @@ host_files cwd words = record {
 
 -- Commands.
 
--- the tool of a program, by the stem of its file name
-abbrev pub tool_of_name : List ℕ → Tool
-tool_of_name stem =
-    if bytes_eq stem (codes "cicc") then tools.Cicc else
-    (if bytes_eq stem (codes "cudafe++") then tools.Cudafe else
-    (if bytes_eq stem (codes "ptxas") then tools.Ptxas else
-    (if bytes_eq stem (codes "fatbinary") then tools.Fatbinary else tools.Other)))
-
-abbrev pub tool_of_stem : Option (List ℕ) → Tool
-tool_of_stem None = tools.Other
-tool_of_stem (Some stem) = tool_of_name stem
-
-abbrev pub files_of_tool : Tool → List ℕ → List (List ℕ) → CommandFiles
-files_of_tool tools.Cicc cwd words = cicc_files cwd words
-files_of_tool tools.Cudafe cwd words = cudafe_files cwd words
-files_of_tool tools.Ptxas cwd words = ptxas_files cwd words
-files_of_tool tools.Fatbinary cwd words = fatbinary_files cwd words
-files_of_tool tools.Other cwd words = host_files cwd words
+-- by the program
+abbrev pub files_of_program : Program → List ℕ → List (List ℕ) → CommandFiles
+files_of_program programs.Cicc cwd words = cicc_files cwd words
+files_of_program programs.Cudafe cwd words = cudafe_files cwd words
+files_of_program programs.Ptxas cwd words = ptxas_files cwd words
+files_of_program programs.Fatbinary cwd words = fatbinary_files cwd words
+files_of_program programs.Nvlink cwd words = host_files cwd words
+files_of_program programs.Other cwd words = host_files cwd words
 
 -- the files of a command: its program, its words and its working directory
 abbrev pub files_of_words : List ℕ → List (List ℕ) → List ℕ → CommandFiles
-files_of_words program words cwd = files_of_tool (tool_of_stem (file_stem_of program)) cwd words
+files_of_words program words cwd = files_of_program (program_at program) cwd words
 
 -- examples of a fatbin for two targets: cicc of the first target may write the module id file, which that of the second reads
 pub first_cicc_writes_the_module_id :

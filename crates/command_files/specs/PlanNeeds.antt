@@ -2,28 +2,29 @@
 use Rattle.std.specs.Prelude.{◌≡◌, ℕ, ◌+◌, ◌-◌, List, [], ◌∷◌, ◌++◌, Bool, true, false, ◌||◌, ◌==◌, if◌then◌else◌, map, length, codes, refl}
 use Rattle.std.specs.List.{list_any}
 use Rattle.std.specs.Str.{bytes_eq}
-use Rattle.texts.specs.Path.{file_stem_of}
 use Rattle.texts.specs.Rows.{spaced}
 use Rattle.compilers.specs.declared.command.Cacheable.TheVariants.{Yes}
 use Rattle.plans.specs.declared.plan.NvccGeneratedSubcommand.{NvccGeneratedSubcommand}
 use Rattle.plans.specs.declared.plan.Plan.{Plan}
 use Rattle.command_files.specs.declared.files.CommandFiles.{CommandFiles}
-use Rattle.command_files.specs.declared.files.Tool.{Tool}
-use Rattle.command_files.specs.declared.files.Tool.TheVariants as tools
+use Rattle.plans.specs.declared.program.Program.{Program}
+use Rattle.plans.specs.declared.program.Program.TheVariants as programs
+use Rattle.plans.specs.Programs.{program_at}
 use Rattle.command_files.specs.declared.steps.Role.{Role}
 use Rattle.command_files.specs.declared.steps.Role.TheVariants as roles
 use Rattle.command_files.specs.declared.steps.Step.{Step}
-use Rattle.command_files.specs.CommandFiles.{tool_of_stem, files_of_words}
+use Rattle.command_files.specs.CommandFiles.{files_of_words}
 use Rattle.command_files.specs.Files.{Files, must_follow}
 use Rattle.command_files.specs.Order.{needs_by}
 
--- whether a tool is a host compiler. nvlink counts as one here, and only a final group has it
-abbrev pub is_host_compiler : Tool → Bool
-is_host_compiler tools.Cicc = false
-is_host_compiler tools.Cudafe = false
-is_host_compiler tools.Ptxas = false
-is_host_compiler tools.Fatbinary = false
-is_host_compiler tools.Other = true
+-- whether a program is a host compiler. nvlink counts as one here, and only a final group has it
+abbrev pub is_host_compiler : Program → Bool
+is_host_compiler programs.Cicc = false
+is_host_compiler programs.Cudafe = false
+is_host_compiler programs.Ptxas = false
+is_host_compiler programs.Fatbinary = false
+is_host_compiler programs.Nvlink = true
+is_host_compiler programs.Other = true
 
 -- The role of a command in the group numbered `group` of `count`: a host compiler preprocesses in the front group and in device
 -- groups. The last group is the final one, unless it is also the first.
@@ -41,7 +42,7 @@ preprocesses words = list_any (bytes_eq (codes "-E")) words
 abbrev pub step_of : ℕ → ℕ → NvccGeneratedSubcommand → Step
 step_of count group c = record {
   files = files_of_words c.exe c.args c.cwd;
-  role = role_of count group (is_host_compiler (tool_of_stem (file_stem_of c.exe)));
+  role = role_of count group (is_host_compiler (program_at c.exe));
   preprocesses = preprocesses c.args;
 }
 

@@ -3,7 +3,6 @@
 ghost use Rattle.std.specs.Prelude.{◌≡◌, ◌<◌, ◌++◌, ◌∷◌, [], length, map, codes, IfOk, IfSome, MatchOption, OnOk, string_bytes};
 ghost use Rattle.std.specs.Option.{option_copied};
 ghost use Rattle.texts.specs.Lists.{rest_after};
-ghost use Rattle.texts.specs.Path.{file_stem_of};
 ghost use Rattle.compilers.specs.Compiler.{reading_of};
 ghost use Rattle.command_files.specs.CommandFiles as spec;
 
@@ -13,9 +12,9 @@ use compilers::outputs::Outputs;
 use device_lines::cicc::Cicc;
 use device_lines::cudafe::CudaFE;
 use device_lines::ptxas::Ptxas;
-use plans::NvccGeneratedSubcommand;
+use plans::{NvccGeneratedSubcommand, Program};
 use std::alloc::{AllocError, Global};
-use texts::text::{file_stem, join};
+use texts::text::join;
 use texts::words::{Words, word_after};
 
 /// The files that a command reads and writes according to its words, as paths joined to its working directory.
@@ -30,40 +29,6 @@ pub struct CommandFiles {
     /// Whether the words name all files of the compilation that the command touches. Host compilers also read headers and
     /// libraries, and a line that can't be read names nothing.
     pub complete: bool,
-}
-
-/// The programs whose words name files in ways of their own.
-#[derive(Clone, Copy)]
-pub enum Tool {
-    Cicc,
-    Cudafe,
-    Ptxas,
-    Fatbinary,
-    /// nvlink or a host compiler.
-    Other,
-}
-
-// The tool of a program's stem.
-fn tool_of_stem(stem: &str) -> Tool
-    ensures { result ≡ spec.tool_of_name stem.now }
-{
-    match stem {
-        "cicc" => Tool::Cicc,
-        "cudafe++" => Tool::Cudafe,
-        "ptxas" => Tool::Ptxas,
-        "fatbinary" => Tool::Fatbinary,
-        _ => Tool::Other,
-    }
-}
-
-/// The tool of a program, by its path.
-pub fn tool_of(program: &str) -> Tool
-    ensures { result ≡ spec.tool_of_stem (file_stem_of program.now) }
-{
-    match file_stem(program) {
-        None => Tool::Other,
-        Some(stem) => tool_of_stem(stem),
-    }
 }
 
 // Puts a path last, joined to `cwd`, if there is one.
@@ -371,11 +336,11 @@ pub fn files_of(
 {
     let words = command.args.as_slice();
     let cwd = command.cwd.as_str();
-    match tool_of(command.exe.as_str()) {
-        Tool::Cicc => cicc_files(alloc, cwd, words),
-        Tool::Cudafe => cudafe_files(alloc, cwd, words),
-        Tool::Ptxas => ptxas_files(alloc, cwd, words),
-        Tool::Fatbinary => fatbinary_files(alloc, cwd, words),
-        Tool::Other => host_files(alloc, cwd, words),
+    match Program::at(command.exe.as_str()) {
+        Program::Cicc => cicc_files(alloc, cwd, words),
+        Program::Cudafe => cudafe_files(alloc, cwd, words),
+        Program::Ptxas => ptxas_files(alloc, cwd, words),
+        Program::Fatbinary => fatbinary_files(alloc, cwd, words),
+        Program::Nvlink | Program::Other => host_files(alloc, cwd, words),
     }
 }

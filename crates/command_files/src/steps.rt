@@ -1,12 +1,10 @@
 //! The commands of a plan, as what their needs depend on.
 
 ghost use Rattle.std.specs.Prelude.{◌≡◌, ◌++◌, IfOk, OnOk, length, map, string_bytes, vec_items};
-ghost use Rattle.texts.specs.Path.{file_stem_of};
-ghost use Rattle.command_files.specs.CommandFiles.{tool_of_stem};
 ghost use Rattle.command_files.specs.PlanNeeds as spec;
 
-use crate::files::{CommandFiles, Tool, files_of, tool_of};
-use plans::{NvccGeneratedSubcommand, Plan};
+use crate::files::{CommandFiles, files_of};
+use plans::{NvccGeneratedSubcommand, Plan, Program};
 use std::alloc::{AllocError, Global};
 
 /// What a command does in its plan, as far as others wait for it or it waits for others whatever the files.
@@ -31,13 +29,13 @@ pub struct Step {
     pub preprocesses: bool,
 }
 
-// Whether a tool is a host compiler.
-fn is_host_compiler(tool: Tool) -> bool
-    ensures { result ≡ spec.is_host_compiler tool }
+// Whether a program is a host compiler, as nvlink counts here.
+fn is_host_compiler(program: Program) -> bool
+    ensures { result ≡ spec.is_host_compiler program }
 {
-    match tool {
-        Tool::Cicc | Tool::Cudafe | Tool::Ptxas | Tool::Fatbinary => false,
-        Tool::Other => true,
+    match program {
+        Program::Cicc | Program::Cudafe | Program::Ptxas | Program::Fatbinary => false,
+        Program::Nvlink | Program::Other => true,
     }
 }
 
@@ -86,7 +84,7 @@ fn step_of(
         role: role_of(
             count,
             group,
-            is_host_compiler(tool_of(command.exe.as_str())),
+            is_host_compiler(Program::at(command.exe.as_str())),
         ),
         preprocesses: preprocesses(command.args.as_slice()),
     })

@@ -3,9 +3,10 @@ pub mod EntryLemmas
 pub mod EnvironmentLemmas
 pub mod FateLemmas
 pub mod GroupingLemmas
+pub mod KindLemmas
 pub mod MergeLemmas
-pub mod OpeningLemmas
 pub mod OpenerLemmas
+pub mod OpeningLemmas
 pub mod OriginLemmas
 pub mod PlanLemmas
 pub mod PlanNeedLemmas

@@ -12,7 +12,7 @@ ghost use Rattle.command_groups.specs.StageView.{named_stage};
 use crate::merge::SelectedCommand;
 use crate::openings::{MadeFiles, OpenedNames, Opening};
 use crate::stage::{
-    Stage, cicc_input, edited_words, kind_of_program, last_word, opened_name, ptxas_input, stage_of,
+    Stage, cicc_input, edited_words, last_word, opened_name, program_at, ptxas_input, stage_of,
 };
 use compilers::compiler::NvccHostCompiler;
 use plans::Reason;
@@ -147,9 +147,9 @@ impl Grouping {
             program,
             words,
         } = command;
-        let kind = kind_of_program(program.as_str());
-        let words = edited_words(alloc, kind, flag, words)?;
-        let stage = stage_of(kind, host_compiler, words.as_slice());
+        let tool = program_at(program.as_str());
+        let words = edited_words(alloc, tool, flag, words)?;
+        let stage = stage_of(tool, host_compiler, words.as_slice());
         let label = self.label(alloc, stage, words.as_slice())?;
         let command = SelectedCommand {
             line,

@@ -10,45 +10,18 @@ ghost use Rattle.command_groups.specs.WordPlace.{word_place};
 
 use compilers::command::Cacheable;
 use compilers::compiler::NvccHostCompiler;
+use plans::Program;
 use std::alloc::{AllocError, Global};
 use texts::compilation_flags::asks_object;
 use texts::device_files::{is_cicc_input, is_ptxas_input};
-use texts::text::{file_name, file_stem};
+use texts::text::file_name;
 use texts::words::word_after;
 
-/// The kinds of programs.
-#[derive(Clone, Copy)]
-pub enum ProgramKind {
-    /// One of nvcc's linkers: `fatbinary` or `nvlink`.
-    Linker,
-    Cudafe,
-    Cicc,
-    Ptxas,
-    /// Any other program.
-    Other,
-}
-
-// The kind of the programs of a stem.
-fn kind_of_stem(stem: &str) -> ProgramKind
-    ensures { kind_seen result ≡ spec.kind_of_stem stem.now }
+/// The program at a path. Contracts see its kind.
+pub fn program_at(path: &str) -> Program
+    ensures { kind_seen result ≡ spec.kind_of_program path.now }
 {
-    match stem {
-        "fatbinary" | "nvlink" => ProgramKind::Linker,
-        "cudafe++" => ProgramKind::Cudafe,
-        "cicc" => ProgramKind::Cicc,
-        "ptxas" => ProgramKind::Ptxas,
-        _ => ProgramKind::Other,
-    }
-}
-
-/// The kind of a program, by its path.
-pub fn kind_of_program(program: &str) -> ProgramKind
-    ensures { kind_seen result ≡ spec.kind_of_program program.now }
-{
-    match file_stem(program) {
-        None => ProgramKind::Other,
-        Some(stem) => kind_of_stem(stem),
-    }
+    Program::at(path)
 }
 
 // Whether words include a word.
@@ -138,23 +111,23 @@ fn cicc_words(flag: &str, words: Vec<String>) -> Vec<String>
     }
 }
 
-/// The words of a program of a kind, as a plan runs them under a compilation flag.
+/// The words of a program, as a plan runs them under a compilation flag.
 ///
 /// Adds `--gen_module_id_file` to cudafe++ if a word names that file: nvcc before CUDA 12.0 doesn't write it, and a plan
 /// runs cudafe++ first. If the flag asks for an object, removes it from cicc, which then reads the file that cudafe++
 /// makes: nvcc before CUDA 12.8 writes it. sccache 0.19.0 makes the same changes.
 pub fn edited_words(
     alloc: Global,
-    kind: ProgramKind,
+    program: Program,
     flag: &str,
     words: Vec<String>,
 ) -> Result<Vec<String>, AllocError>
-    ensures { IfOk result (λ edited. map string_bytes edited.items ≡ spec.edited_by (kind_seen kind) flag.now (map string_bytes words.items)) }
+    ensures { IfOk result (λ edited. map string_bytes edited.items ≡ spec.edited_by (kind_seen program) flag.now (map string_bytes words.items)) }
 {
-    match kind {
-        ProgramKind::Cudafe => cudafe_words(alloc, words),
-        ProgramKind::Cicc => Ok(cicc_words(flag, words)),
-        ProgramKind::Linker | ProgramKind::Ptxas | ProgramKind::Other => Ok(words),
+    match program {
+        Program::Cudafe => cudafe_words(alloc, words),
+        Program::Cicc => Ok(cicc_words(flag, words)),
+        Program::Fatbinary | Program::Nvlink | Program::Ptxas | Program::Other => Ok(words),
     }
 }
 
@@ -229,16 +202,16 @@ fn host_stage(host_compiler: NvccHostCompiler, words: &[String]) -> Stage
     }
 }
 
-/// The stage of a program of a kind with its edited words. Contracts see it with the name that the words give it.
-pub fn stage_of(kind: ProgramKind, host_compiler: NvccHostCompiler, words: &[String]) -> Stage
-    ensures { named_stage result (map string_bytes words.now) ≡ spec.stage_by (kind_seen kind) host_compiler (map string_bytes words.now) }
+/// The stage of a program with its edited words. Contracts see it with the name that the words give it.
+pub fn stage_of(program: Program, host_compiler: NvccHostCompiler, words: &[String]) -> Stage
+    ensures { named_stage result (map string_bytes words.now) ≡ spec.stage_by (kind_seen program) host_compiler (map string_bytes words.now) }
 {
-    match kind {
-        ProgramKind::Linker => Stage::Linking,
-        ProgramKind::Cudafe => Stage::Splitting,
-        ProgramKind::Cicc => Stage::DeviceCompiling,
-        ProgramKind::Ptxas => Stage::Assembling,
-        ProgramKind::Other => host_stage(host_compiler, words),
+    match program {
+        Program::Fatbinary | Program::Nvlink => Stage::Linking,
+        Program::Cudafe => Stage::Splitting,
+        Program::Cicc => Stage::DeviceCompiling,
+        Program::Ptxas => Stage::Assembling,
+        Program::Other => host_stage(host_compiler, words),
     }
 }
 

@@ -4,6 +4,8 @@
 pub mod laws;
 mod origins;
 mod plan;
+mod program;
 
 pub use origins::{Origin, Origins, PlanWithOrigins};
 pub use plan::{Dropped, DroppedCommands, Groups, NvccGeneratedSubcommand, Plan, Reason};
+pub use program::Program;
