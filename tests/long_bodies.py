@@ -220,13 +220,13 @@ plans | plans/plan | try_clone | self.env_vars.len() > 50
 plans | cuda_plans/nvcc/execution | execute before run_plan | plan.groups.as_slice().len() > 50 && self.num_parallel < 2
 plans | cuda_plans/nvcc/execution | execute before run_plan | plan.groups.as_slice().len() > 50 && self.num_parallel > 1
 plans | cuda_plans/nvcc/execution | execute before run_plan | long_body::has_large(plan.groups.as_slice(), 500)
-plans | cuda_plans/outcome | aggregate_output | lhs.stdout.len() > 500_000
-plans | cuda_plans/outcome | aggregate_output | rhs.stdout.len() > 500_000
-plans | cuda_plans/outcome | aggregate_output | lhs.stderr.len() > 50_000
-plans | cuda_plans/outcome | aggregate_output | rhs.stderr.len() > 50_000
-plans | cuda_plans/outcome | error_to_output | matches!(&fault, Fault::Runner(text) if text.len() > 500_000)
-plans | cuda_plans/outcome | compile_result_to_output | finished.stderr.len() > 50_000
-plans | cuda_plans/outcome | compile_result_to_output | finished.stdout.len() > 50_000
+plans | plan_runners/outcome | aggregate_output | lhs.stdout.len() > 500_000
+plans | plan_runners/outcome | aggregate_output | rhs.stdout.len() > 500_000
+plans | plan_runners/outcome | aggregate_output | lhs.stderr.len() > 50_000
+plans | plan_runners/outcome | aggregate_output | rhs.stderr.len() > 50_000
+plans | plan_runners/outcome | error_to_output | matches!(&fault, Fault::Runner(text) if text.len() > 500_000)
+plans | plan_runners/outcome | compile_result_to_output | finished.stderr.len() > 50_000
+plans | plan_runners/outcome | compile_result_to_output | finished.stdout.len() > 50_000
 
 plans | command_files/files | files_of | command.args.len() > 500
 plans | command_files/files | files_of | long_body::has_long(command.args.as_slice(), 1_500)

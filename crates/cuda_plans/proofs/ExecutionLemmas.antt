@@ -7,7 +7,7 @@ use Rattle.texts.specs.declared.fault.Fault.TheVariants.{Memory}
 use Rattle.texts.specs.declared.status.Output.{Output}
 use Rattle.texts.specs.Fault.{UnlessMemory}
 use Rattle.plans.specs.declared.plan.Plan.{Plan}
-use Rattle.cuda_plans.specs.Schedule.{AccountEntry, Gains, RunsAs, ExecutesAs, due_steps}
+use Rattle.plan_runners.specs.Schedule.{AccountEntry, Gains, RunsAs, ExecutesAs, due_steps}
 
 -- a refusal of the planning, before anything ran
 refused-planning : (fault : Fault) (planned : Result Plan Fault) (parallel : ℕ) → UnlessMemory {T = Plan} (Err fault) planned → ExecutesAs planned parallel [] (Err fault)

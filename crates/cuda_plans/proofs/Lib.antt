@@ -1,7 +1,2 @@
 pub mod ExecutionLemmas
 pub mod NvccEqualityLemmas
-pub mod OutcomeLemmas
-pub mod PlaceLemmas
-pub mod RunningLemmas
-pub mod ScheduleLemmas
-pub mod SignedLemmas

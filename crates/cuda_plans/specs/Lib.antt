@@ -2,10 +2,6 @@ pub mod Nvcc
 pub mod NvccCommand
 pub mod NvccPlan
 pub mod NvccExamples
-pub mod Outcome
-pub mod OutcomeLaws
-pub mod Running
-pub mod Schedule
 pub mod ScheduleExamples
 pub use Rattle.canonical_names.specs.Alike
 pub use Rattle.canonical_names.specs.AlikeExamples
@@ -68,6 +64,10 @@ pub use Rattle.option_items.specs.LongestMatch
 pub use Rattle.option_items.specs.Table
 pub use Rattle.option_items.specs.Views
 pub use Rattle.option_items.specs.WordsLaw
+pub use Rattle.plan_runners.specs.Outcome
+pub use Rattle.plan_runners.specs.OutcomeLaws
+pub use Rattle.plan_runners.specs.Running
+pub use Rattle.plan_runners.specs.Schedule
 pub use Rattle.shell_words.specs.Shell
 pub use Rattle.texts.specs.DeviceFiles
 pub use Rattle.texts.specs.Endings

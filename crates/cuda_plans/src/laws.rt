@@ -1,13 +1,10 @@
 //! Laws of whole calls, and schedules worked out by hand, which the definitions compute. The laws of the crates below are
 //! exported here too.
 
-ghost use Rattle.texts.specs.Equality.{TellsEqual};
 ghost use Rattle.command_groups.specs.PlanLaws.{AlikeTextsHaveOnePlan, ReadableRunsArePlanned, PlannedRunsAreReadable, FirstRunIsRefused, SecondRunIsRefused, PlannedCommandsHaveOneFate};
-ghost use Rattle.cuda_plans.specs.OutcomeLaws.{AggregationIsAssociative, EmptySuccessIsNeutralFirst, EmptySuccessIsNeutralLast};
 ghost use Rattle.cuda_plans.specs.ScheduleExamples as examples;
 ghost use Rattle.device_lines.specs.Reread.{CiccLinesReread, PtxasLinesReread, CudaFELinesReread};
 
-use crate::runner::{Answer, Place};
 pub use canonical_names::laws::{
     canonical_names, renaming, renaming_needs, step_shadows, worked_likeness, worked_renamings,
 };
@@ -20,15 +17,8 @@ pub use device_lines::laws::{
 };
 pub use dry_runs::laws::{equality as dry_run_equality, worked_runs};
 pub use host_lines::laws::equality as host_equality;
+pub use plan_runners::laws::{equality, joined_outputs};
 pub use texts::laws::equality as text_equality;
-
-/// `==` on places and on answers compares all that they hold: it says whether two values are equal.
-pub fn equality()
-    ensures place { TellsEqual ⟦<Place as PartialEq>⟧.eq }
-    ensures answer { TellsEqual ⟦<Answer as PartialEq>⟧.eq }
-{
-    texts::laws::equality();
-}
 
 /// The planning theorem: two dry runs yield a plan exactly when both can be read; each selected command
 /// has the one fate of its rule, and each group is its fate's commands in line order; without a keep
@@ -56,13 +46,6 @@ pub fn planning_theorem()
     ensures cicc_rereads { CiccLinesReread }
     ensures ptxas_rereads { PtxasLinesReread }
     ensures cudafe_rereads { CudaFELinesReread }
-{}
-
-/// How outputs are joined doesn't depend on brackets, and an empty success changes nothing.
-pub fn joined_outputs()
-    ensures associative { AggregationIsAssociative }
-    ensures empty_success_first { EmptySuccessIsNeutralFirst }
-    ensures empty_success_last { EmptySuccessIsNeutralLast }
 {}
 
 /// Which commands of three kernels run, and what comes of it, by the definitions.

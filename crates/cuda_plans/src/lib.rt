@@ -6,9 +6,6 @@
 pub mod dry_run;
 pub mod laws;
 pub mod nvcc;
-pub mod outcome;
-pub mod runner;
-mod running;
 
 pub use command_groups as plan;
 pub use compilers::{arguments, command, compiler, outputs};
@@ -16,5 +13,6 @@ pub use device_lines::{cicc, cudafe, ptxas};
 pub use gcc_lines::gcc;
 pub use host_lines::nvhpc;
 pub use option_items::{items, table, views};
+pub use plan_runners::{outcome, runner};
 pub use shell_words as shell;
 pub use texts::{bytes, decimal, extension, fault, language, status, text, variables, words};

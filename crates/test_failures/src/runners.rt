@@ -1,9 +1,9 @@
 //! A runner that runs out of memory at any of its calls.
 
 ghost use Rattle.std.specs.Prelude.{◌≡◌, ◌++◌, ◌∷◌, [], map};
-ghost use Rattle.cuda_plans.specs.Outcome.{empty_success};
-ghost use Rattle.cuda_plans.specs.Schedule.{AccountEntry};
-ghost use Rattle.cuda_plans.specs.declared.runner.Answer.TheVariants.{Failed};
+ghost use Rattle.plan_runners.specs.Outcome.{empty_success};
+ghost use Rattle.plan_runners.specs.Schedule.{AccountEntry};
+ghost use Rattle.plan_runners.specs.declared.runner.Answer.TheVariants.{Failed};
 ghost use Rattle.texts.specs.declared.fault.Fault.TheVariants.{Process};
 
 use crate::one_kernel::ONE_KERNEL;

@@ -1,7 +1,7 @@
 //! A runner with prepared answers.
 
 ghost use Rattle.std.specs.Prelude.{◌≡◌, ◌++◌, ◌∷◌, [], map};
-ghost use Rattle.cuda_plans.specs.Schedule.{AccountEntry};
+ghost use Rattle.plan_runners.specs.Schedule.{AccountEntry};
 
 use cuda_plans::runner::{Answer, Place, Runner};
 use plans::NvccGeneratedSubcommand;

@@ -4,14 +4,14 @@ ghost use Rattle.std.specs.Prelude.{◌≡◌};
 ghost use Rattle.std.specs.Option.{option_copied};
 ghost use Rattle.texts.specs.Fault.{UnlessMemory};
 ghost use Rattle.cuda_plans.specs.NvccPlan.{planned};
-ghost use Rattle.cuda_plans.specs.Schedule.{Gains, ExecutesAs};
+ghost use Rattle.plan_runners.specs.Schedule.{Gains, ExecutesAs};
 
 use super::command::NvccCompileCommand;
-use crate::runner::Runner;
-use crate::running::run_plan;
 use canonical_names::Suffixes;
 use command_groups::group_nvcc_subcommands_by_compilation_stage;
 use dry_runs::Which;
+use plan_runners::run_plan;
+use plan_runners::runner::Runner;
 use plans::Plan;
 use std::alloc::Global;
 use texts::fault::Fault;

@@ -1,0 +1,10 @@
+-- A signed number below 2^63 is printed as its numeral.
+use Rattle.std.proofs.Common.{◌≡◌, ◌+◌, ◌∷◌, ◌<◌, ◌^◌, ap, suc, arith, ℤ, pos, negsuc}
+use lib.Signed.{mag}
+use Rattle.std.specs.Fmt.{signed_decimal}
+use Rattle.texts.proofs.NumeralLemmas.{decimal-numeral}
+use Rattle.plan_runners.specs.Outcome.{signed_numeral}
+
+pub signed-numeral : (z : ℤ) → mag z + 1 < 2 ^ 64 → signed_decimal z ≡ signed_numeral z
+signed-numeral (pos n) fits = decimal-numeral n (omega (arith, fits))
+signed-numeral (negsuc n) fits = ap (λ digits. 45 ∷ digits) (decimal-numeral (suc n) (omega (arith, fits)))

@@ -1,0 +1,4 @@
+pub mod Outcome
+pub mod OutcomeLaws
+pub mod Running
+pub mod Schedule
