@@ -4,7 +4,7 @@ use Rattle.std.specs.List.{All, starts_with}
 use Rattle.std.proofs.lemmas.List.Elements.{All-nil, All-contains}
 use Rattle.texts.specs.Path.{folder_of, separator_after}
 use Rattle.texts.proofs.PathLaw.{folder-begins}
-use Rattle.dry_runs.specs.CommandLines.{CommandLine, line_of, program_of, words_of_command}
+use Rattle.command_lines.specs.CommandLines.{CommandLine, line_of, program_of, words_of_command}
 use Rattle.canonical_names.specs.Generated.{head_of, core_of, class_of, class_of_name, begins_with_dash, is_file_mark}
 use Rattle.canonical_names.specs.Renaming.{canonical_in, canonical_name, rank, names_of_run}
 use Rattle.texts.specs.Numeral.{numeral}

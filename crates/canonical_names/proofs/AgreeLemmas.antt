@@ -6,7 +6,7 @@ use Rattle.std.specs.Str.{bytes_eq}
 use Rattle.std.proofs.lemmas.List.Elements.{All-nil, All-contains}
 use Rattle.std.proofs.lemmas.Slice.Eq.{bytes_eq-Decides}
 use Rattle.texts.specs.Path.{folder_of}
-use Rattle.dry_runs.specs.CommandLines.{CommandLine, line_of, program_of, words_of_command}
+use Rattle.command_lines.specs.CommandLines.{CommandLine, line_of, program_of, words_of_command}
 use Rattle.canonical_names.specs.Generated.{head_of, core_of, class_of, class_of_name, generated_name}
 use Rattle.canonical_names.specs.Renaming.{canonical_name, seen_after_word, seen_after, names_of_run}
 use Rattle.texts.specs.Lists.{with_name}

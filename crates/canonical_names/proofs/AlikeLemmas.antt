@@ -7,7 +7,7 @@ use Rattle.std.proofs.lemmas.Bool.{false≢true, or_cases}
 use Rattle.std.proofs.lemmas.List.Elements.{Contains-append_left, Contains-push}
 use Rattle.std.proofs.lemmas.Slice.Eq.{bytes_eq-Decides}
 use Rattle.texts.specs.Path.{joined, folder_of}
-use Rattle.dry_runs.specs.CommandLines.{CommandLine, words_of_command}
+use Rattle.command_lines.specs.CommandLines.{CommandLine, words_of_command}
 use Rattle.canonical_names.specs.Generated.{head_of, core_of, class_of, class_of_name, begins_with_dash, generated_name}
 use Rattle.canonical_names.specs.Renaming.{canonical_file, rank, with_words, seen_after_word, seen_after, names_of_run}
 use Rattle.texts.specs.Lists.{with_name}

@@ -11,7 +11,7 @@ use Rattle.texts.specs.DeviceFiles.{is_cicc_word}
 use Rattle.texts.specs.Lists.{word_after}
 use Rattle.texts.specs.Path.{joined, is_bare, is_absolute_path, separator_after}
 use Rattle.texts.proofs.EqualityLemmas.{lists}
-use Rattle.dry_runs.specs.CommandLines.{CommandLine, words_of_command}
+use Rattle.command_lines.specs.CommandLines.{CommandLine, words_of_command}
 use Rattle.canonical_names.specs.Alike.{holds, is_clean_word}
 use Rattle.canonical_names.specs.CanonicalNames.{AreSuffixes}
 use Rattle.canonical_names.specs.Counted.{has_class}

@@ -13,7 +13,7 @@ use Rattle.std.proofs.lemmas.Slice.Eq.{bytes_eq-Decides}
 use Rattle.std.proofs.Math.Seq.{drop-append_seam, drop-append-add}
 use Rattle.texts.specs.Path.{folder_of, is_bare, lacks, separator_after}
 use Rattle.texts.proofs.PathLaw.{joined-keeps_folder, folders-cancel}
-use Rattle.dry_runs.specs.CommandLines.{CommandLine, words_of_command}
+use Rattle.command_lines.specs.CommandLines.{CommandLine, words_of_command}
 use Rattle.canonical_names.specs.Generated.{standard_suffixes, class_of_name, core_of, begins_with_dash, generated_name}
 use Rattle.canonical_names.specs.Renaming.{canonical_file, canonical_in, canonical_or, canonical_name, rank, seen_after_word, seen_after, names_of_run}
 use Rattle.texts.specs.Numeral.{numeral}

@@ -4,7 +4,7 @@ use Rattle.std.specs.List.{list_any, list_all, starts_with, filter_map}
 use Rattle.std.specs.Option.{option_map}
 use Rattle.std.proofs.lemmas.Bool.{and_parts, or_parts, or_from, not-true}
 use Rattle.texts.specs.Path.{joined, folder_of}
-use Rattle.dry_runs.specs.CommandLines.{CommandLine, words_of_command}
+use Rattle.command_lines.specs.CommandLines.{CommandLine, words_of_command}
 use Rattle.canonical_names.specs.Generated.{head_of, core_of, class_of, is_file_mark, generated_name}
 use Rattle.canonical_names.specs.Renaming.{canonical_file, rank, with_words, seen_after_word, seen_after, names_of_run, renamed_core, renamed_word, renamed_words, renamed_after}
 use Rattle.texts.specs.Lists.{with_name}

@@ -7,8 +7,8 @@ use Rattle.std.proofs.lemmas.List.Elements.{All-nil, All-contains}
 use Rattle.texts.specs.Lists.{with_name}
 use Rattle.texts.specs.Numeral.{numeral}
 use Rattle.texts.specs.Path.{joined, folder_of, separator_after}
-use Rattle.dry_runs.specs.CommandLines.{CommandLine, words_of_command}
-use Rattle.dry_runs.specs.Replacing.{replaced, replaced_past}
+use Rattle.command_lines.specs.CommandLines.{CommandLine, words_of_command}
+use Rattle.command_lines.specs.Replacing.{replaced, replaced_past}
 use Rattle.canonical_names.specs.Generated.{head_of, core_of, class_of, class_of_name, generated_name, begins_with_dash}
 use Rattle.canonical_names.specs.Renaming.{canonical_file, canonical_name, rank, longest_first, rewritten, renamed_core, renamed_word, renamed_words, renamed_after, renamed, with_words, seen_after_word, seen_after, names_of_run}
 use Rattle.canonical_names.specs.Alike.{core_through, IsRenaming}

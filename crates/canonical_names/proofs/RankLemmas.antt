@@ -4,7 +4,7 @@ use Rattle.std.specs.List.{list_any, ends_with, filter, filter_map, cons_option}
 use Rattle.std.specs.Str.{bytes_eq}
 use Rattle.std.proofs.lemmas.Bool.{false≢true, or_parts, or_from, and_from, cond_both, eqb-false}
 use Rattle.std.proofs.lemmas.Slice.Eq.{bytes_eq-Decides}
-use Rattle.dry_runs.specs.CommandLines.{CommandLine, words_of_command}
+use Rattle.command_lines.specs.CommandLines.{CommandLine, words_of_command}
 use Rattle.canonical_names.specs.Generated.{generated_name}
 use Rattle.canonical_names.specs.Renaming.{rank, seen_after_word, seen_after}
 use Rattle.texts.specs.Lists.{with_name}

@@ -13,7 +13,7 @@ use Rattle.std.proofs.lemmas.List.{length-append, take-append-drop}
 use Rattle.std.proofs.lemmas.Slice.Eq.{bytes_eq-Decides}
 use Rattle.std.proofs.lemmas.Str.Pattern.{contains_text}
 use Rattle.std.proofs.Math.Seq.{drop-append_seam}
-use Rattle.dry_runs.specs.Replacing.{replaced, replaced_past}
+use Rattle.command_lines.specs.Replacing.{replaced, replaced_past}
 use Rattle.canonical_names.specs.Alike.{holds}
 use Rattle.canonical_names.proofs.RankLemmas.{bytes_eq-itself}
 use Rattle.canonical_names.proofs.RewriteLemmas.{replaced-none}

@@ -2,7 +2,7 @@
 use Rattle.std.proofs.Common.{◌≡◌, ℕ, ◌++◌, ◌-◌, false, cond, List, [], ◌∷◌, refl, ap, ◌∙◌, nat_eq, nat_lt, length, fold}
 use Rattle.std.specs.List.{list_any, starts_with, AllByRecursion}
 use Rattle.std.proofs.lemmas.Bool.{or_parts, cond_both}
-use Rattle.dry_runs.specs.Replacing.{replaced, replaced_past}
+use Rattle.command_lines.specs.Replacing.{replaced, replaced_past}
 use Rattle.canonical_names.specs.Generated.{head_of, core_of}
 use Rattle.canonical_names.specs.Renaming.{insert_by_length, longest_first, canonical_name, renamed_core}
 use Rattle.canonical_names.specs.Alike.{holds}

@@ -10,7 +10,7 @@ use Rattle.texts.specs.Lists.{word_after}
 use Rattle.texts.specs.Path.{joined, is_bare}
 use Rattle.texts.proofs.EqualityLemmas.{lists}
 use Rattle.texts.proofs.PathLaw.{joined-cancels}
-use Rattle.dry_runs.specs.CommandLines.{CommandLine, words_of_command}
+use Rattle.command_lines.specs.CommandLines.{CommandLine, words_of_command}
 use Rattle.canonical_names.specs.Renaming.{rank, names_of_run}
 use Rattle.canonical_names.specs.Shadow.{appearances, is_plain_output}
 use Rattle.canonical_names.specs.StepShadow.{step_names, StepNamesKeepRank}

@@ -4,12 +4,12 @@ use Rattle.std.proofs.lemmas.Bool.{false≢true}
 use Rattle.std.specs.List.{Contains}
 use Rattle.std.proofs.lemmas.List.Elements.{All-from_recursion, All-contains}
 use Rattle.texts.specs.Path.{folder_of}
-use Rattle.dry_runs.specs.CommandLines.{CommandLine}
+use Rattle.command_lines.specs.CommandLines.{CommandLine}
 use Rattle.canonical_names.specs.Generated.{standard_suffixes, class_of_name}
 use Rattle.canonical_names.specs.Renaming.{names_of_run}
 use Rattle.canonical_names.specs.Alike.{is_clean, Alike}
 use Rattle.canonical_names.specs.Shadow.{is_shadow}
-use Rattle.dry_runs.specs.OneKernel.{one_kernel_commands, one_kernel_elsewhere_commands, one_kernel_in_temporary_commands}
+use Rattle.command_lines.specs.OneKernel.{one_kernel_commands, one_kernel_elsewhere_commands, one_kernel_in_temporary_commands}
 
 -- a run of one command with these words
 abbrev pub run_with : List (List ℕ) → List CommandLine

@@ -3,9 +3,9 @@ use Rattle.std.specs.Prelude.{ℕ, ◌+◌, List, [], ◌∷◌, ◌++◌, nat_e
 use Rattle.std.specs.List.{ends_with}
 use Rattle.std.specs.Str.{bytes_eq}
 use Rattle.texts.specs.Path.{joined, folder_of}
-use Rattle.dry_runs.specs.CommandLines.{CommandLine, line_of, program_of, words_of_command}
+use Rattle.command_lines.specs.CommandLines.{CommandLine, line_of, program_of, words_of_command}
 use Rattle.canonical_names.specs.Generated.{head_of, core_of, class_of, class_of_name, generated_name}
-use Rattle.dry_runs.specs.Replacing.{replaced}
+use Rattle.command_lines.specs.Replacing.{replaced}
 use Rattle.texts.specs.Lists.{with_name}
 use Rattle.texts.specs.Numeral.{numeral}
 

@@ -1,8 +1,7 @@
 -- Renamings worked out by hand.
-use Rattle.std.specs.Prelude.{◌≡◌, ℕ, List, [], ◌∷◌, Ok, Err, codes}
-use Rattle.dry_runs.specs.DryRunExamples.{Said, first_run}
+use Rattle.std.specs.Prelude.{◌≡◌, ℕ, List, [], ◌∷◌, codes}
 use Rattle.canonical_names.specs.Generated.{standard_suffixes}
-use Rattle.dry_runs.specs.OneKernel.{one_kernel, one_kernel_elsewhere, one_kernel_canonical}
+use Rattle.command_lines.specs.OneKernel.{one_kernel_commands, one_kernel_elsewhere_commands, one_kernel_canonical}
 use Rattle.canonical_names.specs.Renaming.{renamed, renamed_words}
 
 -- the words of a run of one command, renamed
@@ -43,22 +42,17 @@ SecondNameComesAgain =
     renames (codes "a.cudafe1.c" ∷ codes "b.cudafe1.c" ∷ codes "b.cudafe1.c" ∷ []) ≡
     codes "x_0.cudafe1.c" ∷ codes "x_1.cudafe1.c" ∷ codes "x_1.cudafe1.c" ∷ []
 
--- the commands of a dry run, renamed
-abbrev pub renamed_said : Said → Said
-renamed_said (Ok said) = Ok (renamed standard_suffixes said.0, said.1)
-renamed_said (Err fault) = Err fault
-
 -- the one-kernel dry run, and the same run with other names of its generated files, have the same canonical run
 abbrev pub OneKernelIsRenamed : Type 0
 OneKernelIsRenamed =
-    (renamed_said (first_run one_kernel) ≡ Ok (one_kernel_canonical, (codes "PATH", codes "/b") ∷ [])) ×
-    (renamed_said (first_run one_kernel_elsewhere) ≡ Ok (one_kernel_canonical, (codes "PATH", codes "/b") ∷ []))
+    (renamed standard_suffixes one_kernel_commands ≡ one_kernel_canonical) ×
+    (renamed standard_suffixes one_kernel_elsewhere_commands ≡ one_kernel_canonical)
 
 -- a name counts whatever command it appears in
 abbrev pub EveryCommandCounts : Type 0
 EveryCommandCounts =
-    renamed_said (first_run (codes "#$ PATH=/b\n#$ gcc a.cpp1.ii\n#$ cicc b.cpp1.ii\n")) ≡
-    Ok ((1, codes "/b/gcc", codes "x_0.cpp1.ii" ∷ []) ∷ (2, codes "/b/cicc", codes "x_1.cpp1.ii" ∷ []) ∷ [], (codes "PATH", codes "/b") ∷ [])
+    renamed standard_suffixes ((1, codes "/b/gcc", codes "a.cpp1.ii" ∷ []) ∷ (2, codes "/b/cicc", codes "b.cpp1.ii" ∷ []) ∷ []) ≡
+    (1, codes "/b/gcc", codes "x_0.cpp1.ii" ∷ []) ∷ (2, codes "/b/cicc", codes "x_1.cpp1.ii" ∷ []) ∷ []
 
 -- a name of one suffix can be the beginning of a name of another: the word then counts as a reference to it
 abbrev pub BeginningIsTakenForTheName : Type 0

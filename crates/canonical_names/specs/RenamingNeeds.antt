@@ -2,7 +2,7 @@
 use Rattle.std.specs.Prelude.{◌≡◌, ℕ, List, true, map}
 use Rattle.std.specs.List.{Contains}
 use Rattle.texts.specs.Path.{folder_of}
-use Rattle.dry_runs.specs.CommandLines.{CommandLine}
+use Rattle.command_lines.specs.CommandLines.{CommandLine}
 use Rattle.canonical_names.specs.Alike.{is_clean, command_through, Alike}
 use Rattle.canonical_names.specs.CanonicalNames.{AreSuffixes}
 use Rattle.canonical_names.specs.Generated.{class_of_name}

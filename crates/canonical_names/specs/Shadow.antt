@@ -5,7 +5,7 @@ use Rattle.std.specs.Cmp.Lexicographic.{pointwise}
 use Rattle.std.specs.Str.{bytes_eq}
 use Rattle.texts.specs.Path.{joined, is_bare, file_name_of}
 use Rattle.texts.specs.DeviceFiles.{is_cicc_word}
-use Rattle.dry_runs.specs.CommandLines.{CommandLine, words_of_command}
+use Rattle.command_lines.specs.CommandLines.{CommandLine, words_of_command}
 use Rattle.canonical_names.specs.Generated.{begins_with_dash, generated_name}
 use Rattle.texts.specs.Lists.{word_after}
 

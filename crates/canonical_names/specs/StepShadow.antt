@@ -6,9 +6,9 @@ use Rattle.std.specs.Str.{bytes_eq}
 use Rattle.texts.specs.DeviceFiles.{is_cicc_word}
 use Rattle.texts.specs.Lists.{word_after}
 use Rattle.texts.specs.Path.{joined, is_bare, file_name_of}
-use Rattle.dry_runs.specs.CommandLines.{CommandLine, words_of_command}
+use Rattle.command_lines.specs.CommandLines.{CommandLine, words_of_command}
 use Rattle.texts.specs.Rows.{spaced}
-use Rattle.dry_runs.specs.OneKernel.{one_kernel_commands, one_kernel_in_temporary_commands}
+use Rattle.command_lines.specs.OneKernel.{one_kernel_commands, one_kernel_in_temporary_commands}
 use Rattle.canonical_names.specs.CanonicalNames.{AreSuffixes, word_by_all}
 use Rattle.canonical_names.specs.Generated.{standard_suffixes, begins_with_dash}
 use Rattle.canonical_names.specs.Renaming.{rank, canonical_file, names_of_run}

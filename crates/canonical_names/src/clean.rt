@@ -4,7 +4,7 @@ ghost use Rattle.std.specs.Prelude.{◌≡◌, map, string_bytes};
 ghost use Rattle.std.specs.List.{list_any, list_all, filter_map};
 ghost use Rattle.std.specs.Option.{option_copied};
 ghost use Rattle.texts.specs.Lists.{is_some_and};
-ghost use Rattle.dry_runs.specs.CommandLines.{line_seen};
+ghost use Rattle.command_lines.specs.CommandLines.{line_seen};
 ghost use Rattle.canonical_names.specs.Alike as spec;
 ghost use Rattle.canonical_names.specs.Generated as generated;
 ghost use Rattle.canonical_names.specs.Renaming.{names_of_run};
@@ -12,7 +12,7 @@ ghost use Rattle.canonical_names.specs.Shadow.{appearances};
 
 use crate::references::holds;
 use crate::suffixes::Suffixes;
-use dry_runs::DryRun;
+use command_lines::DryRun;
 
 // Whether a text contains a generated name of a command.
 fn holds_name_of(text: &str, words: &[String], suffixes: &Suffixes) -> bool

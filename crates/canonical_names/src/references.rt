@@ -6,7 +6,7 @@ ghost use Rattle.texts.specs.Variables.{pair_of};
 ghost use Rattle.canonical_names.specs.Alike as alike;
 ghost use Rattle.canonical_names.specs.Counted.{old_names};
 ghost use Rattle.canonical_names.specs.References as spec;
-ghost use Rattle.dry_runs.specs.Replacing.{replaced};
+ghost use Rattle.command_lines.specs.Replacing.{replaced};
 
 use indexmap::IndexMap;
 use std::alloc::{AllocError, Global};

@@ -2,7 +2,7 @@
 
 ghost use Rattle.std.specs.Prelude.{◌≡◌, ◌⊎◌, ◌++◌, ◌∷◌, [], ℕ, map, take, IfOk, OnOk, OnErr, string_bytes};
 ghost use Rattle.std.specs.Option.{option_map, unwrap_or};
-ghost use Rattle.dry_runs.specs.CommandLines.{line_seen, words_of_command};
+ghost use Rattle.command_lines.specs.CommandLines.{line_seen, words_of_command};
 ghost use Rattle.texts.specs.Lists.{with_name};
 ghost use Rattle.canonical_names.specs.Counted.{class_of_core};
 ghost use Rattle.canonical_names.specs.Renaming as spec;
@@ -10,7 +10,7 @@ ghost use Rattle.canonical_names.specs.Renaming as spec;
 use crate::renames::Renames;
 use crate::suffixes::Suffixes;
 use crate::words::{core, with_head};
-use dry_runs::Commands;
+use command_lines::Commands;
 use std::alloc::{AllocError, Global};
 use texts::words::Words;
 

@@ -9,7 +9,7 @@ ghost use Rattle.texts.specs.DeviceFiles.{is_cicc_word};
 ghost use Rattle.texts.specs.Lists as lists;
 ghost use Rattle.texts.specs.Path as paths;
 ghost use Rattle.texts.specs.Path.{joined};
-ghost use Rattle.dry_runs.specs.CommandLines.{line_seen, words_of_command};
+ghost use Rattle.command_lines.specs.CommandLines.{line_seen, words_of_command};
 ghost use Rattle.canonical_names.specs.Generated.{generated_name};
 ghost use Rattle.canonical_names.specs.Shadow as spec;
 ghost use Rattle.canonical_names.specs.Shown.{name_shown};
@@ -17,7 +17,7 @@ ghost use Rattle.canonical_names.specs.StepShadow as step;
 
 use crate::suffixes::Suffixes;
 use crate::words::begins_with_dash;
-use dry_runs::DryRun;
+use command_lines::DryRun;
 use std::alloc::{AllocError, Global};
 use texts::device_files::is_cicc_input;
 use texts::text::{file_name, is_bare, join};

@@ -3,7 +3,7 @@ use Rattle.std.proofs.Common.{◌≡◌, ℕ, List, [], ◌∷◌, Bool, true, f
 use Rattle.std.specs.List.{list_all}
 use Rattle.std.proofs.lemmas.Bool.{and_parts, and_from}
 use Rattle.texts.specs.declared.fault.Fault.{Fault}
-use Rattle.dry_runs.specs.CommandLines.{CommandLine}
+use Rattle.command_lines.specs.CommandLines.{CommandLine}
 use Rattle.dry_runs.specs.DryRun.{LookUp, Meaning, meanings, run_or_fault, dry_run_of}
 use Rattle.dry_runs.specs.DryRunLines.{numbered_lines}
 use Rattle.dry_runs.specs.Environment.{Variable}

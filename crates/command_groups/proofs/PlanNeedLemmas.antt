@@ -5,8 +5,8 @@ use Rattle.std.specs.List.{list_any}
 use Rattle.std.specs.Str.{bytes_eq}
 use Rattle.std.proofs.lemmas.Bool.{false≢true}
 use Rattle.compilers.specs.declared.compiler.NvccHostCompiler.TheVariants.{Gcc}
-use Rattle.dry_runs.specs.CommandLines.{CommandLine}
-use Rattle.dry_runs.specs.OneKernel.{at}
+use Rattle.command_lines.specs.CommandLines.{CommandLine}
+use Rattle.command_lines.specs.OneKernel.{at}
 use Rattle.canonical_names.specs.Alike.{Alike}
 use Rattle.canonical_names.specs.AlikeExamples.{run_with}
 use Rattle.canonical_names.specs.Generated.{standard_suffixes}

@@ -3,10 +3,10 @@ use Rattle.std.proofs.Common.{◌≡◌, ◌∙◌, ℕ, List, map, Option, Resu
 use Rattle.texts.specs.declared.fault.Fault.{Fault}
 use Rattle.texts.specs.declared.fault.Fault.TheVariants.{Memory}
 use Rattle.texts.specs.Fault.{UnlessMemory, UnlessMemoryIs}
-use Rattle.dry_runs.specs.declared.commands.DryRun.{DryRun}
+use Rattle.command_lines.specs.declared.commands.DryRun.{DryRun}
 use Rattle.dry_runs.specs.declared.parsed.ParsedRun.{ParsedRun}
 use Rattle.dry_runs.specs.declared.parsed_runs.ParsedRuns.{ParsedRuns}
-use Rattle.dry_runs.specs.CommandLines.{CommandLine, line_of}
+use Rattle.command_lines.specs.CommandLines.{CommandLine, line_of}
 use Rattle.dry_runs.specs.DryRun.{LookUp}
 use Rattle.dry_runs.specs.Environment.{Variable}
 use Rattle.dry_runs.specs.Parsed.{IsParsed, both_parsed, resolved}

@@ -7,7 +7,7 @@ use Rattle.std.specs.Str.{is_utf8}
 use Rattle.std.proofs.lemmas.Bool.{lt-ltb}
 use Rattle.texts.specs.declared.fault.Fault.{Fault}
 use Rattle.texts.specs.declared.fault.Fault.TheVariants.{NotUtf8}
-use Rattle.dry_runs.specs.CommandLines.{CommandLine, line_of, words_of_command}
+use Rattle.command_lines.specs.CommandLines.{CommandLine, line_of, words_of_command}
 use Rattle.dry_runs.specs.DryRun.{LookUp, Meaning, Ignored, Assigns, Runs, Bad, meaning_found, meaning_by_path, meaning_of_words, meaning_assigned, meaning_marked, meaning, environment_after, meanings, assigned_by, command_of, fault_of, run_or_fault, dry_run_of}
 use Rattle.dry_runs.specs.DryRunLines.{numbered_lines, marked_text}
 use Rattle.dry_runs.specs.Environment.{Variable, assignment, expanded}

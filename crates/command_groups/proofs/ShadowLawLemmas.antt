@@ -16,7 +16,7 @@ use Rattle.texts.specs.DeviceFiles.{is_cicc_word}
 use Rattle.texts.specs.Lists.{is_some_and, first_word, word_after}
 use Rattle.texts.specs.ObjectFlags.{makes_objects}
 use Rattle.texts.specs.Path.{joined, is_bare, is_absolute_path, separator_after, file_name_of, file_stem_of}
-use Rattle.dry_runs.specs.CommandLines.{CommandLine, line_of, program_of, words_of_command}
+use Rattle.command_lines.specs.CommandLines.{CommandLine, line_of, program_of, words_of_command}
 use Rattle.canonical_names.specs.CanonicalNames.{AreSuffixes, word_by_all, command_by_all}
 use Rattle.canonical_names.specs.Generated.{core_of, generated_name, begins_with_dash}
 use Rattle.canonical_names.specs.Renaming.{canonical_file, canonical_name, rank, names_of_run, renamed}

@@ -3,7 +3,7 @@ use Rattle.std.specs.Prelude.{ℕ, List, [], ◌∷◌, ◌++◌, Bool, not, ◌
 use Rattle.std.specs.List.{list_any}
 use Rattle.std.specs.Str.{bytes_eq}
 use Rattle.texts.specs.Path.{file_stem_of}
-use Rattle.dry_runs.specs.CommandLines.{CommandLine, line_of, program_of, words_of_command}
+use Rattle.command_lines.specs.CommandLines.{CommandLine, line_of, program_of, words_of_command}
 use Rattle.texts.specs.Lists.{is_some_and}
 
 -- the stems of nvcc's own tools

@@ -10,8 +10,8 @@ use Rattle.plans.specs.declared.plan.Dropped.{Dropped}
 use Rattle.plans.specs.declared.plan.Reason.{Reason}
 use Rattle.plans.specs.declared.plan.Reason.TheVariants.{NotCuda, NoCiccGroup, NoPtxasGroup, Superseded}
 use Rattle.plans.specs.declared.plan.Plan.{Plan}
-use Rattle.dry_runs.specs.CommandLines.{CommandLine}
-use Rattle.dry_runs.specs.OneKernel.{at, commands_of}
+use Rattle.command_lines.specs.CommandLines.{CommandLine}
+use Rattle.command_lines.specs.OneKernel.{at, commands_of}
 use Rattle.command_groups.specs.Merge.{MergedCommand, merged}
 use Rattle.dry_runs.specs.Environment.{with_variables}
 use Rattle.command_groups.specs.Plan.{PlanSetting, plan_of}

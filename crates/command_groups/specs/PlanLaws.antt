@@ -1,7 +1,7 @@
 -- What is claimed of the plans of dry runs, for all of them.
 use Rattle.std.specs.Prelude.{◌≡◌, ℕ, List, [], ◌∷◌, ◌++◌, Bool, true, map, filter_map, Option, None, Ok, Err, IsPermutation}
 use Rattle.texts.specs.declared.fault.Fault.{Fault}
-use Rattle.dry_runs.specs.CommandLines.{CommandLine}
+use Rattle.command_lines.specs.CommandLines.{CommandLine}
 use Rattle.dry_runs.specs.DryRun.{LookUp, fault_of, meanings, dry_run_of}
 use Rattle.dry_runs.specs.DryRunLines.{numbered_lines}
 use Rattle.dry_runs.specs.Environment.{Variable}

@@ -10,7 +10,7 @@ use Rattle.dry_runs.specs.Computing.{dry_runs_compute}
 use Rattle.dry_runs.specs.FirstDir.{first_dir}
 use Rattle.canonical_names.specs.AlikeExamples.{one_kernel_is_alike}
 use Rattle.canonical_names.specs.Generated.{standard_suffixes}
-use Rattle.dry_runs.specs.OneKernel as bytes
+use Rattle.command_lines.specs.OneKernel as bytes
 use Rattle.command_groups.specs.PlanLaws.{AreAlikeTexts}
 use Rattle.command_groups.specs.PlanOfBytes.{planning_of}
 use Rattle.command_groups.specs.PlanExamples.{setting, path_set, one_kernel_plan, plan_with, runs, compiles, drops, step_and_cicc, superseded_pair, plan_of_step}

@@ -1,7 +1,7 @@
 -- What two dry runs are planned as within a limit. Each run is read with the whole limit.
 use Rattle.std.specs.Prelude.{ℕ, List, Option, Result, Ok, Err}
 use Rattle.dry_runs.specs.declared.limit.LimitedFault.{LimitedFault}
-use Rattle.dry_runs.specs.CommandLines.{CommandLine}
+use Rattle.command_lines.specs.CommandLines.{CommandLine}
 use Rattle.dry_runs.specs.DryRun.{LookUp}
 use Rattle.dry_runs.specs.Environment.{Variable}
 use Rattle.dry_runs.specs.Limit.{dry_run_within}

@@ -3,7 +3,7 @@ use Rattle.std.specs.Prelude.{◌≡◌, ℕ, List, Bool, Result, Ok, Err, if◌
 use Rattle.std.specs.Borrow.{Bor}
 use Rattle.std.specs.Str.{IsUtf8}
 use Rattle.texts.specs.declared.fault.Fault.{Fault}
-use Rattle.dry_runs.specs.CommandLines.{CommandLine}
+use Rattle.command_lines.specs.CommandLines.{CommandLine}
 use Rattle.dry_runs.specs.Environment.{Variable, with_variables}
 use Rattle.canonical_names.specs.Renaming.{renamed}
 use Rattle.command_groups.specs.Merge.{selected}

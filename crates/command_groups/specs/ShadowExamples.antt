@@ -5,8 +5,8 @@ use Rattle.std.specs.List.{list_all}
 use Rattle.std.proofs.lemmas.List.Elements.{Contains-push}
 use Rattle.compilers.specs.declared.compiler.NvccHostCompiler.TheVariants.{Gcc}
 use Rattle.texts.specs.Path.{joined, is_bare}
-use Rattle.dry_runs.specs.CommandLines.{CommandLine}
-use Rattle.dry_runs.specs.OneKernel.{at, one_kernel_commands}
+use Rattle.command_lines.specs.CommandLines.{CommandLine}
+use Rattle.command_lines.specs.OneKernel.{at, one_kernel_commands}
 use Rattle.canonical_names.specs.Alike.{is_clean}
 use Rattle.canonical_names.specs.Generated.{standard_suffixes}
 use Rattle.canonical_names.specs.Shadow.{appearances, is_shadow}

@@ -5,7 +5,7 @@ use Rattle.std.specs.Str.{bytes_eq}
 use Rattle.compilers.specs.declared.compiler.NvccHostCompiler.{NvccHostCompiler}
 use Rattle.texts.specs.Lists.{is_some_and, word_after}
 use Rattle.texts.specs.Path.{joined, is_bare, is_absolute_path, file_stem_of}
-use Rattle.dry_runs.specs.CommandLines.{CommandLine, line_of, program_of, words_of_command}
+use Rattle.command_lines.specs.CommandLines.{CommandLine, line_of, program_of, words_of_command}
 use Rattle.canonical_names.specs.Alike.{is_clean}
 use Rattle.canonical_names.specs.CanonicalNames.{AreSuffixes, command_by_all}
 use Rattle.canonical_names.specs.Generated.{begins_with_dash}

@@ -2,12 +2,12 @@
 
 ghost use Rattle.std.specs.Prelude.{◌≡◌, map, IfOk, IsPermutation, IsSorted};
 ghost use Rattle.std.specs.Vec.Iter.{into_iter_items};
-ghost use Rattle.dry_runs.specs.CommandLines.{line_of};
+ghost use Rattle.command_lines.specs.CommandLines.{line_of};
 ghost use Rattle.command_groups.specs.Merge as spec;
 ghost use Rattle.command_groups.specs.MergeLaws.{Rises, RisesInOrder};
 ghost use Rattle.command_groups.specs.MergedView.{command_seen, takes_stem};
 
-use dry_runs::Commands;
+use command_lines::Commands;
 use itertools::Itertools;
 use std::alloc::{AllocError, Global};
 use std::vec::IntoIter;

@@ -5,7 +5,7 @@ ghost use Rattle.std.specs.Option.{option_copied};
 ghost use Rattle.texts.specs.Fault.{UnlessMemory};
 ghost use Rattle.texts.specs.Variables.{pair_of};
 ghost use Rattle.dry_runs.specs.declared.limit.LimitedFault.{LimitedFault};
-ghost use Rattle.dry_runs.specs.CommandLines.{line_of};
+ghost use Rattle.command_lines.specs.CommandLines.{line_of};
 ghost use Rattle.dry_runs.specs.Limit.{UnlessMemoryWithin, dry_run_within};
 ghost use Rattle.dry_runs.specs.Parsed.{AreParsed, IsParsed, resolved};
 ghost use Rattle.dry_runs.specs.Reading.{dry_run_seen, dry_run_seen_within};
@@ -22,11 +22,9 @@ use crate::environment::Environments;
 use crate::merge::merge;
 use crate::setting::{Call, Setting};
 use canonical_names::{Suffixes, remap_commands};
+use command_lines::{Commands, DryRun};
 use compilers::compiler::NvccHostCompiler;
-use dry_runs::{
-    Commands, DryRun, LimitedFault, ParsedRun, ParsedRuns, Which, parse_dry_runs,
-    read_dry_run_within,
-};
+use dry_runs::{LimitedFault, ParsedRun, ParsedRuns, Which, parse_dry_runs, read_dry_run_within};
 use plans::{Plan, PlanWithOrigins};
 use std::alloc::{AllocError, Global};
 use texts::fault::Fault;

@@ -10,7 +10,8 @@ ghost use Rattle.command_groups.specs.Selection as spec;
 
 use crate::environment::with_variables;
 use canonical_names::{Suffixes, remap_commands};
-use dry_runs::{Commands, Which, read_dry_run};
+use command_lines::Commands;
+use dry_runs::{Which, read_dry_run};
 use std::alloc::{AllocError, Global};
 use texts::fault::Fault;
 use texts::text::file_stem;

@@ -5,9 +5,9 @@ use Rattle.texts.specs.declared.fault.Fault.TheVariants.{Process}
 use Rattle.plans.specs.declared.plan.NvccGeneratedSubcommand.{NvccGeneratedSubcommand}
 use Rattle.plan_runners.specs.declared.runner.Answer.{Answer}
 use Rattle.plan_runners.specs.declared.runner.Answer.TheVariants.{Ran, Failed}
-use Rattle.dry_runs.specs.CommandLines.{CommandLine}
+use Rattle.command_lines.specs.CommandLines.{CommandLine}
 use Rattle.plan_runners.specs.Outcome.{output_with}
-use Rattle.dry_runs.specs.OneKernel.{at}
+use Rattle.command_lines.specs.OneKernel.{at}
 use Rattle.command_groups.specs.PlanExamples.{runs, compiles, plan_of_both, plan_with}
 use Rattle.plan_runners.specs.Schedule.{AccountEntry, IsWhole, outcome_of, chunk_of}
 

@@ -11,7 +11,7 @@ use Rattle.std.proofs.Math.Seq.{take-length, take-append_seam, drop-append_seam}
 use Rattle.texts.specs.Path.{lacks}
 use Rattle.texts.specs.Lists.{rest_after}
 use Rattle.dry_runs.specs.Environment.{Variable, is_name_byte, assigned, assignment, is_followed, refers, expanded}
-use Rattle.dry_runs.specs.Replacing.{replaced_past, replaced}
+use Rattle.command_lines.specs.Replacing.{replaced_past, replaced}
 use Rattle.dry_runs.specs.Reading.{IsCutAt, is_name, begins_name}
 use Rattle.dry_runs.specs.FirstReferred.{behind_dollars}
 use Rattle.dry_runs.specs.FirstReferred.{refers as refers_by}

@@ -6,7 +6,7 @@ use Rattle.texts.specs.Path.{lacks}
 use Rattle.shell_words.specs.Shell.Splitting.{shell_words}
 use Rattle.dry_runs.specs.declared.set_variables.Reference.{Reference}
 use Rattle.dry_runs.specs.Environment.{Variable, refers, expanded}
-use Rattle.dry_runs.specs.Replacing.{replaced}
+use Rattle.command_lines.specs.Replacing.{replaced}
 use Rattle.dry_runs.specs.FirstReferred.{behind_dollars}
 use Rattle.dry_runs.specs.FirstReferred.{refers as refers_by}
 use Rattle.dry_runs.specs.Limit.{fitting, begun, made, expanded_fitting, expanded_within, words_left}

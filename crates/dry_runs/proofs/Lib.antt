@@ -1,6 +1,6 @@
-pub mod DryRunLemmas
 pub mod ExpansionLemmas
 pub mod FittingLemmas
+pub mod FolderLemmas
 pub mod LineLemmas
 pub mod ParsedLemmas
 pub mod PlaceLemmas

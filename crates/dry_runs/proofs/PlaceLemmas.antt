@@ -19,7 +19,7 @@ use Rattle.dry_runs.specs.Environment.{Variable, is_name_byte, begins_otherwise,
 use Rattle.dry_runs.specs.Limit.{made, expanded_fitting}
 use Rattle.dry_runs.specs.FirstReferred.{behind_dollars, refers, first_below, follows_at, follows_from, refers_at, IsFirstReferred}
 use Rattle.dry_runs.specs.Places.{beginning, behind_beginning, are_plain, Places, with_place, places_from}
-use Rattle.dry_runs.specs.Replacing.{replaced}
+use Rattle.command_lines.specs.Replacing.{replaced}
 use Rattle.dry_runs.proofs.ExpansionLemmas.{behind-cut, behind-nothing}
 use Rattle.dry_runs.proofs.FittingLemmas.{fitting-unreferred, fitting-referred}
 

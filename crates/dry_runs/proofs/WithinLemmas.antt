@@ -18,7 +18,7 @@ use Rattle.dry_runs.specs.declared.limit.LimitedFault.TheVariants.{TooLong}
 use Rattle.dry_runs.specs.declared.limit.LimitedFault.TheVariants as limited
 use Rattle.dry_runs.specs.declared.statement.Statement.{Statement}
 use Rattle.dry_runs.specs.declared.statement.Statement.TheVariants.{NotUtf8}
-use Rattle.dry_runs.specs.CommandLines.{CommandLine}
+use Rattle.command_lines.specs.CommandLines.{CommandLine}
 use Rattle.dry_runs.specs.DryRun.{LookUp, Meaning, Ignored, Assigns, Runs, Bad, meaning, meaning_found, meaning_by_path, environment_after, fault_of}
 use Rattle.dry_runs.specs.DryRunLines.{marked_text}
 use Rattle.dry_runs.specs.Environment.{Variable, expanded}

@@ -4,7 +4,7 @@ use Rattle.std.specs.List.{take_while}
 use Rattle.std.specs.Str.{chars, bytes_eq}
 use Rattle.ucd_perl.specs.Perl.{is_word_char}
 use Rattle.texts.specs.Lists.{rest_after}
-use Rattle.dry_runs.specs.Replacing.{replaced}
+use Rattle.command_lines.specs.Replacing.{replaced}
 
 -- a variable and its value
 abbrev pub Variable : Type 0

@@ -1,4 +1,3 @@
-pub mod CommandLines
 pub mod Computing
 pub mod DryRun
 pub mod DryRunLines
@@ -8,12 +7,13 @@ pub mod FirstDir
 pub mod FirstReferred
 pub mod Limit
 pub mod LimitExamples
-pub mod OneKernel
 pub mod Parsed
 pub mod ParsedExamples
 pub mod Places
 pub mod PlacesView
 pub mod PlainWords
 pub mod Reading
-pub mod Replacing
 pub mod Statement
+pub use Rattle.command_lines.specs.CommandLines
+pub use Rattle.command_lines.specs.OneKernel
+pub use Rattle.command_lines.specs.Replacing

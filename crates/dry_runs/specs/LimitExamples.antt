@@ -4,7 +4,7 @@ use Rattle.texts.specs.declared.fault.Fault.TheVariants.{NotUtf8}
 use Rattle.dry_runs.specs.declared.limit.LimitedFault.{LimitedFault}
 use Rattle.dry_runs.specs.declared.limit.LimitedFault.TheVariants.{TooLong}
 use Rattle.dry_runs.specs.declared.limit.LimitedFault.TheVariants as limited
-use Rattle.dry_runs.specs.CommandLines.{CommandLine}
+use Rattle.command_lines.specs.CommandLines.{CommandLine}
 use Rattle.dry_runs.specs.Environment.{Variable}
 use Rattle.dry_runs.specs.FirstDir.{first_dir}
 use Rattle.dry_runs.specs.Limit.{dry_run_within}

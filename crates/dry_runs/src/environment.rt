@@ -10,7 +10,7 @@ ghost use Rattle.texts.specs.Variables.{pair_of};
 ghost use Rattle.shell_words.specs.Shell.Splitting.{shell_words};
 ghost use Rattle.dry_runs.specs.Environment as spec;
 ghost use Rattle.dry_runs.specs.Limit as limit;
-ghost use Rattle.dry_runs.specs.Replacing as replacing;
+ghost use Rattle.command_lines.specs.Replacing as replacing;
 ghost use Rattle.dry_runs.specs.Reading as reading;
 ghost use Rattle.dry_runs.specs.Reading.{text_of, texts_of, IsCutAt};
 

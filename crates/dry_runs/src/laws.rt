@@ -1,18 +1,11 @@
 //! Laws of dry runs, and runs worked out by hand, which the definitions compute.
 
-ghost use Rattle.texts.specs.Equality.{TellsEqual};
 ghost use Rattle.dry_runs.specs.DryRunExamples.{OneKernelIsRead, LastLineNeedsNoNewline, NothingIsRead, UnmarkedLineIsNotText, QuoteIsOpen, CommentIsNoCommand, NoPathIsSet, DigitMakesACommand, PathIsEmpty, FirstBadLineDecides, ProgramsAreMissing, EmptyProgramIsLookedUp, ReferenceAtTheEndStays, OneReferenceExpandsAll, LetterFollowsAReference, FirstValueIsExpanded, ValuesAreExpandedInOrder, FirstPathCounts, OtherNamesAreRead, LastLineKeepsItsReturn, ByteOrderMarkUnmarks, ValuesAreKeptAsTheyStand, FirstFolderIsEmpty, FolderNeedsAPathToo, NameIsSetTwice, OtherCharactersEndAName, WordCharactersGoOn};
 ghost use Rattle.dry_runs.specs.LimitExamples.{AllThatIsHeldCounts, TextsOnTheWayCount, FirstOfBothDecides, UnmarkedLinesAreFree};
 ghost use Rattle.dry_runs.specs.Parsed.{ParsesThenResolves};
 ghost use Rattle.dry_runs.specs.ParsedExamples.{CommandsBeforeABadLine, EachRunHasTheLimit, MissingProgramIsFirst, PathCounts};
 
-use crate::commands::{Commands, DryRun};
-
-/// `==` on dry runs and on their commands says whether two values are equal.
-pub fn equality()
-    ensures commands { TellsEqual ⟦<Commands as PartialEq>⟧.eq }
-    ensures dry_run { TellsEqual ⟦<DryRun as PartialEq>⟧.eq }
-{}
+pub use command_lines::laws::equality;
 
 /// What some dry runs say, by the definitions.
 pub fn worked_runs()

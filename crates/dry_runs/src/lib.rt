@@ -1,7 +1,6 @@
 //! Dry runs: the commands and the environment that `nvcc --dryrun` prints, and the look-up of the programs in it.
 #![tactic(auto)]
 
-mod commands;
 mod environment;
 pub mod laws;
 mod limit;
@@ -16,7 +15,7 @@ mod set_variables;
 mod statement;
 mod which;
 
-pub use commands::{Commands, DryRun};
+pub use command_lines::{Commands, DryRun};
 pub use environment::{assignment, expanded_words};
 pub use limit::LimitedFault;
 pub use lines::{first_line, marked};

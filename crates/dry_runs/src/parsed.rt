@@ -8,10 +8,10 @@ ghost use Rattle.dry_runs.specs.Limit.{UnlessMemoryWithin};
 ghost use Rattle.dry_runs.specs.Parsed as spec;
 ghost use Rattle.dry_runs.specs.Reading.{dry_run_seen, dry_run_seen_within};
 
-use crate::commands::{Commands, DryRun};
 use crate::limit::LimitedFault;
 use crate::question::program_in;
 use crate::which::{Which, found_program};
+use command_lines::{Commands, DryRun};
 use std::alloc::{AllocError, Global};
 use texts::fault::Fault;
 use texts::variables::{Variables, first_value};

@@ -7,7 +7,6 @@ ghost use Rattle.dry_runs.specs.Limit.{UnlessMemoryWithin, dry_run_within};
 ghost use Rattle.dry_runs.specs.Parsed as spec;
 ghost use Rattle.dry_runs.specs.Reading.{dry_run_seen, dry_run_seen_within};
 
-use crate::commands::{Commands, DryRun};
 use crate::limit::{LimitedFault, left_behind_command, left_behind_variable};
 use crate::lines::first_line;
 use crate::parsed::{ParsedRun, whole};
@@ -15,6 +14,7 @@ use crate::question::Question;
 use crate::set_variables::SetVariables;
 use crate::statement::{Statement, statement_within};
 use crate::which::{Which, found_program};
+use command_lines::{Commands, DryRun};
 use std::alloc::{AllocError, Global};
 use texts::fault::Fault;
 use texts::text::Text;

@@ -7,7 +7,7 @@ ghost use Rattle.dry_runs.specs.Environment.{is_name_byte};
 ghost use Rattle.dry_runs.specs.FirstReferred as first;
 ghost use Rattle.dry_runs.specs.Limit as limit;
 ghost use Rattle.dry_runs.specs.Places as spec;
-ghost use Rattle.dry_runs.specs.Replacing as replacing;
+ghost use Rattle.command_lines.specs.Replacing as replacing;
 
 use crate::environment::{is_of_name_bytes, is_reference, parted};
 use crate::places::{NamePlaces, ends_a_name};

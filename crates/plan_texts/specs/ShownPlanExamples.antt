@@ -3,7 +3,7 @@ use Rattle.std.proofs.Common.{◌≡◌, ℕ, List, [], ◌∷◌, ◌++◌, cod
 use Rattle.std.specs.List.{flat_map}
 use Rattle.compilers.specs.declared.compiler.NvccHostCompiler.TheVariants.{Gcc}
 use Rattle.command_groups.specs.Plan.{plan_of}
-use Rattle.dry_runs.specs.OneKernel.{at, commands_of}
+use Rattle.command_lines.specs.OneKernel.{at, commands_of}
 use Rattle.command_groups.specs.PlanExamples.{setting, plan_of_both, step_and_cicc_twice}
 use Rattle.plan_texts.specs.ShownPlan.{show_plan}
 

@@ -1,6 +1,6 @@
 -- Reading a dry run by two look-ups that answer alike what it asks for.
 use Rattle.std.proofs.Common.{◌≡◌, ℕ, List, [], ◌∷◌, map, ◌||◌, true, false, cond, refl, ap, sym, ◌∙◌, subst}
-use Rattle.dry_runs.specs.CommandLines.{CommandLine}
+use Rattle.command_lines.specs.CommandLines.{CommandLine}
 use Rattle.dry_runs.specs.DryRun.{LookUp, dry_run_of}
 use Rattle.dry_runs.specs.declared.parsed.ParsedRun.{ParsedRun}
 use Rattle.dry_runs.specs.Parsed.{answer_to, behind_found, found_commands, parsed_of, path_of, program_in, resolved, unless_missing}

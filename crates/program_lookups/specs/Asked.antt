@@ -3,7 +3,7 @@
 use Rattle.std.specs.Prelude.{ℕ, List, [], map}
 use Rattle.dry_runs.specs.declared.parsed.ParsedRun.{ParsedRun}
 use Rattle.dry_runs.specs.declared.parsed_runs.ParsedRuns.{ParsedRuns}
-use Rattle.dry_runs.specs.CommandLines.{CommandLine}
+use Rattle.command_lines.specs.CommandLines.{CommandLine}
 use Rattle.dry_runs.specs.Parsed.{both_parsed, parsed_of, path_of, program_in}
 use Rattle.program_lookups.specs.declared.lookup.Lookup.{Lookup}
 use Rattle.program_lookups.specs.Lookup.{lookup_of, with_lookups}

@@ -4,7 +4,7 @@ use Rattle.dry_runs.specs.declared.limit.LimitedFault.{LimitedFault}
 use Rattle.dry_runs.specs.declared.limit.LimitedFault.TheVariants.{TooLong}
 use Rattle.dry_runs.specs.declared.parsed.ParsedRun.{ParsedRun}
 use Rattle.dry_runs.specs.declared.parsed_runs.ParsedRuns.{ParsedRuns}
-use Rattle.dry_runs.specs.CommandLines.{CommandLine}
+use Rattle.command_lines.specs.CommandLines.{CommandLine}
 use Rattle.dry_runs.specs.Limit.{left_behind}
 use Rattle.dry_runs.specs.Parsed.{both_parsed_within, path_of, program_in}
 use Rattle.program_lookups.specs.Candidates.{candidates_of}

@@ -2,7 +2,8 @@
 
 use crate::handed::Handed;
 use canonical_names::{Suffixes, is_clean, is_shadow, is_step_shadow, remap_commands};
-use dry_runs::{Commands, DryRun, FirstDir, read_dry_run};
+use command_lines::{Commands, DryRun};
+use dry_runs::{FirstDir, read_dry_run};
 use std::alloc::Global;
 use std::fs::Files;
 use test_tables::{Answer, Case, CaseError, debugged, refused};

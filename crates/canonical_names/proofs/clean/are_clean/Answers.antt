@@ -4,7 +4,7 @@ use Rattle.std.proofs.lemmas.List.Folds.{list_all-map}
 use Rattle.std.proofs.lemmas.Iterator.{YieldsList-from_slice}
 use Rattle.std.proofs.lemmas.Iterator.Search.{all_from_yields_List}
 use borrow.Author.Tests.{tests}
-use Rattle.dry_runs.specs.CommandLines.{line_seen, words_of_command}
+use Rattle.command_lines.specs.CommandLines.{line_seen, words_of_command}
 use Rattle.canonical_names.specs.Alike.{is_clean_word}
 use Rattle.canonical_names.specs.Renaming.{names_of_run}
 use Rattle.canonical_names.proofs.clean.are_clean.Goals as goal

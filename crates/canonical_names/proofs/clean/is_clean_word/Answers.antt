@@ -1,6 +1,6 @@
 use Rattle.std.proofs.Common.{◌||◌, not, map, ap, sym, ◌∙◌}
 use Rattle.std.specs.List.{list_any}
-use Rattle.dry_runs.specs.CommandLines.{line_seen}
+use Rattle.command_lines.specs.CommandLines.{line_seen}
 use Rattle.canonical_names.specs.Alike.{holds}
 use Rattle.canonical_names.specs.Renaming.{names_of_run}
 use Rattle.canonical_names.proofs.AppearanceLemmas.{clean-without_suffix, names-tested}

@@ -1,9 +1,7 @@
 use Rattle.std.proofs.Common.{refl}
-use Rattle.dry_runs.specs.Computing.{dry_runs_compute}
 use Rattle.canonical_names.proofs.laws.worked_renamings.Goals as goal
 
 pub returns : goal.returns
-unfolding dry_runs_compute
 returns c = record {
   one_kernel_is_renamed = (refl, refl);
   longest_reference_first = refl;

@@ -4,7 +4,7 @@ use Rattle.std.specs.Str.Pattern.{FindsText}
 use Rattle.std.specs.Str.Replace.{ReplacesMatches}
 use denote.Ref.{Bor}
 use Rattle.std.proofs.lemmas.Result.{IfOk-weaker}
-use Rattle.dry_runs.specs.Replacing.{replaced}
+use Rattle.command_lines.specs.Replacing.{replaced}
 use Rattle.canonical_names.proofs.ReplaceLemmas.{all-replaced}
 use Rattle.canonical_names.proofs.references.replace.Goals as goal
 

@@ -1,5 +1,5 @@
 use Rattle.std.proofs.Common.{◌≡◌, ◌++◌, map, drop}
-use Rattle.dry_runs.specs.CommandLines.{line_seen}
+use Rattle.command_lines.specs.CommandLines.{line_seen}
 use Rattle.canonical_names.specs.Shadow as spec
 use Rattle.canonical_names.specs.Shown.{name_shown}
 use Rattle.canonical_names.proofs.shadow.appearances.Given as goal

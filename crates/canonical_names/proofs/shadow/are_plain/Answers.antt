@@ -5,7 +5,7 @@ use Rattle.std.proofs.lemmas.Iterator.{YieldsList-from_slice}
 use Rattle.std.proofs.lemmas.Iterator.Search.{all_from_yields_List}
 use borrow.Author.Tests.{tests}
 use Rattle.texts.specs.Lists.{word_after}
-use Rattle.dry_runs.specs.CommandLines.{line_seen, words_of_command}
+use Rattle.command_lines.specs.CommandLines.{line_seen, words_of_command}
 use Rattle.canonical_names.specs.Shadow.{is_plain_output}
 use Rattle.canonical_names.proofs.shadow.are_plain.Goals as goal
 

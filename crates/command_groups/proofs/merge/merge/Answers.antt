@@ -1,6 +1,6 @@
 use Rattle.std.proofs.Common.{◌≡◌, ◌∷◌, [], ◌++◌, List, suc, map, refl, ap, subst, ◌∙◌, arith, add-one, IsPermutation, IsSorted, Result, Ok, Err, IfOk}
 use Rattle.std.specs.Vec.Iter.{into_iter_items}
-use Rattle.dry_runs.specs.CommandLines.{CommandLine, line_of}
+use Rattle.command_lines.specs.CommandLines.{CommandLine, line_of}
 use Rattle.std.proofs.lemmas.List.Sorted.{IsPermutation-map}
 use Rattle.command_groups.specs.declared.merge.SelectedCommand.{SelectedCommand}
 use Rattle.command_groups.specs.contracts.merge.SelectedCommandOrd.TheImpl as compared

@@ -1,5 +1,5 @@
 use Rattle.std.proofs.Common.{◌≡◌, ◌++◌, map}
-use Rattle.dry_runs.specs.CommandLines.{line_seen}
+use Rattle.command_lines.specs.CommandLines.{line_seen}
 use Rattle.command_groups.specs.Merge as spec
 use Rattle.command_groups.specs.MergedView.{command_seen, takes_stem}
 use Rattle.command_groups.proofs.merge.selected.Given as goal

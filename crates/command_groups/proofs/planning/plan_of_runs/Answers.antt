@@ -1,6 +1,6 @@
 use Rattle.std.proofs.Common.{List, map, sym, subst}
 use Rattle.std.specs.Option.{option_copied}
-use Rattle.dry_runs.specs.CommandLines.{CommandLine, line_of}
+use Rattle.command_lines.specs.CommandLines.{CommandLine, line_of}
 use Rattle.command_groups.specs.MergeLaws.{Rises}
 use Rattle.command_groups.proofs.RisingLemmas.{named_rises}
 use Rattle.command_groups.proofs.planning.plan_of_runs.Goals as goal

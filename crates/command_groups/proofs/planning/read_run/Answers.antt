@@ -1,7 +1,7 @@
 use Rattle.std.proofs.Common.{ℕ, List, [], map, Result, Ok, Err, IfOk}
-use Rattle.dry_runs.specs.declared.commands.DryRun.{DryRun}
+use Rattle.command_lines.specs.declared.commands.DryRun.{DryRun}
 use Rattle.dry_runs.specs.declared.limit.LimitedFault.{LimitedFault}
-use Rattle.dry_runs.specs.CommandLines.{line_of}
+use Rattle.command_lines.specs.CommandLines.{line_of}
 use Rattle.dry_runs.specs.DryRun.{LookUp, dry_run_of}
 use Rattle.dry_runs.specs.DryRunLines.{numbered_lines}
 use Rattle.dry_runs.specs.Limit.{UnlessMemoryWithin, first_too_long, dry_run_within}

@@ -1,5 +1,5 @@
 use Rattle.std.proofs.Common.{◌≡◌, ◌++◌, ℕ, List, Bool, map}
-use Rattle.dry_runs.specs.CommandLines.{line_seen}
+use Rattle.command_lines.specs.CommandLines.{line_seen}
 use Rattle.command_groups.specs.Merge.{selected}
 use Rattle.command_groups.specs.Selection.{AnswersAs}
 use Rattle.command_groups.proofs.select.taken.Given as goal

@@ -1,7 +1,7 @@
 use Rattle.std.proofs.Common.{◌∷◌, ◌∙◌, Some, ap, sym, fold, drop, string_bytes}
 use Rattle.std.specs.Option.{option_map}
 use Rattle.dry_runs.specs.Limit.{expanded_fitting, made, text_seen}
-use Rattle.dry_runs.specs.Replacing.{replaced}
+use Rattle.command_lines.specs.Replacing.{replaced}
 use Rattle.dry_runs.proofs.FittingLemmas.{fitting-none, first-none, first-some}
 use Rattle.dry_runs.proofs.environment.expanded.Goals as goal
 

@@ -1,5 +1,5 @@
 use Rattle.std.proofs.Common.{◌++◌, ◌∷◌, ◌∙◌, ap, sym, append_assoc, string_bytes}
-use Rattle.dry_runs.specs.Replacing.{replaced}
+use Rattle.command_lines.specs.Replacing.{replaced}
 use Rattle.dry_runs.proofs.FittingLemmas.{exceeds-from}
 use Rattle.dry_runs.proofs.environment.push_reference.Goals as goal
 

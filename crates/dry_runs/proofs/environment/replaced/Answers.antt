@@ -1,6 +1,6 @@
 use Rattle.std.proofs.Common.{◌∷◌, ◌++◌, Some, ◌∙◌, ap, sym, rules, string_bytes, append_assoc}
 use Rattle.dry_runs.specs.Limit.{fitting}
-use Rattle.dry_runs.specs.Replacing as replacing
+use Rattle.command_lines.specs.Replacing as replacing
 use Rattle.dry_runs.proofs.ExpansionLemmas.{replaced-cut, replaced-nothing}
 use Rattle.dry_runs.proofs.FittingLemmas.{fits, exceeds, exceeds-from, written-none, written-some}
 use Rattle.dry_runs.proofs.environment.replaced.Goals as goal

@@ -1,4 +1,4 @@
-use Rattle.dry_runs.proofs.DryRunLemmas.{colon-split}
+use Rattle.dry_runs.proofs.FolderLemmas.{colon-split}
 use Rattle.dry_runs.proofs.which.at_colon.Goals as goal
 
 pub returns : goal.returns

@@ -1,5 +1,5 @@
 use Rattle.std.proofs.Common.{◌≡◌, map, drop}
-use Rattle.dry_runs.specs.CommandLines.{line_seen}
+use Rattle.command_lines.specs.CommandLines.{line_seen}
 use Rattle.program_lookups.specs.Asked.{lookup_in, lookups_in}
 use Rattle.program_lookups.specs.Lookup.{with_lookups}
 use Rattle.program_lookups.proofs.asking.add_asked.Given as goal

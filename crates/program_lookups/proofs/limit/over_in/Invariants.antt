@@ -1,5 +1,5 @@
 use Rattle.std.proofs.Common.{◌≡◌, map, drop}
-use Rattle.dry_runs.specs.CommandLines.{line_seen}
+use Rattle.command_lines.specs.CommandLines.{line_seen}
 use Rattle.program_lookups.specs.Limit.{first_over, over_in}
 use Rattle.program_lookups.proofs.limit.over_in.Given as goal
 

@@ -1,5 +1,5 @@
 -- The places of a text in another, replaced.
-use Rattle.std.specs.Prelude.{◌≡◌, ℕ, zero, suc, ◌-◌, List, [], ◌∷◌, ◌++◌, nat_eq, length, if◌then◌else◌, refl, codes}
+use Rattle.std.specs.Prelude.{◌≡◌, ℕ, zero, suc, ◌-◌, List, [], ◌∷◌, ◌++◌, nat_eq, length, if◌then◌else◌, codes}
 use Rattle.std.specs.List.{starts_with}
 
 -- what is left of a text once `skipped` characters are passed over, with each place of a text in it replaced by a new one
@@ -15,11 +15,11 @@ abbrev pub replaced : List ℕ → List ℕ → List ℕ → List ℕ
 replaced old new text = replaced_past 0 old new text
 
 -- examples: places that touch, places that overlap, and a new text that holds the old one
-pub replaces_places_that_touch : replaced (codes "ab") (codes "x") (codes "ababc") ≡ codes "xxc"
-replaces_places_that_touch = refl
+abbrev pub PlacesThatTouch : Type 0
+PlacesThatTouch = replaced (codes "ab") (codes "x") (codes "ababc") ≡ codes "xxc"
 
-pub replaces_no_place_that_overlaps : replaced (codes "aa") (codes "b") (codes "aaa") ≡ codes "ba"
-replaces_no_place_that_overlaps = refl
+abbrev pub PlacesThatOverlap : Type 0
+PlacesThatOverlap = replaced (codes "aa") (codes "b") (codes "aaa") ≡ codes "ba"
 
-pub replaces_nothing_in_the_new_text : replaced (codes "a") (codes "aa") (codes "aba") ≡ codes "aabaa"
-replaces_nothing_in_the_new_text = refl
+abbrev pub NewTextHoldsTheOld : Type 0
+NewTextHoldsTheOld = replaced (codes "a") (codes "aa") (codes "aba") ≡ codes "aabaa"

@@ -1,7 +1,7 @@
 //! What a dry run says: its commands and its environment.
 
 ghost use Rattle.std.specs.Prelude.{◌≡◌, ◌∷◌, ◌++◌, [], map, OnErr, OnOk, string_bytes};
-ghost use Rattle.dry_runs.specs.CommandLines.{line_seen};
+ghost use Rattle.command_lines.specs.CommandLines.{line_seen};
 
 use std::alloc::{AllocError, Global};
 use std::marker::Model;
@@ -18,7 +18,7 @@ pub struct Commands {
 
 impl Model for Commands {
     ghost use Rattle.std.specs.Prelude.{List, map};
-    ghost use Rattle.dry_runs.specs.CommandLines.{CommandLine, line_seen};
+    ghost use Rattle.command_lines.specs.CommandLines.{CommandLine, line_seen};
 
     ghost Value = { List CommandLine };
 
@@ -49,9 +49,9 @@ impl Commands {
         self.lines.as_slice()
     }
 
-    // Puts a command line last: the number of its line, its program's path and its words. On an error the lines are
-    // unchanged.
-    pub(crate) fn push(
+    /// Puts a command line last: the number of its line, its program's path and its words. On an error the lines are
+    /// unchanged.
+    pub fn push(
         &mut self,
         line: usize,
         program: String,

@@ -1,21 +1,17 @@
--- Command lines compare as what is seen of them, and texts are cut at their first colon.
-use Rattle.std.proofs.Common.{◌≡◌, ℕ, ◌&&◌, Bool, eqb, List, [], ◌∷◌, Option, Some, None, Vec, String, Bor, MatchOption, map, refl, ap, sym, ◌∙◌, nat_eq, length, take, string_bytes, arith}
+-- Command lines compare as what is seen of them.
+use Rattle.std.proofs.Common.{◌≡◌, ℕ, ◌&&◌, Bool, List, [], ◌∷◌, Vec, String, map, refl, ap, nat_eq, string_bytes}
 use Rattle.std.specs.declared.alloc.Global.{Global}
-use Rattle.std.specs.List.{position_or_len}
 use Rattle.std.specs.Cmp.Lexicographic.{pointwise}
 use Rattle.std.specs.Ordering.{on, eq_of_both}
-use Rattle.std.proofs.lemmas.Str.Pattern.{IsSplitOnceResult, split_once_first}
-use Rattle.std.proofs.Math.Seq.{take-length}
 use Rattle.std.specs.Bool.{Decides}
 use Rattle.std.specs.Cmp.{unsigned_Decides}
 use Rattle.std.proofs.lemmas.Bool.Decides.{Decides-and, Decides-like}
 use Rattle.std.proofs.lemmas.Slice.Eq.{bytes_eq-Decides}
 use Rattle.texts.specs.Equality.{TellsEqual}
 use Rattle.texts.proofs.EqualityLemmas.{lists, variables, same_variables}
-use Rattle.dry_runs.specs.declared.commands.DryRun.{DryRun}
+use Rattle.command_lines.specs.declared.commands.DryRun.{DryRun}
 use Rattle.texts.proofs.ListLemmas.{pointwise-texts}
-use Rattle.dry_runs.specs.CommandLines.{CommandLine, line_seen}
-use Rattle.dry_runs.specs.FirstDir.{first_folder_of}
+use Rattle.command_lines.specs.CommandLines.{CommandLine, line_seen}
 
 -- lists of command lines, as code compares them
 pub pointwise-lines : (xs ys : List (ℕ × String Global × Vec (String Global) Global)) →
@@ -26,13 +22,6 @@ pointwise-lines [] (y ∷ ys) = refl
 pointwise-lines (x ∷ xs) [] = refl
 pointwise-lines (x ∷ xs) (y ∷ ys) =
     rw (pointwise-texts x.2.items y.2.items, pointwise-lines xs ys) refl
-
--- what stands before the first colon, by splitting there
-pub colon-split : (text : List ℕ) (r : Option (Bor (List ℕ) × Bor (List ℕ))) → IsSplitOnceResult 58 text r → MatchOption r (text ≡ first_folder_of text) (λ x. x.0.now ≡ first_folder_of text)
-colon-split text None h =
-    let none : position_or_len (λ b. eqb b 58) text ≡ length text = split_once_first 58 text None h (omega arith) in
-    sym (ap (λ n. take n text) none ∙ take-length text)
-colon-split text (Some x) h = (split_once_first 58 text (Some x) h (omega arith)).1
 
 -- the test of command lines
 abbrev same_line : CommandLine → CommandLine → Bool

@@ -1,7 +1,7 @@
 -- The one-kernel dry run: what nvcc prints for one kernel and one architecture. The names of its generated files are made of a text.
-use Rattle.std.specs.Prelude.{ℕ, List, [], ◌∷◌, ◌++◌, codes}
+use Rattle.std.specs.Prelude.{◌≡◌, ℕ, List, [], ◌∷◌, ◌++◌, codes}
 use Rattle.texts.specs.Rows.{blank_separated}
-use Rattle.dry_runs.specs.CommandLines.{CommandLine}
+use Rattle.command_lines.specs.CommandLines.{CommandLine}
 
 -- what nvcc prints
 abbrev pub printed_of : List ℕ → List ℕ
@@ -65,3 +65,7 @@ one_kernel_in_temporary_commands = commands_of (codes "/t/kernel")
 -- its canonical run
 abbrev pub one_kernel_canonical : List CommandLine
 one_kernel_canonical = commands_of (codes "x_0")
+
+-- an example: a command's words are cut at blanks
+abbrev pub WordsOfACommand : Type 0
+WordsOfACommand = at 5 (codes "/b/ptxas") (codes "kernel.ptx -o kernel.cubin") ≡ (5, codes "/b/ptxas", codes "kernel.ptx" ∷ codes "-o" ∷ codes "kernel.cubin" ∷ [])

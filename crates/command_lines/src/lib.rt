@@ -1,0 +1,7 @@
+//! The commands of a dry run, as records.
+#![tactic(auto)]
+
+mod commands;
+pub mod laws;
+
+pub use commands::{Commands, DryRun};
