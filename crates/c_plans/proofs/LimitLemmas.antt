@@ -4,7 +4,7 @@ use Rattle.texts.specs.declared.fault.Fault.{Fault}
 use Rattle.texts.specs.Results.{and_then}
 use Rattle.plans.specs.declared.origins.PlanWithOrigins.{PlanWithOrigins}
 use Rattle.dry_runs.specs.declared.limit.LimitedFault.{LimitedFault}
-use Rattle.programs.specs.PlanText.{all_suffixes}
+use Rattle.canonical_names.specs.FurtherSuffixes.{all_suffixes}
 use Rattle.c_plans.specs.LimitLaws.{PlansWithoutLimit, LookupsWithoutLimit}
 use Rattle.c_plans.specs.Limits.{within_limit, without_limit}
 use Rattle.c_plans.specs.Planning.{planned_whole, planned_within}

@@ -8,7 +8,7 @@ use Rattle.command_groups.specs.Plan.{PlanSetting}
 use Rattle.command_groups.specs.PlanWithin.{planning_with_origins_within}
 use Rattle.dry_runs.specs.declared.limit.LimitedFault.{LimitedFault}
 use Rattle.program_lookups.specs.Snapshot.{answer_in}
-use Rattle.programs.specs.PlanText.{all_suffixes}
+use Rattle.canonical_names.specs.FurtherSuffixes.{all_suffixes}
 use Rattle.texts.specs.Results.{and_then}
 use Rattle.c_plans.specs.declared.plan_call.PlanCall.{PlanCall}
 use Rattle.c_plans.specs.declared.plan_call.Tables.{Tables}

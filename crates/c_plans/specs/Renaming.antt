@@ -1,7 +1,7 @@
 -- The call on canonical names.
 use Rattle.std.specs.Prelude.{ℕ, List, [], Result, Ok}
 use Rattle.canonical_names.specs.Renaming.{renamed_words}
-use Rattle.programs.specs.PlanText.{all_suffixes}
+use Rattle.canonical_names.specs.FurtherSuffixes.{all_suffixes}
 use Rattle.texts.specs.declared.fault.Fault.{Fault}
 use Rattle.texts.specs.Results.{and_then}
 use Rattle.c_texts.specs.Failures.{answered, if_utf8}

@@ -15,12 +15,11 @@ use crate::plan_call::{
 };
 use crate::plan_forms::{Form, form_of, outcome_in};
 use c_texts::{Outcome, Status, TextAnswer, give_text, refused};
-use canonical_names::Suffixes;
+use canonical_names::{Suffixes, all_suffixes};
 use command_groups::{plan_with_origins, plan_with_origins_within};
 use compilers::compiler::NvccHostCompiler;
 use dry_runs::LimitedFault;
 use plans::PlanWithOrigins;
-use programs::all_suffixes;
 use std::alloc::{AllocError, Global};
 use texts::fault::Fault;
 

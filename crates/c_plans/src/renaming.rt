@@ -10,8 +10,7 @@ ghost use Rattle.c_plans.specs.Renaming as spec;
 use c_texts::{
     InputText, ListAnswer, Outcome, Range, Status, answered, give_list, refused, words_of,
 };
-use canonical_names::{Renames, Suffixes, remap_generated_filenames};
-use programs::all_suffixes;
+use canonical_names::{Renames, Suffixes, all_suffixes, remap_generated_filenames};
 use std::alloc::{AllocError, Global};
 use texts::fault::Fault;
 use texts::words::Words;

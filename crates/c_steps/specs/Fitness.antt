@@ -4,7 +4,7 @@ use Rattle.std.specs.List.{list_all, list_any}
 use Rattle.std.specs.Str.{bytes_eq}
 use Rattle.texts.specs.Rows.{spaced}
 use Rattle.plans.specs.declared.plan.NvccGeneratedSubcommand.{NvccGeneratedSubcommand}
-use Rattle.programs.specs.DryRunText.{is_dry_run}
+use Rattle.dry_runs.specs.DryRunText.{is_dry_run}
 use Rattle.c_steps.specs.declared.fitness.Misfit.{Misfit as HeldMisfit}
 
 -- the options that say what nvcc makes; none if it links

@@ -4,8 +4,8 @@ ghost use Rattle.std.specs.Prelude.{◌≡◌, map, vec_items};
 ghost use Rattle.std.specs.Option.{option_map};
 ghost use Rattle.c_steps.specs.Fitness as spec;
 
+use dry_runs::is_dry_run;
 use plans::NvccGeneratedSubcommand;
-use programs::is_dry_run;
 
 // Whether a flag is one of those that nvcc's calls have.
 fn is_flag(flag: &str) -> bool

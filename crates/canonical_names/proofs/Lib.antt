@@ -4,6 +4,7 @@ pub mod AlikeLemmas
 pub mod CanonicalLemmas
 pub mod CleanLemmas
 pub mod FileLemmas
+pub mod FirstLemmas
 pub mod NeedLemmas
 pub mod OnceLemmas
 pub mod RankLemmas

@@ -2,6 +2,7 @@ pub mod Alike
 pub mod AlikeExamples
 pub mod CanonicalNames
 pub mod Counted
+pub mod FurtherSuffixes
 pub mod Generated
 pub mod References
 pub mod Renaming

@@ -2,6 +2,7 @@
 #![tactic(auto)]
 
 mod clean;
+mod further_suffixes;
 pub mod laws;
 mod references;
 mod remap;
@@ -11,7 +12,8 @@ mod suffixes;
 mod words;
 
 pub use clean::is_clean;
+pub use further_suffixes::{all_suffixes, all_texts};
 pub use remap::{remap_commands, remap_generated_filenames};
 pub use renames::Renames;
 pub use shadow::{is_shadow, is_step_shadow};
-pub use suffixes::Suffixes;
+pub use suffixes::{Suffixes, is_suffix};

@@ -56,8 +56,8 @@ fn standard_suffix(index: usize) -> Option<&'static str>
     }
 }
 
-// Whether a text begins with `.`, ends in an ASCII letter or digit, and contains no `/`.
-fn is_suffix(text: &str) -> bool
+/// Whether a text begins with `.`, ends in an ASCII letter or digit, and contains no `/`.
+pub fn is_suffix(text: &str) -> bool
     ensures { result ≡ spec.is_suffix text.now }
 {
     begins_with_dot(text.as_bytes()) && ends_in_letter_or_digit(text.as_bytes()) && is_bare(text)

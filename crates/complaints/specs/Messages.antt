@@ -11,13 +11,13 @@ use Rattle.texts.specs.Path.{is_bare}
 use Rattle.dry_runs.specs.DryRun.{LookUp}
 use Rattle.programs.specs.Calls.{PlanOf}
 use Rattle.programs.specs.Complaint.{message_of, complaint}
-use Rattle.programs.specs.Shown.{shown}
+use Rattle.message_texts.specs.Excerpts.{shown}
 use Rattle.programs.specs.SuffixFault.{further_text}
 use Rattle.programs.specs.Unread as unread
 use Rattle.programs.specs.declared.stop.Stop.{Stop}
 use Rattle.programs.specs.declared.stop.Stop.TheVariants as stops
 use Rattle.programs.specs.declared.unread.Unread.{Unread}
-use Rattle.programs.specs.DryRunText.{is_dry_run}
+use Rattle.dry_runs.specs.DryRunText.{is_dry_run}
 use Rattle.complaints.specs.Places.{PlaceOf, place_of}
 
 -- a text, as far as a message shows it, and a line of a file, below the message

@@ -12,8 +12,9 @@ ghost use Rattle.complaints.specs.Messages as spec;
 ghost use Rattle.complaints.specs.Places.{place_seen};
 
 use crate::place::{Place, place_of};
-use dry_runs::Which;
-use programs::{PlanCall, Stop, Unread, is_dry_run, push_shown, push_suffix_fault};
+use dry_runs::{Which, is_dry_run};
+use message_texts::push_shown;
+use programs::{PlanCall, Stop, Unread, push_suffix_fault};
 use std::alloc::{AllocError, Global};
 use texts::decimal::push_number;
 use texts::fault::Fault;

@@ -2,6 +2,7 @@ pub mod Computing
 pub mod DryRun
 pub mod DryRunLines
 pub mod DryRunExamples
+pub mod DryRunText
 pub mod Environment
 pub mod FirstDir
 pub mod FirstReferred

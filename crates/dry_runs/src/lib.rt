@@ -1,6 +1,7 @@
 //! Dry runs: the commands and the environment that `nvcc --dryrun` prints, and the look-up of the programs in it.
 #![tactic(auto)]
 
+mod dry_run_text;
 mod environment;
 pub mod laws;
 mod limit;
@@ -16,6 +17,7 @@ mod statement;
 mod which;
 
 pub use command_lines::{Commands, DryRun};
+pub use dry_run_text::is_dry_run;
 pub use environment::{assignment, expanded_words};
 pub use limit::LimitedFault;
 pub use lines::{first_line, marked};

@@ -1,10 +1,8 @@
 pub mod Calls
 pub mod Complaint
 pub mod Delivery
-pub mod DryRunText
 pub mod LineText
 pub mod PlanText
-pub mod Shown
 pub mod Start
 pub mod SuffixFault
 pub mod Unread

@@ -1,10 +1,9 @@
 -- The text that a program writes for two dry runs.
-use Rattle.std.specs.Prelude.{ℕ, List, [], ◌++◌, if◌then◌else◌, ◌⊎◌, Option, Some, None, Result, Ok, Err}
+use Rattle.std.specs.Prelude.{ℕ, List, [], ◌⊎◌, Option, Some, None, Result, Ok, Err}
 use Rattle.compilers.specs.declared.compiler.NvccHostCompiler.TheVariants.{Gcc}
 use Rattle.texts.specs.declared.fault.Fault.{Fault}
-use Rattle.texts.specs.declared.fault.Fault.TheVariants.{BadSuffixes, Memory, Read}
-use Rattle.canonical_names.specs.Generated.{standard_suffixes}
-use Rattle.canonical_names.specs.SuffixRule.{are_suffixes}
+use Rattle.texts.specs.declared.fault.Fault.TheVariants.{Memory, Read}
+use Rattle.canonical_names.specs.FurtherSuffixes.{all_suffixes}
 use Rattle.plans.specs.declared.plan.Plan.{Plan}
 use Rattle.command_groups.specs.Plan.{PlanSetting}
 use Rattle.command_groups.specs.PlanOfBytes.{planning_of}
@@ -19,10 +18,6 @@ use Rattle.programs.specs.Delivery.{Delivers}
 -- what a program plans for: gcc compiles host code, and the call's environment is empty
 abbrev pub program_setting : List ℕ → List ℕ → List ℕ → PlanSetting
 program_setting cwd tmp flag = record { cwd = cwd; tmp = tmp; flag = flag; host_compiler = Gcc; env_vars = [] }
-
--- the suffixes of a call: the standard ones, and the further ones behind them, if together they are a list of suffixes
-abbrev pub all_suffixes : List (List ℕ) → Result (List (List ℕ)) Fault
-all_suffixes further = if are_suffixes (standard_suffixes ++ further) then Ok (standard_suffixes ++ further) else Err BadSuffixes
 
 -- the text of a plan, or why there is none
 abbrev pub show_planning : Result Plan Fault → Result (List ℕ) Stop

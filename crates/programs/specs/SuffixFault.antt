@@ -4,7 +4,7 @@ use Rattle.std.specs.List.{ends_with}
 use Rattle.std.specs.Str.{bytes_eq}
 use Rattle.canonical_names.specs.Generated.{standard_suffixes}
 use Rattle.canonical_names.specs.SuffixRule.{is_suffix}
-use Rattle.programs.specs.Shown.{shown}
+use Rattle.message_texts.specs.Excerpts.{shown}
 use Rattle.programs.specs.declared.suffix_fault.Overlap.{Overlap}
 
 -- the first text of a list that is no suffix by itself

@@ -1,51 +1,19 @@
 //! The plan of two dry runs, with the standard suffixes and further ones.
 
-ghost use Rattle.std.specs.Prelude.{◌≡◌, ◌++◌, IfOk, OnOk, map, string_bytes};
-ghost use Rattle.std.specs.Option.{option_copied, option_to_list};
+ghost use Rattle.std.specs.Prelude.{◌≡◌, map, string_bytes};
+ghost use Rattle.std.specs.Option.{option_copied};
 ghost use Rattle.texts.specs.Fault.{UnlessMemory};
 ghost use Rattle.texts.specs.Variables.{pair_of};
+ghost use Rattle.canonical_names.specs.FurtherSuffixes.{all_suffixes as suffixes_of};
 ghost use Rattle.programs.specs.PlanText as spec;
 
-use canonical_names::Suffixes;
+use canonical_names::all_suffixes;
 use command_groups::group_nvcc_subcommands_by_compilation_stage;
 use compilers::compiler::NvccHostCompiler;
 use dry_runs::Which;
 use plans::Plan;
-use std::alloc::{AllocError, Global};
+use std::alloc::Global;
 use texts::fault::Fault;
-use texts::words::Words;
-
-// Adds a suffix, if there is one.
-fn push_suffix(alloc: Global, words: &mut Words, suffix: Option<&str>) -> Result<(), AllocError>
-    ensures { OnOk result (words.new ≡ words.old ++ option_to_list (option_copied suffix.entry)) }
-{
-    match suffix {
-        None => Ok(()),
-        Some(suffix) => words.push(String::from_str(alloc, suffix)?),
-    }
-}
-
-// The words of a list of suffixes.
-pub(crate) fn words_of(alloc: Global, suffixes: &Suffixes) -> Result<Words, AllocError>
-    ensures { IfOk result (λ words. words ≡ suffixes.now) }
-{
-    let mut words = Words::new(alloc);
-    for index in 0..suffixes.len() {
-        push_suffix(alloc, &mut words, suffixes.get(index))?;
-    }
-    Ok(words)
-}
-
-/// The standard suffixes of generated files, and `further` ones behind them.
-///
-/// Fails if together they break the rule of such a list (`Fault::BadSuffixes`).
-pub fn all_suffixes(alloc: Global, further: &[String]) -> Result<Suffixes, Fault>
-    ensures { UnlessMemory result (spec.all_suffixes (map string_bytes further.now)) }
-{
-    let mut words = words_of(alloc, &Suffixes::standard())?;
-    words.push_copies(alloc, further)?;
-    Suffixes::new(alloc, words.as_slice())
-}
 
 /// Plans the dry runs of one `nvcc` call, `dry1` of `--dryrun --keep` and `dry2` of `--keep-dir TMP --dryrun --keep`.
 /// `cwd` is the working directory, `tmp` the temporary directory, `flag` the compilation flag, as `-c`. Generated files keep
@@ -69,7 +37,7 @@ pub fn plan_dry_runs<L: Which>(
 ) -> Result<Plan, Fault>
     ensures { UnlessMemory result (spec.planned_with (option_copied keep_dir.entry)
         (record { cwd = cwd.now; tmp = tmp.now; flag = flag.now; host_compiler = host_compiler; env_vars = map pair_of env_vars.now })
-        (L.answer which.now) dry1.now dry2.now (spec.all_suffixes (map string_bytes further.now))) }
+        (L.answer which.now) dry1.now dry2.now (suffixes_of (map string_bytes further.now))) }
 {
     let suffixes = all_suffixes(alloc, further)?;
     group_nvcc_subcommands_by_compilation_stage(

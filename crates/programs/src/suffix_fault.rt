@@ -1,43 +1,12 @@
 //! What is wrong with the suffixes of a call.
 
-ghost use Rattle.std.specs.Prelude.{◌≡◌, ◌++◌, ◌==◌, OnOk, map, string_bytes};
-ghost use Rattle.std.specs.Char.{is_ascii_alphanumeric};
-ghost use Rattle.std.specs.List.{slice_get};
+ghost use Rattle.std.specs.Prelude.{◌≡◌, ◌++◌, OnOk, map, string_bytes};
 ghost use Rattle.std.specs.Option.{option_copied, option_map};
-ghost use Rattle.texts.specs.Lists.{is_some_and};
-ghost use Rattle.canonical_names.specs.SuffixRule as rule;
 ghost use Rattle.programs.specs.SuffixFault as spec;
 
-use crate::planning::words_of;
-use crate::shown::push_shown;
-use canonical_names::Suffixes;
+use canonical_names::{all_texts, is_suffix};
+use message_texts::push_shown;
 use std::alloc::{AllocError, Global};
-use texts::text::is_bare;
-
-fn begins_with_dot(text: &[u8]) -> bool
-    ensures { result ≡ is_some_and (λ c. c == 46) (slice_get text.now 0) }
-{
-    match text.first() {
-        None => false,
-        Some(byte) => *byte == b'.',
-    }
-}
-
-fn ends_in_letter_or_digit(text: &[u8]) -> bool
-    ensures { result ≡ is_some_and is_ascii_alphanumeric (rule.last_byte text.now) }
-{
-    match text.last() {
-        None => false,
-        Some(byte) => byte.is_ascii_alphanumeric(),
-    }
-}
-
-// Whether a text is a suffix by itself.
-fn is_suffix(text: &str) -> bool
-    ensures { result ≡ rule.is_suffix text.now }
-{
-    begins_with_dot(text.as_bytes()) && ends_in_letter_or_digit(text.as_bytes()) && is_bare(text)
-}
 
 // The first text of a list that is no suffix by itself.
 fn odd_in(list: &[String]) -> Option<&str>
@@ -186,7 +155,6 @@ pub fn push_suffix_fault(
 ) -> Result<(), AllocError>
     ensures { OnOk result (string_bytes text.new ≡ string_bytes text.old ++ spec.further_text (map string_bytes further.now)) }
 {
-    let mut words = words_of(alloc, &Suffixes::standard())?;
-    words.push_copies(alloc, further)?;
+    let words = all_texts(alloc, further)?;
     push_fault(text, words.as_slice())
 }

@@ -3,7 +3,7 @@ use Rattle.std.specs.Prelude.{◌≡◌, ◌⊎◌, ℕ, List, [], ◌∷◌, �
 use Rattle.std.specs.Io.KnownBytes.{Appends}
 use Rattle.std.specs.Str.{bytes_eq}
 use Rattle.host_lines.specs.KeepThreads.{number_of}
-use Rattle.programs.specs.Shown.{shown}
+use Rattle.message_texts.specs.Excerpts.{shown}
 use Rattle.usage.specs.Forms.{form_of, words_of, lacking}
 use Rattle.usage.specs.Settings.{past, is_option, begins_option, options_taken}
 use Rattle.usage.specs.declared.form.Form.{Form}

@@ -5,7 +5,7 @@ ghost use Rattle.usage.specs.Misuse as spec;
 
 use crate::form::{Form, form_named, lacking, words_of};
 use crate::settings::{begins_option, is_option, number_in, options_taken, past};
-use programs::push_shown;
+use message_texts::push_shown;
 use std::alloc::{AllocError, Global};
 use std::io::{self, Write};
 

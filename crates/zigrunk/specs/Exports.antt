@@ -23,8 +23,9 @@ use Rattle.plan_exports.specs.Script.{shell_answer}
 use Rattle.programs.specs.declared.stop.Stop.{Stop}
 use Rattle.programs.specs.declared.stop.Stop.TheVariants as stops
 use Rattle.programs.specs.Calls.{PlanOf}
-use Rattle.programs.specs.DryRunText.{is_dry_run}
-use Rattle.programs.specs.PlanText.{program_setting, all_suffixes}
+use Rattle.dry_runs.specs.DryRunText.{is_dry_run}
+use Rattle.programs.specs.PlanText.{program_setting}
+use Rattle.canonical_names.specs.FurtherSuffixes.{all_suffixes}
 use Rattle.usage.specs.declared.call.Format.{Format}
 use Rattle.usage.specs.declared.call.Format.TheVariants.{Shell, Ninja, Json, Dot, Compdb, Makeflow}
 use Rattle.usage.specs.Calls.{ExportOf}

@@ -18,15 +18,16 @@ ghost use Rattle.usage.specs.Calls.{export_of};
 ghost use Rattle.zigrunk.specs.Exports as spec;
 
 use crate::directory::is_plain;
+use canonical_names::all_suffixes;
 use command_groups::plan_of_parsed;
 use compilers::compiler::NvccHostCompiler;
-use dry_runs::{ParsedRuns, Which};
+use dry_runs::{ParsedRuns, Which, is_dry_run};
 use plan_exports::{Refusal, ninja_file, shell_script};
 use plan_graphs::dot_text;
 use plan_json::{compdb_text, json_text};
 use plan_makeflow::{has_long_command, makeflow_file};
 use plans::{NvccGeneratedSubcommand, Plan, PlanWithOrigins};
-use programs::{PlanCall, Stop, all_suffixes, deliver, is_dry_run};
+use programs::{PlanCall, Stop, deliver};
 use std::alloc::Global;
 use std::io::Write;
 use texts::fault::Fault;

@@ -1,7 +1,7 @@
 use Rattle.std.proofs.Common.{◌≡◌, ◌≤◌, ◌++◌, string_bytes, encode_utf8_all}
 use Rattle.std.specs.Char.Escape.{escape_default}
 use Rattle.std.specs.Char.Iter.{escape_rest, escape_left, escape_end}
-use Rattle.programs.proofs.shown.push_escaped_char.Given as goal
+use Rattle.message_texts.proofs.excerpts.push_escaped_char.Given as goal
 
 abbrev pub invariant-escape : goal.invariant-escape
 invariant-escape l =

@@ -1,7 +1,7 @@
 -- The first character is taken off a text.
 use Rattle.std.proofs.Common.{◌∙◌, ◌++◌, sym, ap, encode_utf8}
 use Rattle.shell_words.proofs.ShellSpanLemmas.{past_char}
-use Rattle.programs.proofs.shown.next_char.Goals as goal
+use Rattle.message_texts.proofs.excerpts.next_char.Goals as goal
 
 pub returns : goal.returns
 returns c =

@@ -1,6 +1,6 @@
 use Rattle.std.proofs.Common.{◌≡◌, ◌++◌, OnOk, subst, string_bytes}
-use Rattle.programs.proofs.ShownLemmas.{shown-bytes, shown-chars}
-use Rattle.programs.proofs.shown.push_shown.Goals as goal
+use Rattle.message_texts.proofs.ExcerptLemmas.{shown-bytes, shown-chars}
+use Rattle.message_texts.proofs.excerpts.push_shown.Goals as goal
 
 pub returns-in-Ok : goal.returns-in-Ok
 returns-in-Ok c =

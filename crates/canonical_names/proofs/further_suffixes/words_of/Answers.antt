@@ -1,8 +1,8 @@
 use Rattle.std.proofs.Common.{◌<◌, ◌++◌, length, ap, ◌∙◌, arith}
 use Rattle.std.specs.List.{slice_get}
 use Rattle.std.specs.Option.{option_to_list}
-use Rattle.programs.proofs.Taken.{next-taken}
-use Rattle.programs.proofs.planning.words_of.Goals as goal
+use Rattle.canonical_names.proofs.FirstLemmas.{next-taken}
+use Rattle.canonical_names.proofs.further_suffixes.words_of.Goals as goal
 
 pub loop-index-preserved : goal.loop-index-preserved
 loop-index-preserved c =

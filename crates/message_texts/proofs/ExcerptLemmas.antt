@@ -2,7 +2,7 @@
 use Rattle.std.proofs.Common.{◌≡◌, ◌∙◌, ap, sym, refl, subst, ℕ, zero, suc, ◌-◌, true, false, List, ◌∷◌, ◌++◌, append_assoc, cond, arith}
 use Rattle.std.specs.Str.{IsUtf8, is_utf8, chars}
 use Rattle.std.proofs.lemmas.Str.{IsUtf8-from_is_utf8, is_utf8-from_IsUtf8}
-use Rattle.programs.specs.Shown.{excerpt, shown, shown_char, shown_byte}
+use Rattle.message_texts.specs.Excerpts.{excerpt, shown, shown_char, shown_byte}
 
 -- one more item, while there is room
 pub excerpt-step :

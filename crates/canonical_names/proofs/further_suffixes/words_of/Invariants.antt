@@ -1,5 +1,5 @@
 use Rattle.std.proofs.Common.{◌≡◌, take}
-use Rattle.programs.proofs.planning.words_of.Given as goal
+use Rattle.canonical_names.proofs.further_suffixes.words_of.Given as goal
 
 abbrev pub invariant-loop-index : goal.invariant-loop-index
 invariant-loop-index l = l.words ≡ take l.index l.suffixes

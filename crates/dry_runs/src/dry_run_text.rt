@@ -2,9 +2,9 @@
 
 ghost use Rattle.std.specs.Prelude.{◌≡◌, codes, nat_eq};
 ghost use Rattle.std.specs.List.{starts_with};
-ghost use Rattle.programs.specs.DryRunText as spec;
+ghost use Rattle.dry_runs.specs.DryRunText as spec;
 
-use dry_runs::first_line;
+use crate::lines::first_line;
 
 // Whether a line is one of a dry run.
 fn is_marked(line: &[u8]) -> bool

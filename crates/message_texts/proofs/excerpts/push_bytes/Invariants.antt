@@ -1,6 +1,6 @@
 use Rattle.std.proofs.Common.{◌≡◌, ◌++◌, length, string_bytes}
-use Rattle.programs.specs.Shown.{excerpt, shown_byte}
-use Rattle.programs.proofs.shown.push_bytes.Given as goal
+use Rattle.message_texts.specs.Excerpts.{excerpt, shown_byte}
+use Rattle.message_texts.proofs.excerpts.push_bytes.Given as goal
 
 abbrev pub invariant-loop-byte : goal.invariant-loop-byte
 invariant-loop-byte l = string_bytes l.text ++ excerpt shown_byte l.left l.rest ≡ string_bytes l.initial.text ++ excerpt shown_byte l.most l.value

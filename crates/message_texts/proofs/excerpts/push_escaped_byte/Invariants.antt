@@ -1,7 +1,7 @@
 use Rattle.std.proofs.Common.{◌≡◌, ◌≤◌, ◌++◌, string_bytes, encode_utf8_all}
 use Rattle.std.specs.Char.Escape.{escape_ascii}
 use Rattle.std.specs.Char.Iter.{escape_byte_rest, escape_byte_left, escape_byte_end}
-use Rattle.programs.proofs.shown.push_escaped_byte.Given as goal
+use Rattle.message_texts.proofs.excerpts.push_escaped_byte.Given as goal
 
 abbrev pub invariant-escape : goal.invariant-escape
 invariant-escape l =

@@ -1,7 +1,7 @@
 use Rattle.std.proofs.Common.{rules}
-use Rattle.programs.specs.Shown.{shown_char}
-use Rattle.programs.proofs.ShownLemmas.{excerpt-step}
-use Rattle.programs.proofs.shown.push_chars.Goals as goal
+use Rattle.message_texts.specs.Excerpts.{shown_char}
+use Rattle.message_texts.proofs.ExcerptLemmas.{excerpt-step}
+use Rattle.message_texts.proofs.excerpts.push_chars.Goals as goal
 
 pub loop-c-preserved : goal.loop-c-preserved
 loop-c-preserved c = (

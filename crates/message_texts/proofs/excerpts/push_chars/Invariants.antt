@@ -2,8 +2,8 @@ use Rattle.std.proofs.Common.{◌≡◌, ◌++◌, length, string_bytes}
 use denote.Text.{Utf8}
 use denote.Shadow.{shadow}
 use Rattle.std.specs.Str.{chars}
-use Rattle.programs.specs.Shown.{excerpt, shown_char}
-use Rattle.programs.proofs.shown.push_chars.Given as goal
+use Rattle.message_texts.specs.Excerpts.{excerpt, shown_char}
+use Rattle.message_texts.proofs.excerpts.push_chars.Given as goal
 
 abbrev pub invariant-loop-c : goal.invariant-loop-c
 invariant-loop-c l =
