@@ -10,13 +10,13 @@ use Rattle.cuda_plans.specs.Nvcc.{nvcc_reading}
 use Rattle.cuda_plans.specs.NvccCommand.{dry_runs}
 use Rattle.host_lines.specs.NvccEnvironment.{with_added_words}
 use Rattle.nvcc_words.specs.declared.asked.Asked.{Asked}
-use Rattle.nvcc_words.specs.declared.reason.Reason.{Reason}
-use Rattle.nvcc_words.specs.declared.reason.Reason.TheVariants.{OtherReading}
+use Rattle.nvcc_options.specs.declared.reason.Reason.{Reason}
+use Rattle.nvcc_options.specs.declared.reason.Reason.TheVariants.{OtherReading}
 use Rattle.nvcc_words.specs.declared.verdict.Verdict.{Verdict}
 use Rattle.nvcc_words.specs.declared.verdict.Verdict.TheVariants as verdicts
 use Rattle.nvcc_words.specs.Asked.{asked_of}
 use Rattle.nvcc_words.specs.Keeping.{keeps, SaysAs}
-use Rattle.nvcc_words.specs.Reasons.{text_of}
+use Rattle.nvcc_options.specs.Reasons.{text_of}
 use Rattle.nvcc_words.specs.Verdict.{verdict}
 use Rattle.nvcc_words.proofs.KeepingLemmas.{keeps-says}
 use Rattle.nvcc_calls.specs.declared.answer.Answer.{Answer}

@@ -8,12 +8,12 @@ use Rattle.compilers.specs.declared.arguments.ParsedArguments.{ParsedArguments}
 use Rattle.cuda_plans.specs.declared.nvcc.command.NvccCompileCommand.{NvccCompileCommand}
 use Rattle.cuda_plans.specs.Nvcc.{nvcc_reading}
 use Rattle.nvcc_words.specs.declared.call.Call.{Call}
-use Rattle.nvcc_words.specs.declared.reason.Reason.{Reason}
-use Rattle.nvcc_words.specs.declared.reason.Reason.TheVariants.{OtherReading, GeneratedName}
+use Rattle.nvcc_options.specs.declared.reason.Reason.{Reason}
+use Rattle.nvcc_options.specs.declared.reason.Reason.TheVariants.{OtherReading, GeneratedName}
 use Rattle.nvcc_words.specs.declared.verdict.Verdict.{Verdict}
 use Rattle.nvcc_words.specs.declared.verdict.Verdict.TheVariants as verdicts
 use Rattle.nvcc_words.specs.Keeping.{keeps, keeps_options}
-use Rattle.nvcc_words.specs.Reasons.{text_of}
+use Rattle.nvcc_options.specs.Reasons.{text_of}
 use Rattle.nvcc_words.specs.Verdict.{verdict}
 use Rattle.texts.specs.Results.{and_then}
 use Rattle.nvcc_calls.specs.declared.answer.Answer.{Answer}

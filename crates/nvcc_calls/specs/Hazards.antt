@@ -9,8 +9,8 @@ use Rattle.texts.specs.Rows.{spaced}
 use Rattle.canonical_names.specs.Alike.{holds}
 use Rattle.canonical_names.specs.Generated.{standard_suffixes}
 use Rattle.nvcc_words.specs.declared.call.Call.{Call}
-use Rattle.nvcc_words.specs.declared.reason.Reason.{Reason}
-use Rattle.nvcc_words.specs.declared.reason.Reason.TheVariants.{GeneratedName, DirectoryName, ToolFile, HostFile, KeptName}
+use Rattle.nvcc_options.specs.declared.reason.Reason.{Reason}
+use Rattle.nvcc_options.specs.declared.reason.Reason.TheVariants.{GeneratedName, DirectoryName, ToolFile, HostFile, KeptName}
 use Rattle.nvcc_words.specs.Asked.{reason_unless}
 use Rattle.nvcc_words.specs.NormalForm.{extension_of_phase, has_extension}
 use Rattle.nvcc_calls.specs.Calls.{NvccOf}

@@ -8,7 +8,8 @@ ghost use Rattle.nvcc_calls.specs.Calls.{nvcc_of};
 ghost use Rattle.nvcc_calls.specs.Hazards as spec;
 
 use crate::call::NvccCall;
-use nvcc_words::{Call, Reason, extension_of_phase, has_extension};
+use nvcc_options::Reason;
+use nvcc_words::{Call, extension_of_phase, has_extension};
 use std::alloc::{AllocError, Global};
 use texts::compilation_flags::asks_object;
 use texts::extension::{last, with_extension};

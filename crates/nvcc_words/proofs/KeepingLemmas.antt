@@ -9,10 +9,10 @@ use Rattle.std.proofs.lemmas.Slice.Eq.{bytes_eq-Decides}
 use Rattle.texts.proofs.EqualityLemmas.{lists}
 use Rattle.option_items.specs.Table.{Entry}
 use Rattle.nvcc_words.specs.declared.asked.Asked.{Asked}
-use Rattle.nvcc_words.specs.declared.options.Purpose.{Purpose}
-use Rattle.nvcc_words.specs.declared.reason.Reason.{Reason}
+use Rattle.nvcc_options.specs.declared.options.Purpose.{Purpose}
+use Rattle.nvcc_options.specs.declared.reason.Reason.{Reason}
 use Rattle.nvcc_words.specs.NormalForm.{phase_of}
-use Rattle.nvcc_words.specs.Options.{nvcc_entries}
+use Rattle.nvcc_options.specs.Options.{nvcc_entries}
 use Rattle.nvcc_words.specs.Keeping.{values_of, same_words, has_same_values, begins_as, same_options, keeps, kept_options, SaysAs}
 
 none-is : (o : Option Reason) → is_none o ≡ true → o ≡ None

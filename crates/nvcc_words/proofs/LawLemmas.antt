@@ -22,8 +22,8 @@ use Rattle.host_lines.specs.NvccEnvironment.{prepended_name, appended_name, with
 use Rattle.nvcc_words.specs.declared.call.Call.{Call}
 use Rattle.nvcc_words.specs.declared.verdict.Verdict.{Verdict}
 use Rattle.nvcc_words.specs.declared.verdict.Verdict.TheVariants.{Split, Pass}
-use Rattle.nvcc_words.specs.declared.reason.Reason.{Reason}
-use Rattle.nvcc_words.specs.declared.reason.Reason.TheVariants.{VariableQuotes, OtherReading}
+use Rattle.nvcc_options.specs.declared.reason.Reason.{Reason}
+use Rattle.nvcc_options.specs.declared.reason.Reason.TheVariants.{VariableQuotes, OtherReading}
 use Rattle.nvcc_words.specs.NormalForm.{nvcc_call}
 use Rattle.nvcc_words.specs.Verdict.{same_call, is_call, makes, agrees, sccache_reading, is_normal, judged, is_plain}
 use Rattle.nvcc_words.specs.Laws.{ReadsAs, SplitLinesReadAlike, NormalFormsAreKept}

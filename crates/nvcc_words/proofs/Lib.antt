@@ -1,4 +1,3 @@
 pub mod KeepingLemmas
 pub mod LawLemmas
 pub mod LineLemmas
-pub mod TableLemmas

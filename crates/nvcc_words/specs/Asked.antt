@@ -8,13 +8,13 @@ use Rattle.host_lines.specs.NvccOptions.{nvcc_options}
 use Rattle.option_items.specs.Table.{Entry, longest_match, longest_of_two}
 use Rattle.option_items.specs.Items.{Item, raw, unknown_flag, flag, with_value, faulty, items}
 use Rattle.nvcc_words.specs.declared.asked.Asked.{Asked}
-use Rattle.nvcc_words.specs.declared.options.Purpose.{Purpose}
-use Rattle.nvcc_words.specs.declared.options.Purpose.TheVariants.{Define, Dependencies, DependencyFile, DependencyPhonies, DependencyTarget, File, Forward, Include, Keep, KeepDirectory, Language, OptimizationInfo, Output, OutputDirectory, Passes, Phase, PreInclude, Quoted, TargetDirectory, Threads, Undefine, Unquoted}
-use Rattle.nvcc_words.specs.declared.reason.Reason.{Reason}
-use Rattle.nvcc_words.specs.declared.reason.Reason.TheVariants.{UnknownOption, MissingValue, BadValue, OptionsFile, ShellCharacter}
-use Rattle.nvcc_words.specs.Options.{nvcc_entries}
+use Rattle.nvcc_options.specs.declared.options.Purpose.{Purpose}
+use Rattle.nvcc_options.specs.declared.options.Purpose.TheVariants.{Define, Dependencies, DependencyFile, DependencyPhonies, DependencyTarget, File, Forward, Include, Keep, KeepDirectory, Language, OptimizationInfo, Output, OutputDirectory, Passes, Phase, PreInclude, Quoted, TargetDirectory, Threads, Undefine, Unquoted}
+use Rattle.nvcc_options.specs.declared.reason.Reason.{Reason}
+use Rattle.nvcc_options.specs.declared.reason.Reason.TheVariants.{UnknownOption, MissingValue, BadValue, OptionsFile, ShellCharacter}
+use Rattle.nvcc_options.specs.Options.{nvcc_entries}
 use Rattle.nvcc_words.specs.Files.{words_of_file}
-use Rattle.nvcc_words.specs.Words.{has_no_operator, is_number, is_language, is_joinable, is_unexpanded, equals_word}
+use Rattle.nvcc_options.specs.Words.{has_no_operator, is_number, is_language, is_joinable, is_unexpanded, equals_word}
 
 -- a line that asks for nothing
 abbrev pub nothing_asked : Asked

@@ -6,7 +6,7 @@ use Rattle.std.specs.Str.{chars}
 use Rattle.texts.specs.Variables.{first_value}
 use Rattle.texts.specs.Rows.{spaced}
 use Rattle.shell_words.specs.Shell.Splitting.{shell_words}
-use Rattle.nvcc_words.specs.Words.{is_cut_alike}
+use Rattle.nvcc_options.specs.Words.{is_cut_alike}
 
 -- whether nvcc and a shell read a byte of an options file alike. Both cut words at spaces, tabs and ends of lines, and keep
 -- what is in double quotes together. A backslash, `#`, `'` and other control characters mean something else to nvcc

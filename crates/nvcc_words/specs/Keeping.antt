@@ -7,10 +7,10 @@ use Rattle.texts.specs.Rows.{spaced}
 use Rattle.host_lines.specs.NvccEnvironment.{with_added_words}
 use Rattle.option_items.specs.Table.{Entry}
 use Rattle.nvcc_words.specs.declared.asked.Asked.{Asked}
-use Rattle.nvcc_words.specs.declared.options.Purpose.{Purpose}
+use Rattle.nvcc_options.specs.declared.options.Purpose.{Purpose}
 use Rattle.nvcc_words.specs.Asked.{asked_of}
 use Rattle.nvcc_words.specs.NormalForm.{phase_of}
-use Rattle.nvcc_words.specs.Options.{nvcc_entries}
+use Rattle.nvcc_options.specs.Options.{nvcc_entries}
 
 -- the values of an option, in order
 abbrev pub values_of : List ℕ → List (List ℕ × List ℕ) → List (List ℕ)

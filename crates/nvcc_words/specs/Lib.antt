@@ -3,8 +3,4 @@ pub mod Files
 pub mod Keeping
 pub mod Laws
 pub mod NormalForm
-pub mod Options
-pub mod Reasons
-pub mod Tables
 pub mod Verdict
-pub mod Words

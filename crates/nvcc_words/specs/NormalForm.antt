@@ -9,9 +9,9 @@ use Rattle.texts.specs.ObjectFlags.{makes_objects}
 use Rattle.texts.specs.Rows.{spaced}
 use Rattle.nvcc_words.specs.declared.asked.Asked.{Asked}
 use Rattle.nvcc_words.specs.declared.call.Call.{Call}
-use Rattle.nvcc_words.specs.declared.reason.Reason.{Reason}
-use Rattle.nvcc_words.specs.declared.reason.Reason.TheVariants.{Links, SeveralPhases, NoInput, SeveralInputs, NotSource, HostSource, StandardOutput, HiddenName, UnknownOption, MissingValue, OptionsFile, DependencyWords, ShellCharacter}
-use Rattle.nvcc_words.specs.Words.{is_unexpanded}
+use Rattle.nvcc_options.specs.declared.reason.Reason.{Reason}
+use Rattle.nvcc_options.specs.declared.reason.Reason.TheVariants.{Links, SeveralPhases, NoInput, SeveralInputs, NotSource, HostSource, StandardOutput, HiddenName, UnknownOption, MissingValue, OptionsFile, DependencyWords, ShellCharacter}
+use Rattle.nvcc_options.specs.Words.{is_unexpanded}
 use Rattle.nvcc_words.specs.Asked.{asked_of, reason_unless}
 
 -- the first of some texts, and the empty text if there is none

@@ -17,9 +17,9 @@ use Rattle.host_lines.specs.NvccEnvironment.{prepended_name, appended_name, with
 use Rattle.nvcc_words.specs.declared.call.Call.{Call}
 use Rattle.nvcc_words.specs.declared.verdict.Verdict.{Verdict}
 use Rattle.nvcc_words.specs.declared.verdict.Verdict.TheVariants.{Split, Pass}
-use Rattle.nvcc_words.specs.declared.reason.Reason.{Reason}
-use Rattle.nvcc_words.specs.declared.reason.Reason.TheVariants.{VariableQuotes, OtherReading}
-use Rattle.nvcc_words.specs.Words.{is_cut_at_spaces}
+use Rattle.nvcc_options.specs.declared.reason.Reason.{Reason}
+use Rattle.nvcc_options.specs.declared.reason.Reason.TheVariants.{VariableQuotes, OtherReading}
+use Rattle.nvcc_options.specs.Words.{is_cut_at_spaces}
 use Rattle.nvcc_words.specs.Asked.{asked_of}
 use Rattle.nvcc_words.specs.NormalForm.{nvcc_call}
 

@@ -9,13 +9,12 @@ ghost use Rattle.nvcc_words.specs.Asked as spec;
 ghost use Rattle.nvcc_words.specs.Files as contents;
 
 use crate::files::words_of_file;
-use crate::options::{Purpose, table};
-use crate::reason::Reason;
-use crate::word_tests::{
-    are_unexpanded, equals_word, has_no_operator, is_joinable, is_language, is_number,
-};
 use gcc_lines::gcc;
 use host_lines::nvcc;
+use nvcc_options::word_tests::{
+    are_unexpanded, equals_word, has_no_operator, is_joinable, is_language, is_number,
+};
+use nvcc_options::{Purpose, Reason, table};
 use option_items::items::{ArgParseError, Line};
 use option_items::table::{Pair, SearchableArgInfo};
 use option_items::views::{ArgumentView, view_item};

@@ -5,7 +5,7 @@ ghost use Rattle.std.specs.List.{list_all};
 ghost use Rattle.texts.specs.Variables.{pair_of};
 ghost use Rattle.nvcc_words.specs.Files as spec;
 
-use crate::word_tests::is_cut_alike;
+use nvcc_options::word_tests::is_cut_alike;
 use shell_words::split;
 use std::alloc::{AllocError, Global};
 use texts::variables::first_value;

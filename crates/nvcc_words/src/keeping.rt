@@ -6,12 +6,12 @@ ghost use Rattle.option_items.specs.Table.{Entry};
 ghost use Rattle.texts.specs.Variables.{pair_of};
 ghost use Rattle.nvcc_words.specs.Asked.{asked_of};
 ghost use Rattle.nvcc_words.specs.Keeping as spec;
-ghost use Rattle.nvcc_words.specs.declared.options.Purpose.{Purpose};
-ghost use Rattle.nvcc_words.specs.Tables.{rows_of};
+ghost use Rattle.nvcc_options.specs.declared.options.Purpose.{Purpose};
+ghost use Rattle.nvcc_options.specs.Tables.{rows_of};
 
 use crate::asked::Asked;
-use crate::options::{Purpose, table};
 use host_lines::nvcc::whole_line;
+use nvcc_options::{Purpose, table};
 use option_items::table::Table;
 use std::alloc::{AllocError, Global};
 use texts::words::Words;

@@ -10,15 +10,10 @@ mod call;
 mod files;
 mod keeping;
 pub mod laws;
-mod options;
-mod reason;
 mod settling;
 mod verdict;
-mod word_tests;
 
 pub use call::Call;
 pub use keeping::keeps_options;
-pub use options::{Purpose, Tables, table};
-pub use reason::Reason;
 pub use settling::{extension_of_phase, has_extension};
 pub use verdict::{Verdict, file_names, normalize};

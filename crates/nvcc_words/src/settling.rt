@@ -8,7 +8,7 @@ ghost use Rattle.nvcc_words.specs.NormalForm as spec;
 
 use crate::asked::{Asked, push_joined};
 use crate::call::Call;
-use crate::reason::Reason;
+use nvcc_options::Reason;
 use std::alloc::{AllocError, Global};
 use texts::compilation_flags::asks_object;
 use texts::extension::{extension, last, with_extension};

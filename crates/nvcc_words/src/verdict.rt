@@ -8,13 +8,13 @@ ghost use Rattle.nvcc_words.specs.Verdict as spec;
 
 use crate::asked::Asked;
 use crate::call::Call;
-use crate::reason::Reason;
-use crate::word_tests::{are_unexpanded, is_cut_at_spaces};
 use compilers::arguments::{CompilerArguments, ParsedArguments};
 use compilers::compiler::CCompilerKind;
 use gcc_lines::gcc;
 use host_lines::nvcc;
 use host_lines::nvcc::whole_line;
+use nvcc_options::Reason;
+use nvcc_options::word_tests::{are_unexpanded, is_cut_at_spaces};
 use option_items::table::Pair;
 use std::alloc::{AllocError, Global};
 use texts::variables::first_value;

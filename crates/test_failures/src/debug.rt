@@ -16,7 +16,7 @@ use cuda_plans::table::{ArgDisposition, ArgInfo, Match, Pair, Table};
 use cuda_plans::views::ArgumentView;
 use dry_runs::Statement;
 use nvcc_calls::{DirectoryCall, NvccCall, Outline};
-use nvcc_words::Purpose;
+use nvcc_options::Purpose;
 use plan_exports::Refusal;
 use plan_texts::Tool;
 use programs::{LineCall, PlanCall, Stop, Unread};

@@ -2,9 +2,9 @@ use Rattle.std.proofs.Common.{◌≡◌, map, drop}
 use Rattle.std.specs.List.{list_all}
 use Rattle.texts.specs.Variables.{pair_of}
 use Rattle.option_items.specs.Table.{Entry, entry_of}
-use Rattle.nvcc_words.specs.declared.options.Purpose.{Purpose}
+use Rattle.nvcc_options.specs.declared.options.Purpose.{Purpose}
 use Rattle.nvcc_words.specs.Keeping.{has_same_values}
-use Rattle.nvcc_words.specs.Tables.{rows_of}
+use Rattle.nvcc_options.specs.Tables.{rows_of}
 use Rattle.nvcc_words.proofs.keeping.keeps_table.Given as goal
 
 -- the rows that are left have the same values exactly if all rows do

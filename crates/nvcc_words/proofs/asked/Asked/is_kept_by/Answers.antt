@@ -2,9 +2,9 @@ use Rattle.std.proofs.Common.{◌≡◌, ◌&&◌, ◌∙◌, ap, sym, map, subs
 use Rattle.std.specs.Result.{IfOk}
 use Rattle.texts.specs.Variables.{pair_of}
 use Rattle.option_items.specs.Table.{Entry}
-use Rattle.nvcc_words.specs.declared.options.Purpose.{Purpose}
+use Rattle.nvcc_options.specs.declared.options.Purpose.{Purpose}
 use Rattle.nvcc_words.specs.Keeping.{same_options, keeps, begins_as, kept_options}
-use Rattle.nvcc_words.specs.Options.{nvcc_entries}
+use Rattle.nvcc_options.specs.Options.{nvcc_entries}
 use Rattle.nvcc_words.proofs.KeepingLemmas.{not-begun}
 use Rattle.nvcc_words.proofs.asked.Asked.is_kept_by.Goals as goal
 

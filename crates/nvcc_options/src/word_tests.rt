@@ -2,7 +2,7 @@
 
 ghost use Rattle.std.specs.Prelude.{◌≡◌, ◌∷◌, [], map, IfOk, string_bytes};
 ghost use Rattle.std.specs.List.{list_all};
-ghost use Rattle.nvcc_words.specs.Words as spec;
+ghost use Rattle.nvcc_options.specs.Words as spec;
 
 use std::alloc::{AllocError, Global};
 

@@ -3,8 +3,8 @@ use Rattle.std.proofs.Common.{◌≡◌, ℕ, Bool, true, false, cond, ◌&&◌,
 use Rattle.std.proofs.lemmas.Bool.Decides.{nat_tests}
 use Rattle.option_items.specs.declared.table.Table.{Table}
 use Rattle.option_items.specs.Table.{Entry, matched, is_longer, longer_match, longest_match}
-use Rattle.nvcc_words.specs.declared.options.Purpose.{Purpose}
-use Rattle.nvcc_words.specs.Tables.{rows_of, earlier_choice, choice_with, chosen_by}
+use Rattle.nvcc_options.specs.declared.options.Purpose.{Purpose}
+use Rattle.nvcc_options.specs.Tables.{rows_of, earlier_choice, choice_with, chosen_by}
 
 -- of three lengths
 module _ (x y e : Entry Purpose) where

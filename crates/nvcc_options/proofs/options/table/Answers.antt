@@ -1,5 +1,5 @@
 use Rattle.std.proofs.Common.{refl}
-use Rattle.nvcc_words.proofs.options.table.Goals as goal
+use Rattle.nvcc_options.proofs.options.table.Goals as goal
 
 pub returns : goal.returns
 returns c = refl

@@ -3,8 +3,8 @@
 ghost use Rattle.std.specs.Prelude.{◌≡◌, map};
 ghost use Rattle.std.specs.Option.{option_map, option_copied};
 ghost use Rattle.option_items.specs.Table.{entry_of, longest_match};
-ghost use Rattle.nvcc_words.specs.Options.{nvcc_entries};
-ghost use Rattle.nvcc_words.specs.Tables as spec;
+ghost use Rattle.nvcc_options.specs.Options.{nvcc_entries};
+ghost use Rattle.nvcc_options.specs.Tables as spec;
 
 use crate::reason::Reason;
 use option_items::table::{

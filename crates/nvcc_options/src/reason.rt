@@ -68,7 +68,7 @@ pub enum Reason {
 
 impl Reason {
     ghost use Rattle.std.specs.Prelude.{◌≡◌};
-    ghost use Rattle.nvcc_words.specs.Reasons.{text_of};
+    ghost use Rattle.nvcc_options.specs.Reasons.{text_of};
 
     /// What it says.
     pub fn text(&self) -> &'static str
@@ -110,7 +110,7 @@ impl Reason {
 
 impl fmt::Display for Reason {
     ghost use Rattle.std.specs.Prelude.{Some};
-    ghost use Rattle.nvcc_words.specs.Reasons.{text_of};
+    ghost use Rattle.nvcc_options.specs.Reasons.{text_of};
 
     ghost output = { λ r. Some (text_of r) };
 

@@ -2,8 +2,8 @@
 use Rattle.std.specs.Prelude.{ℕ, List, length, nat_lt, if◌then◌else◌, Option, Some, None, fold, flat_map, map}
 use Rattle.option_items.specs.declared.table.Table.{Table}
 use Rattle.option_items.specs.Table.{Entry, entry_of, longest_match}
-use Rattle.nvcc_words.specs.declared.options.Purpose.{Purpose}
-use Rattle.nvcc_words.specs.declared.options.Tables.{Tables}
+use Rattle.nvcc_options.specs.declared.options.Purpose.{Purpose}
+use Rattle.nvcc_options.specs.declared.options.Tables.{Tables}
 
 -- the entries of one table, and of several
 abbrev pub rows_of : Table Purpose → List (Entry Purpose)

@@ -1,8 +1,8 @@
 use Rattle.std.proofs.Common.{◌≡◌, drop, fold}
 use Rattle.std.specs.Option.{option_map, option_copied}
 use Rattle.option_items.specs.Table.{entry_of}
-use Rattle.nvcc_words.specs.Tables.{choice_with, chosen_by}
-use Rattle.nvcc_words.proofs.options.choose.Given as goal
+use Rattle.nvcc_options.specs.Tables.{choice_with, chosen_by}
+use Rattle.nvcc_options.proofs.options.choose.Given as goal
 
 -- the tables that are left choose what all would
 abbrev pub invariant-loop-part : goal.invariant-loop-part

@@ -1,8 +1,8 @@
 -- nvcc 13's options: every name that nvcc takes, and what it does with a value.
 use Rattle.std.specs.Prelude.{ℕ, List, [], ◌∷◌, ◌++◌, map, Some, None, codes}
-use Rattle.nvcc_words.specs.declared.options.Purpose.{Purpose}
-use Rattle.nvcc_words.specs.declared.options.Purpose.TheVariants.{Define, Dependencies, DependencyFile, DependencyPhonies, DependencyTarget, File, Forward, Include, Keep, KeepDirectory, Language, OptimizationInfo, Output, OutputDirectory, Passes, Phase, Plain, PreInclude, Quoted, TargetDirectory, Threads, Undefine, Unquoted}
-use Rattle.nvcc_words.specs.declared.reason.Reason.TheVariants.{Cleans, DrivePrefix, Jobserver, Links, Measures, OtherPhase, Prints, StandardInput, TemporaryFiles}
+use Rattle.nvcc_options.specs.declared.options.Purpose.{Purpose}
+use Rattle.nvcc_options.specs.declared.options.Purpose.TheVariants.{Define, Dependencies, DependencyFile, DependencyPhonies, DependencyTarget, File, Forward, Include, Keep, KeepDirectory, Language, OptimizationInfo, Output, OutputDirectory, Passes, Phase, Plain, PreInclude, Quoted, TargetDirectory, Threads, Undefine, Unquoted}
+use Rattle.nvcc_options.specs.declared.reason.Reason.TheVariants.{Cleans, DrivePrefix, Jobserver, Links, Measures, OtherPhase, Prints, StandardInput, TemporaryFiles}
 use Rattle.texts.specs.Rows.{spaced}
 use Rattle.option_items.specs.declared.table.ArgDisposition.{ArgDisposition}
 use Rattle.option_items.specs.declared.table.ArgDisposition.TheVariants.{Concatenated, CanBeSeparated}

@@ -1,7 +1,7 @@
 -- The texts of the reasons for which a call goes to nvcc unchanged.
 use Rattle.std.specs.Prelude.{ℕ, List, codes}
-use Rattle.nvcc_words.specs.declared.reason.Reason.{Reason}
-use Rattle.nvcc_words.specs.declared.reason.Reason.TheVariants.{Links, OtherPhase, SeveralPhases, NoInput, SeveralInputs, NotSource, HostSource, Prints, Cleans, Measures, OptionsFile, TemporaryFiles, Jobserver, DrivePrefix, StandardInput, StandardOutput, HiddenName, UnknownOption, MissingValue, BadValue, DependencyWords, ShellCharacter, VariableQuotes, OtherReading, GeneratedName, DirectoryName, ToolFile, HostFile, KeptName}
+use Rattle.nvcc_options.specs.declared.reason.Reason.{Reason}
+use Rattle.nvcc_options.specs.declared.reason.Reason.TheVariants.{Links, OtherPhase, SeveralPhases, NoInput, SeveralInputs, NotSource, HostSource, Prints, Cleans, Measures, OptionsFile, TemporaryFiles, Jobserver, DrivePrefix, StandardInput, StandardOutput, HiddenName, UnknownOption, MissingValue, BadValue, DependencyWords, ShellCharacter, VariableQuotes, OtherReading, GeneratedName, DirectoryName, ToolFile, HostFile, KeptName}
 
 -- a reason's text
 abbrev pub text_of : Reason → List ℕ

@@ -1,0 +1,4 @@
+pub mod Options
+pub mod Reasons
+pub mod Tables
+pub mod Words
