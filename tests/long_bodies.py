@@ -199,21 +199,21 @@ plans | program_lookups/snapshot | found | self.as_slice().len() > 500
 plans | program_lookups/search_path | candidates | path.len() > 1_000
 plans | program_lookups/search_path | candidates | program.len() > 50_000
 
-plans | command_groups/planning | plan_with_origins_within before Ok(planned) | planned.plan.groups.as_slice().len() > 50
-plans | command_groups/planning | plan_with_origins_within before Ok(planned) | long_body::has_large(planned.plan.groups.as_slice(), 500)
-plans | command_groups/planning | plan_with_origins_within before Ok(planned) | planned.plan.dropped.as_slice().len() > 500
-plans | command_groups/planning | plan_with_origins_within before Ok(planned) | planned.plan.dropped.as_slice().len() > 50 && planned.plan.dropped.as_slice().len() < 150
-plans | command_groups/planning | plan_with_origins_within before let planned | first.env.len() > 500
-plans | command_groups/planning | plan_with_origins_within | env_vars.len() > 500
-plans | command_groups/planning | group_nvcc_subcommands_by_compilation_stage | dry1.len() > 30_000
-plans | command_groups/planning | group_nvcc_subcommands_by_compilation_stage | env_vars.len() > 500
-plans | command_groups/planning | group_nvcc_subcommands_by_compilation_stage | suffixes.len() > 500
-plans | command_groups/planning | plan_with_origins_within | limit != usize::MAX && dry1.len() > 5_000
-plans | command_groups/planning | plan_with_origins_within before Ok(planned) | limit != usize::MAX && planned.plan.groups.as_slice().len() > 50
-plans | command_groups/planning | group_nvcc_subcommands_by_compilation_stage_within | dry2.len() > 5_000
-programs | command_groups/planning | plan_with_origins | dry1.len() > 10_000
-plans | command_groups/select | select_nvcc_subcommands before let commands | said.commands.as_slice().len() > 500
-plans | command_groups/select | select_nvcc_subcommands | env_vars.len() > 500
+plans | command_groups/plan | plan_with_origins_within before Ok(planned) | planned.plan.groups.as_slice().len() > 50
+plans | command_groups/plan | plan_with_origins_within before Ok(planned) | long_body::has_large(planned.plan.groups.as_slice(), 500)
+plans | command_groups/plan | plan_with_origins_within before Ok(planned) | planned.plan.dropped.as_slice().len() > 500
+plans | command_groups/plan | plan_with_origins_within before Ok(planned) | planned.plan.dropped.as_slice().len() > 50 && planned.plan.dropped.as_slice().len() < 150
+plans | command_groups/plan | plan_with_origins_within before let planned | first.env.len() > 500
+plans | command_groups/plan | plan_with_origins_within | env_vars.len() > 500
+plans | command_groups/plan | group_nvcc_subcommands_by_compilation_stage | dry1.len() > 30_000
+plans | command_groups/plan | group_nvcc_subcommands_by_compilation_stage | env_vars.len() > 500
+plans | command_groups/plan | group_nvcc_subcommands_by_compilation_stage | suffixes.len() > 500
+plans | command_groups/plan | plan_with_origins_within | limit != usize::MAX && dry1.len() > 5_000
+plans | command_groups/plan | plan_with_origins_within before Ok(planned) | limit != usize::MAX && planned.plan.groups.as_slice().len() > 50
+plans | command_groups/plan | group_nvcc_subcommands_by_compilation_stage_within | dry2.len() > 5_000
+programs | command_groups/plan | plan_with_origins | dry1.len() > 10_000
+plans | command_groups/selection | select_nvcc_subcommands before let commands | said.commands.as_slice().len() > 500
+plans | command_groups/selection | select_nvcc_subcommands | env_vars.len() > 500
 plans | plans/plan | try_clone | self.args.len() > 50
 plans | plans/plan | try_clone | self.env_vars.len() > 50
 

@@ -1,9 +1,9 @@
-pub mod CuttingLemmas
 pub mod EntryLemmas
 pub mod EnvironmentLemmas
 pub mod FateLemmas
-pub mod GroupingLemmas
+pub mod GroupLemmas
 pub mod KindLemmas
+pub mod LabelLemmas
 pub mod MergeLemmas
 pub mod OpenerLemmas
 pub mod OpeningLemmas

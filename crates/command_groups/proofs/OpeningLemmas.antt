@@ -7,14 +7,14 @@ use Rattle.std.proofs.lemmas.Bool.{false≢true, and_parts, leb-true, leb-false,
 use Rattle.indexmap.specs.IndexMap.{insert_entry}
 use Rattle.texts.specs.Lists.{is_some_and, with_name}
 use Rattle.command_groups.specs.declared.openings.Opening.{Opening}
-use Rattle.command_groups.specs.declared.grouping.Label.{Label}
-use Rattle.command_groups.specs.declared.grouping.Label.TheVariants.{Front, Device, Final, Ungrouped}
+use Rattle.command_groups.specs.declared.labels.Label.{Label}
+use Rattle.command_groups.specs.declared.labels.Label.TheVariants.{Front, Device, Final, Ungrouped}
 use Rattle.plans.specs.declared.plan.Reason.{Reason}
 use Rattle.plans.specs.declared.plan.Reason.TheVariants.{Superseded}
 use Rattle.command_groups.specs.Fate.{Fate, front, device, final, ungrouped, device_or}
 use Rattle.command_groups.specs.Openings.{Opened, names_of, opening_at, further, opening_of, number_of, is_live, lower, first_live_after, first_live}
-use Rattle.command_groups.specs.Grouping.{device_label}
-use Rattle.command_groups.specs.Cutting.{fate_at, fate_by}
+use Rattle.command_groups.specs.Labels.{device_label}
+use Rattle.command_groups.specs.Groups.{fate_at, fate_by}
 use Rattle.command_groups.proofs.FateLemmas.{Distinct, same_text, first_false, second_false, second_true}
 
 -- The names.

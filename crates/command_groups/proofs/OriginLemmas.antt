@@ -6,8 +6,8 @@ use Rattle.std.specs.Str.{bytes_eq}
 use Rattle.std.proofs.lemmas.List.{length-replicate}
 use Rattle.texts.specs.Lists.{is_some_and}
 use Rattle.command_groups.specs.declared.openings.Opening.{Opening}
-use Rattle.command_groups.specs.declared.grouping.Label.{Label}
-use Rattle.command_groups.specs.declared.grouping.Label.TheVariants.{Front, Device, Final, Ungrouped}
+use Rattle.command_groups.specs.declared.labels.Label.{Label}
+use Rattle.command_groups.specs.declared.labels.Label.TheVariants.{Front, Device, Final, Ungrouped}
 use Rattle.plans.specs.declared.origins.Origin.{Origin}
 use Rattle.plans.specs.declared.plan.Reason.{Reason}
 use Rattle.plans.specs.declared.plan.Reason.TheVariants.{Superseded}
@@ -15,13 +15,13 @@ use Rattle.command_groups.specs.Stage.{StagedCommand}
 use Rattle.command_groups.specs.Fate.{Fate, device, ungrouped, PlacedCommand, is_device}
 use Rattle.command_groups.specs.Plan.{is_front, is_final, of_fate}
 use Rattle.command_groups.specs.Openings.{Opened, names_of}
-use Rattle.command_groups.specs.Grouping.{Labelled, GroupingState, grouped}
-use Rattle.command_groups.specs.Cutting.{fate_at, fate_by, settled, group_of_label}
+use Rattle.command_groups.specs.Labels.{Labelled, GroupingState, grouped}
+use Rattle.command_groups.specs.Groups.{fate_at, fate_by, settled, group_of_label}
 use Rattle.command_groups.specs.Origins.{origin_of, origins_by, origins_of_placed, origins_of_staged}
-use Rattle.command_groups.specs.OriginCutting.{with_grouped_origin, with_origin, no_origins, origin_groups}
-use Rattle.command_groups.proofs.CuttingLemmas.{zipped, cons_at, put_before, zipped_nothing, zipped_with_nothing, joined_by, joined_at, last_joined, put_length, names_length}
+use Rattle.command_groups.specs.OriginGroups.{with_grouped_origin, with_origin, no_origins, origin_groups}
+use Rattle.command_groups.proofs.GroupLemmas.{zipped, cons_at, put_before, zipped_nothing, zipped_with_nothing, joined_by, joined_at, last_joined, put_length, names_length}
 use Rattle.command_groups.proofs.FateLemmas.{Distinct}
-use Rattle.command_groups.proofs.GroupingLemmas.{labels_are_fates, names_are_opened, names_are_distinct}
+use Rattle.command_groups.proofs.LabelLemmas.{labels_are_fates, names_are_opened, names_are_distinct}
 
 module _ (opened : Opened) (d : Distinct (names_of opened)) where
   abbrev device_groups : List PlacedCommand → List (List Origin)

@@ -2,7 +2,7 @@
 use Rattle.std.proofs.Common.{◌≡◌, ℕ, suc, zero, ◌<◌, List, [], ◌∷◌, ◌++◌, map, length, ap, ◌∙◌, arith, slice_index_or, slice_set}
 use Rattle.std.specs.Prelude.{vec_items}
 use Rattle.std.specs.Global.{Vec}
-use Rattle.command_groups.specs.Cutting.{put_at}
+use Rattle.command_groups.specs.Groups.{put_at}
 
 -- one vector, which had the elements of `old`, is set to v, which has one more
 pub put_seen : {X : Type 0} (vs : List (Vec X)) (place : ℕ) (v old d : Vec X) (x : X) → place < length vs → old ≡ slice_index_or vs place d → v.items ≡ old.items ++ x ∷ [] → map vec_items (slice_set vs place v) ≡ put_at place x (map vec_items vs)

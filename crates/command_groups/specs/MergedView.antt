@@ -1,6 +1,6 @@
 -- The merged commands of code, seen as those of the definitions.
 use Rattle.std.specs.Prelude.{ℕ, List, Bool, if◌then◌else◌, map, string_bytes}
-use Rattle.command_groups.specs.declared.merge.SelectedCommand.{SelectedCommand}
+use Rattle.command_groups.specs.declared.merged_commands.SelectedCommand.{SelectedCommand}
 use Rattle.command_groups.specs.Merge.{MergedCommand, is_nvcc_stem, is_host_stem}
 
 abbrev pub command_seen : SelectedCommand → MergedCommand

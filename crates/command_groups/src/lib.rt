@@ -1,20 +1,20 @@
 //! What one `nvcc` call runs: its commands in groups, and those that it drops, each with a reason.
 #![tactic(auto)]
 
-mod cutting;
-mod driver;
+mod command_plan;
 mod environment;
-mod grouping;
+mod groups;
+mod labels;
 pub mod laws;
-mod merge;
+mod merged_commands;
 mod openings;
 mod origins;
-mod planning;
-mod select;
+mod plan;
+mod selection;
 mod setting;
 mod stage;
 
-pub use planning::{
+pub use plan::{
     group_nvcc_subcommands_by_compilation_stage,
     group_nvcc_subcommands_by_compilation_stage_within, plan_of_parsed, plan_with_origins,
     plan_with_origins_within,
@@ -23,4 +23,4 @@ pub use plans::{
     Dropped, DroppedCommands, Groups, NvccGeneratedSubcommand, Origin, Origins, Plan,
     PlanWithOrigins, Reason,
 };
-pub use select::select_nvcc_subcommands;
+pub use selection::select_nvcc_subcommands;

@@ -2,12 +2,12 @@
 
 ghost use Rattle.std.specs.Prelude.{◌≡◌, ◌+◌, ◌<◌, ◌^◌, ◌++◌, map, length, IfOk, OnOk, vec_items};
 ghost use Rattle.std.specs.List.{flat_map};
-ghost use Rattle.command_groups.specs.Cutting.{put_at};
-ghost use Rattle.command_groups.specs.GroupingView.{labelled_seen};
-ghost use Rattle.command_groups.specs.OriginCutting as spec;
+ghost use Rattle.command_groups.specs.Groups.{put_at};
+ghost use Rattle.command_groups.specs.LabelsView.{labelled_seen};
+ghost use Rattle.command_groups.specs.OriginGroups as spec;
 
-use crate::cutting::group_of;
-use crate::grouping::LabelledCommand;
+use crate::groups::group_of;
+use crate::labels::LabelledCommand;
 use crate::openings::OpenedNames;
 use plans::{Origin, Origins};
 use std::alloc::{AllocError, Global};

@@ -1,7 +1,7 @@
 use Rattle.std.proofs.Common.{◌≡◌, ◌+◌, map, fold, length, drop}
 use Rattle.std.specs.Prelude.{vec_items}
-use Rattle.command_groups.specs.GroupingView.{labelled_seen}
-use Rattle.command_groups.specs.OriginCutting.{with_origin, origin_groups}
+use Rattle.command_groups.specs.LabelsView.{labelled_seen}
+use Rattle.command_groups.specs.OriginGroups.{with_origin, origin_groups}
 use Rattle.command_groups.proofs.origins.origin_groups.Given as goal
 
 -- the origins so far and those of the commands that are left make up those of all

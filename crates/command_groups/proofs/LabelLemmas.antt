@@ -1,0 +1,434 @@
+-- The labels of grouping stand for the fates.
+use Rattle.std.proofs.Common.{◌≡◌, ℕ, suc, zero, ◌+◌, ◌<◌, ◌≤◌, List, [], ◌∷◌, ◌++◌, Bool, true, false, cond, not, map, length, refl, sym, ap, subst, ◌∙◌, ◌⊎◌, inl, inr, arith, Option, Some, None}
+use Rattle.std.specs.Prelude.{◌==◌, ◌&&◌, ◌||◌, nat_le, slice_get, fold}
+use Rattle.std.specs.List.{list_any, find, AllByRecursion}
+use Rattle.std.specs.Str.{bytes_eq}
+use Rattle.std.proofs.lemmas.Bool.{false≢true, eqb-true, eq-eqb}
+use Rattle.indexmap.specs.IndexMap.{insert_entry}
+use Rattle.texts.specs.Lists.{is_some_and, with_name, last_of}
+use Rattle.command_groups.specs.declared.openings.Opening.{Opening}
+use Rattle.command_groups.specs.declared.labels.Label.{Label}
+use Rattle.command_groups.specs.declared.labels.Label.TheVariants.{Front, Device, Final, Ungrouped}
+use Rattle.plans.specs.declared.plan.Reason.TheVariants.{NotCuda, NoCiccGroup, NoPtxasGroup, Superseded}
+use Rattle.command_groups.specs.Merge.{MergedCommand}
+use Rattle.command_groups.specs.Stage.{Stage, linking, splitting, device_compiling, assembling, preprocessing, host_compiling, foreign, StagedCommand, opens}
+use Rattle.command_groups.specs.Fate.{Fate, front, device, final, ungrouped, PlacedCommand, is_device, is_device_compiling, device_or, opens_name, opened_names, makes, is_made, place_of, placed_after, places, fate_of, with_fates, fates}
+use Rattle.command_groups.specs.Openings.{Opened, Made, names_of, opening_at, further, opening_of, number_of, is_live, lower, first_live_after, first_live}
+use Rattle.command_groups.specs.Labels.{Labelled, GroupingState, no_commands, device_label, with_made, with_output, with_command, grouped}
+use Rattle.command_groups.specs.Groups.{fate_at, fate_by, settled}
+use Rattle.command_groups.proofs.FateLemmas.{Distinct, distinct_with, any_append, same_text, equal_texts, first_false, second_false, names_after}
+use Rattle.command_groups.proofs.OpeningLemmas.{names_opened, opening_found, opened_here, relabelled, Bounded, reopened, is_at, Tells, first_told}
+
+-- Fates, with one more command.
+
+abbrev relabelled_by : Option (List ℕ) → Fate → Fate
+relabelled_by None place = place
+relabelled_by (Some name) place = relabelled name place
+
+abbrev with_place : Fate → PlacedCommand → PlacedCommand
+with_place place p = record { staged = p.staged; fate = place }
+
+last_fate : (place : Fate) → fate_of [] place ≡ place
+last_fate front = refl
+last_fate (device name) = refl
+last_fate final = refl
+last_fate (ungrouped reason) = refl
+
+fate_pushed : (after : List PlacedCommand) (p : PlacedCommand) (opened : Option (List ℕ)) → opens p.staged.stage ≡ opened → (place : Fate) → fate_of (after ++ p ∷ []) place ≡ relabelled_by opened (fate_of after place)
+fate_pushed after p None e front = refl
+fate_pushed after p (Some name) e front = refl
+fate_pushed after p None e final = refl
+fate_pushed after p (Some name) e final = refl
+fate_pushed after p None e (ungrouped reason) = refl
+fate_pushed after p (Some name) e (ungrouped reason) = refl
+fate_pushed after p None e (device m) =
+    ap (λ b. cond b (ungrouped Superseded) (device m)) (any_append (opens_name m) after (p ∷ [])
+    ∙ ap (λ o. list_any (opens_name m) after || (is_some_and (λ (n : List ℕ). bytes_eq n m) o || false)) e)
+    ∙ (elim (list_any (opens_name m) after) as (λ b. cond (b || (false || false)) (ungrouped Superseded) (device m) ≡ cond b (ungrouped Superseded) (device m)) [ true ↦ refl | false ↦ refl ])
+fate_pushed after p (Some name) e (device m) =
+    ap (λ b. cond b (ungrouped Superseded) (device m)) (any_append (opens_name m) after (p ∷ [])
+    ∙ ap (λ o. list_any (opens_name m) after || (is_some_and (λ (n : List ℕ). bytes_eq n m) o || false)) e)
+    ∙ (elim (list_any (opens_name m) after) as (λ b. cond (b || (bytes_eq name m || false)) (ungrouped Superseded) (device m) ≡ relabelled name (cond b (ungrouped Superseded) (device m))) [
+      | true ↦ refl
+      | false ↦ elim (bytes_eq name m) as (λ b. cond (b || false) (ungrouped Superseded) (device m) ≡ cond b (ungrouped Superseded) (device m)) [ true ↦ refl | false ↦ refl ]
+    ])
+
+fates_pushed : (before : List PlacedCommand) (p : PlacedCommand) (opened : Option (List ℕ)) → opens p.staged.stage ≡ opened →
+    with_fates (before ++ p ∷ []) ≡ map (λ q. with_place (relabelled_by opened q.fate) q) (with_fates before) ++ p ∷ []
+fates_pushed [] p opened e = λ i. record { staged = p.staged; fate = last_fate p.fate i } ∷ []
+fates_pushed (q ∷ qs) p opened e = λ i. record { staged = q.staged; fate = fate_pushed qs p opened e q.fate i } ∷ fates_pushed qs p opened e i
+
+-- What is made, with one more command.
+
+shuffled : (m a o i k : Bool) → ((m && not (a || (o || false))) || ((i && not o) || k)) ≡ ((((m && not a) || i) && not o) || k)
+shuffled false a o i k = refl
+shuffled true true o i k = refl
+shuffled true false true true k = refl
+shuffled true false true false k = refl
+shuffled true false false i k = refl
+
+made_pushed : (path : List ℕ) (before : List PlacedCommand) (p : PlacedCommand) (name : List ℕ) →
+    is_made path (before ++ p ∷ []) name ≡ ((is_made path before name && not (opens_name name p)) || makes path name p)
+made_pushed path [] p name = elim (makes path name p) as (λ b. ((b && true) || false) ≡ b) [ true ↦ refl | false ↦ refl ]
+made_pushed path (q ∷ qs) p name =
+    ap (λ b. (makes path name q && not b) || is_made path (qs ++ p ∷ []) name) (any_append (opens_name name) qs (p ∷ []))
+    ∙ ap (λ b. (makes path name q && not (list_any (opens_name name) qs || (opens_name name p || false))) || b) (made_pushed path qs p name)
+    ∙ shuffled (makes path name q) (list_any (opens_name name) qs) (opens_name name p) (is_made path qs name) (makes path name p)
+
+kept : (a : Bool) → ((a && not false) || false) ≡ a
+kept true = refl
+kept false = refl
+
+-- a command that opens nothing and isn't cicc's makes nothing, and what was made stays
+quiet_made : (path : List ℕ) (before : List PlacedCommand) (p : PlacedCommand) (name : List ℕ) → opens p.staged.stage ≡ None → is_device_compiling p.staged.stage ≡ false → is_made path (before ++ p ∷ []) name ≡ is_made path before name
+quiet_made path before p name e f =
+    made_pushed path before p name
+    ∙ (λ i. (is_made path before name && not (is_some_and (λ (n : List ℕ). bytes_eq n name) (e i))) || (f i && (is_device name p.fate && is_some_and (bytes_eq path) (last_of p.staged.command.words))))
+    ∙ kept (is_made path before name)
+
+-- Entries.
+
+entry_opened : (opened : Opened) (name : List ℕ) (place : ℕ) → Distinct (names_of opened) → (k : ℕ) (e : List ℕ × ℕ) → slice_get (insert_entry bytes_eq opened name place) k ≡ Some e →
+    ((bytes_eq name e.0 ≡ true) × (e.1 ≡ place)) ⊎ ((bytes_eq name e.0 ≡ false) × (slice_get opened k ≡ Some e))
+entry_opened [] name place d zero e g =
+    let same : (name, place) ≡ e = cc in
+    inl (equal_texts name e.0 (ap (λ (p : List ℕ × ℕ). p.0) same), sym (ap (λ (p : List ℕ × ℕ). p.1) same))
+entry_opened [] name place d (suc k) e g = cc
+entry_opened (x ∷ xs) name place d zero e g =
+    (elim (bytes_eq name x.0) as (λ b. bytes_eq name x.0 ≡ b → slice_get (cond b ((x.0, place) ∷ xs) (x ∷ insert_entry bytes_eq xs name place)) 0 ≡ Some e →
+    ((bytes_eq name e.0 ≡ true) × (e.1 ≡ place)) ⊎ ((bytes_eq name e.0 ≡ false) × (Some x ≡ Some e))) [
+      | true ↦ λ f h. let same : (x.0, place) ≡ e = cc in inl (ap (λ (p : List ℕ × ℕ). bytes_eq name p.0) (sym same) ∙ f, sym (ap (λ (p : List ℕ × ℕ). p.1) same))
+      | false ↦ λ f h. let same : x ≡ e = cc in inr (ap (λ (p : List ℕ × ℕ). bytes_eq name p.0) (sym same) ∙ f, h)
+    ]) refl g
+entry_opened (x ∷ xs) name place d (suc k) e g =
+    let ih : (slice_get (insert_entry bytes_eq xs name place) k ≡ Some e → ((bytes_eq name e.0 ≡ true) × (e.1 ≡ place)) ⊎ ((bytes_eq name e.0 ≡ false) × (slice_get xs k ≡ Some e))) = entry_opened xs name place d.1 k e in
+    (elim (bytes_eq name x.0) as (λ b. bytes_eq name x.0 ≡ b → slice_get (cond b ((x.0, place) ∷ xs) (x ∷ insert_entry bytes_eq xs name place)) (suc k) ≡ Some e →
+    ((bytes_eq name e.0 ≡ true) × (e.1 ≡ place)) ⊎ ((bytes_eq name e.0 ≡ false) × (slice_get xs k ≡ Some e))) [
+      | true ↦ λ f h. inr (unlike xs k (ap (λ n. list_any (bytes_eq n) (names_of xs)) (same_text name x.0 f) ∙ d.0) h, h)
+      | false ↦ λ f h. ih h
+    ]) refl g
+  where
+    unlike : (ys : Opened) (j : ℕ) → list_any (bytes_eq name) (names_of ys) ≡ false → slice_get ys j ≡ Some e → bytes_eq name e.0 ≡ false
+    unlike [] j h q = cc
+    unlike (y ∷ ys) zero h q =
+        let same : y ≡ e = cc in
+        ap (λ (p : List ℕ × ℕ). bytes_eq name p.0) (sym same) ∙ first_false (bytes_eq name y.0) (list_any (bytes_eq name) (names_of ys)) h
+    unlike (y ∷ ys) (suc j) h q = unlike ys j (second_false (bytes_eq name y.0) (list_any (bytes_eq name) (names_of ys)) h) q
+
+pub stands : (opened : Opened) (k : ℕ) (e : List ℕ × ℕ) → slice_get opened k ≡ Some e → list_any (bytes_eq e.0) (names_of opened) ≡ true
+stands [] k e g = cc
+stands (x ∷ xs) zero e g =
+    let same : x ≡ e = cc in
+    ap (λ b. b || list_any (bytes_eq e.0) (names_of xs)) (equal_texts e.0 x.0 (ap (λ (p : List ℕ × ℕ). p.0) (sym same)))
+stands (x ∷ xs) (suc k) e g = elim (bytes_eq e.0 x.0) as (λ b. (b || list_any (bytes_eq e.0) (names_of xs)) ≡ true) [ true ↦ refl | false ↦ stands xs k e g ]
+
+-- entries of equal names stand at one number
+one_number : (opened : Opened) (j k : ℕ) (d e : List ℕ × ℕ) → Distinct (names_of opened) → slice_get opened j ≡ Some d → slice_get opened k ≡ Some e → d.0 ≡ e.0 → j ≡ k
+one_number [] j k d e u g h s = cc
+one_number (x ∷ xs) zero zero d e u g h s = refl
+one_number (x ∷ xs) zero (suc k) d e u g h s =
+    let same : x ≡ d = cc in
+    absurd (false≢true (sym u.0 ∙ ap (λ n. list_any (bytes_eq n) (names_of xs)) (ap (λ (p : List ℕ × ℕ). p.0) same ∙ s) ∙ stands xs k e h))
+one_number (x ∷ xs) (suc j) zero d e u g h s =
+    let same : x ≡ e = cc in
+    absurd (false≢true (sym u.0 ∙ ap (λ n. list_any (bytes_eq n) (names_of xs)) (ap (λ (p : List ℕ × ℕ). p.0) same ∙ sym s) ∙ stands xs j d g))
+one_number (x ∷ xs) (suc j) (suc k) d e u g h s = ap suc (one_number xs j k d e u.1 g h s)
+
+-- an opening that stands, as a test of an entry
+own_entry : (opened : Opened) (o : Opening) (d : List ℕ × ℕ) (k : ℕ) (e : List ℕ × ℕ) → Distinct (names_of opened) → slice_get opened o.number ≡ Some d → (d.1 == o.step) ≡ true → slice_get opened k ≡ Some e → bytes_eq d.0 e.0 ≡ is_at k e o
+own_entry opened o d k e u g t h =
+    elim (bytes_eq d.0 e.0) as (λ b. bytes_eq d.0 e.0 ≡ b → b ≡ is_at k e o) [
+      | true ↦ λ f.
+          let number : o.number ≡ k = one_number opened o.number k d e u g h (same_text d.0 e.0 f) in
+          let same : d ≡ e = entries number in
+          sym (ap (λ b. b && (e.1 == o.step)) (eq-eqb o.number k number) ∙ ap (λ (p : List ℕ × ℕ). p.1 == o.step) (sym same) ∙ t)
+      | false ↦ λ f.
+          elim (o.number == k) as (λ b. (o.number == k) ≡ b → false ≡ (b && (e.1 == o.step))) [
+            | true ↦ λ q. absurd (false≢true (sym f ∙ equal_texts d.0 e.0 (ap (λ (p : List ℕ × ℕ). p.0) (entries (eqb-true o.number k q)))))
+            | false ↦ λ q. refl
+          ]
+          refl
+    ]
+    refl
+  where
+    entries : o.number ≡ k → d ≡ e
+    entries n = let both : Some d ≡ Some e = sym g ∙ ap (slice_get opened) n ∙ h in cc
+
+-- What holds of the commands so far.
+
+abbrev Within : Opened → ℕ → Opening → Type 0
+Within opened place o = (o.number < length opened) × (o.step < place)
+
+record Holds (names : List (List ℕ)) (before : List PlacedCommand) (g : GroupingState) : Type 0 where
+  names_are : names ≡ names_of g.opened
+  distinct : Distinct (names_of g.opened)
+  steps : AllByRecursion (λ e. e.1 < length g.labelled) g.opened
+  fates_are : map (settled g.opened) g.labelled ≡ with_fates before
+  labels : AllByRecursion (λ l. Bounded g.opened (length g.labelled) l.label) g.labelled
+  told : (path : List ℕ) → Tells g.opened (g.made path) (is_made path before)
+  made_within : (path : List ℕ) → AllByRecursion (Within g.opened (length g.labelled)) (g.made path)
+
+module _ {X : Type 0} (P Q : X → Type 0) (f : (x : X) → P x → Q x) where
+  weaker : (xs : List X) → AllByRecursion P xs → AllByRecursion Q xs
+  weaker [] h = tt
+  weaker (x ∷ xs) h = (f x h.0, weaker xs h.1)
+
+  weaker_with : (xs : List X) (y : X) → AllByRecursion P xs → Q y → AllByRecursion Q (xs ++ y ∷ [])
+  weaker_with [] y h q = (q, tt)
+  weaker_with (x ∷ xs) y h q = (f x h.0, weaker_with xs y h.1 q)
+
+bounded_later : (opened opened' : Opened) (n m : ℕ) → length opened ≤ length opened' → n ≤ m → (label : Label) → Bounded opened n label → Bounded opened' m label
+bounded_later opened opened' n m h k Front b = tt
+bounded_later opened opened' n m h k (Device o) b = (omega (arith, b.0), omega (arith, b.1))
+bounded_later opened opened' n m h k Final b = tt
+bounded_later opened opened' n m h k (Ungrouped reason) b = tt
+
+one_longer : {X : Type 0} (xs : List X) (x : X) → length (xs ++ x ∷ []) ≡ length xs + 1
+one_longer [] x = refl
+one_longer (y ∷ ys) x = ap suc (one_longer ys x) ∙ omega arith
+
+mapped_with : {X Y : Type 0} (f : X → Y) (xs : List X) (x : X) → map f (xs ++ x ∷ []) ≡ map f xs ++ f x ∷ []
+mapped_with f [] x = refl
+mapped_with f (y ∷ ys) x = ap (λ zs. f y ∷ zs) (mapped_with f ys x)
+
+unchanged : (ps : List PlacedCommand) → map (λ q. with_place (relabelled_by None q.fate) q) ps ≡ ps
+unchanged [] = refl
+unchanged (p ∷ ps) = ap (λ qs. p ∷ qs) (unchanged ps)
+
+-- a command that opens nothing, by its label and by the files that are made after it
+module _ (names : List (List ℕ)) (before : List PlacedCommand) (g : GroupingState) (h : Holds names before g) (c : StagedCommand) (label : Label) (place : Fate)
+    (quiet : opens c.stage ≡ None) (settles : fate_by g.opened label ≡ place) (bounded : Bounded g.opened (length g.labelled) label) where
+  abbrev new_place : PlacedCommand
+  new_place = record { staged = c; fate = place }
+
+  abbrev new_label : Labelled
+  new_label = record { staged = c; label = label }
+
+  later : length g.labelled ≤ length (g.labelled ++ new_label ∷ [])
+  later = omega (arith, one_longer g.labelled new_label)
+
+  fates_follow : map (settled g.opened) (g.labelled ++ new_label ∷ []) ≡ with_fates (before ++ new_place ∷ [])
+  fates_follow =
+      mapped_with (settled g.opened) g.labelled new_label ∙ (λ i. h.fates_are i ++ record { staged = c; fate = settles i } ∷ [])
+      ∙ ap (λ ps. ps ++ new_place ∷ []) (sym (unchanged (with_fates before))) ∙ sym (fates_pushed before new_place None quiet)
+
+  labels_follow : AllByRecursion (λ l. Bounded g.opened (length (g.labelled ++ new_label ∷ [])) l.label) (g.labelled ++ new_label ∷ [])
+  labels_follow =
+      weaker_with (λ l. Bounded g.opened (length g.labelled) l.label) (λ l. Bounded g.opened (length (g.labelled ++ new_label ∷ [])) l.label) (λ l b. bounded_later g.opened g.opened (length g.labelled) (length (g.labelled ++ new_label ∷ [])) (omega arith) later l.label b) g.labelled new_label h.labels (bounded_later g.opened g.opened (length g.labelled) (length (g.labelled ++ new_label ∷ [])) (omega arith) later label bounded)
+
+  follows : (made : Made) → ((path : List ℕ) → Tells g.opened (made path) (is_made path (before ++ new_place ∷ []))) → ((path : List ℕ) → AllByRecursion (Within g.opened (length g.labelled)) (made path)) →
+      Holds names (before ++ new_place ∷ []) (record { opened = g.opened; made = made; labelled = g.labelled ++ new_label ∷ [] })
+  follows made t w = record {
+    names_are = h.names_are;
+    distinct = h.distinct;
+    steps = weaker (λ e. e.1 < length g.labelled) (λ e. e.1 < length (g.labelled ++ new_label ∷ [])) (λ e b. omega (arith, b, later)) g.opened h.steps;
+    fates_are = fates_follow;
+    labels = labels_follow;
+    told = t;
+    made_within = λ path. weaker (Within g.opened (length g.labelled)) (Within g.opened (length (g.labelled ++ new_label ∷ []))) (λ o b. (b.0, omega (arith, b.1, later))) (made path) (w path);
+  }
+
+  -- where no file is made
+  follows_quietly : is_device_compiling c.stage ≡ false → Holds names (before ++ new_place ∷ []) (record { opened = g.opened; made = g.made; labelled = g.labelled ++ new_label ∷ [] })
+  follows_quietly f = follows g.made (λ path k e s. quiet_made path before new_place e.0 quiet f ∙ h.told path k e s) h.made_within
+
+-- a bound of an opening, if there is one
+abbrev Bounded_by : (Opening → Type 0) → Option Opening → Type 0
+Bounded_by P None = Unit {0}
+Bounded_by P (Some o) = P o
+
+-- cicc.
+
+and_no : (a : Bool) → (a && false) ≡ false
+and_no true = refl
+and_no false = refl
+
+or_no : (a : Bool) → (a || false) ≡ a
+or_no true = refl
+or_no false = refl
+
+-- an opening of a name stands as an entry of that number
+abbrev StandsAs : Opened → ℕ → Option Opening → Type 0
+StandsAs opened place None = Unit {0}
+StandsAs opened place (Some o) = (d : List ℕ × ℕ) × (slice_get opened o.number ≡ Some d) × ((d.1 == o.step) ≡ true) × Within opened place o
+
+opening_stands : (opened : Opened) (place : ℕ) (name : List ℕ) → AllByRecursion (λ e. e.1 < place) opened → StandsAs opened place (opening_of opened name)
+opening_stands [] place name h = tt
+opening_stands (e ∷ es) place name h =
+    let ih : StandsAs es place (opening_of es name) = opening_stands es place name h.1 in
+    elim (bytes_eq name e.0) as (λ b. StandsAs (e ∷ es) place (cond b (Some (opening_at 0 e.1)) (further (opening_of es name)))) [
+      | true ↦ (e, refl, eq-eqb e.1 e.1 refl, (omega arith, h.0))
+      | false ↦ shifted (opening_of es name) ih
+    ]
+  where
+    shifted : (o : Option Opening) → StandsAs es place o → StandsAs (e ∷ es) place (further o)
+    shifted None s = tt
+    shifted (Some o) s = (s.0, s.1, s.2, (omega (arith, s.3.0), s.3.1))
+
+module _ (opened : Opened) (made : Made) (o : Opening) (d : List ℕ × ℕ) (u : Distinct (names_of opened)) (g : slice_get opened o.number ≡ Some d) (t : (d.1 == o.step) ≡ true) where
+  told_with : (path : List ℕ) (last : Option (List ℕ)) (test : List ℕ → Bool) → Tells opened (made path) test → (k : ℕ) (e : List ℕ × ℕ) → slice_get opened k ≡ Some e →
+      ((test e.0 && not false) || (true && (bytes_eq d.0 e.0 && is_some_and (bytes_eq path) last))) ≡ list_any (is_at k e) (with_made made (Some o) last path)
+  told_with path None test tells k e s = ap (λ b. (test e.0 && not false) || b) (and_no (bytes_eq d.0 e.0)) ∙ kept (test e.0) ∙ tells k e s
+  told_with path (Some file) test tells k e s =
+      elim (bytes_eq path file) as (λ b. ((test e.0 && not false) || (true && (bytes_eq d.0 e.0 && b))) ≡ list_any (is_at k e) (cond b (made path ++ o ∷ []) (made path))) [
+        | true ↦
+            (λ i. (tells k e s i && not false) || (own_entry opened o d k e u g t s i && true))
+            ∙ joined (list_any (is_at k e) (made path)) (is_at k e o) ∙ sym (any_append (is_at k e) (made path) (o ∷ []))
+        | false ↦ ap (λ b. (test e.0 && not false) || b) (and_no (bytes_eq d.0 e.0)) ∙ kept (test e.0) ∙ tells k e s
+      ]
+    where
+      joined : (a b : Bool) → ((a && not false) || (b && true)) ≡ (a || (b || false))
+      joined true b = refl
+      joined false true = refl
+      joined false false = refl
+
+  within_with : (place : ℕ) → Within opened place o → (path : List ℕ) (last : Option (List ℕ)) → AllByRecursion (Within opened place) (made path) → AllByRecursion (Within opened place) (with_made made (Some o) last path)
+  within_with place w path None h = h
+  within_with place w path (Some file) h =
+      elim (bytes_eq path file) as (λ b. AllByRecursion (Within opened place) (cond b (made path ++ o ∷ []) (made path)))
+      [ true ↦ weaker_with (Within opened place) (Within opened place) (λ p q. q) (made path) o h w | false ↦ h ]
+
+module _ (names : List (List ℕ)) (before : List PlacedCommand) (g : GroupingState) (h : Holds names before g) (command : MergedCommand) where
+  abbrev staged_as : Stage → StagedCommand
+  staged_as stage = record { command = command; stage = stage }
+
+  abbrev After : Stage → Type 0
+  After stage =
+      Holds (with_name names (opens stage)) (before ++ record { staged = staged_as stage; fate = place_of names before stage } ∷ []) (with_command g (staged_as stage))
+
+  after_cicc : (name : List ℕ) (r : Option Opening) → StandsAs g.opened (length g.labelled) r → fate_by g.opened (device_label r NoCiccGroup) ≡ device_or NoCiccGroup (find (bytes_eq name) names) →
+      Holds names (before ++ record { staged = staged_as (device_compiling (Some name)); fate = device_or NoCiccGroup (find (bytes_eq name) names) } ∷ [])
+      (record { opened = g.opened; made = with_output g.made r command.words; labelled = g.labelled ++ record { staged = staged_as (device_compiling (Some name)); label = device_label r NoCiccGroup } ∷ [] })
+  after_cicc name None s e =
+      subst (λ place. Holds names (before ++ record { staged = staged_as (device_compiling (Some name)); fate = place } ∷ []) (record { opened = g.opened; made = g.made; labelled = g.labelled ++ record { staged = staged_as (device_compiling (Some name)); label = Ungrouped NoCiccGroup } ∷ [] })) e
+      (follows names before g h (staged_as (device_compiling (Some name))) (Ungrouped NoCiccGroup) (ungrouped NoCiccGroup) refl refl tt g.made
+      (λ path k d q. made_pushed path before (record { staged = staged_as (device_compiling (Some name)); fate = ungrouped NoCiccGroup }) d.0 ∙ kept (is_made path before d.0) ∙ h.told path k d q) h.made_within)
+  after_cicc name (Some o) s e =
+      let found : fate_by g.opened (Device o) ≡ device s.0.0 = ap (λ q. fate_at q o.step) s.1 ∙ ap (λ b. cond b (device s.0.0) (ungrouped Superseded)) s.2 in
+      subst (λ place. Holds names (before ++ record { staged = staged_as (device_compiling (Some name)); fate = place } ∷ []) (record { opened = g.opened; made = with_output g.made (Some o) command.words; labelled = g.labelled ++ record { staged = staged_as (device_compiling (Some name)); label = Device o } ∷ [] })) (sym found ∙ e)
+      (follows names before g h (staged_as (device_compiling (Some name))) (Device o) (device s.0.0) refl found s.3 (with_output g.made (Some o) command.words)
+      (λ path k d q. made_pushed path before (record { staged = staged_as (device_compiling (Some name)); fate = device s.0.0 }) d.0 ∙ told_with g.opened g.made o s.0 h.distinct s.1 s.2 path (last_of command.words) (is_made path before) (h.told path) k d q)
+      (λ path. within_with g.opened g.made o s.0 h.distinct s.1 s.2 (length g.labelled) s.3 path (last_of command.words) (h.made_within path)))
+
+  -- ptxas
+  first_within : (P : Opening → Type 0) (first : Option Opening) (os : List Opening) → AllByRecursion P os → Bounded_by P first → Bounded_by P (first_live_after g.opened first os)
+  first_within P first [] a b = b
+  first_within P first (o ∷ os) a b =
+      first_within P (cond (is_live g.opened o) (Some (lower first o)) first) os a.1
+      (elim (is_live g.opened o) as (λ c. Bounded_by P (cond c (Some (lower first o)) first)) [ true ↦ lowest first b | false ↦ b ])
+    where
+      lowest : (f : Option Opening) → Bounded_by P f → P (lower f o)
+      lowest None b = a.0
+      lowest (Some f) b = elim (nat_le f.number o.number) as (λ c. P (cond c f o)) [ true ↦ b | false ↦ a.0 ]
+
+  label_within : (r : Option Opening) → Bounded_by (Within g.opened (length g.labelled)) r → Bounded g.opened (length g.labelled) (device_label r NoPtxasGroup)
+  label_within None b = tt
+  label_within (Some o) b = b
+
+  after_ptxas : (path : List ℕ) → After (assembling (Some path))
+  after_ptxas path =
+      follows_quietly names before g h (staged_as (assembling (Some path))) (device_label (first_live g.opened (g.made path)) NoPtxasGroup) (device_or NoPtxasGroup (find (is_made path before) names)) refl
+      (first_told g.opened (g.made path) (is_made path before) NoPtxasGroup (h.told path) ∙ ap (λ ns. device_or NoPtxasGroup (find (is_made path before) ns)) (sym h.names_are))
+      (label_within (first_live g.opened (g.made path)) (first_within (Within g.opened (length g.labelled)) None (g.made path) (h.made_within path) tt))
+      refl
+
+  -- a step that opens a group
+  abbrev entries_after : List ℕ → Opened
+  entries_after name = insert_entry bytes_eq g.opened name (length g.labelled)
+
+  relabels : (name : List ℕ) (ls : List Labelled) → AllByRecursion (λ l. Bounded g.opened (length g.labelled) l.label) ls →
+      map (settled (entries_after name)) ls ≡ map (λ q. with_place (relabelled name q.fate) q) (map (settled g.opened) ls)
+  relabels name [] b = refl
+  relabels name (l ∷ ls) b = λ i. record { staged = l.staged; fate = reopened g.opened name (length g.labelled) l.label h.distinct b.0 i } ∷ relabels name ls b.1 i
+
+  told_after : (name path : List ℕ) → Tells (entries_after name) (g.made path) (is_made path (before ++ record { staged = staged_as (preprocessing (Some name)); fate = device name } ∷ []))
+  told_after name path k e s = made_pushed path before (record { staged = staged_as (preprocessing (Some name)); fate = device name }) e.0 ∙ by_entry (entry_opened g.opened name (length g.labelled) h.distinct k e s)
+    where
+      past : (os : List Opening) → e.1 ≡ length g.labelled → AllByRecursion (Within g.opened (length g.labelled)) os → list_any (is_at k e) os ≡ false
+      past [] q w = refl
+      past (o ∷ os) q w =
+          elim (e.1 == o.step) as (λ b. (e.1 == o.step) ≡ b → (((o.number == k) && b) || list_any (is_at k e) os) ≡ false) [
+            | true ↦ λ f. absurd (below (eqb-true e.1 o.step f) q w.0.1)
+            | false ↦ λ f. ap (λ b. b || list_any (is_at k e) os) (and_no (o.number == k)) ∙ past os q w.1
+          ]
+          refl
+        where
+          below : e.1 ≡ o.step → e.1 ≡ length g.labelled → o.step < length g.labelled → ⊥
+          below a b c = omega arith
+
+      by_entry : ((bytes_eq name e.0 ≡ true) × (e.1 ≡ length g.labelled)) ⊎ ((bytes_eq name e.0 ≡ false) × (slice_get g.opened k ≡ Some e)) →
+          ((is_made path before e.0 && not (bytes_eq name e.0)) || false) ≡ list_any (is_at k e) (g.made path)
+      by_entry (inl p) =
+          ap (λ b. (is_made path before e.0 && not b) || false) p.0 ∙ or_no (is_made path before e.0 && false) ∙ and_no (is_made path before e.0) ∙ sym (past (g.made path) p.1 (h.made_within path))
+      by_entry (inr p) = ap (λ b. (is_made path before e.0 && not b) || false) p.0 ∙ kept (is_made path before e.0) ∙ h.told path k e p.1
+
+  steps_after : (name : List ℕ) (place later : ℕ) (opened : Opened) → place < later → AllByRecursion (λ e. e.1 < place) opened → AllByRecursion (λ e. e.1 < later) (insert_entry bytes_eq opened name place)
+  steps_after name place later [] l a = (l, tt)
+  steps_after name place later (e ∷ es) l a =
+      let ih : AllByRecursion (λ e. e.1 < later) (insert_entry bytes_eq es name place) = steps_after name place later es l a.1 in
+      elim (bytes_eq name e.0) as (λ b. AllByRecursion (λ e. e.1 < later) (cond b ((e.0, place) ∷ es) (e ∷ insert_entry bytes_eq es name place)))
+      [ true ↦ (l, weaker (λ (d : List ℕ × ℕ). d.1 < place) (λ (d : List ℕ × ℕ). d.1 < later) (λ d b. omega (arith, b, l)) es a.1) | false ↦ (omega (arith, a.0), ih) ]
+
+  longer : (name : List ℕ) (place : ℕ) (opened : Opened) → (length opened ≤ length (insert_entry bytes_eq opened name place)) × (number_of opened name < length (insert_entry bytes_eq opened name place))
+  longer name place [] = (omega arith, omega arith)
+  longer name place (e ∷ es) =
+      let ih : (length es ≤ length (insert_entry bytes_eq es name place)) × (number_of es name < length (insert_entry bytes_eq es name place)) = longer name place es in
+      elim (bytes_eq name e.0) as (λ b.
+      (suc (length es) ≤ length (cond b ((e.0, place) ∷ es) (e ∷ insert_entry bytes_eq es name place))) × (cond b 0 (suc (number_of es name)) < length (cond b ((e.0, place) ∷ es) (e ∷ insert_entry bytes_eq es name place))))
+      [ true ↦ (omega arith, omega arith) | false ↦ (omega (arith, ih.0), omega (arith, ih.1)) ]
+
+  after_step : (name : List ℕ) → After (preprocessing (Some name))
+  after_step name =
+      let l : Labelled = record { staged = staged_as (preprocessing (Some name)); label = Device (opening_at (number_of g.opened name) (length g.labelled)) } in
+      let p : PlacedCommand = record { staged = staged_as (preprocessing (Some name)); fate = device name } in
+      let more = one_longer g.labelled l in
+      let long = longer name (length g.labelled) g.opened in
+      record {
+        names_are = ap (λ ns. with_name ns (Some name)) h.names_are ∙ sym (names_opened g.opened name (length g.labelled));
+        distinct = subst Distinct (sym (names_opened g.opened name (length g.labelled))) (distinct_with (names_of g.opened) (Some name) h.distinct);
+        steps = steps_after name (length g.labelled) (length (g.labelled ++ l ∷ [])) g.opened (omega (arith, more)) h.steps;
+        fates_are =
+            mapped_with (settled (entries_after name)) g.labelled l
+            ∙ (λ i. relabels name g.labelled h.labels i ++ record { staged = l.staged; fate = opened_here g.opened name (length g.labelled) i } ∷ [])
+            ∙ ap (λ ps. map (λ q. with_place (relabelled name q.fate) q) ps ++ p ∷ []) h.fates_are
+            ∙ sym (fates_pushed before p (Some name) refl);
+        labels =
+            weaker_with (λ q. Bounded g.opened (length g.labelled) q.label) (λ q. Bounded (entries_after name) (length (g.labelled ++ l ∷ [])) q.label) (λ q b. bounded_later g.opened (entries_after name) (length g.labelled) (length (g.labelled ++ l ∷ [])) long.0 (omega (arith, more)) q.label b) g.labelled l h.labels (long.1, omega (arith, more));
+        told = told_after name;
+        made_within = λ path. weaker (Within g.opened (length g.labelled)) (Within (entries_after name) (length (g.labelled ++ l ∷ []))) (λ o b. (omega (arith, b.0, long.0), omega (arith, b.1, more))) (g.made path) (h.made_within path);
+      }
+
+  after : (stage : Stage) → After stage
+  after linking = follows_quietly names before g h (staged_as linking) Final final refl refl tt refl
+  after splitting = follows_quietly names before g h (staged_as splitting) Front front refl refl tt refl
+  after (device_compiling None) =
+      follows names before g h (staged_as (device_compiling None)) (Ungrouped NoCiccGroup) (ungrouped NoCiccGroup) refl refl tt g.made
+      (λ path k d q. made_pushed path before (record { staged = staged_as (device_compiling None); fate = ungrouped NoCiccGroup }) d.0 ∙ kept (is_made path before d.0) ∙ h.told path k d q) h.made_within
+  after (device_compiling (Some name)) =
+      after_cicc name (opening_of g.opened name) (opening_stands g.opened (length g.labelled) name h.steps)
+      (opening_found g.opened name NoCiccGroup ∙ ap (λ ns. device_or NoCiccGroup (find (bytes_eq name) ns)) (sym h.names_are))
+  after (assembling None) = follows_quietly names before g h (staged_as (assembling None)) (Ungrouped NoPtxasGroup) (ungrouped NoPtxasGroup) refl refl tt refl
+  after (assembling (Some path)) = after_ptxas path
+  after (preprocessing None) = follows_quietly names before g h (staged_as (preprocessing None)) Front front refl refl tt refl
+  after (preprocessing (Some name)) = after_step name
+  after host_compiling = follows_quietly names before g h (staged_as host_compiling) Final final refl refl tt refl
+  after foreign = follows_quietly names before g h (staged_as foreign) (Ungrouped NotCuda) (ungrouped NotCuda) refl refl tt refl
+
+holds_all : (names : List (List ℕ)) (before : List PlacedCommand) (g : GroupingState) (cs : List StagedCommand) → Holds names before g → Holds (names_after names cs) (placed_after names before cs) (fold with_command g cs)
+holds_all names before g [] h = h
+holds_all names before g (c ∷ cs) h =
+    holds_all (with_name names (opens c.stage)) (before ++ record { staged = c; fate = place_of names before c.stage } ∷ []) (with_command g c) cs (after names before g h c.command c.stage)
+
+all_held : (commands : List StagedCommand) → Holds (opened_names commands) (places commands) (grouped commands)
+all_held commands =
+    holds_all [] [] no_commands commands (record { names_are = refl; distinct = tt; steps = tt; fates_are = refl; labels = tt; told = λ path k e s. refl; made_within = λ path. tt })
+
+-- the labels stand for the fates, the names are those opened, and each label has the number of a name
+pub labels_are_fates : (commands : List StagedCommand) → map (settled (grouped commands).opened) (grouped commands).labelled ≡ fates commands
+labels_are_fates commands = (all_held commands).fates_are
+
+pub names_are_opened : (commands : List StagedCommand) → names_of (grouped commands).opened ≡ opened_names commands
+names_are_opened commands = sym (all_held commands).names_are
+
+pub names_are_distinct : (commands : List StagedCommand) → Distinct (names_of (grouped commands).opened)
+names_are_distinct commands = (all_held commands).distinct

@@ -1,0 +1,14 @@
+use Rattle.std.proofs.Common.{◌≡◌, map, fold}
+use Rattle.std.specs.Vec.Iter.{into_iter_items}
+use Rattle.command_groups.specs.SettingView.{setting_seen}
+use Rattle.command_groups.specs.Labels.{with_command, grouped}
+use Rattle.command_groups.specs.LabelsView.{grouping_seen}
+use Rattle.command_groups.specs.MergedView.{command_seen}
+use Rattle.command_groups.specs.Stage.{staged}
+use Rattle.command_groups.proofs.command_plan.label_all.Given as goal
+
+-- the grouping so far and the commands that are left make up the grouping of all
+abbrev pub invariant-loop-command : goal.invariant-loop-command
+invariant-loop-command l =
+    fold with_command (grouping_seen l.grouping) (map (staged l.setting.call.now.host_compiler (setting_seen l.setting).flag) (map command_seen (into_iter_items l.command-iterator))) ≡
+    grouped (map (staged l.setting.call.now.host_compiler (setting_seen l.setting).flag) (map command_seen (into_iter_items l.fn.commands)))

@@ -1,0 +1,14 @@
+use Rattle.std.proofs.Common.{List, map, sym, subst}
+use Rattle.std.specs.Option.{option_copied}
+use Rattle.command_lines.specs.CommandLines.{CommandLine, line_of}
+use Rattle.command_groups.specs.MergeLaws.{Rises}
+use Rattle.command_groups.proofs.RisingLemmas.{named_rises}
+use Rattle.command_groups.proofs.plan.plan_of_runs.Goals as goal
+
+pub merge-requires-clause-first_rises : goal.merge-requires-clause-first_rises
+merge-requires-clause-first_rises c =
+    subst (λ (cs : List CommandLine). Rises (map line_of cs)) (sym c.in_ok-first.ensures) (named_rises c.args.suffixes.now (option_copied c.args.keep_dir) c.args.first c.requires.first_rises)
+
+pub merge-requires-clause-second_rises : goal.merge-requires-clause-second_rises
+merge-requires-clause-second_rises c =
+    subst (λ (cs : List CommandLine). Rises (map line_of cs)) (sym c.in_ok-second.ensures) (named_rises c.args.suffixes.now (option_copied c.args.keep_dir) c.args.second c.requires.second_rises)

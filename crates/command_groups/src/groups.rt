@@ -1,0 +1,158 @@
+//! The groups that labelled commands are cut into.
+
+ghost use Rattle.std.specs.Prelude.{◌≡◌, ℕ, ◌+◌, ◌<◌, ◌^◌, List, [], ◌∷◌, ◌++◌, map, fold, length, IfOk, OnOk, string_bytes, vec_items};
+ghost use Rattle.command_groups.specs.Groups as spec;
+ghost use Rattle.command_groups.specs.GroupsView.{cut_seen};
+ghost use Rattle.command_groups.specs.LabelsView.{labelled_seen};
+ghost use Rattle.command_groups.specs.MergedView.{command_seen};
+ghost use Rattle.command_groups.specs.Plan.{subcommand_of};
+ghost use Rattle.command_groups.specs.SettingView.{setting_seen};
+
+use crate::labels::{Label, LabelledCommand};
+use crate::merged_commands::SelectedCommand;
+use crate::openings::OpenedNames;
+use crate::setting::Setting;
+use crate::stage::cacheable_mark;
+use plans::{Dropped, DroppedCommands, Groups, NvccGeneratedSubcommand, Plan, Reason};
+use std::alloc::{AllocError, Global};
+use texts::text::Text;
+use texts::words::Words;
+
+// Where the commands of a run are run.
+fn folder_of_run<'a>(setting: &Setting<'a>, run: usize) -> &'a str
+    ensures { result.now ≡ spec.folder_of (setting_seen setting.now) run }
+{
+    if run == 1 {
+        setting.call.tmp
+    } else {
+        setting.call.cwd
+    }
+}
+
+// A labelled command as a group holds it.
+fn subcommand(
+    alloc: Global,
+    setting: &Setting<'_>,
+    labelled: LabelledCommand,
+) -> Result<NvccGeneratedSubcommand, AllocError>
+    ensures { IfOk result (λ c. c ≡ subcommand_of (setting_seen setting.now) (labelled_seen labelled).staged) }
+{
+    let LabelledCommand { command, stage, .. } = labelled;
+    Ok(NvccGeneratedSubcommand {
+        cwd: Text::copy_of(alloc, folder_of_run(setting, command.run))?,
+        env_vars: setting.environments.of_stage(alloc, stage)?,
+        exe: Text::new(command.program),
+        args: Words::from_vec(command.words),
+        cacheable: cacheable_mark(stage),
+    })
+}
+
+// A command that is in no group.
+fn dropped(command: SelectedCommand, reason: Reason) -> Dropped
+    ensures { result ≡ spec.dropped_for reason (command_seen command) }
+{
+    Dropped {
+        line: command.line,
+        run: command.run,
+        exe: Text::new(command.program),
+        args: Words::from_vec(command.words),
+        reason,
+    }
+}
+
+/// The place of a label's group among all groups, or why it has none: the front group is the first, the final group the
+/// last, and a device group that was opened again has lost what it had.
+pub fn group_of(opened: &OpenedNames, label: Label) -> Result<usize, Reason>
+    ensures place { result ≡ spec.group_of_label opened.now label }
+    ensures within { IfOk result (λ place. place < length opened.now + 2) }
+{
+    let count = opened.len();
+    match label {
+        Label::Front => Ok(0),
+        Label::Device(opening) if opened.is_live(opening) => Ok(opening.number + 1),
+        Label::Device(_) => Err(Reason::Superseded),
+        Label::Final => Ok(count + 1),
+        Label::Ungrouped(reason) => Err(reason),
+    }
+}
+
+// Puts a command at the end of the group at a place.
+fn push_at(
+    groups: &mut Vec<Vec<NvccGeneratedSubcommand>>,
+    place: usize,
+    command: NvccGeneratedSubcommand,
+) -> Result<(), AllocError>
+    requires { place < length groups.old.items }
+    ensures groups { OnOk result (map vec_items groups.new.items ≡ spec.put_at place command (map vec_items groups.old.items)) }
+    ensures length { OnOk result (length groups.new.items ≡ length groups.old.items) }
+{
+    groups[place].push(command)?;
+    Ok(())
+}
+
+// The groups and the dropped commands so far.
+#[derive(Drop)]
+struct Cut {
+    groups: Vec<Vec<NvccGeneratedSubcommand>>,
+    dropped: Vec<Dropped>,
+}
+
+impl Cut {
+    // Groups for so many names, all of them empty.
+    fn new(alloc: Global, names: usize) -> Result<Cut, AllocError>
+        requires { names < 2 ^ 63 }
+        ensures { IfOk result (λ cut. cut_seen cut ≡ spec.nothing_cut names) }
+    {
+        let mut groups = Vec::with_capacity(alloc, names + 2)?;
+        for _ in 0..names + 2 {
+            groups.push(Vec::new(alloc))?;
+        }
+        Ok(Cut {
+            groups,
+            dropped: Vec::new(alloc),
+        })
+    }
+
+    // Takes the next command.
+    fn take(
+        &mut self,
+        alloc: Global,
+        setting: &Setting<'_>,
+        opened: &OpenedNames,
+        labelled: LabelledCommand,
+    ) -> Result<(), AllocError>
+        requires { length self.old.groups.items ≡ length opened.now + 2 }
+        ensures cut { OnOk result (cut_seen self.new ≡ spec.with_labelled (setting_seen setting.now) opened.now (cut_seen self.old) (labelled_seen labelled)) }
+        ensures groups { OnOk result (length self.new.groups.items ≡ length self.old.groups.items) }
+    {
+        match group_of(opened, labelled.label) {
+            Ok(place) => {
+                let command = subcommand(alloc, setting, labelled)?;
+                push_at(&mut self.groups, place, command)?;
+            }
+            Err(reason) => {
+                self.dropped.push(dropped(labelled.command, reason))?;
+            }
+        }
+        Ok(())
+    }
+}
+
+/// The plan of labelled commands: each group has its commands in order.
+pub fn plan_by_labels(
+    alloc: Global,
+    setting: &Setting<'_>,
+    opened: &OpenedNames,
+    labelled: Vec<LabelledCommand>,
+) -> Result<Plan, AllocError>
+    ensures { IfOk result (λ plan. plan ≡ spec.plan_of_cut (fold (spec.with_labelled (setting_seen setting.now) opened.now) (spec.nothing_cut (length opened.now)) (map labelled_seen labelled.items))) }
+{
+    let mut cut = Cut::new(alloc, opened.len())?;
+    for command in labelled {
+        cut.take(alloc, setting, opened, command)?;
+    }
+    Ok(Plan {
+        groups: Groups::from_vec(cut.groups),
+        dropped: DroppedCommands::from_vec(cut.dropped),
+    })
+}

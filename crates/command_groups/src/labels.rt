@@ -1,0 +1,167 @@
+//! The labels of merged commands: where each goes.
+
+ghost use Rattle.std.specs.Prelude.{◌≡◌, ◌∷◌, [], ◌++◌, map, length, IfOk, OnOk, string_bytes};
+ghost use Rattle.command_groups.specs.Labels as spec;
+ghost use Rattle.command_groups.specs.LabelsView.{grouping_seen};
+ghost use Rattle.command_groups.specs.MadeView.{made_seen};
+ghost use Rattle.command_groups.specs.MergedView.{command_seen};
+ghost use Rattle.command_groups.specs.Stage.{staged, opened_name as opened_by};
+ghost use Rattle.plans.specs.declared.plan.Reason.TheVariants.{NoCiccGroup, NoPtxasGroup};
+ghost use Rattle.command_groups.specs.StageView.{named_stage};
+
+use crate::merged_commands::SelectedCommand;
+use crate::openings::{MadeFiles, OpenedNames, Opening};
+use crate::stage::{
+    Stage, cicc_input, edited_words, last_word, opened_name, program_at, ptxas_input, stage_of,
+};
+use compilers::compiler::NvccHostCompiler;
+use plans::Reason;
+use std::alloc::{AllocError, Global};
+
+/// Where a command goes.
+#[derive(Clone, Copy)]
+pub enum Label {
+    /// The front group.
+    Front,
+    /// A device group, at one of its openings. A later opening of the group supersedes the command.
+    Device(Opening),
+    /// The final group.
+    Final,
+    /// None, for a reason.
+    Ungrouped(Reason),
+}
+
+// The label of an opening; without one there is a reason.
+fn device_label(opening: Option<Opening>, reason: Reason) -> Label
+    ensures { result ≡ spec.device_label opening reason }
+{
+    match opening {
+        None => Label::Ungrouped(reason),
+        Some(opening) => Label::Device(opening),
+    }
+}
+
+/// A command with its edited words, its stage and its label.
+#[derive(Drop)]
+pub struct LabelledCommand {
+    pub command: SelectedCommand,
+    pub stage: Stage,
+    pub label: Label,
+}
+
+/// The commands so far, in merged order, each with its label, beside what later labels depend on: the names that device
+/// groups were opened by, and the files that cicc commands make.
+///
+/// A step that opens a group again changes no label. Cutting drops the commands whose labels hold an earlier opening.
+#[derive(Drop)]
+pub struct Grouping {
+    pub opened: OpenedNames,
+    pub made: MadeFiles,
+    pub labelled: Vec<LabelledCommand>,
+}
+
+impl Grouping {
+    /// No commands, with room for `count` of them.
+    pub fn with_capacity(alloc: Global, count: usize) -> Result<Grouping, AllocError>
+        ensures { IfOk result (λ grouping. grouping_seen grouping ≡ spec.no_commands) }
+    {
+        Ok(Grouping {
+            opened: OpenedNames::new(alloc),
+            made: MadeFiles::new(alloc),
+            labelled: Vec::with_capacity(alloc, count)?,
+        })
+    }
+
+    // The label of a cicc command, whose output is noted as made in its group.
+    fn label_cicc(&mut self, alloc: Global, words: &[String]) -> Result<Label, AllocError>
+        ensures label { IfOk result (λ label. label ≡ spec.device_label (spec.cicc_opening self.old.opened (map string_bytes words.now)) NoCiccGroup) }
+        ensures made { OnOk result (made_seen self.new.made ≡ spec.with_output (made_seen self.old.made) (spec.cicc_opening self.old.opened (map string_bytes words.now)) (map string_bytes words.now)) }
+        ensures others { OnOk result ((self.new.opened ≡ self.old.opened) × (self.new.labelled ≡ self.old.labelled)) }
+    {
+        let opening = match cicc_input(words) {
+            None => None,
+            Some(name) => self.opened.opening(name),
+        };
+        if let Some(opening) = opening {
+            if let Some(path) = last_word(words) {
+                self.made.add(alloc, path, opening)?;
+            }
+        }
+        Ok(device_label(opening, Reason::NoCiccGroup))
+    }
+
+    // The label of a ptxas command.
+    fn label_ptxas(&self, words: &[String]) -> Label
+        ensures { result ≡ spec.device_label (spec.ptxas_opening self.now.opened (made_seen self.now.made) (map string_bytes words.now)) NoPtxasGroup }
+    {
+        let opening = match ptxas_input(words) {
+            None => None,
+            Some(path) => self.opened.first_live(self.made.of(path)),
+        };
+        device_label(opening, Reason::NoPtxasGroup)
+    }
+
+    // The label of a preprocess step, which opens a group where its words name one.
+    fn label_step(&mut self, alloc: Global, words: &[String]) -> Result<Label, AllocError>
+        ensures label { IfOk result (λ label. label ≡ spec.step_label self.old.opened (length self.old.labelled.items) (opened_by (map string_bytes words.now))) }
+        ensures opened { OnOk result (self.new.opened ≡ spec.with_opened self.old.opened (length self.old.labelled.items) (opened_by (map string_bytes words.now))) }
+        ensures others { OnOk result ((self.new.made ≡ self.old.made) × (self.new.labelled ≡ self.old.labelled)) }
+    {
+        let Some(name) = opened_name(words) else {
+            return Ok(Label::Front);
+        };
+        let opening = self.opened.open(alloc, name, self.labelled.len())?;
+        Ok(Label::Device(opening))
+    }
+
+    // The label of a command, by its stage and its words.
+    fn label(&mut self, alloc: Global, stage: Stage, words: &[String]) -> Result<Label, AllocError>
+        ensures label { IfOk result (λ label. label ≡ spec.label_of self.old.opened (made_seen self.old.made) (length self.old.labelled.items) (named_stage stage (map string_bytes words.now))) }
+        ensures opened { OnOk result (self.new.opened ≡ spec.opened_after self.old.opened (length self.old.labelled.items) (named_stage stage (map string_bytes words.now))) }
+        ensures made { OnOk result (made_seen self.new.made ≡ spec.made_after self.old.opened (made_seen self.old.made) (map string_bytes words.now) (named_stage stage (map string_bytes words.now))) }
+        ensures labelled { OnOk result (self.new.labelled ≡ self.old.labelled) }
+    {
+        match stage {
+            Stage::Splitting => Ok(Label::Front),
+            Stage::Linking | Stage::HostCompiling => Ok(Label::Final),
+            Stage::Foreign => Ok(Label::Ungrouped(Reason::NotCuda)),
+            Stage::DeviceCompiling => self.label_cicc(alloc, words),
+            Stage::Assembling => Ok(self.label_ptxas(words)),
+            Stage::Preprocessing => self.label_step(alloc, words),
+        }
+    }
+
+    /// Takes the next command, of which the words are edited here, under a host compiler and a compilation flag.
+    pub fn take(
+        &mut self,
+        alloc: Global,
+        host_compiler: NvccHostCompiler,
+        flag: &str,
+        command: SelectedCommand,
+    ) -> Result<(), AllocError>
+        ensures { OnOk result (grouping_seen self.new ≡ spec.with_command (grouping_seen self.old) (staged host_compiler flag.now (command_seen command))) }
+    {
+        let SelectedCommand {
+            line,
+            run,
+            program,
+            words,
+        } = command;
+        let tool = program_at(program.as_str());
+        let words = edited_words(alloc, tool, flag, words)?;
+        let stage = stage_of(tool, host_compiler, words.as_slice());
+        let label = self.label(alloc, stage, words.as_slice())?;
+        let command = SelectedCommand {
+            line,
+            run,
+            program,
+            words,
+        };
+        self.labelled.push(LabelledCommand {
+            command,
+            stage,
+            label,
+        })?;
+        Ok(())
+    }
+}
