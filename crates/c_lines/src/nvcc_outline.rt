@@ -14,7 +14,8 @@ use c_texts::{
     InputText, ListAnswer, Outcome, Range, Status, Variable, failed, give_list, refused,
     refused_with, text_of,
 };
-use nvcc_calls::{Answer, NvccCall, Outline, read_call};
+use nvcc_calls::{Answer, Outline, read_call};
+use program_calls::NvccCall;
 use std::alloc::{AllocError, Global};
 use texts::fault::Fault;
 

@@ -9,7 +9,7 @@ use Rattle.texts.specs.Fault.{message_of as fault_text}
 use Rattle.texts.specs.Numeral.{numeral}
 use Rattle.texts.specs.Path.{is_bare}
 use Rattle.dry_runs.specs.DryRun.{LookUp}
-use Rattle.programs.specs.Calls.{PlanOf}
+use Rattle.program_calls.specs.Calls.{PlanOf}
 use Rattle.programs.specs.Complaint.{message_of, complaint}
 use Rattle.message_texts.specs.Excerpts.{shown}
 use Rattle.programs.specs.SuffixFault.{further_text}

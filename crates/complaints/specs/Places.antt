@@ -4,7 +4,7 @@ use Rattle.std.specs.Option.{option_map}
 use Rattle.std.specs.Str.Lines.{lines}
 use Rattle.dry_runs.specs.DryRun.{LookUp}
 use Rattle.dry_runs.specs.Parsed.{bad_line, parsed_of, path_of}
-use Rattle.programs.specs.Calls.{PlanOf}
+use Rattle.program_calls.specs.Calls.{PlanOf}
 use Rattle.complaints.specs.declared.place.Place.{Place}
 
 -- a line of a file: its number from 0, its bytes, and the value that `PATH` has there

@@ -2,7 +2,7 @@
 
 ghost use Rattle.std.specs.Prelude.{◌≡◌, OnOk};
 ghost use Rattle.std.specs.Io.KnownBytes.{Appends};
-ghost use Rattle.programs.specs.Calls.{plan_of};
+ghost use Rattle.program_calls.specs.Calls.{plan_of};
 ghost use Rattle.programs.specs.Complaint.{message_of};
 ghost use Rattle.programs.specs.Unread.{stop_of};
 ghost use Rattle.complaints.specs.Messages as spec;
@@ -11,7 +11,8 @@ ghost use Rattle.complaints.specs.Places.{place_seen};
 use crate::message::{excess_message, plain_message, plan_message, unread_message};
 use crate::place::Place;
 use dry_runs::Which;
-use programs::{PlanCall, Stop, Unread, complain};
+use program_calls::PlanCall;
+use programs::{Stop, Unread, complain};
 use std::alloc::Global;
 use std::io::{self, Write};
 

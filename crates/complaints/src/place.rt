@@ -3,11 +3,11 @@
 ghost use Rattle.std.specs.Prelude.{◌≡◌, IfOk};
 ghost use Rattle.std.specs.Option.{option_map};
 ghost use Rattle.std.specs.Str.Lines.{lines};
-ghost use Rattle.programs.specs.Calls.{plan_of};
+ghost use Rattle.program_calls.specs.Calls.{plan_of};
 ghost use Rattle.complaints.specs.Places as spec;
 
 use dry_runs::{Which, first_line, parse_dry_run};
-use programs::PlanCall;
+use program_calls::PlanCall;
 use std::alloc::{AllocError, Global};
 use texts::text::Text;
 

@@ -4,7 +4,7 @@ use Rattle.std.specs.Option.{option_map}
 use Rattle.std.specs.Str.{bytes_eq}
 use Rattle.std.specs.Io.KnownBytes.{Keeps}
 use Rattle.programs.specs.declared.stop.Stop.{Stop}
-use Rattle.programs.specs.Calls.{LineOf, PlanOf, line_of, plan_of, line_call_of, plan_call_of}
+use Rattle.program_calls.specs.Calls.{LineOf, PlanOf, line_of, plan_of, line_call_of, plan_call_of}
 use Rattle.programs.specs.Delivery.{Delivers}
 use Rattle.programs.specs.LineText.{shown_line}
 use Rattle.programs.specs.PlanText.{PlansFiles}

@@ -4,7 +4,7 @@ ghost use Rattle.std.specs.Prelude.{◌≡◌, map, string_bytes};
 ghost use Rattle.std.specs.Option.{option_map};
 ghost use Rattle.cudaplan.specs.Calls as spec;
 
-use programs::{LineCall, PlanCall, line_call, plan_call};
+use program_calls::{LineCall, PlanCall, line_call, plan_call};
 
 /// A call of the program.
 #[derive(Drop)]

@@ -23,7 +23,7 @@ use Rattle.nvcc_calls.specs.declared.answer.Answer.{Answer}
 use Rattle.nvcc_calls.specs.declared.answer.Answer.TheVariants.{Split, Pass}
 use Rattle.nvcc_calls.specs.declared.outline.Outline.{Outline}
 use Rattle.nvcc_calls.specs.Answer.{split_by, answer_by, answer_of, answer_to, answer_to_normal, unless_hazard}
-use Rattle.nvcc_calls.specs.Calls.{NvccOf}
+use Rattle.program_calls.specs.Calls.{NvccOf}
 use Rattle.nvcc_calls.specs.Hazards.{hazard_of}
 use Rattle.nvcc_calls.specs.Laws.{DryRunsSayAs, SplitLinesKeepOptions}
 use Rattle.nvcc_calls.specs.Outline.{command_of, command_text, dependencies_of, jobs_of_line, outline_with}

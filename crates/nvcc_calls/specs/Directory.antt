@@ -1,25 +1,10 @@
 -- The name of a call's directory.
-use Rattle.std.specs.Prelude.{◌≡◌, ℕ, List, [], ◌∷◌, ◌++◌, length, map, flat_map, string_bytes, Option, Some, None, unwrap_or, codes, refl}
+use Rattle.std.specs.Prelude.{◌≡◌, ℕ, List, [], ◌∷◌, ◌++◌, length, flat_map, unwrap_or, codes, refl}
 use Rattle.hex.specs.Hex.{encode_lower}
 use Rattle.sha2.specs.Sha256.{sha256}
 use Rattle.texts.specs.Numeral.{numeral}
 use Rattle.texts.specs.Variables.{first_value}
-use Rattle.nvcc_calls.specs.declared.directory.DirectoryCall.{DirectoryCall}
-
--- a call that asks for the name: the working directory, nvcc and the line's words
-pub record DirectoryOf : Type 0 where
-  pub cwd : List ℕ
-  pub nvcc : List ℕ
-  pub words : List (List ℕ)
-
--- a call, as the code holds it
-abbrev pub directory_of : DirectoryCall → DirectoryOf
-directory_of call = record { cwd = call.cwd.now; nvcc = call.nvcc.now; words = map string_bytes call.words.now }
-
--- the call that the words `CWD NVCC WORD..` are
-abbrev pub directory_call_of : List (List ℕ) → Option DirectoryOf
-directory_call_of (cwd ∷ nvcc ∷ words) = Some (record { cwd = cwd; nvcc = nvcc; words = words })
-directory_call_of _ = None
+use Rattle.program_calls.specs.Calls.{DirectoryOf}
 
 -- a text behind its length
 abbrev pub sized : List ℕ → List ℕ

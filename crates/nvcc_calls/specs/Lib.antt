@@ -1,5 +1,4 @@
 pub mod Answer
-pub mod Calls
 pub mod Directory
 pub mod Hazards
 pub mod Jobs

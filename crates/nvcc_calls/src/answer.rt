@@ -8,9 +8,8 @@ ghost use Rattle.cuda_plans.specs.Nvcc.{nvcc_reading};
 ghost use Rattle.nvcc_options.specs.Reasons.{text_of};
 ghost use Rattle.nvcc_calls.specs.declared.answer.Answer.TheVariants.{Pass};
 ghost use Rattle.nvcc_calls.specs.Answer as spec;
-ghost use Rattle.nvcc_calls.specs.Calls.{nvcc_of};
+ghost use Rattle.program_calls.specs.Calls.{nvcc_of};
 
-use crate::call::NvccCall;
 use crate::hazard::hazard_of;
 use crate::outline::{Outline, command, outline_of};
 use compilers::arguments::{CompilerArguments, ParsedArguments};
@@ -18,6 +17,7 @@ use compilers::compiler::CCompilerImpl;
 use cuda_plans::nvcc::{Nvcc, NvccCompileCommand};
 use nvcc_options::Reason;
 use nvcc_words::{Call, Verdict, keeps_options, normalize};
+use program_calls::NvccCall;
 use std::alloc::{AllocError, Global};
 use texts::fault::Fault;
 use texts::text::Text;

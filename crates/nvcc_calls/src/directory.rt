@@ -1,41 +1,18 @@
 //! The name of a call's directory.
 
 ghost use Rattle.std.specs.Prelude.{◌≡◌, ◌++◌, IfOk, OnOk, codes, flat_map, map, string_bytes, unwrap_or};
-ghost use Rattle.std.specs.Option.{option_copied, option_map};
+ghost use Rattle.std.specs.Option.{option_copied};
 ghost use Rattle.hex.specs.Hex.{encode_lower};
 ghost use Rattle.sha2.specs.Sha256.{sha256};
 ghost use Rattle.texts.specs.Variables.{pair_of};
 ghost use Rattle.nvcc_calls.specs.Directory as spec;
+ghost use Rattle.program_calls.specs.Calls.{directory_of};
 
+use program_calls::DirectoryCall;
 use sha2::{Digest, Sha256};
 use std::alloc::{AllocError, Global};
 use texts::decimal::push_number;
 use texts::variables::first_value;
-
-/// A call that asks for the name of an nvcc call's directory.
-#[derive(Debug, Drop)]
-pub struct DirectoryCall<'a> {
-    /// The working directory's path.
-    pub cwd: &'a str,
-    /// nvcc's path or name.
-    pub nvcc: &'a str,
-    /// The line's words, without nvcc's name.
-    pub words: &'a [String],
-}
-
-/// Parses `CWD NVCC WORD..`. `None` if the words are too few.
-pub fn directory_call<'a>(words: &'a [String]) -> Option<DirectoryCall<'a>>
-    ensures { option_map spec.directory_of result ≡ spec.directory_call_of (map string_bytes words.now) }
-{
-    let [cwd, nvcc, line @ ..] = words else {
-        return None;
-    };
-    Some(DirectoryCall {
-        cwd: cwd.as_str(),
-        nvcc: nvcc.as_str(),
-        words: line,
-    })
-}
 
 // Adds a part behind its length.
 fn push_sized(alloc: Global, text: &mut String, part: &str) -> Result<(), AllocError>
@@ -77,7 +54,7 @@ fn identity(
     call: &DirectoryCall<'_>,
     variables: &[(String, String)],
 ) -> Result<String, AllocError>
-    ensures { IfOk result (λ text. string_bytes text ≡ spec.identity (spec.parts_of (spec.directory_of call.now) (map pair_of variables.now))) }
+    ensures { IfOk result (λ text. string_bytes text ≡ spec.identity (spec.parts_of (directory_of call.now) (map pair_of variables.now))) }
 {
     let mut text = String::new(alloc);
     push_sized(alloc, &mut text, call.cwd)?;
@@ -103,7 +80,7 @@ pub fn directory_name(
     call: &DirectoryCall<'_>,
     variables: &[(String, String)],
 ) -> Result<String, AllocError>
-    ensures { IfOk result (λ name. string_bytes name ≡ spec.directory_name (spec.directory_of call.now) (map pair_of variables.now)) }
+    ensures { IfOk result (λ name. string_bytes name ≡ spec.directory_name (directory_of call.now) (map pair_of variables.now)) }
 {
     let identity = identity(alloc, call, variables)?;
     let mut name = String::from_str(alloc, "zigrunk-")?;

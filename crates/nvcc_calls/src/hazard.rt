@@ -4,12 +4,12 @@ ghost use Rattle.std.specs.Prelude.{◌≡◌, IfOk, map, nat_eq, not, string_by
 ghost use Rattle.std.specs.List.{list_all, list_any, starts_with};
 ghost use Rattle.canonical_names.specs.Alike as alike;
 ghost use Rattle.nvcc_words.specs.Asked.{reason_unless};
-ghost use Rattle.nvcc_calls.specs.Calls.{nvcc_of};
+ghost use Rattle.program_calls.specs.Calls.{nvcc_of};
 ghost use Rattle.nvcc_calls.specs.Hazards as spec;
 
-use crate::call::NvccCall;
 use nvcc_options::Reason;
 use nvcc_words::{Call, extension_of_phase, has_extension};
+use program_calls::NvccCall;
 use std::alloc::{AllocError, Global};
 use texts::compilation_flags::asks_object;
 use texts::extension::{last, with_extension};

@@ -2,7 +2,6 @@
 #![tactic(auto)]
 
 mod answer;
-mod call;
 mod command_text;
 mod directory;
 mod hazard;
@@ -12,8 +11,7 @@ mod outline;
 mod shell;
 
 pub use answer::{Answer, read_call};
-pub use call::{NvccCall, nvcc_call};
-pub use directory::{DirectoryCall, directory_call, directory_name};
+pub use directory::directory_name;
 pub use nvcc_words::file_names;
 pub use outline::Outline;
 pub use shell::shell_text;

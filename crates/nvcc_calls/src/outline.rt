@@ -5,16 +5,16 @@ ghost use Rattle.texts.specs.Fault.{UnlessMemory};
 ghost use Rattle.texts.specs.Variables.{pair_of};
 ghost use Rattle.texts.specs.Results.{and_then};
 ghost use Rattle.cuda_plans.specs.NvccCommand.{dry_runs};
-ghost use Rattle.nvcc_calls.specs.Calls.{nvcc_of};
+ghost use Rattle.program_calls.specs.Calls.{nvcc_of};
 ghost use Rattle.nvcc_calls.specs.Outline as spec;
 
-use crate::call::NvccCall;
 use crate::command_text::command_text;
 use crate::jobs::{jobs, threads_asked};
 use compilers::arguments::ParsedArguments;
 use compilers::command::SingleCompileCommand;
 use compilers::compiler::{CCompilerImpl, Places};
 use cuda_plans::nvcc::{Nvcc, NvccCompileCommand, take_keep, take_threads};
+use program_calls::NvccCall;
 use std::alloc::{AllocError, Global};
 use texts::fault::Fault;
 use texts::text::{Text, join};

@@ -1,4 +1,3 @@
 pub mod Shown
 pub mod ShownPlan
-pub mod ShownPlanExamples
 pub mod Tools

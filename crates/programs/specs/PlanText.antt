@@ -12,7 +12,7 @@ use Rattle.dry_runs.specs.FirstDir.{first_dir}
 use Rattle.programs.specs.declared.stop.Stop.{Stop}
 use Rattle.programs.specs.declared.stop.Stop.TheVariants as stops
 use Rattle.plan_texts.specs.ShownPlan.{show_plan}
-use Rattle.programs.specs.Calls.{PlanOf}
+use Rattle.program_calls.specs.Calls.{PlanOf}
 use Rattle.programs.specs.Delivery.{Delivers}
 
 -- what a program plans for: gcc compiles host code, and the call's environment is empty

@@ -3,12 +3,11 @@
 ghost use Rattle.std.specs.Prelude.{◌≡◌, ◌⊎◌, ℕ, List, Option, Result, map, string_bytes};
 ghost use Rattle.texts.specs.declared.fault.Fault.{Fault};
 ghost use Rattle.texts.specs.Fault.{UnlessMemory};
-ghost use Rattle.programs.specs.Calls.{plan_of};
+ghost use Rattle.program_calls.specs.Calls.{plan_of};
 ghost use Rattle.programs.specs.Delivery.{Answers, Delivers, text_of};
 ghost use Rattle.programs.specs.LineText.{shown_line, stopped};
 ghost use Rattle.programs.specs.PlanText as spec;
 
-use crate::call::PlanCall;
 use crate::delivery::deliver;
 use crate::file::Sources;
 use crate::planning::plan_dry_runs;
@@ -16,6 +15,7 @@ use crate::stop::Stop;
 use compilers::compiler::NvccHostCompiler;
 use dry_runs::FirstDir;
 use plan_texts::{Tool, show_line, show_plan};
+use program_calls::PlanCall;
 use std::alloc::Global;
 use std::io::Write;
 use texts::fault::Fault;

@@ -2,18 +2,17 @@
 //! what an engine made, and what they say when they stop.
 #![tactic(auto)]
 
-mod call;
 mod complaint;
 mod delivery;
 mod engine;
 mod file;
+pub mod laws;
 mod planning;
 mod start;
 mod stop;
 mod suffix_fault;
 mod unread;
 
-pub use call::{LineCall, PlanCall, line_call, plan_call};
 pub use complaint::complain;
 pub use delivery::deliver;
 pub use engine::{write_line, write_plan, write_plan_of_files};

@@ -3,9 +3,9 @@ use Rattle.std.specs.Prelude.{ℕ, List, [], ◌∷◌, Bool, false, ◌||◌, i
 use Rattle.std.specs.Option.{option_map, option_and_then}
 use Rattle.std.specs.Str.{bytes_eq}
 use Rattle.host_lines.specs.KeepThreads.{number_of}
-use Rattle.nvcc_calls.specs.Calls.{NvccOf, nvcc_of, nvcc_call_of}
-use Rattle.nvcc_calls.specs.Directory.{DirectoryOf, directory_of, directory_call_of}
-use Rattle.programs.specs.Calls.{LineOf, PlanOf, line_of, plan_of, line_call_of, plan_call_of}
+use Rattle.program_calls.specs.Calls.{NvccOf, nvcc_of, nvcc_call_of}
+use Rattle.program_calls.specs.Calls.{DirectoryOf, directory_of, directory_call_of}
+use Rattle.program_calls.specs.Calls.{LineOf, PlanOf, line_of, plan_of, line_call_of, plan_call_of}
 use Rattle.usage.specs.Settings.{past, begins_option, options_taken}
 use Rattle.usage.specs.declared.settings.Settings.{Settings}
 use Rattle.usage.specs.declared.call.Call.{Call}

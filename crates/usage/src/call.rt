@@ -5,8 +5,9 @@ ghost use Rattle.std.specs.Option.{option_map};
 ghost use Rattle.usage.specs.Calls as spec;
 
 use crate::settings::{begins_option, number_in, options_taken, past};
-use nvcc_calls::{DirectoryCall, NvccCall, directory_call, nvcc_call};
-use programs::{LineCall, PlanCall, line_call, plan_call};
+use program_calls::{
+    DirectoryCall, LineCall, NvccCall, PlanCall, directory_call, line_call, nvcc_call, plan_call,
+};
 
 /// What a plan is written as.
 #[derive(Clone, Copy)]

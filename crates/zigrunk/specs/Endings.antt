@@ -1,7 +1,7 @@
 -- How calls of the program end.
 use Rattle.std.specs.Prelude.{◌≡◌, ℕ, List, [], ◌∷◌, ◌++◌, ◌⊎◌, Option, Some, None, Result, Ok, Err, MatchOption}
 use Rattle.std.specs.Io.KnownBytes.{Keeps}
-use Rattle.nvcc_calls.specs.Calls.{NvccOf}
+use Rattle.program_calls.specs.Calls.{NvccOf}
 use Rattle.dry_runs.specs.declared.limit.LimitedFault.{LimitedFault}
 use Rattle.dry_runs.specs.declared.limit.LimitedFault.TheVariants.{TooLong}
 use Rattle.dry_runs.specs.declared.limit.LimitedFault.TheVariants as limited
@@ -14,7 +14,7 @@ use Rattle.program_lookups.specs.Limit.{both_fitting}
 use Rattle.program_lookups.specs.Snapshot.{answer_in, IsSnapshotOf}
 use Rattle.programs.specs.declared.stop.Stop.{Stop}
 use Rattle.programs.specs.declared.stop.Stop.TheVariants.{Fault, NotCompilation, ToNvcc, Unwritable, Write}
-use Rattle.programs.specs.Calls.{PlanOf}
+use Rattle.program_calls.specs.Calls.{PlanOf}
 use Rattle.programs.specs.Delivery.{Delivers}
 use Rattle.programs.specs.LineText.{shown_line}
 use Rattle.programs.specs.PlanText.{ReadsFirst, out_of_memory, shown_plan}

@@ -22,7 +22,7 @@ use Rattle.plan_exports.specs.Message.{message_of}
 use Rattle.plan_exports.specs.Script.{shell_answer}
 use Rattle.programs.specs.declared.stop.Stop.{Stop}
 use Rattle.programs.specs.declared.stop.Stop.TheVariants as stops
-use Rattle.programs.specs.Calls.{PlanOf}
+use Rattle.program_calls.specs.Calls.{PlanOf}
 use Rattle.dry_runs.specs.DryRunText.{is_dry_run}
 use Rattle.programs.specs.PlanText.{program_setting}
 use Rattle.canonical_names.specs.FurtherSuffixes.{all_suffixes}

@@ -13,7 +13,7 @@ ghost use Rattle.plan_exports.specs.Message.{message_of};
 ghost use Rattle.programs.specs.declared.stop.Stop.TheVariants as stops;
 ghost use Rattle.programs.specs.Delivery.{Answers, Delivers, text_of};
 ghost use Rattle.usage.specs.declared.call.Format.TheVariants as formats;
-ghost use Rattle.programs.specs.Calls.{plan_of as plan_seen};
+ghost use Rattle.program_calls.specs.Calls.{plan_of as plan_seen};
 ghost use Rattle.usage.specs.Calls.{export_of};
 ghost use Rattle.zigrunk.specs.Exports as spec;
 
@@ -27,7 +27,8 @@ use plan_graphs::dot_text;
 use plan_json::{compdb_text, json_text};
 use plan_makeflow::{has_long_command, makeflow_file};
 use plans::{NvccGeneratedSubcommand, Plan, PlanWithOrigins};
-use programs::{PlanCall, Stop, deliver};
+use program_calls::PlanCall;
+use programs::{Stop, deliver};
 use std::alloc::Global;
 use std::io::Write;
 use texts::fault::Fault;

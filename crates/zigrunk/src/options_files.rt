@@ -2,10 +2,11 @@
 
 ghost use Rattle.std.specs.Prelude.{Some, IfOk, IfSome, OnOk, map, string_bytes};
 ghost use Rattle.texts.specs.Variables.{pair_of};
-ghost use Rattle.nvcc_calls.specs.Calls.{nvcc_of};
+ghost use Rattle.program_calls.specs.Calls.{nvcc_of};
 ghost use Rattle.zigrunk.specs.OptionsFiles as spec;
 
-use nvcc_calls::{NvccCall, file_names};
+use nvcc_calls::file_names;
+use program_calls::NvccCall;
 use programs::{Sources, Unread};
 use std::alloc::AllocError;
 use std::fs::{self, Files};

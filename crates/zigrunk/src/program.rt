@@ -8,9 +8,10 @@ ghost use Rattle.dry_runs.specs.declared.limit.LimitedFault.{LimitedFault};
 ghost use Rattle.dry_runs.specs.Parsed.{both_parsed};
 ghost use Rattle.program_lookups.specs.Asked.{asked_by};
 ghost use Rattle.program_lookups.specs.Snapshot.{IsSnapshotOf};
-ghost use Rattle.programs.specs.Calls.{plan_of};
-ghost use Rattle.nvcc_calls.specs.Calls.{nvcc_of};
+ghost use Rattle.program_calls.specs.Calls.{plan_of};
+ghost use Rattle.program_calls.specs.Calls.{nvcc_of};
 ghost use Rattle.nvcc_calls.specs.Directory as directories;
+ghost use Rattle.program_calls.specs.Calls.{directory_of};
 ghost use Rattle.programs.specs.Delivery.{Delivers};
 ghost use Rattle.programs.specs.PlanText.{out_of_memory, shown_plan};
 ghost use Rattle.usage.specs.Calls as forms;
@@ -25,9 +26,10 @@ use complaints::{
     place_of_excess,
 };
 use dry_runs::{FirstDir, LimitedFault, ParsedRuns, Which, parse_dry_runs_within};
-use nvcc_calls::{DirectoryCall, NvccCall, directory_name};
+use nvcc_calls::directory_name;
+use program_calls::{DirectoryCall, NvccCall, PlanCall};
 use program_lookups::{Snapshot, parse_within, snapshot_for};
-use programs::{PlanCall, Sources, Stop, deliver, write_line, write_plan};
+use programs::{Sources, Stop, deliver, write_line, write_plan};
 use std::alloc::{AllocError, Global};
 use std::fs::Files;
 use std::io::Write;
@@ -291,7 +293,7 @@ fn show_directory<W: Write>(
     variables: &[(String, String)],
     out: &mut W,
 ) -> Result<(), Stop>
-    ensures { Delivers result (Ok (directories.directory_name (directories.directory_of call.now) (map pair_of variables.now) ++ 10 ∷ []))
+    ensures { Delivers result (Ok (directories.directory_name (directory_of call.now) (map pair_of variables.now) ++ 10 ∷ []))
         (W.contents out.old) (W.contents out.new) }
 {
     let mut name = directory_name(alloc, call, variables)?;

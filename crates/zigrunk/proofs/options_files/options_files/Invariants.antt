@@ -1,4 +1,4 @@
-use Rattle.nvcc_calls.specs.Calls.{nvcc_of}
+use Rattle.program_calls.specs.Calls.{nvcc_of}
 use Rattle.zigrunk.specs.OptionsFiles.{AreHeld}
 use Rattle.zigrunk.proofs.options_files.options_files.Given as goal
 

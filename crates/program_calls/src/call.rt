@@ -1,8 +1,8 @@
-//! The words of a program's call.
+//! The calls that programs take, as words.
 
 ghost use Rattle.std.specs.Prelude.{◌≡◌, map, string_bytes};
 ghost use Rattle.std.specs.Option.{option_map};
-ghost use Rattle.programs.specs.Calls as spec;
+ghost use Rattle.program_calls.specs.Calls as spec;
 
 use plan_texts::Tool;
 
@@ -62,5 +62,58 @@ pub fn plan_call<'a>(words: &'a [String]) -> Option<PlanCall<'a>>
         dry1: dry1.as_str(),
         dry2: dry2.as_str(),
         suffixes,
+    })
+}
+
+/// A call that reads an nvcc line.
+#[derive(Debug, Drop)]
+pub struct NvccCall<'a> {
+    /// The working directory's path.
+    pub cwd: &'a str,
+    /// The temporary directory's path.
+    pub tmp: &'a str,
+    /// nvcc's path or name.
+    pub nvcc: &'a str,
+    /// The line's words, without nvcc's name.
+    pub words: &'a [String],
+}
+
+/// Parses `CWD TMP NVCC WORD..`. `None` if the words are too few.
+pub fn nvcc_call<'a>(words: &'a [String]) -> Option<NvccCall<'a>>
+    ensures { option_map spec.nvcc_of result ≡ spec.nvcc_call_of (map string_bytes words.now) }
+{
+    let [cwd, tmp, nvcc, line @ ..] = words else {
+        return None;
+    };
+    Some(NvccCall {
+        cwd: cwd.as_str(),
+        tmp: tmp.as_str(),
+        nvcc: nvcc.as_str(),
+        words: line,
+    })
+}
+
+/// A call that asks for the name of an nvcc call's directory.
+#[derive(Debug, Drop)]
+pub struct DirectoryCall<'a> {
+    /// The working directory's path.
+    pub cwd: &'a str,
+    /// nvcc's path or name.
+    pub nvcc: &'a str,
+    /// The line's words, without nvcc's name.
+    pub words: &'a [String],
+}
+
+/// Parses `CWD NVCC WORD..`. `None` if the words are too few.
+pub fn directory_call<'a>(words: &'a [String]) -> Option<DirectoryCall<'a>>
+    ensures { option_map spec.directory_of result ≡ spec.directory_call_of (map string_bytes words.now) }
+{
+    let [cwd, nvcc, line @ ..] = words else {
+        return None;
+    };
+    Some(DirectoryCall {
+        cwd: cwd.as_str(),
+        nvcc: nvcc.as_str(),
+        words: line,
     })
 }
