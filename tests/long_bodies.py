@@ -245,11 +245,11 @@ programs | programs/engine | write_line | words.len() > 50_000
 programs | programs/engine | write_plan | dry1.len() > 20_000
 programs | programs/engine | write_plan | suffixes.len() > 500
 programs | programs/engine | write_with_second | dry1.len() > 20_000
-plans | programs/planning | all_suffixes | further.len() > 500
+plans | canonical_names/further_suffixes | all_suffixes | further.len() > 500
 plans | programs/planning | plan_dry_runs | further.len() > 500
 plans | programs/planning | plan_dry_runs | dry1.len() > 5_000
 programs | programs/start | behind_first | words.len() > 50_000
-programs | programs/shown | push_shown | value.len() > 50_000
+programs | message_texts/excerpts | push_shown | value.len() > 50_000
 programs | programs/suffix_fault | push_suffix_fault | further.len() > 500
 
 programs | plan_exports/shell | shell_script | plan.groups.as_slice().len() > 50

@@ -7,7 +7,7 @@ set -u
 cd "$(dirname "$0")/.." || exit 1
 . tests/lib.sh
 nvcc=${1:-nvcc}
-table=crates/nvcc_words/src/options.rt
+table=crates/nvcc_options/src/options.rt
 require "the table of nvcc's options" "$nvcc"
 listed=0 lacks=''
 for name in $("$nvcc" --help | sed -n 's/^\(--[^ ]*\).*(\(-[^ ()]*\)) *$/\1 \2/p; s/^\(--[^ ]*\)  *--[^ ]* *$/\1/p'); do

@@ -42,7 +42,7 @@ VALUES = {
 
 def names() -> list[str]:
     """The names of all options."""
-    table = (TOP / "crates/nvcc_words/src/options.rt").read_text()
+    table = (TOP / "crates/nvcc_options/src/options.rt").read_text()
     said = subprocess.run(["nvcc", "--help"], capture_output=True, text=True, check=True).stdout
     listed = re.findall(r"^(--[^ \n]+)", said, re.M) + re.findall(r"^--.*\((-[^ ()]+)\) *$", said, re.M)
     return sorted({*re.findall(r'"(-[^"]+)"', table), *listed})

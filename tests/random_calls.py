@@ -27,7 +27,7 @@ from pathlib import Path
 from compare_calls import Call, Compared, Difference, Ran, compare, loud, path_of, shows_nothing, version_of
 from runner import Counts
 
-TABLE = Path(__file__).resolve().parent.parent / "crates/nvcc_words/src/options.rt"
+TABLE = Path(__file__).resolve().parent.parent / "crates/nvcc_options/src/options.rt"
 Draw = random.Random
 
 # Sources, how often each is drawn, and the words without which it doesn't compile.
