@@ -1,7 +1,7 @@
--- The plan that labels are cut into is the plan of the fates.
-use Rattle.std.proofs.Common.{◌≡◌, ℕ, suc, zero, List, [], ◌∷◌, ◌++◌, true, false, cond, map, length, refl, sym, ap, ◌∙◌, arith, append_assoc, append-nil, Option, Some, None, Result, Ok, Err}
+-- The plan that labels are cut into is the plan of the fates, and so are its origins.
+use Rattle.std.proofs.Common.{◌≡◌, ℕ, Bool, suc, zero, List, [], ◌∷◌, ◌++◌, true, false, cond, map, length, refl, sym, ap, ◌∙◌, arith, append_assoc, append-nil, Option, Some, None, Result, Ok, Err}
 use Rattle.std.specs.Prelude.{◌==◌, slice_get, fold, replicate, filter_map, if◌then◌else◌}
-use Rattle.std.specs.List.{list_any}
+use Rattle.std.specs.List.{list_any, flat_map}
 use Rattle.std.specs.Str.{bytes_eq}
 use Rattle.std.proofs.lemmas.Bool.{false≢true}
 use Rattle.std.proofs.lemmas.List.{length-replicate}
@@ -9,47 +9,48 @@ use Rattle.texts.specs.Lists.{is_some_and}
 use Rattle.command_groups.specs.declared.openings.Opening.{Opening}
 use Rattle.command_groups.specs.declared.labels.Label.{Label}
 use Rattle.command_groups.specs.declared.labels.Label.TheVariants.{Front, Device, Final, Ungrouped}
-use Rattle.plans.specs.declared.plan.NvccGeneratedSubcommand.{NvccGeneratedSubcommand}
+use Rattle.plans.specs.declared.origins.Origin.{Origin}
 use Rattle.plans.specs.declared.plan.Dropped.{Dropped}
 use Rattle.plans.specs.declared.plan.Reason.{Reason}
 use Rattle.plans.specs.declared.plan.Reason.TheVariants.{Superseded}
 use Rattle.command_groups.specs.Stage.{StagedCommand}
 use Rattle.command_groups.specs.Fate.{Fate, device, ungrouped, PlacedCommand, is_device}
-use Rattle.command_groups.specs.Plan.{PlanSetting, subcommand_of, is_front, is_final, of_fate, group_of, dropped_by, groups_of, plan_of_staged}
+use Rattle.command_groups.specs.Plan.{PlanSetting, subcommand_of, is_front, is_final, of_fate, dropped_by, groups_of, plan_of_staged}
 use Rattle.command_groups.specs.Openings.{Opened, names_of}
 use Rattle.command_groups.specs.Labels.{Labelled, GroupingState, grouped}
-use Rattle.command_groups.specs.Groups.{fate_at, fate_by, settled, dropped_for, group_of_label, put_at, CutState, nothing_cut, with_grouped, with_labelled, plan_by_labels}
+use Rattle.command_groups.specs.Groups.{fate_at, fate_by, settled, dropped_for, group_of_label, put_at, with_grouped, with_dropped, no_groups, CutState, nothing_cut, with_labelled, planned_of_cut, plan_by_labels}
+use Rattle.command_groups.specs.Origins.{origin_of, origins_by, origins_of_placed, origins_of_staged}
 use Rattle.command_groups.proofs.FateLemmas.{Distinct, first_false, second_false, same_text, equal_texts}
 use Rattle.command_groups.proofs.LabelLemmas.{labels_are_fates, names_are_opened, names_are_distinct, stands}
 
 -- Lists of lists.
 
 -- two lists of lists, joined place by place
-abbrev pub zipped : {X : Type 0} → List (List X) → List (List X) → List (List X)
+abbrev zipped : {X : Type 0} → List (List X) → List (List X) → List (List X)
 zipped [] hs = []
 zipped (g ∷ gs) [] = []
 zipped (g ∷ gs) (h ∷ hs) = (g ++ h) ∷ zipped gs hs
 
 -- lists, of which the one at a place has one more element in front
-abbrev pub cons_at : {X : Type 0} → ℕ → X → List (List X) → List (List X)
+abbrev cons_at : {X : Type 0} → ℕ → X → List (List X) → List (List X)
 cons_at place x [] = []
 cons_at zero x (g ∷ gs) = (x ∷ g) ∷ gs
 cons_at (suc place) x (g ∷ gs) = g ∷ cons_at place x gs
 
-pub put_before : {X : Type 0} (place : ℕ) (x : X) (gs hs : List (List X)) → zipped (put_at place x gs) hs ≡ zipped gs (cons_at place x hs)
+put_before : {X : Type 0} (place : ℕ) (x : X) (gs hs : List (List X)) → zipped (put_at place x gs) hs ≡ zipped gs (cons_at place x hs)
 put_before place x [] hs = refl
 put_before zero x (g ∷ gs) [] = refl
 put_before zero x (g ∷ gs) (h ∷ hs) = ap (λ t. t ∷ zipped gs hs) (append_assoc g (x ∷ []) h)
 put_before (suc place) x (g ∷ gs) [] = refl
 put_before (suc place) x (g ∷ gs) (h ∷ hs) = ap (λ ts. (g ++ h) ∷ ts) (put_before place x gs hs)
 
-pub zipped_nothing : {X : Type 0} (n : ℕ) (hs : List (List X)) → length hs ≡ n → zipped (replicate n []) hs ≡ hs
+zipped_nothing : {X : Type 0} (n : ℕ) (hs : List (List X)) → length hs ≡ n → zipped (replicate n []) hs ≡ hs
 zipped_nothing zero [] e = refl
 zipped_nothing zero (h ∷ hs) e = absurd (omega arith)
 zipped_nothing (suc n) [] e = absurd (omega arith)
 zipped_nothing (suc n) (h ∷ hs) e = ap (λ ts. h ∷ ts) (zipped_nothing n hs (omega arith))
 
-pub zipped_with_nothing : {X : Type 0} (names : List (List ℕ)) (gs : List (List X)) → length gs ≡ suc (suc (length names)) → zipped gs ([] ∷ (map (λ name. []) names ++ [] ∷ [])) ≡ gs
+zipped_with_nothing : {X : Type 0} (names : List (List ℕ)) (gs : List (List X)) → length gs ≡ suc (suc (length names)) → zipped gs ([] ∷ (map (λ name. []) names ++ [] ∷ [])) ≡ gs
 zipped_with_nothing {X = X} names = past_first
   where
     rest : (names : List (List ℕ)) (gs : List (List X)) → length gs ≡ suc (length names) → zipped gs (map (λ name. []) names ++ [] ∷ []) ≡ gs
@@ -64,14 +65,14 @@ zipped_with_nothing {X = X} names = past_first
 
 module _ {X : Type 0} (x : X) (g : List ℕ → List X) where
   -- the groups, once a command joins the one of a name
-  abbrev pub joined_by : List ℕ → List ℕ → List X
+  abbrev joined_by : List ℕ → List ℕ → List X
   joined_by name n = cond (bytes_eq name n) (x ∷ g n) (g n)
 
   not_joined : (name : List ℕ) (names : List (List ℕ)) → list_any (bytes_eq name) names ≡ false → map (joined_by name) names ≡ map g names
   not_joined name [] e = refl
   not_joined name (n ∷ ns) e = λ i. cond (first_false (bytes_eq name n) (list_any (bytes_eq name) ns) e i) (x ∷ g n) (g n) ∷ not_joined name ns (second_false (bytes_eq name n) (list_any (bytes_eq name) ns) e) i
 
-  pub joined_at : (opened : Opened) (k : ℕ) (e : List ℕ × ℕ) (rest : List (List X)) → Distinct (names_of opened) → slice_get opened k ≡ Some e → map (joined_by e.0) (names_of opened) ++ rest ≡ cons_at k x (map g (names_of opened) ++ rest)
+  joined_at : (opened : Opened) (k : ℕ) (e : List ℕ × ℕ) (rest : List (List X)) → Distinct (names_of opened) → slice_get opened k ≡ Some e → map (joined_by e.0) (names_of opened) ++ rest ≡ cons_at k x (map g (names_of opened) ++ rest)
   joined_at [] k e rest d h = cc
   joined_at (y ∷ ys) zero e rest d h =
       let same : y ≡ e = cc in
@@ -88,111 +89,169 @@ module _ {X : Type 0} (x : X) (g : List ℕ → List X) where
           ]
           refl
 
-  pub last_joined : (opened : Opened) (last : List X) → map g (names_of opened) ++ (x ∷ last) ∷ [] ≡ cons_at (length opened) x (map g (names_of opened) ++ last ∷ [])
+  last_joined : (opened : Opened) (last : List X) → map g (names_of opened) ++ (x ∷ last) ∷ [] ≡ cons_at (length opened) x (map g (names_of opened) ++ last ∷ [])
   last_joined [] last = refl
   last_joined (y ∷ ys) last = ap (λ ts. g y.0 ∷ ts) (last_joined ys last)
 
-pub names_length : (opened : Opened) → length (names_of opened) ≡ length opened
+names_length : (opened : Opened) → length (names_of opened) ≡ length opened
 names_length [] = refl
 names_length (e ∷ es) = ap suc (names_length es)
 
-pub put_length : {X : Type 0} (place : ℕ) (x : X) (gs : List (List X)) → length (put_at place x gs) ≡ length gs
+put_length : {X : Type 0} (place : ℕ) (x : X) (gs : List (List X)) → length (put_at place x gs) ≡ length gs
 put_length place x [] = refl
 put_length zero x (g ∷ gs) = refl
 put_length (suc place) x (g ∷ gs) = ap suc (put_length place x gs)
 
--- One labelled command in front.
+-- One labelled command in front, as an element of groups.
 
-module _ (s : PlanSetting) (opened : Opened) (d : Distinct (names_of opened)) where
-  abbrev all_groups : List PlacedCommand → List (List NvccGeneratedSubcommand)
-  all_groups ps = groups_of s (names_of opened) ps
+abbrev with_element : {X : Type 0} → (StagedCommand → X) → Opened → List (List X) → Labelled → List (List X)
+with_element of opened gs l = with_grouped of gs l.staged (group_of_label opened l.label)
 
-  abbrev all_dropped : List PlacedCommand → List Dropped
-  all_dropped ps = filter_map (λ p. dropped_by p.fate p.staged.command) ps
+module _ {X : Type 0} (of : StagedCommand → X) (opened : Opened) (d : Distinct (names_of opened)) where
+  -- the elements of the commands whose fate passes a test, and all groups of them
+  abbrev elements : (Fate → Bool) → List PlacedCommand → List X
+  elements test ps = map (λ p. of p.staged) (of_fate test ps)
 
-  abbrev groups_with : Result ℕ Reason → StagedCommand → List (List NvccGeneratedSubcommand) → List (List NvccGeneratedSubcommand)
-  groups_with (Ok place) c gs = cons_at place (subcommand_of s c) gs
+  abbrev all_groups : List PlacedCommand → List (List X)
+  all_groups ps = elements is_front ps ∷ (map (λ name. elements (is_device name) ps) (names_of opened) ++ elements is_final ps ∷ [])
+
+  abbrev groups_with : Result ℕ Reason → StagedCommand → List (List X) → List (List X)
+  groups_with (Ok place) c gs = cons_at place (of c) gs
   groups_with (Err reason) c gs = gs
 
-  abbrev dropped_with : Result ℕ Reason → StagedCommand → List Dropped → List Dropped
-  dropped_with (Ok place) c ds = ds
-  dropped_with (Err reason) c ds = dropped_for reason c.command ∷ ds
-
   abbrev Fits : StagedCommand → List PlacedCommand → Fate → Result ℕ Reason → Type 0
-  Fits c ps place r =
-      (all_groups (record { staged = c; fate = place } ∷ ps) ≡ groups_with r c (all_groups ps)) × (all_dropped (record { staged = c; fate = place } ∷ ps) ≡ dropped_with r c (all_dropped ps))
+  Fits c ps place r = all_groups (record { staged = c; fate = place } ∷ ps) ≡ groups_with r c (all_groups ps)
 
   fits_device : (c : StagedCommand) (ps : List PlacedCommand) (o : Opening) (e : Option (List ℕ × ℕ)) → slice_get opened o.number ≡ e → Fits c ps (fate_at e o.step) (if is_some_and (λ q. q.1 == o.step) e then Ok (suc o.number) else Err Superseded)
-  fits_device c ps o None h = (refl, refl)
+  fits_device c ps o None h = refl
   fits_device c ps o (Some e) h =
       elim (e.1 == o.step) as (λ b. Fits c ps (cond b (device e.0) (ungrouped Superseded)) (cond b (Ok (suc o.number)) (Err Superseded))) [
-        | true ↦ (ap (λ gs. group_of s is_front ps ∷ gs) (joined_by_name e h), refl)
-        | false ↦ (refl, refl)
+        | true ↦ ap (λ gs. elements is_front ps ∷ gs) (joined_by_name e h)
+        | false ↦ refl
       ]
     where
       joined_by_name : (e : List ℕ × ℕ) → slice_get opened o.number ≡ Some e →
-          map (λ name. group_of s (is_device name) (record { staged = c; fate = device e.0 } ∷ ps)) (names_of opened) ++ group_of s is_final ps ∷ [] ≡
-          cons_at o.number (subcommand_of s c) (map (λ name. group_of s (is_device name) ps) (names_of opened) ++ group_of s is_final ps ∷ [])
+          map (λ name. elements (is_device name) (record { staged = c; fate = device e.0 } ∷ ps)) (names_of opened) ++ elements is_final ps ∷ [] ≡
+          cons_at o.number (of c) (map (λ name. elements (is_device name) ps) (names_of opened) ++ elements is_final ps ∷ [])
       joined_by_name e h =
-          ap (λ gs. gs ++ group_of s is_final ps ∷ []) (pointwise e (names_of opened))
-          ∙ joined_at (subcommand_of s c) (λ name. group_of s (is_device name) ps) opened o.number e (group_of s is_final ps ∷ []) d h
+          ap (λ gs. gs ++ elements is_final ps ∷ []) (pointwise e (names_of opened))
+          ∙ joined_at (of c) (λ name. elements (is_device name) ps) opened o.number e (elements is_final ps ∷ []) d h
         where
-          one : (e : List ℕ × ℕ) (name : List ℕ) → group_of s (is_device name) (record { staged = c; fate = device e.0 } ∷ ps) ≡ joined_by (subcommand_of s c) (λ n. group_of s (is_device n) ps) e.0 name
+          one : (e : List ℕ × ℕ) (name : List ℕ) → elements (is_device name) (record { staged = c; fate = device e.0 } ∷ ps) ≡ joined_by (of c) (λ n. elements (is_device n) ps) e.0 name
           one e name =
               elim (bytes_eq e.0 name)
-              as (λ b. map (λ p. subcommand_of s p.staged) (cond b (record { staged = c; fate = device e.0 } ∷ of_fate (is_device name) ps) (of_fate (is_device name) ps)) ≡ cond b (subcommand_of s c ∷ group_of s (is_device name) ps) (group_of s (is_device name) ps))
+              as (λ b. map (λ p. of p.staged) (cond b (record { staged = c; fate = device e.0 } ∷ of_fate (is_device name) ps) (of_fate (is_device name) ps)) ≡ cond b (of c ∷ elements (is_device name) ps) (elements (is_device name) ps))
               [ true ↦ refl | false ↦ refl ]
 
           pointwise : (e : List ℕ × ℕ) (names : List (List ℕ)) →
-              map (λ name. group_of s (is_device name) (record { staged = c; fate = device e.0 } ∷ ps)) names ≡ map (joined_by (subcommand_of s c) (λ name. group_of s (is_device name) ps) e.0) names
+              map (λ name. elements (is_device name) (record { staged = c; fate = device e.0 } ∷ ps)) names ≡ map (joined_by (of c) (λ name. elements (is_device name) ps) e.0) names
           pointwise e [] = refl
           pointwise e (n ∷ ns) = λ i. one e n i ∷ pointwise e ns i
 
   fits : (c : StagedCommand) (ps : List PlacedCommand) (label : Label) → Fits c ps (fate_by opened label) (group_of_label opened label)
-  fits c ps Front = (refl, refl)
+  fits c ps Front = refl
   fits c ps (Device o) = fits_device c ps o (slice_get opened o.number) refl
-  fits c ps Final = (ap (λ gs. group_of s is_front ps ∷ gs) (last_joined (subcommand_of s c) (λ name. group_of s (is_device name) ps) opened (group_of s is_final ps)), refl)
-  fits c ps (Ungrouped reason) = (refl, refl)
+  fits c ps Final = ap (λ gs. elements is_front ps ∷ gs) (last_joined (of c) (λ name. elements (is_device name) ps) opened (elements is_final ps))
+  fits c ps (Ungrouped reason) = refl
 
   -- all labelled commands
-  abbrev cut_with : CutState → List PlacedCommand → CutState
-  cut_with cut ps = record { groups = zipped cut.groups (all_groups ps); dropped = cut.dropped ++ all_dropped ps }
+  by_result : (gs : List (List X)) (c : StagedCommand) (ps : List PlacedCommand) (place : Fate) (r : Result ℕ Reason) → Fits c ps place r → zipped (with_grouped of gs c r) (all_groups ps) ≡ zipped gs (all_groups (record { staged = c; fate = place } ∷ ps))
+  by_result gs c ps place (Ok k) f = put_before k (of c) gs (all_groups ps) ∙ ap (zipped gs) (sym f)
+  by_result gs c ps place (Err reason) f = ap (zipped gs) (sym f)
 
-  by_result : (cut : CutState) (c : StagedCommand) (ps : List PlacedCommand) (place : Fate) (r : Result ℕ Reason) → Fits c ps place r → cut_with (with_grouped s cut c r) ps ≡ cut_with cut (record { staged = c; fate = place } ∷ ps)
-  by_result cut c ps place (Ok k) f = λ i. record {
-    groups = (put_before k (subcommand_of s c) cut.groups (all_groups ps) ∙ ap (zipped cut.groups) (sym f.0)) i;
-    dropped = cut.dropped ++ sym f.1 i;
-  }
-  by_result cut c ps place (Err reason) f = λ i. record {
-    groups = zipped cut.groups (sym f.0 i);
-    dropped = (append_assoc cut.dropped (dropped_for reason c.command ∷ []) (all_dropped ps) ∙ ap (λ ds. cut.dropped ++ ds) (sym f.1)) i;
-  }
-
-  cut_after : (cut : CutState) (ls : List Labelled) → length cut.groups ≡ suc (suc (length opened)) → fold (with_labelled s opened) cut ls ≡ cut_with cut (map (settled opened) ls)
-  cut_after cut [] h = λ i. record { groups = sym (zipped_with_nothing (names_of opened) cut.groups (omega (arith, h, names_length opened))) i; dropped = sym (append-nil cut.dropped) i }
-  cut_after cut (l ∷ ls) h =
-      cut_after (with_labelled s opened cut l) ls (long (group_of_label opened l.label))
-      ∙ by_result cut l.staged (map (settled opened) ls) (fate_by opened l.label) (group_of_label opened l.label) (fits l.staged (map (settled opened) ls) l.label)
+  groups_after : (gs : List (List X)) (ls : List Labelled) → length gs ≡ suc (suc (length opened)) → fold (with_element of opened) gs ls ≡ zipped gs (all_groups (map (settled opened) ls))
+  groups_after gs [] h = sym (zipped_with_nothing (names_of opened) gs (omega (arith, h, names_length opened)))
+  groups_after gs (l ∷ ls) h =
+      groups_after (with_element of opened gs l) ls (long (group_of_label opened l.label))
+      ∙ by_result gs l.staged (map (settled opened) ls) (fate_by opened l.label) (group_of_label opened l.label) (fits l.staged (map (settled opened) ls) l.label)
     where
-      long : (r : Result ℕ Reason) → length (with_grouped s cut l.staged r).groups ≡ suc (suc (length opened))
-      long (Ok place) = put_length place (subcommand_of s l.staged) cut.groups ∙ h
+      long : (r : Result ℕ Reason) → length (with_grouped of gs l.staged r) ≡ suc (suc (length opened))
+      long (Ok place) = put_length place (of l.staged) gs ∙ h
       long (Err reason) = h
 
   groups_long : (ps : List PlacedCommand) → length (all_groups ps) ≡ suc (suc (length opened))
   groups_long ps = ap suc (one_more opened)
     where
-      one_more : (es : Opened) → length (map (λ name. group_of s (is_device name) ps) (names_of es) ++ group_of s is_final ps ∷ []) ≡ suc (length es)
+      one_more : (es : Opened) → length (map (λ name. elements (is_device name) ps) (names_of es) ++ elements is_final ps ∷ []) ≡ suc (length es)
       one_more [] = refl
       one_more (e ∷ es) = ap suc (one_more es)
 
-  cut_is : (ls : List Labelled) → fold (with_labelled s opened) (nothing_cut (length opened)) ls ≡ record { groups = all_groups (map (settled opened) ls); dropped = all_dropped (map (settled opened) ls) }
-  cut_is ls =
-      cut_after (nothing_cut (length opened)) ls (length-replicate (suc (suc (length opened))) [])
-      ∙ (λ i. record { groups = zipped_nothing (suc (suc (length opened))) (all_groups (map (settled opened) ls)) (groups_long (map (settled opened) ls)) i; dropped = all_dropped (map (settled opened) ls) })
+  groups_are : (ls : List Labelled) → fold (with_element of opened) (no_groups (length opened)) ls ≡ all_groups (map (settled opened) ls)
+  groups_are ls =
+      groups_after (no_groups (length opened)) ls (length-replicate (suc (suc (length opened))) [])
+      ∙ zipped_nothing (suc (suc (length opened))) (all_groups (map (settled opened) ls)) (groups_long (map (settled opened) ls))
+
+-- Dropped commands.
+
+module _ (opened : Opened) where
+  abbrev all_dropped : List PlacedCommand → List Dropped
+  all_dropped ps = filter_map (λ p. dropped_by p.fate p.staged.command) ps
+
+  abbrev drops : Result ℕ Reason → StagedCommand → List Dropped
+  drops (Ok place) c = []
+  drops (Err reason) c = dropped_for reason c.command ∷ []
+
+  abbrev Falls : StagedCommand → List PlacedCommand → Fate → Result ℕ Reason → Type 0
+  Falls c ps place r = all_dropped (record { staged = c; fate = place } ∷ ps) ≡ drops r c ++ all_dropped ps
+
+  falls_device : (c : StagedCommand) (ps : List PlacedCommand) (o : Opening) (e : Option (List ℕ × ℕ)) → Falls c ps (fate_at e o.step) (if is_some_and (λ q. q.1 == o.step) e then Ok (suc o.number) else Err Superseded)
+  falls_device c ps o None = refl
+  falls_device c ps o (Some e) =
+      elim (e.1 == o.step) as (λ b. Falls c ps (cond b (device e.0) (ungrouped Superseded)) (cond b (Ok (suc o.number)) (Err Superseded))) [ true ↦ refl | false ↦ refl ]
+
+  falls : (c : StagedCommand) (ps : List PlacedCommand) (label : Label) → Falls c ps (fate_by opened label) (group_of_label opened label)
+  falls c ps Front = refl
+  falls c ps (Device o) = falls_device c ps o (slice_get opened o.number)
+  falls c ps Final = refl
+  falls c ps (Ungrouped reason) = refl
+
+  one_dropped : (ds more : List Dropped) (c : StagedCommand) (r : Result ℕ Reason) → with_dropped ds c r ++ more ≡ ds ++ (drops r c ++ more)
+  one_dropped ds more c (Ok place) = refl
+  one_dropped ds more c (Err reason) = append_assoc ds (dropped_for reason c.command ∷ []) more
+
+  dropped_after : (ds : List Dropped) (ls : List Labelled) → fold (λ ds l. with_dropped ds l.staged (group_of_label opened l.label)) ds ls ≡ ds ++ all_dropped (map (settled opened) ls)
+  dropped_after ds [] = sym (append-nil ds)
+  dropped_after ds (l ∷ ls) =
+      dropped_after (with_dropped ds l.staged (group_of_label opened l.label)) ls
+      ∙ one_dropped ds (all_dropped (map (settled opened) ls)) l.staged (group_of_label opened l.label)
+      ∙ ap (λ more. ds ++ more) (sym (falls l.staged (map (settled opened) ls) l.label))
+
+-- groups, one after the other
+joined_groups : (names : List (List ℕ)) (ps : List PlacedCommand) →
+    flat_map (λ (group : List Origin). group) (origins_by is_front ps ∷ (map (λ name. origins_by (is_device name) ps) names ++ origins_by is_final ps ∷ [])) ≡ origins_of_placed names ps
+joined_groups names ps = ap (λ t. origins_by is_front ps ++ t) (behind names)
+  where
+    behind : (names : List (List ℕ)) →
+        flat_map (λ (group : List Origin). group) (map (λ name. origins_by (is_device name) ps) names ++ origins_by is_final ps ∷ []) ≡
+        flat_map (λ name. origins_by (is_device name) ps) names ++ origins_by is_final ps
+    behind [] = append-nil (origins_by is_final ps)
+    behind (n ∷ ns) =
+        ap (λ t. origins_by (is_device n) ps ++ t) (behind ns)
+        ∙ sym (append_assoc (origins_by (is_device n) ps) (flat_map (λ name. origins_by (is_device name) ps) ns) (origins_by is_final ps))
+
+-- each part of what is cut is gathered by itself
+parts_are : (s : PlanSetting) (opened : Opened) (cut : CutState) (ls : List Labelled) →
+    fold (with_labelled s opened) cut ls ≡ record {
+      groups = fold (with_element (subcommand_of s) opened) cut.groups ls;
+      origins = fold (with_element origin_of opened) cut.origins ls;
+      dropped = fold (λ ds l. with_dropped ds l.staged (group_of_label opened l.label)) cut.dropped ls;
+    }
+parts_are s opened cut [] = refl
+parts_are s opened cut (l ∷ ls) = parts_are s opened (with_labelled s opened cut l) ls
 
 -- the plan that labels are cut into is the plan of the commands
-pub cut_is_plan : (s : PlanSetting) (commands : List StagedCommand) → plan_by_labels s (grouped commands) ≡ plan_of_staged s commands
+pub cut_is_plan : (s : PlanSetting) (commands : List StagedCommand) →
+    plan_by_labels s (grouped commands) ≡ record { plan = plan_of_staged s commands; origins = origins_of_staged commands }
 cut_is_plan s commands =
     let g : GroupingState = grouped commands in
-    ap (λ (c : CutState). record { groups = c.groups; dropped = c.dropped }) (cut_is s g.opened (names_are_distinct commands) g.labelled)
-    ∙ (λ i. record { groups = groups_of s (names_are_opened commands i) (labels_are_fates commands i); dropped = filter_map (λ p. dropped_by p.fate p.staged.command) (labels_are_fates commands i) })
+    let d = names_are_distinct commands in
+    let ps : List PlacedCommand = map (settled g.opened) g.labelled in
+    ap planned_of_cut (parts_are s g.opened (nothing_cut (length g.opened)) g.labelled)
+    ∙ (λ i. record {
+      plan = record { groups = groups_are (subcommand_of s) g.opened d g.labelled i; dropped = dropped_after g.opened [] g.labelled i };
+      origins = (ap (flat_map (λ (group : List Origin). group)) (groups_are origin_of g.opened d g.labelled) ∙ joined_groups (names_of g.opened) ps) i;
+    })
+    ∙ (λ i. record {
+      plan = record { groups = groups_of s (names_are_opened commands i) (labels_are_fates commands i); dropped = filter_map (λ p. dropped_by p.fate p.staged.command) (labels_are_fates commands i) };
+      origins = origins_of_placed (names_are_opened commands i) (labels_are_fates commands i);
+    })

@@ -7,7 +7,6 @@ pub mod LabelLemmas
 pub mod MergeLemmas
 pub mod OpenerLemmas
 pub mod OpeningLemmas
-pub mod OriginLemmas
 pub mod PlanLemmas
 pub mod PlanNeedLemmas
 pub mod PlanningLemmas

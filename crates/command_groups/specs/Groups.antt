@@ -4,15 +4,18 @@ use Rattle.command_groups.specs.declared.labels.Label.{Label}
 use Rattle.command_groups.specs.declared.labels.Label.TheVariants.{Front, Device, Final, Ungrouped}
 use Rattle.plans.specs.declared.plan.NvccGeneratedSubcommand.{NvccGeneratedSubcommand}
 use Rattle.plans.specs.declared.plan.Dropped.{Dropped}
-use Rattle.plans.specs.declared.plan.Plan.{Plan}
+use Rattle.plans.specs.declared.origins.Origin.{Origin}
+use Rattle.plans.specs.declared.origins.PlanWithOrigins.{PlanWithOrigins}
 use Rattle.plans.specs.declared.plan.Reason.{Reason}
 use Rattle.plans.specs.declared.plan.Reason.TheVariants.{Superseded}
+use Rattle.std.specs.List.{flat_map}
 use Rattle.command_groups.specs.Merge.{MergedCommand}
 use Rattle.command_groups.specs.Stage.{StagedCommand}
 use Rattle.command_groups.specs.Fate.{Fate, front, device, final, ungrouped, PlacedCommand}
 use Rattle.command_groups.specs.Plan.{PlanSetting, folder_of_run, subcommand_of}
 use Rattle.command_groups.specs.Openings.{Opened, is_live}
 use Rattle.command_groups.specs.Labels.{Labelled, GroupingState}
+use Rattle.command_groups.specs.Origins.{origin_of}
 
 -- the fate of a step's opening, by the entry of its number
 abbrev pub fate_at : Option (List ℕ × ℕ) → ℕ → Fate
@@ -50,26 +53,45 @@ put_at place x [] = []
 put_at zero x (g ∷ gs) = (g ++ x ∷ []) ∷ gs
 put_at (suc place) x (g ∷ gs) = g ∷ put_at place x gs
 
--- the groups and the dropped commands so far
+-- a list of groups, with an element for one more command if that has a place
+abbrev pub with_grouped : {X : Type 0} → (StagedCommand → X) → List (List X) → StagedCommand → Result ℕ Reason → List (List X)
+with_grouped of groups c (Ok place) = put_at place (of c) groups
+with_grouped of groups c (Err reason) = groups
+
+-- the dropped commands, with one more command unless that has a place
+abbrev pub with_dropped : List Dropped → StagedCommand → Result ℕ Reason → List Dropped
+with_dropped dropped c (Ok place) = dropped
+with_dropped dropped c (Err reason) = dropped ++ dropped_for reason c.command ∷ []
+
+-- as many groups as a plan has, all of them empty
+abbrev pub no_groups : {X : Type 0} → ℕ → List (List X)
+no_groups names = replicate (suc (suc names)) []
+
+-- the groups, their commands' origins and the dropped commands so far
 pub record CutState : Type 0 where
   pub groups : List (List NvccGeneratedSubcommand)
+  pub origins : List (List Origin)
   pub dropped : List Dropped
 
 abbrev pub nothing_cut : ℕ → CutState
-nothing_cut names = record { groups = replicate (suc (suc names)) []; dropped = [] }
-
-abbrev pub with_grouped : PlanSetting → CutState → StagedCommand → Result ℕ Reason → CutState
-with_grouped s cut c (Ok place) = record { groups = put_at place (subcommand_of s c) cut.groups; dropped = cut.dropped }
-with_grouped s cut c (Err reason) = record { groups = cut.groups; dropped = cut.dropped ++ dropped_for reason c.command ∷ [] }
+nothing_cut names = record { groups = no_groups names; origins = no_groups names; dropped = [] }
 
 abbrev pub with_labelled : PlanSetting → Opened → CutState → Labelled → CutState
-with_labelled s opened cut l = with_grouped s cut l.staged (group_of_label opened l.label)
+with_labelled s opened cut l = record {
+  groups = with_grouped (subcommand_of s) cut.groups l.staged (group_of_label opened l.label);
+  origins = with_grouped origin_of cut.origins l.staged (group_of_label opened l.label);
+  dropped = with_dropped cut.dropped l.staged (group_of_label opened l.label);
+}
 
 abbrev pub cut_of : PlanSetting → GroupingState → CutState
 cut_of s g = fold (with_labelled s g.opened) (nothing_cut (length g.opened)) g.labelled
 
-abbrev pub plan_of_cut : CutState → Plan
-plan_of_cut cut = record { groups = cut.groups; dropped = cut.dropped }
+-- the plan, and the origins of its commands in plan order
+abbrev pub planned_of_cut : CutState → PlanWithOrigins
+planned_of_cut cut = record {
+  plan = record { groups = cut.groups; dropped = cut.dropped };
+  origins = flat_map (λ group. group) cut.origins;
+}
 
-abbrev pub plan_by_labels : PlanSetting → GroupingState → Plan
-plan_by_labels s g = plan_of_cut (cut_of s g)
+abbrev pub plan_by_labels : PlanSetting → GroupingState → PlanWithOrigins
+plan_by_labels s g = planned_of_cut (cut_of s g)

@@ -4,4 +4,4 @@ use Rattle.command_groups.specs.declared.groups.Cut.{Cut}
 use Rattle.command_groups.specs.Groups.{CutState}
 
 abbrev pub cut_seen : Cut → CutState
-cut_seen c = record { groups = map vec_items c.groups.items; dropped = c.dropped.items }
+cut_seen c = record { groups = map vec_items c.groups.items; origins = map vec_items c.origins.items; dropped = c.dropped.items }

@@ -11,7 +11,6 @@ pub mod Merge
 pub mod MergeLaws
 pub mod MergedView
 pub mod Openings
-pub mod OriginGroups
 pub mod Origins
 pub mod Plan
 pub mod PlanExamples

@@ -13,7 +13,6 @@ ghost use Rattle.command_groups.specs.Stage.{staged};
 use crate::groups::plan_by_labels;
 use crate::labels::Grouping;
 use crate::merged_commands::SelectedCommand;
-use crate::origins::origins_by_labels;
 use crate::setting::Setting;
 use plans::PlanWithOrigins;
 use std::alloc::{AllocError, Global};
@@ -54,7 +53,6 @@ pub fn plan_of_commands(
         labelled,
         ..
     } = grouping;
-    let origins = origins_by_labels(alloc, &opened, labelled.as_slice())?;
-    let plan = plan_by_labels(alloc, setting, &opened, labelled)?;
-    Ok(PlanWithOrigins { plan, origins })
+    let planned = plan_by_labels(alloc, setting, &opened, labelled)?;
+    Ok(planned)
 }

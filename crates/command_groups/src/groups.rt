@@ -1,6 +1,7 @@
 //! The groups that labelled commands are cut into.
 
 ghost use Rattle.std.specs.Prelude.{◌≡◌, ℕ, ◌+◌, ◌<◌, ◌^◌, List, [], ◌∷◌, ◌++◌, map, fold, length, IfOk, OnOk, string_bytes, vec_items};
+ghost use Rattle.std.specs.List.{flat_map};
 ghost use Rattle.command_groups.specs.Groups as spec;
 ghost use Rattle.command_groups.specs.GroupsView.{cut_seen};
 ghost use Rattle.command_groups.specs.LabelsView.{labelled_seen};
@@ -13,7 +14,10 @@ use crate::merged_commands::SelectedCommand;
 use crate::openings::OpenedNames;
 use crate::setting::Setting;
 use crate::stage::cacheable_mark;
-use plans::{Dropped, DroppedCommands, Groups, NvccGeneratedSubcommand, Plan, Reason};
+use plans::{
+    Dropped, DroppedCommands, Groups, NvccGeneratedSubcommand, Origin, Origins, Plan,
+    PlanWithOrigins, Reason,
+};
 use std::alloc::{AllocError, Global};
 use texts::text::Text;
 use texts::words::Words;
@@ -60,9 +64,19 @@ fn dropped(command: SelectedCommand, reason: Reason) -> Dropped
     }
 }
 
-/// The place of a label's group among all groups, or why it has none: the front group is the first, the final group the
-/// last, and a device group that was opened again has lost what it had.
-pub fn group_of(opened: &OpenedNames, label: Label) -> Result<usize, Reason>
+// Where a command of a group comes from.
+fn origin_of(command: &SelectedCommand) -> Origin
+    ensures { result ≡ record { line = command.now.line; run = command.now.run } }
+{
+    Origin {
+        line: command.line,
+        run: command.run,
+    }
+}
+
+// The place of a label's group among all groups, or why it has none: the front group is the first, the final group the
+// last, and a device group that was opened again has lost what it had.
+fn group_of(opened: &OpenedNames, label: Label) -> Result<usize, Reason>
     ensures place { result ≡ spec.group_of_label opened.now label }
     ensures within { IfOk result (λ place. place < length opened.now + 2) }
 {
@@ -76,39 +90,45 @@ pub fn group_of(opened: &OpenedNames, label: Label) -> Result<usize, Reason>
     }
 }
 
-// Puts a command at the end of the group at a place.
-fn push_at(
-    groups: &mut Vec<Vec<NvccGeneratedSubcommand>>,
-    place: usize,
-    command: NvccGeneratedSubcommand,
-) -> Result<(), AllocError>
+// Groups for so many names, all of them empty.
+fn empty_groups<T: Drop>(alloc: Global, names: usize) -> Result<Vec<Vec<T>>, AllocError>
+    requires { names < 2 ^ 63 }
+    ensures { IfOk result (λ groups. map vec_items groups.items ≡ spec.no_groups names) }
+{
+    let mut groups = Vec::with_capacity(alloc, names + 2)?;
+    for _ in 0..names + 2 {
+        groups.push(Vec::new(alloc))?;
+    }
+    Ok(groups)
+}
+
+// Puts an element at the end of the group at a place.
+fn push_at<T: Drop>(groups: &mut Vec<Vec<T>>, place: usize, element: T) -> Result<(), AllocError>
     requires { place < length groups.old.items }
-    ensures groups { OnOk result (map vec_items groups.new.items ≡ spec.put_at place command (map vec_items groups.old.items)) }
+    ensures groups { OnOk result (map vec_items groups.new.items ≡ spec.put_at place element (map vec_items groups.old.items)) }
     ensures length { OnOk result (length groups.new.items ≡ length groups.old.items) }
 {
-    groups[place].push(command)?;
+    groups[place].push(element)?;
     Ok(())
 }
 
-// The groups and the dropped commands so far.
+// The groups, the origins of their commands, and the dropped commands so far.
 #[derive(Drop)]
 struct Cut {
     groups: Vec<Vec<NvccGeneratedSubcommand>>,
+    origins: Vec<Vec<Origin>>,
     dropped: Vec<Dropped>,
 }
 
 impl Cut {
-    // Groups for so many names, all of them empty.
+    // Nothing yet, for so many names.
     fn new(alloc: Global, names: usize) -> Result<Cut, AllocError>
         requires { names < 2 ^ 63 }
         ensures { IfOk result (λ cut. cut_seen cut ≡ spec.nothing_cut names) }
     {
-        let mut groups = Vec::with_capacity(alloc, names + 2)?;
-        for _ in 0..names + 2 {
-            groups.push(Vec::new(alloc))?;
-        }
         Ok(Cut {
-            groups,
+            groups: empty_groups(alloc, names)?,
+            origins: empty_groups(alloc, names)?,
             dropped: Vec::new(alloc),
         })
     }
@@ -121,12 +141,15 @@ impl Cut {
         opened: &OpenedNames,
         labelled: LabelledCommand,
     ) -> Result<(), AllocError>
-        requires { length self.old.groups.items ≡ length opened.now + 2 }
+        requires groups { length self.old.groups.items ≡ length opened.now + 2 }
+        requires origins { length self.old.origins.items ≡ length opened.now + 2 }
         ensures cut { OnOk result (cut_seen self.new ≡ spec.with_labelled (setting_seen setting.now) opened.now (cut_seen self.old) (labelled_seen labelled)) }
         ensures groups { OnOk result (length self.new.groups.items ≡ length self.old.groups.items) }
+        ensures origins { OnOk result (length self.new.origins.items ≡ length self.old.origins.items) }
     {
         match group_of(opened, labelled.label) {
             Ok(place) => {
+                push_at(&mut self.origins, place, origin_of(&labelled.command))?;
                 let command = subcommand(alloc, setting, labelled)?;
                 push_at(&mut self.groups, place, command)?;
             }
@@ -138,21 +161,57 @@ impl Cut {
     }
 }
 
-/// The plan of labelled commands: each group has its commands in order.
-pub fn plan_by_labels(
+// Adds the origins of a group.
+fn push_all(origins: &mut Vec<Origin>, group: &[Origin]) -> Result<(), AllocError>
+    ensures { OnOk result (origins.new.items ≡ origins.old.items ++ group.now) }
+{
+    for origin in group {
+        origins.push(*origin)?;
+    }
+    Ok(())
+}
+
+// The origins of groups, one group after the other.
+fn in_plan_order(alloc: Global, groups: &[Vec<Origin>]) -> Result<Origins, AllocError>
+    ensures { IfOk result (λ origins. origins ≡ flat_map (λ group. group) (map vec_items groups.now)) }
+{
+    let mut origins = Vec::new(alloc);
+    for group in groups {
+        push_all(&mut origins, group.as_slice())?;
+    }
+    Ok(Origins::from_vec(origins))
+}
+
+// What labelled commands are cut into.
+fn cut_of(
     alloc: Global,
     setting: &Setting<'_>,
     opened: &OpenedNames,
     labelled: Vec<LabelledCommand>,
-) -> Result<Plan, AllocError>
-    ensures { IfOk result (λ plan. plan ≡ spec.plan_of_cut (fold (spec.with_labelled (setting_seen setting.now) opened.now) (spec.nothing_cut (length opened.now)) (map labelled_seen labelled.items))) }
+) -> Result<Cut, AllocError>
+    ensures { IfOk result (λ cut. cut_seen cut ≡ fold (spec.with_labelled (setting_seen setting.now) opened.now) (spec.nothing_cut (length opened.now)) (map labelled_seen labelled.items)) }
 {
     let mut cut = Cut::new(alloc, opened.len())?;
     for command in labelled {
         cut.take(alloc, setting, opened, command)?;
     }
-    Ok(Plan {
+    Ok(cut)
+}
+
+/// The plan of labelled commands, each group with its commands in order, and the origins of these.
+pub fn plan_by_labels(
+    alloc: Global,
+    setting: &Setting<'_>,
+    opened: &OpenedNames,
+    labelled: Vec<LabelledCommand>,
+) -> Result<PlanWithOrigins, AllocError>
+    ensures { IfOk result (λ planned. planned ≡ spec.planned_of_cut (fold (spec.with_labelled (setting_seen setting.now) opened.now) (spec.nothing_cut (length opened.now)) (map labelled_seen labelled.items))) }
+{
+    let cut = cut_of(alloc, setting, opened, labelled)?;
+    let origins = in_plan_order(alloc, cut.origins.as_slice())?;
+    let plan = Plan {
         groups: Groups::from_vec(cut.groups),
         dropped: DroppedCommands::from_vec(cut.dropped),
-    })
+    };
+    Ok(PlanWithOrigins { plan, origins })
 }

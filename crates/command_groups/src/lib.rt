@@ -8,7 +8,6 @@ mod labels;
 pub mod laws;
 mod merged_commands;
 mod openings;
-mod origins;
 mod plan;
 mod selection;
 mod setting;

@@ -1,6 +1,6 @@
 use Rattle.std.proofs.Common.{◌≡◌, ◌++◌, map, drop, vec_items}
 use Rattle.std.specs.List.{flat_map}
-use Rattle.command_groups.proofs.origins.in_plan_order.Given as goal
+use Rattle.command_groups.proofs.groups.in_plan_order.Given as goal
 
 abbrev pub invariant-loop-group : goal.invariant-loop-group
 invariant-loop-group l = l.origins.items ++ flat_map (λ group. group) (map vec_items (drop l.group-index l.groups)) ≡ flat_map (λ group. group) (map vec_items l.groups)

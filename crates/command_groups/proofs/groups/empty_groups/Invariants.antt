@@ -1,7 +1,7 @@
 use Rattle.std.proofs.Common.{◌≡◌, [], map}
 use Rattle.std.specs.Prelude.{replicate, vec_items}
-use Rattle.command_groups.proofs.origins.empty_groups.Given as goal
+use Rattle.command_groups.proofs.groups.empty_groups.Given as goal
 
 -- as many empty groups as steps were taken
 abbrev pub invariant-loop : goal.invariant-loop
-invariant-loop l = map vec_items l.groups.items ≡ replicate l.counter []
+invariant-loop g l = map vec_items l.groups.items ≡ replicate l.counter []

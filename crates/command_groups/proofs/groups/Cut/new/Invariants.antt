@@ -1,7 +1,0 @@
-use Rattle.std.proofs.Common.{◌≡◌, [], map}
-use Rattle.std.specs.Prelude.{replicate, vec_items}
-use Rattle.command_groups.proofs.groups.Cut.new.Given as goal
-
--- as many empty groups as steps were taken
-abbrev pub invariant-loop : goal.invariant-loop
-invariant-loop l = map vec_items l.groups.items ≡ replicate l.counter []

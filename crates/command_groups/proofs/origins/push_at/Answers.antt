@@ -1,5 +1,0 @@
-use Rattle.command_groups.proofs.PutLemmas.{put_seen}
-use Rattle.command_groups.proofs.origins.push_at.Goals as goal
-
-pub returns-clause-groups : goal.returns-clause-groups
-returns-clause-groups c = put_seen c.args.groups.now.items c.args.place c.push.new.self c.index_mut.result.now c.index_mut.result.now c.args.origin c.requires c.index_mut.ensures.value c.in_ok-push.ensures.items
