@@ -34,7 +34,9 @@ printf '%s\n' "$line" >> "$LOG"
 case $* in
 '--dryrun first' | '--dryrun second')
     echo 'an output of the dry run'
-    printf '#$ %s\n' ${FRONT:+"$FRONT"} 'cicc k.cpp1.ii -o k.ptx' >&2
+    line='cicc k.cpp1.ii -o k.ptx'
+    case $* in *second*) line=${SECOND_LINE-$line} ;; esac
+    printf '#$ %s\n' ${FRONT:+"$FRONT"} "$line" >&2
     [ -z "${HOST-}" ] || printf '#$ %s\n' "$HOST" >&2
     [ -z "${WARNING-}" ] || echo 'a warning of the normal form' >&2
     case $* in *first*) exit "${FIRST-0}" ;; *) exit "${SECOND-0}" ;; esac
@@ -206,6 +208,8 @@ plans() {
 
 cases() {
     local plain=(ZIGRUNK_EXPLAIN=1 NVCC_STATUS=5)
+    # what runs a command, whose script names the helper
+    local front='slot = run() { [ ! -p "$$1.answer" ] || { code=""; { printf "%s\n" "$$1" >&8 && read -r code; } <> "$$1.answer"; exit "$${code:-1}"; }; exec perl' back='"$$1"; }; run'
     local split="$room/tmp/zigrunk-$user/zigrunk-name"
 
     begin 'a call that is split'
@@ -216,7 +220,6 @@ cases() {
     cat > "$room/wanted" << END
 ninja [-f] [ROOM/tmp/zigrunk-$user/zigrunk-name/zigrunk.tmp/ninja]
 nvcc [--dryrun] [-o] [k.o] [a b.cu] []
-nvcc [--dryrun] [first]
 nvcc [--dryrun] [second]
 zigrunk [--limit] [268435456] [ninja] [--whole] [ROOM/work] [ROOM/tmp/zigrunk-$user/zigrunk-name] [-c] [ROOM/tmp/zigrunk-$user/zigrunk-name/zigrunk.tmp/dry1] [ROOM/tmp/zigrunk-$user/zigrunk-name/zigrunk.tmp/dry2]
 zigrunk [calls] [ROOM/work] [ROOM/tmp/zigrunk-$user/zigrunk-name] [nvcc] [-o] [k.o] [a b.cu] []
@@ -228,27 +231,27 @@ END
 
     begin 'the files that Ninja and zigrunk read'
     script NINJA_DOES='cat "$tmp/zigrunk.tmp/ninja" > "$LOG.ninja"; cat "$tmp/zigrunk.tmp/dry1" "$tmp/zigrunk.tmp/dry2" > "$LOG.dry"' -c k.cu -o k.o
-    same 'the file' "$(grep -v '^rule dep\|^build ' "$room/log.ninja")" "slot = exec perl ${script%/*}/zigrunk-slot '' ''"$'\nthe plan\n  command = ${slot} ${out}\n  rspfile = ${out}.sh\n  rspfile_content = sh ${in} && touch ${out}\nthe plan\nrule run\n  command = ${slot} ${out}\n  rspfile = ${out}.sh\n  rspfile_content = ${line}'
+    same 'the file' "$(grep -v '^rule dep\|^build ' "$room/log.ninja")" "$front ${script%/*}/zigrunk-slot '' '' $back"$'\nthe plan\n  command = ${slot} ${out}\n  rspfile = ${out}.sh\n  rspfile_content = sh ${in} && touch ${out}\nthe plan\nrule run\n  command = ${slot} ${out}\n  rspfile = ${out}.sh\n  rspfile_content = ${line}'
     same 'the dry runs' "$(cat "$room/log.dry")" $'#$ cicc k.cpp1.ii -o k.ptx\n#$ cicc k.cpp1.ii -o k.ptx'
     end
 
     begin 'the script by a relative path'
     as=../../../zigrunk-nvcc script NINJA_DOES='grep "^slot" "$tmp/zigrunk.tmp/ninja" > "$LOG.slot"' -c k.cu -o k.o
-    same 'the helper' "$(cat "$room/log.slot")" "slot = exec perl $room/work/../../../zigrunk-slot '' ''"
+    same 'the helper' "$(cat "$room/log.slot")" "$front $room/work/../../../zigrunk-slot '' '' $back"
     end
     begin 'the script in a directory with odd characters'
     mkdir "$room/a \$'d" && cp "$script" "$room/a \$'d" && ln -s "$scratch/zigrunk-slot" "$room/a \$'d"
     as="$room/a \$'d/zigrunk-nvcc" script NINJA_DOES='grep "^slot" "$tmp/zigrunk.tmp/ninja" > "$LOG.slot"' -c k.cu -o k.o
-    same 'the helper' "$(cat "$room/log.slot")" "slot = exec perl '$room/a \$\$'\\''d/zigrunk-slot' '' ''"
+    same 'the helper' "$(cat "$room/log.slot")" "$front '$room/a \$\$'\\''d/zigrunk-slot' '' '' $back"
     end
     begin 'the script by a link'
     ln -s "$script" "$room/link"
     as=$room/link script ZIGRUNK_RUNNER=env NINJA_DOES='grep "^slot" "$tmp/zigrunk.tmp/ninja" > "$LOG.slot"' -c k.cu -o k.o
-    same 'the helper, and no slot with a runner' "$(cat "$room/log.slot")" "slot = exec perl $scratch/zigrunk-slot '0' ''"
+    same 'the helper, and no slot with a runner' "$(cat "$room/log.slot")" "$front $scratch/zigrunk-slot '0' '' $back"
     end
     begin 'perl is missing'
     mkdir "$room/bin"
-    for tool in "${shell[0]}" cat cut find flock grep head id ls mkdir mktemp mv rm rmdir sed sh sort stat tail timeout touch tr wc xargs; do ln -s "$(command -v "$tool")" "$room/bin"; done
+    for tool in "${shell[0]}" awk cat chmod cut find flock grep head id ls mkdir mktemp mv rm rmdir sed sh sort stat tail timeout touch tr wc xargs; do ln -s "$(command -v "$tool")" "$room/bin"; done
     script PATH="$scratch/bin:$room/bin" ZIGRUNK_LOG="$room/calls.log" NINJA_DOES='grep "^slot" "$tmp/zigrunk.tmp/ninja" > "$LOG.slot"' -c k.cu -o k.o
     same 'status, messages and log' "$status$(cat "$room/err" "$room/calls.log" 2> /dev/null)" 0
     same 'what runs a command' "$(cat "$room/log.slot")" 'slot = trap : HUP INT TERM; run() { sh "$$1.sh" > "$$1.out" 2> "$$1.err" 9>&-; }; run'
@@ -468,7 +471,7 @@ END
         end
         begin 'no room for a directory'
         mkdir "$room/bin"
-        printf '%s\n' '#!/bin/sh' 'case $* in *zigrunk.tmp) exit 1 ;; esac' "exec $(command -v mkdir) \"\$@\"" > "$room/bin/mkdir"
+        printf '%s\n' '#!/bin/sh' 'case $* in *zigrunk.tmp*) exit 1 ;; esac' "exec $(command -v mkdir) \"\$@\"" > "$room/bin/mkdir"
         chmod +x "$room/bin/mkdir"
         script "${plain[@]}" PATH="$room/bin:$PATH" -c k.cu -o k.o
         by_nvcc 'no room for temporary files'
@@ -531,7 +534,7 @@ END
     installed cp
     script PATH="$room/bin:$PATH" ZIGRUNK_EXPLAIN=1 -c k.cu -o k.o
     same 'status and messages' "$status$(cat "$room/err")" 0
-    same 'dry runs, and calls of zigrunk' "$(grep -c '^nvcc .--dryrun' "$room/log") $(grep -c '^zigrunk' "$room/log")" '3 3'
+    same 'dry runs, and calls of zigrunk' "$(grep -c '^nvcc .--dryrun' "$room/log") $(grep -c '^zigrunk' "$room/log")" '2 3'
     end
     begin 'a wrapper of it is the nvcc'
     mkdir "$room/bin"
@@ -539,7 +542,7 @@ END
     for settings in "PATH=$room/bin:$PATH" "ZIGRUNK_NVCC=$room/bin/nvcc"; do
         script "$settings" -c k.cu -o k.o
         same "status with $settings" "$status$(cat "$room/err")" 0
-        same 'dry runs, and calls of zigrunk' "$(grep -c '^nvcc .--dryrun' "$room/log") $(grep -c '^zigrunk' "$room/log")" '3 3'
+        same 'dry runs, and calls of zigrunk' "$(grep -c '^nvcc .--dryrun' "$room/log") $(grep -c '^zigrunk' "$room/log")" '2 3'
         script "$settings" "${plain[@]}" REASON=why -o 'a b' ''
         by_nvcc 'zigrunk: why'
         same 'one call' "$(grep -v '^zigrunk' "$room/log")" 'nvcc [-o] [a b] []'
@@ -632,8 +635,27 @@ END
     same 'status and files' "$status$(ls)" 0
     end
     begin 'the first dry run fails'
-    script "${plain[@]}" FIRST=1 -c k.cu -o k.o
+    script "${plain[@]}" FIRST=1 SECOND_LINE=odd -c k.cu -o k.o
     by_nvcc 'a dry run fails'
+    end
+    begin 'the first dry run is the second one without the directory'
+    shows='cat "$tmp/zigrunk.tmp/dry1" > "$LOG.dry"'
+    script FIRST=1 OTHER='cicc "k.ii" --file=a,file=k.ptx' SECOND_LINE="cicc \"$split/k.ii\" --file=a,file=$split/k.ptx" NINJA_DOES="$shows" -c k.cu -o k.o
+    same 'status and messages' "$status$(cat "$room/err")" 0
+    same 'the dry run' "$(cat "$room/log.dry")" '#$ cicc "k.ii" --file=a,file=k.ptx'
+    end
+    for line in 'cicc \"-I$split/k.cpp1.ii -o k.ptx' 'cicc $split/k.cpp1.ii -o k.ptx' 'cicc \"${split}2/k.cpp1.ii -o k.ptx'; do
+        begin "nvcc makes the first dry run, since the second one has other lines: $line"
+        eval "line=\"$line\""
+        script SECOND_LINE="$line" NINJA_DOES="$shows" -c k.cu -o k.o
+        same 'status and messages' "$status$(cat "$room/err")" 0
+        holds calls "$room/log" 'nvcc [--dryrun] [first]'
+        same 'the dry run' "$(cat "$room/log.dry")" '#$ cicc k.cpp1.ii -o k.ptx'
+        end
+    done
+    begin 'nvcc makes the first dry run of a line that keeps files'
+    script KEEP_DIR="$room/work" -c k.cu -o k.o
+    holds calls "$room/log" 'nvcc [--dryrun] [first]'
     end
     begin 'the second dry run fails'
     script "${plain[@]}" SECOND=1 WARNING='a warning' -c k.cu -o k.o
@@ -809,7 +831,7 @@ END
     end
     begin 'a dependency file of what is preprocessed'
     preprocesses="echo 'rule x' && printf '%s\\n' 'build \${tmp}/zigrunk.0.0: run' '  line = ( a -E k.cu ) && touch b' 'build \${tmp}/zigrunk.0.1: run' '  line = ( cicc ) && touch b'"
-    script DEPENDENCIES=: HOST='some-gcc-12 -DA -E k.cu -o k.ii' PLAN_DOES="$preprocesses" NINJA_DOES='grep depended: "$2" > "$LOG.edge"; readlink "$tmp/zigrunk.tmp/host/"* > "$LOG.link"; ls "$tmp/zigrunk.tmp/host" >> "$LOG.link"' -c k.cu -o k.o
+    script DEPENDENCIES=: HOST='some-gcc-12 -DA -E k.cu -o k.ii' PLAN_DOES="$preprocesses" NINJA_DOES='grep depended: "$2" > "$LOG.edge"; sh "$tmp/zigrunk.tmp/dependencies"; cd "$tmp/zigrunk.tmp/host" && { readlink *; ls; } > "$LOG.link"' -c k.cu -o k.o
     same edge "$(cat "$room/log.edge")" 'build ${tmp}/zigrunk.tmp/depended: dependencies ${tmp}/zigrunk.tmp/dependencies | ${tmp}/zigrunk.0.0'
     same 'the host compiler' "$(cat "$room/log.link")" "${script%/*}/zigrunk-slot"$'\nsome-gcc-12'
     for host in '"/usr/bin"/gcc -DA -E k.cu -o k.ii' 'gcc -c k.cu'; do
@@ -820,12 +842,12 @@ END
     same 'edge without dependencies' "$(cat "$room/log.edge")" 'build ${tmp}/zigrunk.tmp/depended: dependencies ${tmp}/zigrunk.tmp/dependencies'
     end
     begin 'a dependency file of what a host compiler with a path has preprocessed'
-    shows='cat "$tmp/zigrunk.tmp/dependencies" > "$LOG.script"; grep depended: "$2" > "$LOG.edge"; ls "$tmp/zigrunk.tmp/host" > "$LOG.link"; :'
+    shows='cat "$tmp/zigrunk.tmp/dependencies" > "$LOG.script"; grep depended: "$2" > "$LOG.edge"; sh "$tmp/zigrunk.tmp/dependencies" 2> /dev/null; ls "$tmp/zigrunk.tmp/host" > "$LOG.link"; :'
     local by_path=(HOST='"/opt"/g++ -DA -E k.cu -o k.ii' PLAN_DOES="$preprocesses" NINJA_DOES="$shows")
     for words in '/opt/g++-12 "/opt"/g++-12' '/opt "/opt"/gcc'; do
         script "${by_path[@]}" DEPENDENCIES="( nvcc -ccbin ${words% *} -M -MF k.d )" HOST="${words#* } -DA -E k.cu -o k.ii" -c k.cu -o k.o
         host=${words##*/}
-        same 'the script' "$(cat "$room/log.script")" "export ZIGRUNK_HOST=/opt/$host"$'\n'"( nvcc -ccbin $split/zigrunk.tmp/host/$host -M -MF k.d )"
+        same 'the script' "$(cat "$room/log.script")" "ln -sf ${script%/*}/zigrunk-slot \"\${0%/*}/host/$host\"; export ZIGRUNK_HOST=/opt/$host"$'\n'"( nvcc -ccbin $split/zigrunk.tmp/host/$host -M -MF k.d )"
         same edge "$(cat "$room/log.edge")" 'build ${tmp}/zigrunk.tmp/depended: dependencies ${tmp}/zigrunk.tmp/dependencies | ${tmp}/zigrunk.0.0'
         same 'the host compiler' "$(cat "$room/log.link")" "$host"
     done
