@@ -259,6 +259,10 @@ programs | plan_exports/command | push_command | command.env_vars.as_slice().len
 programs | plan_exports/ninja | ninja_file | plan.groups.as_slice().len() > 50
 programs | plan_exports/ninja | ninja_file | long_body::has_large(plan.groups.as_slice(), 500)
 programs | plan_exports/ninja | ninja_file | plan.dropped.as_slice().len() > 500
+programs | plan_exports/scripts | ninja_file_of_scripts | plan.groups.as_slice().len() > 50
+programs | plan_exports/scripts | ninja_file_of_scripts | long_body::has_large(plan.groups.as_slice(), 500)
+programs | plan_exports/scripts | ninja_file_of_scripts | plan.dropped.as_slice().len() > 500
+programs | plan_exports/scripts | ninja_file_of_scripts | slot.len() > 50_000
 programs | plan_json/json | json_text | planned.plan.groups.as_slice().len() > 50
 programs | plan_json/json | json_text | long_body::has_large(planned.plan.groups.as_slice(), 500)
 programs | plan_json/json | json_text | planned.plan.dropped.as_slice().len() > 500

@@ -58,14 +58,14 @@ a log without perl
 old: log=${helper:+${ZIGRUNK_LOG-}}
 new: log=${ZIGRUNK_LOG-}
 blanks at the end of a line count
-old: s/ *$//
+old: ; sub(/ *$/, "") }
+new:  }
+a line that only the line's own dry run has doesn't count
+old: if (count[line] != 0)
+new: if (count[line] < 0)
+a directory goes wherever it is
+old: if (done !~ /["=]$/) done = done folder
 new: 
-the order of the dry run's lines counts
-old: ; p' "$1" 2> /dev/null | sort
-new: ; p' "$1" 2> /dev/null
-a directory's name is a pattern
-old: sed 's/[][\\.*^$,]/\\&/g; s/.*/
-new: sed 's/.*/
 a lock file that was removed is a lock
 old: [ "$base/$name.lock" -ef /proc/self/fd/9 ] && left_directory
 new: left_directory
@@ -73,14 +73,14 @@ slots with a runner
 old:     [ -z "${ZIGRUNK_RUNNER-}" ] || slots=0
 new: 
 without perl, what a command prints isn't kept
-old: sh "$$1.sh" > "$$1.out" 2>
-new: sh "$$1.sh" 2>
+old: sh "$1.sh" > "$1.out" 2>
+new: sh "$1.sh" 2>
 a dollar in a name is Ninja's
-old: s/.*/'&'/; s/\\$/\$\$/g
-new: s/.*/'&'/
+old: slot_words | sed 's/\$/$$/g'
+new: slot_words
 the helper's path isn't quoted
-old: "$(quoted "$helper")" "$slots"
-new: "$helper" "$slots"
+old: exec perl $(quoted "$helper")
+new: exec perl $helper
 mv without a file
 old:     [ "$#" -eq 0 ] || mv -f
 new:     mv -f
@@ -277,7 +277,7 @@ no directory is no matter
 old: || plain 'no temporary directory' "$@"
 new: || :
 there is no directory of the script's own
-old: mkdir "$own" 2> /dev/null || plain
+old: mkdir "$own" "$own/host" 2> /dev/null || plain
 new: : plain
 jobs come from the environment
 old: flag='' jobs=''
@@ -292,8 +292,8 @@ a missing keep directory is ignored
 old: [ -d "${keep_dir:-/}" ] ||
 new: true ||
 the dry runs may fail
-old: wait "$!" || plain 'a dry run fails' "$@"
-new: wait "$!"
+old:     plain 'a dry run fails' "$@"
+new:     :
 the second dry run may fail
 old: "$own/dry2" &
 new: "$own/dry2" || :
@@ -301,26 +301,38 @@ the line's own dry run may fail
 old: for_one_thread "$@" || exit 1
 new: for_one_thread "$@"
 the dry runs aren't waited for
-old: wait "$!" || plain
-new: true || plain
+old: wait "$!" || {
+new: true || {
 a dry run goes on after a signal
 old: trap '{ kill "$!"; wait; } 2> /dev/null; exit 143' TERM
 new: trap 'exit 143' TERM
 a line that nvcc reads otherwise is split
-old: reads_alike ||
-new: true ||
+old: > /dev/null || exit 2
+new: > /dev/null
+nvcc makes the first dry run always
+old: if [ -n "$keep_dir" ] || ! compared
+new: if true || ! compared
+nvcc never makes the first dry run of a line that keeps files
+old: if [ -n "$keep_dir" ] || ! compared
+new: if ! compared
+the second dry run keeps its directory
+old: FILENAME == ARGV[2] { $0 = bare($0, ENVIRON["ZIGRUNK_OF"]); print }
+new: FILENAME == ARGV[2] { print }
+a line counts once
+old: count[line] += FILENAME
+new: count[line] = FILENAME
 names of temporary files count
-old: s/"[^"]*tmpxft_[0-9a-f]*_[0-9a-f]*-[0-9]*_/"/g
+old: gsub(/"[^"]*tmpxft_[0-9a-f]*_[0-9a-f]*-[0-9]*_/, "\"")
 new: 
 the directory of kept files counts
-old: ${keep_dir:+"${keep_dir#"$PWD/"}"}
-new: 
+old: "${keep_dir:+"${keep_dir#"$PWD/"}/"}"
+new: ''
 how the dependency file is made counts
-old: ${dependencies:+/ -E /
-new: ${keep_dir:+/ -E /
+old: ENVIRON["ZIGRUNK_RULE"] != ""
+new: ENVIRON["ZIGRUNK_KEPT"] != ""
 no preprocessor counts if there is a dependency file
-old: /\\.cpp1\\.ii\"\$/!d;
-new: d;
+old:  && !/\.cpp1\.ii"$/ {
+new:  {
 a line with threads isn't tried again
 old:  || for_one_thread "$@" || exit 1
 new:  || exit 1
@@ -439,8 +451,8 @@ Ninja's file may be cut
 old: "$own/ninja" || plain 'no room for temporary files' "$@"
 new: "$own/ninja"
 the script's own directory may be missing
-old: mkdir "$own" 2> /dev/null || plain 'no room for temporary files' "$@"
-new: mkdir "$own" 2> /dev/null
+old: mkdir "$own" "$own/host" 2> /dev/null || plain 'no room for temporary files' "$@"
+new: mkdir "$own" "$own/host" 2> /dev/null
 the commands share TMPDIR
 old: TMPDIR=${scratch:-$own}
 new: TMPDIR=${scratch:-$TMPDIR}
@@ -463,17 +475,17 @@ a command's failure counts as Ninja's
 old: [ -n "$(find "$tmp" -name 'zigrunk.*.status')" ] ||
 new: 
 nvcc's warnings are lost
-old: sed '/^#\$ /d' "$own/warnings" >&2
+old: [ ! -s "$own/said" ] || cat "$own/said" >&2
 new: :
 nvcc's warnings are output
-old: "$own/warnings" >&2
-new: "$own/warnings"
+old: cat "$own/said" >&2
+new: cat "$own/said"
 nvcc's warnings are those of the normal form
-old: sed '/^#\$ /d' "$own/warnings"
-new: sed '/^#\$ /d' "$own/dry1"
+old: && FILENAME == ARGV[1] { print > ENVIRON
+new: { print > ENVIRON
 commands are dry-run lines
-old: sed '/^#\$ /d'
-new: sed '/^$/d'
+old: !/^#\$ / && FILENAME == ARGV[1] { print >
+new: FILENAME == ARGV[1] { print >
 groups in the order of texts
 old: -k 2,2n
 new: -k 2,2
@@ -481,7 +493,7 @@ commands in the order of texts
 old: -k 3,3n
 new: -k 3,3
 the order of files
-old:  | sort -t . -k 2,2n -k 3,3n
+old:  | sort -u -t . -k 2,2n -k 3,3n
 new: 
 outputs are lost
 old: cat "$stamp.out"
@@ -624,7 +636,7 @@ the words behind the number of jobs are part of it
 old:  && most=${most%%[!0-9]*}
 new: 
 Ninja goes on after the script was killed
-old: ${helper:+perl "$helper" --child-of "$$"}
+old: ${helper:+perl "$helper" --serve "$$" "$slots" "$make" "$tmp"}
 new: 
 the jobs of make are forgotten
 old:     *' -j'[1-9]*) most=
@@ -692,8 +704,74 @@ commands go on after Ninja was killed
 old: { syscall $prctl, $parent_death_signal, $numbers{TERM} }
 new: {}
 the status is lost
-old: exit $status;
-new: exit 0;
+old: answer($command[2], $status);
+new: answer($command[2], 0);
+the status is lost without a process that serves
+old: leave(perform(@ARGV));
+new: leave(0 * perform(@ARGV));
+shells ask where nobody reads
+old: fileno $shells, 8);
+new: fileno $shells, 7);
+commands go on after Ninja was killed, if it is a process alone
+old: kill 'TERM', keys %running if defined $status && $status & 127;
+new: 
+a command whose shell was killed goes on
+old:     kill 'TERM', keys %running;
+new: 
+nobody answers for a process that was killed
+old: answer(delete $running{$ended}, 1) if
+new: delete $running{$ended} if
+what a killed process has started goes on
+old: kill 'TERM', -$ended if $running{$ended} && $? & 127;
+new: 
+commands have the group of the call
+old:     setpgrp;
+new: 
+what a command prints is lost
+old:     keep($printed[0], "$out.out") && keep
+new:     keep
+the end of what a command prints is kept
+old:     sysseek $file, 0, 0;
+new: 
+the host's files come first in a rule
+old: (@devices, @host)
+new: (@host, @devices)
+a rule has a file twice
+old: grep { !/^</ && !$seen{$_}++ }
+new: grep { !/^</ }
+a rule has what is no file
+old: grep { !/^</ && !$seen{$_}++ }
+new: grep { !$seen{$_}++ }
+blanks in a rule
+old:     s/ /\\ /g for @files;
+new: 
+a rule in the form of any nvcc
+old: __CUDACC_VER_MAJOR__=1[123]
+new: __CUDACC_VER_MAJOR__=1.
+a rule of what is still written
+old:         return unless -e $stamp;
+new: 
+a rule of several files for the host
+old: return @host == 1 && @devices
+new: return @host && @devices
+a rule without device code
+old: return @host == 1 && @devices
+new: return @host == 1
+a rule of an -MP or -MD in front
+old:  || $words =~ / -M.* -M /
+new: 
+a rule goes to standard output
+old: $file =~ m{^/(?:dev|proc)/} ||
+new: 
+a rule of another source
+old: \Q$source\E
+new: [^"]*
+a rule has odd names
+old: || grep { !m{\A[A-Za-z0-9_./+ -]+\z} } @files
+new: 
+a job of make is lost
+old:     give_back();
+new: 
 other words are the same
 old: && $same eq $others
 new: 
@@ -817,16 +895,16 @@ a shell's command has a stamp
 old:     return $status unless $command;
 new: 
 nothing is made of what is preprocessed
-old:     preprocessed($call, @ARGV);
+old:     preprocessed($call, @words);
 new: 
 a split call has no line in the log
 old:     log_split(@ARGV);
 new: 
 a terminal's other end is closed
-old: run($out, $slave, $command) unless $child;
-new: run($out, undef, $command) unless $child;
+old: $slave || $printed[1]
+new: $printed[1]
 what goes to the terminal is lost
-old:     copy($master, $file);
+old:     copy($master, $printed[1]);
 new: 
 a token of make is not enough
 old:         return if sysread $pipe, $token, 1;

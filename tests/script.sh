@@ -34,7 +34,9 @@ printf '%s\n' "$line" >> "$LOG"
 case $* in
 '--dryrun first' | '--dryrun second')
     echo 'an output of the dry run'
-    printf '#$ %s\n' ${FRONT:+"$FRONT"} 'cicc k.cpp1.ii -o k.ptx' >&2
+    line='cicc k.cpp1.ii -o k.ptx'
+    case $* in *second*) line=${SECOND_LINE-$line} ;; esac
+    printf '#$ %s\n' ${FRONT:+"$FRONT"} "$line" >&2
     [ -z "${HOST-}" ] || printf '#$ %s\n' "$HOST" >&2
     [ -z "${WARNING-}" ] || echo 'a warning of the normal form' >&2
     case $* in *first*) exit "${FIRST-0}" ;; *) exit "${SECOND-0}" ;; esac
@@ -75,6 +77,12 @@ calls)
 ninja)
     eval "${PLAN_DOES-}"
     [ -z "${UNUSABLE-}" ] || { echo "zigrunk: $UNUSABLE" >&2; exit 1; }
+    slot=''
+    for word; do
+        [ "$slot" != next ] || slot=$word
+        [ "$word" != --slot ] || slot=next
+    done
+    [ -z "$slot" ] || printf '%s\n' 'tmp = there' "# stamps${STAMPS-}" "# preprocessor ${PREPROCESSOR-}" "slot = $slot"
     printf 'the plan\nrule run\n  command = ${line}\n'
     ;;
 esac
@@ -86,7 +94,7 @@ for word; do line="$line [$word]"; done
 printf '%s\n' "$line" >> "$LOG"
 tmp=${2%/zigrunk.tmp/ninja}
 echo 'Ninja says'
-command=$(sed -n 's/^  rspfile_content = \(sh .*\)/{ \1; } > ${out}.out/p' "$2")
+command='{ sh ${in} && touch ${out}; } > ${out}.out'
 export in="$tmp/zigrunk.tmp/dependencies" out="$tmp/zigrunk.tmp/depended"
 eval "${NINJA_DOES-}"
 exit "${NINJA_STATUS_IS-0}"
@@ -206,6 +214,8 @@ plans() {
 
 cases() {
     local plain=(ZIGRUNK_EXPLAIN=1 NVCC_STATUS=5)
+    # what runs a command, whose script names the helper
+    local front='slot = run() { [ ! -p "$1.answer" ] || { code=""; { printf "%s\n" "$1" >&8 && read -r code; } <> "$1.answer"; exit "${code:-1}"; }; exec perl' back='"$1"; }; run'
     local split="$room/tmp/zigrunk-$user/zigrunk-name"
 
     begin 'a call that is split'
@@ -216,9 +226,8 @@ cases() {
     cat > "$room/wanted" << END
 ninja [-f] [ROOM/tmp/zigrunk-$user/zigrunk-name/zigrunk.tmp/ninja]
 nvcc [--dryrun] [-o] [k.o] [a b.cu] []
-nvcc [--dryrun] [first]
 nvcc [--dryrun] [second]
-zigrunk [--limit] [268435456] [ninja] [--whole] [ROOM/work] [ROOM/tmp/zigrunk-$user/zigrunk-name] [-c] [ROOM/tmp/zigrunk-$user/zigrunk-name/zigrunk.tmp/dry1] [ROOM/tmp/zigrunk-$user/zigrunk-name/zigrunk.tmp/dry2]
+zigrunk [--limit] [268435456] [ninja] [--whole] [--slot] [${front#slot = } ${script%/*}/zigrunk-slot '' '' $back] [ROOM/work] [ROOM/tmp/zigrunk-$user/zigrunk-name] [-c] [ROOM/tmp/zigrunk-$user/zigrunk-name/zigrunk.tmp/dry1] [ROOM/tmp/zigrunk-$user/zigrunk-name/zigrunk.tmp/dry2]
 zigrunk [calls] [ROOM/work] [ROOM/tmp/zigrunk-$user/zigrunk-name] [nvcc] [-o] [k.o] [a b.cu] []
 zigrunk [directory] [ROOM/work] [nvcc] [-o] [k.o] [a b.cu] []
 END
@@ -228,30 +237,30 @@ END
 
     begin 'the files that Ninja and zigrunk read'
     script NINJA_DOES='cat "$tmp/zigrunk.tmp/ninja" > "$LOG.ninja"; cat "$tmp/zigrunk.tmp/dry1" "$tmp/zigrunk.tmp/dry2" > "$LOG.dry"' -c k.cu -o k.o
-    same 'the file' "$(grep -v '^rule dep\|^build ' "$room/log.ninja")" "slot = exec perl ${script%/*}/zigrunk-slot '' ''"$'\nthe plan\n  command = ${slot} ${out}\n  rspfile = ${out}.sh\n  rspfile_content = sh ${in} && touch ${out}\nthe plan\nrule run\n  command = ${slot} ${out}\n  rspfile = ${out}.sh\n  rspfile_content = ${line}'
+    same 'the file' "$(cat "$room/log.ninja")" $'tmp = there\n# stamps\n# preprocessor \n'"$front ${script%/*}/zigrunk-slot '' '' $back"$'\nthe plan\nrule run\n  command = ${line}'
     same 'the dry runs' "$(cat "$room/log.dry")" $'#$ cicc k.cpp1.ii -o k.ptx\n#$ cicc k.cpp1.ii -o k.ptx'
     end
 
     begin 'the script by a relative path'
     as=../../../zigrunk-nvcc script NINJA_DOES='grep "^slot" "$tmp/zigrunk.tmp/ninja" > "$LOG.slot"' -c k.cu -o k.o
-    same 'the helper' "$(cat "$room/log.slot")" "slot = exec perl $room/work/../../../zigrunk-slot '' ''"
+    same 'the helper' "$(cat "$room/log.slot")" "$front $room/work/../../../zigrunk-slot '' '' $back"
     end
     begin 'the script in a directory with odd characters'
     mkdir "$room/a \$'d" && cp "$script" "$room/a \$'d" && ln -s "$scratch/zigrunk-slot" "$room/a \$'d"
     as="$room/a \$'d/zigrunk-nvcc" script NINJA_DOES='grep "^slot" "$tmp/zigrunk.tmp/ninja" > "$LOG.slot"' -c k.cu -o k.o
-    same 'the helper' "$(cat "$room/log.slot")" "slot = exec perl '$room/a \$\$'\\''d/zigrunk-slot' '' ''"
+    same 'the helper' "$(cat "$room/log.slot")" "$front '$room/a \$'\\''d/zigrunk-slot' '' '' $back"
     end
     begin 'the script by a link'
     ln -s "$script" "$room/link"
     as=$room/link script ZIGRUNK_RUNNER=env NINJA_DOES='grep "^slot" "$tmp/zigrunk.tmp/ninja" > "$LOG.slot"' -c k.cu -o k.o
-    same 'the helper, and no slot with a runner' "$(cat "$room/log.slot")" "slot = exec perl $scratch/zigrunk-slot '0' ''"
+    same 'the helper, and no slot with a runner' "$(cat "$room/log.slot")" "$front $scratch/zigrunk-slot '0' '' $back"
     end
     begin 'perl is missing'
     mkdir "$room/bin"
-    for tool in "${shell[0]}" cat cut find flock grep head id ls mkdir mktemp mv rm rmdir sed sh sort stat tail timeout touch tr wc xargs; do ln -s "$(command -v "$tool")" "$room/bin"; done
+    for tool in "${shell[0]}" awk cat chmod cut find flock grep head id ls mkdir mktemp mv rm rmdir sed sh sort stat tail timeout touch tr wc xargs; do ln -s "$(command -v "$tool")" "$room/bin"; done
     script PATH="$scratch/bin:$room/bin" ZIGRUNK_LOG="$room/calls.log" NINJA_DOES='grep "^slot" "$tmp/zigrunk.tmp/ninja" > "$LOG.slot"' -c k.cu -o k.o
     same 'status, messages and log' "$status$(cat "$room/err" "$room/calls.log" 2> /dev/null)" 0
-    same 'what runs a command' "$(cat "$room/log.slot")" 'slot = trap : HUP INT TERM; run() { sh "$$1.sh" > "$$1.out" 2> "$$1.err" 9>&-; }; run'
+    same 'what runs a command' "$(cat "$room/log.slot")" 'slot = trap : HUP INT TERM; run() { sh "$1.sh" > "$1.out" 2> "$1.err" 9>&-; }; run'
     script PATH="$scratch/bin:$room/bin" ZIGRUNK_LOG="$room/calls.log" "${plain[@]}" REASON=why -c k.cu -o k.o
     by_nvcc 'zigrunk: why'
     end
@@ -283,11 +292,10 @@ END
     end
 
     begin 'a call in two steps'
-    script ZIGRUNK_PLAN="$room/plan" NINJA_DOES='echo no' WARNING='nvcc warns' -o k.o 'a b.cu'
+    script ZIGRUNK_PLAN="$room/plan" STAMPS=' ${tmp}/zigrunk.0.0 ${tmp}/zigrunk.1.2' DEPENDENCIES=: NINJA_DOES='echo no' WARNING='nvcc warns' -o k.o 'a b.cu'
     same 'status and output' "$status$(cat "$room/out" "$room/err")" 0
     same plan "$(cat "$room/plan")" "$split"
     same Ninja "$(grep -c '^ninja' "$room/log")" 0
-    printf '%s\n' 'build ${tmp}/zigrunk.0.0: run' 'build ${tmp}/zigrunk.1.2: run' >> "$split/zigrunk.tmp/ninja"
     touch "$split/zigrunk.0.0" "$split/zigrunk.1.2" "$split/zigrunk.tmp/depended"
     echo said > "$split/zigrunk.0.0.out" && : > "$split/zigrunk.0.0.err"
     script ZIGRUNK_PLAN="$room/plan" -o k.o 'a b.cu'
@@ -296,17 +304,22 @@ END
     leaves_nothing
     end
     begin 'a call in two steps whose command fails'
-    script ZIGRUNK_PLAN="$room/plan" -c k.cu -o k.o
-    echo 'build ${tmp}/zigrunk.0.0: run' >> "$split/zigrunk.tmp/ninja"
-    touch "$split/zigrunk.tmp/depended" && echo bad > "$split/zigrunk.0.0.err" && echo 6 > "$split/zigrunk.0.0.status"
+    script ZIGRUNK_PLAN="$room/plan" STAMPS=' ${tmp}/zigrunk.0.0' -c k.cu -o k.o
+    echo bad > "$split/zigrunk.0.0.err" && echo 6 > "$split/zigrunk.0.0.status"
     script "${plain[@]}" ZIGRUNK_PLAN="$room/plan" -c k.cu -o k.o
     same 'status and output' "$status$(cat "$room/out" "$room/err")" 6bad
     leaves_nothing
     end
     begin 'a call in two steps, and Ninja fails between them'
-    script ZIGRUNK_PLAN="$room/plan" -c k.cu -o k.o
-    echo 'build ${tmp}/zigrunk.0.0: run' >> "$split/zigrunk.tmp/ninja"
-    touch "$split/zigrunk.tmp/depended"
+    for made in zigrunk.0.0 zigrunk.1.0; do
+        script ZIGRUNK_PLAN="$room/plan" STAMPS=' ${tmp}/zigrunk.0.0 ${tmp}/zigrunk.1.0' -c k.cu -o k.o
+        touch "$split/$made"
+        script "${plain[@]}" ZIGRUNK_PLAN="$room/plan" -c k.cu -o k.o
+        by_nvcc 'Ninja fails'
+        rm "$room/plan"
+    done
+    script ZIGRUNK_PLAN="$room/plan" STAMPS=' ${tmp}/zigrunk.0.0' DEPENDENCIES='( exit 4 )' -c k.cu -o k.o
+    touch "$split/zigrunk.0.0"
     script "${plain[@]}" ZIGRUNK_PLAN="$room/plan" -c k.cu -o k.o
     by_nvcc 'Ninja fails'
     end
@@ -468,7 +481,7 @@ END
         end
         begin 'no room for a directory'
         mkdir "$room/bin"
-        printf '%s\n' '#!/bin/sh' 'case $* in *zigrunk.tmp) exit 1 ;; esac' "exec $(command -v mkdir) \"\$@\"" > "$room/bin/mkdir"
+        printf '%s\n' '#!/bin/sh' 'case $* in *zigrunk.tmp*) exit 1 ;; esac' "exec $(command -v mkdir) \"\$@\"" > "$room/bin/mkdir"
         chmod +x "$room/bin/mkdir"
         script "${plain[@]}" PATH="$room/bin:$PATH" -c k.cu -o k.o
         by_nvcc 'no room for temporary files'
@@ -531,7 +544,7 @@ END
     installed cp
     script PATH="$room/bin:$PATH" ZIGRUNK_EXPLAIN=1 -c k.cu -o k.o
     same 'status and messages' "$status$(cat "$room/err")" 0
-    same 'dry runs, and calls of zigrunk' "$(grep -c '^nvcc .--dryrun' "$room/log") $(grep -c '^zigrunk' "$room/log")" '3 3'
+    same 'dry runs, and calls of zigrunk' "$(grep -c '^nvcc .--dryrun' "$room/log") $(grep -c '^zigrunk' "$room/log")" '2 3'
     end
     begin 'a wrapper of it is the nvcc'
     mkdir "$room/bin"
@@ -539,7 +552,7 @@ END
     for settings in "PATH=$room/bin:$PATH" "ZIGRUNK_NVCC=$room/bin/nvcc"; do
         script "$settings" -c k.cu -o k.o
         same "status with $settings" "$status$(cat "$room/err")" 0
-        same 'dry runs, and calls of zigrunk' "$(grep -c '^nvcc .--dryrun' "$room/log") $(grep -c '^zigrunk' "$room/log")" '3 3'
+        same 'dry runs, and calls of zigrunk' "$(grep -c '^nvcc .--dryrun' "$room/log") $(grep -c '^zigrunk' "$room/log")" '2 3'
         script "$settings" "${plain[@]}" REASON=why -o 'a b' ''
         by_nvcc 'zigrunk: why'
         same 'one call' "$(grep -v '^zigrunk' "$room/log")" 'nvcc [-o] [a b] []'
@@ -632,8 +645,27 @@ END
     same 'status and files' "$status$(ls)" 0
     end
     begin 'the first dry run fails'
-    script "${plain[@]}" FIRST=1 -c k.cu -o k.o
+    script "${plain[@]}" FIRST=1 SECOND_LINE=odd -c k.cu -o k.o
     by_nvcc 'a dry run fails'
+    end
+    begin 'the first dry run is the second one without the directory'
+    shows='cat "$tmp/zigrunk.tmp/dry1" > "$LOG.dry"'
+    script FIRST=1 OTHER='cicc "k.ii" --file=a,file=k.ptx' SECOND_LINE="cicc \"$split/k.ii\" --file=a,file=$split/k.ptx" NINJA_DOES="$shows" -c k.cu -o k.o
+    same 'status and messages' "$status$(cat "$room/err")" 0
+    same 'the dry run' "$(cat "$room/log.dry")" '#$ cicc "k.ii" --file=a,file=k.ptx'
+    end
+    for line in 'cicc \"-I$split/k.cpp1.ii -o k.ptx' 'cicc $split/k.cpp1.ii -o k.ptx' 'cicc \"${split}2/k.cpp1.ii -o k.ptx'; do
+        begin "nvcc makes the first dry run, since the second one has other lines: $line"
+        eval "line=\"$line\""
+        script SECOND_LINE="$line" NINJA_DOES="$shows" -c k.cu -o k.o
+        same 'status and messages' "$status$(cat "$room/err")" 0
+        holds calls "$room/log" 'nvcc [--dryrun] [first]'
+        same 'the dry run' "$(cat "$room/log.dry")" '#$ cicc k.cpp1.ii -o k.ptx'
+        end
+    done
+    begin 'nvcc makes the first dry run of a line that keeps files'
+    script KEEP_DIR="$room/work" -c k.cu -o k.o
+    holds calls "$room/log" 'nvcc [--dryrun] [first]'
     end
     begin 'the second dry run fails'
     script "${plain[@]}" SECOND=1 WARNING='a warning' -c k.cu -o k.o
@@ -711,7 +743,7 @@ END
     by_nvcc 'ninja: fatal: no'
     end
     begin 'no room for the file of Ninja'
-    script "${plain[@]}" PLAN_DOES="mkdir '$split/zigrunk.tmp/ninja'" -c k.cu -o k.o
+    script "${plain[@]}" CALLS_DO="mkdir '$split/zigrunk.tmp/ninja'" -c k.cu -o k.o
     by_nvcc 'no room for temporary files'
     end
 
@@ -779,7 +811,7 @@ END
     same status "$status" 0
     same output "$(cat "$room/out" "$room/err")" ''
     same 'files kept' "$(LC_ALL=C ls -A "$room/a dir")" $'.k\nk 1.ii\nsub\nzigrunk.ptx'
-    holds calls "$room/log" "zigrunk [--limit] [268435456] [ninja] [--keep] [--whole] [$room/work] [$split] [-c] [$split/zigrunk.tmp/dry1] [$split/zigrunk.tmp/dry2]"
+    holds calls "$room/log" "zigrunk [--limit] [268435456] [ninja] [--keep] [--whole] [--slot] [${front#slot = } ${script%/*}/zigrunk-slot '' '' $back] [$room/work] [$split] [-c] [$split/zigrunk.tmp/dry1] [$split/zigrunk.tmp/dry2]"
     leaves_nothing
     end
     begin 'files that are kept in place of older ones'
@@ -808,27 +840,30 @@ END
     same 'status and output' "$status $(cat "$room/out" "$room/err")" $'0 rule\nsaid'
     end
     begin 'a dependency file of what is preprocessed'
-    preprocesses="echo 'rule x' && printf '%s\\n' 'build \${tmp}/zigrunk.0.0: run' '  line = ( a -E k.cu ) && touch b' 'build \${tmp}/zigrunk.0.1: run' '  line = ( cicc ) && touch b'"
-    script DEPENDENCIES=: HOST='some-gcc-12 -DA -E k.cu -o k.ii' PLAN_DOES="$preprocesses" NINJA_DOES='grep depended: "$2" > "$LOG.edge"; readlink "$tmp/zigrunk.tmp/host/"* > "$LOG.link"; ls "$tmp/zigrunk.tmp/host" >> "$LOG.link"' -c k.cu -o k.o
-    same edge "$(cat "$room/log.edge")" 'build ${tmp}/zigrunk.tmp/depended: dependencies ${tmp}/zigrunk.tmp/dependencies | ${tmp}/zigrunk.0.0'
+    script DEPENDENCIES=: PREPROCESSOR=/opt/some-gcc-12 NINJA_DOES='sh "$tmp/zigrunk.tmp/dependencies"; cd "$tmp/zigrunk.tmp/host" && { readlink *; ls; } > "$LOG.link"' -c k.cu -o k.o
     same 'the host compiler' "$(cat "$room/log.link")" "${script%/*}/zigrunk-slot"$'\nsome-gcc-12'
-    for host in '"/usr/bin"/gcc -DA -E k.cu -o k.ii' 'gcc -c k.cu'; do
-        script DEPENDENCIES=: HOST="$host" PLAN_DOES="$preprocesses" NINJA_DOES='grep depended: "$2" > "$LOG.edge"' -c k.cu -o k.o
-        same edge "$(cat "$room/log.edge")" 'build ${tmp}/zigrunk.tmp/depended: dependencies ${tmp}/zigrunk.tmp/dependencies'
-    done
-    script HOST='gcc -DA -E k.cu -o k.ii' PLAN_DOES="$preprocesses" NINJA_DOES='grep depended: "$2" > "$LOG.edge"' -c k.cu -o k.o
-    same 'edge without dependencies' "$(cat "$room/log.edge")" 'build ${tmp}/zigrunk.tmp/depended: dependencies ${tmp}/zigrunk.tmp/dependencies'
+    same 'the option' "$(grep -c -- '\[--slot\] .* \[--dependencies\] ' "$room/log")" 1
+    script DEPENDENCIES=: NINJA_DOES='cat "$tmp/zigrunk.tmp/dependencies" > "$LOG.script"' -c k.cu -o k.o
+    same 'the script without a preprocessor' "$(cat "$room/log.script")" $'\n:'
     end
     begin 'a dependency file of what a host compiler with a path has preprocessed'
-    shows='cat "$tmp/zigrunk.tmp/dependencies" > "$LOG.script"; grep depended: "$2" > "$LOG.edge"; ls "$tmp/zigrunk.tmp/host" > "$LOG.link"; :'
-    local by_path=(HOST='"/opt"/g++ -DA -E k.cu -o k.ii' PLAN_DOES="$preprocesses" NINJA_DOES="$shows")
-    for words in '/opt/g++-12 "/opt"/g++-12' '/opt "/opt"/gcc'; do
-        script "${by_path[@]}" DEPENDENCIES="( nvcc -ccbin ${words% *} -M -MF k.d )" HOST="${words#* } -DA -E k.cu -o k.ii" -c k.cu -o k.o
+    shows='cat "$tmp/zigrunk.tmp/dependencies" > "$LOG.script"; sh "$tmp/zigrunk.tmp/dependencies" 2> /dev/null; ls "$tmp/zigrunk.tmp/host" > "$LOG.link"; :'
+    local by_path=(PREPROCESSOR=/opt/g++ NINJA_DOES="$shows")
+    for words in '/opt/g++-12 /opt/g++-12' '/opt /opt/gcc'; do
+        script "${by_path[@]}" DEPENDENCIES="( nvcc -ccbin ${words% *} -M -MF k.d )" PREPROCESSOR="${words#* }" -c k.cu -o k.o
         host=${words##*/}
-        same 'the script' "$(cat "$room/log.script")" "export ZIGRUNK_HOST=/opt/$host"$'\n'"( nvcc -ccbin $split/zigrunk.tmp/host/$host -M -MF k.d )"
-        same edge "$(cat "$room/log.edge")" 'build ${tmp}/zigrunk.tmp/depended: dependencies ${tmp}/zigrunk.tmp/dependencies | ${tmp}/zigrunk.0.0'
+        same 'the script' "$(cat "$room/log.script")" "ln -sf ${script%/*}/zigrunk-slot \"\${0%/*}/host/$host\"; export ZIGRUNK_HOST=/opt/$host"$'\n'"( nvcc -ccbin $split/zigrunk.tmp/host/$host -M -MF k.d )"
         same 'the host compiler' "$(cat "$room/log.link")" "$host"
     done
+    local by_name="ln -sf ${script%/*}/zigrunk-slot \"\${0%/*}/host/g++\"; PATH=\${0%/*}/host:\$PATH"
+    for words in NVCC_CCBIN= NVCC_CCBIN=g++; do
+        script "${by_path[@]}" "$words" DEPENDENCIES='( nvcc -M )' -c k.cu -o k.o
+        same "by PATH with $words" "$(cat "$room/log.script")" "$by_name"$'\n( nvcc -M )'
+    done
+    script "${by_path[@]}" DEPENDENCIES='( nvcc -ccbin g++ -M )' -c k.cu -o k.o
+    same 'a name' "$(cat "$room/log.script")" "$by_name"$'\n( nvcc -ccbin g++ -M )'
+    script "${by_path[@]}" NVCC_CCBIN=/a/g++ DEPENDENCIES='( nvcc -M )' -c k.cu -o k.o
+    same 'a path of the environment alone' "$(cat "$room/log.script")" $'\n( nvcc -M )'
     script "${by_path[@]}" NVCC_CCBIN=/opt/g++ DEPENDENCIES='( nvcc -ccbin /opt/g++ -M )' -c k.cu -o k.o
     same 'a path of the environment' "$(sed 1d "$room/log.script")" '( nvcc -ccbin /opt/g++ -M )'
     script "${by_path[@]}" DEPENDENCIES='( nvcc -ccbin /a -ccbin /opt/g++ -M )' -c k.cu -o k.o
@@ -870,21 +905,16 @@ END
     script FRONT='cudafe++ k.cpp4.ii' NINJA_DOES="$fails" NINJA_STATUS_IS=1 -c k.cu -o k.o
     same 'status with cudafe++ first' "$status$(cat "$room/err")" 6bad
     end
-    begin 'the first line of a plan, and the last command, which waits for the dependency file'
-    local last='build ${tmp}/zigrunk.1.0: run ${tmp}/zigrunk.0.0'
-    script PLAN_DOES="printf '%s\\n' 'tmp = /a\\b' 'build \${tmp}/zigrunk.0.0: run' '  line = build' '$last' '  line = last'; exit" \
-        NINJA_DOES='sed -n "2p; /zigrunk.0.0/,\$p" "$2" > "$LOG.edges"' -c k.cu -o k.o
-    same edges "$(cat "$room/log.edges")" 'tmp = /a\b'$'\n''build ${tmp}/zigrunk.0.0: run'$'\n  line = build\n'"$last || "'${tmp}/zigrunk.tmp/depended'$'\n  line = last'
-    end
     begin 'a dependency file that fails'
     script "${plain[@]}" DEPENDENCIES='( exit 4 )' NINJA_DOES='sh -c "$command" || { echo "ninja: build stopped"; exit 1; }' -c k.cu -o k.o
     by_nvcc 'ninja: build stopped'
     end
     begin 'no dependency file'
-    script NINJA_DOES='sh -c "$command" || exit 1; ls "$out" || exit 1; grep -c "^build \${tmp}/zigrunk.tmp/depended: dependencies \${tmp}/zigrunk.tmp/dependencies$" "$tmp/zigrunk.tmp/ninja" > "$LOG.count"' -c k.cu -o k.o
-    same status "$status" 0
-    same 'files' "$(ls -A)" ''
-    same edges "$(cat "$room/log.count")" 1
+    script NINJA_DOES='ls "$tmp/zigrunk.tmp/dependencies" 2> /dev/null' -c k.cu -o k.o
+    same 'status and files' "$status$(cat "$room/out" "$room/err")$(ls -A)" 0
+    lacks calls "$room/log" '[--dependencies]'
+    script NINJA_DOES='echo bad > "$tmp/zigrunk.0.1.err"; echo 6 > "$tmp/zigrunk.0.1.status"' NINJA_STATUS_IS=1 -c k.cu -o k.o
+    same 'a failure' "$status$(cat "$room/out" "$room/err")" 6bad
     end
 
     for signal in HUP:129 INT:130 TERM:143; do

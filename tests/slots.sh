@@ -122,7 +122,9 @@ alike() {
             env --default-signal=INT "${@:4}" OF=env perl "${script%/*}/zigrunk-slot" 0 '' "$room/commands/it" > "$room/said" 2>&1
         fi
         echo "$?" > "$room/commands/code"
-        parent=$(sed -n 's/^parent //p' "$room/commands/it.out")
+        parent=$(sed -n 's/^parent //p' "$room/commands/it.out" 2> /dev/null)
+        # what prints nothing may leave an empty file, or none
+        find "$room/commands" -name 'it.[oe]*' -empty -delete
         (cd "$room" && find 'a dir' commands -type f -exec grep -H -v '^parent ' {} + | LC_ALL=C sort) > "$room/$by"
         (cd "$room" && find 'a dir' commands | LC_ALL=C sort) >> "$room/$by"
     done
@@ -362,6 +364,121 @@ same 'its output' "$(rm k.ii && ZIGRUNK_HOST=$room/other/gcc gcc '-DA=b c' '-DB=
 export PATH=${PATH#"$call/zigrunk.tmp/host:$room/bin:"}
 end
 
+# made [WORD..]: makes the dependency file of the call, and prints who made it, if nvcc did, and the file. nvcc's words end in these.
+made() {
+    rm -f "$room"/work/*.d "$call/zigrunk.tmp/depended"{,.out}
+    printf '%s\n' 'PATH=${0%/*}/host:$PATH' "( unset NVCC_PREPEND_FLAGS NVCC_APPEND_FLAGS; cd $room/work && nvcc -c -x cu ${*:-k.cu -M -MF k.d -MT k.o} )" \
+        > "$call/zigrunk.tmp/dependencies"
+    printf '%s' 'sh zigrunk.tmp/dependencies && touch zigrunk.tmp/depended' > "$call/zigrunk.tmp/depended.sh"
+    (cd "$call" && perl "${script%/*}/zigrunk-slot" 0 '' "$call/zigrunk.tmp/depended") || echo "status $?"
+    cat "$call/zigrunk.tmp/depended.out" "$room"/work/*.d 2> /dev/null
+    [ -e "$call/zigrunk.tmp/depended" ] || echo 'no stamp'
+}
+
+# preprocesses NUMBER WORD..: a command of the call's plan, which has written x_NUMBER.ii.
+preprocesses() {
+    echo "  line = ( cd $room/work && env 'A=b' \$\${ZIGRUNK_RUNNER-} /usr/bin/gcc ${*:2} -o $call/x_$1.ii ) && touch $call/zigrunk.$1.0"
+}
+
+# plan_of COMMAND..: the call's plan has these commands, each of which preprocesses, and another one.
+plan_of() {
+    printf '%s\n' "$@" "  line = ( cd $call && env \$\${ZIGRUNK_RUNNER-} \$\${ZIGRUNK_LAUNCHER-} cicc x_1.ii -o x_1.ptx ) && touch $call/zigrunk.1.1" > "$call/zigrunk.tmp/ninja"
+}
+
+begin 'the rule of a dependency file'
+call=$room/call
+mkdir -p "$call/zigrunk.tmp/host" "$room/bin"
+printf '%s\n' '#!/bin/sh' 'echo "by nvcc: $*"' > "$room/bin/nvcc" && chmod +x "$room/bin/nvcc"
+export PATH="$room/bin:$PATH"
+marks() { printf '# 0 "k.cu"\n# 0 "<built-in>"\n# 1 "<command-line>" 1\n# 7 "made.y"\n'; for name; do printf 'int x;\n# 1 "%s" 1 3 4\n# 2 "k.cu" 2\n' "$name"; done; }
+marks a.h host.h > "$call/x_0.ii"
+marks a.h dev/b.h a.h 75.h > "$call/x_1.ii"
+marks a.h dev/b.h 80.h > "$call/x_2.ii"
+touch "$call/zigrunk.0.0" "$call/zigrunk.1.0" "$call/zigrunk.2.0"
+major=-D__CUDACC_VER_MAJOR__=13
+host=$(preprocesses 0 -E $major k.cu) one=$(preprocesses 1 -D__CUDA_ARCH__=750 -E $major k.cu) two=$(preprocesses 2 -D__CUDA_ARCH__=800 -E $major k.cu)
+nvcc="by nvcc: -c -x cu k.cu -M -MF k.d -MT k.o"
+plan_of "$host" "$one" "$two"
+same 'of three preprocessors' "$(made)" $'k.o : k.cu \\\n    a.h \\\n    dev/b.h \\\n    75.h \\\n    80.h \\\n    host.h'
+same 'of another target' "$(made k.cu -M -MF e.d -MT x/y)" $'x/y : k.cu \\\n    a.h \\\n    dev/b.h \\\n    75.h \\\n    80.h \\\n    host.h'
+for words in 'k.cu -M -MP -MF k.d -MT k.o' 'k.cu -MM -MF k.d -MT k.o' '-Xcompiler -MD k.cu -M -MF k.d -MT k.o' "k.cu -M -MF 'k d' -MT k.o" 'k.cu -M -MF k.d' \
+    'j.cu -M -MF k.d -MT k.o' 'k.cu -M -MF /dev/stdout -MT k.o' 'k.cu -M -MF missing/k.d -MT k.o' 'k.cu -M -MF k.d -MT $x'; do
+    same "nvcc makes that of $words" "$(made "$words")" "$(eval "set -- $words" && echo "by nvcc: -c -x cu $*")"
+done
+marks a.h 'a  b/c.h' > "$call/x_0.ii"
+same 'of a name with blanks' "$(made | tail -n 2)" $'    80.h \\\n    a\\ \\ b/c.h'
+for name in 'a$b.h' 'a\\\\b.h' 'a\\"b.h' 'ü.h' 'a:b.h' 'a#b.h'; do
+    marks "$name" > "$call/x_0.ii"
+    same "nvcc makes that of the name $name" "$(made)" "$nvcc"
+done
+marks > "$call/x_0.ii"
+rm "$call/zigrunk.2.0"
+same 'nvcc makes it if a preprocessor has not ended' "$(made)" "$nvcc"
+touch "$call/zigrunk.2.0"
+plan_of "$host" "$(preprocesses 1 -D__CUDA_ARCH__=750 -E -D__CUDACC_VER_MAJOR__=14 k.cu)"
+same 'nvcc makes it if it is another nvcc' "$(made)" "$nvcc"
+plan_of "$one" "$two"
+same 'nvcc makes it without host code' "$(made)" "$nvcc"
+plan_of "$host"
+same 'nvcc makes it without device code' "$(made)" "$nvcc"
+plan_of "$host" "$(preprocesses 1 -E $major k.cu)" "$two"
+same 'nvcc makes it with two preprocessors for the host' "$(made)" "$nvcc"
+plan_of "$host" "$(preprocesses 1 -D__CUDA_ARCH__=750 -E $major k.cu | sed 's/ -o / --output=/')"
+same 'nvcc makes it if an output is not to be seen' "$(made)" "$nvcc"
+plan_of "$host" "$one"
+marks > "$call/x_0.ii" && marks > "$call/x_1.ii"
+same 'nvcc makes it if there is no header' "$(made)" "$nvcc"
+export PATH=${PATH#"$room/bin:"}
+end
+
+begin 'commands served by one process' 0.2
+graph 1
+cat > command << 'END'
+at=$PPID
+while [ "$at" -gt 1 ]; do
+    case $(tr '\0' ' ' < "/proc/$at/cmdline") in *' --serve '*) server=$at ;; esac
+    at=$(cut -d ' ' -f 4 "/proc/$at/stat")
+done
+echo "$server"
+END
+ZIGRUNK_SLOTS=1 "$script" -c 1.cu -o 1.o > said 2>&1
+same 'commands, and processes that serve' "$(grep -c '^[0-9]' said) $(sort -u said | wc -l)" '4 1'
+end
+
+begin "a shell of Ninja's is killed" 30
+graph 1
+sed -i "s/^sleep.*/sh -c 'sleep 30; :' \"\$1\"/" command
+"$script" -c 1.cu -o 1.o > said 2>&1 &
+within 20 begins 1 || problems+='  no command begins'$'\n'
+server=$(pgrep -P "$!" perl)
+kill -KILL "$(pgrep -P "$(pgrep -x ninja -P "$server")")" || problems+='  there is no shell'$'\n'
+wait "$!"
+within 3 none_run || problems+='  its command goes on'$'\n'
+end
+
+begin 'a process that serves a command is killed' 30
+graph 1
+sed -i "s/^sleep.*/sh -c 'sleep 30; :' \"\$1\"/" command
+"$script" -c 1.cu -o 1.o > said 2>&1 &
+process=$!
+within 20 begins 1 || problems+='  no command begins'$'\n'
+server=$(pgrep -P "$process" perl)
+kill -KILL "$(pgrep -P "$server" perl)" || problems+='  there is no process'$'\n'
+within 5 none_run || problems+='  the call goes on'$'\n'
+kill "$process" 2> /dev/null
+wait "$process"
+end
+
+begin 'the process that serves all commands is killed' 30
+graph 1
+sed -i "s/^sleep.*/sh -c 'sleep 30; :' \"\$1\"/" command
+"$script" -c 1.cu -o 1.o > said 2>&1 &
+within 20 begins 1 || problems+='  no command begins'$'\n'
+kill -KILL "$(pgrep -P "$!" perl)" || problems+='  there is no process'$'\n'
+wait "$!"
+within 3 none_run || problems+='  its command goes on'$'\n'
+end
+
 begin 'the log of calls at once'
 graph 12
 export ZIGRUNK_LOG=$room/calls.log
@@ -512,7 +629,7 @@ begin 'Ninja is killed' 30
 graph 1
 "$script" -c 1.cu -o 1.o > said 2>&1 &
 within 20 begins 1 || problems+='  no command begins'$'\n'
-ninja=$(pgrep -x ninja -P "$!")
+ninja=$(pgrep -x ninja -P "$(pgrep -d , -P "$!")")
 kill -KILL "$ninja" || problems+='  there is no Ninja'$'\n'
 wait "$!"
 within 3 none_run || problems+='  its commands go on'$'\n'

@@ -1,5 +1,5 @@
 -- What is written for Ninja is read as the edges of the plan.
-use Rattle.std.proofs.Common.{ℕ, suc, ◌<◌, ◌+◌, List, [], ◌∷◌, ◌++◌, ◌≡◌, refl, sym, ap, ◌∙◌, subst, append_assoc, append-nil, map, length, drop, Bool, true, false, not, ◌&&◌, ◌==◌, eqb, eqb-true, eq-eqb, ne_eqb, Some, None, Result, Ok, Err, codes, encode_utf8_all, arith}
+use Rattle.std.proofs.Common.{ℕ, suc, ◌<◌, ◌+◌, List, [], ◌∷◌, ◌++◌, ◌≡◌, refl, sym, ap, ◌∙◌, subst, append_assoc, append-nil, map, length, drop, Bool, true, false, not, ◌&&◌, ◌==◌, eqb, eqb-true, eq-eqb, ne_eqb, Option, Some, None, Result, Ok, Err, codes, encode_utf8_all, arith}
 use Rattle.std.specs.List.{AllByRecursion, flat_map, list_all}
 use Rattle.std.specs.Option.{option_map}
 use Rattle.std.specs.Str.{IsUtf8, IsAscii, chars}
@@ -29,9 +29,10 @@ use Rattle.plan_exports.specs.CommandText.{assignment, env_words, command_text}
 use Rattle.plan_exports.specs.Judging.{holds, holds_text, holds_variables, holds_command, judged_command, judged_group, judged_groups, and_then}
 use Rattle.plan_exports.specs.Script.{unless_refused}
 use Rattle.plans.specs.Reasons.{reason_name}
-use Rattle.plan_exports.specs.Graph.{escaped_char, escaped, stamp, stamp_below, stamp_path, runner, touch, edge_command, edge_line, edge, places_in, places_from, plan_places, place_at, stamp_at, stamps_at, edges_from as written_edges, group_edges, comment, rule, head, graph, holds_dropped, judged_rest, ninja_answer}
+use Rattle.plan_exports.specs.Graph.{escaped_char, escaped, stamp, stamp_below, stamp_path, runner, touch, edge_command, edge_line, edge, places_in, places_from, plan_places, place_at, stamp_at, stamps_at, depended, waits, awaited, edges_from as written_edges, group_edges, comment, rule, head, graph, holds_dropped, judged_rest, ninja_answer}
+use Rattle.plan_exports.specs.Scripts.{stamps_of}
 use Rattle.plan_exports.specs.ReadBack.{IsOfTexts}
-use Rattle.plan_exports.specs.ReadGraph.{parts_at, behind, Edge, path_of, head_parts, head_behind, with_edge, edges_from, edges_in, edges_of_lines, edges_of, path_at, edge_at, edges_at, plan_edges, IsDroppedText}
+use Rattle.plan_exports.specs.ReadGraph.{parts_at, behind, Edge, path_of, head_parts, head_behind, with_edge, edges_from, edges_in, edges_of_lines, edges_of, path_at, place_path, awaited_paths, edge_at, edges_at, plan_commands, plan_edges, IsDroppedText}
 use Rattle.command_files.specs.Order.{needs_at}
 use Rattle.command_files.specs.PlanNeeds.{plan_needs}
 use Rattle.plan_exports.proofs.TextLemmas.{written_utf8}
@@ -39,7 +40,7 @@ use Rattle.plan_exports.proofs.ValueLemmas.{value_reads_back}
 
 -- ---- bytes that texts lack
 
-lacks-parts : (byte : ℕ) (front back : List ℕ) → lacks byte (front ++ back) ≡ true → (lacks byte front ≡ true) × (lacks byte back ≡ true)
+pub lacks-parts : (byte : ℕ) (front back : List ℕ) → lacks byte (front ++ back) ≡ true → (lacks byte front ≡ true) × (lacks byte back ≡ true)
 lacks-parts byte [] back h = (refl, h)
 lacks-parts byte (c ∷ front) back h =
     let parts = and_parts (not (eqb c byte)) (lacks byte (front ++ back)) h in
@@ -88,10 +89,10 @@ lacks-one c other = and_from (not (eqb c 10)) true (ap not other) refl
 -- ---- texts that stand on one line
 
 -- UTF-8 with no end of a line
-abbrev IsLine : List ℕ → Type 0
+abbrev pub IsLine : List ℕ → Type 0
 IsLine text = IsUtf8 text × (lacks 10 text ≡ true)
 
-line-append : (front back : List ℕ) → IsLine front → IsLine back → IsLine (front ++ back)
+pub line-append : (front back : List ℕ) → IsLine front → IsLine back → IsLine (front ++ back)
 line-append front back h k = (IsUtf8-append front back h.0 k.0, lacks-append 10 front back h.1 k.1)
 
 lacks-word : (word : List ℕ) → lacks 10 word ≡ true → lacks 10 (quoted_word word) ≡ true
@@ -116,10 +117,10 @@ all-utf8 : (words : List (List ℕ)) → AllByRecursion IsLine words → AllByRe
 all-utf8 [] are = tt
 all-utf8 (word ∷ words) are = (are.0.0, all-utf8 words are.1)
 
-line-written : (words : List (List ℕ)) → AllByRecursion IsLine words → IsLine (written words)
+pub line-written : (words : List (List ℕ)) → AllByRecursion IsLine words → IsLine (written words)
 line-written words are = (written_utf8 words (all-utf8 words are), lacks-encodes 10 (quoted (map chars words)) (omega arith) (lacks-quoted words are))
 
-line-escaped : (text : List ℕ) → IsLine text → lacks 10 (escaped text) ≡ true
+pub line-escaped : (text : List ℕ) → IsLine text → lacks 10 (escaped text) ≡ true
 line-escaped text is =
     lacks-encodes 10 (flat_map escaped_char (chars text)) (omega arith)
     (lacks-flat escaped_char (chars text)
@@ -160,7 +161,7 @@ lacks-stamp byte group place other nothing front dot =
     (lacks-append byte (numeral group) (codes "." ++ numeral place) (lacks-numeral byte group other nothing)
     (lacks-append byte (codes ".") (numeral place) dot (lacks-numeral byte place other nothing)))
 
-stamp-no_newline : (group place : ℕ) → lacks 10 (stamp_text group place) ≡ true
+pub stamp-no_newline : (group place : ℕ) → lacks 10 (stamp_text group place) ≡ true
 stamp-no_newline group place = lacks-stamp 10 group place (λ d small. ne_eqb (48 + d) 10 (λ e. omega arith)) refl refl refl
 
 stamp-no_blank : (group place : ℕ) → lacks 32 (stamp_text group place) ≡ true
@@ -185,7 +186,7 @@ line-path tmp group place is =
 
 -- ---- commands
 
-held-text : (text : List ℕ) → holds_text Ninja text ≡ true → lacks 10 text ≡ true
+pub held-text : (text : List ℕ) → holds_text Ninja text ≡ true → lacks 10 text ≡ true
 held-text [] h = refl
 held-text (c ∷ cs) h =
     let parts = and_parts (holds Ninja c) (list_all (holds Ninja) cs) h in
@@ -241,7 +242,7 @@ parts-onto byte (c ∷ front) text first parts h e =
     let both = and_parts (not (eqb c byte)) (lacks byte front) h in
     rw (not-true (eqb c byte) both.0, parts-onto byte front text first parts both.1 e) refl
 
-parts-past : (byte : ℕ) (part rest : List ℕ) → lacks byte part ≡ true → parts_at byte (part ++ byte ∷ rest) ≡ part ∷ parts_at byte rest
+pub parts-past : (byte : ℕ) (part rest : List ℕ) → lacks byte part ≡ true → parts_at byte (part ++ byte ∷ rest) ≡ part ∷ parts_at byte rest
 parts-past byte part rest h =
     let seam : parts_at byte (byte ∷ rest) ≡ [] ∷ parts_at byte rest = rw (eq-eqb byte byte refl) refl in
     parts-onto byte part (byte ∷ rest) [] (parts_at byte rest) h seam ∙ ap (λ p. p ∷ parts_at byte rest) (append-nil part)
@@ -251,181 +252,223 @@ parts-end byte part h = ap (parts_at byte) (sym (append-nil part)) ∙ parts-ont
 
 -- ---- needs
 
--- the stamp of the command with a number, as it stands behind a blank
-abbrev text_at : List (ℕ × ℕ) → ℕ → List ℕ
-text_at places n = stamp_text (place_at places n).0 (place_at places n).1
+-- what stands behind `: run` on an edge's first line, and the paths that Ninja reads there
+pub record IsNeeds (tmp text : List ℕ) (paths : List (List ℕ)) : Type 0 where
+  pub newline : lacks 10 text ≡ true
+  pub colon : lacks 58 text ≡ true
+  pub read : map (path_of tmp) (drop 1 (parts_at 32 text)) ≡ paths
 
-lacks-stamps : (byte : ℕ) (places : List (ℕ × ℕ)) (numbers : List ℕ) → ((group place : ℕ) → lacks byte (stamp_below group place) ≡ true) → lacks byte (stamps_at places numbers) ≡ true
-lacks-stamps byte places [] each = refl
-lacks-stamps byte places (n ∷ numbers) each =
-    lacks-append byte (stamp_at places n) (stamps_at places numbers) (each (place_at places n).0 (place_at places n).1) (lacks-stamps byte places numbers each)
+-- a stamp as it stands behind a blank, by its place
+abbrev place_text : ℕ × ℕ → List ℕ
+place_text p = stamp_text p.0 p.1
 
-parts-stamps : (places : List (ℕ × ℕ)) (numbers : List ℕ) → parts_at 32 (stamps_at places numbers) ≡ [] ∷ map (text_at places) numbers
-parts-stamps places [] = refl
-parts-stamps places (n ∷ numbers) =
-    ap (λ parts. [] ∷ parts)
-    (parts-onto 32 (text_at places n) (stamps_at places numbers) [] (map (text_at places) numbers) (stamp-no_blank (place_at places n).0 (place_at places n).1) (parts-stamps places numbers)
-    ∙ ap (λ t. t ∷ map (text_at places) numbers) (append-nil (text_at places n)))
+pub lacks-stamps : (byte : ℕ) (ps : List (ℕ × ℕ)) → ((group place : ℕ) → lacks byte (stamp_below group place) ≡ true) → lacks byte (stamps_of ps) ≡ true
+lacks-stamps byte [] each = refl
+lacks-stamps byte (p ∷ ps) each = lacks-append byte (stamp_below p.0 p.1) (stamps_of ps) (each p.0 p.1) (lacks-stamps byte ps each)
 
-paths-stamps : (tmp : List ℕ) (places : List (ℕ × ℕ)) (numbers : List ℕ) → map (path_of tmp) (map (text_at places) numbers) ≡ map (path_at tmp places) numbers
-paths-stamps tmp places [] = refl
-paths-stamps tmp places (n ∷ numbers) = ap (λ ps. path_at tmp places n ∷ ps) (paths-stamps tmp places numbers)
+-- stamps before a text that begins with a blank, or has none
+parts-stamps : (ps : List (ℕ × ℕ)) (tail : List ℕ) (more : List (List ℕ)) → parts_at 32 tail ≡ [] ∷ more → parts_at 32 (stamps_of ps ++ tail) ≡ [] ∷ (map place_text ps ++ more)
+parts-stamps [] tail more found = found
+parts-stamps (p ∷ ps) tail more found =
+    ap (parts_at 32) (append_assoc (stamp_below p.0 p.1) (stamps_of ps) tail)
+    ∙ ap (λ parts. [] ∷ parts)
+    (parts-onto 32 (place_text p) (stamps_of ps ++ tail) [] (map place_text ps ++ more) (stamp-no_blank p.0 p.1) (parts-stamps ps tail more found)
+    ∙ ap (λ t. t ∷ (map place_text ps ++ more)) (append-nil (place_text p)))
+
+paths-stamps : (tmp : List ℕ) (ps : List (ℕ × ℕ)) (more : List (List ℕ)) → map (path_of tmp) (map place_text ps ++ more) ≡ map (place_path tmp) ps ++ map (path_of tmp) more
+paths-stamps tmp [] more = refl
+paths-stamps tmp (p ∷ ps) more = ap (λ paths. place_path tmp p ∷ paths) (paths-stamps tmp ps more)
+
+needs-before : (tmp : List ℕ) (ps : List (ℕ × ℕ)) (tail : List ℕ) (more : List (List ℕ)) → lacks 10 tail ≡ true → lacks 58 tail ≡ true → parts_at 32 tail ≡ [] ∷ more →
+    IsNeeds tmp (stamps_of ps ++ tail) (map (place_path tmp) ps ++ map (path_of tmp) more)
+needs-before tmp ps tail more newline colon found = record {
+  newline = lacks-append 10 (stamps_of ps) tail (lacks-stamps 10 ps stamp-no_newline) newline;
+  colon = lacks-append 58 (stamps_of ps) tail (lacks-stamps 58 ps stamp-no_colon) colon;
+  read = ap (λ parts. map (path_of tmp) (drop 1 parts)) (parts-stamps ps tail more found) ∙ paths-stamps tmp ps more;
+}
+
+pub needs-stamps : (tmp : List ℕ) (ps : List (ℕ × ℕ)) → IsNeeds tmp (stamps_of ps) (map (place_path tmp) ps)
+needs-stamps tmp ps =
+    subst (λ paths. IsNeeds tmp (stamps_of ps) paths) (append-nil (map (place_path tmp) ps))
+    (subst (λ text. IsNeeds tmp text (map (place_path tmp) ps ++ [])) (append-nil (stamps_of ps)) (needs-before tmp ps [] [] refl refl refl))
+
+-- the same by the numbers of commands
+stamps-numbered : (places : List (ℕ × ℕ)) (numbers : List ℕ) → stamps_of (map (place_at places) numbers) ≡ stamps_at places numbers
+stamps-numbered places [] = refl
+stamps-numbered places (n ∷ numbers) = ap (λ t. stamp_at places n ++ t) (stamps-numbered places numbers)
+
+paths-numbered : (tmp : List ℕ) (places : List (ℕ × ℕ)) (numbers : List ℕ) → map (place_path tmp) (map (place_at places) numbers) ≡ map (path_at tmp places) numbers
+paths-numbered tmp places [] = refl
+paths-numbered tmp places (n ∷ numbers) = ap (λ paths. path_at tmp places n ∷ paths) (paths-numbered tmp places numbers)
+
+needs-awaited : (tmp : List ℕ) (wait : Bool) (places : List (ℕ × ℕ)) (numbers : List ℕ) → IsNeeds tmp (awaited wait places numbers) (awaited_paths wait tmp (map (path_at tmp places) numbers))
+needs-awaited tmp false places numbers =
+    subst (λ paths. IsNeeds tmp (stamps_at places numbers) paths) (paths-numbered tmp places numbers)
+    (subst (λ text. IsNeeds tmp text (map (place_path tmp) (map (place_at places) numbers))) (stamps-numbered places numbers) (needs-stamps tmp (map (place_at places) numbers)))
+needs-awaited tmp true places numbers =
+    let ps = map (place_at places) numbers in
+    let tail = codes " ${tmp}" ++ depended in
+    let file = tmp ++ depended in
+    subst (λ paths. IsNeeds tmp (stamps_at places numbers ++ tail) (paths ++ file ∷ [])) (paths-numbered tmp places numbers)
+    (subst (λ text. IsNeeds tmp (text ++ tail) (map (place_path tmp) ps ++ file ∷ [])) (stamps-numbered places numbers)
+    (needs-before tmp ps tail ((codes "${tmp}" ++ depended) ∷ []) refl refl refl))
 
 -- ---- edges
 
-abbrev build_line : ℕ → ℕ → List ℕ → List ℕ
-build_line group place needs = codes "build " ++ (stamp_text group place ++ (codes ": run" ++ needs))
+abbrev build_line : List ℕ → List ℕ → List ℕ
+build_line output needs = codes "build " ++ (output ++ (codes ": run" ++ needs))
 
 abbrev value_line : List ℕ → List ℕ
 value_line text = codes "  line = " ++ escaped text
 
-edge-lines : (tmp : List ℕ) (group place : ℕ) (needs : List ℕ) (c : NvccGeneratedSubcommand) (rest : List ℕ) →
-    edge tmp group place needs c ++ rest ≡ build_line group place needs ++ 10 ∷ (value_line (edge_command tmp group place c) ++ 10 ∷ rest)
-edge-lines tmp group place needs c rest =
-    let value = escaped (edge_command tmp group place c) in
-    let line = edge_line (edge_command tmp group place c) in
-    ap (λ t. codes "build" ++ t)
-    (append_assoc (stamp_below group place) (codes ": run" ++ (needs ++ line)) rest
-    ∙ ap (λ t. stamp_below group place ++ (codes ": run" ++ t)) (append_assoc needs line rest ∙ ap (λ t. needs ++ (codes "\n  line = " ++ t)) (append_assoc value (10 ∷ []) rest))
-    ∙ sym (append_assoc (stamp_below group place) (codes ": run" ++ needs) (10 ∷ (value_line (edge_command tmp group place c) ++ 10 ∷ rest))))
+-- the lines of an edge, before further ones
+edge-lines : (output needs text rest : List ℕ) → (codes "build " ++ (output ++ (codes ": run" ++ (needs ++ edge_line text)))) ++ rest ≡ build_line output needs ++ 10 ∷ (value_line text ++ 10 ∷ rest)
+edge-lines output needs text rest =
+    ap (λ t. codes "build " ++ t)
+    (append_assoc output (codes ": run" ++ (needs ++ edge_line text)) rest
+    ∙ ap (λ t. output ++ (codes ": run" ++ t)) (append_assoc needs (edge_line text) rest ∙ ap (λ t. needs ++ (codes "\n  line = " ++ t)) (append_assoc (escaped text) (10 ∷ []) rest))
+    ∙ sym (append_assoc output (codes ": run" ++ needs) (10 ∷ (value_line text ++ 10 ∷ rest))))
 
-head-read : (tmp : List ℕ) (places : List (ℕ × ℕ)) (group place : ℕ) (numbers : List ℕ) →
-    head_behind tmp (behind (codes "build ") (build_line group place (stamps_at places numbers))) ≡ Some (stamp_path tmp group place, map (path_at tmp places) numbers)
-head-read tmp places group place numbers =
-    let needs = codes " run" ++ stamps_at places numbers in
-    let no_colon : lacks 58 needs ≡ true = lacks-append 58 (codes " run") (stamps_at places numbers) refl (lacks-stamps 58 places numbers stamp-no_colon) in
-    ap (head_parts tmp) (parts-past 58 (stamp_text group place) needs (stamp-no_colon group place) ∙ ap (λ ps. stamp_text group place ∷ ps) (parts-end 58 needs no_colon))
-    ∙ ap (λ ps. option_map (λ n. (stamp_path tmp group place, n)) (Some (map (path_of tmp) (drop 1 ps)))) (parts-stamps places numbers)
-    ∙ ap (λ n. Some (stamp_path tmp group place, n)) (paths-stamps tmp places numbers)
+head-read : (tmp output needs : List ℕ) (paths : List (List ℕ)) → lacks 58 output ≡ true → IsNeeds tmp needs paths →
+    head_behind tmp (behind (codes "build ") (build_line output needs)) ≡ Some (path_of tmp output, paths)
+head-read tmp output needs paths plain are =
+    let behind_colon = codes " run" ++ needs in
+    let no_colon : lacks 58 behind_colon ≡ true = lacks-append 58 (codes " run") needs refl are.colon in
+    ap (head_parts tmp) (parts-past 58 output behind_colon plain ∙ ap (λ ps. output ∷ ps) (parts-end 58 behind_colon no_colon))
+    ∙ ap (λ ps. Some (path_of tmp output, ps)) are.read
 
--- the edge of a command by its place
-abbrev edge_of : List ℕ → List (ℕ × ℕ) → ℕ → ℕ → List ℕ → NvccGeneratedSubcommand → Edge
-edge_of tmp places group place numbers c = record {
-  output = stamp_path tmp group place;
-  needs = map (path_at tmp places) numbers;
-  command = edge_command tmp group place c;
-}
-
--- the edge of a command, before further lines
-edge-read : (tmp : List ℕ) (places : List (ℕ × ℕ)) (group place : ℕ) (numbers : List ℕ) (c : NvccGeneratedSubcommand) (rest : List ℕ) (es : List Edge) →
-    IsLine tmp → IsOfTexts c → holds_command Ninja c ≡ true → edges_from tmp None (parts_at 10 rest) ≡ Some es →
-    edges_from tmp None (parts_at 10 (edge tmp group place (stamps_at places numbers) c ++ rest)) ≡ Some (edge_of tmp places group place numbers c ∷ es)
-edge-read tmp places group place numbers c rest es is are h found =
-    let text = edge_command tmp group place c in
-    let line = line-edge tmp group place c is are h in
-    let needs = stamps_at places numbers in
-    let no_newline : lacks 10 (build_line group place needs) ≡ true =
-    lacks-append 10 (stamp_text group place) (codes ": run" ++ needs) (stamp-no_newline group place) (lacks-append 10 (codes ": run") needs refl (lacks-stamps 10 places numbers stamp-no_newline)) in
-    let head : List ℕ × List (List ℕ) = (stamp_path tmp group place, map (path_at tmp places) numbers) in
-    ap (λ t. edges_from tmp None (parts_at 10 t)) (edge-lines tmp group place needs c rest)
+-- an edge, before further lines
+pub any-edge-read : (tmp output needs text rest : List ℕ) (paths : List (List ℕ)) (es : List Edge) →
+    lacks 10 output ≡ true → lacks 58 output ≡ true → IsNeeds tmp needs paths → IsLine text → edges_from tmp None (parts_at 10 rest) ≡ Some es →
+    edges_from tmp None (parts_at 10 ((codes "build " ++ (output ++ (codes ": run" ++ (needs ++ edge_line text)))) ++ rest))
+    ≡ Some (record { output = path_of tmp output; needs = paths; command = text } ∷ es)
+any-edge-read tmp output needs text rest paths es newline colon are line found =
+    let no_newline : lacks 10 (build_line output needs) ≡ true = lacks-append 10 output (codes ": run" ++ needs) newline (lacks-append 10 (codes ": run") needs refl are.newline) in
+    let head : List ℕ × List (List ℕ) = (path_of tmp output, paths) in
+    ap (λ t. edges_from tmp None (parts_at 10 t)) (edge-lines output needs text rest)
     ∙ ap (edges_from tmp None)
-    (parts-past 10 (build_line group place needs) (value_line text ++ 10 ∷ rest) no_newline
-    ∙ ap (λ ls. build_line group place needs ∷ ls) (parts-past 10 (value_line text) rest (lacks-append 10 (codes "  line = ") (escaped text) refl (line-escaped text line))))
-    ∙ ap (λ o. edges_from tmp o (value_line text ∷ parts_at 10 rest)) (head-read tmp places group place numbers)
+    (parts-past 10 (build_line output needs) (value_line text ++ 10 ∷ rest) no_newline
+    ∙ ap (λ ls. build_line output needs ∷ ls) (parts-past 10 (value_line text) rest (lacks-append 10 (codes "  line = ") (escaped text) refl (line-escaped text line))))
+    ∙ ap (λ o. edges_from tmp o (value_line text ∷ parts_at 10 rest)) (head-read tmp output needs paths colon are)
     ∙ ap (λ o. with_edge head o (edges_from tmp None (parts_at 10 rest))) (value_reads_back text line.0)
     ∙ ap (with_edge head (Some text)) found
 
-held-command : (c : NvccGeneratedSubcommand) (b : Bool) → holds_command Ninja c ≡ b → judged_command Ninja c ≡ Ok tt → holds_command Ninja c ≡ true
+-- the edge of a command by its place
+abbrev edge_of : List ℕ → List (ℕ × ℕ) → ℕ → ℕ → Bool → List ℕ → NvccGeneratedSubcommand → Edge
+edge_of tmp places group place wait numbers c = record {
+  output = stamp_path tmp group place;
+  needs = awaited_paths wait tmp (map (path_at tmp places) numbers);
+  command = edge_command tmp group place c;
+}
+
+edge-read : (tmp : List ℕ) (places : List (ℕ × ℕ)) (group place : ℕ) (wait : Bool) (numbers : List ℕ) (c : NvccGeneratedSubcommand) (rest : List ℕ) (es : List Edge) →
+    IsLine tmp → IsOfTexts c → holds_command Ninja c ≡ true → edges_from tmp None (parts_at 10 rest) ≡ Some es →
+    edges_from tmp None (parts_at 10 (edge tmp group place (awaited wait places numbers) c ++ rest)) ≡ Some (edge_of tmp places group place wait numbers c ∷ es)
+edge-read tmp places group place wait numbers c rest es is are h found =
+    any-edge-read tmp (stamp_text group place) (awaited wait places numbers) (edge_command tmp group place c) rest (awaited_paths wait tmp (map (path_at tmp places) numbers)) es
+    (stamp-no_newline group place) (stamp-no_colon group place) (needs-awaited tmp wait places numbers) (line-edge tmp group place c is are h) found
+
+pub held-command : (c : NvccGeneratedSubcommand) (b : Bool) → holds_command Ninja c ≡ b → judged_command Ninja c ≡ Ok tt → holds_command Ninja c ≡ true
 held-command c true e h = e
 held-command c false e h =
     let bad : judged_command Ninja c ≡ Err Unheld = rw e refl in
     let both : Err Unheld ≡ Ok tt = sym bad ∙ h in
     absurd cc
 
-then-both : (one next : Result (Unit {0}) Refusal) → and_then one next ≡ Ok tt → (one ≡ Ok tt) × (next ≡ Ok tt)
+pub then-both : (one next : Result (Unit {0}) Refusal) → and_then one next ≡ Ok tt → (one ≡ Ok tt) × (next ≡ Ok tt)
 then-both (Ok tt) next h = (refl, h)
 then-both (Err refusal) next h = absurd cc
 
 -- the edges of a group's commands, and of groups, by their places
-abbrev group_edges_of : List ℕ → List (ℕ × ℕ) → ℕ → ℕ → List (List ℕ) → List NvccGeneratedSubcommand → List Edge
-group_edges_of tmp places group place needs [] = []
-group_edges_of tmp places group place needs (c ∷ commands) =
-    edge_of tmp places group place (needs_at needs place) c ∷ group_edges_of tmp places group (place + 1) needs commands
+abbrev group_edges_of : List ℕ → List (ℕ × ℕ) → Option (ℕ × ℕ) → ℕ → ℕ → List (List ℕ) → List NvccGeneratedSubcommand → List Edge
+group_edges_of tmp places last group place needs [] = []
+group_edges_of tmp places last group place needs (c ∷ commands) =
+    edge_of tmp places group place (waits last group place) (needs_at needs place) c ∷ group_edges_of tmp places last group (place + 1) needs commands
 
-abbrev all_edges_of : List ℕ → List (ℕ × ℕ) → ℕ → List (List ℕ) → List (List NvccGeneratedSubcommand) → List Edge
-all_edges_of tmp places group needs [] = []
-all_edges_of tmp places group needs (commands ∷ groups) =
-    group_edges_of tmp places group 0 needs commands ++ all_edges_of tmp places (group + 1) (drop (length commands) needs) groups
+abbrev all_edges_of : List ℕ → List (ℕ × ℕ) → Option (ℕ × ℕ) → ℕ → List (List ℕ) → List (List NvccGeneratedSubcommand) → List Edge
+all_edges_of tmp places last group needs [] = []
+all_edges_of tmp places last group needs (commands ∷ groups) =
+    group_edges_of tmp places last group 0 needs commands ++ all_edges_of tmp places last (group + 1) (drop (length commands) needs) groups
 
-group-read : (tmp : List ℕ) (places : List (ℕ × ℕ)) (group place : ℕ) (needs : List (List ℕ)) (commands : List NvccGeneratedSubcommand) (rest : List ℕ) (es : List Edge) →
+group-read : (tmp : List ℕ) (places : List (ℕ × ℕ)) (last : Option (ℕ × ℕ)) (group place : ℕ) (needs : List (List ℕ)) (commands : List NvccGeneratedSubcommand) (rest : List ℕ) (es : List Edge) →
     IsLine tmp → AllByRecursion IsOfTexts commands → judged_group Ninja commands ≡ Ok tt → edges_from tmp None (parts_at 10 rest) ≡ Some es →
-    edges_from tmp None (parts_at 10 (written_edges tmp places group place needs commands ++ rest)) ≡ Some (group_edges_of tmp places group place needs commands ++ es)
-group-read tmp places group place needs [] rest es is are h found = found
-group-read tmp places group place needs (c ∷ commands) rest es is are h found =
+    edges_from tmp None (parts_at 10 (written_edges tmp places last group place needs commands ++ rest)) ≡ Some (group_edges_of tmp places last group place needs commands ++ es)
+group-read tmp places last group place needs [] rest es is are h found = found
+group-read tmp places last group place needs (c ∷ commands) rest es is are h found =
     let judged = then-both (judged_command Ninja c) (judged_group Ninja commands) h in
     let numbers = needs_at needs place in
-    let more = written_edges tmp places group (place + 1) needs commands in
-    ap (λ t. edges_from tmp None (parts_at 10 t)) (append_assoc (edge tmp group place (stamps_at places numbers) c) more rest)
-    ∙ edge-read tmp places group place numbers c (more ++ rest) (group_edges_of tmp places group (place + 1) needs commands ++ es) is are.0 (held-command c (holds_command Ninja c) refl judged.0)
-    (group-read tmp places group (place + 1) needs commands rest es is are.1 judged.1 found)
+    let more = written_edges tmp places last group (place + 1) needs commands in
+    ap (λ t. edges_from tmp None (parts_at 10 t)) (append_assoc (edge tmp group place (awaited (waits last group place) places numbers) c) more rest)
+    ∙ edge-read tmp places group place (waits last group place) numbers c (more ++ rest) (group_edges_of tmp places last group (place + 1) needs commands ++ es) is are.0 (held-command c (holds_command Ninja c) refl judged.0)
+    (group-read tmp places last group (place + 1) needs commands rest es is are.1 judged.1 found)
 
-groups-read : (tmp : List ℕ) (places : List (ℕ × ℕ)) (group : ℕ) (needs : List (List ℕ)) (groups : List (List NvccGeneratedSubcommand)) (rest : List ℕ) (es : List Edge) →
+groups-read : (tmp : List ℕ) (places : List (ℕ × ℕ)) (last : Option (ℕ × ℕ)) (group : ℕ) (needs : List (List ℕ)) (groups : List (List NvccGeneratedSubcommand)) (rest : List ℕ) (es : List Edge) →
     IsLine tmp → AllByRecursion (AllByRecursion IsOfTexts) groups → judged_groups Ninja groups ≡ Ok tt → edges_from tmp None (parts_at 10 rest) ≡ Some es →
-    edges_from tmp None (parts_at 10 (group_edges tmp places group needs groups ++ rest)) ≡ Some (all_edges_of tmp places group needs groups ++ es)
-groups-read tmp places group needs [] rest es is are h found = found
-groups-read tmp places group needs (commands ∷ groups) rest es is are h found =
+    edges_from tmp None (parts_at 10 (group_edges tmp places last group needs groups ++ rest)) ≡ Some (all_edges_of tmp places last group needs groups ++ es)
+groups-read tmp places last group needs [] rest es is are h found = found
+groups-read tmp places last group needs (commands ∷ groups) rest es is are h found =
     let judged = then-both (judged_group Ninja commands) (judged_groups Ninja groups) h in
     let behind_these = drop (length commands) needs in
-    let more = group_edges tmp places (group + 1) behind_these groups in
-    let edges = all_edges_of tmp places (group + 1) behind_these groups in
-    ap (λ t. edges_from tmp None (parts_at 10 t)) (append_assoc (written_edges tmp places group 0 needs commands) more rest)
-    ∙ group-read tmp places group 0 needs commands (more ++ rest) (edges ++ es) is are.0 judged.0 (groups-read tmp places (group + 1) behind_these groups rest es is are.1 judged.1 found)
-    ∙ ap Some (sym (append_assoc (group_edges_of tmp places group 0 needs commands) edges es))
+    let more = group_edges tmp places last (group + 1) behind_these groups in
+    let edges = all_edges_of tmp places last (group + 1) behind_these groups in
+    ap (λ t. edges_from tmp None (parts_at 10 t)) (append_assoc (written_edges tmp places last group 0 needs commands) more rest)
+    ∙ group-read tmp places last group 0 needs commands (more ++ rest) (edges ++ es) is are.0 judged.0 (groups-read tmp places last (group + 1) behind_these groups rest es is are.1 judged.1 found)
+    ∙ ap Some (sym (append_assoc (group_edges_of tmp places last group 0 needs commands) edges es))
 
 -- ---- the same edges by the numbers of commands
 
 -- an edge of a command whose place and needs are those of its number
-edge-numbered : (tmp : List ℕ) (places : List (ℕ × ℕ)) (needs : List (List ℕ)) (group place n : ℕ) (numbers : List ℕ) (c : NvccGeneratedSubcommand) →
-    place_at places n ≡ (group, place) → numbers ≡ needs_at needs n → edge_of tmp places group place numbers c ≡ edge_at tmp places needs n c
-edge-numbered tmp places needs group place n numbers c at same =
-    ap (λ ns. edge_of tmp places group place ns c) same ∙ ap (λ p. edge_of tmp places p.0 p.1 (needs_at needs n) c) (sym at)
+edge-numbered : (tmp : List ℕ) (places : List (ℕ × ℕ)) (last : Option (ℕ × ℕ)) (needs : List (List ℕ)) (group place n : ℕ) (numbers : List ℕ) (c : NvccGeneratedSubcommand) →
+    place_at places n ≡ (group, place) → numbers ≡ needs_at needs n → edge_of tmp places group place (waits last group place) numbers c ≡ edge_at tmp places last needs n c
+edge-numbered tmp places last needs group place n numbers c at same =
+    ap (λ ns. edge_of tmp places group place (waits last group place) ns c) same ∙ ap (λ p. edge_of tmp places p.0 p.1 (waits last p.0 p.1) (needs_at needs n) c) (sym at)
 
-group-numbered : (tmp : List ℕ) (places : List (ℕ × ℕ)) (needs : List (List ℕ)) (group place n : ℕ) (commands : List NvccGeneratedSubcommand) (front more : List (ℕ × ℕ)) →
+group-numbered : (tmp : List ℕ) (places : List (ℕ × ℕ)) (last : Option (ℕ × ℕ)) (needs : List (List ℕ)) (group place n : ℕ) (commands : List NvccGeneratedSubcommand) (front more : List (ℕ × ℕ)) →
     places ≡ front ++ (places_in group place commands ++ more) → length front ≡ n + place →
-    group_edges_of tmp places group place (drop n needs) commands ≡ edges_at tmp places needs (n + place) commands
-group-numbered tmp places needs group place n [] front more are long = refl
-group-numbered tmp places needs group place n (c ∷ commands) front more are long =
+    group_edges_of tmp places last group place (drop n needs) commands ≡ edges_at tmp places last needs (n + place) commands
+group-numbered tmp places last needs group place n [] front more are long = refl
+group-numbered tmp places last needs group place n (c ∷ commands) front more are long =
     let later = places_in group (place + 1) commands ++ more in
     let at : place_at places (n + place) ≡ (group, place) = ap (λ ps. place_at ps (n + place)) are ∙ get_or_at front (group, place) later (0, 0) (n + place) long in
     let next : places ≡ (front ++ (group, place) ∷ []) ++ later = are ∙ sym (append_assoc front ((group, place) ∷ []) later) in
     let longer : length (front ++ (group, place) ∷ []) ≡ n + (place + 1) = length_push front (group, place) ∙ omega (arith, long) in
     let step : n + (place + 1) ≡ n + place + 1 = omega arith in
     cc (
-      edge-numbered tmp places needs group place (n + place) (needs_at (drop n needs) place) c at (get_or-drop n needs place []),
-      group-numbered tmp places needs group (place + 1) n commands (front ++ (group, place) ∷ []) more next longer
-          ∙ ap (λ m. edges_at tmp places needs m commands) step,
+      edge-numbered tmp places last needs group place (n + place) (needs_at (drop n needs) place) c at (get_or-drop n needs place []),
+      group-numbered tmp places last needs group (place + 1) n commands (front ++ (group, place) ∷ []) more next longer
+          ∙ ap (λ m. edges_at tmp places last needs m commands) step,
     )
 
-edges-append : (tmp : List ℕ) (places : List (ℕ × ℕ)) (needs : List (List ℕ)) (n : ℕ) (xs ys : List NvccGeneratedSubcommand) →
-    edges_at tmp places needs n (xs ++ ys) ≡ edges_at tmp places needs n xs ++ edges_at tmp places needs (n + length xs) ys
-edges-append tmp places needs n [] ys = ap (λ m. edges_at tmp places needs m ys) (omega arith)
-edges-append tmp places needs n (x ∷ xs) ys =
+edges-append : (tmp : List ℕ) (places : List (ℕ × ℕ)) (last : Option (ℕ × ℕ)) (needs : List (List ℕ)) (n : ℕ) (xs ys : List NvccGeneratedSubcommand) →
+    edges_at tmp places last needs n (xs ++ ys) ≡ edges_at tmp places last needs n xs ++ edges_at tmp places last needs (n + length xs) ys
+edges-append tmp places last needs n [] ys = ap (λ m. edges_at tmp places last needs m ys) (omega arith)
+edges-append tmp places last needs n (x ∷ xs) ys =
     let step : n + 1 + length xs ≡ n + length (x ∷ xs) = omega arith in
-    ap (λ es. edge_at tmp places needs n x ∷ es)
-    (edges-append tmp places needs (n + 1) xs ys ∙ ap (λ m. edges_at tmp places needs (n + 1) xs ++ edges_at tmp places needs m ys) step)
+    ap (λ es. edge_at tmp places last needs n x ∷ es)
+    (edges-append tmp places last needs (n + 1) xs ys ∙ ap (λ m. edges_at tmp places last needs (n + 1) xs ++ edges_at tmp places last needs m ys) step)
 
 length-places : (group place : ℕ) (commands : List NvccGeneratedSubcommand) → length (places_in group place commands) ≡ length commands
 length-places group place [] = refl
 length-places group place (c ∷ commands) = ap suc (length-places group (place + 1) commands)
 
-all-numbered : (tmp : List ℕ) (places : List (ℕ × ℕ)) (needs : List (List ℕ)) (group n : ℕ) (groups : List (List NvccGeneratedSubcommand)) (front : List (ℕ × ℕ)) →
+all-numbered : (tmp : List ℕ) (places : List (ℕ × ℕ)) (last : Option (ℕ × ℕ)) (needs : List (List ℕ)) (group n : ℕ) (groups : List (List NvccGeneratedSubcommand)) (front : List (ℕ × ℕ)) →
     places ≡ front ++ places_from group groups → length front ≡ n →
-    all_edges_of tmp places group (drop n needs) groups ≡ edges_at tmp places needs n (flat_map (λ commands. commands) groups)
-all-numbered tmp places needs group n [] front are long = refl
-all-numbered tmp places needs group n (commands ∷ groups) front are long =
+    all_edges_of tmp places last group (drop n needs) groups ≡ edges_at tmp places last needs n (flat_map (λ commands. commands) groups)
+all-numbered tmp places last needs group n [] front are long = refl
+all-numbered tmp places last needs group n (commands ∷ groups) front are long =
     let here = places_in group 0 commands in
     let later = places_from (group + 1) groups in
     let none : n + 0 ≡ n = omega arith in
-    let first : group_edges_of tmp places group 0 (drop n needs) commands ≡ edges_at tmp places needs n commands =
-    group-numbered tmp places needs group 0 n commands front later are (long ∙ sym none) ∙ ap (λ m. edges_at tmp places needs m commands) none in
+    let first : group_edges_of tmp places last group 0 (drop n needs) commands ≡ edges_at tmp places last needs n commands =
+    group-numbered tmp places last needs group 0 n commands front later are (long ∙ sym none) ∙ ap (λ m. edges_at tmp places last needs m commands) none in
     let next : places ≡ (front ++ here) ++ later = are ∙ sym (append_assoc front here later) in
     let longer : length (front ++ here) ≡ n + length commands = length-append front here ∙ omega (arith, long, length-places group 0 commands) in
-    let rest : all_edges_of tmp places (group + 1) (drop (length commands) (drop n needs)) groups ≡ edges_at tmp places needs (n + length commands) (flat_map (λ cs. cs) groups) =
-    ap (λ ns. all_edges_of tmp places (group + 1) ns groups) (drop-drop (length commands) n needs)
-    ∙ all-numbered tmp places needs (group + 1) (n + length commands) groups (front ++ here) next longer in
-    ap (λ es. es ++ all_edges_of tmp places (group + 1) (drop (length commands) (drop n needs)) groups) first
-    ∙ ap (λ es. edges_at tmp places needs n commands ++ es) rest
-    ∙ sym (edges-append tmp places needs n commands (flat_map (λ cs. cs) groups))
+    let rest : all_edges_of tmp places last (group + 1) (drop (length commands) (drop n needs)) groups ≡ edges_at tmp places last needs (n + length commands) (flat_map (λ cs. cs) groups) =
+    ap (λ ns. all_edges_of tmp places last (group + 1) ns groups) (drop-drop (length commands) n needs)
+    ∙ all-numbered tmp places last needs (group + 1) (n + length commands) groups (front ++ here) next longer in
+    ap (λ es. es ++ all_edges_of tmp places last (group + 1) (drop (length commands) (drop n needs)) groups) first
+    ∙ ap (λ es. edges_at tmp places last needs n commands ++ es) rest
+    ∙ sym (edges-append tmp places last needs n commands (flat_map (λ cs. cs) groups))
 
 -- ---- comments
 
@@ -467,25 +510,33 @@ head-lines tmp rest is =
     ap (λ t. parts_at 10 (codes "tmp = " ++ t)) (append_assoc (escaped tmp) rule rest)
     ∙ parts-past 10 (codes "tmp = " ++ escaped tmp) (codes "builddir = ${tmp}\nrule run\n  command = ${line} || { code=$$?; echo $$code > ${out}.status; exit $$code; }\n" ++ rest) (lacks-append 10 (codes "tmp = ") (escaped tmp) refl (line-escaped tmp is))
 
+-- the edges of a plan's commands, and the comments behind them
+pub plan-reads : (tmp : List ℕ) (last : Option (ℕ × ℕ)) (plan : Plan) → IsLine tmp → AllByRecursion (AllByRecursion IsOfTexts) plan.groups → AllByRecursion IsDroppedText plan.dropped →
+    judged_groups Ninja plan.groups ≡ Ok tt → list_all holds_dropped plan.dropped ≡ true →
+    edges_from tmp None (parts_at 10 (group_edges tmp (plan_places plan) last 0 (plan_needs plan) plan.groups ++ flat_map comment plan.dropped))
+    ≡ Some (edges_at tmp (plan_places plan) last (plan_needs plan) 0 (plan_commands plan))
+plan-reads tmp last plan is groups dropped judged held =
+    let places = plan_places plan in
+    let needs = plan_needs plan in
+    groups-read tmp places last 0 needs plan.groups (flat_map comment plan.dropped) [] is groups judged (comments-read tmp plan.dropped dropped held)
+    ∙ ap Some (append-nil (all_edges_of tmp places last 0 needs plan.groups) ∙ all-numbered tmp places last needs 0 0 plan.groups [] refl refl)
+
 graph-reads : (tmp : List ℕ) (plan : Plan) → IsLine tmp → AllByRecursion (AllByRecursion IsOfTexts) plan.groups → AllByRecursion IsDroppedText plan.dropped →
     judged_groups Ninja plan.groups ≡ Ok tt → list_all holds_dropped plan.dropped ≡ true → edges_of (graph tmp plan) ≡ Some (plan_edges tmp plan)
 graph-reads tmp plan is groups dropped judged held =
-    let places = plan_places plan in
-    let needs = plan_needs plan in
-    let rest = group_edges tmp places 0 needs plan.groups ++ flat_map comment plan.dropped in
+    let rest = group_edges tmp (plan_places plan) None 0 (plan_needs plan) plan.groups ++ flat_map comment plan.dropped in
     ap edges_of_lines (head-lines tmp rest is)
     ∙ ap (λ o. edges_in o (codes "builddir = ${tmp}" ∷ codes "rule run" ∷ codes "  command = ${line} || { code=$$?; echo $$code > ${out}.status; exit $$code; }" ∷ parts_at 10 rest)) (value_reads_back tmp is.0)
-    ∙ groups-read tmp places 0 needs plan.groups (flat_map comment plan.dropped) [] is groups judged (comments-read tmp plan.dropped dropped held)
-    ∙ ap Some (append-nil (all_edges_of tmp places 0 needs plan.groups) ∙ all-numbered tmp places needs 0 0 plan.groups [] refl refl)
+    ∙ plan-reads tmp None plan is groups dropped judged held
 
-held-rest : (tmp : List ℕ) (dropped : List Dropped) (b : Bool) → (holds_text Ninja tmp && list_all holds_dropped dropped) ≡ b → judged_rest tmp dropped ≡ Ok tt → (holds_text Ninja tmp && list_all holds_dropped dropped) ≡ true
+pub held-rest : (tmp : List ℕ) (dropped : List Dropped) (b : Bool) → (holds_text Ninja tmp && list_all holds_dropped dropped) ≡ b → judged_rest tmp dropped ≡ Ok tt → (holds_text Ninja tmp && list_all holds_dropped dropped) ≡ true
 held-rest tmp dropped true e h = e
 held-rest tmp dropped false e h =
     let bad : judged_rest tmp dropped ≡ Err Unheld = rw e refl in
     let both : Err Unheld ≡ Ok tt = sym bad ∙ h in
     absurd cc
 
-unrefused : (verdict : Result (Unit {0}) Refusal) (made text : List ℕ) → unless_refused verdict made ≡ Ok text → (verdict ≡ Ok tt) × (made ≡ text)
+pub unrefused : (verdict : Result (Unit {0}) Refusal) (made text : List ℕ) → unless_refused verdict made ≡ Ok text → (verdict ≡ Ok tt) × (made ≡ text)
 unrefused (Ok tt) made text h = (refl, cc)
 unrefused (Err refusal) made text h = absurd cc
 

@@ -6,5 +6,7 @@ pub mod Judging
 pub mod Message
 pub mod ReadBack
 pub mod ReadGraph
+pub mod ReadScripts
 pub mod ReadValue
 pub mod Script
+pub mod Scripts

@@ -6,8 +6,10 @@ mod judging;
 pub mod laws;
 mod ninja;
 mod refusal;
+mod scripts;
 mod shell;
 
 pub use ninja::ninja_file;
 pub use refusal::Refusal;
+pub use scripts::ninja_file_of_scripts;
 pub use shell::shell_script;

@@ -3,8 +3,9 @@ use Rattle.std.specs.Prelude.{ℕ, List, [], ◌∷◌, Bool, ◌||◌, if◌the
 use Rattle.std.specs.Str.{bytes_eq}
 use Rattle.usage.specs.Calls.{format_of_name}
 use Rattle.usage.specs.declared.call.Format.{Format}
+use Rattle.usage.specs.declared.call.Format.TheVariants as formats
 use Rattle.usage.specs.declared.form.Form.{Form}
-use Rattle.usage.specs.declared.form.Form.TheVariants.{Export, Plan, Calls, Directory, Line, Page}
+use Rattle.usage.specs.declared.form.Form.TheVariants.{Export, Ninja, Plan, Calls, Directory, Line, Page}
 
 -- the form of a call that writes no format, by its name
 abbrev pub plain_form : List ℕ → Option Form
@@ -19,6 +20,7 @@ plain_form name =
 
 -- the form of a call, by its name
 abbrev pub form_with : List ℕ → Option Format → Option Form
+form_with name (Some formats.Ninja) = Some Ninja
 form_with name (Some format) = Some Export
 form_with name None = plain_form name
 
@@ -28,6 +30,7 @@ form_of name = form_with name (format_of_name name)
 -- the words that follow a call's name, as a message shows them
 abbrev pub words_of : Form → List ℕ
 words_of Export = codes " [--limit BYTES] [--keep] [--whole] CWD TMP FLAG DRY1 DRY2 SUFFIX.."
+words_of Ninja = codes " [--limit BYTES] [--keep] [--whole] [--slot WORDS [--dependencies]] CWD TMP FLAG DRY1 DRY2 SUFFIX.."
 words_of Plan = codes " CWD TMP FLAG DRY1 DRY2 SUFFIX.."
 words_of Calls = codes " CWD TMP NVCC WORD.."
 words_of Directory = codes " CWD NVCC WORD.."
@@ -56,6 +59,7 @@ lacking_of_two first second (word ∷ other ∷ words) = None
 
 abbrev pub lacking : Form → List (List ℕ) → Option (List ℕ)
 lacking Export words = lacking_in_plan words
+lacking Ninja words = lacking_in_plan words
 lacking Plan words = lacking_in_plan words
 lacking Calls words = lacking_in_calls words
 lacking Directory words = lacking_of_two (codes "CWD") (codes "NVCC") words

@@ -1,10 +1,12 @@
 //! The forms of a call.
 
 ghost use Rattle.std.specs.Prelude.{◌≡◌, map, string_bytes};
-ghost use Rattle.std.specs.Option.{option_map};
+ghost use Rattle.std.specs.Option.{option_map, option_copied};
 ghost use Rattle.usage.specs.Calls as spec;
 
-use crate::settings::{begins_option, number_in, options_taken, past};
+use crate::settings::{
+    Settings, begins_option, dependencies_taken, number_in, options_taken, past, slot_taken,
+};
 use program_calls::{
     DirectoryCall, LineCall, NvccCall, PlanCall, directory_call, line_call, nvcc_call, plan_call,
 };
@@ -33,6 +35,10 @@ pub struct ExportCall<'a> {
     pub keeps: bool,
     /// Whether a plan that dropped a command is an error.
     pub whole: bool,
+    /// The words that run a script, if each command of a Ninja file becomes one.
+    pub slot: Option<&'a str>,
+    /// Whether that file makes the dependency file.
+    pub dependencies: bool,
     pub plan: PlanCall<'a>,
 }
 
@@ -70,7 +76,42 @@ pub fn format_named(name: &str) -> Option<Format>
     }
 }
 
-// Parses `OPTION.. CWD TMP FLAG DRY1 DRY2 SUFFIX..`. No working directory begins with `-`.
+// Whether a format is a Ninja file, whose commands may become scripts.
+fn is_ninja(format: Format) -> bool
+    ensures { result ≡ spec.is_ninja format }
+{
+    match format {
+        Format::Ninja => true,
+        _ => false,
+    }
+}
+
+// Parses `CWD TMP FLAG DRY1 DRY2 SUFFIX..`. No working directory begins with `-`.
+fn planned_call<'a>(
+    format: Format,
+    settings: Settings,
+    slot: Option<&'a str>,
+    dependencies: bool,
+    words: &'a [String],
+) -> Option<(usize, ExportCall<'a>)>
+    ensures { option_map spec.limited_export result
+        ≡ spec.planned_call format settings (option_copied slot.entry) dependencies (map string_bytes words.now) }
+{
+    if begins_option(words) {
+        return None;
+    }
+    let call = ExportCall {
+        format,
+        keeps: settings.keeps,
+        whole: settings.whole,
+        slot,
+        dependencies,
+        plan: plan_call(words)?,
+    };
+    Some((settings.limit, call))
+}
+
+// Parses `OPTION.. CWD TMP FLAG DRY1 DRY2 SUFFIX..`.
 fn export_call<'a>(
     limit: usize,
     format: Format,
@@ -79,16 +120,9 @@ fn export_call<'a>(
     ensures { option_map spec.limited_export result ≡ spec.export_call_of limit format (map string_bytes words.now) }
 {
     let (settings, words) = options_taken(limit, words);
-    if begins_option(words) {
-        return None;
-    }
-    let call = ExportCall {
-        format,
-        keeps: settings.keeps,
-        whole: settings.whole,
-        plan: plan_call(words)?,
-    };
-    Some((settings.limit, call))
+    let (slot, words) = slot_taken(is_ninja(format), words);
+    let (dependencies, words) = dependencies_taken(slot.is_some(), words);
+    planned_call(format, settings, slot, dependencies, words)
 }
 
 // The call, if no further words follow.
@@ -172,7 +206,8 @@ fn call_behind_limit<'a>(words: &'a [String]) -> Option<(usize, Call<'a>)>
 /// Parses the words after the program's name, `[--limit BYTES]` and one of these calls, and gives the limit too:
 ///
 /// - `shell|ninja|json|dot|compdb|makeflow OPTION.. CWD TMP FLAG DRY1 DRY2 SUFFIX..`, with the options `--keep` if generated files keep
-///   nvcc's names, `--whole` if a plan that dropped a command is an error, and `--limit BYTES`, in any order;
+///   nvcc's names, `--whole` if a plan that dropped a command is an error, and `--limit BYTES`, in any order. Behind these `ninja` takes
+///   `--slot WORDS`, and then `--dependencies`: WORDS run each command's script, and the file makes the dependency file too;
 /// - `calls CWD TMP NVCC WORD..`;
 /// - `directory CWD NVCC WORD..`;
 /// - `line TOOL CWD WORD..` or `plan CWD TMP FLAG DRY1 DRY2 SUFFIX..`, as `cudaplan`;

@@ -4,13 +4,15 @@ ghost use Rattle.std.specs.Prelude.{◌≡◌, map, string_bytes};
 ghost use Rattle.std.specs.Option.{option_copied};
 ghost use Rattle.usage.specs.Forms as spec;
 
-use crate::call::format_named;
+use crate::call::{Format, format_named};
 
 /// What follows a call's name.
 #[derive(Clone, Copy)]
 pub enum Form {
     /// Options and two dry runs.
     Export,
+    /// The same, for a Ninja file.
+    Ninja,
     /// Two dry runs.
     Plan,
     /// An nvcc line, and where it runs.
@@ -42,6 +44,7 @@ pub fn form_named(name: &str) -> Option<Form>
     ensures { result ≡ spec.form_of name.now }
 {
     match format_named(name) {
+        Some(Format::Ninja) => Some(Form::Ninja),
         Some(_) => Some(Form::Export),
         None => plain_form(name),
     }
@@ -53,6 +56,9 @@ pub fn words_of(form: Form) -> &'static str
 {
     match form {
         Form::Export => { " [--limit BYTES] [--keep] [--whole] CWD TMP FLAG DRY1 DRY2 SUFFIX.." }
+        Form::Ninja => {
+            " [--limit BYTES] [--keep] [--whole] [--slot WORDS [--dependencies]] CWD TMP FLAG DRY1 DRY2 SUFFIX.."
+        }
         Form::Plan => " CWD TMP FLAG DRY1 DRY2 SUFFIX..",
         Form::Calls => " CWD TMP NVCC WORD..",
         Form::Directory => " CWD NVCC WORD..",
@@ -107,7 +113,7 @@ pub fn lacking(form: Form, words: &[String]) -> Option<&'static str>
     ensures { option_copied result ≡ spec.lacking form (map string_bytes words.now) }
 {
     match form {
-        Form::Export | Form::Plan => lacking_in_plan(words),
+        Form::Export | Form::Ninja | Form::Plan => lacking_in_plan(words),
         Form::Calls => lacking_in_calls(words),
         Form::Directory => lacking_of_two("CWD", "NVCC", words),
         Form::Line => lacking_of_two("a tool", "CWD", words),

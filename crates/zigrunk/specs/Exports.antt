@@ -20,6 +20,7 @@ use Rattle.plan_makeflow.specs.Makeflow.{makeflow_answer}
 use Rattle.plan_makeflow.specs.CommandText.{has_long_command}
 use Rattle.plan_exports.specs.Message.{message_of}
 use Rattle.plan_exports.specs.Script.{shell_answer}
+use Rattle.plan_exports.specs.Scripts.{scripts_answer}
 use Rattle.programs.specs.declared.stop.Stop.{Stop}
 use Rattle.programs.specs.declared.stop.Stop.TheVariants as stops
 use Rattle.program_calls.specs.Calls.{PlanOf}
@@ -46,14 +47,22 @@ makeflow_in tmp plan =
     if has_long_command plan then Err (stops.Unwritable (codes "a command of the plan has over 65000 bytes, which Makeflow doesn't read"))
     else written (makeflow_answer tmp plan)
 
+-- a plan as a Ninja file, whose commands become scripts if there are words that run them
+abbrev pub ninja_with : List ℕ → Option (List ℕ) → Bool → Plan → Result (List ℕ) Refusal
+ninja_with tmp None dependencies plan = ninja_answer tmp plan
+ninja_with tmp (Some slot) dependencies plan = scripts_answer tmp slot dependencies plan
+
+abbrev pub ninja_in : ExportOf → Plan → Result (List ℕ) Stop
+ninja_in call plan = written (ninja_with call.plan.tmp call.slot call.dependencies plan)
+
 -- a plan in a format. JSON and a compilation database end in a newline
-abbrev pub plan_in : Format → PlanOf → PlanWithOrigins → Result (List ℕ) Stop
+abbrev pub plan_in : Format → ExportOf → PlanWithOrigins → Result (List ℕ) Stop
 plan_in Shell call planned = written (shell_answer planned.plan)
-plan_in Ninja call planned = written (ninja_answer call.tmp planned.plan)
-plan_in Json call planned = Ok (compact_text (data_of (described call planned)) ++ 10 ∷ [])
+plan_in Ninja call planned = ninja_in call planned.plan
+plan_in Json call planned = Ok (compact_text (data_of (described call.plan planned)) ++ 10 ∷ [])
 plan_in Dot call planned = Ok (picture planned.plan)
 plan_in Compdb call planned = Ok (compact_text (database planned.plan) ++ 10 ∷ [])
-plan_in Makeflow call planned = makeflow_in call.tmp planned.plan
+plan_in Makeflow call planned = makeflow_in call.plan.tmp planned.plan
 
 -- why a plan lacks commands, if it does: it has none, or it has to be whole and dropped one
 abbrev pub lacking : Bool → Plan → Option (List ℕ)
@@ -69,7 +78,7 @@ unless_stopped (Some why) text = Err (stops.Unwritable why)
 
 -- the plan of a call in its format, or why there is none
 abbrev pub planned_in : ExportOf → Result PlanWithOrigins Fault → Result (List ℕ) Stop
-planned_in call (Ok planned) = unless_stopped (lacking call.whole planned.plan) (plan_in call.format call.plan planned)
+planned_in call (Ok planned) = unless_stopped (lacking call.whole planned.plan) (plan_in call.format call planned)
 planned_in call (Err fault) = Err (stops.Fault fault)
 
 -- the directory that keeps generated files: the temporary one, if they keep nvcc's names

@@ -22,7 +22,7 @@ use canonical_names::all_suffixes;
 use command_groups::plan_of_parsed;
 use compilers::compiler::NvccHostCompiler;
 use dry_runs::{ParsedRuns, Which, is_dry_run};
-use plan_exports::{Refusal, ninja_file, shell_script};
+use plan_exports::{Refusal, ninja_file, ninja_file_of_scripts, shell_script};
 use plan_graphs::dot_text;
 use plan_json::{compdb_text, json_text};
 use plan_makeflow::{has_long_command, makeflow_file};
@@ -57,10 +57,15 @@ fn written(alloc: Global, answer: Result<String, Refusal>) -> Result<String, Sto
 }
 
 // A plan as JSON and a newline.
-fn json_line(alloc: Global, call: &PlanCall<'_>, planned: &PlanWithOrigins) -> Result<String, Stop>
-    ensures { Answers (text_of result) (spec.plan_in formats.Json (plan_seen call.now) planned.now) }
+fn json_line(
+    alloc: Global,
+    call: &ExportCall<'_>,
+    planned: &PlanWithOrigins,
+) -> Result<String, Stop>
+    ensures { Answers (text_of result) (spec.plan_in formats.Json (export_of call.now) planned.now) }
 {
-    let mut text = json_text(alloc, call.cwd, call.tmp, call.flag, planned)?;
+    let plan = &call.plan;
+    let mut text = json_text(alloc, plan.cwd, plan.tmp, plan.flag, planned)?;
     text.push_str("\n")?;
     Ok(text)
 }
@@ -87,22 +92,31 @@ fn makeflow_text(alloc: Global, tmp: &str, plan: &Plan) -> Result<String, Stop>
     written(alloc, makeflow_file(alloc, tmp, plan))
 }
 
-// A plan in a format.
-fn plan_in(
-    alloc: Global,
-    format: Format,
-    call: &PlanCall<'_>,
-    planned: &PlanWithOrigins,
-) -> Result<String, Stop>
-    ensures { Answers (text_of result) (spec.plan_in format (plan_seen call.now) planned.now) }
+// A plan as a Ninja file, whose commands may become scripts.
+fn ninja_text(alloc: Global, call: &ExportCall<'_>, plan: &Plan) -> Result<String, Stop>
+    ensures { Answers (text_of result) (spec.ninja_in (export_of call.now) plan.now) }
 {
-    match format {
+    let tmp = call.plan.tmp;
+    match call.slot {
+        Some(slot) => written(
+            alloc,
+            ninja_file_of_scripts(alloc, tmp, slot, call.dependencies, plan),
+        ),
+        None => written(alloc, ninja_file(alloc, tmp, plan)),
+    }
+}
+
+// A plan in a call's format.
+fn plan_in(alloc: Global, call: &ExportCall<'_>, planned: &PlanWithOrigins) -> Result<String, Stop>
+    ensures { Answers (text_of result) (spec.plan_in call.now.format (export_of call.now) planned.now) }
+{
+    match call.format {
         Format::Shell => written(alloc, shell_script(alloc, &planned.plan)),
-        Format::Ninja => written(alloc, ninja_file(alloc, call.tmp, &planned.plan)),
+        Format::Ninja => ninja_text(alloc, call, &planned.plan),
         Format::Json => json_line(alloc, call, planned),
         Format::Dot => Ok(dot_text(alloc, &planned.plan)?),
         Format::Compdb => compdb_line(alloc, &planned.plan),
-        Format::Makeflow => makeflow_text(alloc, call.tmp, &planned.plan),
+        Format::Makeflow => makeflow_text(alloc, call.plan.tmp, &planned.plan),
     }
 }
 
@@ -145,11 +159,11 @@ fn judged_in(
     planned: &PlanWithOrigins,
 ) -> Result<String, Stop>
     ensures { Answers (text_of result) (spec.unless_stopped (spec.lacking call.now.whole planned.now.plan)
-        (spec.plan_in call.now.format (plan_seen call.now.plan) planned.now)) }
+        (spec.plan_in call.now.format (export_of call.now) planned.now)) }
 {
     match lacking(call.whole, &planned.plan) {
         Some(why) => refused(alloc, why),
-        None => plan_in(alloc, call.format, &call.plan, planned),
+        None => plan_in(alloc, call, planned),
     }
 }
 

@@ -1,0 +1,194 @@
+-- What Ninja does with a file that runs each command by a script is that for each command of the plan.
+use Rattle.std.proofs.Common.{ℕ, List, [], ◌∷◌, ◌++◌, ◌≡◌, refl, sym, ap, ◌∙◌, append_assoc, append-nil, map, Bool, true, false, ◌&&◌, Option, Some, None, Result, Ok, Err, codes}
+use Rattle.std.specs.List.{AllByRecursion, flat_map, list_all}
+use Rattle.std.specs.Str.{IsUtf8}
+use Rattle.std.proofs.lemmas.Bool.{and_parts, cond_both}
+use Rattle.texts.specs.Path.{lacks}
+use Rattle.texts.proofs.PathLemmas.{lacks-append}
+use Rattle.shell_words.specs.Shell.Quoting.{written}
+use Rattle.plans.specs.declared.plan.NvccGeneratedSubcommand.{NvccGeneratedSubcommand}
+use Rattle.plans.specs.declared.plan.Plan.{Plan}
+use Rattle.command_files.specs.PlanNeeds.{plan_needs, preprocesses}
+use Rattle.plan_exports.specs.declared.refusal.Refusal.{Refusal}
+use Rattle.plan_exports.specs.declared.refusal.Refusal.TheVariants.{Unheld}
+use Rattle.plan_exports.specs.declared.refusal.Form.TheVariants.{Ninja}
+use Rattle.plan_exports.specs.Judging.{holds_text, holds_variables, holds_command, judged_command, judged_group, judged_groups, and_then}
+use Rattle.plan_exports.specs.Graph.{escaped, plan_places, depended, group_edges, comment, holds_dropped, judged_rest}
+use Rattle.plan_exports.specs.Scripts.{preprocessors_from, plan_preprocessors, program_in, or_text, first_program, stamps_of, head_with, depend_command, depend_text, waiting, script_graph, judged_slot, scripts_answer}
+use Rattle.plan_exports.specs.ReadBack.{IsOfTexts}
+use Rattle.plan_exports.specs.ReadGraph.{Edge, IsDroppedText, parts_at, edges_from, edges_in, edges_of_lines, edges_of, place_path, edges_at, plan_commands}
+use Rattle.plan_exports.specs.ReadScripts.{ninja_word, without_blanks, Rule, rule_with, rule_of, Run, before_runs, run_by, runs_by, runs_in, runs_of, run_of, depend_edges, script_edges}
+use Rattle.plan_exports.proofs.ReadGraphLemmas.{IsLine, line-append, line-written, line-escaped, held-text, held-command, then-both, held-rest, unrefused, parts-past, stamp-no_newline, lacks-stamps, needs-stamps, any-edge-read, plan-reads}
+use Rattle.plan_exports.proofs.ValueLemmas.{value_reads_back}
+
+-- ---- the program that preprocesses stands on one line
+
+abbrev LacksEnd : Option (List ℕ) → Type 0
+LacksEnd None = Unit {0}
+LacksEnd (Some text) = lacks 10 text ≡ true
+
+held-program : (c : NvccGeneratedSubcommand) → holds_command Ninja c ≡ true → lacks 10 c.exe ≡ true
+held-program c h =
+    let first = and_parts (holds_text Ninja c.cwd) (holds_variables Ninja c.env_vars && (holds_text Ninja c.exe && list_all (holds_text Ninja) c.args)) h in
+    let second = and_parts (holds_variables Ninja c.env_vars) (holds_text Ninja c.exe && list_all (holds_text Ninja) c.args) first.1 in
+    held-text c.exe (and_parts (holds_text Ninja c.exe) (list_all (holds_text Ninja) c.args) second.1).0
+
+program-line : (commands : List NvccGeneratedSubcommand) → judged_group Ninja commands ≡ Ok tt → LacksEnd (program_in commands)
+program-line [] h = tt
+program-line (c ∷ commands) h =
+    let judged = then-both (judged_command Ninja c) (judged_group Ninja commands) h in
+    cond_both (preprocesses c.args) (Some c.exe) (program_in commands) LacksEnd
+    (λ _. held-program c (held-command c (holds_command Ninja c) refl judged.0)) (λ _. program-line commands judged.1)
+
+or-line : (first : Option (List ℕ)) (other : List ℕ) → LacksEnd first → lacks 10 other ≡ true → lacks 10 (or_text first other) ≡ true
+or-line None other h k = k
+or-line (Some text) other h k = h
+
+first-program-line : (groups : List (List NvccGeneratedSubcommand)) → judged_groups Ninja groups ≡ Ok tt → lacks 10 (first_program groups) ≡ true
+first-program-line [] h = refl
+first-program-line (commands ∷ groups) h =
+    let judged = then-both (judged_group Ninja commands) (judged_groups Ninja groups) h in
+    or-line (program_in commands) (first_program groups) (program-line commands judged.0) (first-program-line groups judged.1)
+
+-- ---- the first lines
+
+abbrev rule_lines : List (List ℕ) → List (List ℕ)
+rule_lines lines =
+    codes "builddir = ${tmp}" ∷ codes "rule run" ∷ codes "  command = ${slot} ${out}" ∷ codes "  rspfile = ${out}.sh"
+    ∷ codes "  rspfile_content = ${line} || { code=$$?; echo $$code > ${out}.status; exit $$code; }" ∷ lines
+
+abbrev rule_bytes : List ℕ → List ℕ
+rule_bytes rest =
+    codes "builddir = ${tmp}\nrule run\n  command = ${slot} ${out}\n  rspfile = ${out}.sh\n  rspfile_content = ${line} || { code=$$?; echo $$code > ${out}.status; exit $$code; }\n" ++ rest
+
+head-bytes : (tmp slot : List ℕ) (places : List (ℕ × ℕ)) (program rest : List ℕ) →
+    head_with tmp slot places program ++ rest
+    ≡ (codes "tmp = " ++ escaped tmp) ++ 10 ∷ ((codes "# stamps" ++ stamps_of places) ++ 10 ∷ ((codes "# preprocessor " ++ program) ++ 10 ∷ ((codes "slot = " ++ escaped slot) ++ 10 ∷ rule_bytes rest)))
+head-bytes tmp slot places program rest = simp append_assoc refl
+
+script-lines : (tmp slot : List ℕ) (places : List (ℕ × ℕ)) (program rest : List ℕ) → IsLine tmp → IsLine slot → lacks 10 program ≡ true →
+    parts_at 10 (head_with tmp slot places program ++ rest)
+    ≡ (codes "tmp = " ++ escaped tmp) ∷ (codes "# stamps" ++ stamps_of places) ∷ (codes "# preprocessor " ++ program) ∷ (codes "slot = " ++ escaped slot) ∷ rule_lines (parts_at 10 rest)
+script-lines tmp slot places program rest is words line =
+    let fourth = (codes "slot = " ++ escaped slot) ++ 10 ∷ rule_bytes rest in
+    let third = (codes "# preprocessor " ++ program) ++ 10 ∷ fourth in
+    let second = (codes "# stamps" ++ stamps_of places) ++ 10 ∷ third in
+    ap (parts_at 10) (head-bytes tmp slot places program rest)
+    ∙ parts-past 10 (codes "tmp = " ++ escaped tmp) second (lacks-append 10 (codes "tmp = ") (escaped tmp) refl (line-escaped tmp is))
+    ∙ ap (λ ls. (codes "tmp = " ++ escaped tmp) ∷ ls)
+    (parts-past 10 (codes "# stamps" ++ stamps_of places) third (lacks-append 10 (codes "# stamps") (stamps_of places) refl (lacks-stamps 10 places stamp-no_newline))
+    ∙ ap (λ ls. (codes "# stamps" ++ stamps_of places) ∷ ls)
+    (parts-past 10 (codes "# preprocessor " ++ program) fourth (lacks-append 10 (codes "# preprocessor ") program refl line)
+    ∙ ap (λ ls. (codes "# preprocessor " ++ program) ∷ ls)
+    (parts-past 10 (codes "slot = " ++ escaped slot) (rule_bytes rest) (lacks-append 10 (codes "slot = ") (escaped slot) refl (line-escaped slot words)))))
+
+-- ---- the rule
+
+abbrev the_rule : List ℕ → Rule
+the_rule slot = record {
+  slot = without_blanks slot;
+  command = codes "${slot} ${out}";
+  file = codes "${out}.sh";
+  content = codes "${line} || { code=$$?; echo $$code > ${out}.status; exit $$code; }";
+}
+
+rule-read : (tmp slot stamps program : List ℕ) (lines : List (List ℕ)) → IsUtf8 slot →
+    rule_of ((codes "tmp = " ++ tmp) ∷ (codes "# stamps" ++ stamps) ∷ (codes "# preprocessor " ++ program) ∷ (codes "slot = " ++ escaped slot) ∷ rule_lines lines)
+    ≡ Some (the_rule slot)
+rule-read tmp slot stamps program lines is =
+    ap
+    (λ o. rule_with o (Some (codes "${slot} ${out}")) (Some (codes "${out}.sh")) (Some (codes "${line} || { code=$$?; echo $$code > ${out}.status; exit $$code; }")))
+    (value_reads_back slot is)
+
+run-read : (slot : List ℕ) (edge : Edge) → run_by (the_rule slot) edge ≡ Some (run_of (without_blanks slot) edge)
+run-read slot edge =
+    let path = ninja_word edge.output in
+    ap
+    (λ word.
+    Some
+    (record {
+      output = edge.output;
+      needs = edge.needs;
+      script = edge.output ++ codes ".sh";
+      content = edge.command ++ (codes " || { code=$?; echo $code > " ++ (path ++ codes ".status; exit $code; }"));
+      command = without_blanks slot ++ (codes " " ++ word);
+    }))
+    (append-nil path)
+
+runs-read : (slot : List ℕ) (edges : List Edge) → runs_by (the_rule slot) edges ≡ Some (map (run_of (without_blanks slot)) edges)
+runs-read slot [] = refl
+runs-read slot (edge ∷ edges) =
+    ap (λ run. before_runs run (runs_by (the_rule slot) edges)) (run-read slot edge)
+    ∙ ap (before_runs (Some (run_of (without_blanks slot) edge))) (runs-read slot edges)
+
+-- ---- the edges
+
+line-below : (tmp name : List ℕ) → IsLine tmp → IsLine name → IsLine (written ((tmp ++ name) ∷ []))
+line-below tmp name is are = line-written ((tmp ++ name) ∷ []) (line-append tmp name is are, tt)
+
+line-depend : (tmp : List ℕ) → IsLine tmp → IsLine (depend_command tmp)
+unfolding lib.Utf8.encode
+line-depend tmp is =
+    let script = written ((tmp ++ codes "/zigrunk.tmp/dependencies") ∷ []) in
+    let stamp = written ((tmp ++ depended) ∷ []) in
+    line-append (codes "sh ") (script ++ (codes " && touch " ++ stamp)) ((codes "sh ", (refl, refl)), refl)
+    (line-append script (codes " && touch " ++ stamp)
+    (line-below tmp (codes "/zigrunk.tmp/dependencies") is ((codes "/zigrunk.tmp/dependencies", (refl, refl)), refl))
+    (line-append (codes " && touch ") stamp ((codes " && touch ", (refl, refl)), refl) (line-below tmp depended is ((depended, (refl, refl)), refl))))
+
+depend-read : (dependencies : Bool) (tmp : List ℕ) (plan : Plan) (rest : List ℕ) (es : List Edge) → IsLine tmp → edges_from tmp None (parts_at 10 rest) ≡ Some es →
+    edges_from tmp None (parts_at 10 (depend_text dependencies tmp plan.groups ++ rest)) ≡ Some (depend_edges dependencies tmp plan ++ es)
+depend-read false tmp plan rest es is found = found
+depend-read true tmp plan rest es is found =
+    let places = plan_preprocessors plan in
+    any-edge-read tmp (codes "${tmp}" ++ depended) (stamps_of places) (depend_command tmp) rest (map (place_path tmp) places) es refl refl (needs-stamps tmp places) (line-depend tmp is) found
+
+-- ---- the file
+
+abbrev rest_of : List ℕ → Bool → Plan → List ℕ
+rest_of tmp dependencies plan =
+    depend_text dependencies tmp plan.groups
+    ++ (group_edges tmp (plan_places plan) (waiting dependencies (plan_places plan)) 0 (plan_needs plan) plan.groups ++ flat_map comment plan.dropped)
+
+file-read : (tmp slot : List ℕ) (dependencies : Bool) (plan : Plan) → IsLine tmp → IsLine slot → AllByRecursion (AllByRecursion IsOfTexts) plan.groups → AllByRecursion IsDroppedText plan.dropped →
+    judged_groups Ninja plan.groups ≡ Ok tt → list_all holds_dropped plan.dropped ≡ true →
+    runs_of (script_graph tmp slot dependencies plan) ≡ Some (map (run_of (without_blanks slot)) (script_edges tmp dependencies plan))
+file-read tmp slot dependencies plan is words groups dropped judged held =
+    let places = plan_places plan in
+    let program = first_program plan.groups in
+    let last = waiting dependencies places in
+    let rest = rest_of tmp dependencies plan in
+    let stamps = stamps_of places in
+    let edges = script_edges tmp dependencies plan in
+    let behind_first = (codes "# stamps" ++ stamps) ∷ (codes "# preprocessor " ++ program) ∷ (codes "slot = " ++ escaped slot) ∷ rule_lines (parts_at 10 rest) in
+    let lines : parts_at 10 (script_graph tmp slot dependencies plan) ≡ (codes "tmp = " ++ escaped tmp) ∷ behind_first =
+    script-lines tmp slot places program rest is words (first-program-line plan.groups judged) in
+    let read : edges_of (script_graph tmp slot dependencies plan) ≡ Some edges =
+    ap edges_of_lines lines
+    ∙ ap (λ o. edges_in o behind_first) (value_reads_back tmp is.0)
+    ∙ depend-read dependencies tmp plan (group_edges tmp places last 0 (plan_needs plan) plan.groups ++ flat_map comment plan.dropped)
+    (edges_at tmp places last (plan_needs plan) 0 (plan_commands plan)) is (plan-reads tmp last plan is groups dropped judged held) in
+    let rule : rule_of (parts_at 10 (script_graph tmp slot dependencies plan)) ≡ Some (the_rule slot) =
+    ap rule_of lines ∙ rule-read (escaped tmp) slot stamps program (parts_at 10 rest) words.0 in
+    ap (λ r. runs_in r (edges_of (script_graph tmp slot dependencies plan))) rule
+    ∙ ap (runs_in (Some (the_rule slot))) read
+    ∙ runs-read slot edges
+
+held-slot : (slot : List ℕ) (b : Bool) → holds_text Ninja slot ≡ b → judged_slot slot ≡ Ok tt → holds_text Ninja slot ≡ true
+held-slot slot true e h = e
+held-slot slot false e h =
+    let bad : judged_slot slot ≡ Err Unheld = rw e refl in
+    let both : Err Unheld ≡ Ok tt = sym bad ∙ h in
+    absurd cc
+
+pub scripts_run : (tmp slot : List ℕ) (dependencies : Bool) (plan : Plan) (text : List ℕ) →
+    IsUtf8 tmp → IsUtf8 slot → AllByRecursion (AllByRecursion IsOfTexts) plan.groups → AllByRecursion IsDroppedText plan.dropped →
+    scripts_answer tmp slot dependencies plan ≡ Ok text → runs_of text ≡ Some (map (run_of (without_blanks slot)) (script_edges tmp dependencies plan))
+scripts_run tmp slot dependencies plan text is words groups dropped h =
+    let rest = and_then (judged_rest tmp plan.dropped) (judged_groups Ninja plan.groups) in
+    let answer = unrefused (and_then (judged_slot slot) rest) (script_graph tmp slot dependencies plan) text h in
+    let first = then-both (judged_slot slot) rest answer.0 in
+    let judged = then-both (judged_rest tmp plan.dropped) (judged_groups Ninja plan.groups) first.1 in
+    let slot_held = held-slot slot (holds_text Ninja slot) refl first.0 in
+    let held = and_parts (holds_text Ninja tmp) (list_all holds_dropped plan.dropped) (held-rest tmp plan.dropped (holds_text Ninja tmp && list_all holds_dropped plan.dropped) refl judged.0) in
+    ap runs_of (sym answer.1) ∙ file-read tmp slot dependencies plan (is, held-text tmp held.0) (words, held-text slot slot_held) groups dropped judged.1 held.1
