@@ -16,12 +16,17 @@
 
 #define BUDGET ((size_t)16 << 20)
 #define SLOW 2.0 /* seconds */
-#define LONGEST 3.0 /* seconds of a call within zigrunk's own limit: it takes less than 0.5 on an idle machine */
+
+/* What a call within zigrunk's own limit may take if its two runs have a megabyte: processor time in seconds, and memory in bytes. */
+#define OWN_LIMIT ((size_t)2 << 20)
+#define MEGABYTE ((size_t)1 << 20)
+#define LONGEST 0.5
+#define LARGEST ((size_t)300 << 20)
 
 static struct {
-    unsigned long inputs, calls, too_large, injected, slow, statuses[ZIGRUNK_NO_DRY_RUN + 1];
-    double longest;
-    size_t most_memory;
+    unsigned long inputs, calls, too_large, injected, slow, large, statuses[ZIGRUNK_NO_DRY_RUN + 1];
+    double longest, longest_large;
+    size_t most_memory, most_large;
 } told;
 
 /* Memory */
@@ -32,7 +37,7 @@ typedef struct block {
 
 #define MARK ((size_t)0x5A1677)
 
-static size_t in_use, most_in_use;
+static size_t in_use, most_in_use, budget = BUDGET;
 static unsigned long refusals, allocations, fails_at; /* fails_at: the allocation that fails, from 1; 0: none */
 
 typedef struct found {
@@ -47,7 +52,7 @@ static found refuse(void) {
 
 static int is_refused(size_t size, size_t more) {
     allocations++;
-    return allocations == fails_at || size > BUDGET || in_use + more > BUDGET;
+    return allocations == fails_at || size > budget || in_use + more > budget;
 }
 
 found rattle_alloc(size_t size, size_t align) {
@@ -916,24 +921,73 @@ static void try_limit(planned *it, const answer *lookups, const answer *plan, si
     it->call.limit = 0;
 }
 
-/* Within zigrunk's own limit no call takes long, whatever it is given. */
-static void try_default_limit(planned *it) {
-    asker *const asked[] = {asks_plan, asks_lookups_within};
-    void *what[] = {it, &it->call};
-    zigrunk_range no_range;
-    uint8_t no_byte;
-    it->call.limit = 2u << 20;
-    for (int i = 0; i < 2; i++) {
+static zigrunk_list_answer asks_steps(void *what, zigrunk_range *ranges, size_t ranges_size, uint8_t *out, size_t out_size) {
+    planned *it = what;
+    zigrunk_group no_group;
+    zigrunk_command no_command;
+    zigrunk_step no_step;
+    size_t no_number;
+    zigrunk_steps_answer sizes = zigrunk_plan_steps(&it->call, &no_group, 0, &no_command, 0, &no_step, 0, &no_number, 0, ranges, ranges_size, out, out_size);
+    return (zigrunk_list_answer){sizes.status, sizes.ranges, sizes.length};
+}
+
+/* Asks once more if a call takes long: other work may have slowed it down. */
+static double shortest(asker *asks, void *what) {
+    double least = LONGEST;
+    for (int tries = 0; tries < 3 && least >= LONGEST; tries++) {
+        zigrunk_range no_range;
+        uint8_t no_byte;
         begin(0);
-        zigrunk_list_answer a = asked[i](what[i], &no_range, 0, &no_byte, 0);
-        holds(end(a.status) < LONGEST, "a call within 2 MiB takes less than three seconds");
+        zigrunk_list_answer a = asks(what, &no_range, 0, &no_byte, 0);
+        double took = end(a.status);
+        holds(refusals == 0, "a call within zigrunk's limit takes at most 300 MB");
+        least = tries == 0 || took < least ? took : least;
     }
-    it->call.limit = 0;
+    return least;
+}
+
+/* Within zigrunk's own limit no call takes long or much memory, whatever it is given. */
+static void try_default_limit(planned *it) {
+    asker *const asked[] = {asks_plan, asks_steps, asks_lookups_within};
+    void *what[] = {it, it, &it->call};
+    size_t limit = it->call.limit;
+    it->call.limit = OWN_LIMIT;
+    budget = LARGEST;
+    for (int i = 0; i < 3; i++) {
+        double took = shortest(asked[i], what[i]);
+        holds(took < LONGEST, "a call within zigrunk's limit takes less than half a second");
+        told.longest_large = took > told.longest_large ? took : told.longest_large;
+        told.most_large = most_in_use > told.most_large ? most_in_use : told.most_large;
+    }
+    budget = BUDGET;
+    it->call.limit = limit;
+}
+
+/* A text again and again, in memory of its own, up to a size. */
+static zigrunk_text repeated(zigrunk_text text, size_t size) {
+    uint8_t *at = room(size);
+    size_t length = 0;
+    while (text.length > 0 && length + text.length <= size) {
+        memcpy(at + length, text.bytes, text.length);
+        length += text.length;
+    }
+    return (zigrunk_text){at, length};
+}
+
+/* The same of both runs again and again, a megabyte in all. */
+static void try_megabyte(planned *it) {
+    planned large = *it;
+    large.call.dry1 = repeated(it->call.dry1, MEGABYTE / 2);
+    large.call.dry2 = repeated(it->call.dry2, MEGABYTE / 2);
+    told.large++;
+    try_default_limit(&large);
+    free((void *)large.call.dry1.bytes);
+    free((void *)large.call.dry2.bytes);
 }
 
 /* Plans the call, with a table of what it looks up. If `misses`, some programs are missing there. Then as records, and within a
  * limit. */
-static void try_plan(planned *it, int misses, unsigned long failing, size_t limit) {
+static void try_plan(planned *it, int misses, unsigned long failing, size_t limit, int is_large) {
     answer lookups = ask(asks_lookups, &it->call, 0);
     size_t count = lookups.status == ZIGRUNK_OK && lookups.out ? lookups.count / 2 : 0;
     zigrunk_found_program *rows = calloc(count + 1, sizeof *rows);
@@ -966,6 +1020,9 @@ static void try_plan(planned *it, int misses, unsigned long failing, size_t limi
         try_limit(it, &lookups, &plan, limit);
         try_default_limit(it);
     }
+    if (is_large) {
+        try_megabyte(it);
+    }
     release(plan);
     free(rows);
     release_list(&paths);
@@ -981,6 +1038,8 @@ static void tell(void) {
     fprintf(file, "inputs %lu\ncalls %lu\ncalls beyond %zu bytes %lu\ncalls with a failed allocation %lu\ncalls over %.0f s %lu\n", told.inputs,
         told.calls, BUDGET, told.too_large, told.injected, SLOW, told.slow);
     fprintf(file, "longest call %.3f s\nmost memory %zu bytes\n", told.longest, told.most_memory);
+    fprintf(file, "inputs of a megabyte %lu\nlongest call within zigrunk's limit %.3f s\nmost memory there %zu bytes\n", told.large,
+        told.longest_large, told.most_large);
     for (int i = 0; i <= ZIGRUNK_NO_DRY_RUN; i++) {
         fprintf(file, "status %d: %lu\n", i, told.statuses[i]);
     }
@@ -1021,7 +1080,7 @@ int LLVMFuzzerTestOneInput(const uint8_t *data, size_t size) {
     it.call.keeps = (data[0] >> 3) & 1;
     it.call.host_compiler = (data[0] >> 4) & 3;
     it.form = it.form > 4 ? it.form - 4 : it.form;
-    try_plan(&it, (data[0] >> 6) & 1, data[0] & 0x80 ? (unsigned long)data[1] * 7 + 1 : 0, 1 + (size_t)data[1] * 40);
+    try_plan(&it, (data[0] >> 6) & 1, data[0] & 0x80 ? (unsigned long)data[1] * 7 + 1 : 0, 1 + (size_t)data[1] * 40, data[1] % 16 == 1);
     if (data[1] % 4 == 0) {
         try_text(it.call.dry1, &it.call, data[1] / 4);
         zigrunk_text asked[3] = {it.call.flag, it.call.dry2, it.call.cwd};

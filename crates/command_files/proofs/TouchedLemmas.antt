@@ -5,14 +5,14 @@ use Rattle.std.specs.List.{list_any, Contains}
 use Rattle.std.specs.List.Sorted.{IsStrictlyIncreasing}
 use Rattle.std.specs.Str.{bytes_eq}
 use Rattle.std.proofs.lemmas.Bool.{false≢true, eqb-true, eq-eqb, ltb-true, lt-ltb}
-use Rattle.std.proofs.lemmas.List.Elements.{Contains-append_right}
+use Rattle.std.proofs.lemmas.List.Elements.{Contains-append_right, filter-append}
 use Rattle.std.proofs.lemmas.List.Folds.{list_any-append, list_any_at}
-use Rattle.std.proofs.lemmas.List.{get_or-take, length-take-le}
+use Rattle.std.proofs.lemmas.List.{append-nil, get_or-take, length-take-le}
 use Rattle.std.proofs.lemmas.Slice.Eq.{bytes_eq-Decides}
 use Rattle.command_files.specs.declared.steps.Step.{Step}
 use Rattle.command_files.specs.Files.{is_among, share}
 use Rattle.command_files.specs.Order.{numbers_where, is_in}
-use Rattle.command_files.specs.Touched.{Numbers, with_number, with_numbers, numbers_from, below, touching}
+use Rattle.command_files.specs.Touched.{Numbers, with_number, with_numbers, numbers_from, below, touching, touching_either}
 use Rattle.command_files.proofs.OrderLemmas.{in_either, in_first, in_second, fails, passes}
 use Rattle.command_files.proofs.NeedLemmas.{numbers_below}
 
@@ -33,13 +33,11 @@ or_moved : (a b c : Bool) → ((a || b) || c) ≡ (a || (b || c))
 or_moved true b c = refl
 or_moved false b c = refl
 
-pub both_of_four : (t a b c d : Bool) → ((t && a) || ((t && b) || ((t && c) || (t && d)))) ≡ (t && ((a || (c || b)) || d))
-both_of_four false a b c d = refl
-both_of_four true true b c d = refl
-both_of_four true false true true d = refl
-both_of_four true false true false d = refl
-both_of_four true false false true d = refl
-both_of_four true false false false d = refl
+pub both_of_three : (t a b c : Bool) → ((t && a) || ((t && b) || (t && c))) ≡ (t && ((a || b) || c))
+both_of_three false a b c = refl
+both_of_three true true b c = refl
+both_of_three true false true c = refl
+both_of_three true false false c = refl
 
 and_or : (t a b : Bool) → ((t && a) || (t && b)) ≡ (t && (a || b))
 and_or true a b = refl
@@ -117,6 +115,13 @@ in_numbers_from files numbers n (s ∷ steps) file m =
     ∙ ap (λ b. is_in (numbers file) m || (b || is_in rest m)) (sym (in_one_or_none here n m))
     ∙ ap (λ b. is_in (numbers file) m || b) (sym (list_any-append (λ k. k == m) (cond here (n ∷ []) []) rest))
 
+pub numbers_from_both : (files : Step → List (List ℕ)) (numbers : Numbers) (n : ℕ) (steps : List Step) (s : Step) →
+    numbers_from files numbers n (steps ++ s ∷ []) ≡ with_numbers (numbers_from files numbers n steps) (files s) (n + length steps)
+numbers_from_both files numbers n [] s = ap (with_numbers numbers (files s)) (let none : n ≡ n + 0 = omega arith in none)
+numbers_from_both files numbers n (t ∷ steps) s =
+    numbers_from_both files (with_numbers numbers (files t) n) (n + 1) steps s
+    ∙ ap (with_numbers (numbers_from files (with_numbers numbers (files t) n) (n + 1) steps) (files s)) (let same : (n + 1) + length steps ≡ n + suc (length steps) = omega arith in same)
+
 -- Numbers below a bound.
 
 below_found : (bound : ℕ) (x m : ℕ) (rest : List ℕ) (among : Bool) → is_in rest m ≡ (nat_lt m bound && among) → (x == m) ≡ true → is_in (cond (nat_lt x bound) (x ∷ rest) rest) m ≡ (nat_lt m bound && true)
@@ -148,12 +153,59 @@ in_touching bound numbers (path ∷ paths) m =
     ∙ (λ i. in_below bound (numbers path) m i || in_touching bound numbers paths m i)
     ∙ and_or (nat_lt m bound) (is_in (numbers path) m) (list_any (λ p. is_in (numbers p) m) paths)
 
+-- numbers below one that isn't below itself
+below_without : (n : ℕ) (numbers : List ℕ) → below n (numbers ++ n ∷ []) ≡ below n numbers
+below_without n numbers = filter-append (λ m. nat_lt m n) numbers (n ∷ []) ∙ (elim (nat_lt n n) as (λ b. nat_lt n n ≡ b → below n numbers ++ cond b (n ∷ []) [] ≡ below n numbers) [
+  | true ↦ λ e. let wrong : n < n = ltb-true n n e in absurd (omega arith)
+  | false ↦ λ e. append-nil (below n numbers)
+] refl)
+
+below_with_number : (n : ℕ) (numbers : Numbers) (path file : List ℕ) → below n (with_number numbers path n file) ≡ below n (numbers file)
+below_with_number n numbers path file = by (bytes_eq file path)
+  where
+    by : (b : Bool) → below n (cond b (numbers file ++ n ∷ []) (numbers file)) ≡ below n (numbers file)
+    by true = below_without n (numbers file)
+    by false = refl
+
+-- what writes a file doesn't count for itself
+pub touching_noted : (n : ℕ) (readers writers : Numbers) (path : List ℕ) (paths : List (List ℕ)) → touching_either n readers (with_number writers path n) paths ≡ touching_either n readers writers paths
+touching_noted n readers writers path [] = refl
+touching_noted n readers writers path (p ∷ paths) =
+    λ i. (below_with_number n writers path p i ++ below n (readers p)) ++ touching_noted n readers writers path paths i
+
+touching_all_noted : (n : ℕ) (readers writers : Numbers) (some paths : List (List ℕ)) → touching_either n readers (with_numbers writers some n) paths ≡ touching_either n readers writers paths
+touching_all_noted n readers writers [] paths = refl
+touching_all_noted n readers writers (p ∷ some) paths = touching_all_noted n readers (with_number writers p n) some paths ∙ touching_noted n readers writers p paths
+
+touching_either_both : (n : ℕ) (readers writers : Numbers) (some others : List (List ℕ)) → touching_either n readers writers some ++ touching_either n readers writers others ≡ touching_either n readers writers (some ++ others)
+touching_either_both n readers writers [] others = refl
+touching_either_both n readers writers (p ∷ paths) others =
+    append_assoc (below n (writers p) ++ below n (readers p)) (touching_either n readers writers paths) (touching_either n readers writers others)
+    ∙ ap (λ ns. (below n (writers p) ++ below n (readers p)) ++ ns) (touching_either_both n readers writers paths others)
+
 -- touching files and further ones
-pub touching_both : (bound : ℕ) (numbers : Numbers) (some others : List (List ℕ)) → touching bound numbers some ++ touching bound numbers others ≡ touching bound numbers (some ++ others)
-touching_both bound numbers [] others = refl
-touching_both bound numbers (path ∷ paths) others =
-    append_assoc (below bound (numbers path)) (touching bound numbers paths) (touching bound numbers others)
-    ∙ ap (λ ns. below bound (numbers path) ++ ns) (touching_both bound numbers paths others)
+pub touching_both : (n : ℕ) (readers writers : Numbers) (some others : List (List ℕ)) →
+    touching_either n readers writers some ++ touching_either n readers (with_numbers writers some n) others ≡ touching_either n readers writers (some ++ others)
+touching_both n readers writers some others =
+    ap (λ ns. touching_either n readers writers some ++ ns) (touching_all_noted n readers writers some others) ∙ touching_either_both n readers writers some others
+
+pub in_touching_either : (bound : ℕ) (readers writers : Numbers) (paths : List (List ℕ)) (m : ℕ) →
+    is_in (touching_either bound readers writers paths) m ≡ (nat_lt m bound && (list_any (λ path. is_in (readers path) m) paths || list_any (λ path. is_in (writers path) m) paths))
+in_touching_either bound readers writers [] m = sym (and_false (nat_lt m bound))
+in_touching_either bound readers writers (path ∷ paths) m =
+    list_any-append (λ k. k == m) (below bound (writers path) ++ below bound (readers path)) (touching_either bound readers writers paths)
+    ∙ ap (λ b. b || is_in (touching_either bound readers writers paths) m) (list_any-append (λ k. k == m) (below bound (writers path)) (below bound (readers path)))
+    ∙ (λ i. (in_below bound (writers path) m i || in_below bound (readers path) m i) || in_touching_either bound readers writers paths m i)
+    ∙ crossed (nat_lt m bound) (is_in (writers path) m) (is_in (readers path) m) (list_any (λ p. is_in (readers p) m) paths) (list_any (λ p. is_in (writers p) m) paths)
+  where
+    crossed : (t w r rs ws : Bool) → (((t && w) || (t && r)) || (t && (rs || ws))) ≡ (t && ((r || rs) || (w || ws)))
+    crossed false w r rs ws = refl
+    crossed true true true rs ws = refl
+    crossed true true false true ws = refl
+    crossed true true false false ws = refl
+    crossed true false true rs ws = refl
+    crossed true false false true ws = refl
+    crossed true false false false ws = refl
 
 pub with_both : (numbers : Numbers) (some others : List (List ℕ)) (n : ℕ) → with_numbers (with_numbers numbers some n) others n ≡ with_numbers numbers (some ++ others) n
 with_both numbers [] others n = refl

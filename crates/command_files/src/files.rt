@@ -1,17 +1,15 @@
 //! The files that a planned command reads and writes according to its words.
 
-ghost use Rattle.std.specs.Prelude.{◌≡◌, ◌<◌, ◌++◌, ◌∷◌, [], length, map, codes, IfOk, IfSome, MatchOption, OnOk, string_bytes};
-ghost use Rattle.std.specs.Option.{option_copied};
+ghost use Rattle.std.specs.Prelude.{◌≡◌, ◌<◌, ◌++◌, ◌∷◌, [], ℕ, List, Option, length, map, codes, IfOk, IfSome, MatchOption, OnOk, string_bytes};
+ghost use Rattle.std.specs.Option.{option_copied, option_map};
 ghost use Rattle.texts.specs.Lists.{rest_after};
-ghost use Rattle.compilers.specs.Compiler.{reading_of};
+ghost use Rattle.compilers.specs.declared.arguments.ParsedArguments.{ParsedArguments};
+ghost use Rattle.device_lines.specs.LineFiles.{files_of as line_files};
+ghost use Rattle.device_lines.specs.Reading.{reading_as_answer};
 ghost use Rattle.command_files.specs.CommandFiles as spec;
 
-use compilers::arguments::{CompilerArguments, ParsedArguments};
-use compilers::compiler::CCompilerImpl;
 use compilers::outputs::Outputs;
-use device_lines::cicc::Cicc;
-use device_lines::cudafe::CudaFE;
-use device_lines::ptxas::Ptxas;
+use device_lines::{LineFiles, cicc_line_files, cudafe_line_files, ptxas_line_files};
 use plans::{NvccGeneratedSubcommand, Program};
 use std::alloc::{AllocError, Global};
 use texts::text::join;
@@ -72,36 +70,6 @@ fn optional_paths(alloc: Global, outputs: &Outputs) -> Result<Words, AllocError>
     Ok(paths)
 }
 
-// The files that a line's arguments read: the input, and the files that count for the outputs.
-fn read_by_arguments(
-    alloc: Global,
-    cwd: &str,
-    parsed: &ParsedArguments,
-) -> Result<Words, AllocError>
-    ensures { IfOk result (λ files. files ≡ (spec.files_of_arguments cwd.now parsed.now).reads) }
-{
-    let mut files = Words::new(alloc);
-    files.push(join(alloc, cwd, parsed.input.as_str())?)?;
-    files.extend(alloc, parsed.extra_hash_files.as_slice())?;
-    Ok(files)
-}
-
-// The files of a line that was read.
-fn files_of_arguments(
-    alloc: Global,
-    cwd: &str,
-    parsed: &ParsedArguments,
-) -> Result<CommandFiles, AllocError>
-    ensures { IfOk result (λ files. files ≡ spec.files_of_arguments cwd.now parsed.now) }
-{
-    Ok(CommandFiles {
-        reads: read_by_arguments(alloc, cwd, parsed)?,
-        writes: certain_paths(alloc, &parsed.outputs)?,
-        may_write: optional_paths(alloc, &parsed.outputs)?,
-        complete: true,
-    })
-}
-
 // The files of a line that leaves out none of those that it writes.
 fn all_written(alloc: Global, reads: Words, writes: Words, complete: bool) -> CommandFiles
     ensures { result ≡ record { reads = reads; writes = writes; may_write = []; complete = complete } }
@@ -121,42 +89,27 @@ fn unknown_files(alloc: Global) -> CommandFiles
     all_written(alloc, Words::new(alloc), Words::new(alloc), false)
 }
 
-// The files of what a line was read as.
-fn files_of_reading(
-    alloc: Global,
-    cwd: &str,
-    reading: &CompilerArguments<ParsedArguments>,
-) -> Result<CommandFiles, AllocError>
-    ensures { IfOk result (λ files. files ≡ spec.files_of_reading cwd.now (reading_of reading.now)) }
+// The files of a device tool's line, if it could be read.
+fn files_of_line(alloc: Global, line: Option<LineFiles>) -> Result<CommandFiles, AllocError>
+    ensures { (cwd : List ℕ) (p : Option ParsedArguments) → line ≡ option_map (line_files cwd) p
+        → IfOk result (λ files. files ≡ spec.files_of_reading cwd (reading_as_answer p)) }
 {
-    match reading {
-        CompilerArguments::Ok(parsed) => files_of_arguments(alloc, cwd, parsed),
-        _ => Ok(unknown_files(alloc)),
+    match line {
+        None => Ok(unknown_files(alloc)),
+        Some(line) => Ok(CommandFiles {
+            writes: certain_paths(alloc, &line.outputs)?,
+            may_write: optional_paths(alloc, &line.outputs)?,
+            reads: line.reads,
+            complete: true,
+        }),
     }
-}
-
-// The files of a line, as a tool reads it.
-fn files_by_reader<C: CCompilerImpl>(
-    alloc: Global,
-    tool: &C,
-    cwd: &str,
-    words: &[String],
-) -> Result<CommandFiles, AllocError>
-    ensures { IfOk result (λ files. files ≡ spec.files_of_reading cwd.now (C.reading tool.now (map string_bytes words.now) cwd.now [])) }
-{
-    let reading = tool.parse_arguments(alloc, words, cwd, &[])?;
-    let files = files_of_reading(alloc, cwd, &reading);
-    // Dropped by a call: see "Explicit drops" in docs/ARCHITECTURE.md.
-    drop(reading);
-    files
 }
 
 // The files of a cicc line.
 fn cicc_files(alloc: Global, cwd: &str, words: &[String]) -> Result<CommandFiles, AllocError>
     ensures { IfOk result (λ files. files ≡ spec.cicc_files cwd.now (map string_bytes words.now)) }
 {
-    let reader = Cicc { version: None };
-    let mut files = files_by_reader(alloc, &reader, cwd, words)?;
+    let mut files = files_of_line(alloc, cicc_line_files(alloc, words, cwd)?)?;
     push_joined(alloc, &mut files.writes, cwd, word_after(words, "-olto"))?;
     Ok(files)
 }
@@ -165,16 +118,14 @@ fn cicc_files(alloc: Global, cwd: &str, words: &[String]) -> Result<CommandFiles
 fn cudafe_files(alloc: Global, cwd: &str, words: &[String]) -> Result<CommandFiles, AllocError>
     ensures { IfOk result (λ files. files ≡ spec.cudafe_files cwd.now (map string_bytes words.now)) }
 {
-    let reader = CudaFE { version: None };
-    files_by_reader(alloc, &reader, cwd, words)
+    files_of_line(alloc, cudafe_line_files(alloc, words, cwd)?)
 }
 
 // The files of a ptxas line.
 fn ptxas_files(alloc: Global, cwd: &str, words: &[String]) -> Result<CommandFiles, AllocError>
     ensures { IfOk result (λ files. files ≡ spec.ptxas_files cwd.now (map string_bytes words.now)) }
 {
-    let reader = Ptxas { version: None };
-    files_by_reader(alloc, &reader, cwd, words)
+    files_of_line(alloc, ptxas_line_files(alloc, words, cwd)?)
 }
 
 // What follows a text that a word begins with.
@@ -334,9 +285,20 @@ pub fn files_of(
 ) -> Result<CommandFiles, AllocError>
     ensures { IfOk result (λ files. files ≡ spec.files_of_words command.now.exe command.now.args command.now.cwd) }
 {
+    files_by(alloc, Program::at(command.exe.as_str()), command)
+}
+
+/// The same of a command whose program is known.
+pub fn files_by(
+    alloc: Global,
+    program: Program,
+    command: &NvccGeneratedSubcommand,
+) -> Result<CommandFiles, AllocError>
+    ensures { IfOk result (λ files. files ≡ spec.files_of_program program command.now.cwd command.now.args) }
+{
     let words = command.args.as_slice();
     let cwd = command.cwd.as_str();
-    match Program::at(command.exe.as_str()) {
+    match program {
         Program::Cicc => cicc_files(alloc, cwd, words),
         Program::Cudafe => cudafe_files(alloc, cwd, words),
         Program::Ptxas => ptxas_files(alloc, cwd, words),

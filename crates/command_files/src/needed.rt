@@ -9,7 +9,7 @@ ghost use Rattle.command_files.specs.Touched as spec;
 
 use crate::files::CommandFiles;
 use crate::steps::{Role, Step, files_of_steps, steps_of};
-use crate::touched::{Touched, push_below, push_touching};
+use crate::touched::{Touched, push_below};
 use plans::Plan;
 use std::alloc::{AllocError, Global};
 use std::marker::Model;
@@ -65,113 +65,71 @@ fn role_numbers(alloc: Global, role: Role, steps: &[Step]) -> Result<Vec<usize>,
     Ok(numbers)
 }
 
-// The commands by the files that they read.
-fn readers_of(alloc: Global, steps: &[Step]) -> Result<Touched, AllocError>
-    ensures { IfOk result (λ touched. spec.touched_seen touched ≡ spec.readers_of steps.now) }
-{
-    let mut touched = Touched::new(alloc);
-    for (number, step) in steps.iter().enumerate() {
-        touched.add_all(alloc, step.files.reads.as_slice(), number)?;
-    }
-    Ok(touched)
-}
-
-// Notes that the command with a number writes files.
-fn add_written(
-    alloc: Global,
-    touched: &mut Touched,
-    step: &Step,
-    number: usize,
-) -> Result<(), AllocError>
-    ensures { OnOk result (spec.touched_seen touched.new ≡ spec.with_numbers (spec.touched_seen touched.old) (spec.written_by step.now) number) }
-{
-    touched.add_all(alloc, step.files.writes.as_slice(), number)?;
-    touched.add_all(alloc, step.files.may_write.as_slice(), number)
-}
-
-// The commands by the files that they write.
-fn writers_of(alloc: Global, steps: &[Step]) -> Result<Touched, AllocError>
-    ensures { IfOk result (λ touched. spec.touched_seen touched ≡ spec.writers_of steps.now) }
-{
-    let mut touched = Touched::new(alloc);
-    for (number, step) in steps.iter().enumerate() {
-        add_written(alloc, &mut touched, step, number)?;
-    }
-    Ok(touched)
-}
-
-/// The commands of a plan, by what may make another one need them.
+/// What makes commands need others whatever their files.
 #[derive(Drop)]
-pub struct Index {
-    /// By the files that they read.
-    pub readers: Touched,
-    /// By the files that they write.
-    pub writers: Touched,
+pub struct RoleNeeds {
     /// What device preprocess steps need.
     pub fronts: Vec<usize>,
     /// What commands of the final group need.
     pub all: Vec<usize>,
 }
 
-// The index of commands.
-fn index_of(alloc: Global, steps: &[Step]) -> Result<Index, AllocError>
-    ensures readers { IfOk result (λ index. spec.touched_seen index.readers ≡ spec.readers_of steps.now) }
-    ensures writers { IfOk result (λ index. spec.touched_seen index.writers ≡ spec.writers_of steps.now) }
-    ensures fronts { IfOk result (λ index. index.fronts.items ≡ spec.role_numbers DeviceStep steps.now) }
-    ensures all { IfOk result (λ index. index.all.items ≡ spec.role_numbers Final steps.now) }
+// What the roles of commands make them need.
+fn role_needs_of(alloc: Global, steps: &[Step]) -> Result<RoleNeeds, AllocError>
+    ensures fronts { IfOk result (λ needs. needs.fronts.items ≡ spec.role_numbers DeviceStep steps.now) }
+    ensures all { IfOk result (λ needs. needs.all.items ≡ spec.role_numbers Final steps.now) }
 {
-    Ok(Index {
-        readers: readers_of(alloc, steps)?,
-        writers: writers_of(alloc, steps)?,
+    Ok(RoleNeeds {
         fronts: role_numbers(alloc, Role::DeviceStep, steps)?,
         all: role_numbers(alloc, Role::Final, steps)?,
     })
 }
 
 // The numbers of the commands that a role needs.
-fn numbers_for(index: &Index, role: Role) -> &[usize]
-    ensures { result.now ≡ spec.numbers_for index.now.fronts.items index.now.all.items role }
+fn numbers_for(needs: &RoleNeeds, role: Role) -> &[usize]
+    ensures { result.now ≡ spec.numbers_for needs.now.fronts.items needs.now.all.items role }
 {
     match role {
         Role::Plain | Role::FrontStep => &[],
-        Role::DeviceStep => index.fronts.as_slice(),
-        Role::Final => index.all.as_slice(),
+        Role::DeviceStep => needs.fronts.as_slice(),
+        Role::Final => needs.all.as_slice(),
     }
 }
 
-// Puts the numbers below a bound last, of commands that touch files which another command writes.
-fn push_touching_written(
+// Notes that the command with a number writes files, and puts the numbers of the earlier ones last that touch one of them.
+fn write_files<'a>(
+    alloc: Global,
+    touched: &mut Touched<'a>,
     needs: &mut Vec<usize>,
-    bound: usize,
-    touched: &Touched,
-    step: &Step,
+    number: usize,
+    step: &'a Step,
 ) -> Result<(), AllocError>
-    ensures { OnOk result (needs.new.items ≡ needs.old.items ++ spec.touching bound (spec.touched_seen touched.now) (spec.written_by step.now)) }
+    ensures needs { OnOk result (needs.new.items ≡ needs.old.items
+        ++ spec.touching_either number (spec.readers_seen touched.old) (spec.writers_seen touched.old) (spec.written_by step.now)) }
+    ensures readers { OnOk result (spec.readers_seen touched.new ≡ spec.readers_seen touched.old) }
+    ensures writers { OnOk result (spec.writers_seen touched.new ≡ spec.with_numbers (spec.writers_seen touched.old) (spec.written_by step.now) number) }
 {
-    push_touching(needs, bound, touched, step.files.writes.as_slice())?;
-    push_touching(needs, bound, touched, step.files.may_write.as_slice())
+    touched.write_all(alloc, needs, number, step.files.writes.as_slice())?;
+    touched.write_all(alloc, needs, number, step.files.may_write.as_slice())
 }
 
-// Where the needs of the command with a number are found.
-fn gathered(
+// Where the needs of the command with a number are found, given the files of the earlier ones, to which it adds its own.
+fn gathered<'a>(
     alloc: Global,
-    index: &Index,
+    touched: &mut Touched<'a>,
+    others: &[usize],
     number: usize,
-    step: &Step,
+    step: &'a Step,
 ) -> Result<Vec<usize>, AllocError>
-    ensures { IfOk result (λ numbers. numbers.items ≡ spec.gathered (spec.touched_seen index.now.readers) (spec.touched_seen index.now.writers)
-        (spec.numbers_for index.now.fronts.items index.now.all.items step.now.role) number step.now) }
+    ensures numbers { IfOk result (λ numbers. numbers.items
+        ≡ spec.gathered (spec.readers_seen touched.old) (spec.writers_seen touched.old) others.now number step.now) }
+    ensures readers { OnOk result (spec.readers_seen touched.new ≡ spec.with_numbers (spec.readers_seen touched.old) (spec.read_by step.now) number) }
+    ensures writers { OnOk result (spec.writers_seen touched.new ≡ spec.with_numbers (spec.writers_seen touched.old) (spec.written_by step.now) number) }
 {
     let mut numbers = Vec::new(alloc);
-    push_touching(
-        &mut numbers,
-        number,
-        &index.writers,
-        step.files.reads.as_slice(),
-    )?;
-    push_touching_written(&mut numbers, number, &index.writers, step)?;
-    push_touching_written(&mut numbers, number, &index.readers, step)?;
-    push_below(&mut numbers, number, numbers_for(index, step.role))?;
+    touched.read_all(alloc, &mut numbers, number, step.files.reads.as_slice())?;
+    write_files(alloc, touched, &mut numbers, number, step)?;
+    push_below(&mut numbers, number, others)?;
     Ok(numbers)
 }
 
@@ -190,10 +148,12 @@ fn each_once(numbers: Vec<usize>) -> Vec<usize>
 fn needs_of_steps(alloc: Global, steps: &[Step]) -> Result<Vec<Vec<usize>>, AllocError>
     ensures { IfOk result (λ needs. map vec_items needs.items ≡ needs_by step_needs steps.now) }
 {
-    let index = index_of(alloc, steps)?;
-    let mut needs = Vec::new(alloc);
+    let by_role = role_needs_of(alloc, steps)?;
+    let mut touched = Touched::with_capacity(alloc, steps.len())?;
+    let mut needs = Vec::with_capacity(alloc, steps.len())?;
     for (number, step) in steps.iter().enumerate() {
-        needs.push(each_once(gathered(alloc, &index, number, step)?))?;
+        let others = numbers_for(&by_role, step.role);
+        needs.push(each_once(gathered(alloc, &mut touched, others, number, step)?))?;
     }
     Ok(needs)
 }

@@ -3,7 +3,7 @@
 ghost use Rattle.std.specs.Prelude.{◌≡◌, ◌++◌, IfOk, OnOk, length, map, string_bytes, vec_items};
 ghost use Rattle.command_files.specs.PlanNeeds as spec;
 
-use crate::files::{CommandFiles, files_of};
+use crate::files::{CommandFiles, files_by};
 use plans::{NvccGeneratedSubcommand, Plan, Program};
 use std::alloc::{AllocError, Global};
 
@@ -79,13 +79,10 @@ fn step_of(
 ) -> Result<Step, AllocError>
     ensures { IfOk result (λ step. step ≡ spec.step_of count group command.now) }
 {
+    let program = Program::at(command.exe.as_str());
     Ok(Step {
-        files: files_of(alloc, command)?,
-        role: role_of(
-            count,
-            group,
-            is_host_compiler(Program::at(command.exe.as_str())),
-        ),
+        files: files_by(alloc, program, command)?,
+        role: role_of(count, group, is_host_compiler(program)),
         preprocesses: preprocesses(command.args.as_slice()),
     })
 }
@@ -131,7 +128,7 @@ pub fn steps_of(alloc: Global, plan: &Plan) -> Result<Vec<Step>, AllocError>
 pub fn files_of_steps(alloc: Global, steps: Vec<Step>) -> Result<Vec<CommandFiles>, AllocError>
     ensures { IfOk result (λ files. files.items ≡ map (λ s. s.files) steps.items) }
 {
-    let mut files = Vec::new(alloc);
+    let mut files = Vec::with_capacity(alloc, steps.len())?;
     for step in steps {
         files.push(step.files)?;
     }

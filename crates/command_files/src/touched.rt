@@ -1,61 +1,117 @@
 //! Files with the numbers of the commands that touch them.
 
-ghost use Rattle.std.specs.Prelude.{◌≡◌, ◌++◌, ℕ, List, map, OnOk, string_bytes};
+ghost use Rattle.std.specs.Prelude.{◌≡◌, ◌++◌, map, OnOk, IfOk, string_bytes};
 ghost use Rattle.command_files.specs.Touched as spec;
 
 use std::alloc::{AllocError, Global};
 use std::collections::HashMap;
 
-/// Files with the numbers of the commands that touch them, in ascending order. Contracts see the function from a path to
-/// its numbers.
+/// The numbers of the commands that read a file, and of those that write it, in ascending order.
 #[derive(Drop)]
-pub struct Touched {
-    numbers: HashMap<String, Vec<usize>>,
+pub struct Users {
+    pub readers: Vec<usize>,
+    pub writers: Vec<usize>,
 }
 
-impl Touched {
-    /// No files.
-    pub fn new(alloc: Global) -> Touched
-        ensures { spec.touched_seen result ≡ spec.no_numbers }
+/// Files with the numbers of the commands that touch them. Contracts see two functions from a path to such numbers.
+#[derive(Drop)]
+pub struct Touched<'a> {
+    users: HashMap<&'a str, Users>,
+}
+
+impl<'a> Touched<'a> {
+    /// No files, with room for `count`.
+    pub fn with_capacity(alloc: Global, count: usize) -> Result<Touched<'a>, AllocError>
+        ensures readers { IfOk result (λ touched. spec.readers_seen touched ≡ spec.no_numbers) }
+        ensures writers { IfOk result (λ touched. spec.writers_seen touched ≡ spec.no_numbers) }
     {
-        Touched {
-            numbers: HashMap::new(alloc),
-        }
+        Ok(Touched {
+            users: HashMap::with_capacity(alloc, count)?,
+        })
     }
 
-    /// Notes that the command with a number touches `path`.
-    pub fn add(&mut self, alloc: Global, path: &str, number: usize) -> Result<(), AllocError>
-        ensures { OnOk result (spec.touched_seen self.new ≡ spec.with_number (spec.touched_seen self.old) path.now number) }
-    {
-        let path = String::from_str(alloc, path)?;
-        self.numbers.entry(path)?.or_default().push(number)?;
-        Ok(())
-    }
-
-    /// Notes that the command with a number touches `paths`.
-    pub fn add_all(
+    // Notes that the command with a number reads `path`, and puts the numbers of the earlier ones last that write it.
+    fn read(
         &mut self,
         alloc: Global,
-        paths: &[String],
+        needs: &mut Vec<usize>,
         number: usize,
+        path: &'a str,
     ) -> Result<(), AllocError>
-        ensures { OnOk result (spec.touched_seen self.new
-            ≡ spec.with_numbers (spec.touched_seen self.old) (map string_bytes paths.now) number) }
+        ensures needs { OnOk result (needs.new.items ≡ needs.old.items ++ spec.below number (spec.writers_seen self.old path.entry.now)) }
+        ensures readers { OnOk result (spec.readers_seen self.new ≡ spec.with_number (spec.readers_seen self.old) path.entry.now number) }
+        ensures writers { OnOk result (spec.writers_seen self.new ≡ spec.writers_seen self.old) }
+    {
+        let users = self.users.entry(path)?.or_insert(Users {
+            readers: Vec::new(alloc),
+            writers: Vec::new(alloc),
+        });
+        push_below(needs, number, users.writers.as_slice())?;
+        users.readers.push(number)?;
+        Ok(())
+    }
+
+    // Notes that the command with a number writes `path`, and puts the numbers of the earlier ones last that touch it.
+    fn write(
+        &mut self,
+        alloc: Global,
+        needs: &mut Vec<usize>,
+        number: usize,
+        path: &'a str,
+    ) -> Result<(), AllocError>
+        ensures needs { OnOk result (needs.new.items
+            ≡ needs.old.items ++ (spec.below number (spec.writers_seen self.old path.entry.now) ++ spec.below number (spec.readers_seen self.old path.entry.now))) }
+        ensures readers { OnOk result (spec.readers_seen self.new ≡ spec.readers_seen self.old) }
+        ensures writers { OnOk result (spec.writers_seen self.new ≡ spec.with_number (spec.writers_seen self.old) path.entry.now number) }
+    {
+        let users = self.users.entry(path)?.or_insert(Users {
+            readers: Vec::new(alloc),
+            writers: Vec::new(alloc),
+        });
+        push_below(needs, number, users.writers.as_slice())?;
+        push_below(needs, number, users.readers.as_slice())?;
+        users.writers.push(number)?;
+        Ok(())
+    }
+
+    /// Notes that the command with a number reads `paths`, and puts the numbers of the earlier ones last that write one of them.
+    pub fn read_all(
+        &mut self,
+        alloc: Global,
+        needs: &mut Vec<usize>,
+        number: usize,
+        paths: &'a [String],
+    ) -> Result<(), AllocError>
+        ensures needs { OnOk result (needs.new.items
+            ≡ needs.old.items ++ spec.touching number (spec.writers_seen self.old) (map string_bytes paths.entry.now)) }
+        ensures readers { OnOk result (spec.readers_seen self.new
+            ≡ spec.with_numbers (spec.readers_seen self.old) (map string_bytes paths.entry.now) number) }
+        ensures writers { OnOk result (spec.writers_seen self.new ≡ spec.writers_seen self.old) }
     {
         for path in paths {
-            self.add(alloc, path.as_str(), number)?;
+            self.read(alloc, needs, number, path.as_str())?;
         }
         Ok(())
     }
 
-    /// The numbers of the commands that touch `path`.
-    pub fn of(&self, path: &str) -> &[usize]
-        ensures { result.now ≡ spec.touched_seen self.now path.now }
+    /// Notes that the command with a number writes `paths`, and puts the numbers of the earlier ones last that touch one of them.
+    pub fn write_all(
+        &mut self,
+        alloc: Global,
+        needs: &mut Vec<usize>,
+        number: usize,
+        paths: &'a [String],
+    ) -> Result<(), AllocError>
+        ensures needs { OnOk result (needs.new.items ≡ needs.old.items
+            ++ spec.touching_either number (spec.readers_seen self.old) (spec.writers_seen self.old) (map string_bytes paths.entry.now)) }
+        ensures readers { OnOk result (spec.readers_seen self.new ≡ spec.readers_seen self.old) }
+        ensures writers { OnOk result (spec.writers_seen self.new
+            ≡ spec.with_numbers (spec.writers_seen self.old) (map string_bytes paths.entry.now) number) }
     {
-        match self.numbers.get(path) {
-            None => &[],
-            Some(numbers) => numbers.as_slice(),
+        for path in paths {
+            self.write(alloc, needs, number, path.as_str())?;
         }
+        Ok(())
     }
 }
 
@@ -67,22 +123,6 @@ pub fn push_below(needs: &mut Vec<usize>, bound: usize, numbers: &[usize]) -> Re
         if *number < bound {
             needs.push(*number)?;
         }
-    }
-    Ok(())
-}
-
-/// Puts the numbers below a bound last, of commands that touch paths.
-pub fn push_touching(
-    needs: &mut Vec<usize>,
-    bound: usize,
-    touched: &Touched,
-    paths: &[String],
-) -> Result<(), AllocError>
-    ensures { OnOk result (needs.new.items
-        ≡ needs.old.items ++ spec.touching bound (spec.touched_seen touched.now) (map string_bytes paths.now)) }
-{
-    for path in paths {
-        push_below(needs, bound, touched.of(path.as_str()))?;
     }
     Ok(())
 }

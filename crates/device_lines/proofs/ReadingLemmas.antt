@@ -7,8 +7,9 @@ use Rattle.compilers.specs.Outputs.{with_entry}
 use Rattle.option_items.specs.Items.{Item, Said, item, option, Completes, words_of, kind_of}
 use Rattle.device_lines.specs.declared.options.ArgData.{ArgData}
 use Rattle.device_lines.specs.declared.reader.gathered.Gathered.{Gathered}
-use Rattle.device_lines.specs.Reading.{is_common, beside, is_unhashed_kind, output_of, module_id_of, is_generating, reading_of_items}
-use Rattle.device_lines.specs.Gathered.{nothing_gathered, with_item, with_output, reading_of_gathered}
+use Rattle.device_lines.specs.declared.reader.named_files.NamedFiles.{NamedFiles}
+use Rattle.device_lines.specs.Reading.{is_common, beside, is_unhashed_kind, output_of, outputs_of, module_id, module_id_of, module_id_file, is_generating, reading_of_items}
+use Rattle.device_lines.specs.Gathered.{no_files, nothing_gathered, with_files_of, with_item, with_output, all_outputs, reading_of_gathered}
 use Rattle.texts.specs.Lists.{latest}
 
 -- what completes an item takes words from the line, and puts none back
@@ -44,18 +45,30 @@ module _ (cwd : List ℕ) where
       let rest = filter (λ j. is_unhashed_kind (kind_of j)) is in
       unhashed-gathered is (with_item cwd g i) ∙ (kept_words (is_unhashed_kind (kind_of i)) g.unhashed (words_of i) (flat_map words_of rest) ∙ ap (λ t. g.unhashed ++ t) (sym (flat_map-cond words_of (is_unhashed_kind (kind_of i)) i rest)))
 
-  outputs-gathered : (is : List (Item ArgData)) (g : Gathered) → (fold (with_item cwd) g is).outputs ≡ fold with_entry g.outputs (filter_map (output_of cwd) is)
-  outputs-gathered [] g = refl
-  outputs-gathered (i ∷ is) g = outputs-gathered is (with_item cwd g i) ∙ (elim (output_of cwd i) as (λ o. fold with_entry (with_output g.outputs o) (filter_map (output_of cwd) is) ≡ fold with_entry g.outputs (cons_option o (filter_map (output_of cwd) is))) [ None ↦ refl | Some e ↦ refl ])
+  files-gathered : (is : List (Item ArgData)) (g : Gathered) → (fold (with_item cwd) g is).files ≡ fold (with_files_of cwd) g.files is
+  files-gathered [] g = refl
+  files-gathered (i ∷ is) g = files-gathered is (with_item cwd g i)
 
-  module_id-gathered : (is : List (Item ArgData)) (g : Gathered) → (fold (with_item cwd) g is).module_id ≡ fold (λ _ x. Some x) g.module_id (filter_map module_id_of is)
-  module_id-gathered [] g = refl
-  module_id-gathered (i ∷ is) g = module_id-gathered is (with_item cwd g i) ∙ (elim (module_id_of i) as (λ o. fold (λ _ x. Some x) (latest g.module_id o) (filter_map module_id_of is) ≡ fold (λ _ x. Some x) g.module_id (cons_option o (filter_map module_id_of is))) [ None ↦ refl | Some x ↦ refl ])
+  outputs-named : (is : List (Item ArgData)) (f : NamedFiles) → (fold (with_files_of cwd) f is).outputs ≡ fold with_entry f.outputs (filter_map (output_of cwd) is)
+  outputs-named [] f = refl
+  outputs-named (i ∷ is) f = outputs-named is (with_files_of cwd f i) ∙ (elim (output_of cwd i) as (λ o. fold with_entry (with_output f.outputs o) (filter_map (output_of cwd) is) ≡ fold with_entry f.outputs (cons_option o (filter_map (output_of cwd) is))) [ None ↦ refl | Some e ↦ refl ])
 
-  makes-gathered : (is : List (Item ArgData)) (g : Gathered) → (fold (with_item cwd) g is).makes_module_id ≡ g.makes_module_id || list_any is_generating is
-  makes-gathered [] g = elim g.makes_module_id as (λ b. b ≡ b || false) [ true ↦ refl | false ↦ refl ]
-  makes-gathered (i ∷ is) g = makes-gathered is (with_item cwd g i) ∙ (elim g.makes_module_id as (λ b. (b || is_generating i) || list_any is_generating is ≡ b || (is_generating i || list_any is_generating is)) [ true ↦ refl | false ↦ refl ])
+  module_id-named : (is : List (Item ArgData)) (f : NamedFiles) → (fold (with_files_of cwd) f is).module_id ≡ fold (λ _ x. Some x) f.module_id (filter_map module_id_of is)
+  module_id-named [] f = refl
+  module_id-named (i ∷ is) f = module_id-named is (with_files_of cwd f i) ∙ (elim (module_id_of i) as (λ o. fold (λ _ x. Some x) (latest f.module_id o) (filter_map module_id_of is) ≡ fold (λ _ x. Some x) f.module_id (cons_option o (filter_map module_id_of is))) [ None ↦ refl | Some x ↦ refl ])
+
+  makes-named : (is : List (Item ArgData)) (f : NamedFiles) → (fold (with_files_of cwd) f is).makes_module_id ≡ f.makes_module_id || list_any is_generating is
+  makes-named [] f = elim f.makes_module_id as (λ b. b ≡ b || false) [ true ↦ refl | false ↦ refl ]
+  makes-named (i ∷ is) f = makes-named is (with_files_of cwd f i) ∙ (elim f.makes_module_id as (λ b. (b || is_generating i) || list_any is_generating is ≡ b || (is_generating i || list_any is_generating is)) [ true ↦ refl | false ↦ refl ])
+
+  -- the files of all items are those that the reading has
+  pub files-named : (is : List (Item ArgData)) → let f = fold (with_files_of cwd) no_files is in
+      (all_outputs cwd f ≡ outputs_of cwd is) × (module_id_file cwd f.makes_module_id f.module_id ≡ module_id_file cwd (list_any is_generating is) (module_id is))
+  files-named is = (
+    rw (outputs-named is no_files, makes-named is no_files, module_id-named is no_files, fold-append with_entry [] (filter_map (output_of cwd) is)) refl,
+    rw (makes-named is no_files, module_id-named is no_files) refl,
+  )
 
   pub reading-gathered : (language : Language) (input : List ℕ) (is : List (Item ArgData)) → reading_of_gathered cwd language input (fold (with_item cwd) nothing_gathered is) ≡ reading_of_items cwd language input is
   reading-gathered language input is =
-      rw (outputs-gathered is nothing_gathered, makes-gathered is nothing_gathered, module_id-gathered is nothing_gathered, common-gathered is nothing_gathered, unhashed-gathered is nothing_gathered, fold-append with_entry [] (filter_map (output_of cwd) is)) refl
+      rw (files-gathered is nothing_gathered, (files-named is).0, (files-named is).1, common-gathered is nothing_gathered, unhashed-gathered is nothing_gathered) refl

@@ -5,10 +5,13 @@ ghost use Rattle.compilers.specs.Compiler.{accepted, reading_of};
 ghost use Rattle.device_lines.specs.Reading as spec;
 
 mod gathered;
+mod line_files;
+mod named_files;
 
 use crate::options::ArgData;
 use compilers::arguments::{CompilerArguments, ParsedArguments};
 use gathered::Gathered;
+pub use line_files::{LineFiles, line_files_of};
 use option_items::items::Line;
 use option_items::table::SearchableArgInfo;
 use std::alloc::{AllocError, Global};

@@ -1,60 +1,30 @@
 //! What the reader of device tools' lines gathers, item by item.
 
-ghost use Rattle.std.specs.Prelude.{◌≡◌, ◌∷◌, [], true, false, IfOk, OnOk, string_bytes};
+ghost use Rattle.std.specs.Prelude.{◌≡◌, true, false, IfOk, OnOk};
 ghost use Rattle.std.specs.List.{fold};
 ghost use Rattle.option_items.specs.Items.{items};
 ghost use Rattle.option_items.specs.Views.{item_seen, item_viewed};
 ghost use Rattle.compilers.specs.Arguments.{plain_arguments};
 ghost use Rattle.compilers.specs.Compiler.{accepted, reading_of};
-ghost use Rattle.compilers.specs.Outputs.{with_entry};
-ghost use Rattle.texts.specs.Path.{joined};
 ghost use Rattle.device_lines.specs.Reading as spec;
 
+use super::named_files::NamedFiles;
 use crate::options::ArgData;
 use compilers::arguments::{CompilerArguments, ParsedArguments};
-use compilers::outputs::{ArtifactDescriptor, OBJ, Outputs};
 use option_items::items::{ArgParseError, Line};
 use option_items::table::SearchableArgInfo;
 use option_items::views::{ArgumentView, view_item};
 use std::alloc::{AllocError, Global};
-use std::marker::Model;
 use texts::language::Language;
-use texts::text::{Text, join};
+use texts::text::Text;
 use texts::words::Words;
-
-/// A path as a line gives it, borrowed from one of the line's words.
-#[derive(Drop)]
-pub struct GivenPath<'a> {
-    text: &'a str,
-}
-
-impl<'a> Model for GivenPath<'a> {
-    ghost use Rattle.std.specs.Prelude.{List, ℕ};
-
-    ghost Value = { List ℕ };
-
-    ghost view = { λ p. p.text.now };
-}
-
-// A list of one word.
-fn one_word(alloc: Global, word: String) -> Result<Words, AllocError>
-    ensures { IfOk result (λ w. w ≡ string_bytes word ∷ []) }
-{
-    let mut words = Words::with_capacity(alloc, 1)?;
-    words.push(word)?;
-    Ok(words)
-}
 
 /// The words and files of the items so far.
 #[derive(Drop)]
 pub struct Gathered<'a> {
     pub common: Words,
     pub unhashed: Words,
-    pub outputs: Outputs,
-    /// The last path of a module id file, as the line gives it.
-    pub module_id: Option<GivenPath<'a>>,
-    /// Whether the tool writes the module id file.
-    pub makes_module_id: bool,
+    pub files: NamedFiles<'a>,
     /// Whether the last item was an unknown flag. A raw word after it may be its value.
     pub after_unknown: bool,
 }
@@ -69,9 +39,7 @@ impl<'a> Gathered<'a> {
         Ok(Gathered {
             common: Words::with_capacity(alloc, count)?,
             unhashed: Words::new(alloc),
-            outputs: Outputs::new(alloc),
-            module_id: None,
-            makes_module_id: false,
+            files: NamedFiles::new(alloc),
             after_unknown: false,
         })
     }
@@ -93,24 +61,6 @@ impl<'a> Gathered<'a> {
             self.take(alloc, cwd, item)?;
         }
         Ok(())
-    }
-
-    // Records the file that an option names, joined to the working directory, and whether it is optional.
-    fn record(
-        &mut self,
-        alloc: Global,
-        key: &'static str,
-        cwd: &str,
-        path: &str,
-        optional: bool,
-    ) -> Result<(), AllocError>
-        ensures { OnOk result (self.new ≡ record self.old {
-          outputs = with_entry self.old.outputs (key.now, spec.made_at optional (joined cwd.now path.now));
-        }) }
-    {
-        let path = Text::new(join(alloc, cwd, path)?);
-        let made = ArtifactDescriptor { path, optional };
-        self.outputs.insert(key, made)
     }
 
     // Takes the next item. On an error a part of it may be there.
@@ -152,67 +102,28 @@ impl<'a> Gathered<'a> {
         requires goes_on { self.old.after_unknown ≡ false }
         ensures { OnOk result (self.new ≡ with_item cwd.now self.old (item_seen option.entry)) }
     {
-        let (kind, text, value) = match option {
+        self.files.take(alloc, cwd, option)?;
+        let kind = match option {
             ArgumentView::Raw(_) | ArgumentView::UnknownFlag(_) => return Ok(()),
-            ArgumentView::Flag(text, kind) => (kind, text, ""),
-            ArgumentView::WithValue(text, kind, value, _) => (kind, text, value),
+            ArgumentView::Flag(_, kind) | ArgumentView::WithValue(_, kind, _, _) => kind,
         };
         match kind {
-            ArgData::Output => self.record(alloc, OBJ, cwd, value, false),
-            ArgData::PassThrough => option.write(alloc, &mut self.common),
-            ArgData::GenModuleIdFileFlag => {
-                self.makes_module_id = true;
+            ArgData::Output => Ok(()),
+            ArgData::PassThrough | ArgData::GenModuleIdFileFlag | ArgData::ModuleIdFileName => {
                 option.write(alloc, &mut self.common)
             }
-            ArgData::ModuleIdFileName => {
-                self.module_id = Some(GivenPath { text: value });
-                option.write(alloc, &mut self.common)
-            }
-            ArgData::UnhashedFlag | ArgData::UnhashedPassThrough => {
-                option.write(alloc, &mut self.unhashed)
-            }
-            ArgData::UnhashedOutput => {
-                self.record(alloc, text, cwd, value, false)?;
+            ArgData::UnhashedFlag | ArgData::UnhashedPassThrough | ArgData::UnhashedOutput => {
                 option.write(alloc, &mut self.unhashed)
             }
         }
     }
 
-    // Records the module id file as an output, if the tool writes it.
-    fn record_module_id(&mut self, alloc: Global, cwd: &str) -> Result<(), AllocError>
-        ensures { OnOk result (self.new ≡ record self.old {
-          outputs = fold with_entry self.old.outputs (spec.module_id_output cwd.now self.old.makes_module_id self.old.module_id);
-        }) }
-    {
-        let Some(path) = &self.module_id else {
-            return Ok(());
-        };
-        if !self.makes_module_id {
-            return Ok(());
-        }
-        let path = path.text;
-        self.record(alloc, "--module_id_file_name", cwd, path, true)
-    }
-
-    // The module id file, if the tool reads it.
-    fn module_id_file(&self, alloc: Global, cwd: &str) -> Result<Words, AllocError>
-        ensures { IfOk result (λ w. w ≡ spec.module_id_file cwd.now self.now.makes_module_id self.now.module_id) }
-    {
-        match &self.module_id {
-            Some(path) if !self.makes_module_id => {
-                let path = join(alloc, cwd, path.text)?;
-                one_word(alloc, path)
-            }
-            _ => Ok(Words::new(alloc)),
-        }
-    }
-
-    // The same in two lists.
+    // The module id file, if the tool reads it, in two lists.
     fn module_id_files(&self, alloc: Global, cwd: &str) -> Result<(Words, Words), AllocError>
-        ensures first { IfOk result (λ w. w.0 ≡ spec.module_id_file cwd.now self.now.makes_module_id self.now.module_id) }
-        ensures second { IfOk result (λ w. w.1 ≡ spec.module_id_file cwd.now self.now.makes_module_id self.now.module_id) }
+        ensures first { IfOk result (λ w. w.0 ≡ spec.module_id_file cwd.now self.now.files.makes_module_id self.now.files.module_id) }
+        ensures second { IfOk result (λ w. w.1 ≡ spec.module_id_file cwd.now self.now.files.makes_module_id self.now.files.module_id) }
     {
-        let first = self.module_id_file(alloc, cwd)?;
+        let first = self.files.module_id_file(alloc, cwd)?;
         let second = first.try_clone(alloc)?;
         Ok((first, second))
     }
@@ -225,14 +136,14 @@ impl<'a> Gathered<'a> {
         input: Text,
         files: (Words, Words),
     ) -> ParsedArguments
-        ensures { result ≡ record (plain_arguments input language self.entry.outputs) {
+        ensures { result ≡ record (plain_arguments input language self.entry.files.outputs) {
           common_args = self.entry.common;
           unhashed_args = self.entry.unhashed;
           extra_dist_files = files.0;
           extra_hash_files = files.1;
         } }
     {
-        let mut arguments = ParsedArguments::of(alloc, input, language, self.outputs);
+        let mut arguments = ParsedArguments::of(alloc, input, language, self.files.outputs);
         arguments.common_args = self.common;
         arguments.unhashed_args = self.unhashed;
         arguments.extra_dist_files = files.0;
@@ -251,7 +162,7 @@ impl<'a> Gathered<'a> {
         ensures { IfOk result (λ r. reading_of r ≡ accepted (reading_of_gathered cwd.now language input.now self.entry)) }
     {
         let mut gathered = self;
-        gathered.record_module_id(alloc, cwd)?;
+        gathered.files.record_module_id(alloc, cwd)?;
         let files = gathered.module_id_files(alloc, cwd)?;
         let input = Text::copy_of(alloc, input)?;
         let arguments = gathered.into_arguments(alloc, language, input, files);

@@ -1,0 +1,177 @@
+//! The files that the items of a device tool's line name.
+
+ghost use Rattle.std.specs.Prelude.{◌≡◌, ◌∷◌, [], true, false, None, IfOk, OnOk, string_bytes};
+ghost use Rattle.std.specs.List.{fold};
+ghost use Rattle.option_items.specs.Items.{items};
+ghost use Rattle.option_items.specs.Views.{item_seen, item_viewed};
+ghost use Rattle.compilers.specs.Outputs.{with_entry};
+ghost use Rattle.texts.specs.Path.{joined};
+ghost use Rattle.device_lines.specs.Reading as spec;
+
+use crate::options::ArgData;
+use compilers::outputs::{ArtifactDescriptor, OBJ, Outputs};
+use option_items::items::{ArgParseError, Line};
+use option_items::table::SearchableArgInfo;
+use option_items::views::{ArgumentView, view_item};
+use std::alloc::{AllocError, Global};
+use std::marker::Model;
+use texts::text::{Text, join};
+use texts::words::Words;
+
+/// A path as a line gives it, borrowed from one of the line's words.
+#[derive(Drop)]
+pub struct GivenPath<'a> {
+    text: &'a str,
+}
+
+impl<'a> Model for GivenPath<'a> {
+    ghost use Rattle.std.specs.Prelude.{List, ℕ};
+
+    ghost Value = { List ℕ };
+
+    ghost view = { λ p. p.text.now };
+}
+
+// A list of one word.
+fn one_word(alloc: Global, word: String) -> Result<Words, AllocError>
+    ensures { IfOk result (λ w. w ≡ string_bytes word ∷ []) }
+{
+    let mut words = Words::with_capacity(alloc, 1)?;
+    words.push(word)?;
+    Ok(words)
+}
+
+/// The files of the items so far.
+#[derive(Drop)]
+pub struct NamedFiles<'a> {
+    pub outputs: Outputs,
+    /// The last path of a module id file, as the line gives it.
+    pub module_id: Option<GivenPath<'a>>,
+    /// Whether the tool writes the module id file.
+    pub makes_module_id: bool,
+}
+
+impl<'a> NamedFiles<'a> {
+    ghost use Rattle.device_lines.specs.Gathered.{no_files, with_files_of};
+
+    /// None yet.
+    pub fn new(alloc: Global) -> NamedFiles<'a>
+        ensures { result ≡ no_files }
+    {
+        NamedFiles {
+            outputs: Outputs::new(alloc),
+            module_id: None,
+            makes_module_id: false,
+        }
+    }
+
+    // Records the file that an option names, joined to the working directory, and whether it is optional.
+    fn record(
+        &mut self,
+        alloc: Global,
+        key: &'static str,
+        cwd: &str,
+        path: &str,
+        optional: bool,
+    ) -> Result<(), AllocError>
+        ensures { OnOk result (self.new ≡ record self.old {
+          outputs = with_entry self.old.outputs (key.now, spec.made_at optional (joined cwd.now path.now));
+        }) }
+    {
+        let path = Text::new(join(alloc, cwd, path)?);
+        let made = ArtifactDescriptor { path, optional };
+        self.outputs.insert(key, made)
+    }
+
+    /// Takes the next item, if it is an option of the table; another names no file.
+    pub fn take(
+        &mut self,
+        alloc: Global,
+        cwd: &str,
+        item: ArgumentView<'a, ArgData>,
+    ) -> Result<(), AllocError>
+        ensures { OnOk result (self.new ≡ with_files_of cwd.now self.old (item_seen item.entry)) }
+    {
+        let (kind, text, value) = match item {
+            ArgumentView::Raw(_) | ArgumentView::UnknownFlag(_) => return Ok(()),
+            ArgumentView::Flag(text, kind) => (kind, text, ""),
+            ArgumentView::WithValue(text, kind, value, _) => (kind, text, value),
+        };
+        match kind {
+            ArgData::Output => self.record(alloc, OBJ, cwd, value, false),
+            ArgData::UnhashedOutput => self.record(alloc, text, cwd, value, false),
+            ArgData::GenModuleIdFileFlag => {
+                self.makes_module_id = true;
+                Ok(())
+            }
+            ArgData::ModuleIdFileName => {
+                self.module_id = Some(GivenPath { text: value });
+                Ok(())
+            }
+            ArgData::PassThrough | ArgData::UnhashedFlag | ArgData::UnhashedPassThrough => Ok(()),
+        }
+    }
+
+    // Takes the next item. One that can't be read names no file.
+    fn take_read(
+        &mut self,
+        alloc: Global,
+        cwd: &str,
+        item: Result<ArgumentView<'a, ArgData>, ArgParseError>,
+    ) -> Result<(), AllocError>
+        ensures { OnOk result (self.new ≡ with_files_of cwd.now self.old (item_viewed item.entry)) }
+    {
+        match item {
+            Err(_) => Ok(()),
+            Ok(item) => self.take(alloc, cwd, item),
+        }
+    }
+
+    /// Takes all items of a line. On an error some of them may be there.
+    pub fn take_line<S: SearchableArgInfo<ArgData>>(
+        &mut self,
+        alloc: Global,
+        cwd: &str,
+        line: Line<'a>,
+        table: &S,
+    ) -> Result<(), AllocError>
+        ensures { OnOk result (self.new ≡ fold (with_files_of cwd.now) self.old (items (S.chosen table.now) line.entry)) }
+    {
+        let mut line = line;
+        while let Some(word) = line.next_word() {
+            let row = table.search(word);
+            let item = view_item(row, word, &mut line);
+            self.take_read(alloc, cwd, item)?;
+        }
+        Ok(())
+    }
+
+    /// Records the module id file as an output, if the tool writes it.
+    pub fn record_module_id(&mut self, alloc: Global, cwd: &str) -> Result<(), AllocError>
+        ensures { OnOk result (self.new ≡ record self.old {
+          outputs = fold with_entry self.old.outputs (spec.module_id_output cwd.now self.old.makes_module_id self.old.module_id);
+        }) }
+    {
+        let Some(path) = &self.module_id else {
+            return Ok(());
+        };
+        if !self.makes_module_id {
+            return Ok(());
+        }
+        let path = path.text;
+        self.record(alloc, "--module_id_file_name", cwd, path, true)
+    }
+
+    /// The module id file, if the tool reads it.
+    pub fn module_id_file(&self, alloc: Global, cwd: &str) -> Result<Words, AllocError>
+        ensures { IfOk result (λ w. w ≡ spec.module_id_file cwd.now self.now.makes_module_id self.now.module_id) }
+    {
+        match &self.module_id {
+            Some(path) if !self.makes_module_id => {
+                let path = join(alloc, cwd, path.text)?;
+                one_word(alloc, path)
+            }
+            _ => Ok(Words::new(alloc)),
+        }
+    }
+}
