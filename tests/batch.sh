@@ -389,19 +389,41 @@ products() {
 }
 
 failures() {
-    begin 'statuses and messages in the order of the list'
-    write one.cu 'echo "one says" >&2' 'sleep 0.3; echo "one also"'
-    write two.cu ':' 'echo "two fails" >&2; exit 7' 'sleep 0.1; echo two >> made'
-    write three.cu 'echo "three fails"; exit 5' 'echo never'
-    write whole.cu 'echo "nvcc fails" >&2; exit 9'
-    write four.cu 'echo four' 'echo four >> made'
-    for at in one two three whole four; do list+="nvcc -c $at.cu -o $at.o"$'\n'; done
-    batch
-    same status "$status" 7
-    same output "$(cat "$room/out")" $'one also\nthree fails\nfour'
-    same messages "$(cat "$room/err")" "$(printf '%s\n' 'one says' 'two fails' 'zigrunk-batch: line 2: exit status 7: nvcc -c two.cu -o two.o' \
-        'zigrunk-batch: line 3: exit status 5: nvcc -c three.cu -o three.o' 'nvcc fails' 'zigrunk-batch: line 4: exit status 9: nvcc -c whole.cu -o whole.o')"
-    same made "$(sort made)" $'four\ntwo'
+    for runner in '' env; do
+        begin "statuses and messages in the order of the list, runner '$runner'"
+        write one.cu 'echo "one says" >&2' 'sleep 0.3; echo "one also"'
+        write two.cu ':' 'echo "two fails" >&2; exit 7' 'sleep 0.1; echo two >> made'
+        write three.cu 'echo "three fails"; exit 5' 'echo never'
+        write whole.cu 'echo "nvcc fails" >&2; exit 9'
+        write four.cu 'echo four' 'echo four >> made'
+        for at in one two three whole four; do list+="nvcc -c $at.cu -o $at.o"$'\n'; done
+        batch ZIGRUNK_RUNNER="$runner"
+        same status "$status" 7
+        same output "$(cat "$room/out")" $'one also\nthree fails\nfour'
+        same messages "$(cat "$room/err")" "$(printf '%s\n' 'one says' 'two fails' 'zigrunk-batch: line 2: exit status 7: nvcc -c two.cu -o two.o' \
+            'zigrunk-batch: line 3: exit status 5: nvcc -c three.cu -o three.o' 'nvcc fails' 'zigrunk-batch: line 4: exit status 9: nvcc -c whole.cu -o whole.o')"
+        same made "$(sort made)" $'four\ntwo'
+        end
+    done
+
+    begin 'a command that a signal ends'
+    write a.cu 'kill -KILL $$'
+    list='-c a.cu -o a.o'
+    for settings in ZIGRUNK_RUNNER= ZIGRUNK_RUNNER=env 'ZIGRUNK_RUNNER=env ZIGRUNK_LOG=log'; do
+        # shellcheck disable=SC2086 # several variables
+        batch $settings
+        same "status and messages, $settings" "$status $(cat "$room/err")" $'137 Killed\nzigrunk-batch: line 1: exit status 137: -c a.cu -o a.o'
+    done
+    same 'commands in the log' "$(grep -o '"status":137' log | wc -l)" 2
+    end
+
+    begin 'a folder with an odd name, by a runner'
+    mkdir "a b'\$c"
+    write a.cu 'echo "$PWD"' 'exit 5'
+    list='-c a.cu -o a.o'
+    batch ZIGRUNK_RUNNER=env ZIGRUNK_TMP="$PWD/a b'\$c"
+    same 'status and output' "$status $(cat "$room/out")" "5 $PWD"
+    same 'files left' "$(ls -A "a b'\$c")" ''
     end
 
     begin 'a line that no shell can read'
@@ -802,9 +824,9 @@ arrays() {
     done
 }
 
-# stops SIGNAL STATUS PHASE COMMANDS: a signal to the script while it plans or builds, once so many commands run.
+# stops SIGNAL STATUS PHASE COMMANDS [RUNNER]: a signal to the script while it plans or builds, once so many commands run.
 stops() {
-    begin "the signal $1 while it $3"
+    begin "the signal $1 while it $3, runner '${5-}'"
     write a.cu 'echo started >> started; sleep 30; echo a >> made'
     write whole.cu 'echo started >> started; sleep 30; echo whole >> made'
     printf '%s\n' '-c a.cu -o a.o' '-c whole.cu -o w.o' > list
@@ -815,7 +837,7 @@ stops() {
         rm whole.cu && printf '%s\n' '-c a.cu -o a.o' > list
     fi
     : > started
-    env --default-signal=HUP,INT,TERM LOG="$room/log" TMPDIR="$room/tmp" STARTED="$room/work/started" PATH="$room/bin:$PATH" "${shell[@]}" "$script" list > "$room/out" 2>&1 &
+    env --default-signal=HUP,INT,TERM LOG="$room/log" TMPDIR="$room/tmp" STARTED="$room/work/started" PATH="$room/bin:$PATH" ZIGRUNK_RUNNER="${5-}" "${shell[@]}" "$script" list > "$room/out" 2>&1 &
     local process=$! begun
     within 20 all_run "$4" || problems+="  $(wc -l < started) commands start, not $4"$'\n'
     begun=$EPOCHREALTIME
@@ -855,6 +877,7 @@ cases() {
     places
     arrays
     stops TERM 143 builds 2
+    stops TERM 143 builds 2 env
     stops INT 130 builds 2
     stops HUP 129 builds 2
     stops TERM 143 plans 1
