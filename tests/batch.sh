@@ -389,19 +389,41 @@ products() {
 }
 
 failures() {
-    begin 'statuses and messages in the order of the list'
-    write one.cu 'echo "one says" >&2' 'sleep 0.3; echo "one also"'
-    write two.cu ':' 'echo "two fails" >&2; exit 7' 'sleep 0.1; echo two >> made'
-    write three.cu 'echo "three fails"; exit 5' 'echo never'
-    write whole.cu 'echo "nvcc fails" >&2; exit 9'
-    write four.cu 'echo four' 'echo four >> made'
-    for at in one two three whole four; do list+="nvcc -c $at.cu -o $at.o"$'\n'; done
-    batch
-    same status "$status" 7
-    same output "$(cat "$room/out")" $'one also\nthree fails\nfour'
-    same messages "$(cat "$room/err")" "$(printf '%s\n' 'one says' 'two fails' 'zigrunk-batch: line 2: exit status 7: nvcc -c two.cu -o two.o' \
-        'zigrunk-batch: line 3: exit status 5: nvcc -c three.cu -o three.o' 'nvcc fails' 'zigrunk-batch: line 4: exit status 9: nvcc -c whole.cu -o whole.o')"
-    same made "$(sort made)" $'four\ntwo'
+    for runner in '' env; do
+        begin "statuses and messages in the order of the list, runner '$runner'"
+        write one.cu 'echo "one says" >&2' 'sleep 0.3; echo "one also"'
+        write two.cu ':' 'echo "two fails" >&2; exit 7' 'sleep 0.1; echo two >> made'
+        write three.cu 'echo "three fails"; exit 5' 'echo never'
+        write whole.cu 'echo "nvcc fails" >&2; exit 9'
+        write four.cu 'echo four' 'echo four >> made'
+        for at in one two three whole four; do list+="nvcc -c $at.cu -o $at.o"$'\n'; done
+        batch ZIGRUNK_RUNNER="$runner"
+        same status "$status" 7
+        same output "$(cat "$room/out")" $'one also\nthree fails\nfour'
+        same messages "$(cat "$room/err")" "$(printf '%s\n' 'one says' 'two fails' 'zigrunk-batch: line 2: exit status 7: nvcc -c two.cu -o two.o' \
+            'zigrunk-batch: line 3: exit status 5: nvcc -c three.cu -o three.o' 'nvcc fails' 'zigrunk-batch: line 4: exit status 9: nvcc -c whole.cu -o whole.o')"
+        same made "$(sort made)" $'four\ntwo'
+        end
+    done
+
+    begin 'a command that a signal ends'
+    write a.cu 'kill -KILL $$'
+    list='-c a.cu -o a.o'
+    for settings in ZIGRUNK_RUNNER= ZIGRUNK_RUNNER=env 'ZIGRUNK_RUNNER=env ZIGRUNK_LOG=log'; do
+        # shellcheck disable=SC2086 # several variables
+        batch $settings
+        same "status and messages, $settings" "$status $(cat "$room/err")" $'137 Killed\nzigrunk-batch: line 1: exit status 137: -c a.cu -o a.o'
+    done
+    same 'commands in the log' "$(grep -o '"status":137' log | wc -l)" 2
+    end
+
+    begin 'a folder with an odd name, by a runner'
+    mkdir "a b'\$c"
+    write a.cu 'echo "$PWD"' 'exit 5'
+    list='-c a.cu -o a.o'
+    batch ZIGRUNK_RUNNER=env ZIGRUNK_TMP="$PWD/a b'\$c"
+    same 'status and output' "$status $(cat "$room/out")" "5 $PWD"
+    same 'files left' "$(ls -A "a b'\$c")" ''
     end
 
     begin 'a line that no shell can read'
@@ -473,11 +495,11 @@ failures() {
         # shellcheck disable=SC2086 # several words
         batch ${words%:*}
         same "status and messages, $words" "$status $(cat "$room/err")" \
-            "2 zigrunk-batch: ${words##*:}"$'\n''usage: zigrunk-batch [-j N] [-k N] [--progress] [FILE]'
+            "2 zigrunk-batch: ${words##*:}"$'\n''usage: zigrunk-batch [-j N] [-k N] [--progress] [--incremental] [FILE]'
     done
     for word in -h --help; do
         batch "$word"
-        same "status and output, $word" "$status $(head -n 1 "$room/out") $(grep -c '^-[jkh]' "$room/out")" '0 usage: zigrunk-batch [-j N] [-k N] [--progress] [FILE] 3'
+        same "status and output, $word" "$status $(head -n 1 "$room/out") $(grep -c '^-[jkh]' "$room/out")" '0 usage: zigrunk-batch [-j N] [-k N] [--progress] [--incremental] [FILE] 3'
     done
     batch --version
     same 'status and output' "$status $(cat "$room/out")" '0 zigrunk-batch 1.2.3'
@@ -516,6 +538,137 @@ failures() {
     list='-c a.cu -o a.o'
     batch DRY_RUN='sleep 0.6' --progress
     same 'messages while nothing has ended' "$(head -n 1 "$room/err")" 'zigrunk-batch: plans 1 of 1'
+    end
+}
+
+# reading NAME HEADER..: a source whose preprocessor reads these, and whose call adds NAME to made.
+reading() {
+    write "$1.cu" "printf '# 0 \"$1.cu\"\\n# 0 \"<built-in>\"\\n' > \"\${0%/*}/k.ii\"; printf '# 1 \"%s\" 1\\n# 2 \"$1.cu\" 2\\n' ${*:2} >> \"\${0%/*}/k.ii\"" "echo $1 >> made"
+}
+
+# made_by WHAT NAMES [WORD..]: which calls a batch with --incremental makes.
+made_by() {
+    rm -f made
+    batch "${@:3}" --incremental
+    same "status and messages, $1" "$status$(cat "$room/err")" 0
+    same "calls, $1" "$(sort made 2> /dev/null | tr '\n' ' ')" "$2"
+}
+
+incremental() {
+    begin 'only what is out of date'
+    mkdir 'in c'
+    touch a.h 'in c/b.h' 'in c/q"\h' other.rsp
+    reading a a.h "'in c/b.h'"
+    reading b "'in c/q\\\"\\\\h'" "'<command line>'"
+    list=$'-c a.cu -o a.o\n-c b.cu -o b.o --options-file other.rsp'
+    made_by 'the first time' 'a b '
+    made_by 'nothing has changed' ''
+    same 'plans, nothing has changed' "$(logged calls)" 0
+    echo x > a.h
+    made_by 'a header has changed' 'a '
+    sleep 0.02 && touch 'in c/b.h'
+    made_by 'a header is newer' 'a '
+    echo x > 'in c/q"\h'
+    made_by 'a header with an odd name has changed' 'b '
+    echo ': x' >> b.cu
+    made_by 'a source has changed' 'b '
+    echo x >> other.rsp
+    made_by 'a file that a word names has changed' 'b '
+    rm a.o
+    made_by 'a product is gone' 'a '
+    echo x > b.o
+    made_by 'a product has changed' 'b '
+    rm a.h
+    batch --incremental
+    same 'a header is gone' "$(sort made)" $'a\nb'
+    made_by 'a header is missing' 'a '
+    touch a.h
+    made_by 'it is there again' 'a '
+    made_by 'words of a variable' 'a b ' NVCC_APPEND_FLAGS=-DX
+    made_by 'the words are as before' 'a b '
+    list=$'-c a.cu -o a.o -DX="$X"\n-c b.cu -o b.o --options-file other.rsp'
+    made_by 'a word is new' 'a ' X=1
+    made_by 'its value is the same' '' X=1
+    made_by 'its value is new' 'a ' X=2
+    printf '#!/bin/sh\nexec nvcc "$@"\n' > "$room/nvcc" && chmod +x "$room/nvcc"
+    made_by 'another nvcc' 'a b ' X=2 ZIGRUNK_NVCC="$room/nvcc"
+    echo >> "$room/nvcc"
+    made_by 'a new nvcc' 'a b ' X=2 ZIGRUNK_NVCC="$room/nvcc"
+    batch
+    same 'without the option' "$(sort made | tr '\n' ' ')" 'a a b b '
+    end
+
+    begin 'what is made again each time'
+    write a.cu 'echo a >> made'
+    reading b b.h
+    touch b.h
+    echo 'sleep 0.1; echo >> b.h' >> b.cu
+    write c.cu 'printf "# 1 \"c.cu\"\n" > "${0%/*}/k.ii"; echo no >> "${0%/*}/l.ii"; echo c >> made'
+    list=$'-c a.cu -o a.o\n-c b.cu -o b.o\n-c c.cu -o c.o\necho d >> made'
+    made_by 'the first time' 'a b c d '
+    made_by 'nobody knows what they read, or it changed meanwhile' 'a b c d '
+    reading a
+    echo 'exit 3' >> a.cu
+    list='-c a.cu -o a.o'
+    batch --incremental && batch --incremental
+    same 'the status of a call that fails' "$status $(logged calls)" '3 1'
+    end
+
+    begin 'dependency files'
+    for line in '-MD -MF o.d:o.d' '-MMD -MF=o.d:o.d' '-MD:sub/k.d'; do
+        rm -rf ./* .zigrunk-batch && mkdir sub && touch k.c 'a b.h' 'c#$.h'
+        printf 'sub/k.o : k.c a\\ b.h \\\n  c\\#$$.h\na.h:\n' > "${line#*:}"
+        list="gcc ${line%:*} -c k.c -o sub/k.o"
+        batch ZIGRUNK_RUNNER=runner --incremental
+        same "status and calls, $line" "$status $(logged '^runner')" '0 1'
+        batch ZIGRUNK_RUNNER=runner --incremental
+        same "calls, $line, nothing has changed" "$status $(logged '^runner')" '0 0'
+        for file in k.c 'a b.h' 'c#$.h'; do
+            echo x >> "$file"
+            batch ZIGRUNK_RUNNER=runner --incremental
+            same "calls, $line, $file has changed" "$status $(logged '^runner')" '0 1'
+        done
+    done
+    list='gcc -c k.c -o sub/k.o'
+    batch ZIGRUNK_RUNNER=runner --incremental
+    batch ZIGRUNK_RUNNER=runner --incremental
+    same 'calls without a dependency file' "$status $(logged '^runner')" '0 1'
+    end
+
+    begin 'where the records are'
+    mkdir far
+    touch far/a.h
+    (cd far && reading a a.h)
+    echo '[{"directory": ".", "file": "a.cu", "command": "nvcc -c a.cu -o a.o"}]' > far/compile_commands.json
+    batch --incremental far/compile_commands.json
+    batch --incremental far/compile_commands.json
+    same 'status, calls and records' "$status $(logged calls) $(find . -name .zigrunk-batch)" '0 0 ./far/.zigrunk-batch'
+    touch .zigrunk-batch
+    list='-c a.cu -o a.o'
+    batch --incremental
+    same 'status and messages' "$status $(cat "$room/err")" "1 zigrunk-batch: cannot make $PWD/.zigrunk-batch"
+    end
+
+    begin 'calls that a batch has made'
+    touch a.h 'b #$.h'
+    reading a a.h "'b #\$.h'"
+    write b.cu ':'
+    list=$'-c a.cu -o a.o "-DA=\'"\n-c b.cu -o b.o'
+    batch --incremental
+    batch --unless-made nvcc -MD -MT a.o -MF a.d -c a.cu -o a.o "-DA='"
+    same 'status, output and calls of nvcc' "$status$(cat "$room/out" "$room/err") $(logged '^nvcc')" '0 0'
+    # shellcheck disable=SC1003 # a backslash
+    same 'its dependency file' "$(grep -v /nvcc a.d)" $'a.o: \\\n a.cu \\\n a.h \\\n b\\ \\#$$.h'
+    rm a.d
+    batch --unless-made zigrunk-nvcc -c a.cu -o a.o "-DA='"
+    same 'status, calls of nvcc and files' "$status $(logged '^nvcc') $(ls a.d 2> /dev/null)" '0 0 '
+    echo x > a.h
+    batch --unless-made nvcc -MD -MT a.o -MF a.d -c a.cu -o a.o "-DA='"
+    same 'calls of nvcc, a header has changed' "$status $(logged '^nvcc \[-MD\] ')" '0 1'
+    batch --unless-made nvcc -c b.cu -o b.o
+    same 'calls of nvcc, no record' "$status $(logged '^nvcc \[-c\] \[b.cu\]')" '0 1'
+    batch --unless-made sh -c 'exit 5'
+    same 'status of another program' "$status" 5
     end
 }
 
@@ -671,9 +824,9 @@ arrays() {
     done
 }
 
-# stops SIGNAL STATUS PHASE COMMANDS: a signal to the script while it plans or builds, once so many commands run.
+# stops SIGNAL STATUS PHASE COMMANDS [RUNNER]: a signal to the script while it plans or builds, once so many commands run.
 stops() {
-    begin "the signal $1 while it $3"
+    begin "the signal $1 while it $3, runner '${5-}'"
     write a.cu 'echo started >> started; sleep 30; echo a >> made'
     write whole.cu 'echo started >> started; sleep 30; echo whole >> made'
     printf '%s\n' '-c a.cu -o a.o' '-c whole.cu -o w.o' > list
@@ -684,7 +837,7 @@ stops() {
         rm whole.cu && printf '%s\n' '-c a.cu -o a.o' > list
     fi
     : > started
-    env --default-signal=HUP,INT,TERM LOG="$room/log" TMPDIR="$room/tmp" STARTED="$room/work/started" PATH="$room/bin:$PATH" "${shell[@]}" "$script" list > "$room/out" 2>&1 &
+    env --default-signal=HUP,INT,TERM LOG="$room/log" TMPDIR="$room/tmp" STARTED="$room/work/started" PATH="$room/bin:$PATH" ZIGRUNK_RUNNER="${5-}" "${shell[@]}" "$script" list > "$room/out" 2>&1 &
     local process=$! begun
     within 20 all_run "$4" || problems+="  $(wc -l < started) commands start, not $4"$'\n'
     begun=$EPOCHREALTIME
@@ -719,10 +872,12 @@ cases() {
     lists
     products
     failures
+    incremental
     databases
     places
     arrays
     stops TERM 143 builds 2
+    stops TERM 143 builds 2 env
     stops INT 130 builds 2
     stops HUP 129 builds 2
     stops TERM 143 plans 1

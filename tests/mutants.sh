@@ -1005,6 +1005,60 @@ old: for run in first_dry_run second_dry_run
 new: for run in first_dry_run first_dry_run
 END
 tries zigrunk-batch tests/batch.sh << 'END'
+other words are the same call
+old: "$program" "$#" "$@" > "$prefix.call"
+new: "$program" > "$prefix.call"
+a new nvcc is the old one
+old: for word in "$program" "$@"; do
+new: for word in "$@"; do
+a file that changed meanwhile was read later
+old: -nt "$0" ] || exit 1; done' "$1.call" || return
+new: -nt "$0" ] || exit 1; done' "$1.call"
+a call that failed is up to date
+old: [ -z "$ZIGRUNK_RECORDS" ] || [ "$code" != 0 ] ||
+new: [ -z "$ZIGRUNK_RECORDS" ] ||
+a preprocessor that names no file reads none
+old: grep -q '^# [0-9]* "' "$text" 2> /dev/null || return
+new: :
+a header's name stays quoted
+old:  | sort -u | sed 's/\\\(.\)/\1/g'
+new:  | sort -u
+a product that another made is up to date
+old: cat "$1.product" "$1.files" | state
+new: cat "$1.files" | state
+a product is no file that a call reads
+old: grep -vxF -f "$prefix.made" -e "$depfile"
+new: grep -vxF -e "$depfile"
+the first file of a dependency file alone
+old: s/\\\n/ /; b line
+new: s/\\\n.*//; b line
+a call that is up to date has a plan
+old: current "$prefix" && { echo 0 > "$prefix.status" && exit; }
+new: current "$prefix" && { echo 0 > "$prefix.status"; }
+the records are in the working directory
+old: records=$(cd -- "$folder" && pwd)/$records
+new: records=$PWD/$records
+a launcher always runs the compiler
+old:     [ "$code" = 0 ] || exec "$@"
+new:     exec "$@"
+a launcher never runs it
+old:     [ "$code" = 0 ] || exec "$@"
+new:     :
+a launcher's own words count
+old:         -MD | -MT | -MF) ;;
+new:         -MD | -MT) ;;
+there is no dependency file for CMake
+old: || write_rule "$(cat "$prefix.depfile")"
+new: || :
+a runner's commands aren't in the log
+old: [ -z "${ZIGRUNK_RUNNER-}" ] || [ -n "${ZIGRUNK_LOG-}${ZIGRUNK_TERMINAL-}" ] ||
+new: [ -z "${ZIGRUNK_RUNNER-}" ] ||
+a runner's commands leave no stamp
+old: touch() { true > "$$1"; }
+new: touch() { true; }
+what a runner's commands say is lost
+old: 2> "$$1.err" 9>&-
+new: 2> /dev/null 9>&-
 it tells how many of none
 old: [ -n "$count" ] && [ "$1 $count
 new: [ "$1 $count
@@ -1081,8 +1135,8 @@ a product may be old
 old: && [ "$(identity "$product")" != "$before" ]
 new: 
 the product of a link is lost
-old: stat -L -c
-new: true -L -c
+old: stat -L -c '%i
+new: true -L -c '%i
 a device is a product
 old: [ ! -e "$2" ] || [ -f "$2" ] || return 0
 new: :
@@ -1117,8 +1171,8 @@ a file stays beside a product
 old: 2> /dev/null) && rm -f "$file"
 new: 2> /dev/null)
 calls end after the graph
-old: printf 'build %s.reported: report' "$number"
-new: printf 'build %s.reported: phony' "$number"
+old: print "build " number ".reported: report" stamps
+new: print "build " number ".reported: phony" stamps
 the folder nvcc goes
 old: *.plan:/*) rm -rf
 new: *.plan:*) rm -rf

@@ -1,0 +1,60 @@
+#!/usr/bin/env bash
+# A simulated farm: zigrunk-batch makes many calls for many targets, whose tools only sleep and make their files. Prints what that takes, a line
+# for each check that fails, and last 'N passed, M failed'.
+#
+#   tests/cluster/farm.sh [CALLS [TARGETS [JOBS [SECONDS]]]]    1000, 10, 100 and 1 unless given: SECONDS is what each command sleeps
+#
+# ZIGRUNK_PROGRAM is zigrunk, the one that `make build` leaves unless set. The files are below TMPDIR. Times count only on a machine that does
+# nothing else.
+cd "$(dirname "$0")/../.." || exit 1
+. tests/lib.sh
+for tool in nvcc ninja gcc; do command -v "$tool" > /dev/null || skip_all farm "$tool is not on the path"; done
+count=${1:-1000} targets=${2:-10} jobs=${3:-100} sleeps=${4:-1}
+ZIGRUNK_PROGRAM=$(realpath "${ZIGRUNK_PROGRAM:-crates/zigrunk/out/zigrunk}")
+[ -x "$ZIGRUNK_PROGRAM" ] || skip_all farm 'make build makes zigrunk first'
+unset NVCC_PREPEND_FLAGS NVCC_APPEND_FLAGS MAKEFLAGS ZIGRUNK_LOG ZIGRUNK_LAUNCHER ZIGRUNK_PLAN
+mkdir "$scratch/tools" "$scratch/work" "$scratch/tmp"
+gcc -O1 -Wall -Wextra -o "$scratch/tools/farm" tests/cluster/farm.c || exit 1
+for tool in gcc g++ cicc cudafe++ ptxas fatbinary; do ln -s farm "$scratch/tools/$tool"; done
+cp tests/cluster/tools/nvcc "$scratch/tools/nvcc"
+# It notes when the commands begin.
+printf '%s\n' '#!/bin/sh' "case \$* in *graph*) date +%s.%N > '$scratch/begun' ;; esac" "exec $(command -v ninja) \"\$@\"" > "$scratch/ninja"
+chmod +x "$scratch/ninja"
+export ZIGRUNK_PROGRAM ZIGRUNK_TMP=$scratch/tmp ZIGRUNK_NINJA=$scratch/ninja ZIGRUNK_RUNNER=/usr/bin/env ZIGRUNK_JOBS=$jobs TOOL_SECONDS=$sleeps
+NVCC=$(command -v nvcc) PATH=$scratch/tools:$PWD/bin:$PATH
+export NVCC
+codes=$("$NVCC" --list-gpu-arch | sed 's/compute_\(.*\)/-gencode=arch=compute_\1,code=sm_\1/' | head -n "$targets")
+same targets "$(wc -l <<< "$codes")" "$targets"
+cd "$scratch/work" || exit 1
+for number in $(seq "$count"); do
+    echo "int a$number;" > "k$number.cu"
+    echo "nvcc ${codes//$'\n'/ } -c k$number.cu -o k$number.o"
+done > list
+
+start=$(date +%s.%N)
+zigrunk-batch list > out 2> err
+status=$?
+end=$(date +%s.%N)
+# the second line is that of the processes that have ended
+times > ../times
+read -r user system < <(tail -n 1 ../times)
+same status "$status$(cat out err)" 0
+same objects "$(find . -name '*.o' | wc -l)" "$count"
+commands=$((count * (3 * targets + 4)))
+last=$(find . -name '*.o' -printf '%T@\n' | sort -n | tail -n 1)
+awk -v start="$start" -v begun="$(cat ../begun)" -v last="$last" -v end="$end" -v user="$user" -v kernel="$system" -v commands="$commands" \
+    -v jobs="$jobs" -v sleeps="$sleeps" '
+    function seconds(text,    parts) { split(text, parts, /[ms]/); return 60 * parts[1] + parts[2] }
+    BEGIN {
+        spent = seconds(user) + seconds(kernel)
+        printf "%d commands of %s s, %d at once: planned after %.1f s, the last command ended after %.1f s, the batch %.1f s later\n",
+            commands, sleeps, jobs, begun - start, last - start, end - last
+        printf "commands: %.1f s, ideal %.1f s\n", last - begun, commands * sleeps / jobs
+        printf "processor: %.1f s, %.1f ms a command\n", spent, 1000 * spent / commands
+        printf "%.1f %.1f\n", 100 * (end - last) / (end - start), 1000 * spent / commands
+    }' > figures
+head -n 3 figures
+read -r tail each < <(tail -n 1 figures)
+same 'the end takes at most 5 % of the time' "$(awk -v tail="$tail" 'BEGIN { print (tail <= 5) ? "" : tail }')" ''
+same 'a command takes at most 8 ms of the processor' "$(awk -v each="$each" 'BEGIN { print (each <= 8) ? "" : each }')" ''
+summary
