@@ -46,13 +46,21 @@ calls)
     printf '%s\n' "first_dry_run='nvcc --dryrun'" "second_dry_run='nvcc --dryrun'" flag=-c "dependencies='${DEPENDENCIES-}'" "keep_dir='$keep'"
     ;;
 ninja)
-    while [ "$1" != "${1#-}" ] || [ "$1" = ninja ]; do shift; done
+    depended=''
+    while [ "$1" != "${1#-}" ] || [ "$1" = ninja ]; do
+        [ "$1" != --dependencies ] || depended=' ${tmp}/zigrunk.tmp/depended'
+        [ "$1" != --slot ] || { slot=$2 && shift; }
+        shift
+    done
     folder=$1 tmp=$2 number=0
     echo "tmp = $(printf '%s\n' "$tmp" | sed 's/[$ :]/$&/g')"
-    printf '%s\n' 'builddir = ${tmp}' 'rule run' '  command = ${line} || { code=$$?; echo $$code > ${out}.status; exit $$code; }'
+    echo "# stamps$(awk '{ printf " ${tmp}/zigrunk.%d.%d", NR > 1, NR - 1 }' "$tmp/source")"
+    printf '%s\n' '# preprocessor ' "slot = $(printf '%s\n' "$slot" | sed 's/\$/$$/g')" 'builddir = ${tmp}' 'rule run' '  command = ${slot} ${out}' \
+        '  rspfile = ${out}.sh' '  rspfile_content = ${line} || { code=$$?; echo $$code > ${out}.status; exit $$code; }'
+    [ -z "$depended" ] || printf '%s\n' "build$depended: run" "  line = sh '$tmp/zigrunk.tmp/dependencies' && touch '$tmp/zigrunk.tmp/depended'"
     while read -r line; do
         { printf '%s\n' "$line" && [ -n "${LOSE-}" ] || [ ! -s "$tmp/product" ] || printf '[ $? = 0 ] && echo made > "%s"\n' "$(cat "$tmp/product")"; } > "$tmp/command.$number"
-        echo "build \${tmp}/zigrunk.$((number > 0)).$number: run$([ "$number" = 0 ] || echo ' ${tmp}/zigrunk.0.0')"
+        echo "build \${tmp}/zigrunk.$((number > 0)).$number: run$([ "$number" = 0 ] || echo ' ${tmp}/zigrunk.0.0')$depended"
         echo "  line = ( cd '$folder' && \$\${ZIGRUNK_RUNNER-} sh '$tmp/command.$number' ) && touch '$tmp/zigrunk.$((number > 0)).$number'"
         number=$((number + 1))
     done < "$tmp/source"
@@ -533,7 +541,7 @@ failures() {
     list=$'-c a.cu -o a.o\n-c whole.cu -o w.o'
     batch --progress
     same 'status and output' "$status$(cat "$room/out")" 0
-    same messages "$(sed 's/commands: -c .*\.o$/commands: CALL/' "$room/err" | grep -v '^zigrunk-batch: \(plans 1 of 2$\|[1234] of 5 \)')" $'zigrunk-batch: plans 2 of 2\nzigrunk-batch: 5 of 5 commands: CALL'
+    same messages "$(sed 's/commands: -c .*\.o$/commands: CALL/' "$room/err" | grep -v '^zigrunk-batch: \(plans 1 of 2$\|[123] of 4 \)')" $'zigrunk-batch: plans 2 of 2\nzigrunk-batch: 4 of 4 commands: CALL'
     same 'the call that runs' "$(grep -o 'commands: -c a.cu -o a.o' "$room/err" | sort -u)" 'commands: -c a.cu -o a.o'
     list='-c a.cu -o a.o'
     batch DRY_RUN='sleep 0.6' --progress

@@ -31,11 +31,24 @@ calls)
     printf '%s\n' 'first_dry_run="nvcc --dryrun"' 'second_dry_run=:' flag=-c "dependencies='${DEPENDENCIES-}'" "keep_dir=''" "jobs='$jobs'"
     ;;
 ninja)
-    while [ "$1" != "${1#-}" ] || [ "$1" = ninja ]; do shift; done
+    depended=''
+    while [ "$1" != "${1#-}" ] || [ "$1" = ninja ]; do
+        [ "$1" != --dependencies ] || depended=' ${tmp}/zigrunk.tmp/depended'
+        [ "$1" != --slot ] || { slot=$2 && shift; }
+        shift
+    done
     folder=$1 tmp=$2
-    printf '%s\n' "tmp = $tmp" 'builddir = ${tmp}' 'rule run' '  command = ${line} || { code=$$?; echo $$code > ${out}.status; exit $$code; }'
+    printf '%s\n' "tmp = $tmp" '# stamps ${tmp}/zigrunk.0.0 ${tmp}/zigrunk.0.1 ${tmp}/zigrunk.0.2 ${tmp}/zigrunk.0.3' '# preprocessor ' \
+        "slot = $(printf '%s\n' "$slot" | sed 's/\$/$$/g')" 'builddir = ${tmp}' 'rule run' '  command = ${slot} ${out}' '  rspfile = ${out}.sh' \
+        '  rspfile_content = ${line} || { code=$$?; echo $$code > ${out}.status; exit $$code; }'
+    [ -z "$depended" ] || printf '%s\n' "build$depended: run" "  line = sh '$tmp/zigrunk.tmp/dependencies' && touch '$tmp/zigrunk.tmp/depended'"
     for number in 0 1 2 3; do
-        echo "build \${tmp}/zigrunk.0.$number: run$([ "$number" = 0 ] || echo ' ${tmp}/zigrunk.0.0')"
+        case $number in
+        0) needs='' ;;
+        3) needs=" \${tmp}/zigrunk.0.0$depended" ;;
+        *) needs=' ${tmp}/zigrunk.0.0' ;;
+        esac
+        echo "build \${tmp}/zigrunk.0.$number: run$needs"
         echo "  line = ( cd '$folder' && sh ./command '$tmp' ) && touch '$tmp/zigrunk.0.$number'"
     done
     ;;
