@@ -75,9 +75,6 @@ new:
 without perl, what a command prints isn't kept
 old: sh "$1.sh" > "$1.out" 2>
 new: sh "$1.sh" 2>
-a dollar in a name is Ninja's
-old: slot_words | sed 's/\$/$$/g'
-new: slot_words
 the helper's path isn't quoted
 old: exec perl $(quoted "$helper")
 new: exec perl $helper
@@ -87,9 +84,6 @@ new:     mv -f
 what a wrapper calls doesn't know of the second one
 old: { export ZIGRUNK_INSIDE="$ZIGRUNK_INSIDE$found:" && exec
 new: { exec
-a backslash in the directory is lost
-old: IFS= read -r first <
-new: IFS= read first <
 zigrunk's path is ignored
 old: ${ZIGRUNK_PROGRAM:-zigrunk}
 new: zigrunk
@@ -402,24 +396,45 @@ new: plain
 cudafe++ counts wherever it is
 old: h; /^#\$ [^ ]*cudafe++"\{0,1\} /{ x; p; q; }
 new: h; /^#\$ [^ ]*cudafe++"\{0,1\} /{ p; q; }
+the plan has no edge for the dependency file
+old:  ${dependencies:+--dependencies}
+new: 
+a dependency file that nobody asked for
+old:  ${dependencies:+--dependencies}
+new:  --dependencies
+groups in the order of texts
+old: -k 2,2n
+new: -k 2,2
+commands in the order of texts
+old: -k 3,3n
+new: -k 3,3
+the order of files
+old:  | sort -u -t . -k 2,2n -k 3,3n
+new: 
+the script of the dependency file may be cut
+old: 2> /dev/null > "$own/dependencies" || plain 'no room for temporary files' "$@"
+new: 2> /dev/null > "$own/dependencies"
+a host compiler that isn't known
+old:  && [ -n "$host" ] || return 0
+new:  || return 0
+a host compiler by its name isn't found
+old: *" -ccbin ${host##*/} "*) return 0 ;;
+new: 
+another -ccbin is the host compiler's
+old: [ "${NVCC_CCBIN-}" = "${host##*/}" ]
+new: true
+a batch's call without its dependency file is a success
+old: [ ! -e "$own/dependencies" ] || [ -e "$own/depended" ] || finish 1 "$@"
+new: :
+a failed call without a dependency file has one
+old: [ ! -e "$own/dependencies" ] || [ -e "$own/depended" ] || sh
+new: [ -e "$own/depended" ] || sh
 commands are run without a slot
-old: s/^  command = /  command = ${slot} ${out}
-new: s/^  command = /  command = sh ${out}.sh
-there is no dependency file
-old: echo "build \${tmp}
-new: echo "# \${tmp}
-the product doesn't wait for the dependency file
-old: ; /^build /{ N; $s,\n, || ${tmp}/zigrunk.tmp/depended&,; }
-new: 
-each command waits for the dependency file
-old: N; $s,\n, ||
-new: N; s,\n, ||
+old: --slot "$(slot_words)"
+new: --slot :
 an empty command for the dependency file
-old: "$dependencies" > "$own/dependencies"
-new: '' > "$own/dependencies"
-the stamp of the dependency file is missing
-old:  && touch ${out}
-new: 
+old: "$found_by" "$dependencies" 2>
+new: "$found_by" 2>
 ZIGRUNK_TMP is ignored
 old: ${ZIGRUNK_TMP:-${TMPDIR:-/tmp}}
 new: ${TMPDIR:-/tmp}
@@ -447,9 +462,6 @@ new: plain '' "$@"; }
 a missing stamp is no failure
 old: || finish 1 "$@"
 new: || finish 0 "$@"
-Ninja's file may be cut
-old: "$own/ninja" || plain 'no room for temporary files' "$@"
-new: "$own/ninja"
 the script's own directory may be missing
 old: mkdir "$own" "$own/host" 2> /dev/null || plain 'no room for temporary files' "$@"
 new: mkdir "$own" "$own/host" 2> /dev/null
@@ -486,15 +498,6 @@ new: { print > ENVIRON
 commands are dry-run lines
 old: !/^#\$ / && FILENAME == ARGV[1] { print >
 new: FILENAME == ARGV[1] { print >
-groups in the order of texts
-old: -k 2,2n
-new: -k 2,2
-commands in the order of texts
-old: -k 3,3n
-new: -k 3,3
-the order of files
-old:  | sort -u -t . -k 2,2n -k 3,3n
-new: 
 outputs are lost
 old: cat "$stamp.out"
 new: :
@@ -567,9 +570,6 @@ new: :
 the source is preprocessed again for the dependency file
 old:     reuse_preprocessed
 new:     found_by='' preprocessed=''
-a host compiler by its path isn't taken
-old: \("\/[A-Za-z0-9_.\/+-]*"\/\)\{0,1\}
-new: 
 a relative helper stays so
 old: [ "$helper" = "${helper#[!/]}" ] || helper=$PWD/$helper
 new: :
@@ -603,9 +603,6 @@ new: ;
 descriptors that begin with 2 are standard error
 old:  -MF /dev/fd/2 '*
 new:  -MF /dev/fd/2'*
-the dependency file is made before the source is preprocessed
-old: ${preprocessed:+ |$preprocessed}
-new: 
 no dependency file of a call that fails
 old: || sh "$own/dependencies" 2> /dev/null > "$own/depended.out" ||
 new: ||
@@ -737,11 +734,20 @@ the host's files come first in a rule
 old: (@devices, @host)
 new: (@host, @devices)
 a rule has a file twice
-old: grep { !/^</ && !$seen{$_}++ }
-new: grep { !/^</ }
+old: grep { !m{^<|/$} && !$seen{$_}++ }
+new: grep { !m{^<|/$} }
 a rule has what is no file
-old: grep { !/^</ && !$seen{$_}++ }
-new: grep { !$seen{$_}++ }
+old: grep { !m{^<|/$} && !$seen{$_}++ }
+new: grep { !m{/$} && !$seen{$_}++ }
+a rule has a directory
+old: grep { !m{^<|/$} && !$seen{$_}++ }
+new: grep { !m{^<} && !$seen{$_}++ }
+a rule has only files that are included
+old: =~ /\n# 1 "(.*)"/g
+new: =~ /\n# 1 "(.*)" 1/g
+a rule has each marker
+old: =~ /\n# 1 "(.*)"/g
+new: =~ /\n# \d+ "(.*)"/g
 blanks in a rule
 old:     s/ /\\ /g for @files;
 new: 

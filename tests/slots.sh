@@ -403,7 +403,7 @@ call=$room/call
 mkdir -p "$call/zigrunk.tmp/host" "$room/bin"
 printf '%s\n' '#!/bin/sh' 'echo "by nvcc: $*"' > "$room/bin/nvcc" && chmod +x "$room/bin/nvcc"
 export PATH="$room/bin:$PATH"
-marks() { printf '# 0 "k.cu"\n# 0 "<built-in>"\n# 1 "<command-line>" 1\n# 7 "made.y"\n'; for name; do printf 'int x;\n# 1 "%s" 1 3 4\n# 2 "k.cu" 2\n' "$name"; done; }
+marks() { printf '# 0 "k.cu"\n# 1 "/w//"\n# 0 "<built-in>"\n# 1 "<command-line>" 1\n# 7 "made.y"\n'; for name; do printf 'int x;\n# 1 "%s" 1 3 4\n# 2 "k.cu" 2\n' "$name"; done; }
 marks a.h host.h > "$call/x_0.ii"
 marks a.h dev/b.h a.h 75.h > "$call/x_1.ii"
 marks a.h dev/b.h 80.h > "$call/x_2.ii"
@@ -413,6 +413,9 @@ host=$(preprocesses 0 -E $major k.cu) one=$(preprocesses 1 -D__CUDA_ARCH__=750 -
 nvcc="by nvcc: -c -x cu k.cu -M -MF k.d -MT k.o"
 plan_of "$host" "$one" "$two"
 same 'of three preprocessors' "$(made)" $'k.o : k.cu \\\n    a.h \\\n    dev/b.h \\\n    75.h \\\n    80.h \\\n    host.h'
+marks a.h host.h > "$call/x_0.ii" && printf '# 1 "line.y"\n# 2 "other.y"\n' >> "$call/x_0.ii"
+same 'with a #line' "$(made | tail -n 2)" $'    host.h \\\n    line.y'
+marks a.h host.h > "$call/x_0.ii"
 same 'of another target' "$(made k.cu -M -MF e.d -MT x/y)" $'x/y : k.cu \\\n    a.h \\\n    dev/b.h \\\n    75.h \\\n    80.h \\\n    host.h'
 for words in 'k.cu -M -MP -MF k.d -MT k.o' 'k.cu -MM -MF k.d -MT k.o' '-Xcompiler -MD k.cu -M -MF k.d -MT k.o' "k.cu -M -MF 'k d' -MT k.o" 'k.cu -M -MF k.d' \
     'j.cu -M -MF k.d -MT k.o' 'k.cu -M -MF /dev/stdout -MT k.o' 'k.cu -M -MF missing/k.d -MT k.o' 'k.cu -M -MF k.d -MT $x'; do
@@ -433,6 +436,7 @@ same 'nvcc makes it if it is another nvcc' "$(made)" "$nvcc"
 plan_of "$one" "$two"
 same 'nvcc makes it without host code' "$(made)" "$nvcc"
 plan_of "$host"
+marks a.h > "$call/x_0.ii"
 same 'nvcc makes it without device code' "$(made)" "$nvcc"
 plan_of "$host" "$(preprocesses 1 -E $major k.cu)" "$two"
 same 'nvcc makes it with two preprocessors for the host' "$(made)" "$nvcc"
@@ -465,7 +469,9 @@ sed -i "s/^sleep.*/sh -c 'sleep 30; :' \"\$1\"/" command
 within 20 begins 1 || problems+='  no command begins'$'\n'
 server=$(pgrep -P "$!" perl)
 kill -KILL "$(pgrep -P "$(pgrep -x ninja -P "$server")")" || problems+='  there is no shell'$'\n'
+began=$SECONDS
 wait "$!"
+[ $((SECONDS - began)) -lt 20 ] || problems+='  the call ends late'$'\n'
 within 3 none_run || problems+='  its command goes on'$'\n'
 end
 
@@ -488,7 +494,9 @@ sed -i "s/^sleep.*/sh -c 'sleep 30; :' \"\$1\"/" command
 "$script" -c 1.cu -o 1.o > said 2>&1 &
 within 20 begins 1 || problems+='  no command begins'$'\n'
 kill -KILL "$(pgrep -P "$!" perl)" || problems+='  there is no process'$'\n'
+began=$SECONDS
 wait "$!"
+[ $((SECONDS - began)) -lt 20 ] || problems+='  the call ends late'$'\n'
 within 3 none_run || problems+='  its command goes on'$'\n'
 end
 
@@ -644,7 +652,9 @@ graph 1
 within 20 begins 1 || problems+='  no command begins'$'\n'
 ninja=$(pgrep -x ninja -P "$(pgrep -d , -P "$!")")
 kill -KILL "$ninja" || problems+='  there is no Ninja'$'\n'
+began=$SECONDS
 wait "$!"
+[ $((SECONDS - began)) -lt 20 ] || problems+='  the call ends late'$'\n'
 within 3 none_run || problems+='  its commands go on'$'\n'
 end
 
