@@ -33,6 +33,6 @@ with_group room commands = fold with_command room commands
 abbrev pub with_dropped : Room → Dropped → Room
 with_dropped room d = fold with_text (with_text (with_text room d.exe) []) d.args
 
--- room for the texts of a plan
-abbrev pub room_of : Plan → Room
-room_of plan = fold with_dropped (fold with_group no_room plan.groups) plan.dropped
+-- room for the texts of a plan, beside some room
+abbrev pub room_with : Room → Plan → Room
+room_with room plan = fold with_dropped (fold with_group room plan.groups) plan.dropped

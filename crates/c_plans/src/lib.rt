@@ -28,3 +28,4 @@ pub use planning::{plan, planned};
 pub use record::{CommandRecord, GroupRecord, RecordsAnswer};
 pub use recorded::Recorded;
 pub use renaming::remap;
+pub use room::Room;

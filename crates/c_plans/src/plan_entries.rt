@@ -9,7 +9,7 @@ ghost use Rattle.c_plans.specs.Records as spec;
 
 use crate::record::GroupRecord;
 use crate::recorded::{Entry, Recorded};
-use crate::room::room_of;
+use crate::room::{Room, room_with};
 use c_texts::{Outcome, Range};
 use compilers::command::Cacheable;
 use plans::{Dropped, NvccGeneratedSubcommand, Origin, PlanWithOrigins, Reason};
@@ -185,14 +185,20 @@ fn push_dropped(
     Ok(())
 }
 
-/// A plan as records.
-pub fn records_of(alloc: Global, planned: &PlanWithOrigins) -> Result<Recorded, AllocError>
+/// A plan as records. `room` is for texts that the caller adds.
+pub fn records_of(
+    alloc: Global,
+    planned: &PlanWithOrigins,
+    room: Room,
+) -> Result<Recorded, AllocError>
     ensures { IfOk result (λ recorded. recorded ≡ spec.records_of planned.now) }
 {
     let groups = planned.plan.groups.as_slice();
+    let origins = planned.origins.as_slice();
     let mut recorded = Recorded::of_outcome(alloc, Outcome::new(alloc));
-    recorded.reserve(room_of(&planned.plan))?;
-    push_groups(&mut recorded, planned.origins.as_slice(), groups)?;
+    let room = room_with(room, &planned.plan);
+    recorded.reserve(room, groups.len(), origins.len())?;
+    push_groups(&mut recorded, origins, groups)?;
     push_dropped(&mut recorded, groups.len(), planned.plan.dropped.as_slice())?;
     Ok(recorded)
 }

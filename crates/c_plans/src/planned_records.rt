@@ -15,6 +15,7 @@ use crate::plan_entries::records_of;
 use crate::planning::planned;
 use crate::record::{CommandRecord, GroupRecord, RecordsAnswer};
 use crate::recorded::{Recorded, give_records};
+use crate::room::Room;
 use c_texts::{Range, Status, refused};
 use compilers::compiler::NvccHostCompiler;
 use dry_runs::LimitedFault;
@@ -49,7 +50,7 @@ fn recorded(
         → IfOk result (λ recorded. recorded ≡ spec.recorded limit expected) }
 {
     match plan {
-        Ok(plan) => records_of(alloc, &plan),
+        Ok(plan) => records_of(alloc, &plan, Room::none()),
         Err(LimitedFault::Fault(Fault::Memory)) => Err(AllocError),
         Err(fault) => failed_records(alloc, limit, &fault),
     }

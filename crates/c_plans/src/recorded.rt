@@ -112,10 +112,17 @@ impl Recorded {
         self.commands.len()
     }
 
-    /// Makes room for further texts.
-    pub(crate) fn reserve(&mut self, room: Room) -> Result<(), AllocError>
+    /// Makes room for further texts, groups and commands.
+    pub(crate) fn reserve(
+        &mut self,
+        room: Room,
+        groups: usize,
+        commands: usize,
+    ) -> Result<(), AllocError>
         ensures { self.new ≡ self.old }
     {
+        self.groups.reserve(groups)?;
+        self.commands.reserve(commands)?;
         self.outcome.reserve(room.texts, room.bytes)
     }
 

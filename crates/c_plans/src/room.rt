@@ -8,12 +8,19 @@ use plans::{Dropped, NvccGeneratedSubcommand, Plan};
 
 /// How many texts there are, and the bytes of all. A sum that no number can hold is the largest number.
 #[derive(Clone, Copy)]
-pub(crate) struct Room {
-    pub(crate) texts: usize,
-    pub(crate) bytes: usize,
+pub struct Room {
+    pub texts: usize,
+    pub bytes: usize,
 }
 
 impl Room {
+    /// Room for no text.
+    pub fn none() -> Room
+        ensures { result ≡ spec.no_room }
+    {
+        Room { texts: 0, bytes: 0 }
+    }
+
     // Room for a further text.
     fn with_text(self, text: &str) -> Room
         ensures { result ≡ spec.with_text self text.now }
@@ -24,8 +31,8 @@ impl Room {
         }
     }
 
-    // Room for further texts.
-    fn with_texts(self, texts: &[String]) -> Room
+    /// Room for further texts.
+    pub fn with_texts(self, texts: &[String]) -> Room
         ensures { result ≡ fold spec.with_text self (map string_bytes texts.now) }
     {
         let mut room = self;
@@ -93,11 +100,10 @@ impl Room {
     }
 }
 
-/// The room that the texts of a plan take.
-pub(crate) fn room_of(plan: &Plan) -> Room
-    ensures { result ≡ spec.room_of plan.now }
+/// Room for the texts of a plan, beside some room.
+pub(crate) fn room_with(room: Room, plan: &Plan) -> Room
+    ensures { result ≡ spec.room_with room plan.now }
 {
-    let none = Room { texts: 0, bytes: 0 };
-    none.with_groups(plan.groups.as_slice())
+    room.with_groups(plan.groups.as_slice())
         .with_dropped(plan.dropped.as_slice())
 }

@@ -1,5 +1,5 @@
 -- A plan as records, with what a program that runs the commands has to know of each.
-use Rattle.std.specs.Prelude.{ℕ, ◌+◌, List, [], ◌∷◌, ◌++◌, Bool, nat_le, if◌then◌else◌, get_or, length, map, vec_items}
+use Rattle.std.specs.Prelude.{ℕ, ◌+◌, List, [], ◌∷◌, ◌++◌, Bool, nat_le, if◌then◌else◌, fold, get_or, length, map, vec_items}
 use Rattle.std.specs.List.{flat_map}
 use Rattle.command_files.specs.declared.files.CommandFiles.{CommandFiles}
 use Rattle.command_files.specs.CommandFiles.{files_of_words}
@@ -10,6 +10,8 @@ use Rattle.plans.specs.declared.plan.NvccGeneratedSubcommand.{NvccGeneratedSubco
 use Rattle.plans.specs.declared.plan.Plan.{Plan}
 use Rattle.c_texts.specs.declared.memory.Range.{Range}
 use Rattle.c_texts.specs.Outcomes.{Outcome, with_texts}
+use Rattle.c_plans.specs.declared.room.Room.{Room}
+use Rattle.c_plans.specs.Rooms.{with_text}
 use Rattle.c_plans.specs.Records.{Recorded, records_of, without_records}
 use Rattle.c_steps.specs.declared.step_record.PlaceRecord.{PlaceRecord}
 use Rattle.c_steps.specs.declared.step_record.StepRecord.{StepRecord}
@@ -74,6 +76,10 @@ extras_of plan = extras_from (record { needs = plan_needs plan; files = plan_fil
 -- the texts of a command's files
 abbrev pub file_texts : Extra → List (List ℕ)
 file_texts e = e.files.reads ++ (e.files.writes ++ e.files.may_write)
+
+-- room for the paths of a further command's files
+abbrev pub with_room_of : Room → CommandFiles → Room
+with_room_of room f = fold with_text (fold with_text (fold with_text room f.reads) f.writes) f.may_write
 
 -- a command's record, if the first of these texts has this number, and if these numbers are its needs
 abbrev pub files_at : ℕ → Range → Extra → StepRecord

@@ -106,6 +106,13 @@ impl Stepped {
         self.steps.len()
     }
 
+    /// Makes room for further commands.
+    pub(crate) fn reserve(&mut self, commands: usize) -> Result<(), AllocError>
+        ensures { self.new ≡ self.old }
+    {
+        self.steps.reserve(commands)
+    }
+
     /// Adds what there is to know of a command.
     pub(crate) fn push(&mut self, extra: Extra<'_>) -> Result<(), AllocError>
         ensures { OnOk result (self.new ≡ spec.with_extra self.old (spec.extra_seen extra.entry)) }

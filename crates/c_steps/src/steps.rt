@@ -1,17 +1,17 @@
 //! A plan as records, with what each command reads, writes and needs.
 
-ghost use Rattle.std.specs.Prelude.{◌≡◌, IfOk, OnOk, length, map, vec_items};
+ghost use Rattle.std.specs.Prelude.{◌≡◌, IfOk, OnOk, fold, length, map, vec_items};
 ghost use Rattle.command_files.specs.Order.{needs_at as needs_of};
-ghost use Rattle.command_files.specs.PlanNeeds.{preprocesses as plan_preprocesses};
+ghost use Rattle.c_plans.specs.Records as records;
+ghost use Rattle.c_plans.specs.Rooms.{no_room};
 ghost use Rattle.c_steps.specs.Steps as spec;
-ghost use Rattle.c_steps.specs.Tools as tools;
 
 use crate::missing::{missing_of, preprocesses};
 use crate::stepped::{Extra, Stepped};
 use crate::tool::tool_of;
-use c_plans::{Recorded, records_of};
+use c_plans::{Room, records_of};
 use command_files::{CommandFiles, files_and_needs, files_of};
-use plans::{NvccGeneratedSubcommand, Plan, PlanWithOrigins};
+use plans::{NvccGeneratedSubcommand, PlanWithOrigins};
 use std::alloc::{AllocError, Global};
 
 /// What is known of all commands of a plan.
@@ -33,17 +33,6 @@ fn needs_at(needs: &[Vec<usize>], id: usize) -> &[usize]
     }
 }
 
-// Why a command with these files may touch more.
-fn missing_in(command: &NvccGeneratedSubcommand, files: &CommandFiles) -> u32
-    ensures { result ≡ spec.missing_of (tools.tool_of command.now.exe) files.now.complete (plan_preprocesses command.now.args) }
-{
-    missing_of(
-        tool_of(command.exe.as_str()),
-        files.complete,
-        preprocesses(command.args.as_slice()),
-    )
-}
-
 // Adds a command with these needs and files.
 fn push_with(
     stepped: &mut Stepped,
@@ -53,11 +42,12 @@ fn push_with(
 ) -> Result<(), AllocError>
     ensures { OnOk result (stepped.new ≡ spec.with_extra stepped.old (spec.extra_with needs.now files.now command.now)) }
 {
+    let tool = tool_of(command.exe.as_str());
     let extra = Extra {
         needs,
         files,
-        tool: tool_of(command.exe.as_str()),
-        missing: missing_in(command, files),
+        tool,
+        missing: missing_of(tool, files.complete, preprocesses(command.args.as_slice())),
     };
     stepped.push(extra)
 }
@@ -112,17 +102,33 @@ fn push_groups(
     Ok(())
 }
 
-// Records of a plan, with its commands.
-fn with_steps(alloc: Global, recorded: Recorded, plan: &Plan) -> Result<Stepped, AllocError>
-    ensures { IfOk result (λ stepped. stepped ≡ spec.with_extras (spec.of_recorded recorded) (spec.extras_of plan.now)) }
+// Room for the paths of files.
+fn room_of(files: &[CommandFiles]) -> Room
+    ensures { result ≡ fold spec.with_room_of no_room files.now }
 {
+    let mut room = Room::none();
+    for command in files {
+        room = room
+            .with_texts(command.reads.as_slice())
+            .with_texts(command.writes.as_slice())
+            .with_texts(command.may_write.as_slice());
+    }
+    room
+}
+
+// A plan as records, with what is known of its commands.
+fn with_steps(
+    alloc: Global,
+    planned: &PlanWithOrigins,
+    known: Known<'_>,
+) -> Result<Stepped, AllocError>
+    ensures { IfOk result (λ stepped. stepped ≡ spec.with_extras (spec.of_recorded (records.records_of planned.now))
+        (spec.extras_from (spec.known_seen known.entry) 0 (spec.commands_of planned.now.plan.groups))) }
+{
+    let recorded = records_of(alloc, planned, room_of(known.files))?;
     let mut stepped = Stepped::of_recorded(alloc, recorded);
-    let both = files_and_needs(alloc, plan)?;
-    let known = Known {
-        needs: both.needs.as_slice(),
-        files: both.files.as_slice(),
-    };
-    push_groups(alloc, &mut stepped, known, plan.groups.as_slice())?;
+    stepped.reserve(known.files.len())?;
+    push_groups(alloc, &mut stepped, known, planned.plan.groups.as_slice())?;
     Ok(stepped)
 }
 
@@ -130,6 +136,10 @@ fn with_steps(alloc: Global, recorded: Recorded, plan: &Plan) -> Result<Stepped,
 pub(crate) fn steps_of(alloc: Global, planned: &PlanWithOrigins) -> Result<Stepped, AllocError>
     ensures { IfOk result (λ stepped. stepped ≡ spec.steps_of planned.now) }
 {
-    let recorded = records_of(alloc, planned)?;
-    with_steps(alloc, recorded, &planned.plan)
+    let both = files_and_needs(alloc, &planned.plan)?;
+    let known = Known {
+        needs: both.needs.as_slice(),
+        files: both.files.as_slice(),
+    };
+    with_steps(alloc, planned, known)
 }
