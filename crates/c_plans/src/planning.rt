@@ -1,7 +1,6 @@
 //! Planning the two dry runs of a call.
 
 ghost use Rattle.std.specs.Prelude.{◌≡◌, IfOk, Result};
-ghost use Rattle.texts.specs.Fault.{UnlessMemory};
 ghost use Rattle.dry_runs.specs.declared.limit.LimitedFault.{LimitedFault};
 ghost use Rattle.dry_runs.specs.Limit.{UnlessMemoryWithin};
 ghost use Rattle.plans.specs.declared.origins.PlanWithOrigins.{PlanWithOrigins};
@@ -15,66 +14,13 @@ use crate::plan_call::{
 };
 use crate::plan_forms::{Form, form_of, outcome_in};
 use c_texts::{Outcome, Status, TextAnswer, give_text, refused};
-use canonical_names::{Suffixes, all_suffixes};
-use command_groups::{plan_with_origins, plan_with_origins_within};
+use canonical_names::all_suffixes;
+use command_groups::{CallToPlan, plan_with_origins, plan_with_origins_within};
 use compilers::compiler::NvccHostCompiler;
 use dry_runs::LimitedFault;
 use plans::PlanWithOrigins;
 use std::alloc::{AllocError, Global};
 use texts::fault::Fault;
-
-// The plan of a call with such suffixes, or why there is none, without a limit.
-fn planned_whole(
-    alloc: Global,
-    call: &PlanCall<'_>,
-    host: NvccHostCompiler,
-    texts: Texts<'_>,
-    tables: &Tables,
-    suffixes: &Suffixes,
-) -> Result<PlanWithOrigins, Fault>
-    ensures { UnlessMemory result (spec.planned_whole call.now host (texts_seen texts.entry) tables.now suffixes.now) }
-{
-    plan_with_origins(
-        alloc,
-        call.dry1.bytes,
-        call.dry2.bytes,
-        texts.flag,
-        texts.cwd,
-        texts.tmp,
-        if_flag(call.keeps, texts.keep_dir),
-        tables.variables.as_slice(),
-        host,
-        &tables.found,
-        suffixes,
-    )
-}
-
-// The same within the call's limit.
-fn planned_within(
-    alloc: Global,
-    call: &PlanCall<'_>,
-    host: NvccHostCompiler,
-    texts: Texts<'_>,
-    tables: &Tables,
-    suffixes: &Suffixes,
-) -> Result<PlanWithOrigins, LimitedFault>
-    ensures { UnlessMemoryWithin result (spec.planned_within call.now host (texts_seen texts.entry) tables.now suffixes.now) }
-{
-    plan_with_origins_within(
-        alloc,
-        call.dry1.bytes,
-        call.dry2.bytes,
-        texts.flag,
-        texts.cwd,
-        texts.tmp,
-        if_flag(call.keeps, texts.keep_dir),
-        tables.variables.as_slice(),
-        host,
-        &tables.found,
-        suffixes,
-        call.limit,
-    )
-}
 
 /// The plan of a call, or why there is none.
 pub fn planned(
@@ -87,10 +33,20 @@ pub fn planned(
     ensures { UnlessMemoryWithin result (spec.planned call.now host (texts_seen texts.entry) tables.now) }
 {
     let suffixes = all_suffixes(alloc, tables.suffixes.as_slice())?;
+    let (dry1, dry2, which) = (call.dry1.bytes, call.dry2.bytes, &tables.found);
+    let nvcc_call = CallToPlan {
+        cwd: texts.cwd,
+        tmp: texts.tmp,
+        compilation_flag: texts.flag,
+        keep_dir: if_flag(call.keeps, texts.keep_dir),
+        env_vars: tables.variables.as_slice(),
+        host_compiler: host,
+        suffixes: &suffixes,
+    };
     if call.limit != 0 {
-        return planned_within(alloc, call, host, texts, tables, &suffixes);
+        return plan_with_origins_within(alloc, dry1, dry2, &nvcc_call, which, call.limit);
     }
-    let planned = planned_whole(alloc, call, host, texts, tables, &suffixes)?;
+    let planned = plan_with_origins(alloc, dry1, dry2, &nvcc_call, which)?;
     Ok(planned)
 }
 

@@ -23,3 +23,4 @@ pub use plans::{
     PlanWithOrigins, Reason,
 };
 pub use selection::select_nvcc_subcommands;
+pub use setting::CallToPlan;

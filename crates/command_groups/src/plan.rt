@@ -20,7 +20,7 @@ ghost use Rattle.command_groups.specs.SettingView.{call_seen, setting_seen};
 use crate::command_plan::plan_of_commands;
 use crate::environment::Environments;
 use crate::merged_commands::merge;
-use crate::setting::{Call, Setting};
+use crate::setting::{CallToPlan, Setting};
 use canonical_names::{Suffixes, remap_commands};
 use command_lines::{Commands, DryRun};
 use compilers::compiler::NvccHostCompiler;
@@ -90,23 +90,21 @@ fn plan_of_runs(
 // The plan of two runs that were read.
 fn plan_of_dry_runs(
     alloc: Global,
-    suffixes: &Suffixes,
-    keep_dir: Option<&str>,
-    call: &Call<'_>,
+    call: &CallToPlan<'_>,
     first: DryRun,
     second: DryRun,
 ) -> Result<PlanWithOrigins, AllocError>
     requires first_rises { Rises (map line_of first.commands) }
     requires second_rises { Rises (map line_of second.commands) }
-    ensures plan { IfOk result (λ planned. planned.plan ≡ plan_of (call_seen call.now) first.env (spec.named suffixes.now (option_copied keep_dir.entry) first.commands) (spec.named suffixes.now (option_copied keep_dir.entry) second.commands)) }
-    ensures origins { IfOk result (λ planned. planned.origins ≡ origins.origins_of_staged (staged_commands (call_seen call.now) (spec.named suffixes.now (option_copied keep_dir.entry) first.commands) (spec.named suffixes.now (option_copied keep_dir.entry) second.commands))) }
+    ensures plan { IfOk result (λ planned. planned.plan ≡ plan_of (call_seen call.now) first.env (spec.named call.now.suffixes.now (option_copied call.now.keep_dir) first.commands) (spec.named call.now.suffixes.now (option_copied call.now.keep_dir) second.commands)) }
+    ensures origins { IfOk result (λ planned. planned.origins ≡ origins.origins_of_staged (staged_commands (call_seen call.now) (spec.named call.now.suffixes.now (option_copied call.now.keep_dir) first.commands) (spec.named call.now.suffixes.now (option_copied call.now.keep_dir) second.commands))) }
 {
     let setting = Setting {
         call,
         environments: Environments::folded(alloc, call.env_vars, first.env)?,
     };
     let (first, second) = (first.commands, second.commands);
-    plan_of_runs(alloc, suffixes, keep_dir, &setting, first, second)
+    plan_of_runs(alloc, call.suffixes, call.keep_dir, &setting, first, second)
 }
 
 /// Plans one nvcc call as [`plan_with_origins`](crate::plan_with_origins) does, if each of its dry runs can be read
@@ -122,30 +120,16 @@ pub fn plan_with_origins_within<W: Which>(
     alloc: Global,
     dry1: &[u8],
     dry2: &[u8],
-    compilation_flag: &str,
-    cwd: &str,
-    tmp: &str,
-    keep_dir: Option<&str>,
-    env_vars: &[(String, String)],
-    host_compiler: NvccHostCompiler,
+    call: &CallToPlan<'_>,
     which: &W,
-    suffixes: &Suffixes,
     limit: usize,
 ) -> Result<PlanWithOrigins, LimitedFault>
-    ensures { UnlessMemoryWithin result (within.planning_with_origins_within limit suffixes.now (option_copied keep_dir.entry)
-        (record { cwd = cwd.now; tmp = tmp.now; flag = compilation_flag.now; host_compiler = host_compiler; env_vars = map pair_of env_vars.now })
-        (W.answer which.now) dry1.now dry2.now) }
+    ensures { UnlessMemoryWithin result (within.planning_with_origins_within limit call.now.suffixes.now (option_copied call.now.keep_dir)
+        (call_seen call.now) (W.answer which.now) dry1.now dry2.now) }
 {
-    let first = read_run(alloc, dry1, 1, cwd, which, limit)?;
-    let second = read_run(alloc, dry2, 2, cwd, which, limit)?;
-    let call = Call {
-        cwd,
-        tmp,
-        compilation_flag,
-        host_compiler,
-        env_vars,
-    };
-    let planned = plan_of_dry_runs(alloc, suffixes, keep_dir, &call, first, second)?;
+    let first = read_run(alloc, dry1, 1, call.cwd, which, limit)?;
+    let second = read_run(alloc, dry2, 2, call.cwd, which, limit)?;
+    let planned = plan_of_dry_runs(alloc, call, first, second)?;
     Ok(planned)
 }
 
@@ -168,34 +152,14 @@ pub fn group_nvcc_subcommands_by_compilation_stage_within<W: Which>(
     alloc: Global,
     dry1: &[u8],
     dry2: &[u8],
-    compilation_flag: &str,
-    cwd: &str,
-    tmp: &str,
-    keep_dir: Option<&str>,
-    env_vars: &[(String, String)],
-    host_compiler: NvccHostCompiler,
+    call: &CallToPlan<'_>,
     which: &W,
-    suffixes: &Suffixes,
     limit: usize,
 ) -> Result<Plan, LimitedFault>
-    ensures { UnlessMemoryWithin result (within.planning_within limit suffixes.now (option_copied keep_dir.entry)
-        (record { cwd = cwd.now; tmp = tmp.now; flag = compilation_flag.now; host_compiler = host_compiler; env_vars = map pair_of env_vars.now })
-        (W.answer which.now) dry1.now dry2.now) }
+    ensures { UnlessMemoryWithin result (within.planning_within limit call.now.suffixes.now (option_copied call.now.keep_dir)
+        (call_seen call.now) (W.answer which.now) dry1.now dry2.now) }
 {
-    plan_alone(plan_with_origins_within(
-        alloc,
-        dry1,
-        dry2,
-        compilation_flag,
-        cwd,
-        tmp,
-        keep_dir,
-        env_vars,
-        host_compiler,
-        which,
-        suffixes,
-        limit,
-    ))
+    plan_alone(plan_with_origins_within(alloc, dry1, dry2, call, which, limit))
 }
 
 /// Plans one nvcc call from its two dry runs, which are parsed, as [`plan_with_origins`](crate::plan_with_origins) does from
@@ -205,31 +169,17 @@ pub fn group_nvcc_subcommands_by_compilation_stage_within<W: Which>(
 pub fn plan_of_parsed<W: Which>(
     alloc: Global,
     runs: ParsedRuns,
-    compilation_flag: &str,
-    cwd: &str,
-    tmp: &str,
-    keep_dir: Option<&str>,
-    env_vars: &[(String, String)],
-    host_compiler: NvccHostCompiler,
+    call: &CallToPlan<'_>,
     which: &W,
-    suffixes: &Suffixes,
 ) -> Result<PlanWithOrigins, Fault>
     requires { AreParsed runs }
-    ensures { UnlessMemory result (origins.planning_of_parsed suffixes.now (option_copied keep_dir.entry)
-        (record { cwd = cwd.now; tmp = tmp.now; flag = compilation_flag.now; host_compiler = host_compiler; env_vars = map pair_of env_vars.now })
-        (W.answer which.now) runs) }
+    ensures { UnlessMemory result (origins.planning_of_parsed call.now.suffixes.now (option_copied call.now.keep_dir)
+        (call_seen call.now) (W.answer which.now) runs) }
 {
     let ParsedRuns { first, second } = runs;
-    let first = resolve(alloc, first, cwd, which)?;
-    let second = resolve(alloc, second, cwd, which)?;
-    let call = Call {
-        cwd,
-        tmp,
-        compilation_flag,
-        host_compiler,
-        env_vars,
-    };
-    let planned = plan_of_dry_runs(alloc, suffixes, keep_dir, &call, first, second)?;
+    let first = resolve(alloc, first, call.cwd, which)?;
+    let second = resolve(alloc, second, call.cwd, which)?;
+    let planned = plan_of_dry_runs(alloc, call, first, second)?;
     Ok(planned)
 }
 
@@ -242,32 +192,14 @@ pub fn plan_with_origins<W: Which>(
     alloc: Global,
     dry1: &[u8],
     dry2: &[u8],
-    compilation_flag: &str,
-    cwd: &str,
-    tmp: &str,
-    keep_dir: Option<&str>,
-    env_vars: &[(String, String)],
-    host_compiler: NvccHostCompiler,
+    call: &CallToPlan<'_>,
     which: &W,
-    suffixes: &Suffixes,
 ) -> Result<PlanWithOrigins, Fault>
-    ensures { UnlessMemory result (origins.planning_with_origins suffixes.now (option_copied keep_dir.entry)
-        (record { cwd = cwd.now; tmp = tmp.now; flag = compilation_flag.now; host_compiler = host_compiler; env_vars = map pair_of env_vars.now })
-        (W.answer which.now) dry1.now dry2.now) }
+    ensures { UnlessMemory result (origins.planning_with_origins call.now.suffixes.now (option_copied call.now.keep_dir)
+        (call_seen call.now) (W.answer which.now) dry1.now dry2.now) }
 {
     let runs = parse_dry_runs(alloc, dry1, dry2)?;
-    plan_of_parsed(
-        alloc,
-        runs,
-        compilation_flag,
-        cwd,
-        tmp,
-        keep_dir,
-        env_vars,
-        host_compiler,
-        which,
-        suffixes,
-    )
+    plan_of_parsed(alloc, runs, call, which)
 }
 
 /// Plans one nvcc call from two dry runs of it: its commands in groups, and those that are in no group, each with the
@@ -327,17 +259,14 @@ pub fn group_nvcc_subcommands_by_compilation_stage<W: Which>(
         (record { cwd = cwd.now; tmp = tmp.now; flag = compilation_flag.now; host_compiler = host_compiler; env_vars = map pair_of env_vars.now })
         (W.answer which.now) dry1.now dry2.now) }
 {
-    plan_alone(plan_with_origins(
-        alloc,
-        dry1,
-        dry2,
-        compilation_flag,
+    let call = CallToPlan {
         cwd,
         tmp,
+        compilation_flag,
         keep_dir,
         env_vars,
         host_compiler,
-        which,
         suffixes,
-    ))
+    };
+    plan_alone(plan_with_origins(alloc, dry1, dry2, &call, which))
 }

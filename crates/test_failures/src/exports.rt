@@ -2,7 +2,7 @@
 
 use cuda_plans::compiler::NvccHostCompiler;
 use cuda_plans::dry_run::{FirstDir, Suffixes};
-use cuda_plans::plan::{Plan, PlanWithOrigins, plan_with_origins};
+use cuda_plans::plan::{CallToPlan, Plan, PlanWithOrigins, plan_with_origins};
 use plan_exports::{Refusal, ninja_file, shell_script};
 use plan_json::json_text;
 use std::alloc::Global;
@@ -43,19 +43,16 @@ const JSON: &str =
 
 // The plan of the dry run in a working directory.
 fn plan(alloc: Global, cwd: &str) -> Result<PlanWithOrigins, Fault> {
-    plan_with_origins(
-        alloc,
-        DRY_RUN,
-        DRY_RUN,
-        "-c",
+    let call = CallToPlan {
         cwd,
-        "/t",
-        None,
-        &[],
-        NvccHostCompiler::Gcc,
-        &FirstDir,
-        &Suffixes::standard(),
-    )
+        tmp: "/t",
+        compilation_flag: "-c",
+        keep_dir: None,
+        env_vars: &[],
+        host_compiler: NvccHostCompiler::Gcc,
+        suffixes: &Suffixes::standard(),
+    };
+    plan_with_origins(alloc, DRY_RUN, DRY_RUN, &call, &FirstDir)
 }
 
 // Whether a plan gives these texts.

@@ -4,26 +4,30 @@ use crate::one_kernel::ONE_KERNEL;
 use cuda_plans::dry_run::{FirstDir, LimitedFault, Suffixes};
 use cuda_plans::nvcc::NvccHostCompiler;
 use cuda_plans::plan::{
-    Plan, PlanWithOrigins, group_nvcc_subcommands_by_compilation_stage_within,
+    CallToPlan, Plan, PlanWithOrigins, group_nvcc_subcommands_by_compilation_stage_within,
     plan_with_origins_within,
 };
 use std::alloc::Global;
 
+// A call that keeps generated files in a folder, if there is one.
+fn call<'a>(keep_dir: Option<&'a str>, suffixes: &'a Suffixes) -> CallToPlan<'a> {
+    CallToPlan {
+        cwd: "/w",
+        tmp: "/t",
+        compilation_flag: "-c",
+        keep_dir,
+        env_vars: &[],
+        host_compiler: NvccHostCompiler::Gcc,
+        suffixes,
+    }
+}
+
 // The plan of one kernel's run and of another, within a limit.
 fn planned(alloc: Global, second: &[u8], limit: usize) -> Result<Plan, LimitedFault> {
+    let suffixes = Suffixes::standard();
+    let call = call(None, &suffixes);
     group_nvcc_subcommands_by_compilation_stage_within(
-        alloc,
-        ONE_KERNEL,
-        second,
-        "-c",
-        "/w",
-        "/t",
-        None,
-        &[],
-        NvccHostCompiler::Gcc,
-        &FirstDir,
-        &Suffixes::standard(),
-        limit,
+        alloc, ONE_KERNEL, second, &call, &FirstDir, limit,
     )
 }
 
@@ -33,20 +37,9 @@ fn with_origins(
     second: &[u8],
     limit: usize,
 ) -> Result<PlanWithOrigins, LimitedFault> {
-    plan_with_origins_within(
-        alloc,
-        ONE_KERNEL,
-        second,
-        "-c",
-        "/w",
-        "/t",
-        Some("/t"),
-        &[],
-        NvccHostCompiler::Gcc,
-        &FirstDir,
-        &Suffixes::standard(),
-        limit,
-    )
+    let suffixes = Suffixes::standard();
+    let call = call(Some("/t"), &suffixes);
+    plan_with_origins_within(alloc, ONE_KERNEL, second, &call, &FirstDir, limit)
 }
 
 // How many groups a plan has, if there is one.

@@ -3,7 +3,7 @@
 use crate::handed::Handed;
 use canonical_names::Suffixes;
 use command_groups::{
-    group_nvcc_subcommands_by_compilation_stage, group_nvcc_subcommands_by_compilation_stage_within,
+    CallToPlan, group_nvcc_subcommands_by_compilation_stage_within, plan_with_origins,
 };
 use compilers::compiler::NvccHostCompiler;
 use cuda_plans::nvcc::NvccCompileCommand;
@@ -102,19 +102,22 @@ impl<'a> PlanSettings<'a> {
         second: &[u8],
         suffixes: &Suffixes,
     ) -> Result<Plan, LimitedFault> {
-        let (cwd, tmp, flag, host) = (self.cwd, self.tmp, self.flag, self.host_compiler);
-        let (keep_dir, env_vars) = (self.keep_dir.as_deref(), self.handed.env_vars.as_slice());
+        let call = CallToPlan {
+            cwd: self.cwd,
+            tmp: self.tmp,
+            compilation_flag: self.flag,
+            keep_dir: self.keep_dir.as_deref(),
+            env_vars: self.handed.env_vars.as_slice(),
+            host_compiler: self.host_compiler,
+            suffixes,
+        };
         match self.limit {
             None => {
-                let plan = group_nvcc_subcommands_by_compilation_stage(
-                    alloc, first, second, flag, cwd, tmp, keep_dir, env_vars, host, &FirstDir,
-                    suffixes,
-                )?;
-                Ok(plan)
+                let planned = plan_with_origins(alloc, first, second, &call, &FirstDir)?;
+                Ok(planned.plan)
             }
             Some(limit) => group_nvcc_subcommands_by_compilation_stage_within(
-                alloc, first, second, flag, cwd, tmp, keep_dir, env_vars, host, &FirstDir,
-                suffixes, limit,
+                alloc, first, second, &call, &FirstDir, limit,
             ),
         }
     }

@@ -19,7 +19,7 @@ ghost use Rattle.zigrunk.specs.Exports as spec;
 
 use crate::directory::is_plain;
 use canonical_names::all_suffixes;
-use command_groups::plan_of_parsed;
+use command_groups::{CallToPlan, plan_of_parsed};
 use compilers::compiler::NvccHostCompiler;
 use dry_runs::{ParsedRuns, Which, is_dry_run};
 use plan_exports::{Refusal, ninja_file, ninja_file_of_scripts, shell_script};
@@ -186,18 +186,16 @@ fn plan_of<L: Which>(
 {
     let plan = &call.plan;
     let suffixes = all_suffixes(alloc, plan.suffixes)?;
-    plan_of_parsed(
-        alloc,
-        runs,
-        plan.flag,
-        plan.cwd,
-        plan.tmp,
-        keep_dir_of(call.keeps, plan.tmp),
-        &[],
-        NvccHostCompiler::Gcc,
-        which,
-        &suffixes,
-    )
+    let nvcc_call = CallToPlan {
+        cwd: plan.cwd,
+        tmp: plan.tmp,
+        compilation_flag: plan.flag,
+        keep_dir: keep_dir_of(call.keeps, plan.tmp),
+        env_vars: &[],
+        host_compiler: NvccHostCompiler::Gcc,
+        suffixes: &suffixes,
+    };
+    plan_of_parsed(alloc, runs, &nvcc_call, which)
 }
 
 // Why a call's directories can't be those of a plan, if they can't.
