@@ -426,12 +426,12 @@ failures() {
     end
 
     begin 'a folder with an odd name, by a runner'
-    mkdir "a b'\$c"
+    mkdir 'a b;&c'
     write a.cu 'echo "$PWD"' 'exit 5'
     list='-c a.cu -o a.o'
-    batch ZIGRUNK_RUNNER=env ZIGRUNK_TMP="$PWD/a b'\$c"
-    same 'status and output' "$status $(cat "$room/out")" "5 $PWD"
-    same 'files left' "$(ls -A "a b'\$c")" ''
+    batch ZIGRUNK_RUNNER=env ZIGRUNK_TMP='a b;&c'
+    same 'status, output and calls of nvcc' "$status $(cat "$room/out") $(logged '^nvcc ')" "5 $PWD 0"
+    same 'files left' "$(ls -A 'a b;&c')" ''
     end
 
     begin 'a line that no shell can read'
