@@ -279,10 +279,12 @@ END
     same 'files left' "$(ls -A "$room/shared")" ''
     script ZIGRUNK_TMP="$room/shared" TMPDIR= NINJA_DOES='echo "$TMPDIR" > "$LOG.tmp"' -c k.cu -o k.o
     same 'TMPDIR of commands' "$(cat "$room/log.tmp")" /tmp
-    script ZIGRUNK_LAUNCHER=cache NINJA_DOES='echo "$TMPDIR" > "$LOG.tmp"' -c k.cu -o k.o
-    same 'TMPDIR of commands with a launcher' "$(cat "$room/log.tmp")" "$room/tmp"
-    script ZIGRUNK_LAUNCHER=cache TMPDIR= NINJA_DOES='echo "$TMPDIR" > "$LOG.tmp"' -c k.cu -o k.o
+    script ZIGRUNK_LAUNCHER=/b/sccache NINJA_DOES='echo "$TMPDIR" > "$LOG.tmp"' -c k.cu -o k.o
+    same 'TMPDIR of commands with sccache' "$(cat "$room/log.tmp")" "$room/tmp"
+    script ZIGRUNK_LAUNCHER=sccache TMPDIR= NINJA_DOES='echo "$TMPDIR" > "$LOG.tmp"' -c k.cu -o k.o
     same 'the same without TMPDIR' "$(cat "$room/log.tmp")" /tmp
+    script ZIGRUNK_LAUNCHER=cache NINJA_DOES='echo "$TMPDIR" > "$LOG.tmp"' -c k.cu -o k.o
+    holds 'TMPDIR of commands with another launcher' "$room/log.tmp" "$room/tmp/zigrunk-$user/zigrunk-name/zigrunk.tmp"
     leaves_nothing
     end
 
