@@ -465,6 +465,12 @@ new: || finish 0 "$@"
 the script's own directory may be missing
 old: mkdir "$own" "$own/host" 2> /dev/null || plain 'no room for temporary files' "$@"
 new: mkdir "$own" "$own/host" 2> /dev/null
+every launcher's commands have the caller's TMPDIR
+old: *sccache*) scratch
+new: *) scratch
+sccache's commands have the call's TMPDIR
+old: *sccache*) scratch=${TMPDIR:-/tmp} ;;
+new: *sccache*) ;;
 the commands share TMPDIR
 old: TMPDIR=${scratch:-$own}
 new: TMPDIR=${scratch:-$TMPDIR}
