@@ -10,8 +10,8 @@
 #   tests/end_to_end.sh [--all] [PROGRAM]
 #
 # PROGRAM is the zigrunk that `make build` and the gate leave, unless given. With --all it makes all calls, builds CMake projects
-# (tests/cmake.sh, tests/builds.sh) and fatbins (tests/needs.sh), and isolates the commands of five calls; the gate makes the quick calls and isolates the
-# commands of one.
+# (tests/cmake.sh, tests/builds.sh), and isolates the commands of five calls; the gate makes the quick calls and isolates the commands of one. Both
+# build a fatbin twenty times (tests/needs.sh).
 cd "$(dirname "$0")/.." || exit 1
 all=''
 [ "${1-}" != --all ] || { all=yes && shift; }
@@ -123,8 +123,8 @@ else
         alone=(--leave-out)
         start cmake tests/cmake.sh "$program"
         start builds tests/builds.sh "$program"
-        start needs tests/needs.sh "$program"
     fi
+    start needs tests/needs.sh "$program"
     start signals interrupts TERM INT HUP
     start isolated tests/isolated.py "${alone[@]}" "$program"
     start conditions tests/conditions.sh "$program"
