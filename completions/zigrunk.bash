@@ -28,11 +28,11 @@ _zigrunk_plan() {
 _zigrunk() {
     local current=${COMP_WORDS[COMP_CWORD]} forms='line plan'
     COMPREPLY=()
-    [ "${1##*/}" = cudaplan ] || forms='shell ninja json dot compdb makeflow calls directory line plan --limit -h --help --version'
+    [ "${1##*/}" = cudaplan ] || forms='shell ninja json dot compdb makeflow text calls directory line plan --limit -h --help --version'
     if [ "${COMP_WORDS[1]-}" = --limit ] && [ "$COMP_CWORD" -gt 1 ]; then
         [ "$COMP_CWORD" -gt 2 ] || return
         local COMP_WORDS=("${COMP_WORDS[0]}" "${COMP_WORDS[@]:3}") COMP_CWORD=$((COMP_CWORD - 2))
-        forms='shell ninja json dot compdb makeflow plan'
+        forms='shell ninja json dot compdb makeflow text plan'
     fi
     local form=${COMP_WORDS[1]-}
     if [ "$COMP_CWORD" -eq 1 ]; then
@@ -45,7 +45,7 @@ _zigrunk() {
     esac
     local place=$((COMP_CWORD - 1))
     case $form in
-    shell | ninja | json | dot | compdb | makeflow)
+    shell | ninja | json | dot | compdb | makeflow | text)
         local words=("${COMP_WORDS[@]:2}") options='--keep --whole'
         if [ "${words[0]}" = --keep ] && [ "$place" -gt 1 ]; then
             words=("${words[@]:1}") place=$((place - 1)) options=--whole

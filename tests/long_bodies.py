@@ -252,10 +252,10 @@ programs | programs/start | behind_first | words.len() > 50_000
 programs | message_texts/excerpts | push_shown | value.len() > 50_000
 programs | programs/suffix_fault | push_suffix_fault | further.len() > 500
 
-programs | plan_exports/shell | shell_script | plan.groups.as_slice().len() > 50
-programs | plan_exports/shell | shell_script | long_body::has_large(plan.groups.as_slice(), 500)
-programs | plan_exports/command | push_command | command.args.as_slice().len() > 5_000
-programs | plan_exports/command | push_command | command.env_vars.as_slice().len() > 500
+programs | plan_scripts/shell | shell_script | plan.groups.as_slice().len() > 50
+programs | plan_scripts/shell | shell_script | long_body::has_large(plan.groups.as_slice(), 500)
+programs | plan_scripts/command | push_command | command.args.as_slice().len() > 5_000
+programs | plan_scripts/command | push_command | command.env_vars.as_slice().len() > 500
 programs | plan_exports/ninja | ninja_file | plan.groups.as_slice().len() > 50
 programs | plan_exports/ninja | ninja_file | long_body::has_large(plan.groups.as_slice(), 500)
 programs | plan_exports/ninja | ninja_file | plan.dropped.as_slice().len() > 500
@@ -289,7 +289,7 @@ programs | nvcc_calls/jobs | jobs | long_body::has_long_value(variables, 20_000)
 programs | nvcc_calls/directory | directory_name | call.words.len() > 5_000
 programs | nvcc_calls/directory | directory_name | long_body::has_long(call.words, 50_000)
 
-programs | zigrunk/export | write_export | dry1.len() > 10_000
+programs | plan_calls/export | write_export | dry1.len() > 10_000
 programs | zigrunk/nvcc_text | write_nvcc_text | call.words.len() > 5_000
 programs | complaints/place | place_of | dry2.len() > 500_000
 programs | complaints/place | place_in before let path | number > 500
@@ -331,9 +331,9 @@ whole | cudaplan/program | run_program before let _ = err | return 2;
 whole | cudaplan/program | stopped | return 1;
 whole | zigrunk/program | run_program before let _ = err | return 2;
 whole | zigrunk/program | run_program before let _ = err | let _ = err.write_all(help().as_bytes()); return 2;
-whole | zigrunk/program | read before let _ = complain | return Err(why.fault());
-whole | zigrunk/program | told | return answer;
-whole | zigrunk/program | plan_told | return answer;
+whole | plan_calls/files | read before let _ = complain | return Err(why.fault());
+whole | complaints/complaint | complain_of_answer | return answer;
+whole | plan_calls/files | complain_of_plan_answer | return answer;
 whole | complaints/complaint | say | return write!(err, "zigrunk\\n");
 """
 

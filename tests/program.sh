@@ -691,7 +691,7 @@ run_by_ninja() {
 
 # plans for Ninja and as JSON
 plan_files() {
-    local bin=$scratch/bin text env run cached before
+    local bin=$scratch/bin text text_kept env run cached before
     env="env 'PATH=$scratch/none:$bin'"
     run="$env \$\${ZIGRUNK_RUNNER-} $bin"
     cached="$env \$\${ZIGRUNK_RUNNER-} \$\${ZIGRUNK_LAUNCHER-} $bin"
@@ -717,6 +717,11 @@ plan_files() {
     text+=",\"writes\":[\"/t/k.ptx\"]}],\"cwd\":\"/w\",\"dropped\":[{\"args\":[\"a b\"],\"exe\":\"$bin/g++\",\"line\":5,\"reason\":\"NotCuda\",\"run\":2}]"
     text+=",\"flag\":\"-c\",\"groups\":3,\"tmp\":\"/t\",\"version\":1}"$'\n'
     check 'a plan as JSON' 0 "$text" '' json /w /t -c "$scratch/short" "$scratch/short.2"
+    text=$(lines 'group 0' 'group 1' "no cd /w && $bin/gcc -D__NVCC__ -E k.cu -o x_0.cpp1.ii" "yes cd /t && $bin/cicc x_0.cpp1.ii -o k.ptx" 'group 2' \
+        "dropped 5 run 2 NotCuda $bin/g++ a b")
+    check 'a plan as text' 0 "${text%.}" '' text /w /t -c "$scratch/short" "$scratch/short.2"
+    text_kept=${text//x_0/k}
+    check 'a plan as text, with names kept' 0 "${text_kept%.}" '' text --keep /w /t -c "$scratch/short" "$scratch/short.2"
 }
 
 # plans as graphs and as compilation databases
@@ -1030,7 +1035,7 @@ long_values() {
     for format in shell ninja json; do
         holds 'a variable of 70,000 bytes' "$format" value "/h$long"
     done
-    for format in shell ninja json compdb plan; do
+    for format in shell ninja json compdb text plan; do
         holds 'a word of 70,000 bytes' "$format" word "-DA=$long"
     done
     holds 'a dropped word of 70,000 bytes' json lost_word "w$long"
@@ -1060,7 +1065,7 @@ no cd /w && $scratch/none/gcc -D__NVCC__$values -E k.cu -o k
 group 1
 yes cd /w && $scratch/none/gcc -D__NVCC__$renamed
 " '' plan /w /t -c "$scratch/names" "$scratch/names.2"
-    for format in shell ninja json compdb makeflow; do
+    for format in shell ninja json compdb makeflow text; do
         counts "sixty variables as $format" 60 '-D[A-C][AEIO][AEIOU]-[0-9]' "$format" /w /t -c "$scratch/names" "$scratch/names.2"
     done
     counts 'sixty generated files as json' 60 '"x_[0-9]*.cpp1.ii"' json /w /t -c "$scratch/names" "$scratch/names.2"
@@ -1119,7 +1124,7 @@ unfit_files() {
     local format folder behind=$'no line begins with "#$ "\n'
     : > "$scratch/empty"
     printf '#$\n #$ gcc\n$# gcc\n' > "$scratch/prose"
-    for format in shell ninja json dot compdb makeflow; do
+    for format in shell ninja json dot compdb makeflow text; do
         check "one file twice as $format" 1 '' "zigrunk: $scratch/kernel: both dry runs are the same file"$'\n' \
             "$format" /w /t -c "$scratch/kernel" "$scratch/kernel"
         check "a first file that is no dry run as $format" 1 '' "zigrunk: $scratch/prose: the first file is no dry run: $behind" \
@@ -1129,7 +1134,7 @@ unfit_files() {
         check "a plan without commands as $format" 1 '' $'zigrunk: the plan has no command\n' \
             "$format" /w /t -c "$scratch/nothing" "$scratch/nothing.2"
     done
-    for format in shell ninja json dot compdb makeflow; do
+    for format in shell ninja json dot compdb makeflow text; do
         for folder in w . ../w //w /w/ /w//x /w/./x /w/../w /w/. /w/..; do
             check "the directory $folder for temporary files as $format" 1 '' \
                 $'zigrunk: the directory for temporary files has to be absolute, without an empty part, . or ..\n' \
@@ -1290,7 +1295,7 @@ standard_input() {
 # plans that aren't written
 refused_exports() {
     local unread="zigrunk: cannot read $scratch/missing: No such file or directory"$'\n' unheld=$'zigrunk: a text of the plan holds a byte that the form can\'t\n' format
-    for format in shell ninja json dot compdb makeflow; do
+    for format in shell ninja json dot compdb makeflow text; do
         check "no first file for $format" 1 '' "$unread" "$format" /w /t -c "$scratch/missing" "$scratch/kernel"
         check "no second file for $format" 1 '' "$unread" "$format" /w /t -c "$scratch/kernel" "$scratch/missing"
     done
@@ -1354,7 +1359,7 @@ limits() {
     local exceeded=":2: with this line, the dry run makes over $((room - 1)) bytes: --limit allows more$within"
     out=$("$program" json /w /t -c "$scratch/within" "$scratch/within.2"; printf .)
     check 'dry runs that just fit' 0 "${out%.}" '' --limit "$room" json /w /t -c "$scratch/within" "$scratch/within.2"
-    for form in shell ninja json dot compdb makeflow plan; do
+    for form in shell ninja json dot compdb makeflow text plan; do
         check "$form: the first run exceeds the limit" 1 '' "zigrunk: $scratch/within$exceeded" \
             --limit $((room - 1)) "$form" /w /t -c "$scratch/within" "$scratch/within.2"
         check "$form: the second run exceeds the limit" 1 '' "zigrunk: $scratch/within.2$exceeded" \
@@ -1389,7 +1394,7 @@ misuse() {
 
 # words that are no call
 wrong_usage() {
-    local all='shell|ninja|json|dot|compdb|makeflow|plan|calls|directory|line .., or --help'
+    local all='shell|ninja|json|dot|compdb|makeflow|text|plan|calls|directory|line .., or --help'
     local none="no command, or a word or variable that isn't UTF-8" bytes='--limit needs a number of bytes' odd='unexpected option' line='line cicc|ptxas|cudafe++ CWD WORD..'
     local plan='CWD TMP FLAG DRY1 DRY2 SUFFIX..' options='[--limit BYTES] [--keep] [--whole]' one=$scratch/kernel two=$scratch/kernel.2 name form
     local ninja="ninja $options [--slot WORDS [--dependencies]] $plan"
@@ -1414,7 +1419,7 @@ wrong_usage() {
     misuse "$bytes, not 18446744073709551616" "json $options $plan" --limit 18446744073709551616 json /w /t -c "$one" "$two"
     misuse "$bytes, not 3k" "shell $options $plan" shell --keep --limit 3k /w /t -c "$one" "$two"
     misuse "$bytes" "shell $options $plan" shell --whole --limit
-    for name in shell ninja json dot compdb makeflow; do
+    for name in shell ninja json dot compdb makeflow text; do
         form="$name $options $plan"
         [ "$name" != ninja ] || form=$ninja
         misuse "$name needs CWD" "$form" "$name"

@@ -205,6 +205,7 @@ good_zigrunk_calls() {
     call 'a graph' 0 "$zigrunk" dot /w /t -c found found2
     call 'a compilation database' 0 "$zigrunk" compdb /w /t -c found found2
     call 'a Makeflow file' 0 "$zigrunk" makeflow /w /t -c found found2
+    call 'text' 0 "$zigrunk" text /w /t -c found found2
 }
 
 # calls of zigrunk that fail, each for another reason

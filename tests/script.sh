@@ -147,7 +147,7 @@ end() {
 # Cases of zigrunk-plan, which is beside the script.
 plans() {
     local split="$room/tmp/zigrunk-$user/zigrunk-name" dry_runs="[ROOM/tmp/zigrunk-plan/first_dry_run] [ROOM/tmp/zigrunk-plan/second_dry_run]"
-    for words in 'json [json]' 'ninja [ninja]' 'shell [shell]' 'dot [dot]' 'compdb [compdb]' 'makeflow [makeflow]' 'text [plan]'; do
+    for words in 'json [json]' 'ninja [ninja]' 'shell [shell]' 'dot [dot]' 'compdb [compdb]' 'makeflow [makeflow]' 'text [text]'; do
         begin "zigrunk-plan ${words% *}"
         as=$planner script "${words% *}" -- nvcc -c k.cu -o 'k o'
         same 'status and messages' "$status$(cat "$room/err")" 0

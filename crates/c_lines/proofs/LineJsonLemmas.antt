@@ -1,22 +1,11 @@
 -- What a line says has no float.
-use Rattle.std.proofs.Common.{◌≡◌, ℕ, List, [], ◌∷◌, ◌||◌, map, Bool, false, Option, Some, None, refl, subst}
+use Rattle.std.proofs.Common.{◌≡◌, ℕ, List, false, Option, Some, None, refl, subst}
 use Rattle.compilers.specs.declared.arguments.ParsedArguments.{ParsedArguments}
 use Rattle.compilers.specs.declared.outputs.ArtifactDescriptor.{ArtifactDescriptor}
-use Rattle.plan_json.specs.Json.{texts_data}
-use Rattle.serde_json.specs.Data.{Data, string}
-use Rattle.serde_json.specs.View.{items_of}
-use Rattle.serde_json.specs.Written.{has_float, items_have_float, compact_text}
+use Rattle.json_values.proofs.ValueLemmas.{neither, items_float_free, texts_float_free}
+use Rattle.serde_json.specs.Data.{Data}
+use Rattle.serde_json.specs.Written.{has_float, compact_text}
 use Rattle.c_lines.specs.LineJson.{optional_data, output_data, outputs_data, line_data}
-
-neither : {a b : Bool} → a ≡ false → b ≡ false → (a || b) ≡ false
-neither p q = rw (p, q)
-
-items_float_free : {A : Type 0} (f : A → Data) → ((x : A) → has_float (f x) ≡ false) → (xs : List A) → items_have_float (items_of (map f xs)) ≡ false
-items_float_free f h [] = refl
-items_float_free f h (x ∷ xs) = neither (h x) (items_float_free f h xs)
-
-texts_float_free : (texts : List (List ℕ)) → has_float (texts_data texts) ≡ false
-texts_float_free texts = items_float_free string (λ x. refl) texts
 
 optional_float_free : (text : Option (List ℕ)) → has_float (optional_data text) ≡ false
 optional_float_free None = refl

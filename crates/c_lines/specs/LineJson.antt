@@ -4,7 +4,7 @@ use Rattle.compilers.specs.declared.arguments.ColorMode.{ColorMode}
 use Rattle.compilers.specs.declared.arguments.ColorMode.TheVariants.{Off, On, Auto}
 use Rattle.compilers.specs.declared.arguments.ParsedArguments.{ParsedArguments}
 use Rattle.compilers.specs.declared.outputs.ArtifactDescriptor.{ArtifactDescriptor}
-use Rattle.plan_json.specs.Json.{texts_data, count_data}
+use Rattle.json_values.specs.Values.{texts_data, count_data}
 use Rattle.serde_json.specs.Data.{Data, null, boolean, string, array, object, no_members, member}
 use Rattle.serde_json.specs.View.{items_of}
 use Rattle.texts.specs.Language.{language_text}

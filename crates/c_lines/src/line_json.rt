@@ -5,12 +5,12 @@ ghost use Rattle.serde_json.specs.Data.{boolean, number, unsigned, string, put a
 ghost use Rattle.serde_json.specs.View.{view, members_view};
 ghost use Rattle.serde_json.specs.Written.{compact_text};
 ghost use Rattle.texts.specs.Language.{language_text};
-ghost use Rattle.plan_json.specs.Json.{texts_data};
+ghost use Rattle.json_values.specs.Values.{texts_data};
 ghost use Rattle.c_lines.specs.LineJson as spec;
 
 use compilers::arguments::{ColorMode, ParsedArguments};
 use compilers::outputs::{ArtifactDescriptor, Outputs};
-use plan_json::{put_text, put_texts};
+use json_values::{put_text, put_texts};
 use serde_json::{Map, Value, push, put};
 use std::alloc::{AllocError, Global};
 use texts::text::Text;

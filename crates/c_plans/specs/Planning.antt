@@ -12,7 +12,6 @@ use Rattle.canonical_names.specs.FurtherSuffixes.{all_suffixes}
 use Rattle.texts.specs.Results.{and_then}
 use Rattle.c_plans.specs.declared.plan_call.PlanCall.{PlanCall}
 use Rattle.c_plans.specs.declared.plan_call.Tables.{Tables}
-use Rattle.c_plans.specs.declared.plan_forms.Form.{Form}
 use Rattle.c_texts.specs.declared.status.Status.TheVariants.{BadNumber}
 use Rattle.c_texts.specs.Failures.{if_number, if_utf8}
 use Rattle.c_plans.specs.Limits.{failed_within, within_limit, without_limit}
@@ -20,7 +19,9 @@ use Rattle.c_plans.specs.Refusals.{written}
 use Rattle.c_texts.specs.Memory.{bytes_of}
 use Rattle.c_texts.specs.Outcomes.{Outcome, refused}
 use Rattle.c_plans.specs.PlanCalls.{Texts, has_numbers, host_of, if_flag, tables_of, texts_of}
-use Rattle.c_plans.specs.PlanForms.{form_of, text_in}
+use Rattle.c_plans.specs.PlanForms.{form_of}
+use Rattle.plan_formats.specs.Texts.{text_in}
+use Rattle.plan_scripts.specs.declared.format.Format.{Format}
 
 -- the setting that a call plans in
 abbrev pub setting_of : NvccHostCompiler → Texts → Tables → PlanSetting
@@ -46,12 +47,12 @@ planned call host texts tables =
     (without_limit (planned_whole call host texts tables suffixes)) (planned_within call host texts tables suffixes))
 
 -- a plan in a form, or the fault of a plan that there isn't
-abbrev pub told : ℕ → Form → Texts → Result PlanWithOrigins LimitedFault → Outcome
+abbrev pub told : ℕ → Format → Texts → Result PlanWithOrigins LimitedFault → Outcome
 told limit form texts (Ok planned) = written (text_in form (record { cwd = texts.cwd; tmp = texts.tmp; flag = texts.flag; planned = planned }))
 told limit form texts (Err fault) = failed_within limit fault
 
 -- a call with numbers that have a meaning. A text that isn't UTF-8 comes before any fault of the plan
-abbrev pub outcome_in : PlanCall → Form → NvccHostCompiler → Outcome
+abbrev pub outcome_in : PlanCall → Format → NvccHostCompiler → Outcome
 outcome_in call form host =
     if_utf8 (texts_of call) (λ texts. if_utf8 (tables_of texts.cwd call) (λ tables. told call.limit form texts (planned call host texts tables)))
 

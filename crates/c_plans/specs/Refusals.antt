@@ -1,7 +1,7 @@
 -- What calls tell of plans that a form can't represent.
 use Rattle.std.specs.Prelude.{ℕ, List, Result, Ok, Err}
-use Rattle.plan_exports.specs.declared.refusal.Refusal.{Refusal}
-use Rattle.plan_exports.specs.Message as refusals
+use Rattle.plan_scripts.specs.declared.refusal.Refusal.{Refusal}
+use Rattle.plan_scripts.specs.Message as refusals
 use Rattle.c_texts.specs.declared.status.Status.TheVariants.{Unwritable}
 use Rattle.c_texts.specs.Outcomes.{Outcome, of_text, refused_with}
 

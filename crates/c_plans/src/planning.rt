@@ -12,12 +12,13 @@ use crate::limits::failed_within;
 use crate::plan_call::{
     PlanCall, Tables, Texts, has_numbers, host_of, if_flag, tables_of, texts_of,
 };
-use crate::plan_forms::{Form, form_of, outcome_in};
+use crate::plan_forms::{form_of, outcome_in};
 use c_texts::{Outcome, Status, TextAnswer, give_text, refused};
 use canonical_names::all_suffixes;
 use command_groups::{CallToPlan, plan_with_origins, plan_with_origins_within};
 use compilers::compiler::NvccHostCompiler;
 use dry_runs::LimitedFault;
+use plan_scripts::Format;
 use plans::PlanWithOrigins;
 use std::alloc::{AllocError, Global};
 use texts::fault::Fault;
@@ -54,7 +55,7 @@ pub fn planned(
 fn told(
     alloc: Global,
     limit: usize,
-    form: Form,
+    form: Format,
     texts: Texts<'_>,
     plan: Result<PlanWithOrigins, LimitedFault>,
 ) -> Result<Outcome, AllocError>
@@ -72,7 +73,7 @@ fn told(
 fn valid_outcome(
     alloc: Global,
     call: &PlanCall<'_>,
-    form: Form,
+    form: Format,
     host: NvccHostCompiler,
 ) -> Result<Outcome, AllocError>
     ensures { IfOk result (λ outcome. outcome ≡ spec.outcome_in call.now form host) }

@@ -1,12 +1,12 @@
 //! What calls tell of plans that a form can't represent.
 
 ghost use Rattle.std.specs.Prelude.{◌≡◌, List, ℕ, IfOk, Result, Err};
-ghost use Rattle.plan_exports.specs.declared.refusal.Refusal.{Refusal};
-ghost use Rattle.plan_exports.specs.Answers.{Answers};
+ghost use Rattle.plan_scripts.specs.declared.refusal.Refusal.{Refusal};
+ghost use Rattle.plan_scripts.specs.Answers.{Answers};
 ghost use Rattle.c_plans.specs.Refusals as spec;
 
 use c_texts::{Outcome, Status, refused_with};
-use plan_exports::Refusal;
+use plan_scripts::Refusal;
 use std::alloc::{AllocError, Global};
 
 // A refusal's message.
@@ -26,6 +26,7 @@ pub(crate) fn written(alloc: Global, answer: Result<String, Refusal>) -> Result<
         Err(Refusal::Unheld) => unwritable(alloc, Refusal::Unheld),
         Err(Refusal::VariableName) => unwritable(alloc, Refusal::VariableName),
         Err(Refusal::Program) => unwritable(alloc, Refusal::Program),
+        Err(Refusal::LongCommand) => unwritable(alloc, Refusal::LongCommand),
         Err(Refusal::Memory) => Err(AllocError),
     }
 }

@@ -88,3 +88,17 @@ pub fn complain_of_file<E: Write>(
         Err(_) => complain("zigrunk", &why.stop(), err),
     }
 }
+
+/// An answer. If it is a stop, it first says why.
+pub fn complain_of_answer<E: Write>(
+    alloc: Global,
+    answer: Result<(), Stop>,
+    err: &mut E,
+) -> Result<(), Stop>
+    ensures { result ≡ answer }
+{
+    if let Err(stop) = &answer {
+        let _ = complain_of(alloc, stop, err);
+    }
+    answer
+}

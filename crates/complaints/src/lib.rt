@@ -6,6 +6,7 @@ mod message;
 mod place;
 
 pub use complaint::{
-    OVER_LIMIT, complain_of, complain_of_excess, complain_of_file, complain_of_plan,
+    OVER_LIMIT, complain_of, complain_of_answer, complain_of_excess, complain_of_file,
+    complain_of_plan,
 };
 pub use place::{Place, place_of_excess};

@@ -13,7 +13,7 @@ use Rattle.texts.specs.Path.{lacks}
 use Rattle.texts.proofs.PathLemmas.{lacks-places, not-is}
 use Rattle.plan_exports.specs.Graph.{escaped_char, escaped}
 use Rattle.plan_exports.proofs.ReadGraphLemmas.{lacks-encoded}
-use Rattle.plan_exports.proofs.TextLemmas.{plain_chars}
+use Rattle.plan_scripts.proofs.TextLemmas.{plain_chars}
 
 -- what is in front of a `$` is text
 front-utf8 : (front behind : List ℕ) → IsUtf8 (front ++ 36 ∷ behind) → IsUtf8 front

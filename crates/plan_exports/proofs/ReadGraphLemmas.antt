@@ -1,14 +1,12 @@
 -- What is written for Ninja is read as the edges of the plan.
 use Rattle.std.proofs.Common.{ℕ, suc, ◌<◌, ◌+◌, List, [], ◌∷◌, ◌++◌, ◌≡◌, refl, sym, ap, ◌∙◌, subst, append_assoc, append-nil, map, length, drop, Bool, true, false, not, ◌&&◌, ◌==◌, eqb, eqb-true, eq-eqb, ne_eqb, Option, Some, None, Result, Ok, Err, codes, encode_utf8_all, arith}
 use Rattle.std.specs.List.{AllByRecursion, flat_map, list_all}
-use Rattle.std.specs.Option.{option_map}
-use Rattle.std.specs.Str.{IsUtf8, IsAscii, chars}
+use Rattle.std.specs.Str.{IsUtf8, chars}
 use Rattle.std.specs.Int.Digits.{digits_of}
 use Rattle.std.proofs.lemmas.List.{get_or_at, get_or-drop, drop-drop, length_push, length-append}
 use Rattle.std.proofs.lemmas.Bool.{false≢true, and_parts, and_from, not-true, cond_both, eqb-false}
 use Rattle.std.proofs.lemmas.Int.Digits.{all_below_base_digits_of}
-use Rattle.std.proofs.lemmas.Str.{encodes-chars, inside_one, encode_ascii, IsUtf8-append, IsUtf8-from_ascii}
-use Rattle.std.proofs.lemmas.Str.Ascii.{IsAscii-nil, IsAscii-cons}
+use Rattle.std.proofs.lemmas.Str.{encodes-chars, inside_one, encode_ascii, IsUtf8-append}
 use lib.Utf8.{encode}
 use Rattle.compilers.specs.declared.command.Cacheable.{Cacheable}
 use Rattle.compilers.specs.declared.command.Cacheable.TheVariants.{Yes, No}
@@ -22,20 +20,21 @@ use Rattle.plans.specs.declared.plan.Dropped.{Dropped}
 use Rattle.plans.specs.declared.plan.Reason.{Reason}
 use Rattle.plans.specs.declared.plan.Reason.TheVariants.{NotCuda, NoCiccGroup, NoPtxasGroup, Superseded}
 use Rattle.plans.specs.declared.plan.Plan.{Plan}
-use Rattle.plan_exports.specs.declared.refusal.Refusal.{Refusal}
-use Rattle.plan_exports.specs.declared.refusal.Refusal.TheVariants.{Unheld}
-use Rattle.plan_exports.specs.declared.refusal.Form.TheVariants.{Ninja}
-use Rattle.plan_exports.specs.CommandText.{assignment, env_words, command_text}
-use Rattle.plan_exports.specs.Judging.{holds, holds_text, holds_variables, holds_command, judged_command, judged_group, judged_groups, and_then}
-use Rattle.plan_exports.specs.Script.{unless_refused}
+use Rattle.plan_scripts.specs.declared.refusal.Refusal.{Refusal}
+use Rattle.plan_scripts.specs.declared.refusal.Refusal.TheVariants.{Unheld}
+use Rattle.plan_scripts.specs.declared.format.Format.TheVariants.{Ninja}
+use Rattle.plan_scripts.specs.CommandText.{assignment, env_words, command_text}
+use Rattle.plan_scripts.specs.Judging.{holds, holds_text, holds_variables, holds_command, judged_command, judged_group, judged_groups, and_then}
+use Rattle.plan_scripts.specs.Script.{unless_refused}
 use Rattle.plans.specs.Reasons.{reason_name}
 use Rattle.plan_exports.specs.Graph.{escaped_char, escaped, stamp, stamp_below, stamp_path, runner, touch, edge_command, edge_line, edge, places_in, places_from, plan_places, place_at, stamp_at, stamps_at, depended, waits, awaited, edges_from as written_edges, group_edges, comment, rule, head, graph, holds_dropped, judged_rest, ninja_answer}
 use Rattle.plan_exports.specs.Scripts.{stamps_of}
-use Rattle.plan_exports.specs.ReadBack.{IsOfTexts}
+use Rattle.plan_scripts.specs.ReadBack.{IsOfTexts}
 use Rattle.plan_exports.specs.ReadGraph.{parts_at, behind, Edge, path_of, head_parts, head_behind, with_edge, edges_from, edges_in, edges_of_lines, edges_of, path_at, place_path, awaited_paths, edge_at, edges_at, plan_commands, plan_edges, IsDroppedText}
 use Rattle.command_files.specs.Order.{needs_at}
 use Rattle.command_files.specs.PlanNeeds.{plan_needs}
-use Rattle.plan_exports.proofs.TextLemmas.{written_utf8}
+use Rattle.plan_scripts.proofs.NumeralLemmas.{utf8-numeral}
+use Rattle.plan_scripts.proofs.TextLemmas.{written_utf8}
 use Rattle.plan_exports.proofs.ValueLemmas.{value_reads_back}
 
 -- ---- bytes that texts lack
@@ -137,16 +136,6 @@ lacks-numeral : (byte n : ℕ) → ((d : ℕ) → d < 10 → eqb (48 + d) byte �
 lacks-numeral byte n other nothing =
     cond_both (eqb n 0) (codes "0") (map (λ d. 48 + d) (digits_of 10 n)) (λ t. lacks byte t ≡ true) (λ _. nothing)
     (λ _. lacks-digits byte (digits_of 10 n) other (all_below_base_digits_of 10 n (omega arith)))
-
-ascii-digits : (ds : List ℕ) → AllByRecursion (λ d. d < 10) ds → IsAscii (map (λ d. 48 + d) ds)
-ascii-digits [] small = IsAscii-nil
-ascii-digits (d ∷ ds) small = let low : d < 10 = small.0 in IsAscii-cons (48 + d) (map (λ d. 48 + d) ds) (omega arith) (ascii-digits ds small.1)
-
-utf8-numeral : (n : ℕ) → IsUtf8 (numeral n)
-unfolding lib.Utf8.encode
-utf8-numeral n =
-    cond_both (eqb n 0) (codes "0") (map (λ d. 48 + d) (digits_of 10 n)) (λ t. IsUtf8 t) (λ _. (codes "0", (refl, refl)))
-    (λ _. IsUtf8-from_ascii (map (λ d. 48 + d) (digits_of 10 n)) (ascii-digits (digits_of 10 n) (all_below_base_digits_of 10 n (omega arith))))
 
 line-numeral : (n : ℕ) → IsLine (numeral n)
 line-numeral n = (utf8-numeral n, lacks-numeral 10 n (λ d small. ne_eqb (48 + d) 10 (λ e. omega arith)) refl)

@@ -1,5 +1,5 @@
 -- What Ninja does with a file that runs each command by a script is that for each command of the plan.
-use Rattle.std.proofs.Common.{ℕ, List, [], ◌∷◌, ◌++◌, ◌≡◌, refl, sym, ap, ◌∙◌, append_assoc, append-nil, map, Bool, true, false, ◌&&◌, Option, Some, None, Result, Ok, Err, codes}
+use Rattle.std.proofs.Common.{ℕ, List, [], ◌∷◌, ◌++◌, ◌≡◌, refl, sym, ap, ◌∙◌, append_assoc, append-nil, map, Bool, true, false, ◌&&◌, Option, Some, None, Ok, Err, codes}
 use Rattle.std.specs.List.{AllByRecursion, flat_map, list_all}
 use Rattle.std.specs.Str.{IsUtf8}
 use Rattle.std.proofs.lemmas.Bool.{and_parts, cond_both}
@@ -9,15 +9,14 @@ use Rattle.shell_words.specs.Shell.Quoting.{written}
 use Rattle.plans.specs.declared.plan.NvccGeneratedSubcommand.{NvccGeneratedSubcommand}
 use Rattle.plans.specs.declared.plan.Plan.{Plan}
 use Rattle.command_files.specs.PlanNeeds.{plan_needs, preprocesses}
-use Rattle.plan_exports.specs.declared.refusal.Refusal.{Refusal}
-use Rattle.plan_exports.specs.declared.refusal.Refusal.TheVariants.{Unheld}
-use Rattle.plan_exports.specs.declared.refusal.Form.TheVariants.{Ninja}
-use Rattle.plan_exports.specs.Judging.{holds_text, holds_variables, holds_command, judged_command, judged_group, judged_groups, and_then}
+use Rattle.plan_scripts.specs.declared.refusal.Refusal.TheVariants.{Unheld}
+use Rattle.plan_scripts.specs.declared.format.Format.TheVariants.{Ninja}
+use Rattle.plan_scripts.specs.Judging.{holds_text, holds_variables, holds_command, judged_command, judged_group, judged_groups, and_then}
 use Rattle.plan_exports.specs.Graph.{escaped, plan_places, depended, group_edges, comment, holds_dropped, judged_rest}
-use Rattle.plan_exports.specs.Scripts.{preprocessors_from, plan_preprocessors, program_in, or_text, first_program, stamps_of, head_with, depend_command, depend_text, waiting, script_graph, judged_slot, scripts_answer}
-use Rattle.plan_exports.specs.ReadBack.{IsOfTexts}
+use Rattle.plan_exports.specs.Scripts.{plan_preprocessors, program_in, or_text, first_program, stamps_of, head_with, depend_command, depend_text, waiting, script_graph, judged_slot, scripts_answer}
+use Rattle.plan_scripts.specs.ReadBack.{IsOfTexts}
 use Rattle.plan_exports.specs.ReadGraph.{Edge, IsDroppedText, parts_at, edges_from, edges_in, edges_of_lines, edges_of, place_path, edges_at, plan_commands}
-use Rattle.plan_exports.specs.ReadScripts.{ninja_word, without_blanks, Rule, rule_with, rule_of, Run, before_runs, run_by, runs_by, runs_in, runs_of, run_of, depend_edges, script_edges}
+use Rattle.plan_exports.specs.ReadScripts.{ninja_word, without_blanks, Rule, rule_with, rule_of, before_runs, run_by, runs_by, runs_in, runs_of, run_of, depend_edges, script_edges}
 use Rattle.plan_exports.proofs.ReadGraphLemmas.{IsLine, line-append, line-written, line-escaped, held-text, held-command, then-both, held-rest, unrefused, parts-past, stamp-no_newline, lacks-stamps, needs-stamps, any-edge-read, plan-reads}
 use Rattle.plan_exports.proofs.ValueLemmas.{value_reads_back}
 

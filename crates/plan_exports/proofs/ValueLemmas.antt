@@ -8,7 +8,7 @@ use Rattle.std.proofs.lemmas.Bool.{cond_both, cond-false, and_parts, eqb-true}
 use Rattle.std.proofs.lemmas.Str.{chars-encodes, encodes-chars, scalars-chars}
 use Rattle.plan_exports.specs.Graph.{escaped_char, escaped}
 use Rattle.plan_exports.specs.ReadValue.{value_from, value_of}
-use Rattle.plan_exports.proofs.TextLemmas.{scalars_append}
+use Rattle.plan_scripts.proofs.TextLemmas.{scalars_append}
 
 scalars_escaped : (cs : List ℕ) → scalars cs ≡ true → scalars (flat_map escaped_char cs) ≡ true
 scalars_escaped [] are = refl

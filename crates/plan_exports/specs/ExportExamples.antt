@@ -1,43 +1,10 @@
--- The texts of a small plan, worked out by hand.
-use Rattle.std.specs.Prelude.{◌≡◌, ℕ, List, [], ◌∷◌, map, codes, Some, None, Ok, Err, refl}
+-- The edge of a small command, worked out by hand, and those of a real plan.
+use Rattle.std.specs.Prelude.{◌≡◌, ℕ, List, [], ◌∷◌, map, codes, refl}
 use Rattle.std.specs.Str.{chars, is_utf8}
-use Rattle.compilers.specs.declared.command.Cacheable.TheVariants.{Yes}
-use Rattle.plans.specs.declared.plan.NvccGeneratedSubcommand.{NvccGeneratedSubcommand}
-use Rattle.plan_exports.specs.declared.refusal.Refusal.TheVariants.{Unheld, VariableName}
-use Rattle.plan_exports.specs.declared.refusal.Form.TheVariants.{Shell, Ninja}
-use Rattle.plan_exports.specs.Judging.{judged_command, judged_groups}
-use Rattle.plan_exports.specs.Script.{command_line}
 use Rattle.command_files.specs.PlanNeeds.{fatbin_plan}
+use Rattle.plan_scripts.specs.ScriptExamples.{cicc}
 use Rattle.plan_exports.specs.Graph.{edge}
-use Rattle.shell_words.specs.Posix.{Word, Operator}
-use Rattle.plan_exports.specs.ReadBack.{shell_tokens}
 use Rattle.plan_exports.specs.ReadGraph.{Edge, plan_edges}
-
--- a cacheable command with one variable
-abbrev pub cicc_with : List ℕ → List ℕ → NvccGeneratedSubcommand
-cicc_with name word = record { exe = codes "/b/cicc"; args = word ∷ []; cwd = codes "/t"; env_vars = (name, codes "v w") ∷ []; cacheable = Yes }
-
-abbrev pub cicc : NvccGeneratedSubcommand
-cicc = cicc_with (codes "K") (codes "a$b")
-
-abbrev pub LineOfCicc : Type 0
-LineOfCicc = command_line cicc ≡ codes "( cd /t && env 'K=v w' /b/cicc 'a$b' )\n"
-
-pub line_of_cicc : LineOfCicc
-unfolding chars is_utf8 lib.Utf8.encode
-line_of_cicc = refl
-
--- without the quotes, a shell would end the command at a `;`, and act on a `$`
-abbrev pub BareCharacters : Type 0
-BareCharacters =
-    (shell_tokens (codes "( cd /t && env /b/cicc a;b )")
-    ≡ Some (Operator (codes "(") ∷ Word (codes "cd") ∷ Word (codes "/t") ∷ Operator (codes "&&") ∷ Word (codes "env") ∷ Word (codes "/b/cicc")
-    ∷ Word (codes "a") ∷ Operator (codes ";") ∷ Word (codes "b") ∷ Operator (codes ")") ∷ []))
-    × (shell_tokens (codes "( cd /t && env /b/cicc a$b )") ≡ None)
-
-pub bare_characters : BareCharacters
-unfolding chars
-bare_characters = (refl, refl)
 
 abbrev pub EdgeOfCicc : Type 0
 EdgeOfCicc =
@@ -69,22 +36,3 @@ EdgesOfFatbin =
 
 pub edges_of_fatbin : EdgesOfFatbin
 edges_of_fatbin = refl
-
--- a name that begins with `-`, and a newline, which a shell script can represent and a Ninja file can't
-abbrev pub DashRefused : Type 0
-DashRefused = judged_command Shell (cicc_with (codes "-K") []) ≡ Err VariableName
-
-pub dash_refused : DashRefused
-dash_refused = refl
-
-abbrev pub NewlineHeld : Type 0
-NewlineHeld = judged_command Shell (cicc_with (codes "K") (codes "a\nb")) ≡ Ok tt
-
-pub newline_held : NewlineHeld
-newline_held = refl
-
-abbrev pub NewlineRefused : Type 0
-NewlineRefused = judged_groups Ninja ((cicc_with (codes "K") (codes "a\nb") ∷ []) ∷ []) ≡ Err Unheld
-
-pub newline_refused : NewlineRefused
-newline_refused = refl

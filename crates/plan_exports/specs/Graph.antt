@@ -12,12 +12,12 @@ use Rattle.plans.specs.declared.plan.Plan.{Plan}
 use Rattle.plans.specs.Reasons.{reason_name}
 use Rattle.command_files.specs.Order.{needs_at}
 use Rattle.command_files.specs.PlanNeeds.{plan_needs}
-use Rattle.plan_exports.specs.declared.refusal.Refusal.{Refusal}
-use Rattle.plan_exports.specs.declared.refusal.Refusal.TheVariants.{Unheld}
-use Rattle.plan_exports.specs.declared.refusal.Form.TheVariants.{Ninja}
-use Rattle.plan_exports.specs.Judging.{holds_text, and_then, judged_groups}
-use Rattle.plan_exports.specs.CommandText.{command_text}
-use Rattle.plan_exports.specs.Script.{unless_refused}
+use Rattle.plan_scripts.specs.declared.refusal.Refusal.{Refusal}
+use Rattle.plan_scripts.specs.declared.refusal.Refusal.TheVariants.{Unheld}
+use Rattle.plan_scripts.specs.declared.format.Format.TheVariants.{Ninja}
+use Rattle.plan_scripts.specs.Judging.{holds_text, and_then, judged_groups}
+use Rattle.plan_scripts.specs.CommandText.{command_text}
+use Rattle.plan_scripts.specs.Script.{unless_refused}
 
 -- a text as a variable's value. `$` is doubled
 abbrev pub escaped_char : ℕ → List ℕ

@@ -9,7 +9,7 @@ use Rattle.plans.specs.declared.plan.Plan.{Plan}
 use Rattle.command_files.specs.Order.{needs_at}
 use Rattle.command_files.specs.PlanNeeds.{plan_needs}
 use Rattle.plan_exports.specs.Graph.{stamp_path, edge_command, plan_places, place_at, depended, waits, ninja_answer}
-use Rattle.plan_exports.specs.ReadBack.{IsOfTexts}
+use Rattle.plan_scripts.specs.ReadBack.{IsOfTexts}
 use Rattle.plan_exports.specs.ReadValue.{value_of}
 
 -- the parts of a text between occurrences of a byte

@@ -7,10 +7,10 @@ use Rattle.std.specs.Str.{IsUtf8, bytes_eq, chars}
 use Rattle.shell_words.specs.Shell.Quoting.{quoted_char}
 use Rattle.plans.specs.declared.plan.Plan.{Plan}
 use Rattle.command_files.specs.PlanNeeds.{plan_needs}
-use Rattle.plan_exports.specs.Judging.{begins_by}
+use Rattle.plan_scripts.specs.Judging.{begins_by}
 use Rattle.plan_exports.specs.Graph.{plan_places, depended}
 use Rattle.plan_exports.specs.Scripts.{plan_preprocessors, depend_command, waiting, scripts_answer}
-use Rattle.plan_exports.specs.ReadBack.{IsOfTexts}
+use Rattle.plan_scripts.specs.ReadBack.{IsOfTexts}
 use Rattle.plan_exports.specs.ReadGraph.{Edge, IsDroppedText, behind, parts_at, value_behind, edges_of, place_path, edges_at, plan_commands}
 
 -- ---- values with references

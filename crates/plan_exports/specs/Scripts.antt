@@ -5,11 +5,11 @@ use Rattle.shell_words.specs.Shell.Quoting.{written}
 use Rattle.plans.specs.declared.plan.NvccGeneratedSubcommand.{NvccGeneratedSubcommand}
 use Rattle.plans.specs.declared.plan.Plan.{Plan}
 use Rattle.command_files.specs.PlanNeeds.{plan_needs, preprocesses}
-use Rattle.plan_exports.specs.declared.refusal.Refusal.{Refusal}
-use Rattle.plan_exports.specs.declared.refusal.Refusal.TheVariants.{Unheld}
-use Rattle.plan_exports.specs.declared.refusal.Form.TheVariants.{Ninja}
-use Rattle.plan_exports.specs.Judging.{holds_text, and_then, judged_groups}
-use Rattle.plan_exports.specs.Script.{unless_refused}
+use Rattle.plan_scripts.specs.declared.refusal.Refusal.{Refusal}
+use Rattle.plan_scripts.specs.declared.refusal.Refusal.TheVariants.{Unheld}
+use Rattle.plan_scripts.specs.declared.format.Format.TheVariants.{Ninja}
+use Rattle.plan_scripts.specs.Judging.{holds_text, and_then, judged_groups}
+use Rattle.plan_scripts.specs.Script.{unless_refused}
 use Rattle.plan_exports.specs.Graph.{escaped, stamp_below, edge_line, plan_places, depended, group_edges, comment, judged_rest}
 
 -- where the commands are that preprocess, in plan order

@@ -1,20 +1,15 @@
 //! Laws on written plans, and worked examples.
 
-ghost use Rattle.plan_exports.specs.ExportExamples.{LineOfCicc, BareCharacters, EdgeOfCicc, EdgesOfFatbin, DashRefused, NewlineHeld, NewlineRefused};
-ghost use Rattle.plan_exports.specs.ReadBack.{CommandsReadBack, EdgesReadBack, ScriptsReadBack};
+ghost use Rattle.plan_exports.specs.ExportExamples.{EdgeOfCicc, EdgesOfFatbin};
+ghost use Rattle.plan_exports.specs.ReadEdge.{EdgesReadBack};
 ghost use Rattle.plan_exports.specs.ReadGraph.{GraphsReadBack};
 ghost use Rattle.plan_exports.specs.ReadScripts.{ScriptsRun};
 ghost use Rattle.plan_exports.specs.ReadValue.{ValuesReadBack};
 
-/// A POSIX shell reads a command's text as the command, and nothing else: its directory, its variables, the words that run it,
-/// its program and its words (`commands`). It reads what an edge of a Ninja file runs as the command and then `touch`, with any
-/// words in the place of the expansions of `ZIGRUNK_RUNNER` and `ZIGRUNK_LAUNCHER` (`edges`), and a script as `set -e` and then
-/// each command of the plan, in order (`scripts`). The grammar is `Posix` of `shell_words`, in which a `;` outside of quotes ends
-/// a command, and text that a shell would act on has no reading.
-pub fn read_back()
-    ensures commands { CommandsReadBack }
-    ensures edges { EdgesReadBack }
-    ensures scripts { ScriptsReadBack }
+/// A POSIX shell reads what an edge of a Ninja file runs as the command and then `touch`, with any words in the place of the expansions of
+/// `ZIGRUNK_RUNNER` and `ZIGRUNK_LAUNCHER`. The grammar is `Posix` of `shell_words`.
+pub fn edges_read_back()
+    ensures { EdgesReadBack }
 {}
 
 /// Ninja reads each written value as the original text.
@@ -36,13 +31,8 @@ pub fn scripts_run()
     ensures { ScriptsRun }
 {}
 
-/// The definitions give these texts for a small plan, and these edges for a real one.
+/// The definitions give these edges for a small command and for a real plan.
 pub fn worked_exports()
-    ensures line_of_cicc { LineOfCicc }
-    ensures bare_characters { BareCharacters }
     ensures edge_of_cicc { EdgeOfCicc }
     ensures edges_of_fatbin { EdgesOfFatbin }
-    ensures dash_refused { DashRefused }
-    ensures newline_held { NewlineHeld }
-    ensures newline_refused { NewlineRefused }
 {}

@@ -4,14 +4,12 @@ ghost use Rattle.std.specs.Prelude.{◌≡◌, ◌<◌, ◌++◌, IfOk, IfSome, 
 ghost use Rattle.std.specs.List.{flat_map, list_all};
 ghost use Rattle.command_files.specs.Order.{needs_at};
 ghost use Rattle.command_files.specs.PlanNeeds.{plan_needs};
-ghost use Rattle.plan_exports.specs.Answers.{Answers};
+ghost use Rattle.plan_scripts.specs.Answers.{Answers};
 ghost use Rattle.plan_exports.specs.Graph as spec;
 
-use crate::command::push_command;
-use crate::judging::{holds_text, holds_words, judge_groups};
-use crate::refusal::{Form, Refusal};
 use command_files::needs;
 use compilers::command::Cacheable;
+use plan_scripts::{Format, Refusal, holds_text, holds_words, judge_groups, push_command};
 use plans::{Dropped, NvccGeneratedSubcommand, Plan};
 use shell_words::push_quoted;
 use std::alloc::{AllocError, Global};
@@ -403,8 +401,8 @@ fn graph(alloc: Global, tmp: &str, plan: &Plan) -> Result<String, AllocError>
 fn holds_dropped(dropped: &Dropped) -> bool
     ensures { result ≡ spec.holds_dropped dropped.now }
 {
-    holds_text(Form::Ninja, dropped.exe.as_bytes())
-        && holds_words(Form::Ninja, dropped.args.as_slice())
+    holds_text(Format::Ninja, dropped.exe.as_bytes())
+        && holds_words(Format::Ninja, dropped.args.as_slice())
 }
 
 // Whether comments can represent all dropped commands.
@@ -423,7 +421,7 @@ fn hold_all_dropped(dropped: &[Dropped]) -> bool
 pub fn judge_rest(tmp: &str, dropped: &[Dropped]) -> Result<(), Refusal>
     ensures { result ≡ spec.judged_rest tmp.now dropped.now }
 {
-    if holds_text(Form::Ninja, tmp.as_bytes()) && hold_all_dropped(dropped) {
+    if holds_text(Format::Ninja, tmp.as_bytes()) && hold_all_dropped(dropped) {
         Ok(())
     } else {
         Err(Refusal::Unheld)
@@ -438,11 +436,11 @@ pub fn judge_rest(tmp: &str, dropped: &[Dropped]) -> Result<(), Refusal>
 ///
 /// Fails if a text has a NUL, a newline or a carriage return, which no line of a Ninja file can represent
 /// (`Refusal::Unheld`): first `tmp` and the dropped commands, then each command. Fails also if
-/// [`shell_script`](crate::shell_script) does.
+/// [`shell_script`](plan_scripts::shell_script) does.
 pub fn ninja_file(alloc: Global, tmp: &str, plan: &Plan) -> Result<String, Refusal>
     ensures { Answers result (spec.ninja_answer tmp.now plan.now) }
 {
     judge_rest(tmp, plan.dropped.as_slice())?;
-    judge_groups(Form::Ninja, plan.groups.as_slice())?;
+    judge_groups(Format::Ninja, plan.groups.as_slice())?;
     Ok(graph(alloc, tmp, plan)?)
 }

@@ -4,14 +4,13 @@ ghost use Rattle.std.specs.Prelude.{◌≡◌, [], ◌∷◌, ◌++◌, IfOk, On
 ghost use Rattle.std.specs.Option.{option_copied};
 ghost use Rattle.command_files.specs.PlanNeeds.{preprocesses};
 ghost use Rattle.shell_words.specs.Shell.Quoting.{written};
-ghost use Rattle.plan_exports.specs.Answers.{Answers};
+ghost use Rattle.plan_scripts.specs.Answers.{Answers};
 ghost use Rattle.plan_exports.specs.Scripts as spec;
 
-use crate::judging::{holds_text, judge_groups};
 use crate::ninja::{
     judge_rest, places_of, push_comments, push_edge_line, push_plan, push_stamp_below, push_value,
 };
-use crate::refusal::{Form, Refusal};
+use plan_scripts::{Format, Refusal, holds_text, judge_groups};
 use plans::{NvccGeneratedSubcommand, Plan};
 use shell_words::push_quoted;
 use std::alloc::{AllocError, Global};
@@ -263,7 +262,7 @@ fn graph(
 fn judge_slot(slot: &str) -> Result<(), Refusal>
     ensures { result ≡ spec.judged_slot slot.now }
 {
-    if holds_text(Form::Ninja, slot.as_bytes()) {
+    if holds_text(Format::Ninja, slot.as_bytes()) {
         Ok(())
     } else {
         Err(Refusal::Unheld)
@@ -291,6 +290,6 @@ pub fn ninja_file_of_scripts(
 {
     judge_slot(slot)?;
     judge_rest(tmp, plan.dropped.as_slice())?;
-    judge_groups(Form::Ninja, plan.groups.as_slice())?;
+    judge_groups(Format::Ninja, plan.groups.as_slice())?;
     Ok(graph(alloc, tmp, slot, dependencies, plan)?)
 }

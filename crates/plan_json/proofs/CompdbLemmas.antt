@@ -13,7 +13,7 @@ use Rattle.serde_json.specs.Written.{has_float, items_have_float, compact_text}
 use Rattle.plan_json.specs.ClangWords.{line_for_clang}
 use Rattle.plan_json.specs.Compdb.{record_data, records_by, records_of, records_from, database}
 use Rattle.std.proofs.lemmas.Bool.{false≢true}
-use Rattle.plan_json.proofs.JsonLemmas.{items_within, neither, texts_float_free}
+use Rattle.json_values.proofs.ValueLemmas.{items_within, neither, texts_float_free}
 
 -- a list of data in which each nests no deeper than two and has no float
 record Plain (ds : List Data) : Type 0 where

@@ -1,5 +1,5 @@
 -- A plan's data has no float and nests no deeper than a text that is read may.
-use Rattle.std.proofs.Common.{◌≡◌, ℕ, ◌+◌, ◌≤◌, List, [], ◌∷◌, ◌++◌, ◌||◌, map, length, Bool, false, Some, refl, subst, arith}
+use Rattle.std.proofs.Common.{◌≡◌, ℕ, ◌+◌, ◌≤◌, List, [], ◌∷◌, ◌++◌, length, false, Some, refl, subst, arith}
 use Rattle.plans.specs.declared.origins.Origin.{Origin}
 use Rattle.plans.specs.declared.plan.NvccGeneratedSubcommand.{NvccGeneratedSubcommand}
 use Rattle.plans.specs.declared.plan.Dropped.{Dropped}
@@ -11,12 +11,9 @@ use Rattle.serde_json.specs.View.{items_of}
 use Rattle.serde_json.specs.Read.{read, max_depth}
 use Rattle.serde_json.specs.Written.{has_float, items_have_float, compact_text}
 use Rattle.command_files.specs.Numbered.{of_group, of_groups}
-use Rattle.plan_json.specs.Json.{texts_data, count_data, counts_data, variable_data, variables_data, command_data, Known, origin_at, command_at, dropped_data, Described, known_of, data_of}
-
--- what holds of each item's depth holds of a list's
-pub items_within : {A : Type 0} (n : ℕ) (f : A → Data) → ((x : A) → depth (f x) ≤ n) → (xs : List A) → items_depth (items_of (map f xs)) ≤ n
-items_within n f h [] = omega arith
-items_within n f h (x ∷ xs) = omega (arith, h x, items_within n f h xs)
+use Rattle.json_values.specs.Values.{count_data}
+use Rattle.json_values.proofs.ValueLemmas.{items_within, neither, items_float_free, texts_float_free}
+use Rattle.plan_json.specs.Json.{counts_data, variable_data, variables_data, command_data, Known, origin_at, command_at, dropped_data, Described, known_of, data_of}
 
 command_within : (id group : ℕ) (origin : Origin) (needs : List ℕ) (files : CommandFiles) (c : NvccGeneratedSubcommand) → depth (command_data id group origin needs files c) ≤ 3
 command_within id group origin needs files c =
@@ -50,17 +47,6 @@ dropped_within d = omega (arith, items_within 0 string (λ x. omega arith) d.arg
 pub plan_within : (d : Described) → depth (data_of d) ≤ max_depth
 plan_within d =
     omega (arith, groups_within (known_of d.planned) 0 0 d.planned.plan.groups, items_within 3 dropped_data dropped_within d.planned.plan.dropped)
-
-pub neither : {a b : Bool} → a ≡ false → b ≡ false → (a || b) ≡ false
-neither p q = rw (p, q)
-
--- where no item has a float, the list has none
-pub items_float_free : {A : Type 0} (f : A → Data) → ((x : A) → has_float (f x) ≡ false) → (xs : List A) → items_have_float (items_of (map f xs)) ≡ false
-items_float_free f h [] = refl
-items_float_free f h (x ∷ xs) = neither (h x) (items_float_free f h xs)
-
-pub texts_float_free : (texts : List (List ℕ)) → has_float (texts_data texts) ≡ false
-texts_float_free texts = items_float_free string (λ x. refl) texts
 
 counts_float_free : (counts : List ℕ) → has_float (counts_data counts) ≡ false
 counts_float_free counts = items_float_free count_data (λ x. refl) counts

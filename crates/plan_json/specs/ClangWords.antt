@@ -1,5 +1,5 @@
 -- What clang's tools read in place of a step in which nvcc's host compiler preprocesses CUDA.
-use Rattle.std.specs.Prelude.{ℕ, List, [], ◌∷◌, ◌++◌, Bool, true, false, ◌||◌, ◌==◌, nat_eq, codes, if◌then◌else◌, Option, Some, None, reverse, refl}
+use Rattle.std.specs.Prelude.{ℕ, List, [], ◌∷◌, ◌++◌, Bool, false, ◌||◌, ◌==◌, nat_eq, codes, if◌then◌else◌, Option, Some, None, reverse, refl}
 use Rattle.std.specs.List.{list_any, starts_with}
 use Rattle.std.specs.Option.{is_some}
 use Rattle.std.specs.Str.{bytes_eq}

@@ -6,7 +6,7 @@ use Rattle.plans.specs.declared.plan.Plan.{Plan}
 use Rattle.command_files.specs.declared.files.CommandFiles.{CommandFiles}
 use Rattle.command_files.specs.CommandFiles.{files_of_words}
 use Rattle.plan_json.specs.ClangWords.{line_for_clang}
-use Rattle.plan_json.specs.Json.{texts_data}
+use Rattle.json_values.specs.Values.{texts_data}
 use Rattle.serde_json.specs.Data.{Data, string, array, object, no_members, member}
 use Rattle.serde_json.specs.View.{items_of}
 

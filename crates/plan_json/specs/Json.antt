@@ -12,16 +12,11 @@ use Rattle.command_files.specs.CommandFiles.{files_of_words}
 use Rattle.command_files.specs.Order.{needs_at}
 use Rattle.command_files.specs.PlanNeeds.{plan_needs}
 use Rattle.command_files.specs.Numbered.{of_groups}
-use Rattle.serde_json.specs.Data.{unsigned, Data, boolean, number, string, array, object, no_items, item, no_members, member}
+use Rattle.json_values.specs.Values.{texts_data, count_data}
+use Rattle.serde_json.specs.Data.{Data, boolean, string, array, object, no_items, item, no_members, member}
 use Rattle.serde_json.specs.View.{items_of}
 
--- a list of texts, and one of numbers
-abbrev pub texts_data : List (List ℕ) → Data
-texts_data texts = array (items_of (map string texts))
-
-abbrev pub count_data : ℕ → Data
-count_data n = number (unsigned n)
-
+-- a list of numbers
 abbrev pub counts_data : List ℕ → Data
 counts_data numbers = array (items_of (map count_data numbers))
 

@@ -9,8 +9,8 @@ ghost use Rattle.serde_json.specs.Written.{compact_text};
 ghost use Rattle.plan_json.specs.Compdb as spec;
 
 use crate::clang_words::line_for_clang;
-use crate::json::{put_text, put_texts};
 use command_files::{CommandFiles, files_of};
+use json_values::{put_text, put_texts};
 use plans::{NvccGeneratedSubcommand, Plan};
 use serde_json::{Map, Value, push};
 use std::alloc::{AllocError, Global};

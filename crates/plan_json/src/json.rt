@@ -8,32 +8,16 @@ ghost use Rattle.serde_json.specs.Written.{compact_text};
 ghost use Rattle.texts.specs.Variables.{pair_of};
 ghost use Rattle.plans.specs.Reasons.{reason_name};
 ghost use Rattle.command_files.specs.Order.{needs_at};
+ghost use Rattle.json_values.specs.Values.{count_data, texts_data};
 ghost use Rattle.plan_json.specs.Json as spec;
 ghost use Rattle.command_files.specs.Numbered.{of_group, of_groups};
 
 use command_files::{CommandFiles, files_of, needs};
 use compilers::command::Cacheable;
+use json_values::{push_text, put_text, put_texts, texts_value};
 use plans::{Dropped, NvccGeneratedSubcommand, Origin, PlanWithOrigins};
 use serde_json::{Map, Value, push, put};
 use std::alloc::{AllocError, Global};
-
-// Adds a text to a list.
-fn push_text(alloc: Global, list: &mut Vec<Value>, text: &str) -> Result<(), AllocError>
-    ensures { OnOk result (map view list.new.items ≡ map view list.old.items ++ string text.now ∷ []) }
-{
-    push(list, Value::try_from_str(alloc, text)?)
-}
-
-// A list of texts.
-fn texts_value(alloc: Global, texts: &[String]) -> Result<Value, AllocError>
-    ensures { IfOk result (λ v. view v ≡ spec.texts_data (map string_bytes texts.now)) }
-{
-    let mut list = Vec::new(alloc);
-    for text in texts {
-        push_text(alloc, &mut list, text.as_str())?;
-    }
-    Ok(Value::Array(list))
-}
 
 // A variable: a list of its name and its value.
 fn variable_value(alloc: Global, pair: &(String, String)) -> Result<Value, AllocError>
@@ -77,18 +61,6 @@ fn is_cacheable(cacheable: Cacheable) -> bool
     }
 }
 
-/// Adds a text to an object.
-pub fn put_text(
-    alloc: Global,
-    members: &mut Map<String, Value>,
-    key: &str,
-    text: &str,
-) -> Result<(), AllocError>
-    ensures { OnOk result (members_view members.new.entries ≡ with_member key.now (string text.now) (members_view members.old.entries)) }
-{
-    put(members, alloc, key, Value::try_from_str(alloc, text)?)
-}
-
 // Adds a program and its words to an object.
 fn put_run(
     alloc: Global,
@@ -97,7 +69,7 @@ fn put_run(
     args: &[String],
 ) -> Result<(), AllocError>
     ensures { OnOk result (members_view members.new.entries
-        ≡ with_member (codes "args") (spec.texts_data (map string_bytes args.now))
+        ≡ with_member (codes "args") (texts_data (map string_bytes args.now))
         (with_member (codes "exe") (string exe.now) (members_view members.old.entries))) }
 {
     put_text(alloc, members, "exe", exe)?;
@@ -122,18 +94,6 @@ fn put_place(
     put(members, alloc, "cacheable", cacheable)
 }
 
-/// Adds a list of texts to an object.
-pub fn put_texts(
-    alloc: Global,
-    members: &mut Map<String, Value>,
-    key: &str,
-    texts: &[String],
-) -> Result<(), AllocError>
-    ensures { OnOk result (members_view members.new.entries ≡ with_member key.now (spec.texts_data (map string_bytes texts.now)) (members_view members.old.entries)) }
-{
-    put(members, alloc, key, texts_value(alloc, texts)?)
-}
-
 // Adds a number to an object.
 fn put_count(
     alloc: Global,
@@ -141,7 +101,7 @@ fn put_count(
     key: &str,
     count: usize,
 ) -> Result<(), AllocError>
-    ensures { OnOk result (members_view members.new.entries ≡ with_member key.now (spec.count_data count) (members_view members.old.entries)) }
+    ensures { OnOk result (members_view members.new.entries ≡ with_member key.now (count_data count) (members_view members.old.entries)) }
 {
     put(members, alloc, key, Value::from(count))
 }
@@ -165,9 +125,9 @@ fn put_files(
 ) -> Result<(), AllocError>
     ensures { OnOk result (members_view members.new.entries
         ≡ with_member (codes "complete") (boolean files.now.complete)
-        (with_member (codes "may_write") (spec.texts_data files.now.may_write)
-        (with_member (codes "writes") (spec.texts_data files.now.writes)
-        (with_member (codes "reads") (spec.texts_data files.now.reads) (members_view members.old.entries))))) }
+        (with_member (codes "may_write") (texts_data files.now.may_write)
+        (with_member (codes "writes") (texts_data files.now.writes)
+        (with_member (codes "reads") (texts_data files.now.reads) (members_view members.old.entries))))) }
 {
     put_texts(alloc, members, "reads", files.reads.as_slice())?;
     put_texts(alloc, members, "writes", files.writes.as_slice())?;
@@ -185,8 +145,8 @@ fn put_numbers(
 ) -> Result<(), AllocError>
     ensures { OnOk result (members_view members.new.entries
         ≡ with_member (codes "needs") (spec.counts_data needs.now)
-        (with_member (codes "group") (spec.count_data group)
-        (with_member (codes "id") (spec.count_data id) (members_view members.old.entries)))) }
+        (with_member (codes "group") (count_data group)
+        (with_member (codes "id") (count_data id) (members_view members.old.entries)))) }
 {
     put_count(alloc, members, "id", id)?;
     put_count(alloc, members, "group", group)?;
@@ -201,8 +161,8 @@ fn put_origin(
     run: usize,
 ) -> Result<(), AllocError>
     ensures { OnOk result (members_view members.new.entries
-        ≡ with_member (codes "run") (spec.count_data run)
-        (with_member (codes "line") (spec.count_data (spec.from_one line)) (members_view members.old.entries))) }
+        ≡ with_member (codes "run") (count_data run)
+        (with_member (codes "line") (count_data (spec.from_one line)) (members_view members.old.entries))) }
 {
     put_count(alloc, members, "line", line.saturating_add(1))?;
     put_count(alloc, members, "run", run)
@@ -357,8 +317,8 @@ fn put_line(
 ) -> Result<(), AllocError>
     ensures { OnOk result (members_view members.new.entries
         ≡ with_member (codes "reason") (string (reason_name dropped.now.reason))
-        (with_member (codes "run") (spec.count_data dropped.now.run)
-        (with_member (codes "line") (spec.count_data (spec.from_one dropped.now.line)) (members_view members.old.entries)))) }
+        (with_member (codes "run") (count_data dropped.now.run)
+        (with_member (codes "line") (count_data (spec.from_one dropped.now.line)) (members_view members.old.entries)))) }
 {
     put_origin(alloc, members, dropped.line, dropped.run)?;
     put_text(alloc, members, "reason", dropped.reason.name())
@@ -424,7 +384,7 @@ fn put_rest(
 ) -> Result<(), AllocError>
     ensures { OnOk result (members_view members.new.entries
         ≡ with_member (codes "dropped") (spec.all_dropped_data planned.now.plan.dropped)
-        (with_member (codes "groups") (spec.count_data (length planned.now.plan.groups)) (members_view members.old.entries))) }
+        (with_member (codes "groups") (count_data (length planned.now.plan.groups)) (members_view members.old.entries))) }
 {
     put_count(
         alloc,
@@ -448,7 +408,7 @@ fn put_setting(
         ≡ with_member (codes "flag") (string flag.now)
         (with_member (codes "tmp") (string tmp.now)
         (with_member (codes "cwd") (string cwd.now)
-        (with_member (codes "version") (spec.count_data 1) (members_view members.old.entries))))) }
+        (with_member (codes "version") (count_data 1) (members_view members.old.entries))))) }
 {
     put_count(alloc, members, "version", 1)?;
     put_text(alloc, members, "cwd", cwd)?;

@@ -7,4 +7,4 @@ mod json;
 pub mod laws;
 
 pub use compdb::compdb_text;
-pub use json::{json_text, put_text, put_texts};
+pub use json::json_text;

@@ -4,7 +4,7 @@ use Rattle.plans.specs.declared.plan.Plan.{Plan}
 use Rattle.serde_json.specs.Data.{Data, string, depth}
 use Rattle.serde_json.specs.Read.{read, max_depth}
 use Rattle.serde_json.specs.Written.{has_float, compact_text}
-use Rattle.plan_json.proofs.JsonLemmas.{items_within, items_float_free, texts_float_free, neither}
+use Rattle.json_values.proofs.ValueLemmas.{items_within, items_float_free, texts_float_free, neither}
 use Rattle.plan_makeflow.specs.Makeflow.{rule_data, makeflow_data}
 use Rattle.plan_makeflow.specs.Rules.{Rule, rules}
 

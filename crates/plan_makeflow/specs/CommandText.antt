@@ -4,19 +4,17 @@ use Rattle.std.specs.List.{list_any}
 use Rattle.shell_words.specs.Shell.Quoting.{written}
 use Rattle.plans.specs.declared.plan.NvccGeneratedSubcommand.{NvccGeneratedSubcommand}
 use Rattle.plans.specs.declared.plan.Plan.{Plan}
-use Rattle.plan_exports.specs.CommandText.{assignment}
+use Rattle.plan_scripts.specs.CommandText.{assignment}
+use Rattle.plan_scripts.specs.CommandText as scripts
 
 -- a command's words, with `env` and its variables in front
 abbrev pub run_words : NvccGeneratedSubcommand → List (List ℕ)
 run_words c = (codes "env" ∷ map assignment c.env_vars) ++ c.exe ∷ c.args
 
--- A command's text. If it runs on another machine, its files are where the rule runs; else it runs in its directory, in a shell
--- of its own.
-abbrev pub text_in_place : List ℕ → List ℕ → List ℕ
-text_in_place cwd run = codes "( cd " ++ (written (cwd ∷ []) ++ (codes " && " ++ (run ++ codes " )")))
-
+-- A command's text. If it runs on another machine, its files are where the rule runs; else it is that of a script, which runs it in its
+-- directory.
 abbrev pub command_text : Bool → NvccGeneratedSubcommand → List ℕ
-command_text moves c = if moves then written (run_words c) else text_in_place c.cwd (written (run_words c))
+command_text moves c = if moves then written (run_words c) else scripts.command_text [] c
 
 -- Whether a plan has a command that Makeflow doesn't read: it takes a string of at most 65,535 bytes, and some are left for the stamp.
 abbrev pub is_long : NvccGeneratedSubcommand → Bool

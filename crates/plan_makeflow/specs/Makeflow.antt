@@ -1,15 +1,17 @@
 -- A plan as a Makeflow file, in Makeflow's JSON form.
-use Rattle.std.specs.Prelude.{◌≡◌, ℕ, List, [], ◌∷◌, ◌++◌, map, Result, Some, codes}
+use Rattle.std.specs.Prelude.{◌≡◌, ℕ, List, [], ◌∷◌, ◌++◌, map, if◌then◌else◌, Result, Err, Some, codes}
 use Rattle.serde_json.specs.Data.{Data, boolean, string, array, object, no_members, member}
 use Rattle.serde_json.specs.Read.{read}
 use Rattle.serde_json.specs.View.{items_of}
 use Rattle.serde_json.specs.Written.{compact_text}
 use Rattle.plans.specs.declared.plan.Plan.{Plan}
-use Rattle.plan_exports.specs.declared.refusal.Refusal.{Refusal}
-use Rattle.plan_exports.specs.declared.refusal.Form.TheVariants.{Shell}
-use Rattle.plan_exports.specs.Judging.{judged_groups}
-use Rattle.plan_exports.specs.Script.{unless_refused}
-use Rattle.plan_json.specs.Json.{texts_data}
+use Rattle.plan_scripts.specs.declared.refusal.Refusal.{Refusal}
+use Rattle.plan_scripts.specs.declared.refusal.Refusal.TheVariants.{LongCommand}
+use Rattle.plan_scripts.specs.declared.format.Format.TheVariants as formats
+use Rattle.plan_scripts.specs.Judging.{judged_groups}
+use Rattle.plan_scripts.specs.Script.{unless_refused}
+use Rattle.json_values.specs.Values.{texts_data}
+use Rattle.plan_makeflow.specs.CommandText.{has_long_command}
 use Rattle.plan_makeflow.specs.Rules.{Rule, rules}
 
 -- a rule. The members of an object are in the order of their names
@@ -29,9 +31,11 @@ makeflow_data tmp plan =
 abbrev pub makeflow_text : List ℕ → Plan → List ℕ
 makeflow_text tmp plan = compact_text (makeflow_data tmp plan) ++ 10 ∷ []
 
--- The Makeflow file of a plan, or why there is none. JSON can represent every text, but a shell, which runs the commands, can't.
+-- The Makeflow file of a plan, or why there is none. JSON can represent every text, but Makeflow doesn't read a long one, and a shell, which
+-- runs the commands, can't represent each.
 abbrev pub makeflow_answer : List ℕ → Plan → Result (List ℕ) Refusal
-makeflow_answer tmp plan = unless_refused (judged_groups Shell plan.groups) (makeflow_text tmp plan)
+makeflow_answer tmp plan =
+    if has_long_command plan then Err LongCommand else unless_refused (judged_groups formats.Makeflow plan.groups) (makeflow_text tmp plan)
 
 -- a text is JSON and a newline, and a reader of the JSON gets this data
 pub record ReadsAs (text : List ℕ) (data_read : Data) : Type 0 where

@@ -3,16 +3,16 @@ use Rattle.std.specs.Prelude.{◌≡◌, ℕ, List, [], ◌∷◌, ◌++◌, Boo
 use Rattle.std.specs.Str.{chars}
 use Rattle.shell_words.specs.Posix.{Token, Word, Operator}
 use Rattle.plans.specs.declared.plan.NvccGeneratedSubcommand.{NvccGeneratedSubcommand}
-use Rattle.plan_exports.specs.ReadBack.{IsOfTexts, shell_tokens, word_tokens}
+use Rattle.plan_scripts.specs.ReadBack.{IsOfTexts, shell_tokens, word_tokens}
+use Rattle.plan_scripts.specs.ReadBack as scripts
 use Rattle.plan_makeflow.specs.CommandText.{run_words}
 use Rattle.plan_makeflow.specs.Names.{stamp}
 use Rattle.plan_makeflow.specs.Rules.{line}
 
--- a command where the rule runs, or in its directory and a shell of its own
+-- a command where the rule runs, or as in a script
 abbrev pub command_tokens : Bool → NvccGeneratedSubcommand → List Token
 command_tokens true c = word_tokens (run_words c)
-command_tokens false c =
-    Operator (codes "(") ∷ Word (codes "cd") ∷ Word (chars c.cwd) ∷ Operator (codes "&&") ∷ (word_tokens (run_words c) ++ Operator (codes ")") ∷ [])
+command_tokens false c = scripts.command_tokens [] c
 
 -- then `touch` and the stamp
 abbrev pub touch_tokens : ℕ → List Token

@@ -2,11 +2,10 @@
 
 ghost use Rattle.std.specs.Prelude.{◌≡◌, ◌++◌, ◌∷◌, IfOk, OnOk, codes, map, string_bytes, vec_items};
 ghost use Rattle.std.specs.List.{list_any};
-ghost use Rattle.texts.specs.Variables.{pair_of};
 ghost use Rattle.shell_words.specs.Shell.Quoting.{written};
-ghost use Rattle.plan_exports.specs.CommandText.{assignment};
 ghost use Rattle.plan_makeflow.specs.CommandText as spec;
 
+use plan_scripts::assignments;
 use plans::{NvccGeneratedSubcommand, Plan};
 use shell_words::push_quoted;
 use std::alloc::{AllocError, Global};
@@ -15,37 +14,11 @@ use texts::words::Words;
 // The most bytes of a command's text. Makeflow reads strings of at most 65,535 bytes, and some are left for the stamp.
 const MOST_BYTES: usize = 65_000;
 
-// A variable as `env` takes it.
-fn assignment_text(alloc: Global, pair: &(String, String)) -> Result<String, AllocError>
-    ensures { IfOk result (λ word. string_bytes word ≡ assignment (pair_of pair.now)) }
-{
-    let mut word = String::new(alloc);
-    word.push_str(pair.0.as_str())?;
-    word.push_str("=")?;
-    word.push_str(pair.1.as_str())?;
-    Ok(word)
-}
-
-// Puts variables last, as `env` takes them.
-fn push_assignments(
-    alloc: Global,
-    words: &mut Words,
-    variables: &[(String, String)],
-) -> Result<(), AllocError>
-    ensures { OnOk result (words.new ≡ words.old ++ map assignment (map pair_of variables.now)) }
-{
-    for pair in variables {
-        words.push(assignment_text(alloc, pair)?)?;
-    }
-    Ok(())
-}
-
 // The words of a command behind its variables: `env` is the program.
 fn run_words(alloc: Global, command: &NvccGeneratedSubcommand) -> Result<Words, AllocError>
     ensures { IfOk result (λ words. codes "env" ∷ words ≡ spec.run_words command.now) }
 {
-    let mut words = Words::new(alloc);
-    push_assignments(alloc, &mut words, command.env_vars.as_slice())?;
+    let mut words = assignments(alloc, command.env_vars.as_slice())?;
     words.push_str(alloc, command.exe.as_str())?;
     words.extend(alloc, command.args.as_slice())?;
     Ok(words)
@@ -58,17 +31,6 @@ fn push_run(text: &mut String, words: &Words) -> Result<(), AllocError>
     push_quoted(text, "env", words.as_slice())
 }
 
-// Adds the text of a command that runs in a directory, in a shell of its own, given its words behind `env`.
-fn push_in_place(text: &mut String, cwd: &str, words: &Words) -> Result<(), AllocError>
-    ensures { OnOk result (string_bytes text.new ≡ string_bytes text.old ++ spec.text_in_place cwd.now (written (codes "env" ∷ words.now))) }
-{
-    text.push_str("( cd ")?;
-    push_quoted(text, cwd, &[])?;
-    text.push_str(" && ")?;
-    push_run(text, words)?;
-    text.push_str(" )")
-}
-
 /// Adds a command's text, given whether it runs on another machine.
 pub fn push_command(
     alloc: Global,
@@ -78,11 +40,11 @@ pub fn push_command(
 ) -> Result<(), AllocError>
     ensures { OnOk result (string_bytes text.new ≡ string_bytes text.old ++ spec.command_text moves command.now) }
 {
-    let words = run_words(alloc, command)?;
     if moves {
+        let words = run_words(alloc, command)?;
         push_run(text, &words)
     } else {
-        push_in_place(text, command.cwd.as_str(), &words)
+        plan_scripts::push_command(alloc, text, "", command)
     }
 }
 
@@ -119,7 +81,7 @@ fn have_long(alloc: Global, groups: &[Vec<NvccGeneratedSubcommand>]) -> Result<b
     Ok(false)
 }
 
-/// Whether a plan has a command whose text has over 65,000 bytes. Makeflow 8.0 doesn't read the file of such a plan.
+/// Whether a plan has a command that Makeflow doesn't read.
 pub fn has_long_command(alloc: Global, plan: &Plan) -> Result<bool, AllocError>
     ensures { IfOk result (λ long. long ≡ spec.has_long_command plan.now) }
 {

@@ -9,5 +9,4 @@ mod names;
 mod rules;
 mod writers;
 
-pub use command::has_long_command;
 pub use makeflow::makeflow_file;

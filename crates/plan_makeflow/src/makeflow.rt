@@ -6,16 +6,17 @@ ghost use Rattle.serde_json.specs.Read.{read};
 ghost use Rattle.serde_json.specs.View.{items_of, view};
 ghost use Rattle.serde_json.specs.Written.{compact_text};
 ghost use Rattle.command_files.specs.Numbered.{of_group, of_groups};
-ghost use Rattle.plan_exports.specs.Answers.{Answers};
+ghost use Rattle.plan_scripts.specs.Answers.{Answers};
 ghost use Rattle.plan_makeflow.specs.Makeflow as spec;
 ghost use Rattle.plan_makeflow.specs.Rules.{rule_at, rule_in, rules, seen};
 
+use crate::command::has_long_command;
 use crate::facts::Facts;
 use crate::rules::rule_value;
 use crate::writers::writers_of;
 use command_files::files_and_needs;
-use plan_exports::{Refusal, shell_script};
-use plan_json::put_text;
+use json_values::put_text;
+use plan_scripts::{Format, Refusal, judge_groups};
 use plans::{NvccGeneratedSubcommand, Plan};
 use serde_json::{Map, Value, push, put};
 use std::alloc::{AllocError, Global};
@@ -136,14 +137,16 @@ fn file_text(alloc: Global, tmp: &str, plan: &Plan) -> Result<String, AllocError
 /// name all files that it touches, by names without a directory, and the rule names all of these. All other rules are local (`local_job`).
 ///
 /// Makeflow's classic form couldn't represent each command: it takes no word of 1,024 bytes or more, such as a long `PATH`, and no byte 26.
-/// Makeflow doesn't read the file of a plan with a long command ([`has_long_command`](crate::has_long_command)).
 ///
-/// Fails if [`shell_script`](plan_exports::shell_script) does.
+/// Fails if a command has over 65,000 bytes, whose file Makeflow 8.0 wouldn't read (`Refusal::LongCommand`), and then if
+/// [`shell_script`](plan_scripts::shell_script) does, because a shell runs the commands.
 pub fn makeflow_file(alloc: Global, tmp: &str, plan: &Plan) -> Result<String, Refusal>
     ensures text { Answers result (spec.makeflow_answer tmp.now plan.now) }
     ensures reads_back { IfOk result (λ text. spec.ReadsAs (string_bytes text) (spec.makeflow_data tmp.now plan.now)) }
 {
-    // A shell runs the commands, so what a script can't represent stops here too.
-    drop(shell_script(alloc, plan)?);
+    if has_long_command(alloc, plan)? {
+        return Err(Refusal::LongCommand);
+    }
+    judge_groups(Format::Makeflow, plan.groups.as_slice())?;
     Ok(file_text(alloc, tmp, plan)?)
 }

@@ -11,7 +11,7 @@ use crate::facts::{Facts, Side, needs_at, read_by, written_by};
 use crate::names::{are_named, push_names, stamp};
 use command_files::CommandFiles;
 use compilers::command::Cacheable;
-use plan_json::{put_text, put_texts};
+use json_values::{put_text, put_texts};
 use plans::NvccGeneratedSubcommand;
 use serde_json::{Map, Value, put};
 use shell_words::push_quoted;

@@ -1,8 +1,11 @@
 -- The calls of zigrunk.
-use Rattle.std.specs.Prelude.{ℕ, List, [], ◌∷◌, Bool, true, false, ◌||◌, if◌then◌else◌, Option, Some, None, is_some, codes}
+use Rattle.std.specs.Prelude.{ℕ, List, [], ◌∷◌, Bool, true, false, if◌then◌else◌, Option, Some, None, is_some, codes}
 use Rattle.std.specs.Option.{option_map, option_and_then, option_copied}
 use Rattle.std.specs.Str.{bytes_eq}
 use Rattle.host_lines.specs.KeepThreads.{number_of}
+use Rattle.plan_scripts.specs.Formats.{format_of_name}
+use Rattle.plan_scripts.specs.declared.format.Format.{Format}
+use Rattle.plan_scripts.specs.declared.format.Format.TheVariants.{Ninja}
 use Rattle.program_calls.specs.Calls.{NvccOf, nvcc_of, nvcc_call_of}
 use Rattle.program_calls.specs.Calls.{DirectoryOf, directory_of, directory_call_of}
 use Rattle.program_calls.specs.Calls.{LineOf, PlanOf, line_of, plan_of, line_call_of, plan_call_of}
@@ -11,8 +14,6 @@ use Rattle.usage.specs.declared.settings.Settings.{Settings}
 use Rattle.usage.specs.declared.call.Call.{Call}
 use Rattle.usage.specs.declared.call.Call.TheVariants as calls
 use Rattle.usage.specs.declared.call.ExportCall.{ExportCall}
-use Rattle.usage.specs.declared.call.Format.{Format}
-use Rattle.usage.specs.declared.call.Format.TheVariants.{Shell, Ninja, Json, Dot, Compdb, Makeflow}
 
 -- a call that writes a plan: the format, whether generated files keep nvcc's names, whether a plan that dropped a command is an
 -- error, the words that run a script if each command of a Ninja file becomes one, whether that file makes the dependency file, and what
@@ -57,16 +58,6 @@ seen calls.Version = tells_version
 -- a call with its limit
 abbrev pub seen_limited : ℕ × Call → ℕ × CallOf
 seen_limited (limit, call) = (limit, seen call)
-
--- the format of a name
-abbrev pub format_of_name : List ℕ → Option Format
-format_of_name name =
-    if bytes_eq name (codes "shell") then Some Shell else
-    if bytes_eq name (codes "ninja") then Some Ninja else
-    if bytes_eq name (codes "json") then Some Json else
-    if bytes_eq name (codes "dot") then Some Dot else
-    if bytes_eq name (codes "compdb") then Some Compdb else
-    if bytes_eq name (codes "makeflow") then Some Makeflow else None
 
 -- a call that writes a plan, with its limit
 abbrev pub limited_export : ℕ × ExportCall → ℕ × ExportOf

@@ -1,9 +1,9 @@
 -- The forms of the program's calls: by which words each goes on.
-use Rattle.std.specs.Prelude.{ℕ, List, [], ◌∷◌, Bool, ◌||◌, if◌then◌else◌, Option, Some, None, codes}
+use Rattle.std.specs.Prelude.{ℕ, List, [], ◌∷◌, if◌then◌else◌, Option, Some, None, codes}
 use Rattle.std.specs.Str.{bytes_eq}
-use Rattle.usage.specs.Calls.{format_of_name}
-use Rattle.usage.specs.declared.call.Format.{Format}
-use Rattle.usage.specs.declared.call.Format.TheVariants as formats
+use Rattle.plan_scripts.specs.Formats.{format_of_name}
+use Rattle.plan_scripts.specs.declared.format.Format.{Format}
+use Rattle.plan_scripts.specs.declared.format.Format.TheVariants as formats
 use Rattle.usage.specs.declared.form.Form.{Form}
 use Rattle.usage.specs.declared.form.Form.TheVariants.{Export, Ninja, Plan, Calls, Directory, Line, Page}
 

@@ -1,4 +1,5 @@
 pub mod Calls
 pub mod Forms
 pub mod Misuse
+pub mod Pages
 pub mod Settings

@@ -7,7 +7,7 @@ use Rattle.message_texts.specs.Excerpts.{shown}
 use Rattle.usage.specs.Forms.{form_of, words_of, lacking}
 use Rattle.usage.specs.Settings.{past, is_option, begins_option, options_taken, slot_taken, dependencies_taken}
 use Rattle.usage.specs.declared.form.Form.{Form}
-use Rattle.usage.specs.declared.form.Form.TheVariants.{Export, Ninja, Plan, Calls, Directory, Line, Page}
+use Rattle.usage.specs.declared.form.Form.TheVariants.{Export, Ninja, Line}
 
 -- a word behind a text, as far as a message shows it, and the first of some words
 abbrev pub with_word : List ℕ → List ℕ → List ℕ
@@ -93,7 +93,7 @@ from_name words = words
 
 -- the names of all calls
 abbrev pub commands : List ℕ
-commands = codes "shell|ninja|json|dot|compdb|makeflow|plan|calls|directory|line .., or --help"
+commands = codes "shell|ninja|json|dot|compdb|makeflow|text|plan|calls|directory|line .., or --help"
 
 -- the form of a call, by its name
 abbrev pub form_of_named : List ℕ → Option Form → List ℕ

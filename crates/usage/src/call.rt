@@ -7,25 +7,10 @@ ghost use Rattle.usage.specs.Calls as spec;
 use crate::settings::{
     Settings, begins_option, dependencies_taken, number_in, options_taken, past, slot_taken,
 };
+use plan_scripts::Format;
 use program_calls::{
     DirectoryCall, LineCall, NvccCall, PlanCall, directory_call, line_call, nvcc_call, plan_call,
 };
-
-/// What a plan is written as.
-#[derive(Clone, Copy)]
-pub enum Format {
-    /// A script for a POSIX shell.
-    Shell,
-    /// A Ninja file.
-    Ninja,
-    Json,
-    /// A graph that Graphviz draws.
-    Dot,
-    /// A compilation database.
-    Compdb,
-    /// A Makeflow file.
-    Makeflow,
-}
 
 /// A call that writes the plan of two dry runs for another tool.
 #[derive(Drop)]
@@ -60,21 +45,6 @@ pub enum Call<'a> {
 
 /// The limit of a call that names none, in bytes: 2 MiB. The dry runs of a real call hold some hundred KiB.
 const DEFAULT_LIMIT: usize = 2_097_152;
-
-/// The format of a name.
-pub fn format_named(name: &str) -> Option<Format>
-    ensures { result ≡ spec.format_of_name name.now }
-{
-    match name {
-        "shell" => Some(Format::Shell),
-        "ninja" => Some(Format::Ninja),
-        "json" => Some(Format::Json),
-        "dot" => Some(Format::Dot),
-        "compdb" => Some(Format::Compdb),
-        "makeflow" => Some(Format::Makeflow),
-        _ => None,
-    }
-}
 
 // Whether a format is a Ninja file, whose commands may become scripts.
 fn is_ninja(format: Format) -> bool
@@ -154,7 +124,7 @@ fn plain_call<'a>(name: &str, words: &'a [String]) -> Option<Call<'a>>
 fn named_call<'a>(limit: usize, name: &str, words: &'a [String]) -> Option<(usize, Call<'a>)>
     ensures { option_map spec.seen_limited result ≡ spec.named_call limit name.now (map string_bytes words.now) }
 {
-    match format_named(name) {
+    match Format::named(name) {
         Some(format) => {
             let (limit, call) = export_call(limit, format, words)?;
             Some((limit, Call::Export(call)))
@@ -205,7 +175,7 @@ fn call_behind_limit<'a>(words: &'a [String]) -> Option<(usize, Call<'a>)>
 
 /// Parses the words after the program's name, `[--limit BYTES]` and one of these calls, and gives the limit too:
 ///
-/// - `shell|ninja|json|dot|compdb|makeflow OPTION.. CWD TMP FLAG DRY1 DRY2 SUFFIX..`, with the options `--keep` if generated files keep
+/// - `shell|ninja|json|dot|compdb|makeflow|text OPTION.. CWD TMP FLAG DRY1 DRY2 SUFFIX..`, with the options `--keep` if generated files keep
 ///   nvcc's names, `--whole` if a plan that dropped a command is an error, and `--limit BYTES`, in any order. Behind these `ninja` takes
 ///   `--slot WORDS`, and then `--dependencies`: WORDS run each command's script, and the file makes the dependency file too;
 /// - `calls CWD TMP NVCC WORD..`;

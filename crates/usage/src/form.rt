@@ -4,7 +4,7 @@ ghost use Rattle.std.specs.Prelude.{◌≡◌, map, string_bytes};
 ghost use Rattle.std.specs.Option.{option_copied};
 ghost use Rattle.usage.specs.Forms as spec;
 
-use crate::call::{Format, format_named};
+use plan_scripts::Format;
 
 /// What follows a call's name.
 #[derive(Clone, Copy)]
@@ -43,7 +43,7 @@ fn plain_form(name: &str) -> Option<Form>
 pub fn form_named(name: &str) -> Option<Form>
     ensures { result ≡ spec.form_of name.now }
 {
-    match format_named(name) {
+    match Format::named(name) {
         Some(Format::Ninja) => Some(Form::Ninja),
         Some(_) => Some(Form::Export),
         None => plain_form(name),

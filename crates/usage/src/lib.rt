@@ -1,10 +1,12 @@
-//! The calls of `zigrunk`, and what it says of words that are no call.
+//! The calls of `zigrunk`, what it says of words that are no call, and its help.
 #![tactic(auto)]
 
 mod call;
 mod form;
 mod misuse;
+mod page;
 mod settings;
 
-pub use call::{Call, ExportCall, Format, limited_call_of};
+pub use call::{Call, ExportCall, limited_call_of};
 pub use misuse::complain_of_misuse;
+pub use page::{help, version};

@@ -13,7 +13,7 @@ use std::io::{self, Write};
 
 // The names of all calls.
 const COMMANDS: &str =
-    "shell|ninja|json|dot|compdb|makeflow|plan|calls|directory|line .., or --help";
+    "shell|ninja|json|dot|compdb|makeflow|text|plan|calls|directory|line .., or --help";
 
 // What it says if there is no memory for more.
 const SHORT: &str = "wrong usage: see zigrunk --help";

@@ -1,29 +1,18 @@
 -- How calls of the program end.
-use Rattle.std.specs.Prelude.{◌≡◌, ℕ, List, [], ◌∷◌, ◌++◌, ◌⊎◌, Option, Some, None, Result, Ok, Err, MatchOption}
+use Rattle.std.specs.Prelude.{◌≡◌, ℕ, List, [], ◌∷◌, ◌++◌, ◌⊎◌, Option, Result, Ok, Err, MatchOption}
 use Rattle.std.specs.Io.KnownBytes.{Keeps}
 use Rattle.program_calls.specs.Calls.{NvccOf}
-use Rattle.dry_runs.specs.declared.limit.LimitedFault.{LimitedFault}
-use Rattle.dry_runs.specs.declared.limit.LimitedFault.TheVariants.{TooLong}
-use Rattle.dry_runs.specs.declared.limit.LimitedFault.TheVariants as limited
-use Rattle.dry_runs.specs.declared.parsed_runs.ParsedRuns.{ParsedRuns}
-use Rattle.dry_runs.specs.Parsed.{both_parsed_within}
 use Rattle.nvcc_calls.specs.Directory.{directory_name}
-use Rattle.program_lookups.specs.declared.snapshot.Entry.{Entry}
-use Rattle.program_lookups.specs.Asked.{asked_of_both}
-use Rattle.program_lookups.specs.Limit.{both_fitting}
-use Rattle.program_lookups.specs.Snapshot.{answer_in, IsSnapshotOf}
 use Rattle.programs.specs.declared.stop.Stop.{Stop}
 use Rattle.programs.specs.declared.stop.Stop.TheVariants.{Fault, NotCompilation, ToNvcc, Unwritable, Write}
-use Rattle.program_calls.specs.Calls.{PlanOf}
 use Rattle.programs.specs.Delivery.{Delivers}
 use Rattle.programs.specs.LineText.{shown_line}
-use Rattle.programs.specs.PlanText.{ReadsFirst, out_of_memory, shown_plan}
-use Rattle.usage.specs.Calls.{CallOf, ExportOf, exports, reads, names, rewrites, plans, helps, tells_version}
-use Rattle.zigrunk.specs.Exports.{exported}
-use Rattle.complaints.specs.Messages.{over_limit}
+use Rattle.programs.specs.PlanText.{out_of_memory}
+use Rattle.plan_calls.specs.PlanFiles.{ExportsFiles, ShowsFiles}
+use Rattle.usage.specs.Calls.{CallOf, exports, reads, names, rewrites, plans, helps, tells_version}
 use Rattle.zigrunk.specs.NvccText.{nvcc_text}
 use Rattle.zigrunk.specs.OptionsFiles.{AreHeld}
-use Rattle.zigrunk.specs.Pages.{help_text, version_text}
+use Rattle.usage.specs.Pages.{help_text, version_text}
 
 -- the exit status of a call that reads an nvcc line, if it stops: 3 if its call goes to nvcc unchanged
 abbrev pub nvcc_status : Stop → ℕ
@@ -47,62 +36,6 @@ stopped_status tells_version stop = 1
 abbrev pub status_of : CallOf → Result (Unit {0}) Stop → ℕ
 status_of call (Ok _) = 0
 status_of call (Err stop) = stopped_status call stop
-
--- the answer if a dry run exceeds the limit
-abbrev pub exceeded : Result (List ℕ) Stop
-exceeded = Err (Unwritable over_limit)
-
--- the answer if two dry runs can't be parsed within the limit
-abbrev pub unparsed : LimitedFault → Result (List ℕ) Stop
-unparsed (TooLong run line) = exceeded
-unparsed (limited.Fault fault) = Err (Fault fault)
-
--- what the program writes, given two dry runs that are parsed within the limit, and what follows if they can be
-abbrev pub WithinLimit : Result ParsedRuns LimitedFault → Type 0 → Result (Unit {0}) Stop → Option (List ℕ) → Option (List ℕ) → Type 0
-WithinLimit (Ok runs) Follows answer before after = Follows
-WithinLimit (Err fault) Follows answer before after = Delivers answer (unparsed fault) before after
-
--- what the program writes for a call that plans, given the limit, the bytes of its two files and the engine's answer
-abbrev pub ShowsBytes : ℕ → PlanOf → List ℕ → List ℕ → Result (Unit {0}) Stop → Option (List ℕ) → Option (List ℕ) → Type 0
-ShowsBytes limit c first second answer before after =
-    Delivers answer out_of_memory before after
-    ⊎ WithinLimit (both_parsed_within limit first second) (Delivers answer (shown_plan c.cwd c.tmp c.flag first second c.suffixes) before after) answer before after
-
--- the same, given what files may hold, the bytes of the first file and the engine's answer
-abbrev pub ShowsSecond :
-    (List ℕ → Option (List ℕ) → Type 0) → ℕ → PlanOf → List ℕ → Result (Unit {0}) Stop → Option (List ℕ) → Option (List ℕ) → Type 0
-ShowsSecond holds limit c first answer before after = ReadsFirst (holds c.dry2) (λ second. ShowsBytes limit c first second answer before after) answer before after
-
--- the same, given only what files may hold and the engine's answer: the text of the plan of these two files
-abbrev pub ShowsFiles :
-    (List ℕ → Option (List ℕ) → Type 0) → ℕ → PlanOf → Result (Unit {0}) Stop → Option (List ℕ) → Option (List ℕ) → Type 0
-ShowsFiles holds limit c answer before after = ReadsFirst (holds c.dry1) (λ first. ShowsSecond holds limit c first answer before after) answer before after
-
--- what the program writes for a call that exports a plan, given the bytes of its two files and the engine's answer. The disk
--- may say anything of the programs that the dry runs look up
-abbrev pub ExportsFitting : ExportOf → List ℕ → List ℕ → Result (Unit {0}) Stop → Option (List ℕ) → Option (List ℕ) → Type 0
-ExportsFitting c first second answer before after =
-    (programs : List Entry)
-    × IsSnapshotOf (asked_of_both first second c.plan.cwd) programs
-    × Delivers answer (exported c (answer_in programs) first second) before after
-
--- the same, unless a dry run, or the paths that its look-ups try, exceed the limit, or memory runs out before
-abbrev pub ExportsBytes : ℕ → ExportOf → List ℕ → List ℕ → Result (Unit {0}) Stop → Option (List ℕ) → Option (List ℕ) → Type 0
-ExportsBytes limit c first second answer before after =
-    Delivers answer out_of_memory before after
-    ⊎ WithinLimit (both_fitting limit c.plan.cwd first second) (ExportsFitting c first second answer before after) answer before after
-
--- the same, given what files may hold, the bytes of the first file and the engine's answer
-abbrev pub ExportsSecond :
-    (List ℕ → Option (List ℕ) → Type 0) → ℕ → ExportOf → List ℕ → Result (Unit {0}) Stop → Option (List ℕ) → Option (List ℕ) → Type 0
-ExportsSecond holds limit c first answer before after =
-    ReadsFirst (holds c.plan.dry2) (λ second. ExportsBytes limit c first second answer before after) answer before after
-
--- the same, given only what files may hold and the engine's answer: the plan of these two files
-abbrev pub ExportsFiles :
-    (List ℕ → Option (List ℕ) → Type 0) → ℕ → ExportOf → Result (Unit {0}) Stop → Option (List ℕ) → Option (List ℕ) → Type 0
-ExportsFiles holds limit c answer before after =
-    ReadsFirst (holds c.plan.dry1) (λ first. ExportsSecond holds limit c first answer before after) answer before after
 
 -- what the program writes for an nvcc line, given what files may hold, the variables and the engine's answer: the text of the line with
 -- some options files. A file that is left out leaves the call to nvcc

@@ -10,13 +10,10 @@ use std::io::{self, Stdin, Write};
 use std::process::ExitCode;
 use std::rt::Env;
 
-mod directory;
 mod environment;
-mod export;
 mod input;
 mod nvcc_text;
 mod options_files;
-mod page;
 mod program;
 
 // Runs the call that the program was started with. If a variable that it reads isn't UTF-8, the call is

@@ -1,6 +1,6 @@
 //! The text that the program writes for an nvcc line.
 
-ghost use Rattle.std.specs.Prelude.{Result, map, string_bytes};
+ghost use Rattle.std.specs.Prelude.{Result, map};
 ghost use Rattle.texts.specs.declared.fault.Fault.{Fault};
 ghost use Rattle.texts.specs.Fault.{UnlessMemory};
 ghost use Rattle.texts.specs.Variables.{pair_of};

@@ -1,7 +1,6 @@
 //! The options files that an nvcc line names.
 
-ghost use Rattle.std.specs.Prelude.{Some, IfOk, IfSome, OnOk, map, string_bytes};
-ghost use Rattle.texts.specs.Variables.{pair_of};
+ghost use Rattle.std.specs.Prelude.{Some, IfOk, IfSome, OnOk, string_bytes};
 ghost use Rattle.program_calls.specs.Calls.{nvcc_of};
 ghost use Rattle.zigrunk.specs.OptionsFiles as spec;
 

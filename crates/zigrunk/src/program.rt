@@ -1,282 +1,24 @@
 //! The program's calls.
 
-ghost use Rattle.std.specs.Prelude.{◌≡◌, ◌⊎◌, [], ◌∷◌, ◌++◌, map, Ok, Some, None, string_bytes, IfOk, MatchResult};
-ghost use Rattle.texts.specs.declared.fault.Fault.TheVariants.{Read};
-ghost use Rattle.texts.specs.Fault.{UnlessMemoryIs};
+ghost use Rattle.std.specs.Prelude.{◌≡◌, [], ◌∷◌, ◌++◌, map, Ok, string_bytes};
 ghost use Rattle.texts.specs.Variables.{pair_of};
-ghost use Rattle.dry_runs.specs.declared.limit.LimitedFault.{LimitedFault};
-ghost use Rattle.dry_runs.specs.Parsed.{both_parsed};
-ghost use Rattle.program_lookups.specs.Asked.{asked_by};
-ghost use Rattle.program_lookups.specs.Snapshot.{IsSnapshotOf};
-ghost use Rattle.program_calls.specs.Calls.{plan_of};
-ghost use Rattle.program_calls.specs.Calls.{nvcc_of};
 ghost use Rattle.nvcc_calls.specs.Directory as directories;
-ghost use Rattle.program_calls.specs.Calls.{directory_of};
+ghost use Rattle.program_calls.specs.Calls.{directory_of, nvcc_of};
 ghost use Rattle.programs.specs.Delivery.{Delivers};
-ghost use Rattle.programs.specs.PlanText.{out_of_memory, shown_plan};
 ghost use Rattle.usage.specs.Calls as forms;
 ghost use Rattle.zigrunk.specs.Endings as spec;
 
-use crate::export::{refused, write_export};
 use crate::nvcc_text::write_nvcc_text;
 use crate::options_files::options_files;
-use crate::page::{help, version};
-use complaints::{
-    OVER_LIMIT, Place, complain_of, complain_of_excess, complain_of_file, complain_of_plan,
-    place_of_excess,
-};
-use dry_runs::{FirstDir, LimitedFault, ParsedRuns, Which, parse_dry_runs_within};
+use complaints::complain_of_answer;
 use nvcc_calls::directory_name;
-use program_calls::{DirectoryCall, NvccCall, PlanCall};
-use program_lookups::{Snapshot, parse_within, snapshot_for};
-use programs::{Sources, Stop, deliver, write_line, write_plan};
-use std::alloc::{AllocError, Global};
+use plan_calls::{export_files, show_files};
+use program_calls::{DirectoryCall, NvccCall};
+use programs::{Sources, Stop, deliver, write_line};
+use std::alloc::Global;
 use std::fs::Files;
 use std::io::Write;
-use texts::fault::Fault;
-use usage::{Call, ExportCall, complain_of_misuse, limited_call_of};
-
-// The bytes of a file. If it can't be read, it first says why.
-fn read<S: Sources, E: Write>(
-    alloc: Global,
-    sources: &S,
-    path: &str,
-    err: &mut E,
-) -> Result<Vec<u8>, Fault>
-    ensures { MatchResult result (λ bytes. S.holds sources.now path.now (Some bytes.items))
-        (λ fault. UnlessMemoryIs fault ((fault ≡ Read) × S.holds sources.now path.now None)) }
-{
-    match sources.read(path) {
-        Ok(bytes) => Ok(bytes),
-        Err(why) => {
-            let _ = complain_of_file(alloc, path, why, err);
-            Err(why.fault())
-        }
-    }
-}
-
-// An answer. If it is a stop, it first says why.
-fn told<E: Write>(alloc: Global, answer: Result<(), Stop>, err: &mut E) -> Result<(), Stop>
-    ensures { result ≡ answer }
-{
-    if let Err(stop) = &answer {
-        let _ = complain_of(alloc, stop, err);
-    }
-    answer
-}
-
-// The same for the answer of a call that plans two dry runs.
-fn plan_told<L: Which, E: Write>(
-    alloc: Global,
-    which: &L,
-    call: &PlanCall<'_>,
-    dry1: &[u8],
-    dry2: &[u8],
-    answer: Result<(), Stop>,
-    err: &mut E,
-) -> Result<(), Stop>
-    ensures { result ≡ answer }
-{
-    if let Err(stop) = &answer {
-        let _ = complain_of_plan(alloc, which, call, dry1, dry2, stop, err);
-    }
-    answer
-}
-
-// The programs that the disk has for two dry runs. If memory runs out, it first says so.
-fn programs_for<R: Files + AllocGlobal, E: Write>(
-    rt: &R,
-    runs: &ParsedRuns,
-    cwd: &str,
-    err: &mut E,
-) -> Result<Snapshot, AllocError>
-    ensures { IfOk result (λ snapshot. IsSnapshotOf (asked_by cwd.now runs.now) snapshot) }
-{
-    let answer = snapshot_for(rt, runs, cwd);
-    if answer.is_err() {
-        let _ = complain_of(rt.alloc(), &Stop::Fault(Fault::Memory), err);
-    }
-    answer
-}
-
-// Says which line exceeds the limit, and stops.
-fn stop_at<W: Write, E: Write>(
-    alloc: Global,
-    place: &Place<'_>,
-    limit: usize,
-    out: &mut W,
-    err: &mut E,
-) -> Result<(), Stop>
-    ensures { Delivers result spec.exceeded (W.contents out.old) (W.contents out.new) }
-{
-    let _ = complain_of_excess(alloc, place, limit, err);
-    deliver(refused(alloc, OVER_LIMIT), out)
-}
-
-// Says why two dry runs can't be parsed within the limit, and stops.
-fn stop_unparsed<W: Write, E: Write>(
-    alloc: Global,
-    call: &PlanCall<'_>,
-    dry1: &[u8],
-    dry2: &[u8],
-    limit: usize,
-    fault: LimitedFault,
-    out: &mut W,
-    err: &mut E,
-) -> Result<(), Stop>
-    ensures { Delivers result (spec.unparsed fault) (W.contents out.old) (W.contents out.new) }
-{
-    match fault {
-        LimitedFault::TooLong { run, line } => {
-            let place = place_of_excess(alloc, call, dry1, dry2, run, line);
-            stop_at(alloc, &place, limit, out, err)
-        }
-        LimitedFault::Fault(fault) => { told(alloc, deliver(Err(Stop::Fault(fault)), out), err) }
-    }
-}
-
-// Plans two dry runs that are parsed, with the programs that the disk has, and writes the plan.
-fn export_parsed<R: Files + AllocGlobal, W: Write, E: Write>(
-    rt: &R,
-    call: &ExportCall<'_>,
-    dry1: &[u8],
-    dry2: &[u8],
-    runs: ParsedRuns,
-    out: &mut W,
-    err: &mut E,
-) -> Result<(), Stop>
-    requires { runs ≡ both_parsed dry1.now dry2.now }
-    ensures { Delivers result out_of_memory (W.contents out.old) (W.contents out.new)
-        ⊎ spec.ExportsFitting (forms.export_of call.now) dry1.now dry2.now result (W.contents out.old) (W.contents out.new) }
-{
-    let programs = programs_for(rt, &runs, call.plan.cwd, err)?;
-    let answer = write_export(rt.alloc(), call, dry1, dry2, runs, &programs, out);
-    plan_told(rt.alloc(), &programs, &call.plan, dry1, dry2, answer, err)
-}
-
-// Plans two dry runs within the limit, and writes the plan.
-fn export_bytes<R: Files + AllocGlobal, W: Write, E: Write>(
-    rt: &R,
-    call: &ExportCall<'_>,
-    dry1: &[u8],
-    dry2: &[u8],
-    limit: usize,
-    out: &mut W,
-    err: &mut E,
-) -> Result<(), Stop>
-    ensures { spec.ExportsBytes limit (forms.export_of call.now) dry1.now dry2.now result (W.contents out.old) (W.contents out.new) }
-{
-    let alloc = rt.alloc();
-    match parse_within(alloc, dry1, dry2, call.plan.cwd, limit) {
-        Ok(runs) => export_parsed(rt, call, dry1, dry2, runs, out, err),
-        Err(fault) => stop_unparsed(alloc, &call.plan, dry1, dry2, limit, fault, out, err),
-    }
-}
-
-// Reads the file of the second dry run, plans both, and writes the plan.
-fn export_second<R: Files + AllocGlobal, S: Sources, W: Write, E: Write>(
-    rt: &R,
-    sources: &S,
-    call: &ExportCall<'_>,
-    dry1: &[u8],
-    limit: usize,
-    out: &mut W,
-    err: &mut E,
-) -> Result<(), Stop>
-    ensures { spec.ExportsSecond (S.holds sources.now) limit (forms.export_of call.now) dry1.now result (W.contents out.old) (W.contents out.new) }
-{
-    let dry2 = read(rt.alloc(), sources, call.plan.dry2, err)?;
-    export_bytes(rt, call, dry1, dry2.as_slice(), limit, out, err)
-}
-
-// Reads the files of two dry runs, plans them, and writes the plan.
-fn export_files<R: Files + AllocGlobal, S: Sources, W: Write, E: Write>(
-    rt: &R,
-    sources: &S,
-    call: &ExportCall<'_>,
-    limit: usize,
-    out: &mut W,
-    err: &mut E,
-) -> Result<(), Stop>
-    ensures { spec.ExportsFiles (S.holds sources.now) limit (forms.export_of call.now) result (W.contents out.old) (W.contents out.new) }
-{
-    let dry1 = read(rt.alloc(), sources, call.plan.dry1, err)?;
-    export_second(rt, sources, call, dry1.as_slice(), limit, out, err)
-}
-
-// Plans two dry runs that don't exceed the limit, and writes the plan as text.
-fn show_fitting<W: Write, E: Write>(
-    alloc: Global,
-    call: &PlanCall<'_>,
-    dry1: &[u8],
-    dry2: &[u8],
-    out: &mut W,
-    err: &mut E,
-) -> Result<(), Stop>
-    ensures { Delivers result (shown_plan call.now.cwd.now call.now.tmp.now call.now.flag.now dry1.now dry2.now (map string_bytes call.now.suffixes.now))
-        (W.contents out.old) (W.contents out.new) }
-{
-    let answer = write_plan(
-        alloc,
-        call.cwd,
-        call.tmp,
-        call.flag,
-        dry1,
-        dry2,
-        call.suffixes,
-        out,
-    );
-    plan_told(alloc, &FirstDir, call, dry1, dry2, answer, err)
-}
-
-// Plans two dry runs within the limit, and writes the plan as text.
-fn show_bytes<W: Write, E: Write>(
-    alloc: Global,
-    call: &PlanCall<'_>,
-    dry1: &[u8],
-    dry2: &[u8],
-    limit: usize,
-    out: &mut W,
-    err: &mut E,
-) -> Result<(), Stop>
-    ensures { spec.ShowsBytes limit (plan_of call.now) dry1.now dry2.now result (W.contents out.old) (W.contents out.new) }
-{
-    match parse_dry_runs_within(alloc, dry1, dry2, limit) {
-        Ok(_) => show_fitting(alloc, call, dry1, dry2, out, err),
-        Err(fault) => stop_unparsed(alloc, call, dry1, dry2, limit, fault, out, err),
-    }
-}
-
-// Reads the file of the second dry run, plans both, and writes the plan as text.
-fn show_second<S: Sources, W: Write, E: Write>(
-    alloc: Global,
-    sources: &S,
-    call: &PlanCall<'_>,
-    dry1: &[u8],
-    limit: usize,
-    out: &mut W,
-    err: &mut E,
-) -> Result<(), Stop>
-    ensures { spec.ShowsSecond (S.holds sources.now) limit (plan_of call.now) dry1.now result (W.contents out.old) (W.contents out.new) }
-{
-    let dry2 = read(alloc, sources, call.dry2, err)?;
-    show_bytes(alloc, call, dry1, dry2.as_slice(), limit, out, err)
-}
-
-// Reads the files of two dry runs, plans them, and writes the plan as text.
-fn show_files<S: Sources, W: Write, E: Write>(
-    alloc: Global,
-    sources: &S,
-    call: &PlanCall<'_>,
-    limit: usize,
-    out: &mut W,
-    err: &mut E,
-) -> Result<(), Stop>
-    ensures { spec.ShowsFiles (S.holds sources.now) limit (plan_of call.now) result (W.contents out.old) (W.contents out.new) }
-{
-    let dry1 = read(alloc, sources, call.dry1, err)?;
-    show_second(alloc, sources, call, dry1.as_slice(), limit, out, err)
-}
+use usage::{Call, complain_of_misuse, help, limited_call_of, version};
 
 // Writes a page.
 fn show<W: Write>(alloc: Global, page: &str, out: &mut W) -> Result<(), Stop>
@@ -331,15 +73,23 @@ fn serve<R: Files + AllocGlobal, S: Sources, W: Write, E: Write>(
     match call {
         Call::Export(export) => export_files(rt, sources, export, limit, out, err),
         Call::Plan(plan) => show_files(alloc, sources, plan, limit, out, err),
-        Call::Nvcc(line) => told(alloc, read_line(rt, sources, line, variables, out), err),
-        Call::Directory(call) => told(alloc, show_directory(alloc, call, variables, out), err),
-        Call::Line(line) => told(
+        Call::Nvcc(line) => complain_of_answer(
+            alloc,
+            read_line(rt, sources, line, variables, out),
+            err,
+        ),
+        Call::Directory(call) => complain_of_answer(
+            alloc,
+            show_directory(alloc, call, variables, out),
+            err,
+        ),
+        Call::Line(line) => complain_of_answer(
             alloc,
             write_line(alloc, line.tool, line.cwd, line.words, out),
             err,
         ),
-        Call::Help => told(alloc, show(alloc, help(), out), err),
-        Call::Version => told(alloc, show(alloc, version(), out), err),
+        Call::Help => complain_of_answer(alloc, show(alloc, help(), out), err),
+        Call::Version => complain_of_answer(alloc, show(alloc, version(), out), err),
     }
 }
 

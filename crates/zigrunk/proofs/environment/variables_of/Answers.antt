@@ -1,4 +1,4 @@
-use Rattle.std.proofs.Common.{subst, sym, codes, ℕ, List}
+use Rattle.std.proofs.Common.{subst, codes, ℕ, List}
 use Rattle.programs.specs.Start.{AddsTwo}
 use Rattle.zigrunk.proofs.environment.variables_of.Goals as goal
 

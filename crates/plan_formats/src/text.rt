@@ -1,0 +1,66 @@
+//! A plan in a format.
+
+ghost use Rattle.std.specs.Prelude.{◌≡◌, OnOk, string_bytes};
+ghost use Rattle.plan_scripts.specs.Answers.{Answers};
+ghost use Rattle.plan_formats.specs.Texts as spec;
+
+use plan_exports::ninja_file;
+use plan_graphs::dot_text;
+use plan_json::{compdb_text, json_text};
+use plan_makeflow::makeflow_file;
+use plan_scripts::{Format, Refusal, shell_script};
+use plan_texts::show_plan;
+use plans::PlanWithOrigins;
+use std::alloc::{AllocError, Global};
+
+/// A plan as the text of a format, given what it was made for: the working directory `cwd`, the temporary directory `tmp` and the
+/// compilation flag. JSON and a compilation database have no newline at their end.
+///
+/// Fails if the format can't represent the plan, and if memory runs out.
+pub fn plan_text(
+    alloc: Global,
+    format: Format,
+    cwd: &str,
+    tmp: &str,
+    flag: &str,
+    planned: &PlanWithOrigins,
+) -> Result<String, Refusal>
+    ensures { Answers result (spec.text_in format (record { cwd = cwd.now; tmp = tmp.now; flag = flag.now; planned = planned.now })) }
+{
+    let plan = &planned.plan;
+    match format {
+        Format::Shell => shell_script(alloc, plan),
+        Format::Ninja => ninja_file(alloc, tmp, plan),
+        Format::Json => Ok(json_text(alloc, cwd, tmp, flag, planned)?),
+        Format::Dot => Ok(dot_text(alloc, plan)?),
+        Format::Compdb => Ok(compdb_text(alloc, plan)?),
+        Format::Makeflow => makeflow_file(alloc, tmp, plan),
+        Format::Text => Ok(show_plan(alloc, plan)?),
+    }
+}
+
+// Adds the newline that the text of a format lacks.
+fn push_end(text: &mut String, format: Format) -> Result<(), AllocError>
+    ensures { OnOk result (string_bytes text.new ≡ spec.ended format (string_bytes text.old)) }
+{
+    match format {
+        Format::Json | Format::Compdb => text.push_str("\n"),
+        _ => Ok(()),
+    }
+}
+
+/// The same as a file: JSON and a compilation database end in a newline too.
+pub fn plan_file(
+    alloc: Global,
+    format: Format,
+    cwd: &str,
+    tmp: &str,
+    flag: &str,
+    planned: &PlanWithOrigins,
+) -> Result<String, Refusal>
+    ensures { Answers result (spec.file_in format (record { cwd = cwd.now; tmp = tmp.now; flag = flag.now; planned = planned.now })) }
+{
+    let mut text = plan_text(alloc, format, cwd, tmp, flag, planned)?;
+    push_end(&mut text, format)?;
+    Ok(text)
+}

@@ -1,0 +1,226 @@
+-- A POSIX shell reads a command's text, and a script, as the commands.
+use Rattle.std.proofs.Common.{ℕ, List, [], ◌∷◌, ◌++◌, ◌≡◌, refl, sym, ap, ◌∙◌, append_assoc, append-nil, map, Some, true, false, Option, codes}
+use Rattle.std.specs.List.{AllByRecursion, flat_map}
+use Rattle.std.specs.Option.{option_map, option_and_then}
+use Rattle.std.specs.Str.{IsUtf8, chars}
+use Rattle.std.proofs.lemmas.Str.{chars-nil}
+use Rattle.shell_words.specs.Posix.{Token, Word, Operator, Place, Between, After, Inside, Step, step, prepend, with_step, tokens_from, tokens, is_apart}
+use Rattle.shell_words.specs.Shell.Quoting.{written}
+use Rattle.shell_words.proofs.PosixLemmas.{quoted_before}
+use Rattle.plans.specs.declared.plan.NvccGeneratedSubcommand.{NvccGeneratedSubcommand}
+use Rattle.plans.specs.declared.plan.Plan.{Plan}
+use Rattle.plan_scripts.specs.CommandText.{assignment, env_words, command_text}
+use Rattle.plan_scripts.specs.Script.{command_line, group_lines, groups_lines, script}
+use Rattle.plan_scripts.specs.ReadBack.{IsOfTexts, shell_tokens, word_tokens, command_tokens, in_front, line_tokens}
+use Rattle.plan_scripts.proofs.TextLemmas.{written_chars, plain_chars, assignments_utf8}
+
+-- ---- characters
+
+prepend-nothing : (ts : List Token) → prepend [] ts ≡ ts
+prepend-nothing [] = refl
+prepend-nothing (Word word ∷ ts) = refl
+prepend-nothing (Operator operator ∷ ts) = refl
+
+-- a character that adds something, one that adds nothing, and one that ends a token
+reading : (place : Place) (c : ℕ) (cs : List ℕ) (s : Step) (ts : List Token) → step place c ≡ Some s → tokens_from s.0 cs ≡ Some ts → tokens_from place (c ∷ cs) ≡ Some (with_step s ts)
+reading place c cs s ts read found =
+    ap (λ (o : Option Step). option_and_then (λ s. option_map (with_step s) (tokens_from s.0 cs)) o) read
+    ∙ ap (λ (o : Option (List Token)). option_map (with_step s) o) found
+
+skipping : (place : Place) (c : ℕ) (cs : List ℕ) (next : Place) (ts : List Token) → step place c ≡ Some (next, [], []) → tokens_from next cs ≡ Some ts → tokens_from place (c ∷ cs) ≡ Some ts
+skipping place c cs next ts read found = reading place c cs (next, [], []) ts read found ∙ ap Some (prepend-nothing ts)
+
+ending : (place : Place) (c : ℕ) (cs : List ℕ) (next : Place) (token : Token) (ts : List Token) → step place c ≡ Some (next, token ∷ [], []) → tokens_from next cs ≡ Some ts → tokens_from place (c ∷ cs) ≡ Some (token ∷ ts)
+ending place c cs next token ts read found = reading place c cs (next, token ∷ [], []) ts read found ∙ ap (λ us. Some (token ∷ us)) (prepend-nothing ts)
+
+adding : (place : Place) (c : ℕ) (cs : List ℕ) (next : Place) (word : List ℕ) (ts : List Token) → step place c ≡ Some (next, [], c ∷ []) → tokens_from next cs ≡ Some (Word word ∷ ts) → tokens_from place (c ∷ cs) ≡ Some (Word (c ∷ word) ∷ ts)
+adding place c cs next word ts read found = reading place c cs (next, [], c ∷ []) (Word word ∷ ts) read found
+
+reads_open : (rest : List ℕ) (ts : List Token) → tokens rest ≡ Some ts → tokens (codes "( cd " ++ rest) ≡ Some (Operator (codes "(") ∷ Word (codes "cd") ∷ ts)
+reads_open rest ts found =
+    skipping Between 40 (codes " cd " ++ rest) (After 40) (Operator (codes "(") ∷ Word (codes "cd") ∷ ts) refl
+    (ending (After 40) 32 (codes "cd " ++ rest) Between (Operator (codes "(")) (Word (codes "cd") ∷ ts) refl
+    (adding Between 99 (codes "d " ++ rest) (Inside false) (codes "d") ts refl
+    (adding (Inside false) 100 (codes " " ++ rest) (Inside false) [] ts refl (ending (Inside false) 32 rest Between (Word []) ts refl found))))
+
+reads_blank : (rest : List ℕ) (ts : List Token) → tokens rest ≡ Some ts → tokens (codes " " ++ rest) ≡ Some ts
+reads_blank rest ts found = skipping Between 32 rest Between ts refl found
+
+reads_and : (rest : List ℕ) (ts : List Token) → tokens rest ≡ Some ts → tokens (codes " && " ++ rest) ≡ Some (Operator (codes "&&") ∷ ts)
+reads_and rest ts found =
+    reads_blank (codes "&& " ++ rest) (Operator (codes "&&") ∷ ts)
+    (skipping Between 38 (codes "& " ++ rest) (After 38) (Operator (codes "&&") ∷ ts) refl
+    (ending (After 38) 38 (codes " " ++ rest) Between (Operator (codes "&&")) ts refl (reads_blank rest ts found)))
+
+reads_close : (rest : List ℕ) (ts : List Token) → tokens rest ≡ Some ts → tokens (codes " )" ++ rest) ≡ Some (Operator (codes ")") ∷ ts)
+reads_close rest ts found = reads_blank (codes ")" ++ rest) (Operator (codes ")") ∷ ts) (ending Between 41 rest Between (Operator (codes ")")) ts refl found)
+
+reads_touch : (rest : List ℕ) (ts : List Token) → tokens rest ≡ Some ts → tokens (codes " && touch " ++ rest) ≡ Some (Operator (codes "&&") ∷ Word (codes "touch") ∷ ts)
+reads_touch rest ts found =
+    reads_and (codes "touch " ++ rest) (Word (codes "touch") ∷ ts)
+    (adding Between 116 (codes "ouch " ++ rest) (Inside false) (codes "ouch") ts refl
+    (adding (Inside false) 111 (codes "uch " ++ rest) (Inside false) (codes "uch") ts refl
+    (adding (Inside false) 117 (codes "ch " ++ rest) (Inside false) (codes "ch") ts refl
+    (adding (Inside false) 99 (codes "h " ++ rest) (Inside false) (codes "h") ts refl
+    (adding (Inside false) 104 (codes " " ++ rest) (Inside false) [] ts refl (ending (Inside false) 32 rest Between (Word []) ts refl found))))))
+
+reads_newline : (rest : List ℕ) (ts : List Token) → tokens rest ≡ Some ts → tokens (codes "\n" ++ rest) ≡ Some (Operator (codes "\n") ∷ ts)
+reads_newline rest ts found = ending Between 10 rest Between (Operator (codes "\n")) ts refl found
+
+reads_set : (rest : List ℕ) (ts : List Token) → tokens rest ≡ Some ts → tokens (codes "set -e\n" ++ rest) ≡ Some (Word (codes "set") ∷ Word (codes "-e") ∷ Operator (codes "\n") ∷ ts)
+reads_set rest ts found =
+    let behind_set : List Token = Word (codes "-e") ∷ Operator (codes "\n") ∷ ts in
+    adding Between 115 (codes "et -e\n" ++ rest) (Inside false) (codes "et") behind_set refl
+    (adding (Inside false) 101 (codes "t -e\n" ++ rest) (Inside false) (codes "t") behind_set refl
+    (adding (Inside false) 116 (codes " -e\n" ++ rest) (Inside false) [] behind_set refl
+    (ending (Inside false) 32 (codes "-e\n" ++ rest) Between (Word []) behind_set refl
+    (adding Between 45 (codes "e\n" ++ rest) (Inside true) (codes "e") (Operator (codes "\n") ∷ ts) refl
+    (adding (Inside true) 101 (codes "\n" ++ rest) (Inside true) [] (Operator (codes "\n") ∷ ts) refl
+    (reading (Inside true) 10 rest (Between, Word [] ∷ Operator (codes "\n") ∷ [], []) ts refl found ∙ ap (λ us. Some (Word [] ∷ Operator (codes "\n") ∷ us)) (prepend-nothing ts)))))))
+
+-- ---- bytes
+
+word-tokens : (words : List (List ℕ)) → map Word (map chars words) ≡ word_tokens words
+word-tokens [] = refl
+word-tokens (word ∷ words) = ap (λ ts. Word (chars word) ∷ ts) (word-tokens words)
+
+-- written words, before a text that ends the last one
+pub written_then : (word : List ℕ) (words : List (List ℕ)) (rest : List ℕ) (ts : List Token) → AllByRecursion IsUtf8 (word ∷ words) → is_apart (chars rest) ≡ true → shell_tokens rest ≡ Some ts →
+    shell_tokens (written (word ∷ words) ++ rest) ≡ Some (word_tokens (word ∷ words) ++ ts)
+written_then word words rest ts are apart found =
+    ap tokens (written_chars (word ∷ words) rest are)
+    ∙ quoted_before (chars word) (map chars words) (chars rest) ts apart found
+    ∙ ap (λ us. Some (us ++ ts)) (word-tokens (word ∷ words))
+
+blank_then : (rest : List ℕ) (ts : List Token) → shell_tokens rest ≡ Some ts → shell_tokens (codes " " ++ rest) ≡ Some ts
+unfolding lib.Utf8.encode
+blank_then rest ts found = ap tokens (plain_chars (codes " ") rest refl refl) ∙ reads_blank (chars rest) ts found
+
+blank_apart : (rest : List ℕ) → is_apart (chars (codes " " ++ rest)) ≡ true
+unfolding lib.Utf8.encode
+blank_apart rest = ap is_apart (plain_chars (codes " ") rest refl refl)
+
+-- words that run a command, before its program
+runner_then : (words : List (List ℕ)) (rest : List ℕ) (ts : List Token) → AllByRecursion IsUtf8 words → shell_tokens rest ≡ Some ts →
+    shell_tokens (in_front words ++ rest) ≡ Some (word_tokens words ++ ts)
+runner_then [] rest ts are found = found
+runner_then (word ∷ words) rest ts are found =
+    let behind = in_front words ++ rest in
+    ap shell_tokens (append_assoc (written (word ∷ []) ++ 32 ∷ []) (in_front words) rest ∙ append_assoc (written (word ∷ [])) (32 ∷ []) behind)
+    ∙ written_then word [] (codes " " ++ behind) (word_tokens words ++ ts) (are.0, tt) (blank_apart behind) (blank_then behind (word_tokens words ++ ts) (runner_then words rest ts are.1 found))
+
+env_utf8 : (c : NvccGeneratedSubcommand) → IsOfTexts c → AllByRecursion IsUtf8 (env_words c)
+unfolding lib.Utf8.encode
+env_utf8 c are = ((codes "env", (refl, refl)), assignments_utf8 c.env_vars are.variables)
+
+-- a command's text before more text, its parts one in the other
+abbrev run_bytes : NvccGeneratedSubcommand → List ℕ → List ℕ
+run_bytes c tail = written (c.exe ∷ c.args) ++ (codes " )" ++ tail)
+
+abbrev env_bytes : List (List ℕ) → NvccGeneratedSubcommand → List ℕ → List ℕ
+env_bytes runner c tail = written (env_words c) ++ (codes " " ++ (in_front runner ++ run_bytes c tail))
+
+abbrev line_bytes : List (List ℕ) → NvccGeneratedSubcommand → List ℕ → List ℕ
+line_bytes runner c tail = codes "( cd " ++ (written (c.cwd ∷ []) ++ (codes " && " ++ env_bytes runner c tail))
+
+run_then : (c : NvccGeneratedSubcommand) (tail : List ℕ) (ts : List Token) → IsOfTexts c → shell_tokens tail ≡ Some ts →
+    shell_tokens (run_bytes c tail) ≡ Some (word_tokens (c.exe ∷ c.args) ++ Operator (codes ")") ∷ ts)
+unfolding lib.Utf8.encode
+run_then c tail ts are found =
+    let close = plain_chars (codes " )") tail refl refl in
+    written_then c.exe c.args (codes " )" ++ tail) (Operator (codes ")") ∷ ts) (are.exe, are.args) (ap is_apart close) (ap tokens close ∙ reads_close (chars tail) ts found)
+
+env_then : (runner : List (List ℕ)) (c : NvccGeneratedSubcommand) (tail : List ℕ) (ts : List Token) → AllByRecursion IsUtf8 runner → IsOfTexts c → shell_tokens tail ≡ Some ts →
+    shell_tokens (env_bytes runner c tail) ≡ Some (word_tokens (env_words c) ++ (word_tokens runner ++ (word_tokens (c.exe ∷ c.args) ++ Operator (codes ")") ∷ ts)))
+env_then runner c tail ts words are found =
+    let run = run_bytes c tail in
+    let run_tokens : List Token = word_tokens (c.exe ∷ c.args) ++ Operator (codes ")") ∷ ts in
+    let behind = in_front runner ++ run in
+    written_then (codes "env") (map assignment c.env_vars) (codes " " ++ behind) (word_tokens runner ++ run_tokens) (env_utf8 c are) (blank_apart behind)
+    (blank_then behind (word_tokens runner ++ run_tokens) (runner_then runner run run_tokens words (run_then c tail ts are found)))
+
+-- the tokens of a command before more of them
+tokens-assoc : (runner : List (List ℕ)) (c : NvccGeneratedSubcommand) (ts : List Token) →
+    command_tokens runner c ++ ts ≡ Operator (codes "(") ∷ Word (codes "cd") ∷ Word (chars c.cwd) ∷ Operator (codes "&&")
+    ∷ (word_tokens (env_words c) ++ (word_tokens runner ++ (word_tokens (c.exe ∷ c.args) ++ Operator (codes ")") ∷ ts)))
+tokens-assoc runner c ts =
+    let env = word_tokens (env_words c) in
+    let ran = word_tokens runner in
+    let run = word_tokens (c.exe ∷ c.args) in
+    let close : List Token = Operator (codes ")") ∷ [] in
+    ap (λ us. Operator (codes "(") ∷ Word (codes "cd") ∷ Word (chars c.cwd) ∷ Operator (codes "&&") ∷ us)
+    (append_assoc env (ran ++ (run ++ close)) ts
+    ∙ ap (λ us. env ++ us) (append_assoc ran (run ++ close) ts ∙ ap (λ us. ran ++ us) (append_assoc run close ts)))
+
+line_then : (runner : List (List ℕ)) (c : NvccGeneratedSubcommand) (tail : List ℕ) (ts : List Token) → AllByRecursion IsUtf8 runner → IsOfTexts c → shell_tokens tail ≡ Some ts →
+    shell_tokens (line_bytes runner c tail) ≡ Some (command_tokens runner c ++ ts)
+unfolding lib.Utf8.encode
+line_then runner c tail ts words are found =
+    let env = env_bytes runner c tail in
+    let env_tokens : List Token = word_tokens (env_words c) ++ (word_tokens runner ++ (word_tokens (c.exe ∷ c.args) ++ Operator (codes ")") ∷ ts)) in
+    let folder = written (c.cwd ∷ []) ++ (codes " && " ++ env) in
+    let and = plain_chars (codes " && ") env refl refl in
+    let behind : shell_tokens folder ≡ Some (Word (chars c.cwd) ∷ Operator (codes "&&") ∷ env_tokens) =
+    written_then c.cwd [] (codes " && " ++ env) (Operator (codes "&&") ∷ env_tokens) (are.cwd, tt) (ap is_apart and) (ap tokens and ∙ reads_and (chars env) env_tokens (env_then runner c tail ts words are found)) in
+    ap tokens (plain_chars (codes "( cd ") folder refl refl)
+    ∙ reads_open (chars folder) (Word (chars c.cwd) ∷ Operator (codes "&&") ∷ env_tokens) behind
+    ∙ ap Some (sym (tokens-assoc runner c ts))
+
+-- a command's text before a text
+pub text_then : (runner : List (List ℕ)) (c : NvccGeneratedSubcommand) (tail : List ℕ) (ts : List Token) → AllByRecursion IsUtf8 runner → IsOfTexts c → shell_tokens tail ≡ Some ts →
+    shell_tokens (command_text (in_front runner) c ++ tail) ≡ Some (command_tokens runner c ++ ts)
+text_then runner c tail ts words are found =
+    let cwd = written (c.cwd ∷ []) in
+    let env = written (env_words c) in
+    let ran = in_front runner in
+    let run = written (c.exe ∷ c.args) in
+    let whole : command_text ran c ++ tail ≡ line_bytes runner c tail =
+    ap (λ t. codes "( cd " ++ t)
+    (append_assoc cwd (codes " && " ++ (env ++ (codes " " ++ (ran ++ (run ++ codes " )"))))) tail
+    ∙ ap (λ t. cwd ++ (codes " && " ++ t))
+    (append_assoc env (codes " " ++ (ran ++ (run ++ codes " )"))) tail
+    ∙ ap (λ t. env ++ (codes " " ++ t)) (append_assoc ran (run ++ codes " )") tail ∙ ap (λ t. ran ++ t) (append_assoc run (codes " )") tail)))) in
+    ap shell_tokens whole ∙ line_then runner c tail ts words are found
+
+-- ---- the laws
+
+nothing_reads : shell_tokens [] ≡ Some []
+nothing_reads = ap tokens chars-nil
+
+-- `touch` with a path, behind a command
+pub touch_reads : (path : List ℕ) → IsUtf8 path → shell_tokens (codes " && touch " ++ written (path ∷ [])) ≡ Some (Operator (codes "&&") ∷ Word (codes "touch") ∷ Word (chars path) ∷ [])
+unfolding lib.Utf8.encode
+touch_reads path is =
+    let text = written (path ∷ []) in
+    let alone : shell_tokens text ≡ Some (Word (chars path) ∷ []) =
+    ap shell_tokens (sym (append-nil text)) ∙ written_then path [] [] [] (is, tt) (ap is_apart chars-nil) nothing_reads in
+    ap tokens (plain_chars (codes " && touch ") text refl refl) ∙ reads_touch (chars text) (Word (chars path) ∷ []) alone
+
+pub command_reads_back : (runner : List (List ℕ)) (c : NvccGeneratedSubcommand) → AllByRecursion IsUtf8 runner → IsOfTexts c → shell_tokens (command_text (in_front runner) c) ≡ Some (command_tokens runner c)
+command_reads_back runner c words are =
+    ap shell_tokens (sym (append-nil (command_text (in_front runner) c))) ∙ text_then runner c [] [] words are nothing_reads ∙ ap Some (append-nil (command_tokens runner c))
+
+line_before : (c : NvccGeneratedSubcommand) (rest : List ℕ) (ts : List Token) → IsOfTexts c → shell_tokens rest ≡ Some ts → shell_tokens (command_line c ++ rest) ≡ Some (line_tokens c ++ ts)
+unfolding lib.Utf8.encode
+line_before c rest ts are found =
+    ap shell_tokens (append_assoc (command_text [] c) (10 ∷ []) rest)
+    ∙ text_then [] c (10 ∷ rest) (Operator (codes "\n") ∷ ts) tt are (ap tokens (plain_chars (10 ∷ []) rest refl refl) ∙ reads_newline (chars rest) ts found)
+    ∙ ap Some (sym (append_assoc (command_tokens [] c) (Operator (codes "\n") ∷ []) ts))
+
+group_before : (group : List NvccGeneratedSubcommand) (rest : List ℕ) (ts : List Token) → AllByRecursion IsOfTexts group → shell_tokens rest ≡ Some ts → shell_tokens (group_lines group ++ rest) ≡ Some (flat_map line_tokens group ++ ts)
+group_before [] rest ts are found = found
+group_before (c ∷ group) rest ts are found =
+    ap shell_tokens (append_assoc (command_line c) (group_lines group) rest)
+    ∙ line_before c (group_lines group ++ rest) (flat_map line_tokens group ++ ts) are.0 (group_before group rest ts are.1 found)
+    ∙ ap Some (sym (append_assoc (line_tokens c) (flat_map line_tokens group) ts))
+
+groups_read : (groups : List (List NvccGeneratedSubcommand)) → AllByRecursion (AllByRecursion IsOfTexts) groups → shell_tokens (groups_lines groups) ≡ Some (flat_map (flat_map line_tokens) groups)
+groups_read [] are = nothing_reads
+groups_read (group ∷ groups) are = group_before group (groups_lines groups) (flat_map (flat_map line_tokens) groups) are.0 (groups_read groups are.1)
+
+pub script_reads_back : (plan : Plan) → AllByRecursion (AllByRecursion IsOfTexts) plan.groups →
+    shell_tokens (script plan) ≡ Some (Word (codes "set") ∷ Word (codes "-e") ∷ Operator (codes "\n") ∷ flat_map (flat_map line_tokens) plan.groups)
+unfolding lib.Utf8.encode
+script_reads_back plan are =
+    ap tokens (plain_chars (codes "set -e\n") (groups_lines plan.groups) refl refl)
+    ∙ reads_set (chars (groups_lines plan.groups)) (flat_map (flat_map line_tokens) plan.groups) (groups_read plan.groups are)
