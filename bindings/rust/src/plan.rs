@@ -140,9 +140,9 @@ pub struct Plan {
 ///
 /// # Errors
 ///
-/// [`ErrorKind::NotUtf8`](crate::ErrorKind) for a variable. `NoDryRun` for texts that aren't the dry runs of a call, a flag that is none
-/// of nvcc's, and a plan without a command. `BadSuffixes`, `BadDryRun`, `NotFound` and `OverLimit` for the first bad line of the first
-/// run or of the second, `OutOfMemory`. [`Error::place`] says where.
+/// [`ErrorKind::NotUtf8`](crate::ErrorKind) for a variable. `OddDirectory` for a directory that isn't absolute and plain. `NoDryRun` for
+/// texts that aren't the dry runs of a call, a flag that is none of nvcc's, and a plan without a command. `BadSuffixes`, `BadDryRun`,
+/// `NotFound` and `OverLimit` for the first bad line of the first run or of the second, `OutOfMemory`. [`Error::place`] says where.
 pub fn plan(call: &PlanCall<'_>) -> Result<Plan, Error> {
     // SAFETY: the record and all that it points to live through the call.
     call.with_record(|record| buffers::settled(estimate(call), |sizes| unsafe { try_plan(record, sizes) })?)

@@ -30,7 +30,7 @@ use Rattle.canonical_names.specs.FurtherSuffixes.{all_suffixes}
 use Rattle.usage.specs.declared.call.Format.{Format}
 use Rattle.usage.specs.declared.call.Format.TheVariants.{Shell, Ninja, Json, Dot, Compdb, Makeflow}
 use Rattle.usage.specs.Calls.{ExportOf}
-use Rattle.zigrunk.specs.Directories.{is_plain}
+use Rattle.directories.specs.Directories.{is_plain}
 
 -- a writer's answer, with a refusal as text
 abbrev pub written : Result (List ℕ) Refusal → Result (List ℕ) Stop

@@ -1,4 +1,3 @@
-pub mod Directories
 pub mod Endings
 pub mod Environment
 pub mod Exports

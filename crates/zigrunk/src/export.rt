@@ -17,10 +17,10 @@ ghost use Rattle.program_calls.specs.Calls.{plan_of as plan_seen};
 ghost use Rattle.usage.specs.Calls.{export_of};
 ghost use Rattle.zigrunk.specs.Exports as spec;
 
-use crate::directory::is_plain;
 use canonical_names::all_suffixes;
 use command_groups::{CallToPlan, plan_of_parsed};
 use compilers::compiler::NvccHostCompiler;
+use directories::is_plain;
 use dry_runs::{ParsedRuns, Which, is_dry_run};
 use plan_exports::{Refusal, ninja_file, ninja_file_of_scripts, shell_script};
 use plan_graphs::dot_text;

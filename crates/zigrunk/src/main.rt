@@ -10,7 +10,6 @@ use std::io::{self, Stdin, Write};
 use std::process::ExitCode;
 use std::rt::Env;
 
-mod directory;
 mod environment;
 mod export;
 mod input;

@@ -3,7 +3,7 @@
 ghost use Rattle.std.specs.Prelude.{◌≡◌, codes, nat_eq};
 ghost use Rattle.std.specs.List.{ends_with, starts_with};
 ghost use Rattle.canonical_names.specs.Alike as alike;
-ghost use Rattle.zigrunk.specs.Directories as spec;
+ghost use Rattle.directories.specs.Directories as spec;
 
 // Whether `text` contains `part`.
 fn holds(text: &str, part: &str) -> bool
