@@ -238,7 +238,8 @@ typedef struct zigrunk_group {
 } zigrunk_group;
 
 /* A command of a plan, or one that the plan dropped. Its texts are elements of the list of ranges, each of which says where
- * the bytes are. A variable may occur twice: the last one counts. */
+ * the bytes are. A variable may occur twice: the last one counts. Commands may share texts: those with the first command's environment
+ * have it at the same place. */
 typedef struct zigrunk_command {
     zigrunk_range arguments; /* which texts are the words after the program's name */
     zigrunk_range variables; /* which texts are its environment: a name, its value, a name, ..; none if it was dropped */
