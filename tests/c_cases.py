@@ -371,6 +371,13 @@ def normal_form(case: Case) -> list[Result]:
 # ---- plans ----
 
 
+def odd_directory(cwd: str) -> Answer | None:
+    """The refusal of a working directory that no plan is made for, or None."""
+    if cwd == "/" or cwd.startswith("/") and not {"", ".", ".."} & set(cwd[1:].split("/")):
+        return None
+    return Status.ODD_DIRECTORY, "the working directory has to be absolute, without an empty part, . or .."
+
+
 def no_dry_runs(call: zigrunk.PlanCall) -> Answer | None:
     """The answer to a call whose texts can't be its dry runs, or None. Only a plan as records looks."""
     for text, name in ((call.dry1, "first"), (call.dry2, "second")):
@@ -523,7 +530,7 @@ def read(case: Case) -> list[Result]:
     if case.facts[0][0] != "fault" or number not in ("1", "2"):
         return []
     call = beside_another(dry_runs(case, split_settings(settings)[1])[0], number, b"#$ _=\n", cwd)
-    return [("read", no_dry_runs(call) or fault(case.facts[0][1:]), planned(call))]
+    return [("read", odd_directory(cwd) or no_dry_runs(call) or fault(case.facts[0][1:]), planned(call))]
 
 
 def read_within(case: Case) -> list[Result]:
@@ -560,7 +567,8 @@ def suffixes(case: Case) -> list[Result]:
 
 def candidates(case: Case) -> list[Result]:
     program, path, cwd = case.settings
-    return [("candidates", (Status.OK, case.facts[0][1:]), told(zigrunk.candidates, zigrunk.Lookup(program, path), cwd))]
+    expected = odd_directory(cwd) or (Status.OK, case.facts[0][1:])
+    return [("candidates", expected, told(zigrunk.candidates, zigrunk.Lookup(program, path), cwd))]
 
 
 def lookups(case: Case) -> list[Result]:

@@ -153,6 +153,19 @@ class Calls(unittest.TestCase):
         empty = dataclasses.replace(call, dry1=b"#$ PATH=/b\n", dry2=b"#$ PATH=/b\n#$ rm k\n")
         self.rejects(zigrunk.Status.NO_DRY_RUN, "the plan has no command", zigrunk.plan_records, empty, first)
 
+    def test_odd_directories(self) -> None:
+        run = b"#$ PATH=/b\n#$ gcc -D__NVCC__ -c k.cpp\n"
+        call = zigrunk.PlanCall(run, run, "/w", "/t")
+        for odd in ("", "w", "./w", "//w", "/w/", "/w/.", "/w/../x"):
+            for name, which in (("cwd", "working directory"), ("tmp", "directory for temporary files")):
+                message = f"the {which} has to be absolute, without an empty part, . or .."
+                bad = dataclasses.replace(call, **{name: odd})
+                self.rejects_at(zigrunk.Field[name.upper()], None, zigrunk.Status.ODD_DIRECTORY, message, bad, first)
+                self.rejects(zigrunk.Status.ODD_DIRECTORY, message, zigrunk.plan, bad, zigrunk.Form.JSON, first)
+            message = "the working directory has to be absolute, without an empty part, . or .."
+            self.rejects(zigrunk.Status.ODD_DIRECTORY, message, zigrunk.lookups, run, run, odd)
+            self.rejects(zigrunk.Status.ODD_DIRECTORY, message, zigrunk.candidates, zigrunk.Lookup("gcc", "/b"), odd)
+
     def test_an_answer_that_grows(self) -> None:
         calls: list[tuple[int, int]] = []
 

@@ -93,6 +93,7 @@ short='|zigrunk: cannot read input
 |zigrunk: bad generated suffixes
 |zigrunk: both dry runs are the same file
 |zigrunk: the first file is no dry run: no line begins with "#$ "
+|zigrunk: wrong usage: see zigrunk --help
 '
 
 # judge_call NAME N: judges a run of a program. It says that it is out of memory, or why the call fails anyway. If there is no

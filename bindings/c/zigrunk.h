@@ -55,6 +55,7 @@ extern "C" {
 #define ZIGRUNK_TO_NVCC 10     /* the line goes to nvcc as it is: the text has the reason */
 #define ZIGRUNK_OVER_LIMIT 11  /* a line of a dry run exceeds your limit: the text says which */
 #define ZIGRUNK_NO_DRY_RUN 12  /* your texts aren't the two dry runs of a call. Only zigrunk_plan_steps looks */
+#define ZIGRUNK_ODD_DIRECTORY 13 /* a directory of a plan isn't absolute and plain: the text says which */
 
 /* Forms of a plan. */
 #define ZIGRUNK_JSON 0u  /* all there is to know, for programs: zigrunk(1) describes it */
@@ -158,8 +159,8 @@ typedef struct zigrunk_found_program {
 typedef struct zigrunk_plan_call {
     zigrunk_text dry1;     /* standard error of the call with --dryrun --keep; any bytes */
     zigrunk_text dry2;     /* the same with --keep-dir TMP --dryrun --keep */
-    zigrunk_text cwd;      /* the working directory, an absolute path */
-    zigrunk_text tmp;      /* TMP, the temporary directory, an absolute path */
+    zigrunk_text cwd;      /* the working directory: an absolute path without an empty part, "." or "..", as is the next */
+    zigrunk_text tmp;      /* TMP, the temporary directory */
     zigrunk_text flag;     /* the option that says what nvcc makes, as "-c"; empty if it links */
     zigrunk_text keep_dir; /* the directory that keeps generated files, if keeps is 1; else any text, as "" */
     const zigrunk_variable *variables; /* the call's environment */
@@ -237,7 +238,8 @@ typedef struct zigrunk_group {
 } zigrunk_group;
 
 /* A command of a plan, or one that the plan dropped. Its texts are elements of the list of ranges, each of which says where
- * the bytes are. A variable may occur twice: the last one counts. */
+ * the bytes are. A variable may occur twice: the last one counts. Commands may share texts: those with the first command's environment
+ * have it at the same place. */
 typedef struct zigrunk_command {
     zigrunk_range arguments; /* which texts are the words after the program's name */
     zigrunk_range variables; /* which texts are its environment: a name, its value, a name, ..; none if it was dropped */
@@ -260,8 +262,7 @@ typedef struct zigrunk_records_answer {
     size_t length;
 } zigrunk_records_answer;
 
-/* What a program that runs a command has to know of it, beside zigrunk_command. Paths are absolute if the directories that you
- * passed are. */
+/* What a program that runs a command has to know of it, beside zigrunk_command. Paths are absolute. */
 typedef struct zigrunk_step {
     zigrunk_range needs;     /* which elements of the list of numbers: the commands that have to end before it starts, ascending */
     zigrunk_range reads;     /* which texts are the paths of the files that it reads */
@@ -352,7 +353,8 @@ ZIGRUNK_CHECK_RESULT zigrunk_text_answer zigrunk_quote(const zigrunk_text *words
     uint8_t *out, size_t out_size);
 
 /* Lists the look-ups of programs that a plan of two dry runs needs, none twice: two texts for each, the program and the
- * value of PATH. Find each program (zigrunk_candidates lists the paths to try) and make a row of your table of it. */
+ * value of PATH. Find each program (zigrunk_candidates lists the paths to try) and make a row of your table of it. This call and the
+ * next two refuse a working directory that no plan is made for (ZIGRUNK_ODD_DIRECTORY). */
 ZIGRUNK_CHECK_RESULT zigrunk_list_answer zigrunk_lookups(const uint8_t *dry1, size_t dry1_length,
     const uint8_t *dry2, size_t dry2_length, const uint8_t *cwd, size_t cwd_length,
     zigrunk_range *ranges, size_t ranges_size, uint8_t *out, size_t out_size);
@@ -369,8 +371,8 @@ ZIGRUNK_CHECK_RESULT zigrunk_list_answer zigrunk_candidates(const uint8_t *progr
     zigrunk_range *ranges, size_t ranges_size, uint8_t *out, size_t out_size);
 
 /* Plans the commands of one nvcc call, and writes the plan in a form (ZIGRUNK_JSON ..). A number without a meaning is the
- * first thing that it refuses, then a text that isn't UTF-8, then the suffixes, then the first line of the first run and of the
- * second that is bad or exceeds the limit, and last a plan that the form can't represent. */
+ * first thing that it refuses, then a text that isn't UTF-8, then a directory that isn't absolute and plain, then the suffixes, then the
+ * first line of the first run and of the second that is bad or exceeds the limit, and last a plan that the form can't represent. */
 ZIGRUNK_CHECK_RESULT zigrunk_text_answer zigrunk_plan(const zigrunk_plan_call *call, uint32_t form,
     uint8_t *out, size_t out_size);
 

@@ -48,13 +48,14 @@ static void check_messages(void) {
         {ZIGRUNK_TO_NVCC, "the line goes to nvcc"},
         {ZIGRUNK_OVER_LIMIT, "a dry run exceeds the limit"},
         {ZIGRUNK_NO_DRY_RUN, "the texts are not the dry runs of a call"},
+        {ZIGRUNK_ODD_DIRECTORY, "a directory is not absolute and plain"},
     };
     for (size_t i = 0; i < sizeof known / sizeof *known; i++) {
         answer told = ask_text(call_message, &known[i].status);
         CHECK(told.status == ZIGRUNK_OK && is_text(&told, known[i].text));
         release(told);
     }
-    static const int32_t unknown[] = {-1, 13, 1000, INT32_MAX, INT32_MIN};
+    static const int32_t unknown[] = {-1, 14, 1000, INT32_MAX, INT32_MIN};
     for (size_t i = 0; i < sizeof unknown / sizeof *unknown; i++) {
         answer told = ask_text(call_message, &unknown[i]);
         CHECK(told.status == ZIGRUNK_BAD_NUMBER && is_text(&told, "a number has no meaning"));

@@ -237,6 +237,20 @@ static zigrunk_list_answer try_exceeding_steps(buffers *into) {
     return try_plan(STEPS, 3, 50, into);
 }
 
+static zigrunk_list_answer try_odd_steps(buffers *into) {
+    zigrunk_found_program gcc = row("gcc", "/b", "/b/gcc");
+    zigrunk_plan_call call = call_of(text_of(run), text_of(other_run), "-c");
+    call.tmp = text_of("/t/");
+    call.programs = &gcc;
+    call.programs_count = 1;
+    return steps_of(&call, into);
+}
+
+static zigrunk_list_answer try_odd_lookups(buffers *into) {
+    three more = {{text_of(run), text_of(run), text_of("w")}};
+    return call_lookups(&more, into->ranges, 4096, into->out, sizeof into->out);
+}
+
 static zigrunk_list_answer try_lookups(buffers *into) {
     three more = {{text_of(run), text_of(run), text_of("/w")}};
     return call_lookups(&more, into->ranges, 4096, into->out, sizeof into->out);
@@ -334,7 +348,8 @@ static const struct {
     {"Ninja", try_ninja}, {"refused plan", try_refused_plan}, {"plan within a limit", try_limited_plan},
     {"plan over a limit", try_exceeding_plan}, {"records", try_records}, {"refused records", try_refused_records},
     {"records over a limit", try_exceeding_records}, {"steps", try_steps}, {"refused steps", try_refused_steps},
-    {"steps over a limit", try_exceeding_steps}, {"look-ups", try_lookups}, {"look-ups within a limit", try_limited_lookups},
+    {"steps over a limit", try_exceeding_steps}, {"steps for an odd directory", try_odd_steps}, {"look-ups", try_lookups},
+    {"look-ups from an odd directory", try_odd_lookups}, {"look-ups within a limit", try_limited_lookups},
     {"look-ups over a limit", try_exceeding_lookups}, {"candidates", try_candidates}, {"line", try_line},
     {"written line", try_line_words}, {"refused line", try_refused_line}, {"line as records", try_line_records},
     {"refused line as records", try_refused_line_records}, {"nvcc line", try_nvcc_line}, {"passed line", try_passed_line},

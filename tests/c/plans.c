@@ -24,7 +24,7 @@ static void check_lookups(void) {
     a = lookups(text_of(""), text_of(run2), text_of("/w"));
     CHECK(a.status == ZIGRUNK_OK && a.count == 4);
     release(a);
-    a = lookups(text_of(""), text_of("\xFF\n"), text_of(""));
+    a = lookups(text_of(""), text_of("\xFF\n"), text_of("/"));
     CHECK(a.status == ZIGRUNK_OK && a.count == 0 && a.length == 0);
     release(a);
     a = lookups(text_of(run1), text_of(run2), text_of("\xFF"));
@@ -180,6 +180,45 @@ static void check_bad_texts(void) {
     release(a);
 }
 
+/* Directories that no plan is made for: each is refused, once all texts are read. */
+static void check_odd_directories(void) {
+    static const char *const plain[] = {"/", "/w", "/.w", "/..w", "/w./x..", "/.../w", "/w x/\xC3\xA4"};
+    zigrunk_plan_call call = small_call();
+    zigrunk_text program = text_of("gcc"), list = text_of("/b");
+    for (size_t i = 0; i < ODD_DIRECTORIES; i++) {
+        call.tmp = text_of(odd_directories[i]);
+        refuses(&call, ZIGRUNK_ODD_DIRECTORY, odd_tmp);
+        call.cwd = text_of(odd_directories[i]);
+        refuses(&call, ZIGRUNK_ODD_DIRECTORY, odd_cwd);
+        call.tmp = text_of("/t");
+        refuses(&call, ZIGRUNK_ODD_DIRECTORY, odd_cwd);
+        answer answers[] = {lookups(call.dry1, call.dry2, call.cwd), lookups_within(call.dry1, call.dry2, call.cwd, 1),
+            candidates(program, list, call.cwd)};
+        for (size_t j = 0; j < 3; j++) {
+            CHECK(answers[j].status == ZIGRUNK_ODD_DIRECTORY && is_text(&answers[j], odd_cwd));
+            release(answers[j]);
+        }
+        call.cwd = text_of("/w");
+    }
+    for (size_t i = 0; i < sizeof plain / sizeof *plain; i++) {
+        call.cwd = text_of(plain[i]);
+        call.tmp = text_of(plain[i]);
+        answer a = plan(&call, ZIGRUNK_JSON), asked = lookups(call.dry1, call.dry2, call.cwd), paths = candidates(program, list, call.cwd);
+        CHECK(a.status == ZIGRUNK_OK && asked.status == ZIGRUNK_OK && paths.status == ZIGRUNK_OK);
+        release(a);
+        release(asked);
+        release(paths);
+    }
+    /* behind a text that isn't UTF-8, and before the suffixes */
+    zigrunk_text suffix = text_of("y");
+    call.cwd = text_of("w");
+    call.suffixes = &suffix;
+    call.suffixes_count = 1;
+    refuses(&call, ZIGRUNK_ODD_DIRECTORY, odd_cwd);
+    suffix = text_of("\xFF");
+    refuses(&call, ZIGRUNK_NOT_UTF8, "a text is not UTF-8");
+}
+
 static void check_faults(void) {
     zigrunk_plan_call call = small_call();
     call.programs_count = 1;
@@ -257,6 +296,7 @@ int main(int count, char **arguments) {
     check_forms();
     check_bad_numbers();
     check_bad_texts();
+    check_odd_directories();
     check_faults();
     check_long_calls();
     for (int i = 2; i < count; i++) {

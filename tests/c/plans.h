@@ -73,6 +73,13 @@ static inline zigrunk_text text_at(const answer *a, size_t index) {
     return text;
 }
 
+/* Paths that are no directory of a plan. */
+static const char *const odd_directories[] = {"", ".", "..", "w", "./w", "../w", "w/", "//", "//w", "/w/", "/w//", "/w//x", "/.", "/./w",
+    "/w/.", "/w/./x", "/..", "/../w", "/w/..", "/w/../x", " /w"};
+enum { ODD_DIRECTORIES = sizeof odd_directories / sizeof *odd_directories };
+static const char odd_cwd[] = "the working directory has to be absolute, without an empty part, . or ..";
+static const char odd_tmp[] = "the directory for temporary files has to be absolute, without an empty part, . or ..";
+
 /* A call without tables, from /w with /t. */
 static inline zigrunk_plan_call call_of(zigrunk_text dry1, zigrunk_text dry2, const char *flag) {
     static const zigrunk_variable no_variables[1];

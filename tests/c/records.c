@@ -190,6 +190,14 @@ static void check_refusals(void) {
     call = small_call();
     rows[2].found = bad;
     refuses(&call, ZIGRUNK_NOT_UTF8);
+    for (size_t i = 0; i < ODD_DIRECTORIES; i++) {
+        call = small_call();
+        call.tmp = text_of(odd_directories[i]);
+        refuses(&call, ZIGRUNK_ODD_DIRECTORY);
+        call = small_call();
+        call.cwd = text_of(odd_directories[i]);
+        refuses(&call, ZIGRUNK_ODD_DIRECTORY);
+    }
     call = small_call();
     call.programs_count = 1;
     refuses(&call, ZIGRUNK_NOT_FOUND);

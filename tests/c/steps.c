@@ -200,6 +200,22 @@ static void check_bad_fields(void) {
     refuses(&call, ZIGRUNK_BAD_NUMBER, ZIGRUNK_FIELD_HOST_COMPILER, 0, bad_number);
 }
 
+/* The working directory is looked at first, and both before the dry runs. */
+static void check_odd_directories(void) {
+    for (size_t i = 0; i < ODD_DIRECTORIES; i++) {
+        zigrunk_plan_call call = small_call();
+        call.tmp = text_of(odd_directories[i]);
+        refuses(&call, ZIGRUNK_ODD_DIRECTORY, ZIGRUNK_FIELD_TMP, 0, odd_tmp);
+        call.dry1 = text_of("");
+        refuses(&call, ZIGRUNK_ODD_DIRECTORY, ZIGRUNK_FIELD_TMP, 0, odd_tmp);
+        call.cwd = text_of(odd_directories[i]);
+        refuses(&call, ZIGRUNK_ODD_DIRECTORY, ZIGRUNK_FIELD_CWD, 0, odd_cwd);
+    }
+    zigrunk_plan_call call = small_call();
+    call.cwd = call.tmp = text_of("/");
+    check_against_json(&call);
+}
+
 static void check_bad_runs(void) {
     zigrunk_plan_call call = small_call();
     zigrunk_text suffixes[] = {text_of(".x"), text_of("y")};
@@ -313,6 +329,7 @@ int main(int count, char **arguments) {
     size_t rounds = count > 1 ? (size_t)atoi(arguments[1]) : 1000;
     check_small_plan();
     check_bad_fields();
+    check_odd_directories();
     check_bad_runs();
     check_no_dry_runs();
     check_long_plan();

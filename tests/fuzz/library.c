@@ -24,7 +24,7 @@
 #define LARGEST ((size_t)300 << 20)
 
 static struct {
-    unsigned long inputs, calls, too_large, injected, slow, large, statuses[ZIGRUNK_NO_DRY_RUN + 1];
+    unsigned long inputs, calls, too_large, injected, slow, large, statuses[ZIGRUNK_ODD_DIRECTORY + 1];
     double longest, longest_large;
     size_t most_memory, most_large;
 } told;
@@ -147,7 +147,7 @@ static void begin(unsigned long failing) {
 static double end(int32_t status) {
     double took = now() - started;
     holds(in_use == 0, "all memory is free after a call");
-    holds(status >= 0 && status <= ZIGRUNK_NO_DRY_RUN, "a known status");
+    holds(status >= 0 && status <= ZIGRUNK_ODD_DIRECTORY, "a known status");
     told.calls++;
     told.statuses[status]++;
     told.longest = took > told.longest ? took : told.longest;
@@ -1040,7 +1040,7 @@ static void tell(void) {
     fprintf(file, "longest call %.3f s\nmost memory %zu bytes\n", told.longest, told.most_memory);
     fprintf(file, "inputs of a megabyte %lu\nlongest call within zigrunk's limit %.3f s\nmost memory there %zu bytes\n", told.large,
         told.longest_large, told.most_large);
-    for (int i = 0; i <= ZIGRUNK_NO_DRY_RUN; i++) {
+    for (int i = 0; i <= ZIGRUNK_ODD_DIRECTORY; i++) {
         fprintf(file, "status %d: %lu\n", i, told.statuses[i]);
     }
     fclose(file);

@@ -43,6 +43,7 @@ class Status(enum.IntEnum):
     TO_NVCC = 10
     OVER_LIMIT = 11
     NO_DRY_RUN = 12
+    ODD_DIRECTORY = 13
 
 
 class Form(enum.IntEnum):
@@ -192,9 +193,9 @@ class PlanCall:
     dry2: bytes
     """The call with `--keep-dir TMP --dryrun --keep`."""
     cwd: str
-    """The working directory, an absolute path."""
+    """The working directory: an absolute path without an empty part, "." or ".."."""
     tmp: str
-    """TMP, the temporary directory, an absolute path."""
+    """TMP, the temporary directory: such a path too."""
     flag: str = "-c"
     """The option that says what nvcc makes, empty if it links."""
     keep_dir: Optional[str] = None

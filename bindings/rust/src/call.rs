@@ -46,9 +46,9 @@ pub struct PlanCall<'a> {
     pub dry1: &'a [u8],
     /// What it prints with `--keep-dir TMP --dryrun --keep`.
     pub dry2: &'a [u8],
-    /// The working directory, an absolute path.
+    /// The working directory: an absolute path without an empty part, `.` or `..`.
     pub cwd: &'a str,
-    /// TMP, the temporary directory, an absolute path.
+    /// TMP, the temporary directory: such a path too.
     pub tmp: &'a str,
     /// The option that says what nvcc makes, as `-c`, or empty if it links.
     pub flag: &'a str,
@@ -112,8 +112,9 @@ fn row(program: &FoundProgram) -> sys::FoundProgram<'_> {
 ///
 /// # Errors
 ///
-/// [`ErrorKind::NotUtf8`](crate::ErrorKind) for a variable. `BadSuffixes`, `BadDryRun`, `NotFound` and `OverLimit` for the first bad
-/// line of the first run or of the second, `Unwritable` if the form can't represent the plan, `OutOfMemory`.
+/// [`ErrorKind::NotUtf8`](crate::ErrorKind) for a variable. `OddDirectory` for a directory that isn't absolute and plain. `BadSuffixes`,
+/// `BadDryRun`, `NotFound` and `OverLimit` for the first bad line of the first run or of the second, `Unwritable` if the form can't
+/// represent the plan, `OutOfMemory`.
 ///
 /// ```
 /// # let run = b"#$ PATH=/b\n#$ gcc -D__NVCC__ -E k.cu -o k.cpp1.ii\n";

@@ -33,6 +33,8 @@ pub enum ErrorKind {
     /// The texts aren't the two dry runs of a call: one has no line that begins with `#$ `, both are the same, the flag is none of
     /// nvcc's that says what it makes, or the plan has no command.
     NoDryRun,
+    /// A directory of a plan isn't absolute and plain: a part of its path is empty, `.` or `..`. The message says which.
+    OddDirectory,
     /// The answer didn't fit into buffers of the sizes that the call itself had asked for, several times. The library can't cause
     /// that: something changes the memory that the call reads, such as a file that is mapped into memory.
     Unsettled,
@@ -41,7 +43,7 @@ pub enum ErrorKind {
 }
 
 /// The kinds with the numbers of their statuses.
-const KINDS: [(i32, ErrorKind); 13] = [
+const KINDS: [(i32, ErrorKind); 14] = [
     (-1, ErrorKind::Unsettled),
     (1, ErrorKind::OutOfMemory),
     (2, ErrorKind::NotUtf8),
@@ -55,6 +57,7 @@ const KINDS: [(i32, ErrorKind); 13] = [
     (10, ErrorKind::ToNvcc),
     (11, ErrorKind::OverLimit),
     (12, ErrorKind::NoDryRun),
+    (13, ErrorKind::OddDirectory),
 ];
 
 /// A field of [`PlanCall`](crate::PlanCall).
@@ -192,7 +195,7 @@ mod tests {
             let error = if status < 0 { Error::unsettled() } else { Error::new(status, String::new()) };
             assert_eq!((error.kind(), error.status()), (kind, status));
         }
-        for status in [-1, 13, i32::MAX] {
+        for status in [-1, 14, i32::MAX] {
             let error = Error::new(status, "new".to_string());
             assert_eq!((error.kind(), error.status(), error.message()), (ErrorKind::Other(status), status, "new"));
         }

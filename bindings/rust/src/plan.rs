@@ -140,16 +140,16 @@ pub struct Plan {
 ///
 /// # Errors
 ///
-/// [`ErrorKind::NotUtf8`](crate::ErrorKind) for a variable. `NoDryRun` for texts that aren't the dry runs of a call, a flag that is none
-/// of nvcc's, and a plan without a command. `BadSuffixes`, `BadDryRun`, `NotFound` and `OverLimit` for the first bad line of the first
-/// run or of the second, `OutOfMemory`. [`Error::place`] says where.
+/// [`ErrorKind::NotUtf8`](crate::ErrorKind) for a variable. `OddDirectory` for a directory that isn't absolute and plain. `NoDryRun` for
+/// texts that aren't the dry runs of a call, a flag that is none of nvcc's, and a plan without a command. `BadSuffixes`, `BadDryRun`,
+/// `NotFound` and `OverLimit` for the first bad line of the first run or of the second, `OutOfMemory`. [`Error::place`] says where.
 pub fn plan(call: &PlanCall<'_>) -> Result<Plan, Error> {
     // SAFETY: the record and all that it points to live through the call.
     call.with_record(|record| buffers::settled(estimate(call), |sizes| unsafe { try_plan(record, sizes) })?)
 }
 
-/// The sizes of the buffers for a first call. The texts of real plans took at most 1.4 bytes for each byte of their dry runs,
-/// and the environment once for each command.
+/// The sizes of the buffers for a first call. The texts of real plans took at most 1.4 bytes for each byte of their dry runs, and the
+/// environment once for each host compiler that compiles, and once for all other commands.
 fn estimate(call: &PlanCall<'_>) -> sys::StepsAnswer {
     let length = call.dry_length();
     let commands = length / 256 + 16;
@@ -159,8 +159,8 @@ fn estimate(call: &PlanCall<'_>) -> sys::StepsAnswer {
         commands,
         steps: commands,
         numbers: commands * 8,
-        ranges: length / 12 + (2 * call.variables.len() + 4) * commands + 64,
-        length: length * 3 / 2 + commands * variables + 256,
+        ranges: length / 12 + 4 * commands + 6 * call.variables.len() + 64,
+        length: length * 3 / 2 + 3 * variables + 256,
         ..sys::StepsAnswer::default()
     }
 }

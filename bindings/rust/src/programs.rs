@@ -28,7 +28,7 @@ pub struct FoundProgram {
 ///
 /// # Errors
 ///
-/// [`ErrorKind::OutOfMemory`](crate::ErrorKind). A line that can't be read is an error of [`plan_text`](crate::plan_text), not of this call.
+/// [`ErrorKind::OddDirectory`](crate::ErrorKind), `OutOfMemory`. A line that can't be read is an error of [`plan_text`](crate::plan_text), not of this call.
 pub fn lookups(dry1: &[u8], dry2: &[u8], cwd: &str) -> Result<Vec<Lookup>, Error> {
     lookups_within(dry1, dry2, cwd, None)
 }
@@ -38,7 +38,7 @@ pub fn lookups(dry1: &[u8], dry2: &[u8], cwd: &str) -> Result<Vec<Lookup>, Error
 ///
 /// # Errors
 ///
-/// [`ErrorKind::OverLimit`](crate::ErrorKind) if a line exceeds the limit, [`ErrorKind::OutOfMemory`](crate::ErrorKind).
+/// [`ErrorKind::OverLimit`](crate::ErrorKind) if a line exceeds the limit, `OddDirectory`, `OutOfMemory`.
 pub fn lookups_within(dry1: &[u8], dry2: &[u8], cwd: &str, limit: Option<NonZeroUsize>) -> Result<Vec<Lookup>, Error> {
     let limit = sys::limit(limit);
     // SAFETY: the texts are slices, and the two buffers are exclusive.
@@ -69,7 +69,7 @@ pub fn lookups_within(dry1: &[u8], dry2: &[u8], cwd: &str, limit: Option<NonZero
 ///
 /// # Errors
 ///
-/// [`ErrorKind::OutOfMemory`](crate::ErrorKind).
+/// [`ErrorKind::OddDirectory`](crate::ErrorKind), `OutOfMemory`.
 pub fn candidates(lookup: &Lookup, cwd: &str) -> Result<Texts, Error> {
     let Lookup { program, path } = lookup;
     // SAFETY: the texts are slices, and the two buffers are exclusive.
@@ -85,7 +85,7 @@ pub fn candidates(lookup: &Lookup, cwd: &str) -> Result<Texts, Error> {
 ///
 /// # Errors
 ///
-/// [`ErrorKind::OutOfMemory`](crate::ErrorKind).
+/// [`ErrorKind::OddDirectory`](crate::ErrorKind), `OutOfMemory`.
 pub fn find_program(lookup: &Lookup, cwd: &str) -> Result<Option<String>, Error> {
     Ok(candidates(lookup, cwd)?.iter().find(|path| is_program(path)).map(String::from))
 }
@@ -96,7 +96,7 @@ pub fn find_program(lookup: &Lookup, cwd: &str) -> Result<Option<String>, Error>
 ///
 /// # Errors
 ///
-/// [`ErrorKind::OutOfMemory`](crate::ErrorKind).
+/// [`ErrorKind::OddDirectory`](crate::ErrorKind), `OutOfMemory`.
 pub fn find_programs(dry1: &[u8], dry2: &[u8], cwd: &str) -> Result<Vec<FoundProgram>, Error> {
     find_programs_within(dry1, dry2, cwd, None)
 }
@@ -105,7 +105,7 @@ pub fn find_programs(dry1: &[u8], dry2: &[u8], cwd: &str) -> Result<Vec<FoundPro
 ///
 /// # Errors
 ///
-/// [`ErrorKind::OverLimit`](crate::ErrorKind) if a line exceeds the limit, [`ErrorKind::OutOfMemory`](crate::ErrorKind).
+/// [`ErrorKind::OverLimit`](crate::ErrorKind) if a line exceeds the limit, `OddDirectory`, `OutOfMemory`.
 pub fn find_programs_within(
     dry1: &[u8],
     dry2: &[u8],

@@ -255,6 +255,23 @@ fn what_is_no_dry_run() {
 }
 
 #[test]
+fn odd_directories() {
+    let programs = first_candidates(RUN, RUN2);
+    let good = PlanCall { dry2: RUN2, ..call(RUN, &programs) };
+    let refused = |call: PlanCall<'_>| (said(plan(&call)), place(plan(&call)));
+    let kind = |which| (ErrorKind::OddDirectory, format!("the {which} has to be absolute, without an empty part, . or .."));
+    for odd in ["", "w", "./w", "../w", "//", "//w", "/w/", "/w//x", "/w/.", "/w/./x", "/w/..", "/w/../x"] {
+        assert_eq!(refused(PlanCall { cwd: odd, ..good }), (kind("working directory"), Some((Field::Cwd, None))), "{odd}");
+        let tmp = (kind("directory for temporary files"), Some((Field::Tmp, None)));
+        assert_eq!(refused(PlanCall { tmp: odd, ..good }), tmp, "{odd}");
+        assert_eq!(said(plan_text(&PlanCall { cwd: odd, ..good }, Form::Json)), kind("working directory"), "{odd}");
+        assert_eq!(said(lookups(RUN, RUN2, odd)), kind("working directory"), "{odd}");
+    }
+    assert!(plan(&PlanCall { cwd: "/", tmp: "/.t/..u", ..good }).is_ok());
+    assert_eq!(plan(&PlanCall { cwd: "", ..good }).unwrap_err().status(), 13);
+}
+
+#[test]
 fn settings() {
     let programs = first_candidates(RUN, RUN);
     let given = [Variable::new("PATH", "/old"), Variable::new("A", "1")];

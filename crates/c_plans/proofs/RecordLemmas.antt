@@ -6,11 +6,11 @@ use Rattle.plans.specs.declared.origins.PlanWithOrigins.{PlanWithOrigins}
 use Rattle.plans.specs.declared.plan.Dropped.{Dropped}
 use Rattle.plans.specs.declared.plan.NvccGeneratedSubcommand.{NvccGeneratedSubcommand}
 use Rattle.command_files.specs.Numbered.{of_group, of_groups}
-use Rattle.c_texts.proofs.TextLemmas.{texts-then, count-then}
+use Rattle.c_texts.proofs.TextLemmas.{ranges-length, texts-then, count-then}
 use Rattle.c_plans.specs.declared.record.CommandRecord.{CommandRecord}
 use Rattle.c_plans.specs.declared.record.GroupRecord.{GroupRecord}
 use Rattle.c_texts.specs.Outcomes.{Outcome, of_texts, with_texts}
-use Rattle.c_plans.specs.Records.{Entry, Recorded, command_entry, dropped_entry, variable_texts, texts_of, record_at, records_at, group_record, groups_at, records_of, with_entry, with_entries, with_groups, without_records}
+use Rattle.c_plans.specs.Records.{Entry, Recorded, Shared, Variables, command_entry, dropped_entry, own_texts, shared_first, shared_of, variable_texts, variables_at, texts_of, record_at, records_at, group_record, groups_at, records_of, with_entry, with_entries, with_groups, without_records}
 
 -- ---- records
 
@@ -83,11 +83,11 @@ group-length described number group (c ∷ commands) = ap suc (group-length desc
 
 -- the texts of a command, added one after the other
 pub command-texts : (t0 t1 t2 t3 t4 : Outcome) (e : Entry) →
-    t1 ≡ with_texts t0 (e.program ∷ []) → t2 ≡ with_texts t1 (e.cwd ∷ []) → t3 ≡ with_texts t2 e.arguments → t4 ≡ with_texts t3 (variable_texts e.variables) →
+    t1 ≡ with_texts t0 (e.program ∷ []) → t2 ≡ with_texts t1 (e.cwd ∷ []) → t3 ≡ with_texts t2 e.arguments → t4 ≡ with_texts t3 (own_texts e.shared e.variables) →
     t4 ≡ with_texts t0 (texts_of e)
 command-texts t0 t1 t2 t3 t4 e first second third fourth =
     let words = e.arguments in
-    let pairs = variable_texts e.variables in
+    let pairs = own_texts e.shared e.variables in
     let both : t2 ≡ with_texts t0 (e.program ∷ e.cwd ∷ []) = second ∙ ap (λ t. with_texts t (e.cwd ∷ [])) first ∙ texts-then t0 (e.program ∷ []) (e.cwd ∷ []) in
     let three : t3 ≡ with_texts t0 (e.program ∷ e.cwd ∷ words) = third ∙ ap (λ t. with_texts t words) both ∙ texts-then t0 (e.program ∷ e.cwd ∷ []) words in
     fourth ∙ ap (λ t. with_texts t pairs) three ∙ texts-then t0 (e.program ∷ e.cwd ∷ words) pairs
@@ -97,7 +97,7 @@ pub command-record : (t0 t1 t2 t3 : Outcome) (e : Entry) →
     t1 ≡ with_texts t0 (e.program ∷ []) → t2 ≡ with_texts t1 (e.cwd ∷ []) → t3 ≡ with_texts t2 e.arguments →
     record {
       arguments = record { offset = length t2.1.0; length = length e.arguments };
-      variables = record { offset = length t3.1.0; length = length (variable_texts e.variables) };
+      variables = variables_at (length t3.1.0) e.shared e.variables;
       program = length t0.1.0;
       cwd = length t1.1.0;
       group = e.group;
@@ -114,7 +114,7 @@ command-record t0 t1 t2 t3 e first second third =
     let behind : length t3.1.0 ≡ n + 2 + length e.arguments = ap (λ (t : Outcome). length t.1.0) third ∙ count-then t2 e.arguments ∙ ap (λ k. k + length e.arguments) two in
     λ i. record {
       arguments = record { offset = two i; length = length e.arguments };
-      variables = record { offset = behind i; length = length (variable_texts e.variables) };
+      variables = variables_at (behind i) e.shared e.variables;
       program = n;
       cwd = one i;
       group = e.group;
@@ -124,13 +124,17 @@ command-record t0 t1 t2 t3 e first second third =
       cacheable = e.cacheable;
     }
 
--- groups and their commands, and then further commands, where nothing is before them
-pub from-nothing : (groups : List GroupRecord) (xs ys : List Entry) →
-    with_entries (with_groups (without_records (of_texts [])) groups xs) ys ≡ (of_texts (flat_map texts_of (xs ++ ys)), (groups, records_at 0 (xs ++ ys)))
-from-nothing groups xs ys =
-    let nothing : Recorded = without_records (of_texts []) in
-    let both : with_entries (with_entries nothing xs) ys ≡ with_entries nothing (xs ++ ys) = entries-then nothing xs ys in
-    λ i. ((both i).0, (groups, (both i).1.1))
+-- groups and their commands, and then further commands, where only texts are before them
+pub from-texts : (before : List (List ℕ)) (groups : List GroupRecord) (xs ys : List Entry) →
+    with_entries (with_groups (without_records (of_texts before)) groups xs) ys ≡
+    (of_texts (before ++ flat_map texts_of (xs ++ ys)), (groups, records_at (length before) (xs ++ ys)))
+from-texts before groups xs ys =
+    let start : Recorded = without_records (of_texts before) in
+    let both : with_entries (with_entries start xs) ys ≡ with_entries start (xs ++ ys) = entries-then start xs ys in
+    let texts : with_texts (of_texts before) (flat_map texts_of (xs ++ ys)) ≡ of_texts (before ++ flat_map texts_of (xs ++ ys)) =
+    texts-then (of_texts []) before (flat_map texts_of (xs ++ ys)) in
+    let counted : length (of_texts before).1.0 ≡ length before = ranges-length 0 before in
+    (λ i. ((both i).0, (groups, (both i).1.1))) ∙ (λ i. (texts i, (groups, records_at (counted i) (xs ++ ys))))
 
 -- a group and its commands, and then further groups, whose numbers begin behind it
 pub groups-step : (described : ℕ → ℕ → NvccGeneratedSubcommand → Entry) (last group : ℕ) (before after : Recorded) (commands : List NvccGeneratedSubcommand)
@@ -150,22 +154,28 @@ groups-step described last group before after commands left pushed =
     ∙ groups-then before here (groups_at last (group + 1) next left) entries (of_groups described next (group + 1) left)
 
 -- the records of a plan, by its parts
-abbrev made : List Origin → List (List NvccGeneratedSubcommand) → ℕ → List Dropped → Recorded
-made origins groups count dropped =
-    let entries = of_groups (command_entry origins) 0 0 groups ++ map (dropped_entry count) dropped in
-    (of_texts (flat_map texts_of entries), (groups_at (count - 1) 0 0 groups, records_at 0 entries))
+abbrev made : List Origin → Variables → List (List NvccGeneratedSubcommand) → ℕ → List Dropped → Recorded
+made origins shared groups count dropped =
+    let texts = variable_texts shared in
+    let entries = of_groups (command_entry origins (shared_first shared)) 0 0 groups ++ map (dropped_entry count) dropped in
+    (of_texts (texts ++ flat_map texts_of entries), (groups_at (count - 1) 0 0 groups, records_at (length texts) entries))
 
-pub records-are : (planned : PlanWithOrigins) (start middle end : Recorded) (origins : List Origin) (groups : List (List NvccGeneratedSubcommand)) (count : ℕ)
-    (dropped : List Dropped) →
-    start ≡ without_records (of_texts []) →
-    middle ≡ with_groups start (groups_at (count - 1) 0 (length start.1.1) groups) (of_groups (command_entry origins) (length start.1.1) 0 groups) →
+pub records-are : (planned : PlanWithOrigins) (start middle end : Recorded) (origins : List Origin) (variables : Variables) (shared : Shared)
+    (groups : List (List NvccGeneratedSubcommand)) (count : ℕ) (dropped : List Dropped) →
+    start ≡ without_records (of_texts (variable_texts variables)) →
+    shared ≡ shared_first variables →
+    middle ≡ with_groups start (groups_at (count - 1) 0 (length start.1.1) groups) (of_groups (command_entry origins shared) (length start.1.1) 0 groups) →
     end ≡ with_entries middle (map (dropped_entry count) dropped) →
-    origins ≡ planned.origins → groups ≡ planned.plan.groups → count ≡ length planned.plan.groups → dropped ≡ planned.plan.dropped →
+    origins ≡ planned.origins → variables ≡ shared_of planned.plan.groups → groups ≡ planned.plan.groups → count ≡ length planned.plan.groups →
+    dropped ≡ planned.plan.dropped →
     end ≡ records_of planned
-records-are planned start middle end origins groups count dropped first second third lines lists counted lost =
+records-are planned start middle end origins variables shared groups count dropped first seen second third lines same lists counted lost =
     let others : List Entry = map (dropped_entry count) dropped in
+    let records : List GroupRecord = groups_at (count - 1) 0 0 groups in
+    let texts = variable_texts variables in
     third
     ∙ ap (λ r. with_entries r others) second
-    ∙ ap (λ (r : Recorded). with_entries (with_groups r (groups_at (count - 1) 0 (length r.1.1) groups) (of_groups (command_entry origins) (length r.1.1) 0 groups)) others) first
-    ∙ from-nothing (groups_at (count - 1) 0 0 groups) (of_groups (command_entry origins) 0 0 groups) others
-    ∙ (λ i. made (lines i) (lists i) (counted i) (lost i))
+    ∙ ap (λ (r : Recorded). with_entries (with_groups r (groups_at (count - 1) 0 (length r.1.1) groups) (of_groups (command_entry origins shared) (length r.1.1) 0 groups)) others) first
+    ∙ ap (λ s. with_entries (with_groups (without_records (of_texts texts)) records (of_groups (command_entry origins s) 0 0 groups)) others) seen
+    ∙ from-texts texts records (of_groups (command_entry origins (shared_first variables)) 0 0 groups) others
+    ∙ (λ i. made (lines i) (same i) (lists i) (counted i) (lost i))

@@ -1,9 +1,12 @@
 -- A plan is read back from its records.
-use Rattle.std.proofs.Common.{◌≡◌, ◌++◌, ◌+◌, ◌-◌, ◌∷◌, [], ℕ, zero, suc, List, false, ◌==◌, not, map, length, take, drop, get_or, cond, refl, sym, ap, subst, ◌∙◌, arith, length-append, append_assoc, add-one}
-use Rattle.std.specs.Prelude.{filter}
+use Rattle.std.proofs.Common.{◌≡◌, ◌⊎◌, inl, inr, ◌++◌, ◌+◌, ◌-◌, ◌&&◌, ◌∷◌, [], ℕ, zero, suc, List, true, false, Option, Some, None, ◌==◌, nat_le, not, map, length, take, drop, get_or, cond, refl, sym, ap, subst, ◌∙◌, arith, length-append, append_assoc, add-one}
+use Rattle.std.specs.Prelude.{filter, if◌then◌else◌, ⊤}
 use Rattle.std.specs.List.{flat_map}
 use Rattle.std.proofs.Math.Seq.{drop-append_seam, drop-append-add, take-append_seam, get_or-append_seam}
+use Rattle.std.proofs.lemmas.Bool.{false≢true, and_parts, le-leb, lt-leb}
 use Rattle.std.proofs.lemmas.List.{get_or-append-add, append-nil}
+use Rattle.std.proofs.lemmas.Slice.Eq.{bytes_eq-Decides}
+use Rattle.std.specs.Str.{bytes_eq}
 use Rattle.compilers.specs.declared.command.Cacheable.{Cacheable}
 use Rattle.compilers.specs.declared.command.Cacheable.TheVariants.{Yes, No}
 use Rattle.plans.specs.declared.origins.Origin.{Origin}
@@ -14,7 +17,8 @@ use Rattle.plans.specs.declared.plan.Reason.{Reason}
 use Rattle.plans.specs.declared.plan.Reason.TheVariants.{NotCuda, NoCiccGroup, NoPtxasGroup, Superseded}
 use Rattle.plan_json.specs.Json.{origin_at}
 use Rattle.command_files.specs.Numbered.{of_group, of_groups}
-use Rattle.c_plans.specs.Records.{Entry, reason_number, cacheable_number, command_entry, dropped_entry, entries_of, variable_texts, texts_of, record_at, records_at, groups_at, records_of}
+use Rattle.c_texts.specs.declared.memory.Range.{Range}
+use Rattle.c_plans.specs.Records.{Entry, Shared, Variables, are_same, own_texts, shared_by, shared_first, shared_of, variables_at, reason_number, cacheable_number, command_entry, dropped_entry, entries_of, variable_texts, texts_of, record_at, records_at, groups_at, records_of}
 use Rattle.c_plans.specs.RecordsRead.{part, pairs_of, entry_in, cacheable_of, reason_of, command_of, dropped_of, origin_of, plan_of, plan_in, HasOrigins}
 use Rattle.c_texts.proofs.RangeLemmas.{cut_behind}
 use Rattle.c_plans.proofs.RecordLemmas.{group-length}
@@ -29,51 +33,169 @@ pairs-are (p ∷ variables) = ap (λ t. p ∷ t) (pairs-are variables)
 pub part-behind : {X : Type 0} (before here behind : List X) → take (length here) (drop (length before) (before ++ (here ++ behind))) ≡ here
 part-behind before here behind = ap (take (length here)) (drop-append_seam before (here ++ behind)) ∙ take-append_seam here behind
 
-read-one : (before rest : List (List ℕ)) (e : Entry) → entry_in (before ++ (texts_of e ++ rest)) (record_at (length before) e) ≡ e
-read-one before rest e =
+-- variables that are the same are equal
+same-are : (xs ys : Variables) → are_same xs ys ≡ true → xs ≡ ys
+same-are [] [] same = refl
+same-are [] (y ∷ ys) same = absurd (false≢true same)
+same-are (x ∷ xs) [] same = absurd (false≢true same)
+same-are (x ∷ xs) (y ∷ ys) same =
+    let both = and_parts (bytes_eq x.0 y.0 && bytes_eq x.1 y.1) (are_same xs ys) same in
+    let pair = and_parts (bytes_eq x.0 y.0) (bytes_eq x.1 y.1) both.0 in
+    λ i. ((bytes_eq-Decides x.0 y.0).0 pair.0 i, (bytes_eq-Decides x.1 y.1).0 pair.1 i) ∷ same-are xs ys both.1 i
+
+-- whether a command shares these variables, or shares none
+abbrev pub IsSharing : Variables → Entry → Type 0
+IsSharing variables e = (e.shared ≡ None) ⊎ ((e.shared ≡ Some (shared_first variables).texts) × (variables ≡ e.variables))
+
+abbrev pub AreSharing : Variables → List Entry → Type 0
+AreSharing variables [] = ⊤
+AreSharing variables (e ∷ entries) = IsSharing variables e × AreSharing variables entries
+
+-- what is read of a command's variables: their texts, and whether it shares them
+abbrev variables_read : List (List ℕ) → ℕ → ℕ → Entry → Variables × Option Range
+variables_read all first words e =
+    let range = variables_at (first + 2 + words) e.shared e.variables in
+    (pairs_of (part all range), if nat_le range.offset first then Some range else None)
+
+-- the same command with other shared texts
+abbrev with_shared : Entry → Option Range → Entry
+with_shared e shared = record e { shared = shared }
+
+-- a command with texts of its own for them
+own-read : (before rest : List (List ℕ)) (e : Entry) → e.shared ≡ None →
+    variables_read (before ++ (texts_of e ++ rest)) (length before) (length e.arguments) e ≡ (e.variables, e.shared)
+own-read before rest e none =
     let words = e.arguments in
     let pairs = variable_texts e.variables in
-    let behind : List (List ℕ) = (words ++ pairs) ++ rest in
+    let n = length before in
+    let all : List (List ℕ) = before ++ (e.program ∷ e.cwd ∷ ((words ++ pairs) ++ rest)) in
+    let further : n + 2 + length words ≡ n + suc (suc (length words)) = omega arith in
+    let there : drop (n + 2 + length words) all ≡ pairs ++ rest =
+    ap (λ m. drop m all) further
+    ∙ drop-append-add before (e.program ∷ e.cwd ∷ ((words ++ pairs) ++ rest)) (suc (suc (length words)))
+    ∙ ap (drop (length words)) (append_assoc words pairs rest)
+    ∙ drop-append_seam words (pairs ++ rest) in
+    let variables : pairs_of (take (length pairs) (drop (n + 2 + length words) all)) ≡ e.variables =
+    ap (λ t. pairs_of (take (length pairs) t)) there ∙ ap pairs_of (take-append_seam pairs rest) ∙ pairs-are e.variables in
+    let behind : nat_le (n + 2 + length words) n ≡ false = lt-leb (n + 2 + length words) n (omega arith) in
+    let range : Range = record { offset = n + 2 + length words; length = length pairs } in
+    let read : (pairs_of (part all range), if nat_le range.offset n then Some range else None) ≡ (e.variables, None) =
+    λ i. (variables i, if behind i then Some range else None) in
+    subst
+    (λ o. variables_read (before ++ (texts_of (with_shared e o) ++ rest)) n (length words) (with_shared e o) ≡ (e.variables, o))
+    (sym none)
+    read
+
+-- a command that shares them
+shared-read : (variables : Variables) (before more rest : List (List ℕ)) (e : Entry) → before ≡ variable_texts variables ++ more →
+    e.shared ≡ Some (shared_first variables).texts → variables ≡ e.variables →
+    variables_read (before ++ (texts_of e ++ rest)) (length before) (length e.arguments) e ≡ (e.variables, e.shared)
+shared-read variables before more rest e begins shared same =
+    let pairs = variable_texts variables in
+    let range = (shared_first variables).texts in
+    let here = e.program ∷ e.cwd ∷ ((e.arguments ++ []) ++ rest) in
+    let whole : before ++ here ≡ pairs ++ (more ++ here) = ap (λ t. t ++ here) begins ∙ append_assoc pairs more here in
+    let read : pairs_of (take (length pairs) (before ++ here)) ≡ e.variables =
+    ap (λ t. pairs_of (take (length pairs) t)) whole ∙ ap pairs_of (take-append_seam pairs (more ++ here)) ∙ pairs-are variables ∙ same in
+    let first : nat_le 0 (length before) ≡ true = le-leb 0 (length before) (omega arith) in
+    let both : (pairs_of (part (before ++ here) range), if nat_le range.offset (length before) then Some range else None) ≡ (e.variables, Some range) =
+    λ i. (read i, if first i then Some range else None) in
+    subst
+    (λ o. variables_read (before ++ (texts_of (with_shared e o) ++ rest)) (length before) (length e.arguments) (with_shared e o) ≡ (e.variables, o))
+    (sym shared)
+    both
+
+any-read : (variables : Variables) (before more rest : List (List ℕ)) (e : Entry) → before ≡ variable_texts variables ++ more → IsSharing variables e →
+    variables_read (before ++ (texts_of e ++ rest)) (length before) (length e.arguments) e ≡ (e.variables, e.shared)
+any-read variables before more rest e begins (inl none) = own-read before rest e none
+any-read variables before more rest e begins (inr both) = shared-read variables before more rest e begins both.0 both.1
+
+read-one : (variables : Variables) (before more rest : List (List ℕ)) (e : Entry) → before ≡ variable_texts variables ++ more → IsSharing variables e →
+    entry_in (before ++ (texts_of e ++ rest)) (record_at (length before) e) ≡ e
+read-one variables before more rest e begins is =
+    let words = e.arguments in
+    let own = own_texts e.shared e.variables in
+    let behind : List (List ℕ) = (words ++ own) ++ rest in
     let all : List (List ℕ) = before ++ (e.program ∷ e.cwd ∷ behind) in
     let program : get_or all (length before) [] ≡ e.program = get_or-append_seam before e.program (e.cwd ∷ behind) [] in
     let cwd : get_or all (length before + 1) [] ≡ e.cwd = get_or-append-add before (e.program ∷ e.cwd ∷ behind) 1 [] in
-    let first : drop (length before + 2) all ≡ words ++ (pairs ++ rest) = drop-append-add before (e.program ∷ e.cwd ∷ behind) 2 ∙ append_assoc words pairs rest in
-    let arguments : take (length words) (drop (length before + 2) all) ≡ words = ap (take (length words)) first ∙ take-append_seam words (pairs ++ rest) in
-    let further : length before + 2 + length words ≡ length before + suc (suc (length words)) = omega arith in
-    let second : drop (length before + 2 + length words) all ≡ pairs ++ rest =
-    ap (λ n. drop n all) further
-    ∙ drop-append-add before (e.program ∷ e.cwd ∷ behind) (suc (suc (length words)))
-    ∙ ap (drop (length words)) (append_assoc words pairs rest)
-    ∙ drop-append_seam words (pairs ++ rest) in
-    let variables : pairs_of (take (length pairs) (drop (length before + 2 + length words) all)) ≡ e.variables =
-    ap (λ t. pairs_of (take (length pairs) t)) second ∙ ap pairs_of (take-append_seam pairs rest) ∙ pairs-are e.variables in
+    let first : drop (length before + 2) all ≡ words ++ (own ++ rest) = drop-append-add before (e.program ∷ e.cwd ∷ behind) 2 ∙ append_assoc words own rest in
+    let arguments : take (length words) (drop (length before + 2) all) ≡ words = ap (take (length words)) first ∙ take-append_seam words (own ++ rest) in
+    let last = any-read variables before more rest e begins is in
     λ i. record {
       program = program i;
       cwd = cwd i;
       arguments = arguments i;
-      variables = variables i;
+      variables = (last i).0;
       group = e.group;
       run = e.run;
       line = e.line;
       reason = e.reason;
       cacheable = e.cacheable;
+      shared = (last i).1;
     }
 
 -- commands by their texts, with others before and behind them
-pub entries-read : (before : List (List ℕ)) (entries : List Entry) (behind : List (List ℕ)) →
+pub entries-read : (variables : Variables) (before more : List (List ℕ)) (entries : List Entry) (behind : List (List ℕ)) →
+    before ≡ variable_texts variables ++ more → AreSharing variables entries →
     map (entry_in (before ++ (flat_map texts_of entries ++ behind))) (records_at (length before) entries) ≡ entries
-entries-read before [] behind = refl
-entries-read before (e ∷ entries) behind =
+entries-read variables before more [] behind begins are = refl
+entries-read variables before more (e ∷ entries) behind begins are =
     let here = texts_of e in
     let there = flat_map texts_of entries ++ behind in
     let next = length before + length here in
+    let begins-next : before ++ here ≡ variable_texts variables ++ (more ++ here) = ap (λ t. t ++ here) begins ∙ append_assoc (variable_texts variables) more here in
     let moved : map (entry_in ((before ++ here) ++ there)) (records_at next entries) ≡ entries =
-    subst (λ n. map (entry_in ((before ++ here) ++ there)) (records_at n entries) ≡ entries) (length-append before here) (entries-read (before ++ here) entries behind) in
+    subst (λ n. map (entry_in ((before ++ here) ++ there)) (records_at n entries) ≡ entries) (length-append before here)
+    (entries-read variables (before ++ here) (more ++ here) entries behind begins-next are.1) in
     let rest : map (entry_in (before ++ (here ++ there))) (records_at next entries) ≡ entries =
     subst (λ q. map (entry_in q) (records_at next entries) ≡ entries) (append_assoc before here there) moved in
     ap (λ q. map (entry_in (before ++ q)) (records_at (length before) (e ∷ entries))) (append_assoc here (flat_map texts_of entries) behind)
-    ∙ ap (λ t. t ∷ map (entry_in (before ++ (here ++ there))) (records_at next entries)) (read-one before there e)
+    ∙ ap (λ t. t ∷ map (entry_in (before ++ (here ++ there))) (records_at next entries)) (read-one variables before more there e begins are.0)
     ∙ ap (λ t. e ∷ t) rest
+
+-- ---- commands of a plan share those of the first
+
+sharing-append : (variables : Variables) (xs ys : List Entry) → AreSharing variables xs → AreSharing variables ys → AreSharing variables (xs ++ ys)
+sharing-append variables [] ys first second = second
+sharing-append variables (x ∷ xs) ys first second = (first.0, sharing-append variables xs ys first.1 second)
+
+shared-is : (variables own : Variables) →
+    (shared_by (shared_first variables) own ≡ None) ⊎ ((shared_by (shared_first variables) own ≡ Some (shared_first variables).texts) × (variables ≡ own))
+shared-is variables own =
+    let texts = (shared_first variables).texts in
+    elim (are_same own variables) as (λ b. are_same own variables ≡ b → ((if b then Some texts else None) ≡ None) ⊎ (((if b then Some texts else None) ≡ Some texts) × (variables ≡ own))) [
+      | true ↦ λ same. inr (refl, sym (same-are own variables same))
+      | false ↦ λ _. inl refl
+    ] refl
+
+module _ (origins : List Origin) (variables : Variables) where
+  group-sharing : (id group : ℕ) (commands : List NvccGeneratedSubcommand) → AreSharing variables (of_group (command_entry origins (shared_first variables)) id group commands)
+  group-sharing id group [] = tt
+  group-sharing id group (c ∷ commands) = (shared-is variables c.env_vars, group-sharing (id + 1) group commands)
+
+  groups-sharing : (id group : ℕ) (groups : List (List NvccGeneratedSubcommand)) → AreSharing variables (of_groups (command_entry origins (shared_first variables)) id group groups)
+  groups-sharing id group [] = tt
+  groups-sharing id group (commands ∷ groups) =
+      sharing-append variables (of_group (command_entry origins (shared_first variables)) id group commands)
+      (of_groups (command_entry origins (shared_first variables)) (id + length commands) (group + 1) groups)
+      (group-sharing id group commands) (groups-sharing (id + length commands) (group + 1) groups)
+
+dropped-sharing : (variables : Variables) (groups : ℕ) (dropped : List Dropped) → AreSharing variables (map (dropped_entry groups) dropped)
+dropped-sharing variables groups [] = tt
+dropped-sharing variables groups (d ∷ dropped) = (inl refl, dropped-sharing variables groups dropped)
+
+-- all commands of a plan are read from the texts of its records, with others behind these
+pub all-read : (planned : PlanWithOrigins) (behind : List (List ℕ)) →
+    let shared = variable_texts (shared_of planned.plan.groups) in
+    map (entry_in (shared ++ (flat_map texts_of (entries_of planned) ++ behind))) (records_at (length shared) (entries_of planned)) ≡ entries_of planned
+all-read planned behind =
+    let groups = planned.plan.groups in
+    let variables = shared_of groups in
+    let grouped : List Entry = of_groups (command_entry planned.origins (shared_first variables)) 0 0 groups in
+    let others : List Entry = map (dropped_entry (length groups)) planned.plan.dropped in
+    entries-read variables (variable_texts variables) [] (entries_of planned) behind (sym (append-nil (variable_texts variables)))
+    (sharing-append variables grouped others (groups-sharing planned.origins variables 0 0 groups) (dropped-sharing variables (length groups) planned.plan.dropped))
 
 -- ---- groups
 
@@ -81,21 +203,21 @@ cacheable-is : (c : Cacheable) → cacheable_of (cacheable_number c) ≡ c
 cacheable-is Yes = refl
 cacheable-is No = refl
 
-module _ (origins : List Origin) where
-  commands-are : (id group : ℕ) (commands : List NvccGeneratedSubcommand) → map command_of (of_group (command_entry origins) id group commands) ≡ commands
+module _ (origins : List Origin) (shared : Shared) where
+  commands-are : (id group : ℕ) (commands : List NvccGeneratedSubcommand) → map command_of (of_group (command_entry origins shared) id group commands) ≡ commands
   commands-are id group [] = refl
   commands-are id group (c ∷ commands) =
       λ i. record { exe = c.exe; args = c.args; cwd = c.cwd; env_vars = c.env_vars; cacheable = cacheable-is c.cacheable i } ∷ commands-are (id + 1) group commands i
 
   groups-are : (last : ℕ) (before : List Entry) (group : ℕ) (groups : List (List NvccGeneratedSubcommand)) (behind : List Entry) →
-      map (λ g. map command_of (part (before ++ (of_groups (command_entry origins) (length before) group groups ++ behind)) g.commands)) (groups_at last group (length before) groups) ≡ groups
+      map (λ g. map command_of (part (before ++ (of_groups (command_entry origins shared) (length before) group groups ++ behind)) g.commands)) (groups_at last group (length before) groups) ≡ groups
   groups-are last before group [] behind = refl
   groups-are last before group (commands ∷ groups) behind =
-      let here : List Entry = of_group (command_entry origins) (length before) group commands in
+      let here : List Entry = of_group (command_entry origins shared) (length before) group commands in
       let next = length before + length commands in
-      let rest : List Entry = of_groups (command_entry origins) next (group + 1) groups in
+      let rest : List Entry = of_groups (command_entry origins shared) next (group + 1) groups in
       let all : List Entry = before ++ ((here ++ rest) ++ behind) in
-      let long : length here ≡ length commands = group-length (command_entry origins) (length before) group commands in
+      let long : length here ≡ length commands = group-length (command_entry origins shared) (length before) group commands in
       let nested : all ≡ before ++ (here ++ (rest ++ behind)) = ap (λ t. before ++ t) (append_assoc here rest behind) in
       let aside : all ≡ (before ++ here) ++ (rest ++ behind) = nested ∙ sym (append_assoc before here (rest ++ behind)) in
       let cut-here : take (length commands) (drop (length before) all) ≡ here =
@@ -104,7 +226,7 @@ module _ (origins : List Origin) where
       let counted : length (before ++ here) ≡ next = length-append before here ∙ ap (λ n. length before + n) long in
       let moved : map (λ g. map command_of (part ((before ++ here) ++ (rest ++ behind)) g.commands)) (groups_at last (group + 1) next groups) ≡ groups =
       subst
-      (λ n. map (λ g. map command_of (part ((before ++ here) ++ (of_groups (command_entry origins) n (group + 1) groups ++ behind)) g.commands)) (groups_at last (group + 1) n groups) ≡ groups)
+      (λ n. map (λ g. map command_of (part ((before ++ here) ++ (of_groups (command_entry origins shared) n (group + 1) groups ++ behind)) g.commands)) (groups_at last (group + 1) n groups) ≡ groups)
       counted
       (groups-are last (before ++ here) (group + 1) groups behind) in
       let others : map (λ g. map command_of (part all g.commands)) (groups_at last (group + 1) next groups) ≡ groups =
@@ -114,32 +236,32 @@ module _ (origins : List Origin) where
   -- ---- which commands are in groups
 
   kept-group : (id group : ℕ) (commands : List NvccGeneratedSubcommand) (rest : List Entry) →
-      filter (λ e. e.reason == 0) (of_group (command_entry origins) id group commands ++ rest) ≡ of_group (command_entry origins) id group commands ++ filter (λ e. e.reason == 0) rest
+      filter (λ e. e.reason == 0) (of_group (command_entry origins shared) id group commands ++ rest) ≡ of_group (command_entry origins shared) id group commands ++ filter (λ e. e.reason == 0) rest
   kept-group id group [] rest = refl
-  kept-group id group (c ∷ commands) rest = ap (λ t. command_entry origins id group c ∷ t) (kept-group (id + 1) group commands rest)
+  kept-group id group (c ∷ commands) rest = ap (λ t. command_entry origins shared id group c ∷ t) (kept-group (id + 1) group commands rest)
 
   kept : (id group : ℕ) (groups : List (List NvccGeneratedSubcommand)) (rest : List Entry) →
-      filter (λ e. e.reason == 0) (of_groups (command_entry origins) id group groups ++ rest) ≡ of_groups (command_entry origins) id group groups ++ filter (λ e. e.reason == 0) rest
+      filter (λ e. e.reason == 0) (of_groups (command_entry origins shared) id group groups ++ rest) ≡ of_groups (command_entry origins shared) id group groups ++ filter (λ e. e.reason == 0) rest
   kept id group [] rest = refl
   kept id group (commands ∷ groups) rest =
-      let here : List Entry = of_group (command_entry origins) id group commands in
-      let there : List Entry = of_groups (command_entry origins) (id + length commands) (group + 1) groups in
+      let here : List Entry = of_group (command_entry origins shared) id group commands in
+      let there : List Entry = of_groups (command_entry origins shared) (id + length commands) (group + 1) groups in
       ap (filter (λ e. e.reason == 0)) (append_assoc here there rest)
       ∙ kept-group id group commands (there ++ rest)
       ∙ ap (λ t. here ++ t) (kept (id + length commands) (group + 1) groups rest)
       ∙ sym (append_assoc here there (filter (λ e. e.reason == 0) rest))
 
   skipped-group : (id group : ℕ) (commands : List NvccGeneratedSubcommand) (rest : List Entry) →
-      filter (λ e. not (e.reason == 0)) (of_group (command_entry origins) id group commands ++ rest) ≡ filter (λ e. not (e.reason == 0)) rest
+      filter (λ e. not (e.reason == 0)) (of_group (command_entry origins shared) id group commands ++ rest) ≡ filter (λ e. not (e.reason == 0)) rest
   skipped-group id group [] rest = refl
   skipped-group id group (c ∷ commands) rest = skipped-group (id + 1) group commands rest
 
   skipped : (id group : ℕ) (groups : List (List NvccGeneratedSubcommand)) (rest : List Entry) →
-      filter (λ e. not (e.reason == 0)) (of_groups (command_entry origins) id group groups ++ rest) ≡ filter (λ e. not (e.reason == 0)) rest
+      filter (λ e. not (e.reason == 0)) (of_groups (command_entry origins shared) id group groups ++ rest) ≡ filter (λ e. not (e.reason == 0)) rest
   skipped id group [] rest = refl
   skipped id group (commands ∷ groups) rest =
-      let here : List Entry = of_group (command_entry origins) id group commands in
-      let there : List Entry = of_groups (command_entry origins) (id + length commands) (group + 1) groups in
+      let here : List Entry = of_group (command_entry origins shared) id group commands in
+      let there : List Entry = of_groups (command_entry origins shared) (id + length commands) (group + 1) groups in
       ap (filter (λ e. not (e.reason == 0))) (append_assoc here there rest)
       ∙ skipped-group id group commands (there ++ rest)
       ∙ skipped (id + length commands) (group + 1) groups rest
@@ -190,9 +312,9 @@ all-origins : (origins : List Origin) → origins-from origins (length origins) 
 all-origins [] = refl
 all-origins (o ∷ origins) = ap (λ t. o ∷ t) (past-first o origins (length origins) 0 ∙ all-origins origins)
 
-module _ (origins : List Origin) where
+module _ (origins : List Origin) (shared : Shared) where
   group-origins : (id group : ℕ) (commands : List NvccGeneratedSubcommand) (rest : List Entry) →
-      map origin_of (of_group (command_entry origins) id group commands ++ rest) ≡ origins-from origins (length commands) id ++ map origin_of rest
+      map origin_of (of_group (command_entry origins shared) id group commands ++ rest) ≡ origins-from origins (length commands) id ++ map origin_of rest
   group-origins id group [] rest = refl
   group-origins id group (c ∷ commands) rest =
       ap (λ t. origin_at origins id ∷ t) (group-origins (id + 1) group commands rest)
@@ -211,10 +333,10 @@ module _ (origins : List Origin) where
       ∙ ap (λ k. origins-from origins k id) more
 
   origins-are : (id group : ℕ) (groups : List (List NvccGeneratedSubcommand)) →
-      map origin_of (of_groups (command_entry origins) id group groups) ≡ origins-from origins (length (flat_map (λ g. g) groups)) id
+      map origin_of (of_groups (command_entry origins shared) id group groups) ≡ origins-from origins (length (flat_map (λ g. g) groups)) id
   origins-are id group [] = refl
   origins-are id group (commands ∷ groups) =
-      group-origins id group commands (of_groups (command_entry origins) (id + length commands) (group + 1) groups)
+      group-origins id group commands (of_groups (command_entry origins shared) (id + length commands) (group + 1) groups)
       ∙ ap (λ t. origins-from origins (length commands) id ++ t) (origins-are (id + length commands) (group + 1) groups)
       ∙ joined-origins (length commands) (length (flat_map (λ g. g) groups)) id
       ∙ ap (λ n. origins-from origins n id) (sym (length-append commands (flat_map (λ g. g) groups)))
@@ -226,12 +348,13 @@ plan-is planned has =
     let origins = planned.origins in
     let groups = planned.plan.groups in
     let dropped = planned.plan.dropped in
-    let grouped : List Entry = of_groups (command_entry origins) 0 0 groups in
+    let shared : Shared = shared_first (shared_of groups) in
+    let grouped : List Entry = of_groups (command_entry origins shared) 0 0 groups in
     let others : List Entry = map (dropped_entry (length groups)) dropped in
-    let lists = groups-are origins (length groups - 1) [] 0 groups others in
-    let lost = ap (map dropped_of) (skipped origins 0 0 groups others ∙ all-dropped (length groups) dropped) ∙ dropped-are (length groups) dropped in
-    let lines = ap (map origin_of) (kept origins 0 0 groups others ∙ ap (λ t. grouped ++ t) (none-in-groups (length groups) dropped) ∙ append-nil grouped)
-    ∙ origins-are origins 0 0 groups
+    let lists = groups-are origins shared (length groups - 1) [] 0 groups others in
+    let lost = ap (map dropped_of) (skipped origins shared 0 0 groups others ∙ all-dropped (length groups) dropped) ∙ dropped-are (length groups) dropped in
+    let lines = ap (map origin_of) (kept origins shared 0 0 groups others ∙ ap (λ t. grouped ++ t) (none-in-groups (length groups) dropped) ∙ append-nil grouped)
+    ∙ origins-are origins shared 0 0 groups
     ∙ ap (λ n. origins-from origins n 0) (sym has)
     ∙ all-origins origins in
     λ i. record { plan = record { groups = lists i; dropped = lost i }; origins = lines i }
@@ -241,9 +364,10 @@ pub records-read-back : (planned : PlanWithOrigins) → HasOrigins planned → p
 records-read-back planned has =
     let groups = groups_at (length planned.plan.groups - 1) 0 0 planned.plan.groups in
     let entries = entries_of planned in
+    let shared = variable_texts (shared_of planned.plan.groups) in
     let texts = flat_map texts_of entries in
-    ap (λ ts. plan_of groups (map (entry_in ts) (records_at 0 entries))) (cut_behind [] texts ∙ sym (append-nil texts))
-    ∙ ap (plan_of groups) (entries-read [] entries [])
+    ap (λ ts. plan_of groups (map (entry_in ts) (records_at (length shared) entries))) (cut_behind [] (shared ++ texts) ∙ ap (λ t. shared ++ t) (sym (append-nil texts)))
+    ∙ ap (plan_of groups) (all-read planned [])
     ∙ plan-is planned has
 
 pub records-are-one-to-one : (one other : PlanWithOrigins) → HasOrigins one → HasOrigins other → records_of one ≡ records_of other → one ≡ other

@@ -12,6 +12,7 @@ use Rattle.c_texts.specs.Failures.{if_utf8}
 use Rattle.c_texts.specs.Outcomes.{Outcome, of_texts}
 use Rattle.c_texts.specs.Memory.{text_of}
 use Rattle.c_plans.specs.Limits.{failed_within, within_limit}
+use Rattle.c_plans.specs.OddDirectories.{at_plain}
 
 -- the texts of a look-up: the program, and the value of `PATH`
 abbrev pub texts_of : Lookup → List (List ℕ)
@@ -25,9 +26,9 @@ lookups_by runs cwd = of_texts (flat_map texts_of (asked_by cwd runs))
 abbrev pub lookups_from : List ℕ → List ℕ → List ℕ → Outcome
 lookups_from dry1 dry2 cwd = lookups_by (both_parsed dry1 dry2) cwd
 
--- the same, if the directory is UTF-8
+-- the same, if the directory is UTF-8 and plain
 abbrev pub lookups_outcome : List ℕ → List ℕ → List ℕ → Outcome
-lookups_outcome dry1 dry2 cwd = if_utf8 (text_of cwd) (lookups_from dry1 dry2)
+lookups_outcome dry1 dry2 cwd = if_utf8 (text_of cwd) (λ cwd. at_plain cwd (lookups_from dry1 dry2 cwd))
 
 -- the look-ups of two dry runs, or why they can't be parsed within a limit
 abbrev pub lookups_told : ℕ → Result ParsedRuns LimitedFault → List ℕ → Outcome
@@ -39,13 +40,13 @@ abbrev pub lookups_within : ℕ → List ℕ → List ℕ → List ℕ → Outco
 lookups_within limit dry1 dry2 cwd =
     within_limit limit (lookups_from dry1 dry2 cwd) (lookups_told limit (both_fitting limit cwd dry1 dry2) cwd)
 
--- the same, if the directory is UTF-8
+-- the same, if the directory is UTF-8 and plain
 abbrev pub limited_lookups_outcome : ℕ → List ℕ → List ℕ → List ℕ → Outcome
-limited_lookups_outcome limit dry1 dry2 cwd = if_utf8 (text_of cwd) (lookups_within limit dry1 dry2)
+limited_lookups_outcome limit dry1 dry2 cwd = if_utf8 (text_of cwd) (λ cwd. at_plain cwd (lookups_within limit dry1 dry2 cwd))
 
--- the paths of a look-up from a working directory
+-- the paths of a look-up from a working directory, if it is plain
 abbrev pub candidates_from : List ℕ → List ℕ → List ℕ → Outcome
-candidates_from program path cwd = of_texts (candidates_of program path cwd)
+candidates_from program path cwd = at_plain cwd (of_texts (candidates_of program path cwd))
 
 -- the same, if all three texts are UTF-8
 abbrev pub candidates_outcome : List ℕ → List ℕ → List ℕ → Outcome

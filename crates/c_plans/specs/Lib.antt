@@ -1,6 +1,7 @@
 pub mod Asking
 pub mod LimitLaws
 pub mod Limits
+pub mod OddDirectories
 pub mod PlanCalls
 pub mod PlanForms
 pub mod PlanRecords

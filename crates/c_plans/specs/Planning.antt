@@ -15,6 +15,7 @@ use Rattle.c_plans.specs.declared.plan_call.Tables.{Tables}
 use Rattle.c_texts.specs.declared.status.Status.TheVariants.{BadNumber}
 use Rattle.c_texts.specs.Failures.{if_number, if_utf8}
 use Rattle.c_plans.specs.Limits.{failed_within, within_limit, without_limit}
+use Rattle.c_plans.specs.OddDirectories.{odd_directory, unless_odd}
 use Rattle.c_plans.specs.Refusals.{written}
 use Rattle.c_texts.specs.Memory.{bytes_of}
 use Rattle.c_texts.specs.Outcomes.{Outcome, refused}
@@ -51,10 +52,16 @@ abbrev pub told : ℕ → Format → Texts → Result PlanWithOrigins LimitedFau
 told limit form texts (Ok planned) = written (text_in form (record { cwd = texts.cwd; tmp = texts.tmp; flag = texts.flag; planned = planned }))
 told limit form texts (Err fault) = failed_within limit fault
 
--- a call with numbers that have a meaning. A text that isn't UTF-8 comes before any fault of the plan
+-- a call whose numbers have a meaning, and whose texts are UTF-8 and its directories plain
+abbrev pub outcome_by : PlanCall → Format → NvccHostCompiler → Texts → Tables → Outcome
+outcome_by call format host texts tables = told call.limit form texts (planned call host texts tables)
+
+-- a call with numbers that have a meaning. A text that isn't UTF-8 comes before a directory that isn't plain, and that before any fault
+-- of the plan
 abbrev pub outcome_in : PlanCall → Format → NvccHostCompiler → Outcome
 outcome_in call form host =
-    if_utf8 (texts_of call) (λ texts. if_utf8 (tables_of texts.cwd call) (λ tables. told call.limit form texts (planned call host texts tables)))
+    if_utf8 (texts_of call) (λ texts. if_utf8 (tables_of texts.cwd call) (λ tables.
+    unless_odd (odd_directory texts) (outcome_by call form host texts tables)))
 
 -- a call, and the number of a form. A number without a meaning comes before any other refusal
 abbrev pub plan_outcome : PlanCall → ℕ → Outcome

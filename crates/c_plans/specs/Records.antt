@@ -1,6 +1,7 @@
 -- A plan as records, and texts one behind the other.
-use Rattle.std.specs.Prelude.{◌≡◌, ◌⊎◌, ℕ, ◌+◌, ◌-◌, List, [], ◌∷◌, ◌++◌, ◌&&◌, ◌==◌, Bool, if◌then◌else◌, length, map, string_bytes}
+use Rattle.std.specs.Prelude.{◌≡◌, ◌⊎◌, ℕ, ◌+◌, ◌-◌, List, [], ◌∷◌, ◌++◌, ◌&&◌, ◌==◌, Bool, true, false, if◌then◌else◌, length, map, string_bytes, Option, Some, None}
 use Rattle.std.specs.List.{flat_map}
+use Rattle.std.specs.Str.{bytes_eq}
 use Rattle.compilers.specs.declared.command.Cacheable.{Cacheable}
 use Rattle.compilers.specs.declared.command.Cacheable.TheVariants.{Yes, No}
 use Rattle.plans.specs.declared.origins.Origin.{Origin}
@@ -16,12 +17,14 @@ use Rattle.c_texts.specs.declared.memory.Range.{Range}
 use Rattle.c_plans.specs.declared.record.CommandRecord.{CommandRecord}
 use Rattle.c_plans.specs.declared.record.GroupRecord.{GroupRecord}
 use Rattle.c_plans.specs.declared.record.RecordsAnswer.{RecordsAnswer}
+use Rattle.c_plans.specs.declared.plan_entries.Shared.{Shared as HeldShared}
 use Rattle.c_plans.specs.declared.recorded.Entry.{Entry as HeldEntry}
 use Rattle.c_texts.specs.declared.status.Status.TheVariants.{Memory}
 use Rattle.c_texts.specs.Memory.{fits, filled}
 use Rattle.c_texts.specs.Outcomes.{Outcome, of_texts, refused, with_texts}
 
--- what the records say of a command, in a group or dropped. Its reason is 0 if it is in a group
+-- what the records say of a command, in a group or dropped, and which texts its variables are if it shares them. Its reason is 0 if it
+-- is in a group
 pub record Entry : Type 0 where
   pub program : List ℕ
   pub cwd : List ℕ
@@ -32,6 +35,46 @@ pub record Entry : Type 0 where
   pub line : ℕ
   pub reason : ℕ
   pub cacheable : ℕ
+  pub shared : Option Range
+
+-- variables: names and their values
+abbrev pub Variables : Type 0
+Variables = List (List ℕ × List ℕ)
+
+-- the texts of variables: a name, its value, a name, ..
+abbrev pub variable_texts : Variables → List (List ℕ)
+variable_texts variables = flat_map (λ p. p.0 ∷ p.1 ∷ []) variables
+
+-- Commands share the texts of the first command's variables, which come before all others: a command with the same variables has no
+-- texts of its own for them.
+abbrev pub shared_of : List (List NvccGeneratedSubcommand) → Variables
+shared_of [] = []
+shared_of ([] ∷ groups) = shared_of groups
+shared_of ((c ∷ commands) ∷ groups) = c.env_vars
+
+-- what commands share: variables, and which texts they are
+pub record Shared : Type 0 where
+  pub variables : Variables
+  pub texts : Range
+
+-- the same, as the code holds it
+abbrev pub shared_seen : HeldShared → Shared
+shared_seen s = record { variables = map pair_of s.variables.now; texts = s.texts }
+
+-- these variables, whose texts come before all others
+abbrev pub shared_first : Variables → Shared
+shared_first variables = record { variables = variables; texts = record { offset = 0; length = length (variable_texts variables) } }
+
+-- whether variables are the same
+abbrev pub are_same : Variables → Variables → Bool
+are_same [] [] = true
+are_same [] (q ∷ qs) = false
+are_same (p ∷ ps) [] = false
+are_same (p ∷ ps) (q ∷ qs) = (bytes_eq p.0 q.0 && bytes_eq p.1 q.1) && are_same ps qs
+
+-- the texts of a command's variables, if it shares them
+abbrev pub shared_by : Shared → Variables → Option Range
+shared_by shared variables = if are_same variables shared.variables then Some shared.texts else None
 
 -- the number of a reason
 abbrev pub reason_number : Reason → ℕ
@@ -45,36 +88,64 @@ abbrev pub cacheable_number : Cacheable → ℕ
 cacheable_number Yes = 1
 cacheable_number No = 0
 
--- a command by its number and that of its group, given where each command comes from
-abbrev pub command_entry : List Origin → ℕ → ℕ → NvccGeneratedSubcommand → Entry
-command_entry origins id group c =
+-- a command by its number and that of its group, given where each command comes from and what they share
+abbrev pub command_entry : List Origin → Shared → ℕ → ℕ → NvccGeneratedSubcommand → Entry
+command_entry origins shared id group c =
     let origin = origin_at origins id in
-    record { program = c.exe; cwd = c.cwd; arguments = c.args; variables = c.env_vars; group = group; run = origin.run; line = origin.line; reason = 0; cacheable = cacheable_number c.cacheable }
+    record {
+      program = c.exe;
+      cwd = c.cwd;
+      arguments = c.args;
+      variables = c.env_vars;
+      group = group;
+      run = origin.run;
+      line = origin.line;
+      reason = 0;
+      cacheable = cacheable_number c.cacheable;
+      shared = shared_by shared c.env_vars;
+    }
 
 -- a dropped command. Its group is the number of groups, which no group has
 abbrev pub dropped_entry : ℕ → Dropped → Entry
 dropped_entry groups d =
-    record { program = d.exe; cwd = []; arguments = d.args; variables = []; group = groups; run = d.run; line = d.line; reason = reason_number d.reason; cacheable = 0 }
+    record {
+      program = d.exe;
+      cwd = [];
+      arguments = d.args;
+      variables = [];
+      group = groups;
+      run = d.run;
+      line = d.line;
+      reason = reason_number d.reason;
+      cacheable = 0;
+      shared = None;
+    }
 
 -- all commands of a plan: those of the groups in plan order, then the dropped ones
 abbrev pub entries_of : PlanWithOrigins → List Entry
 entries_of planned =
-    of_groups (command_entry planned.origins) 0 0 planned.plan.groups
+    of_groups (command_entry planned.origins (shared_first (shared_of planned.plan.groups))) 0 0 planned.plan.groups
     ++ map (dropped_entry (length planned.plan.groups)) planned.plan.dropped
 
--- the texts of variables: a name, its value, a name, ..
-abbrev pub variable_texts : List (List ℕ × List ℕ) → List (List ℕ)
-variable_texts variables = flat_map (λ p. p.0 ∷ p.1 ∷ []) variables
+-- the texts of a command's variables, unless it shares them
+abbrev pub own_texts : Option Range → Variables → List (List ℕ)
+own_texts None variables = variable_texts variables
+own_texts (Some shared) variables = []
 
 -- the texts of a command: its program, its working directory, its arguments and its variables
 abbrev pub texts_of : Entry → List (List ℕ)
-texts_of e = e.program ∷ e.cwd ∷ (e.arguments ++ variable_texts e.variables)
+texts_of e = e.program ∷ e.cwd ∷ (e.arguments ++ own_texts e.shared e.variables)
+
+-- which texts are its variables, if the first of its own would have this number
+abbrev pub variables_at : ℕ → Option Range → Variables → Range
+variables_at first None variables = record { offset = first; length = length (variable_texts variables) }
+variables_at first (Some shared) variables = shared
 
 -- a command's record, if the first of its texts has this number
 abbrev pub record_at : ℕ → Entry → CommandRecord
 record_at first e = record {
   arguments = record { offset = first + 2; length = length e.arguments };
-  variables = record { offset = first + 2 + length e.arguments; length = length (variable_texts e.variables) };
+  variables = variables_at (first + 2 + length e.arguments) e.shared e.variables;
   program = first;
   cwd = first + 1;
   group = e.group;
@@ -115,8 +186,9 @@ without_records outcome = (outcome, ([], []))
 abbrev pub records_of : PlanWithOrigins → Recorded
 records_of planned =
     let groups = planned.plan.groups in
+    let shared = variable_texts (shared_of groups) in
     let entries = entries_of planned in
-    (of_texts (flat_map texts_of entries), (groups_at (length groups - 1) 0 0 groups, records_at 0 entries))
+    (of_texts (shared ++ flat_map texts_of entries), (groups_at (length groups - 1) 0 0 groups, records_at (length shared) entries))
 
 -- records with that of a further command
 abbrev pub with_entry : Recorded → Entry → Recorded
@@ -146,6 +218,7 @@ entry_seen e = record {
   line = e.line;
   reason = e.reason;
   cacheable = e.cacheable;
+  shared = e.shared;
 }
 
 -- whether all of an answer fits into the memory for groups, commands, ranges and bytes

@@ -1,5 +1,5 @@
 -- A plan is read back from its records.
-use Rattle.std.specs.Prelude.{◌≡◌, ℕ, List, [], ◌∷◌, ◌==◌, not, if◌then◌else◌, length, map, filter, take, drop, get_or}
+use Rattle.std.specs.Prelude.{◌≡◌, ℕ, List, [], ◌∷◌, ◌==◌, not, nat_le, if◌then◌else◌, length, map, filter, take, drop, get_or, Some, None}
 use Rattle.std.specs.List.{flat_map}
 use Rattle.compilers.specs.declared.command.Cacheable.{Cacheable}
 use Rattle.compilers.specs.declared.command.Cacheable.TheVariants.{Yes, No}
@@ -25,7 +25,7 @@ pairs_of [] = []
 pairs_of (name ∷ []) = []
 pairs_of (name ∷ value ∷ texts) = (name, value) ∷ pairs_of texts
 
--- what a record says, by the texts
+-- what a record says, by the texts. A command's own texts come behind its program's
 abbrev pub entry_in : List (List ℕ) → CommandRecord → Entry
 entry_in texts r = record {
   program = get_or texts r.program [];
@@ -37,6 +37,7 @@ entry_in texts r = record {
   line = r.line;
   reason = r.reason;
   cacheable = r.cacheable;
+  shared = if nat_le r.variables.offset r.program then Some r.variables else None;
 }
 
 -- what numbers mean

@@ -1,5 +1,5 @@
 -- The room that the texts of a plan's records take.
-use Rattle.std.specs.Prelude.{ℕ, ◌+◌, ◌-◌, ◌^◌, List, [], fold, length, min}
+use Rattle.std.specs.Prelude.{ℕ, ◌+◌, ◌-◌, ◌^◌, ◌==◌, if◌then◌else◌, List, [], fold, length, min}
 use Rattle.plans.specs.declared.plan.Dropped.{Dropped}
 use Rattle.plans.specs.declared.plan.NvccGeneratedSubcommand.{NvccGeneratedSubcommand}
 use Rattle.plans.specs.declared.plan.Plan.{Plan}
@@ -21,18 +21,22 @@ with_text room text = record { texts = added room.texts 1; bytes = added room.by
 abbrev pub with_variable : Room → List ℕ × List ℕ → Room
 with_variable room variable = with_text (with_text room variable.0) variable.1
 
+-- room for variables, unless there are as many as commands share
+abbrev pub with_own : ℕ → Room → List (List ℕ × List ℕ) → Room
+with_own shared room variables = if length variables == shared then room else fold with_variable room variables
+
 -- room for the texts of a further command of a group
-abbrev pub with_command : Room → NvccGeneratedSubcommand → Room
-with_command room c = fold with_variable (fold with_text (with_text (with_text room c.exe) c.cwd) c.args) c.env_vars
+abbrev pub with_command : ℕ → Room → NvccGeneratedSubcommand → Room
+with_command shared room c = with_own shared (fold with_text (with_text (with_text room c.exe) c.cwd) c.args) c.env_vars
 
 -- room for those of a further group
-abbrev pub with_group : Room → List NvccGeneratedSubcommand → Room
-with_group room commands = fold with_command room commands
+abbrev pub with_group : ℕ → Room → List NvccGeneratedSubcommand → Room
+with_group shared room commands = fold (with_command shared) room commands
 
 -- room for those of a further dropped command, which has no working directory and no variables
 abbrev pub with_dropped : Room → Dropped → Room
 with_dropped room d = fold with_text (with_text (with_text room d.exe) []) d.args
 
--- room for the texts of a plan, beside some room
-abbrev pub room_with : Room → Plan → Room
-room_with room plan = fold with_dropped (fold with_group room plan.groups) plan.dropped
+-- room for the texts of a plan and of the variables that its commands share, beside some room
+abbrev pub room_with : Room → List (List ℕ × List ℕ) → Plan → Room
+room_with room shared plan = fold with_dropped (fold (with_group (length shared)) (fold with_variable room shared) plan.groups) plan.dropped

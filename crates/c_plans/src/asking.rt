@@ -7,9 +7,12 @@ ghost use Rattle.dry_runs.specs.declared.parsed_runs.ParsedRuns.{ParsedRuns};
 ghost use Rattle.dry_runs.specs.Limit.{UnlessMemoryWithin};
 ghost use Rattle.c_texts.specs.Outcomes.{GivesList, of_texts, with_texts};
 ghost use Rattle.c_plans.specs.Asking as spec;
+ghost use Rattle.c_plans.specs.OddDirectories.{at_plain};
 
+use crate::directory::refused_cwd;
 use crate::limits::failed_within;
 use c_texts::{ListAnswer, Outcome, Range, Status, give_list, refused, text_of};
+use directories::is_plain;
 use dry_runs::{LimitedFault, ParsedRuns, parse_dry_runs};
 use program_lookups::{Lookup, lookups_of_runs, parse_within};
 use std::alloc::{AllocError, Global};
@@ -70,6 +73,23 @@ fn lookups_fitting(
     lookups_told(alloc, limit, runs, cwd)
 }
 
+// The same, unless the working directory is odd.
+fn lookups_at(
+    alloc: Global,
+    dry1: &[u8],
+    dry2: &[u8],
+    cwd: &str,
+    limit: usize,
+) -> Result<Outcome, AllocError>
+    ensures { IfOk result (λ outcome. outcome ≡ at_plain cwd.now (spec.lookups_within limit dry1.now dry2.now cwd.now)) }
+{
+    if is_plain(cwd) {
+        lookups_fitting(alloc, dry1, dry2, cwd, limit)
+    } else {
+        refused_cwd(alloc)
+    }
+}
+
 // The same, of a working directory that may be no text.
 fn lookups_outcome(
     alloc: Global,
@@ -81,7 +101,7 @@ fn lookups_outcome(
     ensures { IfOk result (λ outcome. outcome ≡ spec.limited_lookups_outcome limit dry1.now dry2.now cwd.now) }
 {
     match text_of(cwd) {
-        Some(cwd) => lookups_fitting(alloc, dry1, dry2, cwd, limit),
+        Some(cwd) => lookups_at(alloc, dry1, dry2, cwd, limit),
         None => refused(alloc, Status::NotUtf8),
     }
 }
@@ -117,7 +137,7 @@ pub fn lookups_within(
     give_list(lookups_outcome(alloc, dry1, dry2, cwd, limit), ranges, out)
 }
 
-// The paths of a look-up.
+// The paths of a look-up, unless the working directory is odd.
 fn candidates_from(
     alloc: Global,
     program: &str,
@@ -126,6 +146,9 @@ fn candidates_from(
 ) -> Result<Outcome, AllocError>
     ensures { IfOk result (λ outcome. outcome ≡ spec.candidates_from program.now path.now cwd.now) }
 {
+    if !is_plain(cwd) {
+        return refused_cwd(alloc);
+    }
     let paths = program_lookups::candidates(alloc, program, path, cwd)?;
     let mut outcome = Outcome::new(alloc);
     outcome.push_all(paths.as_slice())?;

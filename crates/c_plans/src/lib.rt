@@ -5,6 +5,7 @@
 #![tactic(auto)]
 
 mod asking;
+mod directory;
 pub mod laws;
 mod limits;
 mod plan_call;
@@ -19,6 +20,7 @@ mod renaming;
 mod room;
 
 pub use asking::{candidates, lookups, lookups_within};
+pub use directory::{OddField, odd_directory};
 pub use plan_call::{
     FoundProgram, PlanCall, Tables, Texts, has_numbers, host_of, tables_of, texts_of,
 };

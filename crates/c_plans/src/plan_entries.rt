@@ -1,6 +1,8 @@
 //! The commands of a plan as records.
 
-ghost use Rattle.std.specs.Prelude.{◌≡◌, ◌-◌, ◌∷◌, [], List, ℕ, IfOk, OnOk, length, map, vec_items};
+ghost use Rattle.std.specs.Prelude.{◌≡◌, ◌-◌, ◌∷◌, [], List, ℕ, ◌&&◌, IfOk, OnOk, length, map, vec_items};
+ghost use Rattle.std.specs.Str.{bytes_eq};
+ghost use Rattle.texts.specs.Variables.{pair_of};
 ghost use Rattle.plans.specs.declared.origins.Origin.{Origin};
 ghost use Rattle.plan_json.specs.Json.{origin_at};
 ghost use Rattle.command_files.specs.Numbered.{of_group, of_groups};
@@ -47,14 +49,79 @@ fn origin_of(origins: &[Origin], id: usize) -> Origin
     }
 }
 
+// Variables that commands share, and which texts they are.
+#[derive(Clone, Copy)]
+struct Shared<'a> {
+    variables: &'a [(String, String)],
+    texts: Range,
+}
+
+// The variables that commands share: those of the first command.
+fn shared_of(groups: &[Vec<NvccGeneratedSubcommand>]) -> &[(String, String)]
+    ensures { map pair_of result.now ≡ spec.shared_of (map vec_items groups.now) }
+{
+    for commands in groups {
+        if let [command, ..] = commands.as_slice() {
+            return command.env_vars.as_slice();
+        }
+    }
+    &[]
+}
+
+// Whether two variables are the same.
+fn is_same(one: &(String, String), other: &(String, String)) -> bool
+    ensures { result ≡ (bytes_eq (pair_of one.now).0 (pair_of other.now).0 && bytes_eq (pair_of one.now).1 (pair_of other.now).1) }
+{
+    one.0.as_str() == other.0.as_str() && one.1.as_str() == other.1.as_str()
+}
+
+// Whether no variable is left.
+fn is_over(left: &[(String, String)]) -> bool
+    ensures { result ≡ spec.are_same [] (map pair_of left.now) }
+{
+    match left {
+        [] => true,
+        [_, ..] => false,
+    }
+}
+
+// Whether lists of variables are the same.
+fn are_same(some: &[(String, String)], others: &[(String, String)]) -> bool
+    ensures { result ≡ spec.are_same (map pair_of some.now) (map pair_of others.now) }
+{
+    let mut left = others;
+    for variable in some {
+        let Some((other, rest)) = left.split_first() else {
+            return false;
+        };
+        if !is_same(variable, other) {
+            return false;
+        }
+        left = rest;
+    }
+    is_over(left)
+}
+
+// Which texts a command's variables are, if it shares them.
+fn shared_by(shared: Shared<'_>, command: &NvccGeneratedSubcommand) -> Option<Range>
+    ensures { result ≡ spec.shared_by (spec.shared_seen shared.entry) command.now.env_vars }
+{
+    if are_same(command.env_vars.as_slice(), shared.variables) {
+        Some(shared.texts)
+    } else {
+        None
+    }
+}
+
 // What a command's record says.
 fn command_entry<'a>(
     origin: Origin,
+    shared: Shared<'_>,
     group: usize,
     command: &'a NvccGeneratedSubcommand,
 ) -> Entry<'a>
     ensures { (origins : List Origin) (id : ℕ) → origin ≡ origin_at origins id
-        → spec.entry_seen result ≡ spec.command_entry origins id group command.now }
+        → spec.entry_seen result ≡ spec.command_entry origins (spec.shared_seen shared.entry) id group command.now }
 {
     Entry {
         program: command.exe.as_str(),
@@ -66,6 +133,7 @@ fn command_entry<'a>(
         line: origin.line,
         reason: 0,
         cacheable: cacheable_number(command.cacheable),
+        shared: shared_by(shared, command),
     }
 }
 
@@ -83,6 +151,7 @@ fn dropped_entry<'a>(groups: usize, dropped: &'a Dropped) -> Entry<'a>
         line: dropped.line,
         reason: reason_number(dropped.reason),
         cacheable: 0,
+        shared: None,
     }
 }
 
@@ -103,28 +172,30 @@ fn stage_at(last: usize, group: usize) -> u32
 fn push_command(
     recorded: &mut Recorded,
     origins: &[Origin],
+    shared: Shared<'_>,
     group: usize,
     command: &NvccGeneratedSubcommand,
 ) -> Result<(), AllocError>
     ensures { OnOk result (recorded.new
-        ≡ spec.with_entry recorded.old (spec.command_entry origins.now (length recorded.old.1.1) group command.now)) }
+        ≡ spec.with_entry recorded.old (spec.command_entry origins.now (spec.shared_seen shared.entry) (length recorded.old.1.1) group command.now)) }
 {
     let origin = origin_of(origins, recorded.commands_count());
-    recorded.push(command_entry(origin, group, command))
+    recorded.push(command_entry(origin, shared, group, command))
 }
 
 // Adds the commands of a group.
 fn push_commands(
     recorded: &mut Recorded,
     origins: &[Origin],
+    shared: Shared<'_>,
     group: usize,
     commands: &[NvccGeneratedSubcommand],
 ) -> Result<(), AllocError>
     ensures { OnOk result (recorded.new
-        ≡ spec.with_entries recorded.old (of_group (spec.command_entry origins.now) (length recorded.old.1.1) group commands.now)) }
+        ≡ spec.with_entries recorded.old (of_group (spec.command_entry origins.now (spec.shared_seen shared.entry)) (length recorded.old.1.1) group commands.now)) }
 {
     for command in commands {
-        push_command(recorded, origins, group, command)?;
+        push_command(recorded, origins, shared, group, command)?;
     }
     Ok(())
 }
@@ -133,13 +204,14 @@ fn push_commands(
 fn push_group(
     recorded: &mut Recorded,
     origins: &[Origin],
+    shared: Shared<'_>,
     last: usize,
     group: usize,
     commands: &[NvccGeneratedSubcommand],
 ) -> Result<(), AllocError>
     ensures { OnOk result (recorded.new
         ≡ spec.with_groups recorded.old (spec.group_record last group (length recorded.old.1.1) commands.now ∷ [])
-        (of_group (spec.command_entry origins.now) (length recorded.old.1.1) group commands.now)) }
+        (of_group (spec.command_entry origins.now (spec.shared_seen shared.entry)) (length recorded.old.1.1) group commands.now)) }
 {
     let record = GroupRecord {
         commands: Range {
@@ -149,7 +221,7 @@ fn push_group(
         stage: stage_at(last, group),
         reserved: 0,
     };
-    push_commands(recorded, origins, group, commands)?;
+    push_commands(recorded, origins, shared, group, commands)?;
     recorded.push_group(record)
 }
 
@@ -157,16 +229,17 @@ fn push_group(
 fn push_groups(
     recorded: &mut Recorded,
     origins: &[Origin],
+    shared: Shared<'_>,
     groups: &[Vec<NvccGeneratedSubcommand>],
 ) -> Result<(), AllocError>
     ensures { OnOk result (recorded.new
         ≡ spec.with_groups recorded.old
         (spec.groups_at (length groups.now - 1) 0 (length recorded.old.1.1) (map vec_items groups.now))
-        (of_groups (spec.command_entry origins.now) (length recorded.old.1.1) 0 (map vec_items groups.now))) }
+        (of_groups (spec.command_entry origins.now (spec.shared_seen shared.entry)) (length recorded.old.1.1) 0 (map vec_items groups.now))) }
 {
     let last = groups.len().saturating_sub(1);
     for (group, commands) in groups.iter().enumerate() {
-        push_group(recorded, origins, last, group, commands.as_slice())?;
+        push_group(recorded, origins, shared, last, group, commands.as_slice())?;
     }
     Ok(())
 }
@@ -196,9 +269,11 @@ pub fn records_of(
     let groups = planned.plan.groups.as_slice();
     let origins = planned.origins.as_slice();
     let mut recorded = Recorded::of_outcome(alloc, Outcome::new(alloc));
-    let room = room_with(room, &planned.plan);
+    let variables = shared_of(groups);
+    let room = room_with(room, variables, &planned.plan);
     recorded.reserve(room, groups.len(), origins.len())?;
-    push_groups(&mut recorded, origins, groups)?;
+    let texts = recorded.share(variables)?;
+    push_groups(&mut recorded, origins, Shared { variables, texts }, groups)?;
     push_dropped(&mut recorded, groups.len(), planned.plan.dropped.as_slice())?;
     Ok(recorded)
 }

@@ -6,11 +6,14 @@ ghost use Rattle.dry_runs.specs.Limit.{UnlessMemoryWithin};
 ghost use Rattle.plans.specs.declared.origins.PlanWithOrigins.{PlanWithOrigins};
 ghost use Rattle.c_texts.specs.Outcomes as outcomes;
 ghost use Rattle.c_plans.specs.Limits.{UnlessMemoryIsWithin, failed_within};
+ghost use Rattle.c_plans.specs.OddDirectories.{odd_seen, refused_directory};
+ghost use Rattle.c_plans.specs.PlanCalls.{texts_seen};
 ghost use Rattle.c_plans.specs.PlanRecords as spec;
 ghost use Rattle.c_plans.specs.Records as records;
 
+use crate::directory::{OddField, odd_directory, refused_directory};
 use crate::limits::failed_within;
-use crate::plan_call::{PlanCall, has_numbers, host_of, tables_of, texts_of};
+use crate::plan_call::{PlanCall, Tables, Texts, has_numbers, host_of, tables_of, texts_of};
 use crate::plan_entries::records_of;
 use crate::planning::planned;
 use crate::record::{CommandRecord, GroupRecord, RecordsAnswer};
@@ -56,6 +59,28 @@ fn recorded(
     }
 }
 
+// The refusal of a directory.
+fn refused_records_of(alloc: Global, odd: OddField) -> Result<Recorded, AllocError>
+    ensures { IfOk result (λ recorded. recorded ≡ records.without_records (refused_directory (odd_seen odd))) }
+{
+    let outcome = refused_directory(alloc, odd)?;
+    Ok(Recorded::of_outcome(alloc, outcome))
+}
+
+// A call whose numbers have a meaning, and whose texts are UTF-8 and its directories plain.
+fn records_by(
+    alloc: Global,
+    call: &PlanCall<'_>,
+    host: NvccHostCompiler,
+    texts: Texts<'_>,
+    tables: &Tables,
+) -> Result<Recorded, AllocError>
+    ensures { IfOk result (λ recorded. recorded ≡ spec.records_by call.now host (texts_seen texts.entry) tables.now) }
+{
+    let plan = planned(alloc, call, host, texts, tables);
+    recorded(alloc, call.limit, plan)
+}
+
 // A call with numbers that have a meaning.
 fn records_with(
     alloc: Global,
@@ -70,8 +95,10 @@ fn records_with(
     let Some(tables) = tables_of(alloc, texts.cwd, call)? else {
         return refused_records(alloc, Status::NotUtf8);
     };
-    let plan = planned(alloc, call, host, texts, &tables);
-    recorded(alloc, call.limit, plan)
+    match odd_directory(texts) {
+        Some(odd) => refused_records_of(alloc, odd),
+        None => records_by(alloc, call, host, texts, &tables),
+    }
 }
 
 // A call.

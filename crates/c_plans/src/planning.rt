@@ -1,6 +1,8 @@
 //! Planning the two dry runs of a call.
 
-ghost use Rattle.std.specs.Prelude.{◌≡◌, IfOk, Result};
+ghost use Rattle.std.specs.Prelude.{◌≡◌, IfOk, Result, map, string_bytes};
+ghost use Rattle.texts.specs.Fault.{UnlessMemory};
+ghost use Rattle.canonical_names.specs.FurtherSuffixes.{all_suffixes};
 ghost use Rattle.dry_runs.specs.declared.limit.LimitedFault.{LimitedFault};
 ghost use Rattle.dry_runs.specs.Limit.{UnlessMemoryWithin};
 ghost use Rattle.plans.specs.declared.origins.PlanWithOrigins.{PlanWithOrigins};
@@ -8,13 +10,14 @@ ghost use Rattle.c_texts.specs.Outcomes.{GivesText};
 ghost use Rattle.c_plans.specs.PlanCalls.{texts_seen};
 ghost use Rattle.c_plans.specs.Planning as spec;
 
+use crate::directory::{odd_directory, refused_directory};
 use crate::limits::failed_within;
 use crate::plan_call::{
     PlanCall, Tables, Texts, has_numbers, host_of, if_flag, tables_of, texts_of,
 };
 use crate::plan_forms::{form_of, outcome_in};
 use c_texts::{Outcome, Status, TextAnswer, give_text, refused};
-use canonical_names::all_suffixes;
+use canonical_names::{Suffixes, all_suffixes};
 use command_groups::{CallToPlan, plan_with_origins, plan_with_origins_within};
 use compilers::compiler::NvccHostCompiler;
 use dry_runs::LimitedFault;
@@ -22,6 +25,16 @@ use plan_scripts::Format;
 use plans::PlanWithOrigins;
 use std::alloc::{AllocError, Global};
 use texts::fault::Fault;
+
+// The standard suffixes, with those of the call behind them. Without such they are as they were written: renaming is faster with these.
+fn suffixes_of(alloc: Global, further: &[String]) -> Result<Suffixes, Fault>
+    ensures { UnlessMemory result (all_suffixes (map string_bytes further.now)) }
+{
+    match further {
+        [] => Ok(Suffixes::standard()),
+        _ => all_suffixes(alloc, further),
+    }
+}
 
 /// The plan of a call, or why there is none.
 pub fn planned(
@@ -33,7 +46,7 @@ pub fn planned(
 ) -> Result<PlanWithOrigins, LimitedFault>
     ensures { UnlessMemoryWithin result (spec.planned call.now host (texts_seen texts.entry) tables.now) }
 {
-    let suffixes = all_suffixes(alloc, tables.suffixes.as_slice())?;
+    let suffixes = suffixes_of(alloc, tables.suffixes.as_slice())?;
     let (dry1, dry2, which) = (call.dry1.bytes, call.dry2.bytes, &tables.found);
     let nvcc_call = CallToPlan {
         cwd: texts.cwd,
@@ -69,6 +82,21 @@ fn told(
     }
 }
 
+// A call whose numbers have a meaning, and whose texts are UTF-8 and its directories plain.
+fn outcome_by(
+    alloc: Global,
+    call: &PlanCall<'_>,
+    form: Form,
+    host: NvccHostCompiler,
+    texts: Texts<'_>,
+    tables: &Tables,
+) -> Result<Outcome, AllocError>
+    ensures { IfOk result (λ outcome. outcome ≡ spec.outcome_by call.now form host (texts_seen texts.entry) tables.now) }
+{
+    let plan = planned(alloc, call, host, texts, tables);
+    told(alloc, call.limit, form, texts, plan)
+}
+
 // A call with numbers that have a meaning.
 fn valid_outcome(
     alloc: Global,
@@ -84,8 +112,10 @@ fn valid_outcome(
     let Some(tables) = tables_of(alloc, texts.cwd, call)? else {
         return refused(alloc, Status::NotUtf8);
     };
-    let plan = planned(alloc, call, host, texts, &tables);
-    told(alloc, call.limit, form, texts, plan)
+    match odd_directory(texts) {
+        Some(odd) => refused_directory(alloc, odd),
+        None => outcome_by(alloc, call, form, host, texts, &tables),
+    }
 }
 
 // A call, and the number of a form.
@@ -108,9 +138,9 @@ fn plan_outcome(alloc: Global, call: &PlanCall<'_>, form: u32) -> Result<Outcome
 /// Plans two dry runs of one `nvcc` call, as `plan_with_origins`, and writes the plan in a form. If the call has a limit,
 /// it plans as `plan_with_origins_within`.
 ///
-/// A number without a meaning is the first refusal, then a text that isn't UTF-8. Then come the faults of the suffixes,
-/// of the first run and of the second, and at last a plan that the form can't represent. A line that exceeds the limit is a
-/// fault of its run.
+/// A number without a meaning is the first refusal, then a text that isn't UTF-8, then a directory that isn't absolute and plain. Then
+/// come the faults of the suffixes, of the first run and of the second, and at last a plan that the form can't represent. A line that
+/// exceeds the limit is a fault of its run.
 pub fn plan(alloc: Global, call: &PlanCall<'_>, form: u32, out: &mut [u8]) -> TextAnswer
     ensures { GivesText (spec.plan_outcome call.now form) result out.old out.new }
 {

@@ -20,7 +20,7 @@ pub struct GroupRecord {
 pub struct CommandRecord {
     /// Which texts are the words after the program's name.
     pub arguments: Range,
-    /// Which texts are its variables: a name, its value, a name, ..
+    /// Which texts are its variables: a name, its value, a name, .. Commands with the variables of the first one share their texts.
     pub variables: Range,
     /// Which text is the program's path.
     pub program: usize,

@@ -42,6 +42,8 @@ pub(crate) struct Entry<'a> {
     pub(crate) line: usize,
     pub(crate) reason: u32,
     pub(crate) cacheable: u32,
+    /// Which texts its variables are, if it shares them with other commands.
+    pub(crate) shared: Option<Range>,
 }
 
 // Adds the texts of variables.
@@ -69,6 +71,18 @@ fn push_variables(texts: &mut Outcome, variables: &[(String, String)]) -> Result
     })
 }
 
+// The same of a command's variables, unless it shares their texts.
+fn push_own(texts: &mut Outcome, entry: Entry<'_>) -> Result<Range, AllocError>
+    ensures texts { OnOk result (texts.new ≡ with_texts texts.old (spec.own_texts entry.entry.shared (map pair_of entry.entry.variables.now))) }
+    ensures range { IfOk result (λ range. range
+        ≡ spec.variables_at (length texts.old.1.0) entry.entry.shared (map pair_of entry.entry.variables.now)) }
+{
+    match entry.shared {
+        None => push_variables(texts, entry.variables),
+        Some(shared) => Ok(shared),
+    }
+}
+
 // Adds the texts of a command, and makes its record.
 fn push_texts(texts: &mut Outcome, entry: Entry<'_>) -> Result<CommandRecord, AllocError>
     ensures texts { OnOk result (texts.new ≡ with_texts texts.old (spec.texts_of (spec.entry_seen entry.entry))) }
@@ -79,7 +93,7 @@ fn push_texts(texts: &mut Outcome, entry: Entry<'_>) -> Result<CommandRecord, Al
     let cwd = texts.count();
     texts.push(entry.cwd)?;
     let arguments = texts.push_list(entry.arguments)?;
-    let variables = push_variables(texts, entry.variables)?;
+    let variables = push_own(texts, entry)?;
     Ok(CommandRecord {
         arguments,
         variables,
@@ -124,6 +138,15 @@ impl Recorded {
         self.groups.reserve(groups)?;
         self.commands.reserve(commands)?;
         self.outcome.reserve(room.texts, room.bytes)
+    }
+
+    /// Adds the texts of variables that commands share, and says which they are.
+    pub(crate) fn share(&mut self, variables: &[(String, String)]) -> Result<Range, AllocError>
+        ensures texts { OnOk result (self.new ≡ (with_texts self.old.0 (spec.variable_texts (map pair_of variables.now)), self.old.1)) }
+        ensures range { IfOk result (λ range. range
+            ≡ record { offset = length self.old.0.1.0; length = length (spec.variable_texts (map pair_of variables.now)) }) }
+    {
+        push_variables(&mut self.outcome, variables)
     }
 
     /// Adds a command.

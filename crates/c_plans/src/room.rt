@@ -1,6 +1,6 @@
 //! The room that the texts of a plan's records take. With that much reserved, writing them moves nothing.
 
-ghost use Rattle.std.specs.Prelude.{◌≡◌, fold, map, string_bytes, vec_items};
+ghost use Rattle.std.specs.Prelude.{◌≡◌, fold, length, map, string_bytes, vec_items};
 ghost use Rattle.texts.specs.Variables.{pair_of};
 ghost use Rattle.c_plans.specs.Rooms as spec;
 
@@ -11,6 +11,13 @@ use plans::{Dropped, NvccGeneratedSubcommand, Plan};
 pub struct Room {
     pub texts: usize,
     pub bytes: usize,
+}
+
+// How many variables there are.
+fn count_of(variables: &[(String, String)]) -> usize
+    ensures { result ≡ length (map pair_of variables.now) }
+{
+    variables.len()
 }
 
 impl Room {
@@ -53,34 +60,45 @@ impl Room {
         room
     }
 
-    // Room for a command of a group.
-    fn with_command(self, command: &NvccGeneratedSubcommand) -> Room
-        ensures { result ≡ spec.with_command self command.now }
+    // Room for variables, unless there are as many as commands share.
+    fn with_own(self, shared: usize, variables: &[(String, String)]) -> Room
+        ensures { result ≡ spec.with_own shared self (map pair_of variables.now) }
+    {
+        if count_of(variables) == shared {
+            self
+        } else {
+            self.with_variables(variables)
+        }
+    }
+
+    // Room for a command of a group, if commands share so many variables.
+    fn with_command(self, shared: usize, command: &NvccGeneratedSubcommand) -> Room
+        ensures { result ≡ spec.with_command shared self command.now }
     {
         self.with_text(command.exe.as_str())
             .with_text(command.cwd.as_str())
             .with_texts(command.args.as_slice())
-            .with_variables(command.env_vars.as_slice())
+            .with_own(shared, command.env_vars.as_slice())
     }
 
     // Room for the commands of a group.
-    fn with_commands(self, commands: &[NvccGeneratedSubcommand]) -> Room
-        ensures { result ≡ spec.with_group self commands.now }
+    fn with_commands(self, shared: usize, commands: &[NvccGeneratedSubcommand]) -> Room
+        ensures { result ≡ spec.with_group shared self commands.now }
     {
         let mut room = self;
         for command in commands {
-            room = room.with_command(command);
+            room = room.with_command(shared, command);
         }
         room
     }
 
     // Room for the commands of groups.
-    fn with_groups(self, groups: &[Vec<NvccGeneratedSubcommand>]) -> Room
-        ensures { result ≡ fold spec.with_group self (map vec_items groups.now) }
+    fn with_groups(self, shared: usize, groups: &[Vec<NvccGeneratedSubcommand>]) -> Room
+        ensures { result ≡ fold (spec.with_group shared) self (map vec_items groups.now) }
     {
         let mut room = self;
         for commands in groups {
-            room = room.with_commands(commands.as_slice());
+            room = room.with_commands(shared, commands.as_slice());
         }
         room
     }
@@ -100,10 +118,11 @@ impl Room {
     }
 }
 
-/// Room for the texts of a plan, beside some room.
-pub(crate) fn room_with(room: Room, plan: &Plan) -> Room
-    ensures { result ≡ spec.room_with room plan.now }
+/// Room for the texts of a plan and of the variables that its commands share, beside some room.
+pub(crate) fn room_with(room: Room, shared: &[(String, String)], plan: &Plan) -> Room
+    ensures { result ≡ spec.room_with room (map pair_of shared.now) plan.now }
 {
-    room.with_groups(plan.groups.as_slice())
+    room.with_variables(shared)
+        .with_groups(count_of(shared), plan.groups.as_slice())
         .with_dropped(plan.dropped.as_slice())
 }

@@ -8,8 +8,8 @@ use Rattle.c_texts.proofs.RangeLemmas.{cut_behind}
 use Rattle.c_texts.proofs.TextLemmas.{ranges-length, texts-then}
 use Rattle.c_texts.specs.Memory.{cut}
 use Rattle.c_texts.specs.Outcomes.{Outcome, of_texts, with_texts}
-use Rattle.c_plans.proofs.RecordReading.{entries-read, part-behind, plan-is}
-use Rattle.c_plans.specs.Records.{entries_of, groups_at, records_at, texts_of}
+use Rattle.c_plans.proofs.RecordReading.{all-read, part-behind, plan-is}
+use Rattle.c_plans.specs.Records.{entries_of, groups_at, records_at, shared_of, texts_of, variable_texts}
 use Rattle.c_plans.specs.RecordsRead.{entry_in, plan_of}
 use Rattle.c_steps.specs.Steps.{Extra, Known, commands_of, extra_of, extras_from, extras_of, file_texts, missing_of, step_at, steps_at, steps_of}
 use Rattle.c_steps.specs.StepLaws.{StepsReadBack, PlansReadBack, extra_in}
@@ -92,7 +92,7 @@ cut-texts texts more = ap (λ (o : Outcome). map (cut o.1.1) o.1.0) (both-texts 
 pub steps-read-back : StepsReadBack
 steps-read-back planned =
     let plan = planned.plan in
-    let texts = flat_map texts_of (entries_of planned) in
+    let texts = variable_texts (shared_of plan.groups) ++ flat_map texts_of (entries_of planned) in
     let extras = extras_of plan in
     ap (λ ts. map (extra_in ts (steps_of planned).numbers) (steps_of planned).steps) (cut-texts texts (flat_map file_texts extras))
     ∙ ap (λ n. map (extra_in (texts ++ flat_map file_texts extras) (flat_map (λ e. e.needs) extras)) (steps_at n 0 extras)) (ranges-length 0 texts)
@@ -102,8 +102,9 @@ pub plans-read-back : PlansReadBack
 plans-read-back planned has =
     let groups = groups_at (length planned.plan.groups - 1) 0 0 planned.plan.groups in
     let entries = entries_of planned in
+    let shared = variable_texts (shared_of planned.plan.groups) in
     let texts = flat_map texts_of entries in
     let more = flat_map file_texts (extras_of planned.plan) in
-    ap (λ ts. plan_of groups (map (entry_in ts) (records_at 0 entries))) (cut-texts texts more)
-    ∙ ap (plan_of groups) (entries-read [] entries more)
+    ap (λ ts. plan_of groups (map (entry_in ts) (records_at (length shared) entries))) (cut-texts (shared ++ texts) more ∙ append_assoc shared texts more)
+    ∙ ap (plan_of groups) (all-read planned more)
     ∙ plan-is planned has

@@ -5,7 +5,7 @@ use Rattle.dry_runs.specs.declared.limit.LimitedFault.{LimitedFault}
 use Rattle.plans.specs.declared.origins.PlanWithOrigins.{PlanWithOrigins}
 use Rattle.program_lookups.specs.Snapshot.{answer_in}
 use Rattle.c_texts.specs.declared.status.Status.{Status}
-use Rattle.c_texts.specs.declared.status.Status.TheVariants.{BadNumber, NoDryRun, NotUtf8}
+use Rattle.c_texts.specs.declared.status.Status.TheVariants.{BadNumber, NotUtf8}
 use Rattle.c_texts.specs.Memory.{bytes_of}
 use Rattle.c_texts.specs.Outcomes.{refused, refused_with}
 use Rattle.c_plans.specs.declared.plan_call.PlanCall.{PlanCall}
@@ -14,7 +14,7 @@ use Rattle.c_plans.specs.PlanCalls.{Texts, has_numbers, host_of, tables_of, text
 use Rattle.c_plans.specs.Planning.{planned}
 use Rattle.c_steps.specs.Causes.{cause_of, placed, status_within}
 use Rattle.c_steps.specs.Fields.{number_field, table_field, text_field}
-use Rattle.c_steps.specs.Fitness.{Misfit, are_empty, misfit, misfit_of}
+use Rattle.c_steps.specs.Fitness.{Misfit, are_empty, misfit_of_call, no_dry_run}
 use Rattle.c_steps.specs.Places.{Given, in_field, place_of}
 use Rattle.c_steps.specs.Steps.{Stepped, refused_at, steps_of}
 
@@ -22,9 +22,9 @@ use Rattle.c_steps.specs.Steps.{Stepped, refused_at, steps_of}
 abbrev pub refused_in : Status → ℕ → Stepped
 refused_in status field = refused_at (in_field field) (refused status)
 
--- the refusal of texts that aren't the dry runs of a call
+-- the refusal of texts that aren't those of a call
 abbrev pub unfit : Misfit → Stepped
-unfit m = refused_at (in_field m.field) (refused_with NoDryRun m.why)
+unfit m = refused_at (in_field m.field) (refused_with m.status m.why)
 
 -- a fault of planning: its place, its status and its message
 abbrev pub failed_steps : ℕ → Given → LimitedFault → Stepped
@@ -34,7 +34,7 @@ failed_steps limit g fault =
 
 -- a plan as records, unless it has no command
 abbrev pub steps_unless_empty : PlanWithOrigins → Stepped
-steps_unless_empty p = if are_empty p.plan.groups then unfit (misfit 0 (codes "the plan has no command")) else steps_of p
+steps_unless_empty p = if are_empty p.plan.groups then unfit (no_dry_run 0 (codes "the plan has no command")) else steps_of p
 
 -- a plan as records, or the fault of a plan that there isn't
 abbrev pub stepped : ℕ → Given → Result PlanWithOrigins LimitedFault → Stepped
@@ -62,7 +62,7 @@ abbrev pub steps_with : PlanCall → NvccHostCompiler → Stepped
 steps_with call host =
     or_refused NotUtf8 (text_field call) (texts_of call) (λ texts.
     or_refused NotUtf8 (table_field call) (tables_of texts.cwd call) (λ tables.
-    unless_unfit (misfit_of (bytes_of call.dry1) (bytes_of call.dry2) texts.flag) (steps_by call host texts tables)))
+    unless_unfit (misfit_of_call (bytes_of call.dry1) (bytes_of call.dry2) texts) (steps_by call host texts tables)))
 
 -- a call
 abbrev pub plan_steps : PlanCall → Stepped

@@ -1,9 +1,13 @@
-//! Whether texts can be the dry runs of a call.
+//! Whether texts can be those of a call: its directories, its dry runs and its flag.
 
 ghost use Rattle.std.specs.Prelude.{◌≡◌, map, vec_items};
 ghost use Rattle.std.specs.Option.{option_map};
+ghost use Rattle.c_plans.specs.OddDirectories.{odd_seen};
+ghost use Rattle.c_plans.specs.PlanCalls.{texts_seen};
 ghost use Rattle.c_steps.specs.Fitness as spec;
 
+use c_plans::{OddField, Texts, odd_directory};
+use c_texts::Status;
 use dry_runs::is_dry_run;
 use plans::NvccGeneratedSubcommand;
 
@@ -30,35 +34,62 @@ fn is_flag(flag: &str) -> bool
     )
 }
 
-/// A field of a call that doesn't fit, and why.
+/// A field of a call that doesn't fit, the status of its refusal, and why.
 #[derive(Clone, Copy)]
 pub(crate) struct Misfit {
+    pub(crate) status: Status,
     pub(crate) field: u32,
     pub(crate) why: &'static str,
 }
 
-/// Why texts can't be the dry runs of a call, or a flag none of its options, if they can't. One text can be both: nvcc generates no
-/// file for a C or C++ source, so it prints the same twice.
-pub(crate) fn misfit_of(dry1: &[u8], dry2: &[u8], flag: &str) -> Option<Misfit>
+/// What is wrong with the dry runs of a call, given the field and why.
+pub(crate) fn no_dry_run(field: u32, why: &'static str) -> Misfit
+    ensures { spec.misfit_seen result ≡ spec.no_dry_run field why.now }
+{
+    Misfit {
+        status: Status::NoDryRun,
+        field,
+        why,
+    }
+}
+
+// A directory that a plan can't be made for.
+fn misfit_of_odd(odd: OddField) -> Misfit
+    ensures { spec.misfit_seen result ≡ spec.misfit_of_odd (odd_seen odd) }
+{
+    Misfit {
+        status: Status::OddDirectory,
+        field: odd.field,
+        why: odd.why,
+    }
+}
+
+// Why texts can't be the dry runs of a call, or a flag none of its options, if they can't. One text can be both: nvcc generates no
+// file for a C or C++ source, so it prints the same twice.
+fn misfit_of(dry1: &[u8], dry2: &[u8], flag: &str) -> Option<Misfit>
     ensures { option_map spec.misfit_seen result ≡ spec.misfit_of dry1.now dry2.now flag.now }
 {
     if !is_dry_run(dry1) {
-        Some(Misfit {
-            field: 1,
-            why: "the first text is no dry run: no line begins with \"#$ \"",
-        })
+        let why = "the first text is no dry run: no line begins with \"#$ \"";
+        Some(no_dry_run(1, why))
     } else if !is_dry_run(dry2) {
-        Some(Misfit {
-            field: 2,
-            why: "the second text is no dry run: no line begins with \"#$ \"",
-        })
+        let why = "the second text is no dry run: no line begins with \"#$ \"";
+        Some(no_dry_run(2, why))
     } else if !is_flag(flag) {
-        Some(Misfit {
-            field: 5,
-            why: "the flag isn't an option that says what nvcc makes",
-        })
+        let why = "the flag isn't an option that says what nvcc makes";
+        Some(no_dry_run(5, why))
     } else {
         None
+    }
+}
+
+/// What is wrong with a call: a directory, or else its dry runs or its flag.
+pub(crate) fn misfit_of_call(dry1: &[u8], dry2: &[u8], texts: Texts<'_>) -> Option<Misfit>
+    ensures { option_map spec.misfit_seen result ≡ spec.misfit_of_call dry1.now dry2.now (texts_seen texts.entry) }
+{
+    match odd_directory(texts) {
+        Some(odd) => Some(misfit_of_odd(odd)),
+        None => misfit_of(dry1, dry2, texts.flag),
     }
 }
 

@@ -12,7 +12,7 @@ ghost use Rattle.c_steps.specs.StepBuffers.{GivesSteps};
 
 use crate::cause::{message_at, status_within};
 use crate::field::{number_field, table_field, text_field};
-use crate::fitness::{Misfit, are_empty, misfit_of};
+use crate::fitness::{Misfit, are_empty, misfit_of_call, no_dry_run};
 use crate::place::{Given, in_field, place_of};
 use crate::step_record::{StepRecord, StepsAnswer};
 use crate::stepped::{Stepped, give_steps};
@@ -36,12 +36,12 @@ fn refused_in(alloc: Global, status: Status, field: u32) -> Result<Stepped, Allo
     Ok(Stepped::refused_at(alloc, in_field(field), outcome))
 }
 
-// A refusal of texts that aren't the dry runs of a call.
+// A refusal of texts that aren't those of a call.
 fn unfit(alloc: Global, misfit: Misfit) -> Result<Stepped, AllocError>
     ensures { IfOk result (λ stepped. stepped ≡ spec.unfit (misfit_seen misfit)) }
 {
     let text = String::from_str(alloc, misfit.why)?;
-    let outcome = refused_with(alloc, Status::NoDryRun, text);
+    let outcome = refused_with(alloc, misfit.status, text);
     Ok(Stepped::refused_at(alloc, in_field(misfit.field), outcome))
 }
 
@@ -65,8 +65,7 @@ fn steps_unless_empty(alloc: Global, planned: &PlanWithOrigins) -> Result<Steppe
     ensures { IfOk result (λ stepped. stepped ≡ spec.steps_unless_empty planned.now) }
 {
     if are_empty(planned.plan.groups.as_slice()) {
-        let why = "the plan has no command";
-        return unfit(alloc, Misfit { field: 0, why });
+        return unfit(alloc, no_dry_run(0, "the plan has no command"));
     }
     steps_of(alloc, planned)
 }
@@ -122,7 +121,7 @@ fn steps_with(
     let Some(tables) = tables_of(alloc, texts.cwd, call)? else {
         return refused_in(alloc, Status::NotUtf8, table_field(call));
     };
-    match misfit_of(call.dry1.bytes, call.dry2.bytes, texts.flag) {
+    match misfit_of_call(call.dry1.bytes, call.dry2.bytes, texts) {
         Some(misfit) => unfit(alloc, misfit),
         None => steps_by(alloc, call, host, texts, &tables),
     }
@@ -145,8 +144,8 @@ fn steps_outcome(alloc: Global, call: &PlanCall<'_>) -> Result<Stepped, AllocErr
 /// Plans two dry runs of one `nvcc` call, as `plan_with_origins`, and writes the plan as records: those of `c_plans::plan_records`, and
 /// for each command of a group which commands it needs, which files it reads and writes, and which tool it runs.
 ///
-/// A number without a meaning is the first refusal, then a text that isn't UTF-8, then texts that can't be the dry runs of a call, or a
-/// flag that can't be its option. Then come the faults of the suffixes, of the first run and of the second, and last a plan without a
+/// A number without a meaning is the first refusal, then a text that isn't UTF-8, then a directory that isn't absolute and plain, then
+/// texts that can't be the dry runs of a call, or a flag that can't be its option. Then come the faults of the suffixes, of the first run and of the second, and last a plan without a
 /// command. A line that exceeds the limit is a fault of its run. The answer says where the call is refused.
 pub fn plan_steps(
     alloc: Global,

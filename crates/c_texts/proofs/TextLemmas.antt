@@ -1,5 +1,6 @@
 -- Texts behind other texts.
 use Rattle.std.proofs.Common.{◌≡◌, ◌++◌, ◌+◌, ◌∷◌, [], ℕ, suc, List, map, length, refl, sym, ap, ◌∙◌, arith, length-append, append_assoc}
+use Rattle.std.proofs.lemmas.List.{append-nil}
 use Rattle.std.specs.List.{concat}
 use Rattle.c_texts.specs.declared.memory.Range.{Range}
 use Rattle.c_texts.specs.Memory.{ranges_at}
@@ -42,6 +43,10 @@ texts-then outcome xs ys =
     let text : (bytes ++ concat xs) ++ concat ys ≡ bytes ++ concat (xs ++ ys) =
     append_assoc bytes (concat xs) (concat ys) ∙ ap (λ t. bytes ++ t) (sym (concat-append xs ys)) in
     λ i. (outcome.0, (places i, text i))
+
+-- no further texts
+pub with-none : (outcome : Outcome) → outcome ≡ with_texts outcome []
+with-none outcome = λ i. (outcome.0, (sym (append-nil outcome.1.0) i, sym (append-nil outcome.1.1) i))
 
 -- how many ranges there are, behind further texts
 pub count-then : (outcome : Outcome) (xs : List (List ℕ)) → length (with_texts outcome xs).1.0 ≡ length outcome.1.0 + length xs

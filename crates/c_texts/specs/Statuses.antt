@@ -1,7 +1,7 @@
 -- The statuses of calls.
 use Rattle.std.specs.Prelude.{ℕ, ℤ, pos, negsuc, ◌==◌, if◌then◌else◌, List, Option, Some, None, codes}
 use Rattle.c_texts.specs.declared.status.Status.{Status}
-use Rattle.c_texts.specs.declared.status.Status.TheVariants.{Success, Memory, NotUtf8, BadNumber, OpenQuote, BadDryRun, NotFound, BadSuffixes, Unwritable, BadLine, ToNvcc, OverLimit, NoDryRun}
+use Rattle.c_texts.specs.declared.status.Status.TheVariants.{Success, Memory, NotUtf8, BadNumber, OpenQuote, BadDryRun, NotFound, BadSuffixes, Unwritable, BadLine, ToNvcc, OverLimit, NoDryRun, OddDirectory}
 
 -- a status's number
 abbrev pub number : Status → ℤ
@@ -18,6 +18,7 @@ number BadLine = pos 9
 number ToNvcc = pos 10
 number OverLimit = pos 11
 number NoDryRun = pos 12
+number OddDirectory = pos 13
 
 -- the status with this number, if it isn't negative
 abbrev pub with_natural : ℕ → Option Status
@@ -35,6 +36,7 @@ with_natural n =
     else if n == 10 then Some ToNvcc
     else if n == 11 then Some OverLimit
     else if n == 12 then Some NoDryRun
+    else if n == 13 then Some OddDirectory
     else None
 
 -- the status with this number
@@ -57,3 +59,4 @@ text BadLine = codes "a line of a tool cannot be read"
 text ToNvcc = codes "the line goes to nvcc"
 text OverLimit = codes "a dry run exceeds the limit"
 text NoDryRun = codes "the texts are not the dry runs of a call"
+text OddDirectory = codes "a directory is not absolute and plain"

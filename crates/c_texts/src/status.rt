@@ -37,6 +37,8 @@ pub enum Status {
     OverLimit,
     /// The texts aren't the two dry runs of a call.
     NoDryRun,
+    /// A directory of a plan isn't absolute, or a part of its path is empty, `.` or `..`.
+    OddDirectory,
 }
 
 impl Status {
@@ -58,6 +60,7 @@ impl Status {
             Status::ToNvcc => 10,
             Status::OverLimit => 11,
             Status::NoDryRun => 12,
+            Status::OddDirectory => 13,
         }
     }
 
@@ -79,6 +82,7 @@ impl Status {
             10 => Some(Status::ToNvcc),
             11 => Some(Status::OverLimit),
             12 => Some(Status::NoDryRun),
+            13 => Some(Status::OddDirectory),
             _ => None,
         }
     }
@@ -101,6 +105,7 @@ impl Status {
             Status::ToNvcc => "the line goes to nvcc",
             Status::OverLimit => "a dry run exceeds the limit",
             Status::NoDryRun => "the texts are not the dry runs of a call",
+            Status::OddDirectory => "a directory is not absolute and plain",
         }
     }
 }

@@ -1,13 +1,13 @@
 use Rattle.std.proofs.Common.{ℕ, ◌+◌, List, ◌∷◌, [], length, drop, sym, ap, ◌∙◌, length-append}
 use Rattle.command_files.specs.Numbered.{of_group}
 use Rattle.command_files.proofs.Pushing.{next-left}
-use Rattle.c_plans.specs.Records.{Entry, command_entry, record_at, with_entry, with_entries}
+use Rattle.c_plans.specs.Records.{Entry, command_entry, shared_seen, record_at, with_entry, with_entries}
 use Rattle.c_plans.proofs.RecordLemmas.{entry-then}
 use Rattle.c_plans.proofs.plan_entries.push_commands.Goals as goal
 
 pub loop-command-preserved : goal.loop-command-preserved
 loop-command-preserved c =
-    let described = command_entry c.args.origins.now in
+    let described = command_entry c.args.origins.now (shared_seen c.args.shared) in
     let group = c.args.group in
     let commands = c.args.commands.now in
     let i = c.loop-command.command-index in

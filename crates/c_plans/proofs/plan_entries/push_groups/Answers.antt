@@ -2,13 +2,13 @@ use Rattle.std.proofs.Common.{◌+◌, List, ◌∷◌, length, drop, map, sym, 
 use Rattle.plans.specs.declared.plan.NvccGeneratedSubcommand.{NvccGeneratedSubcommand}
 use Rattle.command_files.specs.Numbered.{of_groups}
 use Rattle.command_files.proofs.Pushing.{next-left}
-use Rattle.c_plans.specs.Records.{command_entry, groups_at, with_groups}
+use Rattle.c_plans.specs.Records.{command_entry, shared_seen, groups_at, with_groups}
 use Rattle.c_plans.proofs.RecordLemmas.{groups-step}
 use Rattle.c_plans.proofs.plan_entries.push_groups.Goals as goal
 
 pub loop-group-preserved : goal.loop-group-preserved
 loop-group-preserved c =
-    let described = command_entry c.args.origins.now in
+    let described = command_entry c.args.origins.now (shared_seen c.args.shared) in
     let groups = c.args.groups.now in
     let last = c.saturating_sub-last.result in
     let group = c.loop-group.group in

@@ -6,7 +6,7 @@ use Rattle.c_plans.proofs.recorded.push_texts.Goals as goal
 
 pub returns-clause-texts : goal.returns-clause-texts
 returns-clause-texts c =
-    command-texts c.args.texts.now c.push.new.self c.push-2.new.self c.push_list.new.self c.push_variables.new.texts (entry_seen c.args.entry)
+    command-texts c.args.texts.now c.push.new.self c.push-2.new.self c.push_list.new.self c.push_own.new.texts (entry_seen c.args.entry)
     c.in_ok-push.ensures c.in_ok-push-2.ensures c.in_ok-arguments.ensures.texts c.in_ok-variables.ensures.texts
 
 pub returns-clause-record : goal.returns-clause-record
