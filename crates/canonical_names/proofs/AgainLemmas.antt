@@ -2,6 +2,7 @@
 use Rattle.std.proofs.Common.{◌≡◌, ℕ, ◌++◌, ◌&&◌, Bool, true, false, cond, eqb, List, [], ◌∷◌, Option, Some, None, map, refl, ap, sym, ◌∙◌, nat_eq, codes}
 use Rattle.std.specs.List.{All, starts_with}
 use Rattle.std.proofs.lemmas.List.Elements.{All-nil, All-contains}
+use Rattle.std.proofs.Math.Bool.{and-false}
 use Rattle.texts.specs.Path.{folder_of, separator_after}
 use Rattle.texts.proofs.PathLaw.{folder-begins}
 use Rattle.command_lines.specs.CommandLines.{CommandLine, line_of, program_of, words_of_command}
@@ -18,10 +19,6 @@ pub record Unmarked (text : List ℕ) : Type 0 where
   pub no_head : starts_with nat_eq text (codes "-Fi") ≡ false
   pub whole : core_of text ≡ text
 
-pub and-none : (b : Bool) → (b && false) ≡ false
-and-none true = refl
-and-none false = refl
-
 pub mark-turned : (a b c : ℕ) → (eqb 45 a && (eqb 70 b && (eqb 105 c && true))) ≡ is_file_mark a b c
 mark-turned a b c = rw (eqb-turned 45 a, eqb-turned 70 b, eqb-turned 105 c) (shape (eqb a 45) (eqb b 70) (eqb c 105)) where
   shape : (x y z : Bool) → (x && (y && (z && true))) ≡ ((x && y) && z)
@@ -37,10 +34,10 @@ long-unmarked a b c rest h = record {
 }
 
 pub one-unmarked : (a : ℕ) → Unmarked (a ∷ [])
-one-unmarked a = record { no_head = and-none (eqb 45 a); whole = refl }
+one-unmarked a = record { no_head = and-false (eqb 45 a); whole = refl }
 
 pub two-unmarked : (a b : ℕ) → Unmarked (a ∷ b ∷ [])
-two-unmarked a b = record { no_head = ap (λ t. eqb 45 a && t) (and-none (eqb 70 b)) ∙ and-none (eqb 45 a); whole = refl }
+two-unmarked a b = record { no_head = ap (λ t. eqb 45 a && t) (and-false (eqb 70 b)) ∙ and-false (eqb 45 a); whole = refl }
 
 core-unmarked : (word : List ℕ) → Unmarked (core_of word)
 core-unmarked [] = record { no_head = refl; whole = refl }

@@ -1,8 +1,5 @@
 -- Clean runs that have one canonical run are alike.
-use Rattle.std.proofs.Common.{◌≡◌, ℕ, ◌++◌, List, [], ◌∷◌, Option, Some, None, inl, inr, map, refl, ap, sym, ◌∙◌, subst, fold}
-use Rattle.std.specs.List.{Contains, find, filter_map}
-use Rattle.std.specs.Option.{option_map, unwrap_or}
-use Rattle.std.specs.Str.{bytes_eq}
+use Rattle.std.proofs.Common.{◌≡◌, ℕ, ◌++◌, List, [], ◌∷◌, Option, Some, None, inl, inr, map, refl, ap, sym, ◌∙◌, subst, fold, Contains, find, filter_map, option_map, unwrap_or, bytes_eq}
 use Rattle.std.proofs.lemmas.List.Elements.{All-nil, All-contains}
 use Rattle.std.proofs.lemmas.Slice.Eq.{bytes_eq-Decides}
 use Rattle.texts.specs.Path.{folder_of}
@@ -31,10 +28,8 @@ mapped-member f (y ∷ ys) x h =
 pub member-mapped : {A B : Type 0} (f : A → B) (xs : List A) (y : B) → Contains (map f xs) y → (x : A) × Contains xs x × (f x ≡ y)
 member-mapped f [] y h = absurd (no-member y h)
 member-mapped f (x ∷ xs) y h =
-    elim (member-cases (f x) (map f xs) y h) as (λ _. (z : _) × Contains (x ∷ xs) z × (f z ≡ y)) [
-      | inl is ↦ (x, head-member x xs, is)
-      | inr more ↦ let found = member-mapped f xs y more in (found.0, tail-member x xs found.0 found.1, found.2)
-    ]
+    elim (member-cases (f x) (map f xs) y h) as (λ _. (z : _) × Contains (x ∷ xs) z × (f z ≡ y))
+    [ inl is ↦ (x, head-member x xs, is) | inr more ↦ let found = member-mapped f xs y more in (found.0, tail-member x xs found.0 found.1, found.2) ]
 
 -- what is told, once more, with other names
 

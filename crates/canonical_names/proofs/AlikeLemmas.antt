@@ -1,11 +1,10 @@
 -- Clean runs that are alike have one canonical run.
-use Rattle.std.proofs.Common.{◌≡◌, ℕ, ◌+◌, ◌-◌, ◌++◌, ◌||◌, Bool, true, false, cond, List, [], ◌∷◌, Option, Some, None, inl, inr, map, refl, ap, sym, ◌∙◌, subst, nat_eq, length, take, fold}
+use Rattle.std.proofs.Common.{◌≡◌, ℕ, ◌+◌, ◌-◌, ◌++◌, ◌||◌, Bool, true, false, cond, List, [], ◌∷◌, Option, Some, None, inl, inr, map, refl, ap, sym, ◌∙◌, subst, nat_eq, length, take, fold, option_map, bytes_eq, map-id}
 use Rattle.std.specs.List.{Contains, list_any, ends_with, filter_map, flat_map, cons_option}
-use Rattle.std.specs.Option.{option_map}
-use Rattle.std.specs.Str.{bytes_eq}
 use Rattle.std.proofs.lemmas.Bool.{false≢true, or_cases}
 use Rattle.std.proofs.lemmas.List.Elements.{Contains-append_left, Contains-push}
 use Rattle.std.proofs.lemmas.Slice.Eq.{bytes_eq-Decides}
+use Rattle.std.proofs.lemmas.List.{map-append}
 use Rattle.texts.specs.Path.{joined, folder_of}
 use Rattle.command_lines.specs.CommandLines.{CommandLine, words_of_command}
 use Rattle.canonical_names.specs.Generated.{head_of, core_of, class_of, class_of_name, begins_with_dash, generated_name}
@@ -25,15 +24,6 @@ ToldWord = List ℕ × Option (List ℕ) × List ℕ
 abbrev pub Told : Type 0
 Told = ℕ × List ℕ × List ToldWord
 
--- lists under a map
-pub map-append : {A B : Type 0} (f : A → B) (xs ys : List A) → map f (xs ++ ys) ≡ map f xs ++ map f ys
-map-append f [] ys = refl
-map-append f (x ∷ xs) ys = ap (λ t. f x ∷ t) (map-append f xs ys)
-
-pub map-same : {A : Type 0} (xs : List A) → map (λ x. x) xs ≡ xs
-map-same [] = refl
-map-same (x ∷ xs) = ap (λ t. x ∷ t) (map-same xs)
-
 -- tests that hold of the same
 pub same-tests : (a b : Bool) → (a ≡ true → b ≡ true) → (b ≡ true → a ≡ true) → a ≡ b
 same-tests true b h k = sym (h refl)
@@ -41,7 +31,7 @@ same-tests false true h k = k refl
 same-tests false false h k = refl
 
 -- a name that is added is a member
-any-member : (x : List ℕ) (seen : List (List ℕ)) → list_any (bytes_eq x) seen ≡ true → Contains seen x
+pub any-member : (x : List ℕ) (seen : List (List ℕ)) → list_any (bytes_eq x) seen ≡ true → Contains seen x
 any-member x [] h = absurd (false≢true h)
 any-member x (n ∷ seen) h =
     elim (or_cases (bytes_eq x n) (list_any (bytes_eq x) seen) h) as (λ _. Contains (n ∷ seen) x) [
@@ -199,13 +189,11 @@ alike-runs_agree suffixes lawful first second one other (f, renaming, told) =
     let names = names_of_run suffixes first in
     let listed : names ≡ fold add [] (appearances suffixes first) = run-names suffixes [] first in
     let appear : map f (appearances suffixes first) ≡ appearances suffixes second =
-    sym (run-told suffixes f first) ∙ ap names_told told ∙ run-told suffixes (λ n. n) second ∙ map-same (appearances suffixes second) in
+    sym (run-told suffixes f first) ∙ ap names_told told ∙ run-told suffixes (λ n. n) second ∙ map-id (appearances suffixes second) in
     let named : map f names ≡ names_of_run suffixes second =
     ap (map f) listed ∙ sym (fold-mapped suffixes lawful names f renaming [] (appearances suffixes first) listed)
     ∙ ap (fold add []) appear ∙ sym (run-names suffixes [] second) in
-    clean-run_is_a_map suffixes first one
-    ∙ sym (run-agrees suffixes lawful names f renaming [] first refl)
+    clean-run_is_a_map suffixes first one ∙ sym (run-agrees suffixes lawful names f renaming [] first refl)
     ∙ ap (map (command_of_told (map f names))) told
     ∙ ap (λ ns. map (command_of_told ns) (map (command_through suffixes (λ n. n)) second)) named
-    ∙ run-same suffixes (names_of_run suffixes second) second
-    ∙ sym (clean-run_is_a_map suffixes second other)
+    ∙ run-same suffixes (names_of_run suffixes second) second ∙ sym (clean-run_is_a_map suffixes second other)

@@ -1,12 +1,11 @@
 -- The names that appear in a run have a class, and a text holds one of them where it holds one of the run's names.
-use Rattle.std.proofs.Common.{◌≡◌, ℕ, ◌++◌, ◌&&◌, ◌||◌, Bool, true, false, not, cond, List, [], ◌∷◌, Option, Some, None, is_some, map, filter, refl, ap, sym, ◌∙◌, nat_eq, fold, codes, length, take, ◌-◌, append_assoc}
+use Rattle.std.proofs.Common.{◌≡◌, ℕ, ◌++◌, ◌&&◌, ◌||◌, Bool, true, false, not, cond, List, [], ◌∷◌, Option, Some, None, is_some, map, filter, refl, ap, sym, ◌∙◌, nat_eq, fold, codes, length, take, ◌-◌, append_assoc, option_map, bytes_eq}
 use Rattle.std.specs.List.{list_any, list_all, filter_map, cons_option, ends_with}
 use Rattle.std.specs.Cmp.Lexicographic.{pointwise}
-use Rattle.std.specs.Option.{option_map}
-use Rattle.std.specs.Str.{bytes_eq}
-use Rattle.std.proofs.lemmas.Bool.{false≢true, and_parts, and_from}
+use Rattle.std.proofs.lemmas.Bool.{false≢true, and_parts, and_from, or_right}
 use Rattle.std.proofs.lemmas.List.Folds.{list_any-append}
 use Rattle.std.proofs.lemmas.Slice.Eq.{bytes_eq-Decides}
+use Rattle.std.proofs.Math.Bool.{or_assoc, or-false, or-true}
 use Rattle.texts.specs.DeviceFiles.{is_cicc_word}
 use Rattle.texts.specs.Lists.{word_after}
 use Rattle.texts.specs.Path.{joined, is_bare, is_absolute_path, separator_after}
@@ -52,15 +51,8 @@ module _ (test : List ℕ → Bool) where
   seen-tested x (y ∷ seen) h t =
       elim (bytes_eq x y) as (λ b. bytes_eq x y ≡ b → (b || list_any (bytes_eq x) seen) ≡ true → (test y || list_any test seen) ≡ true) [
         | true ↦ λ e _. ap (λ b. b || list_any test seen) (ap test (sym ((bytes_eq-Decides x y).0 e)) ∙ t)
-        | false ↦ λ _ k. or-right (test y) (list_any test seen) (seen-tested x seen k t)
-      ] refl h where
-        or-right : (a b : Bool) → b ≡ true → (a || b) ≡ true
-        or-right true b h = refl
-        or-right false b h = h
-
-  or_assoc : (a b c : Bool) → ((a || b) || c) ≡ (a || (b || c))
-  or_assoc true b c = refl
-  or_assoc false b c = refl
+        | false ↦ λ _ k. or_right (test y) (list_any test seen) (seen-tested x seen k t)
+      ] refl h
 
   absorbed : (a b c : Bool) → (b ≡ true → a ≡ true) → (a || c) ≡ (a || (b || c))
   absorbed true b c h = refl
@@ -68,16 +60,12 @@ module _ (test : List ℕ → Bool) where
   absorbed false false c h = refl
 
   any-added : (xs seen : List (List ℕ)) → list_any test (fold add seen xs) ≡ (list_any test seen || list_any test xs)
-  any-added [] seen = or-nothing (list_any test seen) where
-    or-nothing : (a : Bool) → a ≡ (a || false)
-    or-nothing true = refl
-    or-nothing false = refl
+  any-added [] seen = sym (or-false (list_any test seen))
   any-added (x ∷ xs) seen =
       elim (list_any (bytes_eq x) seen) as (λ b. list_any (bytes_eq x) seen ≡ b → list_any test (fold add (cond b seen (seen ++ x ∷ [])) xs) ≡ (list_any test seen || (test x || list_any test xs))) [
         | true ↦ λ e. any-added xs seen ∙ absorbed (list_any test seen) (test x) (list_any test xs) (seen-tested x seen e)
         | false ↦ λ _.
-            any-added xs (seen ++ x ∷ [])
-            ∙ ap (λ b. b || list_any test xs) (list_any-append test seen (x ∷ []))
+            any-added xs (seen ++ x ∷ []) ∙ ap (λ b. b || list_any test xs) (list_any-append test seen (x ∷ []))
             ∙ or_assoc (list_any test seen) (test x || false) (list_any test xs)
             ∙ ap (λ b. list_any test seen || b) (or_assoc (test x) false (list_any test xs))
       ] refl
@@ -90,10 +78,7 @@ pub clean-without_suffix : (suffixes : List (List ℕ)) (commands : List Command
 clean-without_suffix suffixes commands word none =
     let no_name : list_any (λ n. holds n word) (names_of_run suffixes commands) ≡ false =
     names-tested (λ n. holds n word) suffixes commands ∙ no-suffix-no_names suffixes (appearances suffixes commands) word (appearances-classes suffixes commands) none in
-    ap (λ b. is_generated suffixes word || not b) no_name ∙ or-true (is_generated suffixes word) where
-      or-true : (a : Bool) → (a || true) ≡ true
-      or-true true = refl
-      or-true false = refl
+    ap (λ b. is_generated suffixes word || not b) no_name ∙ or-true (is_generated suffixes word)
 
 -- a name in a folder ends in `.cpp1.ii` where the name does
 pub joined-split : (folder n : List ℕ) → (front : List ℕ) × (joined folder n ≡ front ++ n)

@@ -1,10 +1,8 @@
 -- Canonical names: their files are bare and end in their class, ranks tell the names of a class apart, and so do numerals.
-use Rattle.std.proofs.Common.{◌≡◌, ◌≢◌, ◌⊎◌, ℕ, ◌+◌, ◌-◌, ◌<◌, ◌≤◌, ◌++◌, ◌||◌, Bool, true, false, not, cond, eqb, ne_eqb, eqb-true, eq-eqb, append_assoc, List, [], ◌∷◌, Option, Some, None, inl, inr, map, refl, ap, sym, ◌∙◌, subst, nat_eq, length, take, drop, get_or, fold, codes, arith}
+use Rattle.std.proofs.Common.{◌≡◌, ◌⊎◌, ℕ, ◌+◌, ◌-◌, ◌<◌, ◌≤◌, ◌++◌, ◌||◌, Bool, true, false, not, cond, eqb, ne_eqb, eqb-true, append_assoc, List, [], ◌∷◌, Option, Some, None, inl, inr, map, refl, ap, sym, ◌∙◌, subst, nat_eq, length, take, drop, get_or, fold, codes, arith, option_map, bytes_eq}
 use Rattle.std.specs.List.{Contains, All, ends_with, find, list_any, list_all}
-use Rattle.std.specs.Option.{option_map}
-use Rattle.std.specs.Str.{bytes_eq}
 use Rattle.std.specs.Int.Digits.{digits_of}
-use Rattle.std.proofs.lemmas.Bool.{false≢true, and_parts, and_from, cond_both, cases_lt, eqb-false}
+use Rattle.std.proofs.lemmas.Bool.{false≢true, and_parts, and_from, cond_both, cases_lt}
 use Rattle.std.proofs.lemmas.List.{length-append, take-append-drop, append_cancel_left, append_cancel_right}
 use Rattle.std.proofs.lemmas.List.Elements.{All-nil, All-push, All-contains, Contains-append_left, Contains-append_right, Contains-append_cases, Contains-push, Contains-push_cases}
 use Rattle.std.proofs.lemmas.List.Sums.{AllPass-from_list_all}
@@ -14,19 +12,16 @@ use Rattle.std.proofs.Math.Seq.{drop-append_seam, drop-append-add}
 use Rattle.texts.specs.Path.{folder_of, is_bare, lacks, separator_after}
 use Rattle.texts.proofs.PathLaw.{joined-keeps_folder, folders-cancel}
 use Rattle.command_lines.specs.CommandLines.{CommandLine, words_of_command}
-use Rattle.canonical_names.specs.Generated.{standard_suffixes, class_of_name, core_of, begins_with_dash, generated_name}
-use Rattle.canonical_names.specs.Renaming.{canonical_file, canonical_in, canonical_or, canonical_name, rank, seen_after_word, seen_after, names_of_run}
 use Rattle.texts.specs.Numeral.{numeral}
 use Rattle.texts.specs.Lists.{with_name}
+use Rattle.canonical_names.specs.Generated.{standard_suffixes, class_of_name, core_of, begins_with_dash, generated_name}
+use Rattle.canonical_names.specs.Renaming.{canonical_file, canonical_in, canonical_or, canonical_name, rank, seen_after_word, seen_after, names_of_run}
 use Rattle.canonical_names.specs.CanonicalNames.{AreSuffixes, StandardAreSuffixes, DifferentNames, FolderAndClassStay}
+use Rattle.canonical_names.proofs.RankLemmas.{bytes_eq-itself}
 
 -- equal texts, by the test
 same : (a b : List ℕ) → bytes_eq a b ≡ true → a ≡ b
 same a b h = (bytes_eq-Decides a b).0 h
-
-same-itself : (a : List ℕ) → bytes_eq a a ≡ true
-same-itself [] = refl
-same-itself (x ∷ xs) = and_from (eqb x x) (bytes_eq xs xs) (eq-eqb x x refl) (same-itself xs)
 
 -- a text that ends in s is what stands before, and s
 pub ends-split : (text s : List ℕ) → ends_with nat_eq text s ≡ true → text ≡ take (length text - length s) text ++ s
@@ -40,12 +35,12 @@ shorter-end front other s t e le =
     let lengths : length front + length s ≡ length other + length t = sym (length-append front s) ∙ ap length e ∙ length-append other t in
     let places : length front ≡ length other + (length t - length s) = omega (arith, lengths, le) in
     let end : s ≡ drop (length t - length s) t = sym (drop-append_seam front s) ∙ ap (λ x. drop (length front) x) e ∙ ap (λ n. drop n (other ++ t)) places ∙ drop-append-add other t (length t - length s) in
-    subst (λ x. bytes_eq s x ≡ true) end (same-itself s)
+    subst (λ x. bytes_eq s x ≡ true) end (bytes_eq-itself s)
 
 pub ends-append : (front s : List ℕ) → ends_with nat_eq (front ++ s) s ≡ true
 ends-append front s =
     let places : length (front ++ s) - length s ≡ length front = omega (arith, length-append front s) in
-    subst (λ x. bytes_eq s x ≡ true) (sym (ap (λ n. drop n (front ++ s)) places ∙ drop-append_seam front s)) (same-itself s)
+    subst (λ x. bytes_eq s x ≡ true) (sym (ap (λ n. drop n (front ++ s)) places ∙ drop-append_seam front s)) (bytes_eq-itself s)
 
 -- numerals
 unshift : (ds : List ℕ) → map (λ d. d - 48) (map (λ d. 48 + d) ds) ≡ ds
@@ -57,15 +52,15 @@ unshift (d ∷ ds) =
 shift-cancel : (xs ys : List ℕ) → map (λ d. 48 + d) xs ≡ map (λ d. 48 + d) ys → xs ≡ ys
 shift-cancel xs ys e = sym (unshift xs) ∙ ap (map (λ d. d - 48)) e ∙ unshift ys
 
+positive : (n : ℕ) → eqb n 0 ≡ false → 0 < n
+positive n = grind arith
+
 -- no other number is written as nothing is
 no-zero_digit : (n : ℕ) → 0 < n → codes "0" ≡ map (λ d. 48 + d) (digits_of 10 n) → ⊥
 no-zero_digit n pos e =
     let zero_digit : digits_of 10 n ≡ 0 ∷ [] = sym (unshift (digits_of 10 n)) ∙ sym (ap (map (λ d. d - 48)) e) in
     let bad : 0 < get_or (0 ∷ []) 0 0 = subst (λ ds. 0 < get_or ds 0 0) zero_digit (first_digits_of 10 n (omega arith) pos) in
     omega (arith, bad)
-
-positive : (n : ℕ) → eqb n 0 ≡ false → 0 < n
-positive n h = let some : n ≢ 0 = eqb-false n 0 h in omega (arith, some)
 
 numeral-cases : (m n : ℕ) (a b : Bool) → eqb m 0 ≡ a → eqb n 0 ≡ b → cond a (codes "0") (map (λ d. 48 + d) (digits_of 10 m)) ≡ cond b (codes "0") (map (λ d. 48 + d) (digits_of 10 n)) → m ≡ n
 numeral-cases m n true true em en e = eqb-true m 0 em ∙ sym (eqb-true n 0 en)
@@ -188,10 +183,8 @@ rank-cases class x m n more false false em en cm cn rest e =
 
 later-member : (x : List ℕ) (xs : List (List ℕ)) (m : List ℕ) → Contains (x ∷ xs) m → bytes_eq x m ≡ false → Contains xs m
 later-member x xs m h differs =
-    elim (member-cases x xs m h) as (λ _. Contains xs m) [
-      | inl is ↦ absurd (false≢true (sym differs ∙ ap (λ z. bytes_eq z m) is ∙ same-itself m))
-      | inr more ↦ more
-    ]
+    elim (member-cases x xs m h) as (λ _. Contains xs m)
+    [ inl is ↦ absurd (false≢true (sym differs ∙ ap (λ z. bytes_eq z m) is ∙ bytes_eq-itself m)) | inr more ↦ more ]
 
 pub rank-apart : (class : List ℕ) (names : List (List ℕ)) (m n : List ℕ) → Contains names m → Contains names n → ends_with nat_eq m class ≡ true → ends_with nat_eq n class ≡ true → rank class names m ≡ rank class names n → m ≡ n
 rank-apart class [] m n hm hn cm cn e = absurd (no-member m hm)

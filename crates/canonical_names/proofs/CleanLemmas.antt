@@ -1,7 +1,6 @@
 -- In a clean run every word is renamed by all names of the run.
-use Rattle.std.proofs.Common.{◌≡◌, ℕ, ◌++◌, ◌||◌, true, false, not, cond, List, [], ◌∷◌, Option, Some, None, is_some, map, refl, ap, sym, ◌∙◌, nat_eq, fold}
+use Rattle.std.proofs.Common.{◌≡◌, ℕ, ◌++◌, ◌||◌, true, false, not, cond, List, [], ◌∷◌, Option, Some, None, is_some, map, refl, ap, sym, ◌∙◌, nat_eq, fold, option_map}
 use Rattle.std.specs.List.{list_any, list_all, starts_with, filter_map}
-use Rattle.std.specs.Option.{option_map}
 use Rattle.std.proofs.lemmas.Bool.{and_parts, or_parts, or_from, not-true}
 use Rattle.texts.specs.Path.{joined, folder_of}
 use Rattle.command_lines.specs.CommandLines.{CommandLine, words_of_command}

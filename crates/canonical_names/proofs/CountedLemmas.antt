@@ -1,12 +1,10 @@
 -- A name that is new is counted, and a name that was seen keeps its canonical name.
-use Rattle.std.proofs.Common.{◌≡◌, ℕ, ◌+◌, ◌<◌, ◌≤◌, ◌||◌, Bool, true, false, cond, suc, zero, List, [], ◌∷◌, ◌++◌, Option, Some, None, is_some, map, filter, length, inl, inr, refl, ap, sym, ◌∙◌, subst, nat_eq, codes, arith, string_bytes, String, slice_set, get_or, replicate, decimal, ◌^◌}
+use Rattle.std.proofs.Common.{◌≡◌, ℕ, ◌+◌, ◌<◌, ◌≤◌, ◌||◌, Bool, true, false, cond, suc, zero, List, [], ◌∷◌, ◌++◌, Option, Some, None, is_some, map, filter, length, inl, inr, refl, ap, sym, ◌∙◌, subst, nat_eq, codes, arith, string_bytes, String, slice_set, get_or, replicate, decimal, ◌^◌, unwrap_or, option_copied, bytes_eq}
 use Rattle.std.specs.declared.alloc.Global.{Global}
 use Rattle.std.specs.List.{Contains, ends_with, list_all, list_any, slice_get}
 use Rattle.std.specs.Map.{lookup}
-use Rattle.std.specs.Option.{unwrap_or, option_copied}
 use denote.Ref.{Bor}
 use Rattle.indexmap.specs.IndexMap.{insert_entry}
-use Rattle.std.specs.Str.{bytes_eq}
 use Rattle.std.proofs.lemmas.Bool.{false≢true, and_parts, and_from, or_parts}
 use Rattle.texts.proofs.NumeralLemmas.{decimal-numeral}
 use Rattle.std.proofs.lemmas.List.{map-append, length-append, length-map, get_or_default}
@@ -44,25 +42,21 @@ known-name f (e ∷ es) name all v h =
 pub unknown-name : (es : List (String Global × String Global)) (name : List ℕ) → lookup (λ k. bytes_eq name (string_bytes k)) es ≡ None → list_any (bytes_eq name) (old_names (map pair_of es)) ≡ false
 unknown-name [] name h = refl
 unknown-name (e ∷ es) name h =
-    elim (bytes_eq name (string_bytes e.0)) as (λ t. cond t (Some e.1) (lookup (λ k. bytes_eq name (string_bytes k)) es) ≡ None → (t || list_any (bytes_eq name) (old_names (map pair_of es))) ≡ false) [
-      | true ↦ λ k. cc
-      | false ↦ λ k. unknown-name es name k
-    ] h
+    elim (bytes_eq name (string_bytes e.0)) as (λ t. cond t (Some e.1) (lookup (λ k. bytes_eq name (string_bytes k)) es) ≡ None → (t || list_any (bytes_eq name) (old_names (map pair_of es))) ≡ false)
+    [ true ↦ λ k. cc | false ↦ λ k. unknown-name es name k ] h
 
 -- names that were seen keep their canonical names
 same-map : {A B : Type 0} (f g : A → B) (xs : List A) → ((x : A) → Contains xs x → f x ≡ g x) → map f xs ≡ map g xs
 same-map f g [] h = refl
 same-map f g (x ∷ xs) h = ap (λ y. y ∷ map f xs) (h x (head-member x xs)) ∙ ap (λ ys. g x ∷ ys) (same-map f g xs (λ y m. h y (tail-member x xs y m)))
 
-member-among : (names : List (List ℕ)) (m : List ℕ) → Contains names m → list_any (λ n. bytes_eq n m) names ≡ true
+pub member-among : (names : List (List ℕ)) (m : List ℕ) → Contains names m → list_any (λ n. bytes_eq n m) names ≡ true
 member-among [] m h = absurd (no-member m h)
 member-among (x ∷ xs) m h =
     elim (bytes_eq x m) as (λ t. bytes_eq x m ≡ t → (t || list_any (λ n. bytes_eq n m) xs) ≡ true) [
       | true ↦ λ _. refl
-      | false ↦ λ e. elim (member-cases x xs m h) as (λ _. list_any (λ n. bytes_eq n m) xs ≡ true) [
-        | inl is ↦ absurd (false≢true (sym e ∙ ap (λ z. bytes_eq z m) is ∙ bytes_eq-itself m))
-        | inr more ↦ member-among xs m more
-      ]
+      | false ↦ λ e. elim (member-cases x xs m h) as (λ _. list_any (λ n. bytes_eq n m) xs ≡ true)
+          [ inl is ↦ absurd (false≢true (sym e ∙ ap (λ z. bytes_eq z m) is ∙ bytes_eq-itself m)) | inr more ↦ member-among xs m more ]
     ] refl
 
 canonical-stays : (names more : List (List ℕ)) (m : List ℕ) (o : Option (List ℕ)) → list_any (λ n. bytes_eq n m) names ≡ true → canonical_or (names ++ more) m o ≡ canonical_or names m o
@@ -117,10 +111,8 @@ counts-raised names n class ends (s ∷ suffixes) apart zero at =
     ∙ ap (λ ks. count_of (names ++ n ∷ []) s ∷ ks) (counts-others names n s (ap (ends_with nat_eq n) is ∙ ends) suffixes parts.0)
 counts-raised names n class ends (s ∷ suffixes) apart (suc i) at =
     let parts = and_parts (list_all (is_apart s) suffixes) (are_apart suffixes) apart in
-    let other : ends_with nat_eq n s ≡ false = elim (ends_with nat_eq n s) as (λ b. ends_with nat_eq n s ≡ b → b ≡ false) [
-      | true ↦ λ e. absurd (false≢true (sym (one-end n s class (apart-at s suffixes i class parts.0 at) e) ∙ ends))
-      | false ↦ λ _. refl
-    ] refl in
+    let other : ends_with nat_eq n s ≡ false = elim (ends_with nat_eq n s) as (λ b. ends_with nat_eq n s ≡ b → b ≡ false)
+    [ true ↦ λ e. absurd (false≢true (sym (one-end n s class (apart-at s suffixes i class parts.0 at) e) ∙ ends)) | false ↦ λ _. refl ] refl in
     ap (λ k. k ∷ slice_set (map (count_of names) suffixes) i (count_of names class + 1)) (count-other names n s other)
     ∙ ap (λ ks. count_of (names ++ n ∷ []) s ∷ ks) (counts-raised names n class ends suffixes parts.1 i at)
 

@@ -1,5 +1,5 @@
 -- Suffixes begin with a dot, so they are looked for behind dots alone.
-use Rattle.std.proofs.Common.{◌≡◌, ℕ, ◌+◌, ◌<◌, ◌≤◌, ◌&&◌, ◌||◌, Bool, true, false, not, cond, suc, List, [], ◌∷◌, ◌++◌, Option, Some, None, Bor, refl, ap, sym, ◌∙◌, subst, nat_eq, nat_le, eqb, eqb-true, length, take, drop, get_or, arith}
+use Rattle.std.proofs.Common.{◌≡◌, ℕ, ◌+◌, ◌<◌, ◌≤◌, ◌&&◌, ◌||◌, Bool, true, false, not, cond, List, [], ◌∷◌, ◌++◌, Option, Some, None, Bor, refl, ap, sym, ◌∙◌, subst, nat_eq, nat_le, eqb, eqb-true, length, take, drop, get_or, arith, one-add}
 use Rattle.std.specs.List.{position_or_len, prefix_len, list_any, list_all, before_first, after_first, starts_with}
 use Rattle.std.proofs.lemmas.Bool.{false≢true, and_parts, and_from}
 use Rattle.std.proofs.lemmas.List.{length-append}
@@ -58,9 +58,7 @@ lacks-before [] = refl
 lacks-before (b ∷ bs) =
     elim (eqb b 46)
     as (λ t. eqb b 46 ≡ t → lacks 46 (take (cond (not t) (1 + prefix_len (λ x. not (eqb x 46)) bs) 0) (b ∷ bs)) ≡ true)
-    [ true ↦ λ _. refl | false ↦ λ e. subst (λ n. lacks 46 (take n (b ∷ bs)) ≡ true) (sym (one-more (prefix_len (λ x. not (eqb x 46)) bs))) (rw e (lacks-before bs)) ] refl where
-      one-more : (n : ℕ) → 1 + n ≡ suc n
-      one-more n = omega arith
+    [ true ↦ λ _. refl | false ↦ λ e. subst (λ n. lacks 46 (take n (b ∷ bs)) ≡ true) (sym (one-add (prefix_len (λ x. not (eqb x 46)) bs))) (rw e (lacks-before bs)) ] refl
 
 pub dot-none : (bs : List ℕ) (r : Option (Bor (List ℕ) × Bor (List ℕ))) → IsSplitOnceResult 46 bs r → r ≡ None → lacks 46 bs ≡ true
 dot-none bs None h is =

@@ -1,25 +1,24 @@
 -- File names of paths that end in a given text.
-use Rattle.std.proofs.Common.{◌≡◌, ℕ, ◌-◌, ◌++◌, ◌&&◌, ◌||◌, Bool, true, false, not, cond, eqb, List, [], ◌∷◌, Option, Some, None, refl, ap, sym, ◌∙◌, subst, nat_eq, length, take, reverse, append_assoc, append-nil, codes}
+use Rattle.std.proofs.Common.{◌≡◌, ℕ, ◌-◌, ◌++◌, ◌&&◌, ◌||◌, true, false, not, cond, eqb, List, [], ◌∷◌, Option, Some, None, refl, ap, sym, ◌∙◌, subst, nat_eq, length, take, reverse, append_assoc, append-nil, codes, bytes_eq}
 use Rattle.std.specs.List.{ends_with}
 use Rattle.std.specs.Option.{option_map_or}
-use Rattle.std.specs.Str.{bytes_eq}
-use Rattle.std.proofs.lemmas.Bool.{false≢true, and_parts}
+use Rattle.std.proofs.lemmas.Bool.{false≢true, and_parts, or_right}
 use Rattle.std.proofs.lemmas.List.{reverse-append, reverse-reverse}
+use Rattle.std.proofs.Math.Bool.{and-false}
 use Rattle.texts.specs.DeviceFiles.{is_cicc_word}
 use Rattle.texts.specs.Extension.{onto_front, split_at_last, last_part}
 use Rattle.texts.specs.Path.{joined, is_bare, is_absolute_path, separator_after, lacks, trimmed, is_idle, proper_name, file_name_of}
 use Rattle.texts.proofs.PathLaw.{joined-has_name}
 use Rattle.texts.proofs.PathLemmas.{lacks-append, unsplit-lacks, split-text, reverse-cons, not-is}
 use Rattle.canonical_names.specs.Shadow.{is_cicc_file}
-use Rattle.canonical_names.proofs.AgainLemmas.{and-none}
 use Rattle.canonical_names.proofs.CanonicalLemmas.{ends-split, ends-append}
 
 -- a text of three characters and more is a proper name
 long-proper : (x y z : ℕ) (rest : List ℕ) → proper_name (x ∷ y ∷ z ∷ rest) ≡ Some (x ∷ y ∷ z ∷ rest)
 long-proper x y z rest =
-    ap (λ b. cond (b || (eqb x 46 && (eqb y 46 && false))) None (Some (x ∷ y ∷ z ∷ rest))) (and-none (eqb x 46))
-    ∙ ap (λ b. cond (eqb x 46 && b) None (Some (x ∷ y ∷ z ∷ rest))) (and-none (eqb y 46))
-    ∙ ap (λ b. cond b None (Some (x ∷ y ∷ z ∷ rest))) (and-none (eqb x 46))
+    ap (λ b. cond (b || (eqb x 46 && (eqb y 46 && false))) None (Some (x ∷ y ∷ z ∷ rest))) (and-false (eqb x 46))
+    ∙ ap (λ b. cond (eqb x 46 && b) None (Some (x ∷ y ∷ z ∷ rest))) (and-false (eqb y 46))
+    ∙ ap (λ b. cond b None (Some (x ∷ y ∷ z ∷ rest))) (and-false (eqb x 46))
 
 pub proper-behind : (front : List ℕ) (x y z : ℕ) (rest : List ℕ) → proper_name (front ++ x ∷ y ∷ z ∷ rest) ≡ Some (front ++ x ∷ y ∷ z ∷ rest)
 proper-behind [] x y z rest = long-proper x y z rest
@@ -55,17 +54,12 @@ bare-relative (c ∷ cs) h = not-is 47 c (and_parts (not (eqb c 47)) (lacks 47 c
 joined-nothing : (text : List ℕ) → joined [] text ≡ text
 joined-nothing text = elim (is_absolute_path text) as (λ b. cond b text text ≡ text) [ true ↦ refl | false ↦ refl ]
 
-right-true : (a b : Bool) → b ≡ true → (a || b) ≡ true
-right-true true b h = refl
-right-true false b h = h
-
 joined-slash : (a text : List ℕ) → is_bare text ≡ true → joined (a ++ 47 ∷ []) text ≡ (a ++ 47 ∷ []) ++ text
 joined-slash a text bare =
     let base = a ++ 47 ∷ [] in
-    let none : separator_after base ≡ [] = ap (λ b. cond b [] (codes "/")) (right-true (eqb (length base) 0) (ends_with nat_eq base (codes "/")) (ends-append a (codes "/"))) in
+    let none : separator_after base ≡ [] = ap (λ b. cond b [] (codes "/")) (or_right (eqb (length base) 0) (ends_with nat_eq base (codes "/")) (ends-append a (codes "/"))) in
     ap (λ b. cond b text ((base ++ separator_after base) ++ text)) (bare-relative text bare)
-    ∙ ap (λ z. (base ++ z) ++ text) none
-    ∙ ap (λ z. z ++ text) (append-nil base)
+    ∙ ap (λ z. (base ++ z) ++ text) none ∙ ap (λ z. z ++ text) (append-nil base)
 
 pub any-front : (front text : List ℕ) → is_bare text ≡ true → ((b : List ℕ) → proper_name (b ++ text) ≡ Some (b ++ text)) → (b : List ℕ) × (file_name_of (front ++ text) ≡ Some (b ++ text))
 any-front front text bare proper = by_split (split_at_last 47 front) refl where
@@ -124,6 +118,5 @@ dash-file front text h =
     ap (λ z. reverse (trimmed (is_idle false) z)) turned ∙ ap reverse (trimmed-behind (reverse text) (reverse front)) ∙ reverse-append kept (reverse front) ∙ ap (λ z. z ++ reverse kept) (reverse-reverse front) in
     let last = last-front front (reverse kept) in
     let ends : is_cicc_word (last_part (reverse kept)) ≡ true = cicc-proper (last_part (reverse kept)) (sym (ap (λ z. is_cicc_file (proper_name (last_part (reverse z)))) own) ∙ h) in
-    ap (λ z. is_cicc_file (proper_name (last_part z))) whole
-    ∙ ap (λ z. is_cicc_file (proper_name z)) last.1
+    ap (λ z. is_cicc_file (proper_name (last_part z))) whole ∙ ap (λ z. is_cicc_file (proper_name z)) last.1
     ∙ proper-cicc (last.0 ++ last_part (reverse kept)) (cicc-front last.0 (last_part (reverse kept)) ends)

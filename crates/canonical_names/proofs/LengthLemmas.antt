@@ -1,6 +1,7 @@
 -- References replaced by the lengths of their names: the longest that stand in a text, then those next to them.
 use Rattle.std.proofs.Common.{◌≡◌, ℕ, ◌-◌, ◌<◌, ◌≤◌, ◌&&◌, ◌++◌, Bool, true, false, not, cond, List, [], ◌∷◌, refl, ap, sym, ◌∙◌, subst, eqb, nat_lt, nat_le, length, fold, filter, arith}
 use Rattle.std.specs.List.{AllByRecursion}
+use Rattle.std.proofs.lemmas.Bool.{and_parts}
 use Rattle.command_lines.specs.Replacing.{replaced}
 use Rattle.canonical_names.specs.Alike.{holds}
 use Rattle.canonical_names.specs.Counted.{old_names}
@@ -110,28 +111,21 @@ module _ (text : List ℕ) (m : ℕ) where
   longer-more : (best : ℕ) (n : List ℕ) → best ≤ longer text m best n
   longer-more best n =
       elim (nat_lt best (length n) && (nat_le (length n) m && holds n text)) as (λ b. (nat_lt best (length n) && (nat_le (length n) m && holds n text)) ≡ b → best ≤ cond b (length n) best) [
-        | true ↦ λ e. let less : nat_lt best (length n) ≡ true = front (nat_lt best (length n)) _ e in grind (arith, less)
+        | true ↦ λ e. let less : nat_lt best (length n) ≡ true = (and_parts (nat_lt best (length n)) _ e).0 in grind (arith, less)
         | false ↦ λ _. omega arith
-      ] refl where
-        front : (a b : Bool) → (a && b) ≡ true → a ≡ true
-        front true b h = refl
-        front false b h = h
+      ] refl
 
   pub longer-least : (best : ℕ) (n : List ℕ) → nat_le (length n) m ≡ true → holds n text ≡ true → length n ≤ longer text m best n
   longer-least best n le held =
       subst (λ (b : Bool). length n ≤ cond (nat_lt best (length n) && b) (length n) best) (sym (ap (λ b. b && holds n text) le ∙ held))
-      (elim (nat_lt best (length n)) as (λ b. nat_lt best (length n) ≡ b → length n ≤ cond (b && true) (length n) best) [
-        | true ↦ λ _. omega arith
-        | false ↦ λ e. grind (arith, e)
-      ] refl)
+      (elim (nat_lt best (length n)) as (λ b. nat_lt best (length n) ≡ b → length n ≤ cond (b && true) (length n) best)
+      [ true ↦ λ _. omega arith | false ↦ λ e. grind (arith, e) ] refl)
 
   longer-bound : (best : ℕ) (n : List ℕ) → best ≤ m → longer text m best n ≤ m
   longer-bound best n le =
       elim (nat_lt best (length n)) as (λ b. cond (b && (nat_le (length n) m && holds n text)) (length n) best ≤ m) [
-        | true ↦ elim (nat_le (length n) m) as (λ b. nat_le (length n) m ≡ b → cond (b && holds n text) (length n) best ≤ m) [
-          | true ↦ λ e. elim (holds n text) as (λ b. cond b (length n) best ≤ m) [ true ↦ grind (arith, e) | false ↦ le ]
-          | false ↦ λ _. le
-        ] refl
+        | true ↦ elim (nat_le (length n) m) as (λ b. nat_le (length n) m ≡ b → cond (b && holds n text) (length n) best ≤ m)
+            [ true ↦ λ e. elim (holds n text) as (λ b. cond b (length n) best ≤ m) [ true ↦ grind (arith, e) | false ↦ le ] | false ↦ λ _. le ] refl
         | false ↦ le
       ]
 

@@ -4,7 +4,6 @@ pub mod AlikeLemmas
 pub mod CanonicalLemmas
 pub mod CleanLemmas
 pub mod FileLemmas
-pub mod FirstLemmas
 pub mod NeedLemmas
 pub mod OnceLemmas
 pub mod RankLemmas
@@ -14,8 +13,6 @@ pub mod ShadowRankLemmas
 pub mod SuffixLemmas
 pub mod CountedLemmas
 pub mod DotLemmas
-pub mod KeptLemmas
-pub mod WordLemmas
 pub mod ReplaceLemmas
 pub mod ReferenceLemmas
 pub mod AppearanceLemmas

@@ -1,8 +1,6 @@
 -- Runs for which the laws of renaming fail once a premise is left out.
-use Rattle.std.proofs.Common.{◌≡◌, ℕ, List, [], ◌∷◌, Bool, true, false, get_or, Option, None, map, refl, sym, ap, ◌∙◌, codes}
+use Rattle.std.proofs.Common.{◌≡◌, ℕ, List, [], ◌∷◌, Bool, true, false, get_or, Option, None, map, refl, sym, ap, ◌∙◌, codes, Contains, bytes_eq}
 use Rattle.std.specs.Cmp.Lexicographic.{pointwise}
-use Rattle.std.specs.List.{Contains}
-use Rattle.std.specs.Str.{bytes_eq}
 use Rattle.std.proofs.lemmas.Bool.{false≢true}
 use Rattle.std.proofs.lemmas.List.Elements.{All-from_recursion, All-contains}
 use Rattle.texts.specs.Path.{folder_of}

@@ -1,8 +1,6 @@
 -- A clean run is renamed once for all.
-use Rattle.std.proofs.Common.{◌≡◌, ℕ, zero, suc, ◌-◌, ◌++◌, ◌||◌, Bool, true, false, cond, List, [], ◌∷◌, Option, Some, None, inl, inr, map, refl, ap, sym, ◌∙◌, subst, nat_eq, length, fold, drop, arith}
-use Rattle.std.specs.List.{Contains, All, AllByRecursion, list_any, ends_with, starts_with, filter_map}
-use Rattle.std.specs.Option.{option_map}
-use Rattle.std.specs.Str.{bytes_eq}
+use Rattle.std.proofs.Common.{◌≡◌, ℕ, zero, suc, ◌-◌, ◌++◌, Bool, true, false, cond, List, [], ◌∷◌, Option, Some, None, map, refl, ap, sym, ◌∙◌, subst, nat_eq, length, fold, drop, option_map, sub-one}
+use Rattle.std.specs.List.{Contains, All, AllByRecursion, ends_with, starts_with, filter_map}
 use Rattle.std.proofs.lemmas.List.Elements.{All-nil, All-contains}
 use Rattle.texts.specs.Lists.{with_name}
 use Rattle.texts.specs.Numeral.{numeral}
@@ -14,18 +12,16 @@ use Rattle.canonical_names.specs.Renaming.{canonical_file, canonical_name, rank,
 use Rattle.canonical_names.specs.Alike.{core_through, IsRenaming}
 use Rattle.canonical_names.specs.CanonicalNames.{AreSuffixes, core_by_all, word_by_all, command_by_all, RenamedOnceForAll}
 use Rattle.canonical_names.specs.Shadow.{appearances}
+use Rattle.canonical_names.proofs.CountedLemmas.{member-among}
 use Rattle.canonical_names.proofs.AgainLemmas.{told-word, canonical-renaming}
 use Rattle.canonical_names.proofs.AlikeLemmas.{ToldWord, added-member, add-mapped, within-all, rank-mapped}
-use Rattle.canonical_names.proofs.CanonicalLemmas.{HasClass, run-all, canonical-at, no-member, head-member, tail-member, member-cases, find-found}
+use Rattle.canonical_names.proofs.CanonicalLemmas.{HasClass, run-all, canonical-at, head-member, tail-member, find-found}
 use Rattle.canonical_names.proofs.CleanLemmas.{clean-run_is_a_map}
-use Rattle.canonical_names.proofs.RankLemmas.{add, bytes_eq-itself, fold-append, words-names, run-names, fold-front, rank-found, rank-stable}
+use Rattle.canonical_names.proofs.RankLemmas.{add, fold-append, words-names, run-names, fold-front, rank-found, rank-stable}
 use Rattle.canonical_names.proofs.ReplaceLemmas.{starts-split}
 use Rattle.canonical_names.proofs.RewriteLemmas.{fold-each}
 
 -- a text that isn't empty, replaced by itself
-one-less : (n : ℕ) → suc n - 1 ≡ n
-one-less n = omega arith
-
 past-itself : (x : ℕ) (xs : List ℕ) (k : ℕ) (text : List ℕ) → replaced_past k (x ∷ xs) (x ∷ xs) text ≡ drop k text
 past-itself x xs zero [] = refl
 past-itself x xs (suc k) [] = refl
@@ -33,9 +29,8 @@ past-itself x xs (suc k) (c ∷ cs) = past-itself x xs k cs
 past-itself x xs zero (c ∷ cs) =
     elim (starts_with nat_eq (c ∷ cs) (x ∷ xs)) as (λ b. starts_with nat_eq (c ∷ cs) (x ∷ xs) ≡ b → cond b (x ∷ xs) (c ∷ []) ++ replaced_past (cond b (length (x ∷ xs) - 1) 0) (x ∷ xs) (x ∷ xs) cs ≡ c ∷ cs) [
       | true ↦ λ e.
-          ap (λ n. (x ∷ xs) ++ replaced_past n (x ∷ xs) (x ∷ xs) cs) (one-less (length xs))
-          ∙ ap (λ t. (x ∷ xs) ++ t) (past-itself x xs (length xs) cs)
-          ∙ sym (starts-split (c ∷ cs) (x ∷ xs) e)
+          ap (λ n. (x ∷ xs) ++ replaced_past n (x ∷ xs) (x ∷ xs) cs) (sub-one (suc (length xs)))
+          ∙ ap (λ t. (x ∷ xs) ++ t) (past-itself x xs (length xs) cs) ∙ sym (starts-split (c ∷ cs) (x ∷ xs) e)
       | false ↦ λ _. ap (λ t. c ∷ t) (past-itself x xs zero cs)
     ] refl
 
@@ -52,22 +47,6 @@ rewritten-same : (suffixes seen : List (List ℕ)) (text : List ℕ) → AllByRe
 rewritten-same suffixes seen text each =
     fold-same (canonical_name suffixes seen) text (longest_first seen) (fold-each (λ n. replaced n (canonical_name suffixes seen n) text ≡ text) seen [] each tt)
 
--- a member is found
-left-true : (a b : Bool) → a ≡ true → (a || b) ≡ true
-left-true a b h = ap (λ t. t || b) h
-
-right-true : (a b : Bool) → b ≡ true → (a || b) ≡ true
-right-true true b h = refl
-right-true false b h = h
-
-pub member-among : (n : List ℕ) (seen : List (List ℕ)) → Contains seen n → list_any (λ m. bytes_eq m n) seen ≡ true
-member-among n [] h = absurd (no-member n h)
-member-among n (m ∷ seen) h =
-    elim (member-cases m seen n h) as (λ _. (bytes_eq m n || list_any (λ m. bytes_eq m n) seen) ≡ true) [
-      | inl is ↦ left-true (bytes_eq m n) (list_any (λ m. bytes_eq m n) seen) (subst (λ z. bytes_eq z n ≡ true) (sym is) (bytes_eq-itself n))
-      | inr more ↦ right-true (bytes_eq m n) (list_any (λ m. bytes_eq m n) seen) (member-among n seen more)
-    ]
-
 -- Below, the names of a run, which get canonical names.
 module _ (suffixes : List (List ℕ)) (lawful : AreSuffixes suffixes) (names : List (List ℕ)) (renaming : IsRenaming suffixes names (canonical_name suffixes names)) (classes : All (HasClass suffixes) names) where
   abbrev f : List ℕ → List ℕ
@@ -76,7 +55,7 @@ module _ (suffixes : List (List ℕ)) (lawful : AreSuffixes suffixes) (names : L
   rank-kept : (class n : List ℕ) (seen xs : List (List ℕ)) → names ≡ fold add seen xs → Contains seen n → rank class seen n ≡ rank class names n
   rank-kept class n seen xs all h =
       let rest = fold-front seen xs in
-      sym (ap (λ ns. rank class ns n) (all ∙ rest.1) ∙ rank-found class n seen rest.0 (member-among n seen h))
+      sym (ap (λ ns. rank class ns n) (all ∙ rest.1) ∙ rank-found class n seen rest.0 (member-among seen n h))
 
   -- a canonical name, among canonical names, is its own canonical name
   canonical-again : (seen xs : List (List ℕ)) → names ≡ fold add seen xs → (n : List ℕ) → Contains seen n → canonical_name suffixes (map f seen) (f n) ≡ f n
@@ -126,8 +105,7 @@ module _ (suffixes : List (List ℕ)) (lawful : AreSuffixes suffixes) (names : L
   core-again : (word : List ℕ) (o : Option (List ℕ)) → class_of suffixes word ≡ o → core_of (new_word word o) ≡ core_through f (core_of word) o
   core-again word o e =
       sym (through (core_of (new_word word o)) (class_of suffixes (new_word word o)))
-      ∙ sym (ap (λ (t : ToldWord). t.2) (told-word suffixes lawful names word o e))
-      ∙ ap (core_through f (core_of word)) e
+      ∙ sym (ap (λ (t : ToldWord). t.2) (told-word suffixes lawful names word o e)) ∙ ap (core_through f (core_of word)) e
 
   -- the new core of a word stays
   class-member : (word class : List ℕ) (b : Bool) → cond b None (class_of_name suffixes (core_of word)) ≡ Some class → Contains suffixes class
@@ -160,8 +138,7 @@ module _ (suffixes : List (List ℕ)) (lawful : AreSuffixes suffixes) (names : L
   seen-again seen xs word o e all =
       let new = new_word word o in
       ap (λ c. with_name (map f seen) (option_map (λ (_ : List ℕ). core_of new) c)) (class-again word o e)
-      ∙ ap (λ t. with_name (map f seen) (option_map (λ (_ : List ℕ). t) o)) (core-again word o e)
-      ∙ by-class o all where
+      ∙ ap (λ t. with_name (map f seen) (option_map (λ (_ : List ℕ). t) o)) (core-again word o e) ∙ by-class o all where
         by-class : (o : Option (List ℕ)) → names ≡ fold add (with_name seen (option_map (λ (_ : List ℕ). core_of word) o)) xs →
             with_name (map f seen) (option_map (λ (_ : List ℕ). core_through f (core_of word) o) o) ≡ map f (with_name seen (option_map (λ (_ : List ℕ). core_of word) o))
         by-class None all = refl

@@ -1,8 +1,7 @@
 -- Searches along a list, place by place.
-use Rattle.std.proofs.Common.{◌≡◌, ◌≢◌, ℕ, ◌+◌, ◌<◌, ◌&&◌, ◌||◌, Bool, true, false, cond, suc, zero, List, [], ◌∷◌, Some, drop, length, refl, ap, sym, ◌∙◌, arith, add-one}
+use Rattle.std.proofs.Common.{◌≡◌, ℕ, ◌+◌, ◌<◌, ◌&&◌, ◌||◌, Bool, true, false, cond, suc, zero, List, [], ◌∷◌, Some, drop, length, refl, ap, sym, ◌∙◌, arith, add-one, bytes_eq}
 use Rattle.std.specs.List.{find, list_any, slice_get}
 use Rattle.std.specs.Cmp.Lexicographic.{pointwise}
-use Rattle.std.specs.Str.{bytes_eq}
 use Rattle.texts.specs.Lists.{is_some_and}
 use Rattle.canonical_names.proofs.SuffixLemmas.{drop-got}
 
@@ -45,12 +44,3 @@ module _ (xs ys : List (List ℕ)) (i : ℕ) (one : i < length xs) (other : i < 
 
   pub differs-here : is_some_and (λ a. is_some_and (bytes_eq a) (slice_get ys i)) (slice_get xs i) ≡ false → pointwise bytes_eq (drop i xs) (drop i ys) ≡ false
   differs-here h = both false h
-
-pub lengths-differ : (xs ys : List (List ℕ)) → length xs ≢ length ys → pointwise bytes_eq xs ys ≡ false
-lengths-differ [] [] h = absurd (h refl)
-lengths-differ [] (y ∷ ys) h = refl
-lengths-differ (x ∷ xs) [] h = refl
-lengths-differ (x ∷ xs) (y ∷ ys) h = ap (λ b. bytes_eq x y && b) (lengths-differ xs ys (λ e. h (ap suc e))) ∙ none (bytes_eq x y) where
-  none : (b : Bool) → (b && false) ≡ false
-  none true = refl
-  none false = refl

@@ -1,7 +1,6 @@
 -- Ranks, counted over the appearances of names.
-use Rattle.std.proofs.Common.{◌≡◌, ℕ, ◌+◌, ◌++◌, ◌&&◌, ◌||◌, Bool, true, false, cond, eqb, ne_eqb, eqb-true, eq-eqb, List, [], ◌∷◌, Option, Some, None, refl, ap, sym, ◌∙◌, subst, nat_eq, length, fold, append_assoc, arith, append-nil}
+use Rattle.std.proofs.Common.{◌≡◌, ℕ, ◌+◌, ◌++◌, ◌&&◌, ◌||◌, Bool, true, false, cond, eqb, ne_eqb, eqb-true, eq-eqb, List, [], ◌∷◌, Option, Some, None, refl, ap, sym, ◌∙◌, subst, nat_eq, length, fold, append_assoc, arith, append-nil, bytes_eq}
 use Rattle.std.specs.List.{list_any, ends_with, filter, filter_map, cons_option}
-use Rattle.std.specs.Str.{bytes_eq}
 use Rattle.std.proofs.lemmas.Bool.{false≢true, or_parts, or_from, and_from, cond_both, eqb-false}
 use Rattle.std.proofs.lemmas.Slice.Eq.{bytes_eq-Decides}
 use Rattle.command_lines.specs.CommandLines.{CommandLine, words_of_command}
@@ -19,7 +18,7 @@ bytes_eq-itself (x ∷ xs) = and_from (eqb x x) (bytes_eq xs xs) (eq-eqb x x ref
 pub eqb-turned : (a b : ℕ) → eqb a b ≡ eqb b a
 eqb-turned a b = elim (eqb a b) as (λ t. eqb a b ≡ t → t ≡ eqb b a) [ true ↦ λ e. sym (eq-eqb b a (sym (eqb-true a b e))) | false ↦ λ e. sym (ne_eqb b a (λ k. eqb-false a b e (sym k))) ] refl
 
-bytes_eq-turned : (a b : List ℕ) → bytes_eq a b ≡ bytes_eq b a
+pub bytes_eq-turned : (a b : List ℕ) → bytes_eq a b ≡ bytes_eq b a
 bytes_eq-turned [] [] = refl
 bytes_eq-turned [] (y ∷ ys) = refl
 bytes_eq-turned (x ∷ xs) [] = refl
@@ -54,10 +53,8 @@ run-names suffixes seen (command ∷ commands) =
 pub fold-front : (seen xs : List (List ℕ)) → (more : List (List ℕ)) × (fold add seen xs ≡ seen ++ more)
 fold-front seen [] = ([], sym (append-nil seen))
 fold-front seen (x ∷ xs) =
-    elim (list_any (bytes_eq x) seen) as (λ t. (more : List (List ℕ)) × (fold add (cond t seen (seen ++ x ∷ [])) xs ≡ seen ++ more)) [
-      | true ↦ fold-front seen xs
-      | false ↦ let rest = fold-front (seen ++ x ∷ []) xs in (x ∷ rest.0, rest.1 ∙ append_assoc seen (x ∷ []) rest.0)
-    ]
+    elim (list_any (bytes_eq x) seen) as (λ t. (more : List (List ℕ)) × (fold add (cond t seen (seen ++ x ∷ [])) xs ≡ seen ++ more))
+    [ true ↦ fold-front seen xs | false ↦ let rest = fold-front (seen ++ x ∷ []) xs in (x ∷ rest.0, rest.1 ∙ append_assoc seen (x ∷ []) rest.0) ]
 
 module _ (class name : List ℕ) where
   -- whether the name is among some, and how many of them are of the class

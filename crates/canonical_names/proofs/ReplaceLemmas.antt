@@ -1,15 +1,12 @@
 -- What std's search and replacement in texts make, by the definitions that compute.
-use Rattle.std.proofs.Common.{◌≡◌, ℕ, suc, zero, ◌+◌, ◌-◌, ◌<◌, ◌≤◌, ◌++◌, ◌||◌, Bool, true, false, cond, List, [], ◌∷◌, inl, inr, refl, ap, sym, ◌∙◌, subst, nat_eq, length, take, drop, arith}
+use Rattle.std.proofs.Common.{◌≡◌, ℕ, suc, zero, ◌+◌, ◌-◌, ◌<◌, ◌≤◌, ◌++◌, ◌||◌, Bool, true, false, cond, List, [], ◌∷◌, inl, inr, refl, ap, sym, ◌∙◌, subst, nat_eq, length, take, drop, arith, bytes_eq, MatchBool, None}
 use denote.Ref.{Bor}
 use Rattle.std.specs.List.{starts_with}
-use Rattle.std.specs.Str.{bytes_eq}
 use Rattle.std.specs.Str.Iter.{HasSubslice}
 use Rattle.std.specs.Str.Pattern.{LacksTextAt, FindsText, HasMatch}
 use Rattle.std.specs.Str.Replace.{ReplacesMatches}
-use Rattle.std.specs.Bool.{MatchBool}
-use Rattle.std.specs.Prelude.{None}
-use Rattle.std.proofs.lemmas.Bool.{false≢true}
-use Rattle.std.proofs.lemmas.List.{length-append, take-append-drop}
+use Rattle.std.proofs.lemmas.Bool.{false≢true, or_right}
+use Rattle.std.proofs.lemmas.List.{length-append, take-append-drop, take_at}
 use Rattle.std.proofs.lemmas.Slice.Eq.{bytes_eq-Decides}
 use Rattle.std.proofs.lemmas.Str.Pattern.{contains_text}
 use Rattle.std.proofs.Math.Seq.{drop-append_seam}
@@ -19,12 +16,8 @@ use Rattle.canonical_names.proofs.RankLemmas.{bytes_eq-itself}
 use Rattle.canonical_names.proofs.RewriteLemmas.{replaced-none}
 
 -- a text begins with what it was put together from
-take-front : (n b : List ℕ) → take (length n) (n ++ b) ≡ n
-take-front [] b = refl
-take-front (x ∷ n) b = ap (λ t. x ∷ t) (take-front n b)
-
 pub starts-append : (n b : List ℕ) → starts_with nat_eq (n ++ b) n ≡ true
-starts-append n b = subst (λ t. bytes_eq n t ≡ true) (sym (take-front n b)) (bytes_eq-itself n)
+starts-append n b = subst (λ t. bytes_eq n t ≡ true) (sym (take_at n b (length n) refl)) (bytes_eq-itself n)
 
 pub starts-split : (text n : List ℕ) → starts_with nat_eq text n ≡ true → text ≡ n ++ drop (length n) text
 starts-split text n h =
@@ -40,10 +33,7 @@ holds-within n [] b = at n (n ++ b) (starts-append n b) where
     nothing [] h = refl
     nothing (x ∷ n) h = absurd (false≢true h)
   at n (c ∷ cs) h = ap (λ t. t || holds n cs) h
-holds-within n (c ∷ a) b = or-right (starts_with nat_eq (c ∷ (a ++ (n ++ b))) n) (holds n (a ++ (n ++ b))) (holds-within n a b) where
-  or-right : (x y : Bool) → y ≡ true → (x || y) ≡ true
-  or-right true y h = refl
-  or-right false y h = h
+holds-within n (c ∷ a) b = or_right (starts_with nat_eq (c ∷ (a ++ (n ++ b))) n) (holds n (a ++ (n ++ b))) (holds-within n a b)
 
 pub holds-split : (n s : List ℕ) → holds n s ≡ true → HasSubslice s n
 holds-split n [] h = let none : n ≡ [] = (bytes_eq-Decides n []).0 h in ([], [], ap (λ t. t ++ []) (sym none))
@@ -59,10 +49,8 @@ contains-holds r n s cases =
     let both = contains_text r n s cases in
     elim r as (λ b. r ≡ b → b ≡ holds n s) [
       | true ↦ λ e. let parts = both.0 e in sym (ap (holds n) parts.2 ∙ holds-within n parts.0 parts.1)
-      | false ↦ λ e. elim (holds n s) as (λ t. holds n s ≡ t → false ≡ t) [
-        | true ↦ λ k. absurd (false≢true (sym e ∙ both.1 (holds-split n s k)))
-        | false ↦ λ _. refl
-      ] refl
+      | false ↦ λ e. elim (holds n s) as (λ t. holds n s ≡ t → false ≡ t)
+          [ true ↦ λ k. absurd (false≢true (sym e ∙ both.1 (holds-split n s k))) | false ↦ λ _. refl ] refl
     ] refl
 
 -- one place replaced
@@ -77,8 +65,7 @@ module _ (old new : List ℕ) (some : 0 < length old) where
       let past : length old - 1 ≡ length os = let all : length old ≡ length (o ∷ os) = ap length is in omega (arith, all) in
       ap (λ z. replaced old new (z ++ t)) is
       ∙ ap (λ b. cond b new (o ∷ []) ++ replaced_past (cond b (length old - 1) 0) old new (os ++ t)) here
-      ∙ ap (λ k. new ++ replaced_past k old new (os ++ t)) past
-      ∙ ap (λ r. new ++ r) (skip os t)
+      ∙ ap (λ k. new ++ replaced_past k old new (os ++ t)) past ∙ ap (λ r. new ++ r) (skip os t)
 
   begun : (l : List ℕ) → old ≡ l → (t : List ℕ) → replaced old new (old ++ t) ≡ new ++ replaced old new t
   begun [] is t = absurd (let none : length old ≡ 0 = ap length is in omega (arith, none))
@@ -88,10 +75,8 @@ module _ (old new : List ℕ) (some : 0 < length old) where
   first-place [] t lacks = begun old refl t
   first-place (c ∷ front) t lacks =
       let text = c ∷ (front ++ (old ++ t)) in
-      let not_here : starts_with nat_eq text old ≡ false = elim (starts_with nat_eq text old) as (λ b. starts_with nat_eq text old ≡ b → b ≡ false) [
-        | true ↦ λ e. absurd (lacks 0 (omega arith) (drop (length old) text) (starts-split text old e))
-        | false ↦ λ _. refl
-      ] refl in
+      let not_here : starts_with nat_eq text old ≡ false = elim (starts_with nat_eq text old) as (λ b. starts_with nat_eq text old ≡ b → b ≡ false)
+      [ true ↦ λ e. absurd (lacks 0 (omega arith) (drop (length old) text) (starts-split text old e)) | false ↦ λ _. refl ] refl in
       ap (λ b. cond b new (c ∷ []) ++ replaced_past (cond b (length old - 1) 0) old new (front ++ (old ++ t))) not_here
       ∙ ap (λ r. c ∷ r) (first-place front t (λ i lt. lacks (suc i) (omega (arith, lt))))
 
@@ -115,10 +100,8 @@ module _ (old new : List ℕ) (some : 0 < length old) where
       let parts : s ≡ take a s ++ (old ++ drop b s) = sym (take-append-drop a s) ∙ ap (λ t. take a s ++ t) at in
       let lacks : (i : ℕ) → i < length (take a s) → LacksTextAt old (take a s ++ (old ++ drop b s)) i =
       λ i lt. subst (λ z. LacksTextAt old z i) parts (subst (λ z. LacksTextAt z s i) is (finds.0 i (let least : length (take a s) ≤ a = take-short a s in omega (arith, lt, least)))) in
-      let more : rest ≡ replaced old new (drop b s) = elim continues as (λ _. rest ≡ replaced old new (drop b s)) [
-        | inl on ↦ all-replaced n q (keeps ∙ is) (drop b s) rest on.1
-        | inr none ↦ absurd (let same : a ≡ b = none.0 in omega (arith, same, later))
-      ] in
+      let more : rest ≡ replaced old new (drop b s) = elim continues as (λ _. rest ≡ replaced old new (drop b s))
+      [ inl on ↦ all-replaced n q (keeps ∙ is) (drop b s) rest on.1 | inr none ↦ absurd (let same : a ≡ b = none.0 in omega (arith, same, later)) ] in
       whole ∙ ap (λ r. take a s ++ (new ++ r)) more ∙ sym (ap (replaced old new) parts ∙ first-place (take a s) (drop b s) lacks) where
         take-short : (a : ℕ) (s : List ℕ) → length (take a s) ≤ a
         take-short zero s = omega arith

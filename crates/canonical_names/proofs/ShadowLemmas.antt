@@ -3,6 +3,7 @@ use Rattle.std.proofs.Common.{◌≡◌, ℕ, ◌-◌, ◌++◌, ◌&&◌, ◌�
 use Rattle.std.specs.List.{Contains, starts_with, ends_with}
 use Rattle.std.proofs.lemmas.Bool.{false≢true, and_parts, or_cases, not-true}
 use Rattle.std.proofs.lemmas.List.{append_cancel_left, append_cancel_right}
+use Rattle.std.proofs.lemmas.Option.{same_Some}
 use Rattle.texts.specs.DeviceFiles.{is_cicc_word}
 use Rattle.texts.specs.Numeral.{numeral}
 use Rattle.texts.specs.Path.{joined, is_bare, proper_name, folder_of, separator_after, file_name_of}
@@ -107,10 +108,8 @@ module _ (suffixes : List (List ℕ)) (lawful : AreSuffixes suffixes) (names : L
 
   pub test-kept : (test : List ℕ → Bool) → ((rest : List ℕ) → test (45 ∷ 70 ∷ rest) ≡ false) → ((text : List ℕ) → begins_with_dash text ≡ false → test text ≡ false) → (word : List ℕ) → test (renamed_one word) ≡ test word
   test-kept test marked plain word =
-      elim (word-kept word) as (λ _. test (renamed_one word) ≡ test word) [
-        | inl is ↦ ap test is
-        | inr both ↦ no-option test marked plain (renamed_one word) both.0 ∙ sym (no-option test marked plain word both.1)
-      ]
+      elim (word-kept word) as (λ _. test (renamed_one word) ≡ test word)
+      [ inl is ↦ ap test is | inr both ↦ no-option test marked plain (renamed_one word) both.0 ∙ sym (no-option test marked plain word both.1) ]
 
   -- a word that ends as cicc's input does, and begins with no `-`
   pub class-by_end : (class text : List ℕ) → Contains suffixes class → ends_with nat_eq text class ≡ true → class_of_name suffixes text ≡ Some class
@@ -121,8 +120,7 @@ module _ (suffixes : List (List ℕ)) (lawful : AreSuffixes suffixes) (names : L
   pub plain-class : (word : List ℕ) → begins_with_dash word ≡ false → is_cicc_word word ≡ true → class_of suffixes word ≡ Some (codes ".cpp1.ii")
   plain-class word dash ends =
       ap (λ t. cond (begins_with_dash t) None (class_of_name suffixes t)) (dash-unmarked word dash).whole
-      ∙ ap (λ b. cond b None (class_of_name suffixes word)) dash
-      ∙ class-by_end (codes ".cpp1.ii") word lawful.input ends
+      ∙ ap (λ b. cond b None (class_of_name suffixes word)) dash ∙ class-by_end (codes ".cpp1.ii") word lawful.input ends
 
   pub plain-word : (word : List ℕ) → begins_with_dash word ≡ false → is_cicc_word word ≡ true → renamed_one word ≡ canonical_in names word (codes ".cpp1.ii")
   plain-word word dash ends =
@@ -136,9 +134,6 @@ module _ (suffixes : List (List ℕ)) (lawful : AreSuffixes suffixes) (names : L
 
   pub canonical-file_name : (word class : List ℕ) → Contains suffixes class → file_name_of (canonical_in names word class) ≡ Some (canonical_file (rank class names word) class)
   canonical-file_name word class hc = joined-has_name (folder_of word) (canonical_file (rank class names word) class) (file-bare (rank class names word) class (lawful.bare class hc)) refl
-
-  pub canonical-cicc : (word : List ℕ) → is_cicc_word (canonical_in names word (codes ".cpp1.ii")) ≡ true
-  canonical-cicc word = ap is_cicc_word (canonical-split names word (codes ".cpp1.ii")) ∙ ends-append (canonical-front names word (codes ".cpp1.ii")) (codes ".cpp1.ii")
 
   -- a word is an input of cicc if it becomes one
   core-ends : (word class : List ℕ) → class_of suffixes word ≡ Some class → codes ".cpp1.ii" ≡ class → is_cicc_word word ≡ true
@@ -172,9 +167,6 @@ module _ (suffixes : List (List ℕ)) (lawful : AreSuffixes suffixes) (names : L
   pub file-end : (k : ℕ) → is_cicc_word (canonical_file k (codes ".cpp1.ii")) ≡ true
   file-end k = ends-append (codes "x_" ++ numeral k) (codes ".cpp1.ii")
 
-  some-same : (a b : List ℕ) → Some a ≡ Some b → a ≡ b
-  some-same a b e = cc
-
   unread-by_class : (word : List ℕ) (k : ℕ) (o : Option (List ℕ)) → class_of suffixes word ≡ o → file_name_of (head_of word ++ core_by_all names (core_of word) o) ≡ Some (canonical_file k (codes ".cpp1.ii")) →
       is_cicc_file (file_name_of word) ≡ true
   unread-by_class word k None e h =
@@ -196,7 +188,7 @@ module _ (suffixes : List (List ℕ)) (lawful : AreSuffixes suffixes) (names : L
       let front = head_of word ++ (folder_of core ++ separator_after (folder_of core)) in
       let split : head_of word ++ canonical_in names core class ≡ front ++ file = sym (append_assoc (head_of word) (folder_of core ++ separator_after (folder_of core)) file) in
       let found = any-front front file (file-bare (rank class names core) class (lawful.bare class hc)) (λ b. file-proper b (numeral (rank class names core)) class) in
-      let name : found.0 ++ file ≡ canonical_file k (codes ".cpp1.ii") = some-same (found.0 ++ file) (canonical_file k (codes ".cpp1.ii")) (sym found.1 ∙ sym (ap file_name_of split) ∙ h) in
+      let name : found.0 ++ file ≡ canonical_file k (codes ".cpp1.ii") = same_Some (found.0 ++ file) (canonical_file k (codes ".cpp1.ii")) (sym found.1 ∙ sym (ap file_name_of split) ∙ h) in
       let same : codes ".cpp1.ii" ≡ class =
       two-ends suffixes lawful (codes ".cpp1.ii") class (codes "x_" ++ numeral k) (found.0 ++ (codes "x_" ++ numeral (rank class names core))) lawful.input hc
       (sym name ∙ sym (append_assoc found.0 (codes "x_" ++ numeral (rank class names core)) class)) in
@@ -213,7 +205,7 @@ module _ (suffixes : List (List ℕ)) (lawful : AreSuffixes suffixes) (names : L
             let s = codes ".cpp1.ii" in
             let j = rank s names word in
             let files : canonical_file j s ≡ canonical_file k s =
-            some-same (canonical_file j s) (canonical_file k s) (sym (ap file_name_of (plain-word word dash parts.1) ∙ canonical-file_name word s lawful.input) ∙ h) in
+            same_Some (canonical_file j s) (canonical_file k s) (sym (ap file_name_of (plain-word word dash parts.1) ∙ canonical-file_name word s lawful.input) ∙ h) in
             let digits : numeral j ≡ numeral k = append_cancel_right (numeral j) (numeral k) s (append_cancel_left (codes "x_") (numeral j ++ s) (numeral k ++ s) files) in
             (dash, parts.1, numeral-same j k digits)
       ]

@@ -1,10 +1,10 @@
 -- An input of cicc and the same one in a folder have one rank, each among those of its run.
-use Rattle.std.proofs.Common.{◌≡◌, ℕ, ◌+◌, ◌++◌, ◌&&◌, ◌||◌, Bool, true, false, cond, List, [], ◌∷◌, map, filter, refl, ap, sym, ◌∙◌, subst, nat_eq, fold, arith, codes}
+use Rattle.std.proofs.Common.{◌≡◌, ℕ, ◌+◌, ◌++◌, ◌&&◌, ◌||◌, Bool, true, false, cond, List, [], ◌∷◌, map, filter, refl, ap, sym, ◌∙◌, subst, nat_eq, fold, codes, bytes_eq, zero-add}
 use Rattle.std.specs.Cmp.Lexicographic.{pointwise}
 use Rattle.std.specs.List.{list_any, list_all, ends_with}
-use Rattle.std.specs.Str.{bytes_eq}
 use Rattle.std.proofs.lemmas.Bool.{false≢true, and_parts, and_from}
 use Rattle.std.proofs.lemmas.Slice.Eq.{bytes_eq-Decides}
+use Rattle.std.proofs.lemmas.List.{map-append}
 use Rattle.texts.specs.DeviceFiles.{is_cicc_word}
 use Rattle.texts.specs.Lists.{word_after}
 use Rattle.texts.specs.Path.{joined, is_bare}
@@ -14,7 +14,7 @@ use Rattle.command_lines.specs.CommandLines.{CommandLine, words_of_command}
 use Rattle.canonical_names.specs.Renaming.{rank, names_of_run}
 use Rattle.canonical_names.specs.Shadow.{appearances, is_plain_output}
 use Rattle.canonical_names.specs.StepShadow.{step_names, StepNamesKeepRank}
-use Rattle.canonical_names.proofs.AlikeLemmas.{same-tests, map-append}
+use Rattle.canonical_names.proofs.AlikeLemmas.{same-tests}
 use Rattle.canonical_names.proofs.AppearanceLemmas.{joined-split, all-append}
 use Rattle.canonical_names.proofs.FileLemmas.{cicc-front, bare-relative}
 use Rattle.canonical_names.proofs.RankLemmas.{add, bytes_eq-itself, run-names}
@@ -31,9 +31,6 @@ name-other name n e h =
     [ true ↦ λ k. absurd (false≢true (sym e ∙ sym (ap is_cicc_word ((bytes_eq-Decides name n).0 k)) ∙ h)) | false ↦ λ _. refl ] refl
 
 -- ranks among the inputs of cicc alone
-no-more : (k : ℕ) → 0 + k ≡ k
-no-more k = omega arith
-
 rank-filtered : (name : List ℕ) → is_cicc_word name ≡ true → (seen : List (List ℕ)) → rank (codes ".cpp1.ii") seen name ≡ rank (codes ".cpp1.ii") (filter is_cicc_word seen) name
 rank-filtered name h [] = refl
 rank-filtered name h (n ∷ seen) =
@@ -43,7 +40,7 @@ rank-filtered name h (n ∷ seen) =
       | true ↦ λ e. ap (λ k. cond (bytes_eq n name) 0 (cond (ends_with nat_eq n s) 1 0 + k)) more
       | false ↦ λ e.
           ap (λ b. cond b 0 (cond (ends_with nat_eq n s) 1 0 + rank s seen name)) (other-name n name e h)
-          ∙ ap (λ b. cond b 1 0 + rank s seen name) e ∙ no-more (rank s seen name) ∙ more
+          ∙ ap (λ b. cond b 1 0 + rank s seen name) e ∙ zero-add (rank s seen name) ∙ more
     ] refl
 
 -- the different ones among them

@@ -1,19 +1,13 @@
 -- What is asked of suffixes follows from the rule by which a list is accepted.
-use Rattle.std.proofs.Common.{◌≡◌, ℕ, ◌&&◌, ◌||◌, Bool, true, false, not, suc, zero, List, [], ◌∷◌, Some, None, ◌-◌, drop, length, inl, inr, refl, ap, sym, ◌∙◌, subst, nat_eq, codes, arith, ◌++◌, take, map}
+use Rattle.std.proofs.Common.{◌≡◌, ℕ, ◌&&◌, ◌||◌, Bool, true, false, not, suc, zero, List, [], ◌∷◌, Some, ◌-◌, drop, length, inl, inr, refl, ap, sym, ◌∙◌, nat_eq, codes, arith, ◌++◌, take, map, bytes_eq}
 use Rattle.std.specs.List.{Contains, ends_with, list_all, list_any, slice_get}
-use Rattle.std.specs.Str.{bytes_eq}
-use Rattle.std.proofs.lemmas.Bool.{false≢true, and_parts, or_parts, cases_lt}
+use Rattle.std.proofs.lemmas.Bool.{false≢true, and_parts, or_parts, cases_lt, not-true}
 use Rattle.std.proofs.lemmas.List.Elements.{All-contains}
 use Rattle.std.proofs.lemmas.List.Sums.{AllPass-from_list_all}
-use Rattle.std.proofs.lemmas.Slice.Eq.{bytes_eq-Decides}
 use Rattle.texts.specs.Path.{is_bare}
 use Rattle.canonical_names.specs.SuffixRule.{is_suffix, is_apart, are_apart, are_suffixes, AcceptedAreSuffixes}
-use Rattle.canonical_names.proofs.CanonicalLemmas.{no-member, head-member, tail-member, member-cases, ends-split, shorter-end}
-
--- tests
-not-true : (a : Bool) → not a ≡ true → a ≡ false
-not-true true h = sym h
-not-true false h = refl
+pub use Rattle.canonical_names.proofs.AlikeLemmas.{any-member}
+use Rattle.canonical_names.proofs.CanonicalLemmas.{no-member, member-cases, ends-split, shorter-end}
 
 -- a test of mapped elements is a test of the elements
 pub list_any-map : {X Y : Type 0} (p : X → Bool) (h : Y → X) (ys : List Y) → list_any p (map h ys) ≡ list_any (λ y. p (h y)) ys
@@ -23,14 +17,6 @@ list_any-map p h (y ∷ ys) = ap (λ b. p (h y) || b) (list_any-map p h ys)
 -- what holds of each holds of a member
 pub each-member : {A : Type 0} (test : A → Bool) (xs : List A) (x : A) → list_all test xs ≡ true → Contains xs x → test x ≡ true
 each-member test xs x all among = All-contains (λ y. test y ≡ true) xs x (AllPass-from_list_all test xs all) among
-
-pub any-member : (x : List ℕ) (xs : List (List ℕ)) → list_any (bytes_eq x) xs ≡ true → Contains xs x
-any-member x [] h = absurd (false≢true h)
-any-member x (y ∷ ys) h =
-    elim (bytes_eq x y) as (λ t. bytes_eq x y ≡ t → (t || list_any (bytes_eq x) ys) ≡ true → Contains (y ∷ ys) x) [
-      | true ↦ λ e _. subst (Contains (y ∷ ys)) (sym ((bytes_eq-Decides x y).0 e)) (head-member y ys)
-      | false ↦ λ _ k. tail-member y ys x (any-member x ys k)
-    ] refl h
 
 -- the parts of the rule
 pub each-suffix : (suffixes : List (List ℕ)) → are_suffixes suffixes ≡ true → list_all is_suffix suffixes ≡ true
@@ -95,17 +81,8 @@ drop-got [] i x h = cc
 drop-got (y ∷ ys) zero x h = let is : y ≡ x = cc in ap (λ z. z ∷ ys) is
 drop-got (y ∷ ys) (suc i) x h = drop-got ys i x h
 
-pub drop-past : {A : Type 0} (xs : List A) (i : ℕ) → slice_get xs i ≡ None → drop i xs ≡ []
-drop-past [] zero h = refl
-drop-past [] (suc i) h = refl
-drop-past (y ∷ ys) zero h = cc
-drop-past (y ∷ ys) (suc i) h = drop-past ys i h
-
 pub none-member : {A : Type 0} (test : A → Bool) (xs : List A) (x : A) → list_any test xs ≡ false → Contains xs x → test x ≡ false
 none-member test [] x h among = absurd (no-member x among)
 none-member test (y ∷ ys) x h among =
     let parts = or_parts (test y) (list_any test ys) h in
-    elim (member-cases y ys x among) as (λ _. test x ≡ false) [
-      | inl is ↦ ap test (sym is) ∙ parts.0
-      | inr more ↦ none-member test ys x parts.1 more
-    ]
+    elim (member-cases y ys x among) as (λ _. test x ≡ false) [ inl is ↦ ap test (sym is) ∙ parts.0 | inr more ↦ none-member test ys x parts.1 more ]

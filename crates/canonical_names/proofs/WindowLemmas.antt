@@ -1,17 +1,18 @@
 -- Which names of a length stand in a text, by the parts of it that have that length.
-use Rattle.std.proofs.Common.{◌≡◌, ℕ, ◌+◌, ◌-◌, ◌<◌, ◌≤◌, ◌&&◌, ◌||◌, Bool, true, false, cond, suc, zero, List, [], ◌∷◌, Some, is_some, map, refl, ap, sym, ◌∙◌, subst, eqb, eqb-true, nat_eq, nat_lt, nat_le, length, fold, take, drop, arith, string_bytes, String, get_or, add-one}
+use Rattle.std.proofs.Common.{◌≡◌, ℕ, ◌+◌, ◌-◌, ◌<◌, ◌≤◌, ◌&&◌, ◌||◌, Bool, true, false, cond, suc, zero, List, [], ◌∷◌, Some, is_some, map, refl, ap, sym, ◌∙◌, subst, eqb, eqb-true, nat_eq, nat_lt, nat_le, length, fold, take, drop, arith, string_bytes, String, get_or, add-one, bytes_eq, IsUtf8, IsCharBoundary}
 use Rattle.std.specs.declared.alloc.Global.{Global}
 use Rattle.std.specs.List.{list_any, starts_with}
 use Rattle.std.specs.Map.{lookup}
-use Rattle.std.specs.Str.{bytes_eq, IsUtf8, IsCharBoundary}
 use Rattle.std.proofs.lemmas.Bool.{false≢true, or_parts, and_parts}
 use Rattle.std.proofs.lemmas.List.{length-take-le, length-append, take-append-drop}
 use Rattle.std.proofs.lemmas.Slice.Eq.{bytes_eq-Decides}
 use Rattle.std.proofs.lemmas.Str.{IsUtf8-string_bytes, IsUtf8-drop, IsCharBoundary-from_take, IsCharBoundary-from_rest, IsCharBoundary-start}
+use Rattle.std.proofs.Math.Bool.{and-false, and-or_distrib_left, and-true}
 use Rattle.texts.specs.Variables.{pair_of}
 use Rattle.canonical_names.specs.Alike.{holds}
 use Rattle.canonical_names.specs.Counted.{old_names}
 use Rattle.canonical_names.specs.References.{longer, longest_in, stand_of, window_is, windows_are}
+use Rattle.canonical_names.proofs.RankLemmas.{bytes_eq-turned}
 use Rattle.canonical_names.proofs.LengthLemmas.{longest-bound, longer-least, fold-more}
 
 -- tests of all names
@@ -35,16 +36,6 @@ any-or f g (x ∷ xs) = turned (f x) (g x) (list_any f xs) (list_any g xs) ∙ a
 any-and : {A : Type 0} (a : Bool) (f : A → Bool) (xs : List A) → (a && list_any f xs) ≡ list_any (λ x. a && f x) xs
 any-and true f xs = refl
 any-and false f xs = sym (any-none (λ _. false) (λ _. refl) xs)
-
-bytes-turned : (a b : List ℕ) → bytes_eq a b ≡ bytes_eq b a
-bytes-turned a b =
-    elim (bytes_eq a b) as (λ t. bytes_eq a b ≡ t → t ≡ bytes_eq b a) [
-      | true ↦ λ e. sym ((bytes_eq-Decides b a).1 (sym ((bytes_eq-Decides a b).0 e)))
-      | false ↦ λ e. elim (bytes_eq b a) as (λ t. bytes_eq b a ≡ t → false ≡ t) [
-        | true ↦ λ f. absurd (false≢true (sym e ∙ (bytes_eq-Decides a b).1 (sym ((bytes_eq-Decides b a).0 f))))
-        | false ↦ λ _. refl
-      ] refl
-    ] refl
 
 module _ (k : ℕ) (names : List (List ℕ)) where
   -- a text that is shorter has no such part
@@ -93,7 +84,7 @@ module _ (k : ℕ) (names : List (List ℕ)) where
         whole : length n ≡ k → (nat_le k (length text) && bytes_eq (take k text) n) ≡ bytes_eq n (take k text)
         whole same =
             elim (nat_le k (length text)) as (λ a. nat_le k (length text) ≡ a → (a && bytes_eq (take k text) n) ≡ bytes_eq n (take k text)) [
-              | true ↦ λ _. bytes-turned (take k text) n
+              | true ↦ λ _. bytes_eq-turned (take k text) n
               | false ↦ λ a. elim (bytes_eq n (take k text)) as (λ t. bytes_eq n (take k text) ≡ t → false ≡ t) [
                 | true ↦ λ t.
                     let is : n ≡ take k text = (bytes_eq-Decides n (take k text)).0 t in
@@ -109,20 +100,14 @@ module _ (k : ℕ) (names : List (List ℕ)) where
   windows-stand some [] = sym (any-none (λ n. eqb (length n) k && holds n []) none names) where
     none : (n : List ℕ) → (eqb (length n) k && bytes_eq n []) ≡ false
     none [] = let other : eqb (length {A = ℕ} []) k ≡ false = grind (arith, some) in ap (λ b. b && bytes_eq [] []) other
-    none (c ∷ n) = both (eqb (length (c ∷ n)) k) where
-      both : (b : Bool) → (b && false) ≡ false
-      both true = refl
-      both false = refl
+    none (c ∷ n) = and-false (eqb (length (c ∷ n)) k)
   windows-stand some (c ∷ cs) =
       let text = c ∷ cs in
       let e = λ (n : List ℕ). eqb (length n) k in
       ap (λ b. b || windows_are k names cs) (any-and (nat_le k (length text)) (bytes_eq (take k text)) names ∙ any-same _ (λ n. e n && starts_with nat_eq text n) (part-is text) names)
       ∙ ap (λ b. list_any (λ n. e n && starts_with nat_eq text n) names || b) (windows-stand some cs)
       ∙ any-or (λ n. e n && starts_with nat_eq text n) (λ n. e n && holds n cs) names
-      ∙ any-same _ (λ n. e n && holds n text) (λ n. spread (e n) (starts_with nat_eq text n) (holds n cs)) names where
-        spread : (a b c : Bool) → ((a && b) || (a && c)) ≡ (a && (b || c))
-        spread true b c = refl
-        spread false b c = refl
+      ∙ any-same _ (λ n. e n && holds n text) (λ n. sym (and-or_distrib_left (e n) (starts_with nat_eq text n) (holds n cs))) names
 
 -- the longest name, length by length
 module _ (text : List ℕ) (k : ℕ) where
@@ -130,21 +115,12 @@ module _ (text : List ℕ) (k : ℕ) where
   less-each some n none =
       elim (holds n text) as (λ h. (eqb (length n) k && h) ≡ false → (nat_le (length n) k && h) ≡ (nat_le (length n) (k - 1) && h)) [
         | true ↦ λ e.
-            let other : eqb (length n) k ≡ false = sym (alone (eqb (length n) k)) ∙ e in
-            let same : nat_le (length n) k ≡ nat_le (length n) (k - 1) = elim (nat_le (length n) k) as (λ b. nat_le (length n) k ≡ b → b ≡ nat_le (length n) (k - 1)) [
-              | true ↦ λ a. grind (arith, a, other, some)
-              | false ↦ λ a. grind (arith, a, some)
-            ] refl in
+            let other : eqb (length n) k ≡ false = sym (and-true (eqb (length n) k)) ∙ e in
+            let same : nat_le (length n) k ≡ nat_le (length n) (k - 1) = elim (nat_le (length n) k) as (λ b. nat_le (length n) k ≡ b → b ≡ nat_le (length n) (k - 1))
+            [ true ↦ λ a. grind (arith, a, other, some) | false ↦ λ a. grind (arith, a, some) ] refl in
             ap (λ b. b && true) same
-        | false ↦ λ _. never (nat_le (length n) k) ∙ sym (never (nat_le (length n) (k - 1)))
-      ] none where
-        alone : (b : Bool) → (b && true) ≡ b
-        alone true = refl
-        alone false = refl
-
-        never : (b : Bool) → (b && false) ≡ false
-        never true = refl
-        never false = refl
+        | false ↦ λ _. and-false (nat_le (length n) k) ∙ sym (and-false (nat_le (length n) (k - 1)))
+      ] none
 
   less-fold : 0 < k → (names : List (List ℕ)) (best : ℕ) → stand_of k names text ≡ false → fold (longer text k) best names ≡ fold (longer text (k - 1)) best names
   less-fold some [] best none = refl
@@ -182,10 +158,8 @@ longest-nothing text names = let bound : longest_in text 0 names ≤ 0 = longest
 pub found-named : (es : List (String Global × String Global)) (part : List ℕ) → is_some (lookup (λ k. bytes_eq part (string_bytes k)) es) ≡ list_any (bytes_eq part) (old_names (map pair_of es))
 found-named [] part = refl
 found-named (e ∷ es) part =
-    elim (bytes_eq part (string_bytes e.0)) as (λ t. is_some (cond t (Some e.1) (lookup (λ k. bytes_eq part (string_bytes k)) es)) ≡ (t || list_any (bytes_eq part) (old_names (map pair_of es)))) [
-      | true ↦ refl
-      | false ↦ found-named es part
-    ]
+    elim (bytes_eq part (string_bytes e.0)) as (λ t. is_some (cond t (Some e.1) (lookup (λ k. bytes_eq part (string_bytes k)) es)) ≡ (t || list_any (bytes_eq part) (old_names (map pair_of es))))
+    [ true ↦ refl | false ↦ found-named es part ]
 
 -- a part that no characters make up is no name
 module _ (text : List ℕ) (utf8 : IsUtf8 text) (i k : ℕ) (some : 0 < k) (within : i + k ≤ length text) where

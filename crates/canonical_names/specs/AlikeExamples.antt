@@ -1,7 +1,6 @@
 -- Runs that are clean, alike or shadows, and runs that aren't, worked out by hand.
-use Rattle.std.proofs.Common.{◌≡◌, ℕ, ◌++◌, List, [], ◌∷◌, true, false, drop, get_or, Option, None, refl, sym, ap, ◌∙◌, eqb, codes, slice_index}
+use Rattle.std.proofs.Common.{◌≡◌, ℕ, ◌++◌, List, [], ◌∷◌, true, false, drop, get_or, Option, None, refl, sym, ap, ◌∙◌, eqb, codes, slice_index, Contains}
 use Rattle.std.proofs.lemmas.Bool.{false≢true}
-use Rattle.std.specs.List.{Contains}
 use Rattle.std.proofs.lemmas.List.Elements.{All-from_recursion, All-contains}
 use Rattle.texts.specs.Path.{folder_of}
 use Rattle.command_lines.specs.CommandLines.{CommandLine}

@@ -1,7 +1,6 @@
 -- The laws of canonical names, for all runs.
-use Rattle.std.specs.Prelude.{◌≡◌, ℕ, List, [], ◌∷◌, ◌++◌, true, false, nat_eq, length, fold, if◌then◌else◌, map, Option, Some, None, codes}
+use Rattle.std.specs.Prelude.{◌≡◌, ℕ, List, [], ◌∷◌, ◌++◌, true, false, nat_eq, length, fold, if◌then◌else◌, map, Option, Some, None, codes, bytes_eq}
 use Rattle.std.specs.List.{Contains, ends_with, filter, list_any}
-use Rattle.std.specs.Str.{bytes_eq}
 use Rattle.texts.specs.Path.{is_bare, folder_of}
 use Rattle.command_lines.specs.CommandLines.{CommandLine, words_of_command}
 use Rattle.canonical_names.specs.Generated.{standard_suffixes, head_of, core_of, class_of, class_of_name}

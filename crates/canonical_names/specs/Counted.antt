@@ -1,6 +1,5 @@
 -- A map of canonical names and its counters.
-use Rattle.std.specs.Prelude.{◌≡◌, ℕ, List, ◌++◌, Bool, true, nat_eq, length, map, filter, is_some, Option, Some, None, if◌then◌else◌, codes}
-use Rattle.std.specs.Fmt.{decimal}
+use Rattle.std.specs.Prelude.{◌≡◌, ℕ, List, ◌++◌, Bool, true, nat_eq, length, map, filter, is_some, Option, Some, None, if◌then◌else◌, codes, decimal}
 use Rattle.std.specs.List.{ends_with, list_all, slice_get}
 use Rattle.canonical_names.specs.Generated.{begins_with_dash, class_of_name}
 use Rattle.canonical_names.specs.Renaming.{canonical_name}

@@ -1,7 +1,6 @@
 -- Generated words: those that name a file that nvcc generates.
-use Rattle.std.specs.Prelude.{◌≡◌, ℕ, List, [], ◌∷◌, Bool, true, false, ◌==◌, ◌&&◌, nat_eq, if◌then◌else◌, Option, Some, None, is_some, refl, codes}
+use Rattle.std.specs.Prelude.{◌≡◌, ℕ, List, [], ◌∷◌, Bool, true, false, ◌==◌, ◌&&◌, nat_eq, if◌then◌else◌, Option, Some, None, is_some, refl, codes, option_map}
 use Rattle.std.specs.List.{find, starts_with, ends_with}
-use Rattle.std.specs.Option.{option_map}
 
 -- the suffixes of the files that nvcc generates
 abbrev pub standard_suffixes : List (List ℕ)

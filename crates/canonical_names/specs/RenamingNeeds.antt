@@ -1,6 +1,5 @@
 -- The laws of renaming, each without one of its premises. None of these holds.
-use Rattle.std.specs.Prelude.{◌≡◌, ℕ, List, true, map}
-use Rattle.std.specs.List.{Contains}
+use Rattle.std.specs.Prelude.{◌≡◌, ℕ, List, true, map, Contains}
 use Rattle.texts.specs.Path.{folder_of}
 use Rattle.command_lines.specs.CommandLines.{CommandLine}
 use Rattle.canonical_names.specs.Alike.{is_clean, command_through, Alike}

@@ -1,8 +1,7 @@
 -- Shadow runs: second runs that put the generated files of the first run into a temporary directory.
-use Rattle.std.specs.Prelude.{ℕ, List, map, Bool, true, false, not, ◌&&◌, ◌||◌, Option, Some, None, codes}
+use Rattle.std.specs.Prelude.{ℕ, List, map, Bool, true, false, not, ◌&&◌, ◌||◌, Option, Some, None, codes, bytes_eq}
 use Rattle.std.specs.List.{list_all, filter_map, flat_map}
 use Rattle.std.specs.Cmp.Lexicographic.{pointwise}
-use Rattle.std.specs.Str.{bytes_eq}
 use Rattle.texts.specs.Path.{joined, is_bare, file_name_of}
 use Rattle.texts.specs.DeviceFiles.{is_cicc_word}
 use Rattle.command_lines.specs.CommandLines.{CommandLine, words_of_command}

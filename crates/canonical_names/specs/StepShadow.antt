@@ -1,8 +1,7 @@
 -- Shadow runs by the inputs of cicc alone: the files that preprocess steps write and cicc reads.
-use Rattle.std.specs.Prelude.{◌≡◌, ℕ, List, map, filter, Bool, true, false, ◌&&◌, ◌==◌, if◌then◌else◌, Some, refl, codes}
+use Rattle.std.specs.Prelude.{◌≡◌, ℕ, List, map, filter, Bool, true, false, ◌&&◌, ◌==◌, if◌then◌else◌, Some, refl, codes, bytes_eq}
 use Rattle.std.specs.List.{list_all}
 use Rattle.std.specs.Cmp.Lexicographic.{pointwise}
-use Rattle.std.specs.Str.{bytes_eq}
 use Rattle.texts.specs.DeviceFiles.{is_cicc_word}
 use Rattle.texts.specs.Lists.{word_after}
 use Rattle.texts.specs.Path.{joined, is_bare, file_name_of}

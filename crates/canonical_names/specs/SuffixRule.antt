@@ -1,9 +1,7 @@
 -- Which lists of suffixes a caller may pass.
-use Rattle.std.specs.Prelude.{◌≡◌, ℕ, List, [], ◌∷◌, Bool, true, false, not, ◌&&◌, ◌-◌, ◌==◌, nat_eq, length, Option, refl, codes}
+use Rattle.std.specs.Prelude.{◌≡◌, ℕ, List, [], ◌∷◌, Bool, true, false, not, ◌&&◌, ◌-◌, ◌==◌, nat_eq, length, Option, refl, codes, unwrap_or, bytes_eq}
 use Rattle.std.specs.Char.{is_ascii_alphanumeric}
 use Rattle.std.specs.List.{list_all, list_any, ends_with, slice_get}
-use Rattle.std.specs.Option.{unwrap_or}
-use Rattle.std.specs.Str.{bytes_eq}
 use Rattle.texts.specs.Lists.{is_some_and}
 use Rattle.texts.specs.Path.{is_bare}
 use Rattle.canonical_names.specs.Generated.{standard_suffixes}

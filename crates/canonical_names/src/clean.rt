@@ -1,8 +1,7 @@
 //! Clean runs: only generated words contain generated names.
 
-ghost use Rattle.std.specs.Prelude.{◌≡◌, map, string_bytes};
+ghost use Rattle.std.specs.Prelude.{◌≡◌, map, string_bytes, option_copied};
 ghost use Rattle.std.specs.List.{list_any, list_all, filter_map};
-ghost use Rattle.std.specs.Option.{option_copied};
 ghost use Rattle.texts.specs.Lists.{is_some_and};
 ghost use Rattle.command_lines.specs.CommandLines.{line_seen};
 ghost use Rattle.canonical_names.specs.Alike as spec;

@@ -1,7 +1,6 @@
 //! The standard suffixes, with further ones of a caller.
 
-ghost use Rattle.std.specs.Prelude.{◌≡◌, ◌++◌, IfOk, OnOk, map, string_bytes};
-ghost use Rattle.std.specs.Option.{option_copied, option_to_list};
+ghost use Rattle.std.specs.Prelude.{◌≡◌, ◌++◌, IfOk, OnOk, map, string_bytes, option_copied, option_to_list};
 ghost use Rattle.texts.specs.Fault.{UnlessMemory};
 ghost use Rattle.canonical_names.specs.FurtherSuffixes as spec;
 ghost use Rattle.canonical_names.specs.Generated.{standard_suffixes};

@@ -1,7 +1,6 @@
 //! Replaces generated names in the words of commands by canonical ones.
 
-ghost use Rattle.std.specs.Prelude.{◌≡◌, ◌⊎◌, ◌++◌, ◌∷◌, [], ℕ, map, take, IfOk, OnOk, OnErr, string_bytes};
-ghost use Rattle.std.specs.Option.{option_map, unwrap_or};
+ghost use Rattle.std.specs.Prelude.{◌≡◌, ◌⊎◌, ◌++◌, ◌∷◌, [], ℕ, map, take, IfOk, OnOk, OnErr, string_bytes, option_map, unwrap_or};
 ghost use Rattle.command_lines.specs.CommandLines.{line_seen, words_of_command};
 ghost use Rattle.texts.specs.Lists.{with_name};
 ghost use Rattle.canonical_names.specs.Counted.{class_of_core};

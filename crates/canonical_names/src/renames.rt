@@ -1,8 +1,7 @@
 //! The canonical names of generated files.
 
-ghost use Rattle.std.specs.Prelude.{◌≡◌, ◌⊎◌, ◌<◌, ◌∷◌, [], ◌++◌, ⊤, map, length, codes, IfOk, OnOk, OnErr, MatchOption, Some, None, if◌then◌else◌, false, true, replicate, ◌^◌, ◌==◌, IsTrue, string_bytes};
+ghost use Rattle.std.specs.Prelude.{◌≡◌, ◌⊎◌, ◌<◌, ◌∷◌, [], ◌++◌, ⊤, map, length, codes, IfOk, OnOk, OnErr, MatchOption, Some, None, if◌then◌else◌, false, true, replicate, ◌^◌, ◌==◌, IsTrue, string_bytes, bytes_eq};
 ghost use Rattle.std.specs.List.{list_any, slice_get};
-ghost use Rattle.std.specs.Str.{bytes_eq};
 ghost use Rattle.texts.specs.Lists.{with_name};
 ghost use Rattle.texts.specs.Path.{joined, folder_of};
 ghost use Rattle.texts.specs.Variables.{pair_of};

@@ -1,10 +1,8 @@
 //! Shadow runs: second runs that put the generated files of the first run into a temporary directory.
 
-ghost use Rattle.std.specs.Prelude.{◌≡◌, ◌++◌, ◌&&◌, List, ℕ, map, filter, codes, nat_eq, IfOk, OnOk, string_bytes};
+ghost use Rattle.std.specs.Prelude.{◌≡◌, ◌++◌, ◌&&◌, List, ℕ, map, filter, codes, nat_eq, IfOk, OnOk, string_bytes, option_copied, bytes_eq};
 ghost use Rattle.std.specs.Cmp.Lexicographic.{pointwise};
 ghost use Rattle.std.specs.List.{list_all, filter_map};
-ghost use Rattle.std.specs.Option.{option_copied};
-ghost use Rattle.std.specs.Str.{bytes_eq};
 ghost use Rattle.texts.specs.DeviceFiles.{is_cicc_word};
 ghost use Rattle.texts.specs.Lists as lists;
 ghost use Rattle.texts.specs.Path as paths;

@@ -1,9 +1,7 @@
 //! The suffixes of the files that nvcc generates.
 
-ghost use Rattle.std.specs.Prelude.{◌≡◌, ◌∷◌, [], Ok, Err, map, length, drop, nat_eq, nat_le, IfOk, MatchOption, OnOk, string_bytes, if◌then◌else◌, None, ◌<◌, ◌==◌, ⊤, true, false};
+ghost use Rattle.std.specs.Prelude.{◌≡◌, ◌∷◌, [], Ok, Err, map, length, drop, nat_eq, nat_le, IfOk, MatchOption, OnOk, string_bytes, if◌then◌else◌, None, ◌<◌, ◌==◌, ⊤, true, false, option_copied, option_map, bytes_eq};
 ghost use Rattle.std.specs.List.{slice_get, list_any, list_all, starts_with, ends_with};
-ghost use Rattle.std.specs.Option.{option_copied, option_map};
-ghost use Rattle.std.specs.Str.{bytes_eq};
 ghost use Rattle.std.specs.Char.{is_ascii_alphanumeric};
 ghost use Rattle.texts.specs.Fault.{UnlessMemory};
 ghost use Rattle.texts.specs.Lists.{is_some_and};

@@ -1,8 +1,7 @@
 //! The words of a dry run: their heads and cores.
 
-ghost use Rattle.std.specs.Prelude.{◌≡◌, ◌++◌, nat_eq, codes, IfOk, string_bytes};
+ghost use Rattle.std.specs.Prelude.{◌≡◌, ◌++◌, nat_eq, codes, IfOk, string_bytes, option_copied};
 ghost use Rattle.std.specs.List.{starts_with};
-ghost use Rattle.std.specs.Option.{option_copied};
 ghost use Rattle.texts.specs.Lists.{rest_after};
 ghost use Rattle.canonical_names.specs.Generated as spec;
 

@@ -2,6 +2,7 @@
 use Rattle.std.proofs.Common.{◌≡◌, ℕ, zero, ◌+◌, ◌-◌, ◌==◌, Bool, true, false, not, cond, ◌&&◌, List, [], ◌∷◌, ◌++◌, refl, ap, sym, ◌∙◌, nat_lt, map, append_assoc, arith}
 use Rattle.std.specs.List.{flat_map, list_all}
 use Rattle.std.proofs.lemmas.Bool.{and_parts, and_from, not-true, le-ltb}
+use Rattle.std.proofs.lemmas.Simd.{map-map}
 use Rattle.texts.specs.Path.{lacks}
 use Rattle.command_keys.specs.declared.marks.Part.{Part}
 use Rattle.command_keys.specs.declared.marks.Part.TheVariants.{Byte, Root}
@@ -109,17 +110,13 @@ changed-texts : (change : List ℕ → List ℕ) (words : List (List ℕ)) (vari
 changed-texts change [] variables = changed-variables change variables
 changed-texts change (word ∷ words) variables = ap (λ ts. (change word, word_end) ∷ ts) (changed-texts change words variables)
 
-map-twice : {X Y Z : Type 0} (f : X → Y) (g : Y → Z) (xs : List X) → map g (map f xs) ≡ map (λ x. g (f x)) xs
-map-twice f g [] = refl
-map-twice f g (x ∷ xs) = ap (λ t. g (f x) ∷ t) (map-twice f g xs)
-
 -- a key that is read with other roots is the command with these
 restored-key : (roots others : List (List ℕ)) (command : Command) → is_plain command ≡ true → restored others (command_key roots command) ≡ renamed_command roots others command
 restored-key roots others command plain =
     let seen : EndedParts → Ended = λ text. (text_of others text.0, text.1) in
     let cut : Ended → EndedParts = λ text. (parts roots text.0, text.1) in
     ap (λ texts. command_of (map seen texts)) (read-texts roots (texts_of command) (readable command plain))
-    ∙ ap command_of (map-twice cut seen (texts_of command))
+    ∙ ap command_of (map-map seen cut (texts_of command))
     ∙ ap command_of (sym (changed-texts (renamed roots others) command.0 command.1))
     ∙ command-again (renamed_command roots others command)
 

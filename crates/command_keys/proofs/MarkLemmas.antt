@@ -1,25 +1,21 @@
 -- Roots in texts: a text is that of its parts, and parts are found again where no root begins elsewhere.
-use Rattle.std.proofs.Common.{◌≡◌, ℕ, zero, suc, ◌+◌, ◌-◌, ◌<◌, ◌==◌, Bool, true, false, not, cond, ◌&&◌, List, [], ◌∷◌, ◌++◌, Option, Some, None, MatchOption, Bor, length-append, refl, ap, sym, ◌∙◌, subst, eqb-true, length, take, drop, get_or, arith}
+use Rattle.std.proofs.Common.{◌≡◌, ℕ, zero, suc, ◌+◌, ◌-◌, ◌<◌, ◌==◌, Bool, true, false, not, cond, ◌&&◌, List, [], ◌∷◌, ◌++◌, Option, Some, None, MatchOption, Bor, length-append, refl, ap, sym, ◌∙◌, subst, eqb-true, length, take, drop, get_or, arith, bytes_eq, sub-one}
 use Rattle.std.specs.List.{position_from, list_all}
 use Rattle.std.proofs.lemmas.Bool.{false≢true, and_parts, and_from, false_from_ne_true}
 use Rattle.std.proofs.lemmas.List.{take-append-drop}
 use Rattle.std.proofs.lemmas.Slice.Eq.{bytes_eq-Decides}
-use Rattle.std.specs.Str.{bytes_eq}
+use Rattle.std.proofs.lemmas.Option.{none-some, same_Some}
 use Rattle.texts.specs.Path.{lacks}
 use Rattle.command_keys.specs.declared.marks.Part.{Part}
 use Rattle.command_keys.specs.declared.marks.Part.TheVariants.{Byte, Root}
 use Rattle.command_keys.specs.Marks.{begins_with, root_at, root_of, part_at, length_behind, parts_past, parts, text_of_part, text_of, is_told, are_told}
-
-pub one-less : (n : ℕ) → suc n - 1 ≡ n
-one-less n = omega arith
 
 -- a text that begins with a root is the root and the rest
 begins-split : (c : ℕ) (cs root : List ℕ) → begins_with (c ∷ cs) root ≡ true → root ++ drop (length root - 1) cs ≡ c ∷ cs
 begins-split c cs [] h = absurd (false≢true h)
 begins-split c cs (r ∷ rs) h =
     let front : r ∷ rs ≡ take (length (r ∷ rs)) (c ∷ cs) = (bytes_eq-Decides (r ∷ rs) (take (length (r ∷ rs)) (c ∷ cs))).0 h in
-    ap (λ n. (r ∷ rs) ++ drop n cs) (one-less (length rs))
-    ∙ ap (λ t. t ++ drop (length rs) cs) front
+    ap (λ n. (r ∷ rs) ++ drop n cs) (sub-one (suc (length rs))) ∙ ap (λ t. t ++ drop (length rs) cs) front
     ∙ take-append-drop (length (r ∷ rs)) (c ∷ cs)
 
 -- the position that is found, counted from the first of the list
@@ -29,24 +25,12 @@ record Found (text : List ℕ) (roots : List (List ℕ)) (start number : ℕ) : 
   pub within : place < length roots
   pub begins : begins_with text (get_or roots place []) ≡ true
 
-same-number : (m n : ℕ) → Some m ≡ Some n → m ≡ n
-same-number m n e = ap (λ (o : Option ℕ). value o) e where
-  value : Option ℕ → ℕ
-  value None = 0
-  value (Some n) = n
-
-none-some : {P : Type 0} (n : ℕ) → None ≡ Some n → P
-none-some n e = absurd (false≢true (ap has e)) where
-  has : Option ℕ → Bool
-  has None = false
-  has (Some n) = true
-
 found-from : (text : List ℕ) (roots : List (List ℕ)) (start number : ℕ) → position_from (begins_with text) start roots ≡ Some number → Found text roots start number
-found-from text [] start number e = none-some number e
+found-from text [] start number e = absurd (none-some number e)
 found-from text (root ∷ roots) start number e =
     elim (begins_with text root) as (λ b. begins_with text root ≡ b → cond b (Some start) (position_from (begins_with text) (start + 1) roots) ≡ Some number → Found text (root ∷ roots) start number) [
       | true ↦ λ is e.
-          let same : start ≡ number = same-number start number e in
+          let same : start ≡ number = same_Some start number e in
           record { place = 0; is = omega (arith, same); within = omega arith; begins = is }
       | false ↦ λ is e.
           let more = found-from text roots (start + 1) number e in
@@ -106,7 +90,7 @@ root-first roots number [] rest is begins e = absurd (nothing-begins rest begins
 root-first roots number (r ∷ rs) rest is begins e =
     ap (λ o. part_at o r ∷ parts_past (length_behind roots o) roots (rs ++ rest)) e
     ∙ ap (λ root. Root number ∷ parts_past (length root - 1) roots (rs ++ rest)) is
-    ∙ ap (λ n. Root number ∷ parts_past n roots (rs ++ rest)) (one-less (length rs))
+    ∙ ap (λ n. Root number ∷ parts_past n roots (rs ++ rest)) (sub-one (suc (length rs)))
     ∙ ap (λ ps. Root number ∷ ps) (parts-behind roots rs rest)
 
 -- parts are found again in their text
@@ -141,13 +125,6 @@ plain-past roots zero (c ∷ cs) h =
       | None ↦ and_from (not (c == 0)) (list_all is_plain_part (parts_past 0 roots cs)) both.0 (plain-past roots zero cs both.1)
       | Some number ↦ plain-past roots (length (root_of roots number) - 1) cs both.1
     ]
-
--- the number of the first root of a text, behind roots that don't begin it
-pub root-step : (text : List ℕ) (number : ℕ) (root : List ℕ) (roots : List (List ℕ)) (all : Option ℕ) → begins_with text root ≡ false → position_from (begins_with text) number (root ∷ roots) ≡ all → position_from (begins_with text) (number + 1) roots ≡ all
-root-step text number root roots all other h = ap (λ b. cond b (Some number) (position_from (begins_with text) (number + 1) roots)) (sym other) ∙ h
-
-pub root-stop : (text : List ℕ) (number : ℕ) (root : List ℕ) (roots : List (List ℕ)) (all : Option ℕ) → begins_with text root ≡ true → position_from (begins_with text) number (root ∷ roots) ≡ all → Some number ≡ all
-root-stop text number root roots all is h = ap (λ b. cond b (Some number) (position_from (begins_with text) (number + 1) roots)) (sym is) ∙ h
 
 -- what std says of a root that is stripped off
 pub stripped : (text root : List ℕ) (rest : Option (Bor (List ℕ))) → (length root == 0) ≡ false →

@@ -4,9 +4,7 @@
 -- clang 14, for calls with -c, -G, -g, -lineinfo, -dlto and -rdc=true; `strings` on ptxas showed one more. gcc's manual has those for the
 -- language, which the C library reads. Left out are those for temporary files, colours, logs, numbers of threads and PATH: they change where
 -- something is, or a message, and a program that PATH finds is part of what a cache knows of the tool.
-use Rattle.std.specs.Prelude.{◌≡◌, ℕ, List, [], ◌∷◌, if◌then◌else◌, Option, Some, None, refl, codes}
-use Rattle.std.specs.List.{flat_map}
-use Rattle.std.specs.Str.{bytes_eq}
+use Rattle.std.specs.Prelude.{◌≡◌, ℕ, List, [], ◌∷◌, if◌then◌else◌, Option, Some, None, refl, codes, flat_map, bytes_eq}
 use Rattle.texts.specs.Lists.{latest}
 use Rattle.command_keys.specs.declared.environment.KeyTool.{KeyTool}
 use Rattle.command_keys.specs.declared.environment.KeyTool.TheVariants.{Cicc, Ptxas, CudaFe, Fatbinary, Nvlink, Host}

@@ -1,7 +1,6 @@
 //! The environment variables that count in a key.
 
-ghost use Rattle.std.specs.Prelude.{◌≡◌, map, IfOk};
-ghost use Rattle.std.specs.Option.{option_copied};
+ghost use Rattle.std.specs.Prelude.{◌≡◌, map, IfOk, option_copied};
 ghost use Rattle.command_keys.specs.Keys.{shown, shown_variable};
 ghost use Rattle.command_keys.specs.ToolVariables as spec;
 

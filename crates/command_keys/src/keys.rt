@@ -1,8 +1,7 @@
 //! The key of a command.
 
-ghost use Rattle.std.specs.Prelude.{◌≡◌, ◌++◌, ◌≤◌, map, length, IfOk, OnOk};
+ghost use Rattle.std.specs.Prelude.{◌≡◌, ◌++◌, ◌≤◌, map, length, IfOk, OnOk, option_map};
 ghost use Rattle.std.specs.List.{flat_map, list_all};
-ghost use Rattle.std.specs.Option.{option_map};
 ghost use Rattle.texts.specs.Path.{lacks};
 ghost use Rattle.command_keys.specs.Keys as spec;
 ghost use Rattle.command_keys.specs.Keys.{shown, shown_variable};

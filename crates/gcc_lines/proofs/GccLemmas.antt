@@ -2,8 +2,9 @@
 use Rattle.std.proofs.Common.{◌≡◌, ℕ, Bool, true, false, cond, ◌||◌, List, [], ◌∷◌, ◌++◌, map, fold, Option, Some, None, Result, Ok, Err, ◌≤◌, length, arith, refl, ap, sym, ◌∙◌, append_assoc, append-nil}
 use Rattle.std.specs.List.{list_any}
 use Rattle.std.specs.Option.{option_or}
+use Rattle.std.proofs.Math.Bool.{or-false, or-true}
 use Rattle.gcc_lines.specs.declared.gcc.options.ArgData.{ArgData}
-use Rattle.gcc_lines.specs.declared.gcc.options.ArgData.TheVariants.{TooHard, TooHardFlag, PassThrough, PassThroughFlag, PreprocessorArgument, PreprocessorArgumentFlag, PreprocessorArgumentPath, DepArgumentPath, DepTarget, NeedDepTarget, DoCompilation, Output, Language, Arch, Standard, ExtraHashFile, Unhashed, UnhashedFlag}
+use Rattle.gcc_lines.specs.declared.gcc.options.ArgData.TheVariants.{PassThrough, PassThroughFlag, PreprocessorArgument, PreprocessorArgumentFlag, PreprocessorArgumentPath, DepArgumentPath, NeedDepTarget, Arch, Standard, ExtraHashFile, Unhashed, UnhashedFlag}
 use Rattle.option_items.specs.declared.table.ArgDisposition.{ArgDisposition}
 use Rattle.texts.specs.Path.{joined}
 use Rattle.option_items.specs.Table.{Entry}
@@ -36,35 +37,22 @@ added cwd g dashes is = record {
   extra_hash_files = g.extra_hash_files ++ hash_files cwd is;
 }
 
-or-true : (b : Bool) → (b || true) ≡ true
-or-true true = refl
-or-true false = refl
-
-or-false : (b : Bool) → (b || false) ≡ b
-or-false true = refl
-or-false false = refl
-
 module _ (cwd : List ℕ) where
   -- one more flag
   flag-added : (g : Asked) (dashes : Bool) (text : List ℕ) (kind : ArgData) (is : List (Item ArgData)) → added cwd (with_option cwd g text [] (text ∷ []) kind) dashes is ≡ added cwd g dashes (flag text kind ∷ is)
-  flag-added g dashes text TooHard is = refl
-  flag-added g dashes text TooHardFlag is = refl
   flag-added g dashes text PassThrough is = rw (append_assoc g.common_args (text ∷ []) (words_to common is)) refl
   flag-added g dashes text PassThroughFlag is = rw (append_assoc g.common_args (text ∷ []) (words_to common is)) refl
   flag-added g dashes text PreprocessorArgument is = rw (append_assoc g.preprocessor_args (text ∷ []) (words_to preprocessor is)) refl
   flag-added g dashes text PreprocessorArgumentFlag is = rw (append_assoc g.preprocessor_args (text ∷ []) (words_to preprocessor is)) refl
   flag-added g dashes text PreprocessorArgumentPath is = rw (append_assoc g.preprocessor_args (text ∷ []) (words_to preprocessor is)) refl
   flag-added g dashes text DepArgumentPath is = rw (append_assoc g.dependency_args (text ∷ []) (words_to dependencies is)) refl
-  flag-added g dashes text DepTarget is = refl
   flag-added g dashes text NeedDepTarget is = rw (append_assoc g.dependency_args (text ∷ []) (words_to dependencies is), or-true g.target_needed) refl
-  flag-added g dashes text DoCompilation is = refl
-  flag-added g dashes text Output is = refl
-  flag-added g dashes text Language is = refl
   flag-added g dashes text Arch is = rw (append_assoc g.arch_args (text ∷ []) (words_to architectures is)) refl
   flag-added g dashes text Standard is = rw (append_assoc g.common_args (text ∷ []) (words_to common is)) refl
   flag-added g dashes text ExtraHashFile is = rw (append_assoc g.common_args (text ∷ []) (words_to common is), append_assoc g.extra_hash_files (joined cwd [] ∷ []) (hash_files cwd is)) refl
   flag-added g dashes text Unhashed is = rw (append_assoc g.unhashed_args (text ∷ []) (words_to unhashed is)) refl
   flag-added g dashes text UnhashedFlag is = rw (append_assoc g.unhashed_args (text ∷ []) (words_to unhashed is)) refl
+  flag-added g dashes text _ is = refl
 
   -- the words of an option as it is written
   abbrev option_words : List ℕ → List ℕ → ArgDisposition → List (List ℕ)
@@ -72,24 +60,19 @@ module _ (cwd : List ℕ) where
 
   -- one more option with a value
   value-added : (g : Asked) (dashes : Bool) (text value : List ℕ) (form : ArgDisposition) (kind : ArgData) (is : List (Item ArgData)) → added cwd (with_option cwd g text value (option_words text value form) kind) dashes is ≡ added cwd g dashes (with_value text kind value form ∷ is)
-  value-added g dashes text value form TooHard is = refl
-  value-added g dashes text value form TooHardFlag is = refl
   value-added g dashes text value form PassThrough is = rw (append_assoc g.common_args (option_words text value form) (words_to common is)) refl
   value-added g dashes text value form PassThroughFlag is = rw (append_assoc g.common_args (option_words text value form) (words_to common is)) refl
   value-added g dashes text value form PreprocessorArgument is = rw (append_assoc g.preprocessor_args (option_words text value form) (words_to preprocessor is)) refl
   value-added g dashes text value form PreprocessorArgumentFlag is = rw (append_assoc g.preprocessor_args (option_words text value form) (words_to preprocessor is)) refl
   value-added g dashes text value form PreprocessorArgumentPath is = rw (append_assoc g.preprocessor_args (option_words text value form) (words_to preprocessor is)) refl
   value-added g dashes text value form DepArgumentPath is = rw (append_assoc g.dependency_args (option_words text value form) (words_to dependencies is)) refl
-  value-added g dashes text value form DepTarget is = refl
   value-added g dashes text value form NeedDepTarget is = rw (append_assoc g.dependency_args (option_words text value form) (words_to dependencies is), or-true g.target_needed) refl
-  value-added g dashes text value form DoCompilation is = refl
-  value-added g dashes text value form Output is = refl
-  value-added g dashes text value form Language is = refl
   value-added g dashes text value form Arch is = rw (append_assoc g.arch_args (option_words text value form) (words_to architectures is)) refl
   value-added g dashes text value form Standard is = rw (append_assoc g.common_args (option_words text value form) (words_to common is)) refl
   value-added g dashes text value form ExtraHashFile is = rw (append_assoc g.common_args (option_words text value form) (words_to common is), append_assoc g.extra_hash_files (joined cwd value ∷ []) (hash_files cwd is)) refl
   value-added g dashes text value form Unhashed is = rw (append_assoc g.unhashed_args (option_words text value form) (words_to unhashed is)) refl
   value-added g dashes text value form UnhashedFlag is = rw (append_assoc g.unhashed_args (option_words text value form) (words_to unhashed is)) refl
+  value-added g dashes text value form _ is = refl
 
   -- one more item
   item-added : (g : Asked) (dashes : Bool) (i : Item ArgData) (is : List (Item ArgData)) → added cwd (with_item cwd g i) dashes is ≡ added cwd g dashes (i ∷ is)
@@ -98,10 +81,6 @@ module _ (cwd : List ℕ) where
   item-added g dashes (flag text kind) is = flag-added g dashes text kind is
   item-added g dashes (with_value text kind value form) is = value-added g dashes text value form kind is
   item-added g dashes faulty is = refl
-
-  -- no more items
-  added-nothing : (g : Asked) → added cwd g false [] ≡ g
-  added-nothing g = rw (append-nil g.inputs, append-nil g.common_args, append-nil g.preprocessor_args, append-nil g.arch_args, append-nil g.unhashed_args, append-nil g.dependency_args, append-nil g.extra_hash_files, or-false g.double_dash_input, or-false g.target_needed) refl
 
 -- what a line asks for whose first items asked for this, of the words that are left
 abbrev pub gathering_after : (List ℕ → Option (Entry ArgData)) → List ℕ → Asked → List (List ℕ) → Result Asked (List ℕ)
@@ -117,8 +96,7 @@ first_refusal-raw (w ∷ line) = first_refusal-raw line
 added-raw : (cwd : List ℕ) (g : Asked) (line : List (List ℕ)) → added cwd g true (map raw line) ≡ record g { inputs = g.inputs ++ line; double_dash_input = true }
 added-raw cwd g [] = rw (append-nil g.inputs, append-nil g.common_args, append-nil g.preprocessor_args, append-nil g.arch_args, append-nil g.unhashed_args, append-nil g.dependency_args, append-nil g.extra_hash_files, or-true g.double_dash_input, or-false g.target_needed) refl
 added-raw cwd g (w ∷ line) =
-    sym (item-added cwd g true (raw w) (map raw line))
-    ∙ added-raw cwd (with_item cwd g (raw w)) line
+    sym (item-added cwd g true (raw w) (map raw line)) ∙ added-raw cwd (with_item cwd g (raw w)) line
     ∙ ap (λ (ws : List (List ℕ)). record g { inputs = ws; double_dash_input = true }) (append_assoc g.inputs (w ∷ []) line)
 
 -- an option is no `--`
@@ -182,7 +160,3 @@ module _ (chosen : List ℕ → Option (Entry ArgData)) where
         ∙ ap (λ b. unless_refused (first_refusal (map raw after)) (added cwd g b (map raw after))) stands
         ∙ ap (λ r. unless_refused r (added cwd g true (map raw after))) (first_refusal-raw after)
         ∙ ap Ok (added-raw cwd g after)
-
-  -- at the end of the line nothing is added
-  pub at_end : (cwd : List ℕ) (g : Asked) → gathering_after chosen cwd g [] ≡ Ok g
-  at_end cwd g = ap Ok (added-nothing cwd g)

@@ -1,35 +1,23 @@
 -- What a gcc command line asks for, item by item.
-use Rattle.std.specs.Prelude.{ℕ, List, [], ◌∷◌, Bool, true, false, ◌==◌, if◌then◌else◌, map, filter, fold, length}
-use Rattle.std.specs.Prelude.{Option, Some, None, is_some, option_to_list, codes}
+use Rattle.std.specs.Prelude.{ℕ, List, [], ◌∷◌, Bool, true, false, ◌==◌, if◌then◌else◌, map, filter, fold, length, Option, Some, None, is_some, option_to_list, codes, bytes_eq}
 use Rattle.std.specs.List.{flat_map, list_any}
 use Rattle.std.specs.Option.{option_and_then, option_or}
 use Rattle.std.specs.Map.{lookup}
-use Rattle.std.specs.Str.{bytes_eq}
 use Rattle.texts.specs.declared.language.Language.{Language}
-use Rattle.texts.specs.declared.language.Language.TheVariants.{C, Cxx, ObjectiveC, ObjectiveCxx, Cuda, CudaFE, Ptx, Cubin}
+use Rattle.texts.specs.declared.language.Language.TheVariants.{C, Cxx, ObjectiveC, ObjectiveCxx, Cuda}
 use Rattle.option_items.specs.declared.items.NormalizedDisposition.{NormalizedDisposition}
 use Rattle.option_items.specs.declared.items.NormalizedDisposition.TheVariants as normal
 use Rattle.gcc_lines.specs.declared.gcc.options.ArgData.{ArgData}
-use Rattle.gcc_lines.specs.declared.gcc.options.ArgData.TheVariants.{TooHard, TooHardFlag, PassThrough}
-use Rattle.gcc_lines.specs.declared.gcc.options.ArgData.TheVariants.{PassThroughFlag, PreprocessorArgument}
-use Rattle.gcc_lines.specs.declared.gcc.options.ArgData.TheVariants.{PreprocessorArgumentFlag}
-use Rattle.gcc_lines.specs.declared.gcc.options.ArgData.TheVariants.{PreprocessorArgumentPath, DepArgumentPath}
-use Rattle.gcc_lines.specs.declared.gcc.options.ArgData.TheVariants.{DepTarget, NeedDepTarget, DoCompilation, Output}
-use Rattle.gcc_lines.specs.declared.gcc.options.ArgData.TheVariants.{Language as LanguageOption, Arch, Standard}
-use Rattle.gcc_lines.specs.declared.gcc.options.ArgData.TheVariants.{ExtraHashFile, Unhashed, UnhashedFlag}
+use Rattle.gcc_lines.specs.declared.gcc.options.ArgData.TheVariants.{TooHard, TooHardFlag, PassThrough, PassThroughFlag, PreprocessorArgument, PreprocessorArgumentFlag, PreprocessorArgumentPath, DepArgumentPath, DepTarget, NeedDepTarget, DoCompilation, Output, Language as LanguageOption, Arch, Standard, ExtraHashFile, Unhashed, UnhashedFlag}
 use Rattle.texts.specs.Path.{joined}
 use Rattle.option_items.specs.Table.{Entry}
-use Rattle.option_items.specs.Items.{Item, raw, unknown_flag, flag, with_value, faulty, item, option, said_of}
-use Rattle.option_items.specs.Items.{last_item, separate_item, items, normalized, words_of, text_of}
+use Rattle.option_items.specs.Items.{Item, raw, unknown_flag, flag, with_value, faulty, item, option, said_of, last_item, separate_item, items, normalized, words_of, text_of}
 
 module _ {T : Type 0} where
   -- whether an item is the unknown flag `--`
   abbrev pub is_double_dash : Item T → Bool
-  is_double_dash (raw word) = false
   is_double_dash (unknown_flag word) = bytes_eq word (codes "--")
-  is_double_dash (flag text kind) = false
-  is_double_dash (with_value text kind value form) = false
-  is_double_dash faulty = false
+  is_double_dash _ = false
 
 module _ {T : Type 0} (chosen : List ℕ → Option (Entry T)) where
   -- the items of a line over a table, of which the first unknown flag `--` is taken out, and each word after it is
@@ -62,9 +50,7 @@ name_of_language Cxx = Some (codes "c++")
 name_of_language ObjectiveC = Some (codes "objective-c")
 name_of_language ObjectiveCxx = Some (codes "objective-c++")
 name_of_language Cuda = Some (codes "cu")
-name_of_language CudaFE = None
-name_of_language Ptx = None
-name_of_language Cubin = None
+name_of_language _ = None
 
 -- the text that an option refuses with, of its text, value and kind
 abbrev pub refusal_of_option : List ℕ → List ℕ → ArgData → Option (List ℕ)
@@ -98,24 +84,19 @@ pub data Destination : Type 0 where
 
 -- the list that an option's words go to
 abbrev pub destination_of_kind : ArgData → Destination
-destination_of_kind TooHard = nowhere
-destination_of_kind TooHardFlag = nowhere
 destination_of_kind PassThrough = common
 destination_of_kind PassThroughFlag = common
 destination_of_kind PreprocessorArgument = preprocessor
 destination_of_kind PreprocessorArgumentFlag = preprocessor
 destination_of_kind PreprocessorArgumentPath = preprocessor
 destination_of_kind DepArgumentPath = dependencies
-destination_of_kind DepTarget = nowhere
 destination_of_kind NeedDepTarget = dependencies
-destination_of_kind DoCompilation = nowhere
-destination_of_kind Output = nowhere
-destination_of_kind LanguageOption = nowhere
 destination_of_kind Arch = architectures
 destination_of_kind Standard = common
 destination_of_kind ExtraHashFile = common
 destination_of_kind Unhashed = unhashed
 destination_of_kind UnhashedFlag = unhashed
+destination_of_kind _ = nowhere
 
 abbrev pub destination_of : Item ArgData → Destination
 destination_of (raw word) = inputs
@@ -159,11 +140,9 @@ is_kind _ _ = false
 
 -- what an option of such a kind says, of its text and value, and nothing for any other item
 abbrev pub said_of_kind : {B : Type 0} → ArgData → (List ℕ → List ℕ → B) → Item ArgData → Option B
-said_of_kind saying say (raw word) = None
-said_of_kind saying say (unknown_flag word) = None
 said_of_kind saying say (flag text kind) = if is_kind saying kind then Some (say text []) else None
 said_of_kind saying say (with_value text kind value form) = if is_kind saying kind then Some (say text value) else None
-said_of_kind saying say faulty = None
+said_of_kind saying say _ = None
 
 -- what the last item says of those that say something
 abbrev pub last_said : {A B : Type 0} → (A → Option B) → List A → Option B

@@ -1,15 +1,10 @@
 -- The options that the gcc reader knows: this project's profile of gcc's options.
-use Rattle.std.specs.Prelude.{◌≡◌, ℕ, List, [], ◌∷◌, ◌++◌, Bool, true, not, ◌&&◌, map, Some, None, refl}
+use Rattle.std.specs.Prelude.{◌≡◌, ℕ, List, [], ◌∷◌, ◌++◌, Bool, true, not, ◌&&◌, map, Some, None, refl, bytes_eq}
 use Rattle.std.specs.List.{list_any}
-use Rattle.std.specs.Str.{bytes_eq}
 use Rattle.option_items.specs.declared.table.ArgDisposition.{ArgDisposition}
 use Rattle.option_items.specs.declared.table.ArgDisposition.TheVariants.{Separated, Concatenated, CanBeSeparated}
 use Rattle.gcc_lines.specs.declared.gcc.options.ArgData.{ArgData}
-use Rattle.gcc_lines.specs.declared.gcc.options.ArgData.TheVariants.{TooHard, TooHardFlag, PassThrough}
-use Rattle.gcc_lines.specs.declared.gcc.options.ArgData.TheVariants.{PreprocessorArgument, PreprocessorArgumentFlag}
-use Rattle.gcc_lines.specs.declared.gcc.options.ArgData.TheVariants.{PreprocessorArgumentPath, DepArgumentPath}
-use Rattle.gcc_lines.specs.declared.gcc.options.ArgData.TheVariants.{DepTarget, NeedDepTarget, DoCompilation, Output}
-use Rattle.gcc_lines.specs.declared.gcc.options.ArgData.TheVariants.{Language, Arch, Standard}
+use Rattle.gcc_lines.specs.declared.gcc.options.ArgData.TheVariants.{TooHard, TooHardFlag, PassThrough, PreprocessorArgument, PreprocessorArgumentFlag, PreprocessorArgumentPath, DepArgumentPath, DepTarget, NeedDepTarget, DoCompilation, Output, Language, Arch, Standard}
 use Rattle.texts.specs.Rows.{spaced}
 use Rattle.option_items.specs.Table.{Entry}
 

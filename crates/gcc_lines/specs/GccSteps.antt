@@ -6,8 +6,7 @@ use Rattle.gcc_lines.specs.declared.gcc.options.ArgData.TheVariants.{DepArgument
 use Rattle.gcc_lines.specs.declared.gcc.gathered.Gathered.{Gathered}
 use Rattle.texts.specs.Path.{joined}
 use Rattle.option_items.specs.Items.{Item, raw, unknown_flag, flag, with_value, faulty, normal_form, value_words}
-use Rattle.gcc_lines.specs.GccItems.{Asked, Destination, inputs, common, preprocessor, unhashed, architectures}
-use Rattle.gcc_lines.specs.GccItems.{dependencies, nowhere, destination_of_kind, language_named, written_form}
+use Rattle.gcc_lines.specs.GccItems.{Asked, Destination, inputs, common, preprocessor, unhashed, architectures, dependencies, nowhere, destination_of_kind, language_named, written_form}
 
 -- what the items ask for, as the code has it
 abbrev pub asked_by : Gathered → Asked

@@ -1,8 +1,7 @@
 //! The reader of gcc command lines, over this project's profile of gcc's options. It isn't gcc's own
 //! reader: options that the profile doesn't name pass as unknown flags.
 
-ghost use Rattle.std.specs.Prelude.{◌≡◌, [], false, map, IfOk, MatchResult, Ok, Err, string_bytes};
-ghost use Rattle.std.specs.Option.{option_copied};
+ghost use Rattle.std.specs.Prelude.{◌≡◌, [], false, map, IfOk, MatchResult, Ok, Err, string_bytes, option_copied};
 ghost use Rattle.option_items.specs.Items.{item_of};
 ghost use Rattle.compilers.specs.Compiler.{reading_of};
 ghost use Rattle.gcc_lines.specs.GccItems.{refusal_of_option, refusal_of, is_double_dash, asked_of};

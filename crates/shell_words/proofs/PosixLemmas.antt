@@ -1,11 +1,10 @@
 -- Quoted words are read back by a POSIX shell.
-use Rattle.std.proofs.Common.{ℕ, List, [], ◌∷◌, ◌++◌, ◌≡◌, refl, sym, ap, ◌∙◌, append-nil, append_assoc, map, Option, Some, None, Bool, true, false, ◌==◌, ◌||◌, ◌&&◌, arith, ⊎_elim}
+use Rattle.std.proofs.Common.{ℕ, List, [], ◌∷◌, ◌++◌, ◌≡◌, refl, sym, ap, ◌∙◌, append-nil, append_assoc, map, Option, Some, None, Bool, true, false, ◌==◌, ◌||◌, ◌&&◌, arith, ⊎_elim, option_map, option_and_then}
 use Rattle.std.specs.List.{list_all, flat_map}
-use Rattle.std.specs.Option.{option_map, option_and_then}
 use Rattle.std.proofs.lemmas.Bool.{cond_both, cond-false, cond-true, and_parts, or_cases, eqb-true}
 use Rattle.std.proofs.lemmas.Bool.Decides.{nat_tests}
 use Rattle.shell_words.specs.Shell.{newline, hash, backslash, single_quote, double_quote}
-use Rattle.shell_words.specs.Posix.{Token, Word, Role, Blank, Lone, Opening, Backslash, SingleQuote, DoubleQuote, Acting, Leading, Equals, Plain, role_of, is_opening, is_expanding, is_pattern_or_redirection, Place, Between, Inside, Escaped, SingleQuoted, Step, between, inside, step, after_token, with_step, tokens_from, tokens, is_apart, ends_a_word, words_of, is_program, as_command, command}
+use Rattle.shell_words.specs.Posix.{Token, Word, Role, Blank, Lone, Opening, Plain, role_of, is_opening, is_expanding, is_pattern_or_redirection, Place, Between, Inside, Escaped, SingleQuoted, Step, between, inside, step, after_token, with_step, tokens_from, tokens, is_apart, ends_a_word, words_of, is_program, as_command, command}
 use Rattle.shell_words.specs.Shell.Quoting.{is_safe, is_plain, quoted_char, quoted_word, further, quoted}
 
 -- the tokens after one more character in front
@@ -49,16 +48,9 @@ role_safe c safe =
     let acts : is_pattern_or_redirection c ≡ false = grind (arith, nat_tests) in
     let leads : ((c == hash) || (c == 126)) ≡ false = grind (arith, nat_tests) in
     let equals : (c == 61) ≡ false = grind (arith, nat_tests) in
-    cond-false _ _ _ blank
-    ∙ cond-false _ _ _ lone
-    ∙ cond-false _ _ _ opening
-    ∙ cond-false _ _ _ escapes
-    ∙ cond-false _ _ _ single
-    ∙ cond-false _ _ _ double
-    ∙ cond-false _ _ _ expands
-    ∙ cond-false _ _ _ acts
-    ∙ cond-false _ _ _ leads
-    ∙ cond-false _ _ _ equals
+    cond-false _ _ _ blank ∙ cond-false _ _ _ lone ∙ cond-false _ _ _ opening ∙ cond-false _ _ _ escapes
+    ∙ cond-false _ _ _ single ∙ cond-false _ _ _ double ∙ cond-false _ _ _ expands ∙ cond-false _ _ _ acts
+    ∙ cond-false _ _ _ leads ∙ cond-false _ _ _ equals
 
 plain_char_reads : (option : Bool) (c : ℕ) → (is_safe c || (option && (c == 61))) ≡ true → step (Inside option) c ≡ Some (Inside option, [], c ∷ [])
 plain_char_reads option c h =
@@ -105,13 +97,7 @@ ending : (option : Bool) (c : ℕ) (role : Role) → ends_a_word role ≡ true �
 ending option c Blank apart = refl
 ending option c Lone apart = refl
 ending option c Opening apart = refl
-ending option c Backslash apart = cc
-ending option c SingleQuote apart = cc
-ending option c DoubleQuote apart = cc
-ending option c Acting apart = cc
-ending option c Leading apart = cc
-ending option c Equals apart = cc
-ending option c Plain apart = cc
+ending option c _ apart = cc
 
 after_word : (cs : List ℕ) (o : Option Step) (ts : List Token) → option_and_then (λ s. option_map (with_step s) (tokens_from s.0 cs)) o ≡ Some ts →
     option_and_then (λ s. option_map (with_step s) (tokens_from s.0 cs)) (option_map (after_token (Word [])) o) ≡ Some (Word [] ∷ ts)
@@ -137,8 +123,7 @@ quoted_before word words rest more apart found =
 pub quoted_tokens : (words : List (List ℕ)) → tokens (quoted words) ≡ Some (map Word words)
 quoted_tokens [] = refl
 quoted_tokens (word ∷ words) =
-    ap tokens (sym (append-nil (quoted (word ∷ words))))
-    ∙ quoted_before word words [] [] refl refl
+    ap tokens (sym (append-nil (quoted (word ∷ words)))) ∙ quoted_before word words [] [] refl refl
     ∙ ap (λ (ts : List Token). Some (Word word ∷ ts)) (append-nil (map Word words))
 
 pub one_token : (word : List ℕ) → tokens (quoted_word word) ≡ Some (Word word ∷ [])
@@ -151,5 +136,4 @@ words-map (word ∷ words) = ap (option_map (λ ws. word ∷ ws)) (words-map wor
 pub quoted_command : (program : List ℕ) (words : List (List ℕ)) → is_program program ≡ true → command (quoted (program ∷ words)) ≡ Some (program ∷ words)
 quoted_command program words is =
     ap (option_and_then (λ ts. option_and_then as_command (words_of ts))) (quoted_tokens (program ∷ words))
-    ∙ ap (option_and_then as_command) (words-map (program ∷ words))
-    ∙ cond-true (is_program program) _ _ is
+    ∙ ap (option_and_then as_command) (words-map (program ∷ words)) ∙ cond-true (is_program program) _ _ is

@@ -1,7 +1,5 @@
 -- The words that are computed are those of the grammar.
-use Rattle.std.proofs.Common.{ℕ, List, ◌≡◌, refl, sym, ◌∙◌, map, Some, None, Option, encode_utf8_all, MatchOption}
-use Rattle.std.specs.Option.{option_map}
-use Rattle.std.specs.Str.{chars}
+use Rattle.std.proofs.Common.{ℕ, List, ◌≡◌, refl, sym, ◌∙◌, map, Some, None, Option, encode_utf8_all, MatchOption, option_map, chars}
 use Rattle.shell_words.specs.Shell.{IsText, HasWords, HasNoWords}
 use Rattle.shell_words.specs.Shell.Splitting.{split_chars}
 use Rattle.shell_words.proofs.ShellSoundLemmas.{words_of_text}

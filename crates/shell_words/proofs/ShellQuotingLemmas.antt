@@ -1,7 +1,6 @@
 -- Words that are written with quotes are read back.
-use Rattle.std.proofs.Common.{ℕ, List, [], ◌∷◌, ◌++◌, ◌≡◌, ◌≢◌, refl, sym, ap, ◌∙◌, subst, append-nil, append_assoc, map, Some, Bool, true, false, ◌==◌, ◌||◌, ◌&&◌, arith, ⊎_elim, String, string_bytes, encode_utf8, encode_utf8_all, cond, Result, Ok, Err, is_ok, OnOk}
+use Rattle.std.proofs.Common.{ℕ, List, [], ◌∷◌, ◌++◌, ◌≡◌, ◌≢◌, refl, sym, ap, ◌∙◌, subst, append-nil, append_assoc, map, Some, Bool, true, false, ◌==◌, ◌||◌, ◌&&◌, arith, ⊎_elim, String, string_bytes, encode_utf8, encode_utf8_all, cond, Result, Ok, Err, is_ok, OnOk, chars}
 use Rattle.std.specs.List.{list_all, flat_map}
-use Rattle.std.specs.Str.{chars}
 use Rattle.std.proofs.lemmas.Bool.{cond_both, cond-false, and_parts, or_cases, eqb-true}
 use Rattle.std.proofs.lemmas.Bool.Decides.{nat_tests}
 use Rattle.std.proofs.lemmas.Grind.{flat_map-append}
@@ -115,8 +114,7 @@ quoted_then word words rest more found =
 pub quoted_reads : (words : List (List ℕ)) → split_chars (quoted words) ≡ Some words
 quoted_reads [] = refl
 quoted_reads (word ∷ words) =
-    ap (words_from Between) (sym (append-nil (quoted (word ∷ words))))
-    ∙ quoted_then word words [] [] refl
+    ap (words_from Between) (sym (append-nil (quoted (word ∷ words)))) ∙ quoted_then word words [] [] refl
     ∙ ap (λ ws. Some (word ∷ ws)) (append-nil words)
 
 pub quoted_text : (words : List (List ℕ)) → IsText (quoted words) words
@@ -151,8 +149,7 @@ further_push now spaced new word rest all before space after =
     ap (λ t. t ++ encode_utf8_all others) (after ∙ ap (λ t. t ++ encode_utf8_all w) space)
     ∙ append_assoc (now ++ encode_utf8 32) (encode_utf8_all w) (encode_utf8_all others)
     ∙ append_assoc now (encode_utf8 32) (encode_utf8_all w ++ encode_utf8_all others)
-    ∙ ap (λ t. now ++ (encode_utf8 32 ++ t)) (sym (encodes-append w others))
-    ∙ before
+    ∙ ap (λ t. now ++ (encode_utf8 32 ++ t)) (sym (encodes-append w others)) ∙ before
 
 -- the first word and the others
 pub words_push : {Z : Type 0} (old now new first : List ℕ) (rest : List (String Z)) →
@@ -162,8 +159,7 @@ pub words_push : {Z : Type 0} (old now new first : List ℕ) (rest : List (Strin
 words_push old now new first rest before after =
     let w : List ℕ = quoted_word (chars first) in
     let others : List ℕ = further (map chars (map string_bytes rest)) in
-    after ∙ ap (λ t. t ++ encode_utf8_all others) before
-    ∙ append_assoc old (encode_utf8_all w) (encode_utf8_all others)
+    after ∙ ap (λ t. t ++ encode_utf8_all others) before ∙ append_assoc old (encode_utf8_all w) (encode_utf8_all others)
     ∙ ap (λ t. old ++ t) (sym (encodes-append w others))
 
 -- what a write left, if it succeeded

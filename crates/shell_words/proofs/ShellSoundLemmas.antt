@@ -1,6 +1,5 @@
 -- A text of the grammar is split into the words that the grammar gives it.
-use Rattle.std.proofs.Common.{ℕ, List, [], ◌∷◌, ◌++◌, ◌≡◌, ◌≢◌, refl, sym, ap, ◌∙◌, append-nil, append_assoc, Some, ne_eqb}
-use Rattle.std.specs.Option.{option_map}
+use Rattle.std.proofs.Common.{ℕ, List, [], ◌∷◌, ◌++◌, ◌≡◌, ◌≢◌, refl, sym, ap, ◌∙◌, append-nil, append_assoc, Some, ne_eqb, option_map}
 use Rattle.std.proofs.lemmas.Bool.{cond-true, cond-false}
 use Rattle.shell_words.specs.declared.splitting.State.{State}
 use Rattle.shell_words.specs.declared.splitting.State.TheVariants.{Between, Comment, Word, Escaped, SingleQuoted, DoubleQuoted, EscapedInQuotes}
@@ -15,8 +14,7 @@ reading state c cs next effect words read found =
 
 pub begins_bare : (c : ℕ) → c ≢ single_quote → c ≢ double_quote → c ≢ backslash → begins_piece c ≡ (Word, Gives (c ∷ []))
 begins_bare c not_single not_double not_backslash =
-    cond-false _ _ _ (ne_eqb c backslash not_backslash)
-    ∙ cond-false _ _ _ (ne_eqb c single_quote not_single)
+    cond-false _ _ _ (ne_eqb c backslash not_backslash) ∙ cond-false _ _ _ (ne_eqb c single_quote not_single)
     ∙ cond-false _ _ _ (ne_eqb c double_quote not_double)
 
 -- ---- gaps and comments
@@ -28,8 +26,7 @@ comment_passes (c ∷ cs) rest words none found =
 
 comment_ends : (cs : List ℕ) → HasNone newline cs → words_from Comment cs ≡ Some []
 comment_ends [] none = refl
-comment_ends (c ∷ cs) none =
-    reading Comment c cs Comment Skips [] (cond-false _ _ _ (ne_eqb c newline none.0)) (comment_ends cs none.1)
+comment_ends (c ∷ cs) none = reading Comment c cs Comment Skips [] (cond-false _ _ _ (ne_eqb c newline none.0)) (comment_ends cs none.1)
 
 gap_passes : (gap rest : List ℕ) (words : List (List ℕ)) → IsGap gap → words_from Between rest ≡ Some words → words_from Between (gap ++ rest) ≡ Some words
 gap_passes gap rest words (blank c is) found = reading Between c rest Between Skips words (cond-true _ _ _ is) found
@@ -101,8 +98,7 @@ first_piece piece gives rest (double_quoted cs inner inside) no_hash = refl
 
 word_passes : (cs gives rest : List ℕ) (words : List (List ℕ)) → IsWord cs gives → words_from Word rest ≡ Some ([] ∷ words) → words_from Between (cs ++ rest) ≡ Some (gives ∷ words)
 word_passes cs gives rest words (word piece more gives_first gives_more first no_hash others) found =
-    ap (words_from Between) (append_assoc piece more rest)
-    ∙ first_piece piece gives_first (more ++ rest) first no_hash
+    ap (words_from Between) (append_assoc piece more rest) ∙ first_piece piece gives_first (more ++ rest) first no_hash
     ∙ piece_passes piece gives_first (more ++ rest) gives_more words first (pieces_pass more gives_more rest words others found)
 
 -- ---- texts
@@ -111,8 +107,7 @@ pub words_of_text : (cs : List ℕ) (words : List (List ℕ)) → IsText cs word
 words_of_text cs words text_end = refl
 words_of_text cs words (text_gap gap rest later is text) = gap_passes gap rest later is (words_of_text rest later text)
 words_of_text cs words (text_comment inside none) = reading Between hash inside Comment Skips [] refl (comment_ends inside none)
-words_of_text cs words (text_word written gives is) =
-    ap (words_from Between) (sym (append-nil written)) ∙ word_passes written gives [] [] is refl
+words_of_text cs words (text_word written gives is) = ap (words_from Between) (sym (append-nil written)) ∙ word_passes written gives [] [] is refl
 words_of_text cs words (text_words written gives c rest later is blank_is text) =
     word_passes written gives (c ∷ rest) later is
     (reading Word c rest Between EndsWord later (cond-true _ _ _ blank_is) (words_of_text rest later text))

@@ -1,7 +1,6 @@
 -- A span, whose characters are given as they stand, is read at once.
-use Rattle.std.proofs.Common.{ℕ, List, [], ◌∷◌, ◌++◌, ◌≡◌, refl, sym, ap, ◌∙◌, subst, Bool, true, false, not, ◌||◌, ◌==◌, ◌<◌, ◌+◌, arith, length, take, drop, get_or, cond, nat_lt, suc, length-append, append-nil, append_assoc, encode_utf8, encode_utf8_all, inl, inr}
+use Rattle.std.proofs.Common.{ℕ, List, [], ◌∷◌, ◌++◌, ◌≡◌, refl, sym, ap, ◌∙◌, subst, Bool, true, false, not, ◌||◌, ◌==◌, ◌<◌, ◌+◌, arith, length, take, drop, get_or, cond, nat_lt, suc, length-append, append-nil, append_assoc, encode_utf8, encode_utf8_all, inl, inr, chars, IsUtf8, IsCharBoundary}
 use Rattle.std.specs.List.{fold, position_or_len, AllByRecursion}
-use Rattle.std.specs.Str.{chars, IsUtf8, IsCharBoundary}
 use Rattle.std.proofs.lemmas.Bool.{cond-false, or_parts, ltb-true, ltb-false, eqb-true, cases_eq, false≢true}
 use Rattle.std.proofs.lemmas.List.{take-append-drop}
 use Rattle.std.proofs.lemmas.Bool.Decides.{nat_tests}
@@ -19,10 +18,8 @@ span_reads Word c goes =
     let quotes = or_parts (is_blank c || (c == single_quote) || (c == double_quote)) (c == backslash) goes in
     let single = or_parts (is_blank c || (c == single_quote)) (c == double_quote) quotes.0 in
     let blank = or_parts (is_blank c) (c == single_quote) single.0 in
-    cond-false (is_blank c) _ _ blank.0
-    ∙ cond-false (c == backslash) _ _ quotes.1
-    ∙ cond-false (c == single_quote) _ _ blank.1
-    ∙ cond-false (c == double_quote) _ _ single.1
+    cond-false (is_blank c) _ _ blank.0 ∙ cond-false (c == backslash) _ _ quotes.1
+    ∙ cond-false (c == single_quote) _ _ blank.1 ∙ cond-false (c == double_quote) _ _ single.1
 span_reads SingleQuoted c goes = cond-false _ _ _ goes
 span_reads DoubleQuoted c goes =
     let parts = or_parts (c == double_quote) (c == backslash) goes in
@@ -36,8 +33,7 @@ span_given : (s : Splitting) (cs : List ℕ) → AllByRecursion (λ c. ends_span
 span_given s [] go = ap (λ w. record s { word = w }) (sym (append-nil s.word))
 span_given s (c ∷ cs) go =
     ap (λ (r : State × Effect). fold after (applied r s) cs) (span_reads s.state c go.0)
-    ∙ span_given (with_bytes s (encode_utf8_all (c ∷ []))) cs go.1
-    ∙ ap (λ w. record s { word = w })
+    ∙ span_given (with_bytes s (encode_utf8_all (c ∷ []))) cs go.1 ∙ ap (λ w. record s { word = w })
     (append_assoc s.word (encode_utf8_all (c ∷ [])) (encode_utf8_all cs) ∙ ap (λ w. s.word ++ w) (sym (encodes-append (c ∷ []) cs)))
 
 -- ---- bytes
@@ -81,10 +77,7 @@ ascii_test : (state : State) (c : ℕ) → ends_span state c ≡ false → IsAsc
 ascii_test Word c goes = λ b is. grind (arith, nat_tests)
 ascii_test SingleQuoted c goes = λ b is. grind (arith, nat_tests)
 ascii_test DoubleQuoted c goes = λ b is. grind (arith, nat_tests)
-ascii_test Between c goes = absurd cc
-ascii_test Comment c goes = absurd cc
-ascii_test Escaped c goes = absurd cc
-ascii_test EscapedInQuotes c goes = absurd cc
+ascii_test _ c goes = absurd cc
 
 pub span_boundary : (state : State) (c : ℕ) → ends_span state c ≡ false → (bs : List ℕ) (n : ℕ) → n ≡ position_or_len (ends_span state) bs → IsCharBoundary bs n
 span_boundary state c goes bs n is = subst (IsCharBoundary bs) (sym is) (boundary (ends_span state) (ascii_test state c goes) bs)
@@ -125,10 +118,8 @@ pub some_read : (began old : Splitting) (c : ℕ) (text behind front rest : List
     IsUtf8 text → chars text ≡ c ∷ chars behind → n ≡ position_or_len (ends_span began.state) text → front ≡ take n text → rest ≡ drop n text →
     fold after (with_bytes began front) (chars rest) ≡ fold after old (chars text)
 some_read began old c text behind front rest n same goes utf8 begins len is_front is_rest =
-    span_read began c goes text front rest n utf8 len is_front is_rest
-    ∙ ap (fold after began) begins
-    ∙ ap (λ (s : Splitting). fold after s (chars behind)) same
-    ∙ ap (fold after old) (sym begins)
+    span_read began c goes text front rest n utf8 len is_front is_rest ∙ ap (fold after began) begins
+    ∙ ap (λ (s : Splitting). fold after s (chars behind)) same ∙ ap (fold after old) (sym begins)
 
 -- ---- one character and the rest
 

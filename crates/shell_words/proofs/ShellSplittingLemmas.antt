@@ -1,10 +1,8 @@
 -- What a splitter holds after a text gives the words of that text.
-use Rattle.std.proofs.Common.{ℕ, List, [], ◌∷◌, ◌++◌, ◌≡◌, refl, sym, ap, ◌∙◌, map, append-nil, append_assoc, Some, None, Option, encode_utf8_all}
-use Rattle.std.specs.Option.{option_map}
-use Rattle.std.specs.List.{fold}
+use Rattle.std.proofs.Common.{ℕ, List, [], ◌∷◌, ◌++◌, ◌≡◌, refl, sym, ap, ◌∙◌, map, append-nil, append_assoc, Some, None, Option, encode_utf8_all, option_map, fold}
 use Rattle.std.proofs.lemmas.Str.{encodes-append}
 use Rattle.shell_words.specs.declared.splitting.State.{State}
-use Rattle.shell_words.specs.declared.splitting.State.TheVariants.{Between, Comment, Word, Escaped, SingleQuoted, DoubleQuoted, EscapedInQuotes}
+use Rattle.shell_words.specs.declared.splitting.State.TheVariants.{Between, Comment, Word}
 use Rattle.shell_words.specs.Shell.Splitting.{Effect, Skips, Gives, EndsWord, reads, prepend, with_effect, words_at_end, words_from, split_chars, Splitting, start, applied, after, ended, finished}
 
 -- the words that a splitter gives, where these are the words of the rest of the text
@@ -23,10 +21,7 @@ joined_end : (state : State) (words : List (List ℕ)) (word : List ℕ) → end
 joined_end Between words word = ap Some (sym (append-nil words))
 joined_end Comment words word = ap Some (sym (append-nil words))
 joined_end Word words word = ap (λ w. Some (words ++ w ∷ [])) (sym (append-nil word))
-joined_end Escaped words word = refl
-joined_end SingleQuoted words word = refl
-joined_end DoubleQuoted words word = refl
-joined_end EscapedInQuotes words word = refl
+joined_end _ words word = refl
 
 joined_gives : (words : List (List ℕ)) (word given : List ℕ) (later : List (List ℕ)) → joined words (word ++ encode_utf8_all given) later ≡ joined words word (prepend given later)
 joined_gives words word given [] = refl
@@ -53,5 +48,4 @@ finished_after (c ∷ cs) s = finished_after cs (after s c) ∙ joined_step (rea
 
 -- from the start
 pub finished_is : (cs : List ℕ) → finished (fold after start cs) ≡ option_map (map encode_utf8_all) (split_chars cs)
-finished_is cs =
-    finished_after cs start ∙ ap (λ f. option_map f (split_chars cs)) (λ i later. prepend-nil (map encode_utf8_all later) i)
+finished_is cs = finished_after cs start ∙ ap (λ f. option_map f (split_chars cs)) (λ i later. prepend-nil (map encode_utf8_all later) i)

@@ -53,13 +53,11 @@ pub run_ends : (p : ℕ → Bool) (xs : List ℕ) (at run : ℕ) → at + 16 ≤
 run_ends p xs at run room is less =
     let long : length (take 16 (drop at xs)) ≡ 16 = length-chunk at 16 xs room in
     ap (position_or_len p) (sym (take-append-drop 16 (drop at xs)))
-    ∙ ends_in p (take 16 (drop at xs)) (drop 16 (drop at xs)) (omega (arith, long, is))
-    ∙ sym is
+    ∙ ends_in p (take 16 (drop at xs)) (drop 16 (drop at xs)) (omega (arith, long, is)) ∙ sym is
 
 pub run_goes_on : (p : ℕ → Bool) (xs : List ℕ) (at run : ℕ) → at + 16 ≤ length xs → run ≡ position_or_len p (take 16 (drop at xs)) → 16 ≤ run → position_or_len p (drop at xs) ≡ 16 + position_or_len p (drop (at + 16) xs)
 run_goes_on p xs at run room is past =
     let long : length (take 16 (drop at xs)) ≡ 16 = length-chunk at 16 xs room in
     ap (position_or_len p) (sym (take-append-drop 16 (drop at xs)))
     ∙ goes_past p (take 16 (drop at xs)) (drop 16 (drop at xs)) (omega (arith, long, is))
-    ∙ ap (λ n. n + position_or_len p (drop 16 (drop at xs))) long
-    ∙ ap (λ ys. 16 + position_or_len p ys) (drop-drop 16 at xs)
+    ∙ ap (λ n. n + position_or_len p (drop 16 (drop at xs))) long ∙ ap (λ ys. 16 + position_or_len p ys) (drop-drop 16 at xs)

@@ -1,9 +1,7 @@
 -- How a POSIX shell divides a text into words and operators, before it runs anything. A text has a reading only if every
 -- shell takes each of its characters alike: a text in which a shell would expand, redirect, or start a comment has none.
-use Rattle.std.specs.Prelude.{ℕ, Bool, true, false, ◌||◌, ◌&&◌, ◌==◌, not, if◌then◌else◌, List, [], ◌∷◌, ◌++◌, Option, Some, None, codes}
+use Rattle.std.specs.Prelude.{ℕ, Bool, true, false, ◌||◌, ◌&&◌, ◌==◌, not, if◌then◌else◌, List, [], ◌∷◌, ◌++◌, Option, Some, None, codes, option_map, option_and_then, bytes_eq}
 use Rattle.std.specs.List.{list_any}
-use Rattle.std.specs.Option.{option_map, option_and_then}
-use Rattle.std.specs.Str.{bytes_eq}
 use Rattle.shell_words.specs.Shell.{newline, hash, backslash, single_quote, double_quote, is_escapable}
 
 -- a word of a command, its quotes removed, or an operator: a newline, `;`, `&`, `|`, `&&`, `||`, `(` or `)`
@@ -91,10 +89,8 @@ between c Opening = goes (After c)
 between c Backslash = goes EscapedBetween
 between c SingleQuote = goes (SingleQuoted false)
 between c DoubleQuote = goes (DoubleQuoted false)
-between c Acting = None
-between c Leading = None
-between c Equals = None
 between c Plain = gives (Inside (c == 45)) c
+between c _ = None
 
 -- Right after a character that may begin an operator: `&&` and `||` are operators, and any other character ends the operator.
 -- Several operators in a row, and a backslash after one, have no reading: shells differ.
@@ -157,11 +153,7 @@ abbrev pub at_end : Place → Option (List Token)
 at_end Between = Some []
 at_end (After opening) = Some (Operator (opening ∷ []) ∷ [])
 at_end (Inside option) = Some (Word [] ∷ [])
-at_end EscapedBetween = None
-at_end (Escaped option) = None
-at_end (SingleQuoted option) = None
-at_end (DoubleQuoted option) = None
-at_end (EscapedInQuotes option) = None
+at_end _ = None
 
 -- the tokens of the rest of a text from a place; in a word the first is the rest of that word
 abbrev pub tokens_from : Place → List ℕ → Option (List Token)

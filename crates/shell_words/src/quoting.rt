@@ -1,7 +1,6 @@
 //! Quotes the words of shell commands.
 
-ghost use Rattle.std.specs.Prelude.{◌≡◌, ◌++◌, ◌∷◌, Some, map, IfOk, OnOk, encode_utf8_all, string_bytes};
-ghost use Rattle.std.specs.Str.{chars};
+ghost use Rattle.std.specs.Prelude.{◌≡◌, ◌++◌, ◌∷◌, Some, map, IfOk, OnOk, encode_utf8_all, string_bytes, chars};
 ghost use Rattle.shell_words.specs.Shell.{HasWords};
 ghost use Rattle.shell_words.specs.Shell.Splitting.{split_chars};
 ghost use Rattle.shell_words.specs.Shell.Quoting.{is_safe, is_plain, quoted_char, quoted_word, further, quoted, written};

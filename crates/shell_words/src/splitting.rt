@@ -1,10 +1,6 @@
 //! Splits a text into the words of a shell command.
 
-ghost use Rattle.std.specs.Prelude.{◌≡◌, [], ◌∷◌, ◌<◌, ◌≤◌, false, map, length, IfOk, OnOk, MatchOption, encode_utf8_all, string_bytes};
-ghost use Rattle.std.specs.Bool.{MatchBool};
-ghost use Rattle.std.specs.List.{fold};
-ghost use Rattle.std.specs.Option.{option_map};
-ghost use Rattle.std.specs.Str.{chars};
+ghost use Rattle.std.specs.Prelude.{◌≡◌, [], ◌∷◌, ◌<◌, ◌≤◌, false, map, length, IfOk, OnOk, MatchOption, encode_utf8_all, string_bytes, MatchBool, fold, option_map, chars};
 ghost use Rattle.shell_words.specs.Shell.{HasWords, HasNoWords};
 ghost use Rattle.shell_words.specs.Shell.Splitting.{split_chars};
 

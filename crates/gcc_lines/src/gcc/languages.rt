@@ -1,7 +1,6 @@
 //! The names that the option `-x` has for languages.
 
-ghost use Rattle.std.specs.Prelude.{◌≡◌, ◌++◌, OnOk, OnErr};
-ghost use Rattle.std.specs.Option.{option_copied};
+ghost use Rattle.std.specs.Prelude.{◌≡◌, ◌++◌, OnOk, OnErr, option_copied};
 ghost use Rattle.gcc_lines.specs.GccItems.{language_named, name_of_language};
 ghost use Rattle.gcc_lines.specs.GccLine.{language_words};
 

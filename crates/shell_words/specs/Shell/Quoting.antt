@@ -1,8 +1,7 @@
 -- How the words of a command are quoted, so that they read back as themselves.
-use Rattle.std.specs.Prelude.{ℕ, Bool, false, ◌||◌, ◌&&◌, ◌==◌, ◌≡◌, refl, if◌then◌else◌, List, [], ◌∷◌, ◌++◌, map, codes, encode_utf8_all}
+use Rattle.std.specs.Prelude.{ℕ, Bool, false, ◌||◌, ◌&&◌, ◌==◌, ◌≡◌, refl, if◌then◌else◌, List, [], ◌∷◌, ◌++◌, map, codes, encode_utf8_all, chars}
 use Rattle.std.specs.Char.{is_ascii_alphanumeric}
 use Rattle.std.specs.List.{list_all, flat_map}
-use Rattle.std.specs.Str.{chars}
 use Rattle.shell_words.specs.Shell.{backslash, single_quote}
 
 -- a letter or a digit of ASCII, or one of `_ - . / : , + @ %`

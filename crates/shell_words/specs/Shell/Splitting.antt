@@ -1,7 +1,5 @@
 -- The words of a text, computed. By the law `computed_words` they are those of the grammar.
-use Rattle.std.specs.Prelude.{ℕ, Bool, true, ◌||◌, ◌==◌, ◌≡◌, refl, if◌then◌else◌, List, [], ◌∷◌, ◌++◌, map, Option, Some, None, encode_utf8_all, codes}
-use Rattle.std.specs.Option.{option_map}
-use Rattle.std.specs.Str.{chars}
+use Rattle.std.specs.Prelude.{ℕ, Bool, true, ◌||◌, ◌==◌, ◌≡◌, refl, if◌then◌else◌, List, [], ◌∷◌, ◌++◌, map, Option, Some, None, encode_utf8_all, codes, option_map, chars}
 use Rattle.shell_words.specs.declared.splitting.State.{State}
 use Rattle.shell_words.specs.declared.splitting.State.TheVariants.{Between, Comment, Word, Escaped, SingleQuoted, DoubleQuoted, EscapedInQuotes}
 use Rattle.shell_words.specs.Shell.{newline, hash, backslash, single_quote, double_quote, is_blank, is_escapable}
@@ -34,8 +32,7 @@ abbrev pub reads_escaped : ℕ → State × Effect
 reads_escaped c = if c == newline then (Word, Gives []) else (Word, Gives (c ∷ []))
 
 abbrev pub reads_single_quoted : ℕ → State × Effect
-reads_single_quoted c =
-    if c == single_quote then (Word, Gives []) else (SingleQuoted, Gives (c ∷ []))
+reads_single_quoted c = if c == single_quote then (Word, Gives []) else (SingleQuoted, Gives (c ∷ []))
 
 abbrev pub reads_double_quoted : ℕ → State × Effect
 reads_double_quoted c =
@@ -84,10 +81,7 @@ abbrev pub words_at_end : State → Option (List (List ℕ))
 words_at_end Between = Some []
 words_at_end Comment = Some []
 words_at_end Word = Some ([] ∷ [])
-words_at_end Escaped = None
-words_at_end SingleQuoted = None
-words_at_end DoubleQuoted = None
-words_at_end EscapedInQuotes = None
+words_at_end _ = None
 
 -- the words of the rest of a text that is read in this state; in a word the first is the rest of that word
 abbrev pub words_from : State → List ℕ → Option (List (List ℕ))
@@ -128,10 +122,7 @@ abbrev pub ended : State → List (List ℕ) → List ℕ → Option (List (List
 ended Between words word = Some words
 ended Comment words word = Some words
 ended Word words word = Some (words ++ word ∷ [])
-ended Escaped words word = None
-ended SingleQuoted words word = None
-ended DoubleQuoted words word = None
-ended EscapedInQuotes words word = None
+ended _ words word = None
 
 abbrev pub finished : Splitting → Option (List (List ℕ))
 finished s = ended s.state s.words s.word

@@ -11,8 +11,7 @@ loop-longest-init c =
     let text = c.args.text.now in
     ap (replaced_by_all (longest_pairs_first (up_to c.longest_in-longest.result pairs))) c.in_ok-new.ensures.ok
     ∙ ap (λ k. replaced_by_all (longest_pairs_first (up_to k pairs)) text) c.longest_in-longest.ensures
-    ∙ sym (longest-next text (length text) pairs)
-    ∙ sym (longest-begun pairs text)
+    ∙ sym (longest-next text (length text) pairs) ∙ sym (longest-begun pairs text)
 
 pub loop-longest-smaller : goal.loop-longest-smaller
 loop-longest-smaller c =
@@ -31,11 +30,9 @@ loop-longest-preserved c =
     let after = string_bytes c.in_ok-new-2.new in
     let told : c.longest_in-longest-in-loop-longest.result ≡ longest_in after (k - 1) (old_names pairs) =
     c.longest_in-longest-in-loop-longest.ensures ∙ ap (λ t. longest_in t (k - 1) (old_names pairs)) c.as_str.ensures.value in
-    ap (λ n. replaced_by_all (longest_pairs_first (up_to n pairs)) after) told
-    ∙ sym (longest-next after (k - 1) pairs)
+    ap (λ n. replaced_by_all (longest_pairs_first (up_to n pairs)) after) told ∙ sym (longest-next after (k - 1) pairs)
     ∙ ap (replaced_by_all (longest_pairs_first (up_to (k - 1) pairs))) c.in_ok-new-2.ensures
-    ∙ sym (longest-replaced k c.loop-longest-test.true pairs before)
-    ∙ c.loop-longest.invariant
+    ∙ sym (longest-replaced k c.loop-longest-test.true pairs before) ∙ c.loop-longest.invariant
 
 pub returns : goal.returns
 returns c =

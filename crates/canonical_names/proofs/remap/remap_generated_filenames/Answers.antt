@@ -1,6 +1,7 @@
 use Rattle.std.proofs.Common.{◌≡◌, ℕ, suc, ◌+◌, ◌++◌, ◌∷◌, [], ◌∙◌, ap, sym, subst, List, drop, take, drop-cons, add-one, map, string_bytes, inl, inr}
+use Rattle.texts.proofs.ListLemmas.{on-error}
 use Rattle.canonical_names.specs.Renaming.{seen_after, seen_after_word, renamed_words, renamed_word}
-use Rattle.canonical_names.proofs.RemapLemmas.{seen-step, words-step, on-refusal, beginning-seen}
+use Rattle.canonical_names.proofs.RemapLemmas.{seen-step, words-step, beginning-seen}
 use Rattle.canonical_names.proofs.remap.remap_generated_filenames.Goals as goal
 use Rattle.canonical_names.proofs.remap.remap_generated_filenames.Goals.{After-remap_word, In_ok-new}
 
@@ -35,7 +36,7 @@ returns-in_err-new-clause-refused c =
     let first = c.args.renames.now in
     let before = c.loop-word.renames in
     let lists : before.0 ≡ first.0 = c.loop-word.invariant.suffixes in
-    on-refusal c.from_residual-in_err-new.result (elim (c.in_err-new.ensures.err) as (λ _. (n : ℕ) × (c.remap_word.new.renames ≡ (first.0, seen_after first.0 first.1 (take n args)))) [
+    on-error c.from_residual-in_err-new.result (elim (c.in_err-new.ensures.err) as (λ _. (n : ℕ) × (c.remap_word.new.renames ≡ (first.0, seen_after first.0 first.1 (take n args)))) [
       | inl same ↦ beginning-seen first before c.remap_word.new.renames args i lists c.loop-word.invariant.seen same
       | inr more ↦
           beginning-seen first (before.0, seen_after_word before.0 before.1 (string_bytes c.word-item.result)) c.remap_word.new.renames args (i + 1) lists
@@ -47,14 +48,14 @@ pub returns-in_err-push-clause-refused : goal.returns-in_err-push-clause-refused
 returns-in_err-push-clause-refused c =
     let at = goal.at.returns-in_err-push-clause-refused c in
     let first = c.args.renames.now in
-    on-refusal c.from_residual-in_err-push.result
+    on-error c.from_residual-in_err-push.result
     (beginning-seen first _ c.remap_word.new.renames (map string_bytes c.args.args.now) (c.loop-word.word-index + 1) c.loop-word.invariant.suffixes (next at.After-remap_word) (after at.In_ok-new))
 
 pub returns-in_err-or_copy-clause-refused : goal.returns-in_err-or_copy-clause-refused
 returns-in_err-or_copy-clause-refused c =
     let at = goal.at.returns-in_err-or_copy-clause-refused c in
     let first = c.args.renames.now in
-    on-refusal c.from_residual-in_err-or_copy.result
+    on-error c.from_residual-in_err-or_copy.result
     (beginning-seen first _ c.remap_word.new.renames (map string_bytes c.args.args.now) (c.loop-word.word-index + 1) c.loop-word.invariant.suffixes (next at.After-remap_word) (after at.In_ok-new))
 
 pub loop-word-preserved : goal.loop-word-preserved

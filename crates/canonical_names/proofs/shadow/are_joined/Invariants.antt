@@ -1,6 +1,5 @@
-use Rattle.std.proofs.Common.{◌≡◌, map, drop}
+use Rattle.std.proofs.Common.{◌≡◌, map, drop, bytes_eq}
 use Rattle.std.specs.Cmp.Lexicographic.{pointwise}
-use Rattle.std.specs.Str.{bytes_eq}
 use Rattle.texts.specs.Path.{joined}
 use Rattle.canonical_names.specs.Shown.{name_shown}
 use Rattle.canonical_names.proofs.shadow.are_joined.Given as goal

@@ -1,5 +1,4 @@
-use Rattle.std.proofs.Common.{◌≡◌, map, drop}
-use Rattle.std.specs.Option.{option_copied}
+use Rattle.std.proofs.Common.{◌≡◌, map, drop, option_copied}
 use Rattle.texts.specs.Lists.{latest}
 use Rattle.command_keys.specs.Keys.{shown_variable}
 use Rattle.command_keys.specs.ToolVariables.{last_value}

@@ -1,5 +1,4 @@
-use Rattle.std.proofs.Common.{◌≡◌, ◌++◌, map, drop}
-use Rattle.std.specs.List.{flat_map}
+use Rattle.std.proofs.Common.{◌≡◌, ◌++◌, map, drop, flat_map}
 use Rattle.command_keys.specs.Keys.{shown, shown_variable}
 use Rattle.command_keys.specs.ToolVariables.{last_value, set_variable, tool_variables}
 use Rattle.command_keys.proofs.environment.tool_variables.Given as goal

@@ -1,5 +1,4 @@
-use Rattle.std.proofs.Common.{◌≡◌, ◌++◌, map, drop}
-use Rattle.std.specs.List.{flat_map}
+use Rattle.std.proofs.Common.{◌≡◌, ◌++◌, map, drop, flat_map}
 use Rattle.command_keys.specs.Keys.{key_of_text, shown_variable, shown, texts_of_variable}
 use Rattle.command_keys.proofs.keys.push_variables.Given as goal
 

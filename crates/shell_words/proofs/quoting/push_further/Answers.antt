@@ -1,6 +1,5 @@
 -- One more word is written.
-use Rattle.std.proofs.Common.{◌≡◌, suc, ◌+◌, ◌++◌, ◌∷◌, ◌∙◌, ap, sym, drop, drop-cons, add-one, map, string_bytes, encode_utf8_all}
-use Rattle.std.specs.Str.{chars}
+use Rattle.std.proofs.Common.{◌≡◌, suc, ◌+◌, ◌++◌, ◌∷◌, ◌∙◌, ap, sym, drop, drop-cons, add-one, map, string_bytes, encode_utf8_all, chars}
 use Rattle.shell_words.specs.Shell.Quoting.{further, quoted_word}
 use Rattle.shell_words.proofs.ShellQuotingLemmas.{further_push}
 use Rattle.shell_words.proofs.quoting.push_further.Goals as goal

@@ -1,5 +1,4 @@
-use Rattle.std.proofs.Common.{string_bytes, ◌≡◌, ◌++◌, map, drop, encode_utf8_all}
-use Rattle.std.specs.Str.{chars}
+use Rattle.std.proofs.Common.{string_bytes, ◌≡◌, ◌++◌, map, drop, encode_utf8_all, chars}
 use Rattle.shell_words.specs.Shell.Quoting.{further}
 use Rattle.shell_words.proofs.quoting.push_further.Given as goal
 

@@ -1,5 +1,4 @@
-use Rattle.std.proofs.Common.{string_bytes, ◌≡◌, ◌++◌, encode_utf8_all}
-use Rattle.std.specs.List.{flat_map}
+use Rattle.std.proofs.Common.{string_bytes, ◌≡◌, ◌++◌, encode_utf8_all, flat_map}
 use Rattle.shell_words.specs.Shell.Quoting.{quoted_char}
 use Rattle.shell_words.proofs.quoting.push_word.Given as goal
 

@@ -1,6 +1,5 @@
 -- What is written is read back.
-use Rattle.std.proofs.Common.{◌≡◌, ◌++◌, ◌∙◌, ap, map, string_bytes, encode_utf8_all}
-use Rattle.std.specs.Str.{chars}
+use Rattle.std.proofs.Common.{◌≡◌, ◌++◌, ◌∙◌, ap, map, string_bytes, encode_utf8_all, chars}
 use Rattle.shell_words.specs.Shell.Quoting.{quoted}
 use Rattle.shell_words.proofs.ShellQuotingLemmas.{quoted_has_words, quoted_value}
 use Rattle.shell_words.proofs.quoting.quote.Goals as goal

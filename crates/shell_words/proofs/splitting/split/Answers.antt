@@ -1,8 +1,5 @@
 -- The splitter has read all of the text.
-use Rattle.std.proofs.Common.{◌≡◌, ◌∙◌, ap, sym, map, string_bytes, encode_utf8_all}
-use Rattle.std.specs.List.{fold}
-use Rattle.std.specs.Option.{option_map}
-use Rattle.std.specs.Str.{chars}
+use Rattle.std.proofs.Common.{◌≡◌, ◌∙◌, ap, sym, map, string_bytes, encode_utf8_all, fold, option_map, chars}
 use Rattle.std.proofs.lemmas.Result.{IfOk-weaker}
 use Rattle.shell_words.specs.Shell.Splitting.{split_chars, after, finished}
 use Rattle.shell_words.proofs.ShellSplittingLemmas.{finished_is}

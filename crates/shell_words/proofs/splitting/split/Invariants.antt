@@ -1,8 +1,6 @@
-use Rattle.std.proofs.Common.{◌≡◌, length}
+use Rattle.std.proofs.Common.{◌≡◌, length, fold, chars}
 use denote.Text.{Utf8}
 use denote.Shadow.{shadow}
-use Rattle.std.specs.List.{fold}
-use Rattle.std.specs.Str.{chars}
 use Rattle.shell_words.specs.Shell.Splitting.{after, start}
 use Rattle.shell_words.proofs.splitting.split.Given as goal
 

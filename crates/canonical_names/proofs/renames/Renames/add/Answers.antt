@@ -1,7 +1,5 @@
-use Rattle.std.proofs.Common.{◌≡◌, ◌<◌, ◌^◌, [], ℕ, List, ap, sym, ◌∙◌, arith, string_bytes}
+use Rattle.std.proofs.Common.{◌≡◌, ◌<◌, ◌^◌, [], ℕ, List, ap, sym, ◌∙◌, arith, string_bytes, slice_get, unwrap_or}
 use denote.Ref.{Bor}
-use Rattle.std.specs.List.{slice_get}
-use Rattle.std.specs.Option.{unwrap_or}
 use Rattle.canonical_names.specs.Renaming.{canonical_name}
 use Rattle.canonical_names.proofs.CountedLemmas.{counted-name, text-or}
 use Rattle.canonical_names.proofs.renames.Renames.add.Goals as goal

@@ -1,10 +1,7 @@
-use Rattle.std.proofs.Common.{◌≡◌, ◌++◌, ◌∷◌, [], ℕ, List, map, ap, ◌∙◌, subst, sym, false, true, cond, Bool, string_bytes, String, Some, None, if◌then◌else◌}
+use Rattle.std.proofs.Common.{◌≡◌, ◌++◌, ◌∷◌, [], ℕ, List, map, ap, ◌∙◌, subst, sym, false, true, cond, Bool, string_bytes, String, Some, None, if◌then◌else◌, option_copied, IfOk, OnOk, bytes_eq}
 use Rattle.std.specs.declared.alloc.Global.{Global}
 use Rattle.std.specs.List.{list_any}
 use Rattle.std.specs.Map.{lookup}
-use Rattle.std.specs.Option.{option_copied}
-use Rattle.std.specs.Result.{IfOk, OnOk}
-use Rattle.std.specs.Str.{bytes_eq}
 use Rattle.std.proofs.lemmas.Result.{IfOk-weaker}
 use Rattle.texts.specs.Variables.{pair_of}
 use Rattle.canonical_names.specs.Counted.{old_names}

@@ -1,6 +1,5 @@
-use Rattle.std.proofs.Common.{◌≡◌, ◌<◌, ◌++◌, ◌∷◌, [], ℕ, List, length, map, ap, sym, subst, ◌∙◌, refl, false, slice_set, ◌+◌, string_bytes}
+use Rattle.std.proofs.Common.{◌≡◌, ◌<◌, ◌++◌, ◌∷◌, [], ℕ, List, length, map, ap, sym, subst, ◌∙◌, refl, false, slice_set, ◌+◌, string_bytes, bytes_eq}
 use Rattle.std.specs.List.{list_any, slice_get}
-use Rattle.std.specs.Str.{bytes_eq}
 use Rattle.texts.specs.Variables.{pair_of}
 use Rattle.canonical_names.specs.Counted.{old_names, IsCount}
 use Rattle.canonical_names.specs.Generated.{class_of_name}

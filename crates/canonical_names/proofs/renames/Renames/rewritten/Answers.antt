@@ -1,7 +1,6 @@
-use Rattle.std.proofs.Common.{◌≡◌, ℕ, List, map, ◌∙◌, subst, sym, false, string_bytes, String}
+use Rattle.std.proofs.Common.{◌≡◌, ℕ, List, map, ◌∙◌, subst, sym, false, string_bytes, String, IfOk}
 use Rattle.std.specs.declared.alloc.Global.{Global}
 use Rattle.std.specs.List.{list_any}
-use Rattle.std.specs.Result.{IfOk}
 use Rattle.std.proofs.lemmas.Result.{IfOk-weaker}
 use Rattle.texts.specs.Variables.{pair_of}
 use Rattle.canonical_names.specs.Alike.{holds}

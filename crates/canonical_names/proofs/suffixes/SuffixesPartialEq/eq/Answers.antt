@@ -1,7 +1,4 @@
-use Rattle.std.proofs.Common.{◌≡◌, ◌<◌, length, ap, sym, subst, ◌∙◌}
-use Rattle.std.specs.List.{slice_get}
-use Rattle.std.specs.Option.{option_copied}
-use Rattle.std.specs.Str.{bytes_eq}
+use Rattle.std.proofs.Common.{◌≡◌, ◌<◌, length, ap, sym, subst, ◌∙◌, slice_get, option_copied, bytes_eq}
 use Rattle.texts.specs.Lists.{is_some_and}
 use Rattle.canonical_names.proofs.PlaceLemmas.{equal-later, differs-here}
 use Rattle.canonical_names.proofs.suffixes.SuffixesPartialEq.eq.Goals as goal
