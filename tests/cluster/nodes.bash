@@ -27,6 +27,26 @@ processes_of() {
     ip netns pids "zigrunk-$$-$1" 2> /dev/null
 }
 
+# slow NUMBER: ten megabytes a second reach the node, so that a file takes its time.
+slow() {
+    tc qdisc replace dev "zg$$v$1" root tbf rate 80mbit burst 64kb latency 50ms
+}
+
+# fast NUMBER: no longer slow.
+fast() {
+    tc qdisc del dev "zg$$v$1" root
+}
+
+# arrived NUMBER BYTES: waits until so many bytes more have reached the node.
+arrived() {
+    local file=/sys/class/net/zg$$v$1/statistics/tx_bytes begun
+    begun=$(cat "$file")
+    until [ "$(($(cat "$file") - begun))" -ge "$2" ]; do
+        kill -0 "$job" 2> /dev/null || return
+        sleep 0.02
+    done
+}
+
 # link NUMBER up|down: other machines hear nothing of a node whose link is down, not even that its connections end.
 link() {
     ip link set "zg$$v$1" "$2"

@@ -1,4 +1,5 @@
-# Starts and stops a Slurm whose nodes are those of nodes.bash, without systemd. Sourced by tests/cluster.sh, which sets $run and $nodes.
+# Starts and stops a Slurm whose nodes are the first of nodes.bash, without systemd. Sourced by tests/cluster.sh, which sets $run, $nodes and
+# $partitions. A lane of the test has a partition of its own, $partition, whose first node is $first.
 
 # start_node NUMBER: a slurmd on a core of its own, with the variable that examples/slurm/slurm.conf asks for.
 start_node() {
@@ -48,21 +49,22 @@ END
         for number in $(seq "$nodes"); do
             echo "NodeName=n$number NodeAddr=$net.$number CPUs=1 RealMemory=2000 State=UNKNOWN"
         done
-        for number in $(seq "$nodes"); do
-            echo "PartitionName=p$number Nodes=n[1-$number] MaxTime=INFINITE State=UP"
+        for number in $partitions; do
+            echo "PartitionName=from${number%-*} Nodes=n[$number] Default=$([ "${number%-*}" = 1 ] && echo YES || echo NO) MaxTime=INFINITE State=UP"
         done
-        echo "PartitionName=all Nodes=n[1-3] Default=YES MaxTime=INFINITE State=UP"
     } > "$SLURM_CONF"
     start_controller -c || return
     for number in $(seq "$nodes"); do start_node "$number" || return; done
-    wait_idle
+    for number in $partitions; do partition=from${number%-*} wait_idle || return; done
 }
 
-# wait_idle: until all nodes take jobs.
+# wait_idle: until all nodes of the partition take jobs.
 wait_idle() {
-    for _ in $(seq 120); do
-        [ "$(timeout 5 sinfo -h -p "p$nodes" -N -t idle -o %N 2> /dev/null | wc -l)" = "$nodes" ] && return
-        sleep 0.5
+    local all
+    for _ in $(seq 300); do
+        all=$(timeout 5 sinfo -h -p "$partition" -N -o %N 2> /dev/null) && [ -n "$all" ] &&
+            [ "$(timeout 5 sinfo -h -p "$partition" -N -t idle -o %N 2> /dev/null)" = "$all" ] && return
+        sleep 0.2
     done
     timeout 5 sinfo -N
     return 1
