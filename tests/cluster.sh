@@ -23,8 +23,8 @@ unset NVCC_PREPEND_FLAGS NVCC_APPEND_FLAGS MAKEFLAGS "${!SLURM@}" "${!SBATCH@}" 
 unset ZIGRUNK_RUNNER ZIGRUNK_LAUNCHER ZIGRUNK_PLAN ZIGRUNK_JOBS ZIGRUNK_BATCH
 examples=$PWD/examples here=$PWD/tests
 chmod 755 "$scratch"
-# Slurm has the first 21 of 28 nodes.
-top=$scratch run=$scratch/run nodes=21 partitions='1-3 4-6 7-9 10-21' compiled=${CALLS:-8} sleeping=${NAPS:-10}
+# Slurm has the first 21 of 31 nodes.
+top=$scratch run=$scratch/run partitions='1-3 4-6 7-9 10-21' compiled=${CALLS:-8} sleeping=${NAPS:-10}
 mkdir "$run" "$scratch/work" "$scratch/tmp"
 # a python3 that starts at once stands first
 export ZIGRUNK_PROGRAM ZIGRUNK_TMP=$scratch/tmp PATH=$PWD/bin:/usr/bin:$PATH
@@ -267,8 +267,7 @@ one_by_one() {
     with_makeflow=''
     ! makeflow_here || with_makeflow=1
     [ -z "$with_makeflow" ] || try $(chosen makeflow_sizes)
-    first=1 second=2
-    try array_statuses $(chosen controller)
+    try array_statuses
 }
 
 # side_by_side: the other parts, in lanes.
@@ -278,14 +277,15 @@ side_by_side() {
     beside nodes 4 $(chosen in_last_compile no_toolkit other_toolkit full_disk tries_run_out)
     beside others 7 $(chosen compile_error cancelled frozen)
     beside lot 10 $(chosen drawn_by_lot)
+    beside controller 29 $(chosen controller)
     beside ssh 22 $(chosen by_ssh by_files)
     [ -z "$with_makeflow" ] || beside makeflow 26 $(chosen makeflow_deaths makeflow_transfer makeflow_errors)
     join_lanes
 }
 
 all_parts() {
-    start_nodes 28 || skip_all cluster 'no network namespaces here'
-    start_slurm || skip_all cluster 'Slurm does not start'
+    start_nodes 31 || skip_all cluster 'no network namespaces here'
+    start_slurm 0 || skip_all cluster 'Slurm does not start'
     stand_in
     cd "$scratch/work" && sources || exit 1
     one_by_one

@@ -275,7 +275,7 @@ without_disk() {
     remote 'a machine that makes no product' 0 'remote.py: left out: m1: next works here, but there: no a b' cde "m1 gets next,m1,m2 gets next,m2" 'export BREAKS=0' "$late"
     remote 'a command that fails' 1 $'no a b\nremote.py: line 1: nvcc -c k.cu: failed' old 'm1 gets next,m1' : "$late" BREAKS=3
     remote 'a machine that comes back' 0 $'remote.py: left out: m1: no message\nremote.py: back: m1' cde 'm2 gets next,m2,m1 gets next,m1' \
-        '[ -e "$PLACES/second" ] || { touch "$PLACES/second"; exit 1; }' 'export NAP=6'
+        '[ -e "$PLACES/second" ] || { touch "$PLACES/second"; exit 255; }' 'export NAP=6'
 }
 
 # A signal ends it at once.

@@ -7,10 +7,10 @@ Each line of MACHINES is an ssh login as GNU parallel takes it: 8/user@host runs
 nvcc as you would type it, or LIST is a compile_commands.json. cudafe++, cicc and ptxas run on the machines, with exactly the
 files that the plan says they read; each machine gets the tools themselves once. The rest runs here, N commands at once.
 
-A machine that vanishes, refuses or can't take files is left out, and its commands run again elsewhere; every five seconds it gets a new
-chance. Without any machine, all runs here. A command that fails on a machine runs here once more: if it works, the machine is
-left out for a minute; if not, the call has failed. What the commands print comes at the end, in the list's order. The status is 1 if a call
-failed. ../plans.py plans the calls. Files go below ZIGRUNK_TMP, TMPDIR or /tmp, and on the machines below their TMPDIR or /tmp.
+A machine that vanishes or refuses is left out, and its commands run again elsewhere; after five seconds it gets a new chance. One that can't
+take files is left out for a minute. Without any machine, all runs here. A command that fails on a machine runs here once more: if it works, the
+machine is left out for a minute; if not, the call has failed. What the commands print comes at the end, in the list's order. The status is 1 if
+a call failed. ../plans.py plans the calls. Files go below ZIGRUNK_TMP, TMPDIR or /tmp, and on the machines below their TMPDIR or /tmp.
 """
 import argparse
 import asyncio
@@ -21,6 +21,7 @@ import re
 import shlex
 import shutil
 import signal
+import subprocess
 import sys
 import tarfile
 import tempfile
@@ -35,7 +36,7 @@ OPTIONS = "-oBatchMode=yes -oConnectTimeout=10 -oServerAliveInterval=5 -oServerA
 SILENT, BAD = 5, 60
 # What runs a command on a machine. Its status comes last, so an answer that has it is whole.
 RUN = """cd {folder} && run=$(mktemp -d run.XXXXXX) && trap 'cd .. && rm -rf "$run"' EXIT && cd "$run" && tar -xzf - || exit
-env {settings} {tool} {words} > .out 2> .err < /dev/null
+env TMPDIR="$PWD" {settings} {tool} {words} > .out 2> .err < /dev/null
 echo "$?" > .status
 set -- .out .err
 for file in {files}; do [ ! -e "$file" ] || set -- "$@" "$file"; done
@@ -43,7 +44,7 @@ tar -czf - "$@" .status"""
 
 
 class Lost(Exception):
-    """A machine didn't answer, or not with all that it should."""
+    """A machine didn't answer, or not with all that it should: the reason, and for how many seconds to leave it out."""
 
 
 class Job:
@@ -65,12 +66,11 @@ class Work:
         self.jobs += [Job(["sh", "-c", line], call.folder, {"needs": [], "env": []}, False) for line in [dependencies if made else call.text] if line]
 
 
-async def run(words: list[str], data: bytes = b"", **settings: Any) -> tuple[int, bytes, bytes]:
-    """The status of a process and what it prints."""
-    pipe = asyncio.subprocess.PIPE
-    process = await asyncio.create_subprocess_exec(*words, stdin=pipe, stdout=pipe, stderr=pipe, **settings)
+async def run(words: list[str], data: Any = subprocess.DEVNULL, **settings: Any) -> tuple[int, bytes, bytes]:
+    """The status of a process and what it prints. The data, a file, is its standard input."""
+    process = await asyncio.create_subprocess_exec(*words, stdin=data, stdout=subprocess.PIPE, stderr=subprocess.PIPE, **settings)
     try:
-        out, err = await process.communicate(data)
+        out, err = await process.communicate()
         return process.returncode or 0, out, err
     finally:
         if process.returncode is None:
@@ -94,11 +94,12 @@ class Machine:
         self.name, self.out, self.free, self.connection, self.seconds, self.folder = self.words[-1], False, 0, 0, 0, ""
         self.tools: dict[str, asyncio.Task[str]] = {}
 
-    async def ask(self, script: str, data: bytes = b"") -> bytes:
-        """What a script prints there. The data is its standard input."""
+    async def ask(self, script: str, data: Any = subprocess.DEVNULL) -> bytes:
+        """What a script prints there."""
         status, out, err = await run([*self.words, script], data)
         if status:
-            raise Lost(last_line(err))
+            # 255 is ssh's own
+            raise Lost(last_line(err), SILENT if status == 255 else BAD)
         return out
 
     async def connect(self) -> None:
@@ -116,7 +117,7 @@ class Machine:
     async def send_tool(self, path: str, place: str) -> str:
         name = f"{place}/{shlex.quote(os.path.basename(path))}"
         with open(path, "rb") as file:
-            await self.ask(f"mkdir {place} && cat > {name} && chmod 755 {name}", file.read())
+            await self.ask(f"mkdir {place} && cat > {name} && chmod 755 {name}", file)
         return name
 
     async def tool(self, path: str) -> str:
@@ -127,19 +128,21 @@ class Machine:
 
     async def make(self, job: Job) -> bool:
         """Runs a command there and fetches what it made. Whether it worked."""
-        command, sent = job.command, io.BytesIO()
-        with tarfile.open(fileobj=sent, mode="w:gz", compresslevel=1) as archive:
-            for name in command["reads"]:
-                archive.add(name, os.path.basename(name))
-        files = [os.path.basename(name) for name in command["writes"]]
+        command, files = job.command, [os.path.basename(name) for name in job.command["writes"]]
         script = RUN.format(folder=self.folder, settings=plans.settings(command), tool=await self.tool(job.words[0]), words=shlex.join(job.words[1:]),
                             files=shlex.join([*files, *(os.path.basename(name) for name in command["may_write"])]))
+        with tempfile.TemporaryFile() as sent:
+            with tarfile.open(fileobj=sent, mode="w:gz", compresslevel=1) as archive:
+                for name in command["reads"]:
+                    archive.add(name, os.path.basename(name))
+            sent.seek(0)
+            answer = await self.ask(script, sent)
         try:
-            with tarfile.open(fileobj=io.BytesIO(await self.ask(script, sent.getvalue())), mode="r:gz") as archive:
+            with tarfile.open(fileobj=io.BytesIO(answer), mode="r:gz") as archive:
                 made = {member.name: file.read() for member in archive if (file := archive.extractfile(member))}
             status, job.out, job.err = int(made.pop(".status")), made.pop(".out"), made.pop(".err")
         except (EOFError, KeyError, ValueError, tarfile.TarError) as error:
-            raise Lost("half an answer") from error
+            raise Lost("half an answer", SILENT) from error
         for name, data in made.items():
             with open(os.path.join(job.folder, os.path.basename(name)), "wb") as product:
                 product.write(data)
@@ -162,7 +165,7 @@ class Build:
                     return machine
         return None
 
-    async def leave_out(self, machine: Machine, seconds: int, reason: str) -> None:
+    async def leave_out(self, machine: Machine, reason: str, seconds: int) -> None:
         async with self.changed:
             if not machine.out:
                 plans.say(f"left out: {machine.name}: {reason}")
@@ -177,8 +180,10 @@ class Build:
                 await machine.connect()
                 if was_out:
                     plans.say(f"back: {machine.name}")
-            except (Lost, OSError) as error:
-                await self.leave_out(machine, SILENT, str(error))
+            except Lost as error:
+                await self.leave_out(machine, *error.args)
+            except OSError as error:
+                await self.leave_out(machine, str(error), BAD)
             async with self.changed:
                 self.changed.notify_all()
                 await self.changed.wait_for(lambda: machine.out)
@@ -193,10 +198,10 @@ class Build:
                 said = last_line(job.err)
                 worked = await self.make_here(job)
                 if worked:
-                    await self.leave_out(machine, BAD, f"{os.path.basename(job.words[0])} works here, but there: {said}")
+                    await self.leave_out(machine, f"{os.path.basename(job.words[0])} works here, but there: {said}", BAD)
         except Lost as error:
             if machine.connection == connection:
-                await self.leave_out(machine, SILENT, str(error))
+                await self.leave_out(machine, *error.args)
         finally:
             async with self.changed:
                 machine.free += not machine.out and machine.connection == connection

@@ -116,9 +116,13 @@ frozen() {
     wait_idle
 }
 
-# One that is killed instead may take steps that ended for running ones, and their nodes idle until the job ends.
+# One that is killed instead may take steps that ended for running ones, and their nodes idle until the job ends. This is another Slurm than
+# that of the other parts.
 controller() {
-    local id
+    # shellcheck disable=SC2034 # start_slurm reads them
+    local id run=$scratch/run partitions=$first-$((first + 2))
+    mkdir "$run"
+    start_slurm 1 || { same 'the second Slurm' '' starts && return; }
     begin controller 3 6
     moment 10 '^start'
     id=$(cat "$run/slurmctld.pid")
@@ -127,7 +131,7 @@ controller() {
     sleep 5
     start_controller
     finish 'with a controller that started again'
-    wait_idle
+    kill -9 "$(cat "$run/slurmctld.pid")"
 }
 
 # prepared COMMAND NAME PATTERN [NAME=VALUE..]: a build with a node on which this ran first.

@@ -27,7 +27,8 @@ start_ssh() {
 # start_machine NUMBER
 start_machine() {
     local node=$((first + $1 - 1)) keys="mount -t tmpfs -o mode=755 none /run/sshd && cp '$run/host_key' '$run/login_key.pub' '$run/sshd.$1' /run/sshd"
-    printf '%s\n' 'Port 22' 'HostKey /run/sshd/host_key' "PidFile /run/sshd/pid" 'AuthorizedKeysFile /run/sshd/login_key.pub' \
+    # bash isn't a first shell then, and reads no .bashrc, which may take its time
+    printf '%s\n' 'Port 22' 'HostKey /run/sshd/host_key' 'PidFile /run/sshd/pid' 'AuthorizedKeysFile /run/sshd/login_key.pub' 'SetEnv SHLVL=2' \
         'StrictModes no' 'UsePAM no' 'PermitRootLogin prohibit-password' 'PasswordAuthentication no' > "$run/sshd.$1"
     link "$node" up
     PREPARE="$keys && ${PREPARE-:}" \
