@@ -30,7 +30,7 @@ start_slurm() {
     numbers=$(for number in $partitions; do seq "${number%-*}" "${number#*-}"; done)
     export SLURM_CONF=$run/slurm.conf
     {
-        grep -v -e '^#' -e '^AuthInfo' -e '^SlurmdTimeout' -e '^$' examples/slurm/slurm.conf
+        grep -v -e '^#' -e '^AuthInfo' -e '^SlurmdTimeout' -e '^$' "$examples/slurm/slurm.conf"
         cat << END
 SlurmdTimeout=${SLURMD_TIMEOUT:-8}
 AuthInfo=socket=$munge/socket,cred_expire=15
