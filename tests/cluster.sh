@@ -5,11 +5,13 @@
 #
 #   tests/cluster.sh [PROGRAM]    PROGRAM is the zigrunk that `make build` leaves, unless given
 #
+# First come the parts whose times count, one after the other. Then come the deaths, side by side, in lanes that have nodes of their own.
+#
 # PARTS names the parts to run, all unless set. SEED is that of the deaths drawn by lot. CALLS, NAPS and SIZES are the numbers of calls that
 # nvcc compiles, of calls that only sleep, and of nodes: CALLS=20 NAPS=30 SIZES='1 2 3' makes the tables of docs/CLUSTER.md.
 cd "$(dirname "$0")/.." || exit 1
 . tests/lib.sh
-for tool in slurmctld:slurm-wlm slurmd:slurm-wlm munged:munge salloc:slurm-wlm ip:iproute2 nsenter:util-linux ninja:ninja-build \
+for tool in slurmctld:slurm-wlm slurmd:slurm-wlm munged:munge salloc:slurm-wlm ip:iproute2 tc:iproute2 nsenter:util-linux ninja:ninja-build \
     objcopy:binutils python3:python3 nvcc:nvcc; do
     command -v "${tool%:*}" > /dev/null || skip_all cluster "${tool%:*} is not on the path (package ${tool#*:})"
 done
@@ -21,7 +23,8 @@ unset NVCC_PREPEND_FLAGS NVCC_APPEND_FLAGS MAKEFLAGS "${!SLURM@}" "${!SBATCH@}" 
 unset ZIGRUNK_RUNNER ZIGRUNK_LAUNCHER ZIGRUNK_PLAN ZIGRUNK_JOBS ZIGRUNK_BATCH
 examples=$PWD/examples here=$PWD/tests
 chmod 755 "$scratch"
-run=$scratch/run nodes=12 compiled=${CALLS:-8} sleeping=${NAPS:-10}
+# Slurm has the first 21 of 31 nodes.
+top=$scratch run=$scratch/run partitions='1-3 4-6 7-9 10-21' compiled=${CALLS:-8} sleeping=${NAPS:-10}
 mkdir "$run" "$scratch/work" "$scratch/tmp"
 # a python3 that starts at once stands first
 export ZIGRUNK_PROGRAM ZIGRUNK_TMP=$scratch/tmp PATH=$PWD/bin:/usr/bin:$PATH
@@ -32,9 +35,9 @@ export ZIGRUNK_PROGRAM ZIGRUNK_TMP=$scratch/tmp PATH=$PWD/bin:/usr/bin:$PATH
 . tests/cluster/deaths.bash
 
 # The parts run in a process group of their own, so that a signal to the test ends it at once, whatever runs.
-# own: the processes that have this test's variables, but for itself.
+# own: the processes that have the variables of this test or of its lane, but for itself.
 own() {
-    grep -lzF "ZIGRUNK_TMP=$scratch/tmp" /proc/[0-9]*/environ 2> /dev/null | tr -dc '0-9\n' | grep -vx "$$"
+    grep -lzF "ZIGRUNK_TMP=$scratch/" /proc/[0-9]*/environ 2> /dev/null | tr -dc '0-9\n' | grep -vx "$$"
 }
 
 parts=''
@@ -71,23 +74,32 @@ calls() {
 
 # batch NODES LIST [NAME=VALUE..]: the batch form in an allocation, each command as a step.
 batch() {
-    salloc -Q --no-kill -p "p$1" -N"$1" -n"$1" env STEP_WRAPPER="$examples/attempts.bash" \
+    salloc -Q --no-kill -p "$partition" -N"$1" -n"$1" env STEP_WRAPPER="$examples/attempts.bash" \
         ZIGRUNK_RUNNER="$examples/slurm/step.sh" ZIGRUNK_JOBS=$(($1 * 2)) "${@:3}" zigrunk-batch "$2" 2> err > out
 }
 
-# array LIST: an array job. sbatch --wait looks for the end only every half minute, so squeue says when that was.
+# array LIST: an array job. sbatch --wait looks for the end only after 10 s and 42 s, so squeue says when that was, and array_statuses waits.
 array() {
     "$examples/slurm/array.sh" "$1" -o calls.%a.log &
+    arrays+=("$!")
     sleep 1
     while [ -n "$(squeue -h)" ]; do sleep 0.2; done
     end=$(date +%s%N)
-    wait "$!"
+}
+arrays=()
+
+array_statuses() {
+    local id
+    for id in "${arrays[@]}"; do
+        wait "$id"
+        same 'status of an array' $? 0
+    done
 }
 
 # objects SUFFIX COUNT: a line for each object that isn't nvcc's. Symbols that strip removes hold nvcc's random file names.
 objects() {
     for number in $(seq "$2"); do
-        objcopy --strip-unneeded "k$number.nvcc" one && objcopy --strip-unneeded "k$number.$1" two && cmp one two
+        objcopy --strip-unneeded "$top/work/k$number.nvcc" one && objcopy --strip-unneeded "k$number.$1" two && cmp one two
     done 2>&1
     rm -f one two
 }
@@ -113,18 +125,24 @@ void c$number(float *x) { k$number<<<1, 32>>>(x); }
 END
     done
     calls nvcc nvcc "$compiled" > by_nvcc
+    # the directory that machines without a toolkit don't see
+    toolkit=$(nvcc --dryrun -c k1.cu 2>&1 | sed -n 's/^#\$ _HERE_=//p')
+    toolkit=$(cd "$toolkit/.." && pwd -P)
     # shellcheck disable=SC2016 # the script expands them
     printf '%s\n' '#!/bin/sh' 'sleep 0.3' 'while [ "$#" -gt 1 ]; do [ "$1" != -o ] || : > "$2"; shift; done' > nap
     chmod +x nap
 }
 
-by_array() {
+# by_nvcc: the objects as they should be.
+by_nvcc() {
     timed taskset -c 1 sh by_nvcc
     whole=$seconds
     echo "$compiled calls for 3 targets by nvcc on one core: $whole s"
+}
+
+by_array() {
     calls zigrunk-nvcc array "$compiled" > by_array
     timed array by_array
-    same 'status of the array' "$status" 0
     same 'objects of the array' "$(objects array "$compiled")" ''
     echo "the same by an array job on three nodes: $seconds s, ideal $(echo "$whole" | awk '{printf "%.1f", $1 / 3}') s"
 }
@@ -151,13 +169,22 @@ compile_error() {
     same 'text of a compile error' "$(grep -v '^zigrunk-batch: ' err)" "$(cat wanted)"
 }
 
+# temporary: how many directories of a batch and of its calls there are.
+temporary() {
+    find "$scratch/tmp" -mindepth 1 -maxdepth 1 | grep -c .
+}
+
 cancelled() {
     local id
     calls nvcc cancelled 20 > by_batch
     id=$(ZIGRUNK_RUNNER="$examples/slurm/step.sh" ZIGRUNK_JOBS=5 \
-        sbatch --parsable --no-kill -N3 -n3 -o /dev/null --wrap 'exec zigrunk-batch by_batch')
-    sleep 8
-    same 'directories before the job is cancelled' "$(find "$scratch/tmp" -mindepth 1 -maxdepth 1 | grep -c .)" 2
+        sbatch --parsable --no-kill -p "$partition" -N3 -n3 -o /dev/null --wrap 'exec zigrunk-batch by_batch')
+    for _ in $(seq 100); do
+        [ "$(temporary)" -lt 2 ] || break
+        sleep 0.2
+    done
+    sleep 3
+    same 'directories before the job is cancelled' "$(temporary)" 2
     scancel --full "$id"
     same 'what a cancelled job leaves' "$(left)" ''
 }
@@ -173,18 +200,17 @@ sleeping_batch() {
 sleeping_array() {
     calls zigrunk-nvcc nap "$sleeping" > by_array
     ZIGRUNK_RUNNER="$PWD/nap" timed array by_array
-    same 'status of sleeping tasks' "$status" 0
     echo "$((sleeping * 13)) commands of 0.3 s by an array job on three nodes: $seconds s, ideal $((sleeping * 13 / 10)) s"
 }
 
 # What Slurm costs for a command that does nothing: as a step, as a job that srun waits for, and as a batch job among others.
 costs() {
     # shellcheck disable=SC2016 # the shell in the job counts
-    timed salloc -Q -p p1 -N1 -n1 sh -c 'for _ in $(seq 10); do srun -Q -N1 -n1 --exact true || exit; done'
+    timed salloc -Q -p "$partition" -N1 -n1 sh -c 'for _ in $(seq 10); do srun -Q -N1 -n1 --exact true || exit; done'
     same 'status of steps' "$status" 0
     echo "a step that does nothing: $(share 10) s"
     # shellcheck disable=SC2016 # the same
-    timed sh -c 'for _ in $(seq 10); do srun -Q -p p1 -N1 -n1 true || exit; done'
+    timed sh -c 'for _ in $(seq 10); do srun -Q -p from1 -N1 -n1 true || exit; done'
     same 'status of jobs' "$status" 0
     echo "a job that does nothing, by srun: $(share 10) s"
     timed batch_jobs
@@ -197,64 +223,74 @@ share() {
 }
 
 batch_jobs() {
-    for _ in $(seq 10); do sbatch -Q -p p1 -N1 -n1 -o /dev/null --wrap true || return; done
+    for _ in $(seq 10); do sbatch -Q -p "$partition" -N1 -n1 -o /dev/null --wrap true || return; done
     while [ -n "$(squeue -h)" ]; do sleep 0.1; done
 }
 
-# by_ssh: two machines, of which one vanishes, comes back, and refuses.
-by_ssh() {
-    local id number
-    for tool in sshd ssh-keygen ssh parallel; do
-        command -v "$tool" > /dev/null || { skip by_ssh "$tool is not on the path" && return; }
+# chosen NAME..: those of these parts that PARTS names.
+chosen() {
+    local part
+    for part; do [[ " ${PARTS-$part} " != *" $part "* ]] || echo "$part"; done
+}
+
+# try NAME..: parts, one after the other. Their seconds are in $top/seconds.
+try() {
+    local part begun
+    for part; do
+        begun=$SECONDS
+        "$part"
+        echo "$part $((SECONDS - begun))" >> "$top/seconds"
     done
-    start_ssh 2 || { skip by_ssh 'sshd does not start' && return; }
-    cd "$scratch/stand_in" || return
-    # shellcheck disable=SC2016 # the other machine's variables
-    echo 'echo "${NVCC_APPEND_FLAGS-none} ${CPATH-none} $PWD"' > by_ssh
-    export NVCC_APPEND_FLAGS=-lineinfo CPATH=/none
-    same 'variables by ssh alone' "$(ssh -F "$run/ssh_config" m1 "$(cat by_ssh)")" "none none $HOME"
-    same 'variables by parallel.sh' "$("$examples/ssh/parallel.sh" "$run/machines" by_ssh 2>&1)" "-lineinfo none $PWD"
-    unset NVCC_APPEND_FLAGS CPATH
-    : > "$TOOL_LOG"
-    suffix=ssh count=12
-    calls_of_two ssh 12 | sed "s,^nvcc,env NVCC=$NVCC TOOL_LOG=$TOOL_LOG TOOL_SECONDS=0.3 zigrunk-nvcc," > by_ssh
-    PATH=$tools:$PATH "$examples/ssh/parallel.sh" "$run/machines" by_ssh > out 2> err &
-    id=$! job=$!
-    moment 1 '^start n2 cicc'
-    link 2 down
-    for _ in $(seq 300); do
-        ! grep -q 'left out: m2' err || break
-        sleep 0.1
-    done
-    link 2 up
-    for _ in $(seq 200); do
-        ! grep -q 'back: m2' err || break
-        sleep 0.1
-    done
-    number=$(grep -c '^start n2' "$TOOL_LOG")
-    moment $((number + 1)) '^start n2'
-    end_processes 2
-    wait "$id"
-    same 'status after a machine vanished' "$?$(cat out)" 0
-    same 'objects after a machine vanished' "$(wrong)" ''
-    same 'commands on the machine that came back' "$(($(grep -c '^start n2' "$TOOL_LOG") > number))" 1
-    same 'machines that messages name' "$(sed -n 's/^parallel.sh: //p' err | head -n 2 | tr '\n' ,)" 'left out: m2,back: m2,'
-    echo "$run/nothing" > by_ssh
-    "$examples/ssh/parallel.sh" "$run/machines" by_ssh > out 2> err
-    same 'status of a failed call, with one machine that refuses' $? 1
-    same 'the machine that refuses' "$(grep -c '^parallel.sh: left out: m2' err)" 1
-    same 'connections that stay' "$(pgrep -fc "ControlPath=/tmp/parallel.*$run/ssh_config")" 0
-    cd "$OLDPWD" || return
-    start_node 2
+}
+
+# beside NAME FIRST PART..: starts a lane, if there are parts, on nodes of its own, of which FIRST is the first.
+beside() {
+    [ "$#" -le 2 ] || lane "$1" on_nodes "${@:2}"
+}
+
+# on_nodes FIRST PART..: what a lane does. It has directories of its own too.
+on_nodes() {
+    first=$1 second=$(($1 + 1)) partition=from$1
+    mkdir "$scratch/tmp" "$scratch/work" "$scratch/stand_in" && cp "$top"/work/*.cu "$top/work/by_nvcc" "$scratch/work" &&
+        cp "$top"/stand_in/*.cu "$scratch/stand_in" && cd "$scratch/work" || return
+    export ZIGRUNK_TMP=$scratch/tmp TOOL_LOG=$scratch/tool.log
+    try "${@:2}"
+}
+
+# one_by_one: the parts whose times count.
+# shellcheck disable=SC2046 # several names
+one_by_one() {
+    first=1 second=2 partition=from1
+    [ -z "$(chosen by_array by_batch_form makeflow_sizes makeflow_deaths makeflow_transfer by_files)" ] || try by_nvcc
+    try $(chosen by_array by_batch_form sleeping_batch sleeping_array costs)
+    first=26 second=27
+    with_makeflow=''
+    ! makeflow_here || with_makeflow=1
+    [ -z "$with_makeflow" ] || try $(chosen makeflow_sizes)
+    try array_statuses
+}
+
+# side_by_side: the other parts, in lanes.
+# shellcheck disable=SC2046 # several names
+side_by_side() {
+    beside commands 1 $(chosen in_preprocessor in_cicc in_ptxas two_nodes)
+    beside nodes 4 $(chosen in_last_compile no_toolkit other_toolkit full_disk tries_run_out)
+    beside others 7 $(chosen compile_error cancelled frozen)
+    beside lot 10 $(chosen drawn_by_lot)
+    beside controller 29 $(chosen controller)
+    beside ssh 22 $(chosen by_ssh by_files)
+    [ -z "$with_makeflow" ] || beside makeflow 26 $(chosen makeflow_deaths makeflow_transfer makeflow_errors)
+    join_lanes
 }
 
 all_parts() {
-    start_nodes "$nodes" || skip_all cluster 'no network namespaces here'
-    start_slurm || skip_all cluster 'Slurm does not start'
+    start_nodes 31 || skip_all cluster 'no network namespaces here'
+    start_slurm 0 || skip_all cluster 'Slurm does not start'
     stand_in
     cd "$scratch/work" && sources || exit 1
-    for part in ${PARTS:-in_preprocessor in_cicc in_ptxas in_last_compile two_nodes frozen controller no_toolkit other_toolkit full_disk tries_run_out \
-        drawn_by_lot by_array by_batch_form compile_error cancelled sleeping_batch sleeping_array costs by_ssh by_makeflow}; do "$part"; done
+    one_by_one
+    side_by_side
+    echo "seconds: $(sort -k 2nr "$top/seconds" | paste -sd ,), all $SECONDS"
     summary
 }
 

@@ -1,6 +1,7 @@
 #!/usr/bin/env bash
 # Runs examples/slurm/step.sh and examples/ssh/parallel.sh with stand-ins for srun, ssh and GNU parallel, by each of dash, bash and busybox
-# sh that is installed. Prints a line for each case that fails, and last 'N passed, M failed'; the status is 1 if one failed.
+# sh that is installed, and examples/ssh/remote.py with stand-ins for ssh and zigrunk. Prints a line for each case that fails, and last
+# 'N passed, M failed'; the status is 1 if one failed.
 #
 #   tests/cluster_scripts.sh [FOLDER]    FOLDER is examples, unless given
 #
@@ -194,5 +195,111 @@ cases() {
     machines
 }
 
+# What examples/ssh/remote.py needs: machines, which are directories of this one, and a plan of four commands, of which two may run there.
+machines_without_disk() {
+    mkdir "$scratch/far"
+    cat > "$scratch/far/ssh" << 'END'
+#!/bin/sh
+while case $1 in -o?*) ;; -p) shift ;; -O) exit ;; *) false ;; esac; do shift; done
+name=$1
+shift
+case $* in cd*) echo "$name" >> "$LOG" ;; *cat*) echo "$name gets ${*##*/}" >> "$LOG" ;; esac
+TMPDIR=$PLACES/$name
+export TMPDIR
+. "$PLACES/$name.does"
+exec sh -c "$*"
+END
+    cat > "$scratch/far/zigrunk" << 'END'
+#!/bin/sh
+case $1 in
+directory) echo "call.$$" ;;
+calls) echo 'first_dry_run=: second_dry_run=: flag=-c keep_dir= dependencies=' ;;
+--limit) sed "s,@TMP,$5,g; s,@CWD,$4,g; s,@TOOLS,${0%/*},g" "${0%/*}/plan" ;;
+esac
+END
+    cat > "$scratch/far/plan" << 'END'
+{"tmp":"@TMP","cwd":"@CWD","commands":[
+{"exe":"/bin/cp","args":["@CWD/source","@TMP/a b"],"cwd":"@TMP","env":[],"needs":[],"reads":["@CWD/source"],"writes":["@TMP/a b"],"may_write":[],"complete":false,"cacheable":true},
+{"exe":"@TOOLS/next","args":["a b","c"],"cwd":"@TMP","env":[["A","1 2"]],"needs":[0],"reads":["@TMP/a b"],"writes":["@TMP/c"],"may_write":["@TMP/none"],"complete":true,"cacheable":true},
+{"exe":"@TOOLS/next","args":["c","d"],"cwd":"@TMP","env":[],"needs":[1],"reads":["@TMP/c"],"writes":["@TMP/d"],"may_write":[],"complete":true,"cacheable":true},
+{"exe":"/bin/cp","args":["@TMP/d","@CWD/product"],"cwd":"@CWD","env":[],"needs":[2],"reads":["@TMP/d"],"writes":["@CWD/product"],"may_write":[],"complete":false,"cacheable":false}]}
+END
+    cat > "$scratch/far/next" << 'END'
+#!/bin/sh
+echo "reads $1 $A"
+sleep "${NAP-0}"
+[ -z "$BREAKS" ] || { echo "no $1" >&2; exit "$BREAKS"; }
+tr a-y b-z < "$1" > "$2"
+END
+    chmod +x "$scratch"/far/[snz]*
+}
+
+# two_machines FIRST SECOND: a folder with a call, and two machines, which do this before they run what they get.
+two_machines() {
+    mkdir -p "$room/places/m1" "$room/places/m2"
+    echo "$1" > "$room/places/m1.does"
+    echo "$2" > "$room/places/m2.does"
+    printf '%s\n' '# two machines' m1 'ssh -p 5 m2' > machines
+    echo abc > source
+    echo old > product
+    echo 'nvcc -c k.cu' > list
+}
+
+# remote NAME STATUS MESSAGES PRODUCT LOG FIRST SECOND [NAME=VALUE..]: a case: a call by two machines.
+remote() {
+    begin "$1"
+    two_machines "$6" "$7"
+    runs ssh/remote.py PATH="$scratch/far:$PATH" ZIGRUNK_PROGRAM="$scratch/far/zigrunk" ZIGRUNK_TMP="$room/tmp" "${@:8}" -j 2 machines list
+    same status "$status" "$2"
+    same messages "$(cat "$room/err")" "$3"
+    same product "$(cat product)" "$4"
+    same machines "$(paste -sd , "$room/log")" "$5"
+    leaves_nothing
+    same 'what is left there' "$(find "$room/places" -mindepth 2)" ''
+    end_case
+}
+
+without_disk() {
+    local gone='exit 255' lost='case $* in cd*) echo gone >&2; exit 255 ;; esac'
+    local sends='m1 gets next,m1,m1' late='[ -e "$PLACES/late" ] || { touch "$PLACES/late"; sleep 1; }'
+    shell=(python3) room=$scratch/python3/room
+    remote 'two machines' 0 '' cde "$sends" : "$late"
+    remote 'a machine that refuses' 0 'remote.py: left out: m1: no message' cde "${sends//m1/m2}" "$gone" :
+    remote 'a machine that vanishes' 0 'remote.py: left out: m1: gone' cde "m1 gets next,m1,${sends//m1/m2}" "$lost" "$late"
+    remote 'half an answer' 0 'remote.py: left out: m1: half an answer' cde "m1 gets next,m1,${sends//m1/m2}" \
+        'case $* in cd*) sh -c "$*" | head -c 150; exit ;; esac' "$late"
+    remote 'no machine' 0 $'remote.py: left out: m1: no message\nremote.py: left out: m2: no message' cde '' "$gone" "$gone"
+    remote 'a machine that takes no files' 0 'remote.py: left out: m1: full' cde "m1 gets next,${sends//m1/m2}" \
+        'case $* in *cat*) echo full >&2; exit 1 ;; esac' "$late"
+    remote 'a bad machine' 0 'remote.py: left out: m1: next works here, but there: no a b' cde "m1 gets next,m1,m2 gets next,m2" 'export BREAKS=3' "$late"
+    remote 'a machine that makes no product' 0 'remote.py: left out: m1: next works here, but there: no a b' cde "m1 gets next,m1,m2 gets next,m2" 'export BREAKS=0' "$late"
+    remote 'a command that fails' 1 $'no a b\nremote.py: line 1: nvcc -c k.cu: failed' old 'm1 gets next,m1' : "$late" BREAKS=3
+    remote 'a machine that comes back' 0 $'remote.py: left out: m1: no message\nremote.py: back: m1' cde 'm2 gets next,m2,m1 gets next,m1' \
+        '[ -e "$PLACES/second" ] || { touch "$PLACES/second"; exit 255; }' 'export NAP=6'
+}
+
+# A signal ends it at once.
+without_disk_ended() {
+    local process last
+    begin 'the signal TERM'
+    two_machines 'export NAP=30' 'exit 255'
+    mkdir "$room/tmp/own"
+    env LOG="$room/log" PLACES="$room/places" PATH="$scratch/far:$PATH" ZIGRUNK_PROGRAM="$scratch/far/zigrunk" ZIGRUNK_TMP="$room/tmp/own" \
+        python3 "$examples/ssh/remote.py" machines list > "$room/out" 2> "$room/err" &
+    process=$! last=$((SECONDS + 20))
+    until grep -qx m1 "$room/log" 2> /dev/null || [ "$SECONDS" -gt "$last" ]; do sleep 0.02; done
+    kill "$process"
+    { wait "$process"; } 2> /dev/null
+    same status "$?" 143
+    same seconds "$((SECONDS < last))" 1
+    same 'files left' "$(ls -A "$room/tmp/own")" ''
+    same product "$(cat product)" old
+    end_case
+}
+
 by_shells cases
+mkdir "$scratch/python3"
+machines_without_disk
+without_disk
+without_disk_ended
 summary

@@ -13,10 +13,11 @@ that zigrunk doesn't split or that takes a shell.
 Makeflow ends with 0 even if rules failed. So a call counts as made only if its last rule left its stamp. What the commands print
 comes at the end, in the list's order. The status is 1 if a call failed.
 
-ZIGRUNK_PROGRAM is zigrunk's path or name; zigrunk-plan is beside it or on PATH. Files go below ZIGRUNK_TMP, TMPDIR or /tmp.
+../plans.py plans the calls. Files go below ZIGRUNK_TMP, TMPDIR or /tmp.
 """
 import collections
 import concurrent.futures
+import ctypes
 import glob
 import json
 import os
@@ -24,12 +25,15 @@ import re
 import shlex
 import shutil
 import signal
+import socket
 import subprocess
 import sys
 import tempfile
 import time
-from types import FrameType
-from typing import Any, NoReturn
+from typing import Any
+
+sys.path.insert(0, os.path.join(os.path.dirname(os.path.abspath(__file__)), ".."))
+import plans
 
 # A lost worker's commands go elsewhere without this. It counts the further tries of a command that failed.
 RETRIES = 1
@@ -37,119 +41,76 @@ RETRIES = 1
 IDLE = 15
 # Seconds after which Work Queue asks a silent worker, and waits for its answer.
 ASK, ANSWER = 5, 15
+# The same for the kernel: it ends a connection on which nothing arrives for so long, also in the middle of a file.
+SILENCE = [
+    (socket.SOL_SOCKET, socket.SO_KEEPALIVE, 1),
+    (socket.IPPROTO_TCP, socket.TCP_KEEPIDLE, ASK),
+    (socket.IPPROTO_TCP, socket.TCP_KEEPINTVL, ASK),
+    (socket.IPPROTO_TCP, getattr(socket, "TCP_USER_TIMEOUT"), 1000 * ANSWER),
+]
+# pidfd_getfd of Linux 5.6, for which Python has no name
+GET_DESCRIPTOR = 438
 # Work Queue can't carry the names of other files.
 PLAIN = re.compile(r"[A-Za-z0-9_.+/-]+")
-# nvcc's own files that somebody wants to keep are in the plan's directory.
-SETTINGS = 'eval "$("$0" calls "$@")" && printf "%s\\0%s" "$keep_dir" "$dependencies"'
 
 Rule = dict[str, Any]
 
 
-class Call:
-    """A line or an entry of the list, and the rules that make it."""
+class Work:
+    """A call with the rules that make it and their stamps."""
 
-    def __init__(self, number: int, name: str, folder: str, words: list[str], text: str) -> None:
-        self.number, self.name, self.folder, self.words, self.text = number, name, folder, words, text
+    def __init__(self, call: plans.Call) -> None:
+        self.call = call
         self.rules: list[Rule] = []
         self.stamps: list[str] = []
-        self.product = ""
 
 
-def fail(message: str) -> NoReturn:
-    sys.exit(f"build.py: {message}")
-
-
-def words_of(line: str) -> list[str]:
-    """The words of a line, or none if it takes a shell to read it."""
-    try:
-        lexer = shlex.shlex(line, posix=True, punctuation_chars=True)
-        lexer.whitespace_split = True
-        marks = [token for token in lexer if set(token) <= set("();<>|&")]
-        return [] if marks or "$" in line or "`" in line else shlex.split(line, comments=True)
-    except ValueError:
-        return []
-
-
-def read(path: str) -> list[Call]:
-    try:
-        with open(path, encoding="utf-8", errors="surrogateescape") as file:
-            text = file.read()
-        here = os.path.dirname(os.path.abspath(path))
-        if not text.lstrip().startswith("["):
-            lines = [(number, line.strip()) for number, line in enumerate(text.splitlines(), 1)]
-            return [Call(number, f"line {number}: {line}", os.getcwd(), words_of(line), line) for number, line in lines if line and line[0] != "#"]
-        calls = []
-        for number, entry in enumerate(json.loads(text), 1):
-            words = entry["arguments"] if "arguments" in entry else shlex.split(entry["command"])
-            folder = os.path.join(here, entry["directory"])
-            calls.append(Call(number, f"entry {number}: {entry['file']}", folder, words, shlex.join(words)))
-        return calls
-    except (OSError, KeyError, TypeError, ValueError) as error:
-        fail(f"cannot read {path}: {error}")
-
-
-def add(call: Call, command: str, inputs: list[Any], outputs: list[Any], local: bool) -> None:
+def add(work: Work, command: str, inputs: list[Any], outputs: list[Any], local: bool) -> None:
     """Adds a rule, whose command's own output goes to files beside its stamp."""
-    call.rules.append({"command": command, "inputs": inputs, "outputs": outputs, "local_job": local})
+    work.rules.append({"command": command, "inputs": inputs, "outputs": outputs, "local_job": local})
 
 
-def add_local(call: Call, folder: str, line: str, inputs: list[str], outputs: list[str]) -> None:
-    stamp = f"{call.number}.{len(call.stamps)}"
-    call.stamps.append(stamp)
+def add_local(work: Work, folder: str, line: str, inputs: list[str], outputs: list[str]) -> None:
+    stamp = f"{work.call.number}.{len(work.stamps)}"
+    work.stamps.append(stamp)
     said = [f"{stamp}.out", f"{stamp}.err"]
     command = f"( cd {shlex.quote(folder)} && {line} ) > {said[0]} 2> {said[1]} < /dev/null && : > {stamp}"
-    add(call, command, inputs, [stamp, *said, *outputs], True)
+    add(work, command, inputs, [stamp, *said, *outputs], True)
 
 
-def add_remote(call: Call, command: Any, reads: list[str], writes: list[str]) -> None:
+def add_remote(work: Work, command: Any, reads: list[str], writes: list[str]) -> None:
     """Work Queue gives each command a directory of its own, in which all files have the names that its words name."""
-    stamp = f"{call.number}.{len(call.stamps)}"
-    call.stamps.append(stamp)
+    stamp = f"{work.call.number}.{len(work.stamps)}"
+    work.stamps.append(stamp)
     tool = os.path.basename(command["exe"])
     files = [{"dag_name": name, "task_name": os.path.basename(name)} for name in reads]
     made = [{"dag_name": name, "task_name": os.path.basename(name)} for name in writes]
     files.append({"dag_name": os.path.realpath(command["exe"]), "task_name": tool})
-    line = f"env {settings(command)} ./{tool} {shlex.join(command['args'])} > {stamp}.out 2> {stamp}.err < /dev/null && : > {stamp}"
-    add(call, line, files, [stamp, f"{stamp}.out", f"{stamp}.err", *made], False)
-
-
-def settings(command: Any) -> str:
-    return shlex.join(f"{name}={value}" for name, value in command["env"])
+    line = f"env {plans.settings(command)} ./{tool} {shlex.join(command['args'])} > {stamp}.out 2> {stamp}.err < /dev/null && : > {stamp}"
+    add(work, line, files, [stamp, f"{stamp}.out", f"{stamp}.err", *made], False)
 
 
 def is_far(command: Any, tmp: str) -> bool:
-    """Whether a worker can run this command: it touches only files of the plan's directory."""
-    files = [*command["reads"], *command["writes"]]
-    inside = all(os.path.dirname(name) == tmp and PLAIN.fullmatch(name) for name in files)
-    return command["complete"] and command["cacheable"] and command["cwd"] == tmp and inside
+    """Whether a worker can run this command."""
+    return plans.is_far(command, tmp) and all(PLAIN.fullmatch(name) for name in [*command["reads"], *command["writes"]])
 
 
-def output_of(program: list[str], folder: str) -> str:
-    """What a program prints; nothing if it fails. zigrunk ends with 3 if a call isn't split, and otherwise says what is wrong."""
-    run = subprocess.run(program, cwd=folder, capture_output=True, check=False)
-    if run.returncode not in (0, 3):
-        sys.stderr.buffer.write(run.stderr)
-    return run.stdout.decode("utf-8", "surrogateescape") if run.returncode == 0 else ""
-
-
-def plan(call: Call, root: str) -> None:
-    """The rules of a call. One that isn't split is one rule."""
-    text = output_of([PLANNER, "json", "--", *call.words], call.folder) if call.words and call.words[0].endswith("nvcc") else ""
-    if text:
-        made = json.loads(text)
-        keep_dir, dependencies = output_of(["sh", "-c", SETTINGS, PROGRAM, call.folder, made["tmp"], *call.words], call.folder).split("\0")
-        if not keep_dir:
-            os.makedirs(made["tmp"])
-            add_plan(call, made, root, dependencies)
-            return
-    add_local(call, call.folder, f"eval {shlex.quote(call.text)}", [], [])
+def plan(call: plans.Call, root: str) -> Work:
+    """A call that isn't split is one rule."""
+    work = Work(call)
+    made, dependencies = plans.plan(call)
+    if made:
+        add_plan(work, made, root, dependencies)
+    else:
+        add_local(work, call.folder, f"eval {shlex.quote(call.text)}", [], [])
+    return work
 
 
 def relative(names: list[str], root: str) -> list[str]:
     return [os.path.relpath(name, root) for name in names]
 
 
-def add_plan(call: Call, made: Any, root: str, dependencies: str) -> None:
+def add_plan(work: Work, made: Any, root: str, dependencies: str) -> None:
     tmp, commands = made["tmp"], made["commands"]
     writers = collections.Counter(name for command in commands for name in command["writes"])
     own = [[name for name in command["writes"] if os.path.dirname(name) == tmp and writers[name] == 1] for command in commands]
@@ -157,16 +118,14 @@ def add_plan(call: Call, made: Any, root: str, dependencies: str) -> None:
         reads = [name for name in command["reads"] if any(name in own[need] for need in command["needs"])]
         if is_far(command, tmp) and own[command["id"]] == command["writes"] and reads == command["reads"]:
             # an order that no file gives
-            stamps = [call.stamps[need] for need in command["needs"] if not set(own[need]) & set(reads)]
-            add_remote(call, command, [*relative(reads, root), *stamps], relative(command["writes"], root))
+            stamps = [work.stamps[need] for need in command["needs"] if not set(own[need]) & set(reads)]
+            add_remote(work, command, [*relative(reads, root), *stamps], relative(command["writes"], root))
         else:
-            line = f"env {settings(command)} {shlex.join([command['exe'], *command['args']])}"
+            line = f"env {plans.settings(command)} {shlex.join([command['exe'], *command['args']])}"
             writes = [name for name in own[command["id"]] if PLAIN.fullmatch(name)]
-            add_local(call, command["cwd"], line, [call.stamps[need] for need in command["needs"]], relative(writes, root))
+            add_local(work, command["cwd"], line, [work.stamps[need] for need in command["needs"]], relative(writes, root))
     if dependencies:
-        add_local(call, call.folder, f"eval {shlex.quote(dependencies)}", [], [])
-    folder, name = os.path.split("".join(commands[-1]["writes"][:1]))
-    call.product = os.path.join(os.path.realpath(folder), name)
+        add_local(work, work.call.folder, f"eval {shlex.quote(dependencies)}", [], [])
 
 
 def counts(root: str) -> tuple[int, int]:
@@ -186,12 +145,39 @@ def say_port(root: str) -> bool:
     return bool(lines)
 
 
+def limit_socket(descriptor: int) -> bool:
+    """Sets the limits of SILENCE for a socket of TCP, and closes this process's copy of it."""
+    with socket.socket(fileno=descriptor) as one:
+        found = one.family in (socket.AF_INET, socket.AF_INET6) and one.type == socket.SOCK_STREAM
+        for option in SILENCE if found else []:
+            one.setsockopt(*option)
+        return found
+
+
+def limit_silence(pid: int) -> bool:
+    """Work Queue 9.9 waits ten seconds for each megabyte of a file, one file at a time, if a worker vanishes that gets it. So this sets limits
+    for the sockets of Makeflow. Those of later connections inherit them. False if the system doesn't allow it."""
+    copy = ctypes.CDLL(None).syscall
+    process = os.pidfd_open(pid)
+    try:
+        names = [name for name in os.listdir(f"/proc/{pid}/fd") if os.readlink(f"/proc/{pid}/fd/{name}").startswith("socket:")]
+        copies = [copy(GET_DESCRIPTOR, process, int(name), 0) for name in names]
+        return any([limit_socket(descriptor) for descriptor in copies if descriptor >= 0])
+    except OSError:
+        return False
+    finally:
+        os.close(process)
+
+
 def wait_for(makeflow: subprocess.Popen[bytes], root: str) -> None:
     """Makeflow 8.0 never ends if a rule has failed that others need, so this ends it."""
     idle, said = 0, False
     while makeflow.poll() is None:
-        time.sleep(0.2)
-        said = said or say_port(root)
+        time.sleep(0.2 if said else 0.02)
+        if not said and say_port(root):
+            said = True
+            if not limit_silence(makeflow.pid):
+                plans.say("this system sets no limits for Makeflow's connections")
         running, failed = counts(root)
         idle = idle + 1 if failed and not running else 0
         if idle == IDLE:
@@ -219,48 +205,38 @@ def show(root: str, name: str, stream: Any) -> None:
     stream.flush()
 
 
-def report(calls: list[Call], root: str) -> int:
+def report(works: list[Work], root: str) -> int:
     failed = 0
-    for call in calls:
-        for stamp in call.stamps:
+    for work in works:
+        for stamp in work.stamps:
             show(root, f"{stamp}.out", sys.stdout)
             show(root, f"{stamp}.err", sys.stderr)
-        if not all(os.path.exists(os.path.join(root, stamp)) for stamp in call.stamps):
-            print(f"build.py: {call.name}: failed", file=sys.stderr)
+        if not all(os.path.exists(os.path.join(root, stamp)) for stamp in work.stamps):
+            plans.say(f"{work.call.name}: failed")
             failed += 1
-    if failed == len(calls):
+    if failed == len(works):
         with open(os.path.join(root, "log"), encoding="utf-8", errors="replace") as log:
             sys.stderr.writelines(log.readlines()[-3:])
     return failed
 
 
-def stop(number: int, _: FrameType | None) -> NoReturn:
-    sys.exit(128 + number)
-
-
 def main() -> int:
     if len(sys.argv) < 2 or sys.argv[-1] in ("-h", "--help"):
-        fail("usage: build.py [OPTION..] LIST")
+        plans.fail("usage: build.py [OPTION..] LIST")
     for number in (signal.SIGHUP, signal.SIGINT, signal.SIGTERM):
-        signal.signal(number, stop)
-    calls = read(sys.argv[-1])
+        signal.signal(number, plans.stop)
+    calls = plans.read(sys.argv[-1])
     root = tempfile.mkdtemp(prefix="zigrunk-makeflow.", dir=os.environ.get("ZIGRUNK_TMP") or None)
     os.environ["ZIGRUNK_TMP"] = root
     try:
         with concurrent.futures.ThreadPoolExecutor(os.cpu_count()) as pool:
-            list(pool.map(lambda call: plan(call, root), calls))
-        products = collections.Counter(call.product for call in calls if call.product)
-        for name, count in products.items():
-            if count > 1:
-                fail(f"{count} calls make one file: {name}")
-        run_makeflow(sys.argv[1:-1], root, [rule for call in calls for rule in call.rules])
-        return 1 if report(calls, root) else 0
+            works = list(pool.map(lambda call: plan(call, root), calls))
+        plans.check_products(calls)
+        run_makeflow(sys.argv[1:-1], root, [rule for work in works for rule in work.rules])
+        return 1 if report(works, root) else 0
     finally:
         shutil.rmtree(root, ignore_errors=True)
 
 
-PROGRAM = os.environ.get("ZIGRUNK_PROGRAM", "zigrunk")
-BESIDE = os.path.join(os.path.dirname(os.path.abspath(__file__)), "../../bin/zigrunk-plan")
-PLANNER = BESIDE if os.path.exists(BESIDE) else "zigrunk-plan"
 if __name__ == "__main__":
     sys.exit(main())

@@ -5,7 +5,7 @@ targets_of_two='-gencode=arch=compute_80,code=sm_80 -gencode=arch=compute_90,cod
 # stand_in: the tools in a directory of their own, the sources and the objects as they should be, which this machine makes alone.
 stand_in() {
     local tool number
-    tools=$scratch/tools
+    tools=$scratch/tools right=$scratch/stand_in
     TOOL_LOG=$scratch/tool.log NVCC=$(command -v nvcc)
     export TOOL_LOG NVCC
     mkdir "$tools" "$scratch/stand_in"
@@ -25,14 +25,14 @@ calls_of_two() {
     for number in $(seq "$2"); do echo "nvcc $targets_of_two -c k$number.cu -o k$number.$1"; done
 }
 
-# begin SUFFIX NODES COUNT [NAME=VALUE..]: starts a build of so many sources in the background, with a job of so many nodes.
+# begin SUFFIX NODES COUNT [NAME=VALUE..]: starts a build of so many sources in the background, with a job of so many nodes of the lane.
 begin() {
     suffix=$1 count=$3
     cd "$scratch/stand_in" || return
     : > "$TOOL_LOG"
     : > repeats
     calls_of_two "$1" "$3" > list
-    PATH=$tools:$PATH TOOL_SECONDS=${TOOL_SECONDS:-0.2} salloc -Q --no-kill -p "p$2" -N"$2" -n"$2" \
+    PATH=$tools:$PATH TOOL_SECONDS=${TOOL_SECONDS:-0.2} salloc -Q --no-kill -p "$partition" -N"$2" -n"$2" \
         env ZIGRUNK_RUNNER="$examples/slurm/step.sh" STEP_LOG="$PWD/repeats" ZIGRUNK_JOBS=$(($2 * 2)) "${@:4}" zigrunk-batch list > out 2> err &
     job=$!
 }
@@ -48,7 +48,7 @@ moment() {
 # wrong: a line for each object that isn't the one that this machine made.
 wrong() {
     local number
-    for number in $(seq "$count"); do cmp "k$number.right" "k$number.$suffix"; done 2>&1
+    for number in $(seq "$count"); do cmp "$right/k$number.right" "k$number.$suffix"; done 2>&1
 }
 
 # finish WHAT [PATTERN]: the build ends with 0 and all objects, and says no more than lines that match.
@@ -69,14 +69,14 @@ back() {
     wait_idle
 }
 
-# vanishes NAME PATTERN: a node vanishes in a command of this kind.
+# vanishes NAME PATTERN: the lane's second node vanishes in a command of this kind.
 vanishes() {
     begin "$1" 3 6
-    moment 1 "^start n2 $2"
-    power_off 2
+    moment 1 "^start n$second $2"
+    power_off "$second"
     finish "with a node that vanished in $1"
     same "a step that was repeated, $1" "$([ -s "$scratch/stand_in/repeats" ] && echo yes)" yes
-    back 2
+    back "$second"
 }
 
 in_preprocessor() { vanishes preprocessor 'gcc .*\.ii$'; }
@@ -91,21 +91,22 @@ in_last_compile() {
 }
 
 two_nodes() {
+    local third=$((first + 2))
     begin two 3 6
-    moment 1 '^start n2 cicc'
-    power_off 2
-    moment 12 '^start n3'
+    moment 1 "^start n$second cicc"
+    power_off "$second"
+    moment 12 "^start n$third"
     sleep 3
-    power_off 3
+    power_off "$third"
     finish 'with two nodes that vanished'
-    back 2 3
+    back "$second" "$third"
 }
 
 frozen() {
     local ids
     begin frozen 3 6
-    moment 1 '^start n2 cicc'
-    ids=$(processes_of 2)
+    moment 1 "^start n$second cicc"
+    ids=$(processes_of "$second")
     # shellcheck disable=SC2086 # several ids
     kill -STOP $ids
     sleep $((2 * ${SLURMD_TIMEOUT:-8} + 5))
@@ -115,9 +116,13 @@ frozen() {
     wait_idle
 }
 
-# One that is killed instead may take steps that ended for running ones, and their nodes idle until the job ends.
+# One that is killed instead may take steps that ended for running ones, and their nodes idle until the job ends. This is another Slurm than
+# that of the other parts.
 controller() {
-    local id
+    # shellcheck disable=SC2034 # start_slurm reads them
+    local id run=$scratch/run partitions=$first-$((first + 2))
+    mkdir "$run"
+    start_slurm 1 || { same 'the second Slurm' '' starts && return; }
     begin controller 3 6
     moment 10 '^start'
     id=$(cat "$run/slurmctld.pid")
@@ -126,55 +131,57 @@ controller() {
     sleep 5
     start_controller
     finish 'with a controller that started again'
-    wait_idle
+    kill -9 "$(cat "$run/slurmctld.pid")"
 }
 
 # prepared COMMAND NAME PATTERN [NAME=VALUE..]: a build with a node on which this ran first.
 prepared() {
-    end_processes 2
-    PREPARE=$1 start_node 2
+    end_processes "$second"
+    PREPARE=$1 start_node "$second"
     wait_idle
     begin "$2" 3 6 "${@:4}"
     finish "with a node with $2" "$3"
-    same "$2: the node's commands" "$(grep -c '^end n2' "$TOOL_LOG")" 0
-    same "$2: messages that name the node" "$(grep -c "left out: n2, .*" "$scratch/stand_in/err" | sed 's/^[1-9][0-9]*$/some/')" some
-    end_processes 2
-    start_node 2
+    same "$2: the node's commands" "$(grep -c "^end n$second" "$TOOL_LOG")" 0
+    same "$2: messages that name the node" "$(grep -c "left out: n$second, .*" "$scratch/stand_in/err" | sed 's/^[1-9][0-9]*$/some/')" some
+    end_processes "$second"
+    start_node "$second"
     wait_idle
 }
 
 no_toolkit() {
-    prepared "mount -t tmpfs none '$tools'" 'no_toolkit' 'step.sh: left out: n2, '
+    prepared "mount -t tmpfs none '$tools'" 'no_toolkit' "step.sh: left out: n$second, "
 }
 
 other_toolkit() {
     cp "$tools/tool.py" "$scratch/other.py" && echo '# of another version' >> "$scratch/other.py"
-    prepared "mount --bind '$scratch/other.py' '$tools/tool.py'" 'other_toolkit' 'step.sh: left out: n2, '
+    prepared "mount --bind '$scratch/other.py' '$tools/tool.py'" 'other_toolkit' "step.sh: left out: n$second, "
 }
 
 full_disk() {
     mkdir "$scratch/disk"
     prepared "mount -t tmpfs -o size=4k none '$scratch/disk' && head -c 8192 /dev/zero 2> /dev/null > '$scratch/disk/full' || :" \
-        'full_disk' 'step.sh: left out: n2, ' TOOL_DISK="$scratch/disk"
+        'full_disk' "step.sh: left out: n$second, " TOOL_DISK="$scratch/disk"
 }
 
 # tries_run_out: no node can run the command. The messages name the nodes.
 tries_run_out() {
     cd "$scratch/stand_in" || return
-    salloc -Q --no-kill -p p2 -N2 -n2 "$examples/slurm/step.sh" "$scratch/nothing" > out 2> err
+    salloc -Q --no-kill -p "$partition" -w "n$first,n$second" -N2 -n2 "$examples/slurm/step.sh" "$scratch/nothing" > out 2> err
     same 'status if no node can' "$?" 127
-    same 'nodes that could not' "$(sed -n 's/^step.sh: nothing failed on//p' err | tr ' ' '\n' | sort | tr '\n' ' ')" ' n1 n2 '
+    same 'nodes that could not' "$(sed -n 's/^step.sh: nothing failed on//p' err | tr ' ' '\n' | sort | tr '\n' ' ')" \
+        "$(printf '%s\n' '' "n$first" "n$second" | sort | tr '\n' ' ')"
     cd "$OLDPWD" || return
 }
 
 # Deaths at moments drawn from SEED: in each of three builds ten of twelve nodes vanish one after the other, with old objects there before.
 drawn_by_lot() {
-    local turn left number
+    local turn all left number
     RANDOM=${SEED:-1}
+    all=$(seq -s ' ' "$first" "$((first + 11))")
     for turn in 1 2 3; do
         for number in $(seq 24); do echo old > "$scratch/stand_in/k$number.lot"; done
-        read -ra left <<< "$(seq -s ' ' "$nodes")"
-        begin lot "$nodes" 24
+        read -ra left <<< "$all"
+        begin lot 12 24
         moment 1 ^start
         while [ "${#left[@]}" -gt 2 ]; do
             sleep "$((RANDOM % 2)).$((RANDOM % 10))"
@@ -183,7 +190,7 @@ drawn_by_lot() {
             left=("${left[@]:0:number}" "${left[@]:number+1}")
         done
         finish "of build $turn with ten deaths drawn by lot"
-        for number in $(seq "$nodes"); do [[ " ${left[*]} " = *" $number "* ]] || start_node "$number"; done
+        for number in $all; do [[ " ${left[*]} " = *" $number "* ]] || start_node "$number"; done
         wait_idle
     done
 }

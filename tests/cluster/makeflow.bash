@@ -1,9 +1,9 @@
-# Builds by examples/makeflow, whose workers share no disk with this machine. Sourced by tests/cluster.sh.
+# Builds by examples/makeflow, whose workers share no disk with this machine. Sourced by tests/cluster.sh. The workers are the lane's nodes.
 
-# start_worker NUMBER: a worker on a node, which sees neither this test's files nor the toolkit.
+# start_worker NODE: a worker, which sees neither this test's files nor the toolkit.
 start_worker() {
     link "$1" up
-    PREPARE="cd / && mount -t tmpfs none '$scratch' && mount -t tmpfs none /tmp && mount -t tmpfs none '$toolkit'" \
+    PREPARE="cd / && mount -t tmpfs none '$top' && mount -t tmpfs none /tmp && mount -t tmpfs none '$toolkit'" \
         on_node "$1" taskset -c "$(($1 % $(nproc)))" work_queue_worker --cores 1 -t 600 -s /tmp "$address" "$port" > "$run/worker.$1" 2>&1 &
 }
 
@@ -12,7 +12,7 @@ begin_makeflow() {
     local number
     calls nvcc "$1" "$2" > by_makeflow
     start_makeflow by_makeflow
-    for number in $(seq "$3"); do start_worker "$number"; done
+    for number in $(seq "$3"); do start_worker "$((first + number - 1))"; done
 }
 
 # start_makeflow LIST
@@ -34,8 +34,8 @@ end_makeflow() {
     same "status $1" $? "$2"
     seconds=$(printf '%s\n' $((($(date +%s%N) - start) / 100000000)) | sed 's/.$/.&/')
     same "files left $1" "$(ls -A "$scratch/tmp")" ''
-    for number in 1 2 3; do end_processes "$number"; done
-    same "workers left $1" "$(pgrep -f "^work_queue_worker.* $address ")" ''
+    for number in 0 1 2; do end_processes "$((first + number))"; done
+    same "workers left $1" "$(pgrep -f "^work_queue_worker.* $address $port")" ''
 }
 
 # commands_back COUNT: waits until so many commands of the build came back from workers.
@@ -47,9 +47,7 @@ commands_back() {
 }
 
 makeflow_sizes() {
-    local size whole
-    timed taskset -c 0 sh by_nvcc
-    whole=$seconds
+    local size
     for size in ${SIZES:-2}; do
         begin_makeflow "makeflow$size" "$compiled" "$size"
         same "commands for workers, $size" "$(grep -o '"local_job": false' "$scratch"/tmp/zigrunk-makeflow.*/rules.json | wc -l)" "$((compiled * 7))"
@@ -66,19 +64,34 @@ makeflow_deaths() {
     for number in $(seq "$compiled"); do echo old > "k$number.deaths"; done
     begin_makeflow deaths "$compiled" 3
     commands_back 4
-    end_processes 2
+    end_processes "$second"
     commands_back 8
-    link 3 down
+    link "$((first + 2))" down
     end_makeflow 'of Makeflow, whose workers die' 0
     same 'objects of Makeflow, whose workers die' "$(objects deaths "$compiled")" ''
-    echo "the same with three workers, of which one is killed and one vanishes: $seconds s"
+    echo "$compiled calls for 3 targets by Makeflow, with three workers of which one is killed and one vanishes: $seconds s"
+}
+
+# The first of two workers vanishes while Makeflow sends it a tool. Each tool that workers run has more than five megabytes.
+makeflow_transfer() {
+    calls nvcc transfer "$compiled" > by_makeflow
+    start_makeflow by_makeflow
+    slow "$first"
+    start_worker "$first"
+    arrived "$first" 5000000
+    link "$first" down
+    start_worker "$second"
+    end_makeflow 'of Makeflow, whose worker vanishes in a transfer' 0
+    fast "$first"
+    same 'objects of Makeflow, whose worker vanishes in a transfer' "$(objects transfer "$compiled")" ''
+    echo "the same with two workers, of which one vanishes while it receives a tool: $seconds s"
 }
 
 makeflow_errors() {
     echo '__global__ void k(float *x) { x[0] = missing; }' > bad.cu
     printf '%s\n' '# no call' 'nvcc -arch=sm_80 -c bad.cu -o bad.o' 'nvcc -arch=sm_80 -MD -MF k1.d -c k1.cu -o k1.makeflow' 'echo out; exit 3' 'cp k1.cu "a b.cu" && echo done' > list
     start_makeflow list
-    start_worker 1
+    start_worker "$first"
     end_makeflow 'of Makeflow with an error' 1
     same 'output of Makeflow with an error' "$(cat out)" $'out\ndone'
     same 'what failed' "$(grep '^build.py' err | tail -n +2)" $'build.py: line 2: nvcc -arch=sm_80 -c bad.cu -o bad.o: failed\nbuild.py: line 4: echo out; exit 3: failed'
@@ -94,17 +107,11 @@ makeflow_errors() {
     same 'processes of Makeflow after TERM' "$(pgrep -fc "$scratch/tmp/zigrunk-makeflow")" 0
 }
 
-by_makeflow() {
+# makeflow_here: whether this machine has Makeflow.
+makeflow_here() {
     for tool in makeflow work_queue_worker; do
-        command -v "$tool" > /dev/null || { skip by_makeflow "$tool is not on the path (package coop-computing-tools)" && return; }
+        command -v "$tool" > /dev/null || { skip makeflow "$tool is not on the path (package coop-computing-tools)" && return 1; }
     done
     # its library for MPI asks for these from root
     export OMPI_ALLOW_RUN_AS_ROOT=1 OMPI_ALLOW_RUN_AS_ROOT_CONFIRM=1
-    toolkit=$(nvcc --dryrun -c k1.cu 2>&1 | sed -n 's/^#\$ _HERE_=//p')
-    toolkit=$(cd "$toolkit/.." && pwd -P)
-    for number in 1 2 3; do end_processes "$number"; done
-    makeflow_sizes
-    makeflow_deaths
-    makeflow_errors
-    for number in 1 2 3; do start_node "$number"; done
 }

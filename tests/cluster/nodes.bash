@@ -7,7 +7,8 @@ net=10.77.$(($$ % 250 + 1)) bridge=zgb$$ address=''
 # start_nodes COUNT: makes the nodes n1, n2 and so on, and a bridge that joins them with this machine, whose address is $address.
 start_nodes() {
     local number
-    address=$net.254
+    address=$net.254 hosts=$scratch/hosts
+    { cat /etc/hosts && seq "$1" | sed "s/.*/$net.& n&/"; } > "$hosts"
     ip link add "$bridge" type bridge && ip addr add "$address/24" dev "$bridge" && ip link set "$bridge" up || return
     for number in $(seq "$1"); do
         ip netns add "zigrunk-$$-$number" && ip link add "zg$$v$number" type veth peer name eth0 netns "zigrunk-$$-$number" &&
@@ -16,15 +17,36 @@ start_nodes() {
     done
 }
 
-# on_node NUMBER COMMAND WORD..: runs a command there, with the node's name as that of the machine and mounts of its own. PREPARE, if set, is
-# a command for a shell that runs first.
+# on_node NUMBER COMMAND WORD..: runs a command there, with the node's name as that of the machine and mounts of its own. It finds all nodes by
+# their names. PREPARE, if set, is a command for a shell that runs first.
 on_node() {
-    nsenter --net="/run/netns/zigrunk-$$-$1" unshare --mount --uts sh -c 'hostname "n$1" && shift && eval "${PREPARE-}" && exec "$@"' sh "$@"
+    nsenter --net="/run/netns/zigrunk-$$-$1" unshare --mount --uts \
+        sh -c 'mount --bind "$1" /etc/hosts && hostname "n$2" && shift 2 && eval "${PREPARE-}" && exec "$@"' sh "$hosts" "$@"
 }
 
 # processes_of NUMBER
 processes_of() {
     ip netns pids "zigrunk-$$-$1" 2> /dev/null
+}
+
+# slow NUMBER: ten megabytes a second reach the node, so that a file takes its time.
+slow() {
+    tc qdisc replace dev "zg$$v$1" root tbf rate 80mbit burst 64kb latency 50ms
+}
+
+# fast NUMBER: no longer slow.
+fast() {
+    tc qdisc del dev "zg$$v$1" root
+}
+
+# arrived NUMBER BYTES: waits until so many bytes more have reached the node.
+arrived() {
+    local file=/sys/class/net/zg$$v$1/statistics/tx_bytes begun
+    begun=$(cat "$file")
+    until [ "$(($(cat "$file") - begun))" -ge "$2" ]; do
+        kill -0 "$job" 2> /dev/null || return
+        sleep 0.02
+    done
 }
 
 # link NUMBER up|down: other machines hear nothing of a node whose link is down, not even that its connections end.

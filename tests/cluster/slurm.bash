@@ -1,4 +1,5 @@
-# Starts and stops a Slurm whose nodes are those of nodes.bash, without systemd. Sourced by tests/cluster.sh, which sets $run and $nodes.
+# Starts and stops a Slurm whose nodes are some of nodes.bash, without systemd. Sourced by tests/cluster.sh, which sets $top and $run, its own
+# directory, and $partitions, the numbers of their nodes. A lane of the test has a partition of its own, $partition, whose first node is $first.
 
 # start_node NUMBER: a slurmd on a core of its own, with the variable that examples/slurm/slurm.conf asks for.
 start_node() {
@@ -12,20 +13,27 @@ start_controller() {
     slurmctld "$@" -f "$SLURM_CONF" && sleep 1 && kill -0 "$(cat "$run/slurmctld.pid")"
 }
 
+start_munge() {
+    mkdir "$munge"
+    chmod 755 "$munge"
+    dd if=/dev/urandom of="$munge/key" bs=1 count=1024 2> /dev/null
+    chmod 400 "$munge/key"
+    munged --force --key-file="$munge/key" --socket="$munge/socket" --pid-file="$munge/pid" --log-file="$munge/log" --seed-file="$munge/seed"
+}
+
+# start_slurm NUMBER: the first one is 0, and each one more has ports of its own.
 start_slurm() {
-    local number port=$((20000 + $$ % 5000 * 2))
-    mkdir -p "$run/munge" "$run/state"
-    chmod 755 "$run" "$run/munge"
-    dd if=/dev/urandom of="$run/munge/key" bs=1 count=1024 2> /dev/null
-    chmod 400 "$run/munge/key"
-    munged --force --key-file="$run/munge/key" --socket="$run/munge/socket" --pid-file="$run/munge.pid" \
-        --log-file="$run/munge/log" --seed-file="$run/munge/seed" || return
+    local number numbers port=$((20000 + $$ % 2500 * 4 + 2 * $1)) munge=$top/munge
+    mkdir -p "$run/state"
+    chmod 755 "$run"
+    [ -e "$munge" ] || start_munge || return
+    numbers=$(for number in $partitions; do seq "${number%-*}" "${number#*-}"; done)
     export SLURM_CONF=$run/slurm.conf
     {
-        grep -v -e '^#' -e '^AuthInfo' -e '^SlurmdTimeout' -e '^$' examples/slurm/slurm.conf
+        grep -v -e '^#' -e '^AuthInfo' -e '^SlurmdTimeout' -e '^$' "$examples/slurm/slurm.conf"
         cat << END
 SlurmdTimeout=${SLURMD_TIMEOUT:-8}
-AuthInfo=socket=$run/munge/socket,cred_expire=15
+AuthInfo=socket=$munge/socket,cred_expire=15
 ClusterName=zigrunk
 SlurmctldHost=$(hostname -s)($address)
 SlurmctldPort=$port
@@ -45,24 +53,25 @@ JobAcctGatherType=jobacct_gather/none
 MpiDefault=none
 SlurmdParameters=config_overrides
 END
-        for number in $(seq "$nodes"); do
+        for number in $numbers; do
             echo "NodeName=n$number NodeAddr=$net.$number CPUs=1 RealMemory=2000 State=UNKNOWN"
         done
-        for number in $(seq "$nodes"); do
-            echo "PartitionName=p$number Nodes=n[1-$number] MaxTime=INFINITE State=UP"
+        for number in $partitions; do
+            echo "PartitionName=from${number%-*} Nodes=n[$number] Default=$([ "${number%-*}" = 1 ] && echo YES || echo NO) MaxTime=INFINITE State=UP"
         done
-        echo "PartitionName=all Nodes=n[1-3] Default=YES MaxTime=INFINITE State=UP"
     } > "$SLURM_CONF"
     start_controller -c || return
-    for number in $(seq "$nodes"); do start_node "$number" || return; done
-    wait_idle
+    for number in $numbers; do start_node "$number" || return; done
+    for number in $partitions; do partition=from${number%-*} wait_idle || return; done
 }
 
-# wait_idle: until all nodes take jobs.
+# wait_idle: until all nodes of the partition take jobs.
 wait_idle() {
-    for _ in $(seq 120); do
-        [ "$(timeout 5 sinfo -h -p "p$nodes" -N -t idle -o %N 2> /dev/null | wc -l)" = "$nodes" ] && return
-        sleep 0.5
+    local all
+    for _ in $(seq 300); do
+        all=$(timeout 5 sinfo -h -p "$partition" -N -o %N 2> /dev/null) && [ -n "$all" ] &&
+            [ "$(timeout 5 sinfo -h -p "$partition" -N -t idle -o %N 2> /dev/null)" = "$all" ] && return
+        sleep 0.2
     done
     timeout 5 sinfo -N
     return 1
@@ -70,7 +79,7 @@ wait_idle() {
 
 stop_slurm() {
     local file
-    for file in "$run/slurmctld.pid" "$run/munge.pid"; do
+    for file in "$run/slurmctld.pid" "$top/munge/pid"; do
         [ ! -s "$file" ] || kill -9 "$(cat "$file")" 2> /dev/null
     done
 }
