@@ -9,8 +9,8 @@
     --scratch FOLDER            make the calls below FOLDER
     --jobs N                    N calls at once, 1 by default
     --json FILE                 write a record of each call
-    --reasons                   print why nvcc itself makes calls that compile, and how many for each reason
-    --least-split N             at least N per cent of the calls that nvcc compiles have to be split
+    --reasons                   print why nvcc itself makes calls that compile, or that the lists say are split, and how many for each reason
+    --least-split N             at least N per cent of the calls that nvcc compiles have to be split, and of those that the lists say are
     --all                       print the calls that pass too
 
 A line of FILE is the words of a call, quoted as for bash; nothing is globbed. Words in front of them may be
@@ -23,6 +23,7 @@ A line of FILE is the words of a call, quoted as for bash; nothing is globbed. W
     @cwd=FOLDER         the folder of the call, below the work folder
     @tmp=FOLDER         TMPDIR, below the work folder; else an empty folder beside it
     @ours=SHELL         run by bash instead of our tool, which is $TOOL; the words are "$@"
+    @targets=given      its targets and C++ standard stay as they are, though an older nvcc may not know them
     @headers=toolkit    the call gets the toolkit's cuda_runtime.h, else a small one
     @how=split          the call is split; @how=nvcc: it goes to nvcc unchanged
     @launched=TEXT      the commands that go through the launcher, as 'cicc:2 ptxas:2'
@@ -38,13 +39,15 @@ nvcc includes cuda_runtime.h in every source, and gcc looks for it first where i
 toolkit's place for both tools, and a call takes a fifth of the processor's time.
 
 The line before the last has two shares: which of all calls were split, and which of those that nvcc compiles, that is those where it ends with 0
-and makes or changes a file. The lists also have calls that print something, as --help and -dryrun do, and calls that nvcc refuses.
+and makes or changes a file. The lists also have calls that print something, as --help and -dryrun do, and calls that nvcc refuses. The line before
+has a third: which of those that the lists say are split, by @how and @launched.
 
 The last line is 'N passed, M failed'. Two tools that always fail alike show nothing. So it is a failure too if no call was made, if
 most fail by both tools, if none compiles anything, or if none is split; with --only, that a call was made is enough.
 
-The lists are for nvcc 13. An older nvcc may lack an option, or run commands in another order than a plan: such a call may go to nvcc for
-one of the reasons in OLDER, whatever its line says of @how and @launched.
+The lists are for nvcc 13. With an older nvcc, both tools get the newest targets and C++ standard that it knows in place of newer ones, and
+the targets themselves for -arch=all and -arch=all-major if it has no such word. It may lack an option, or run commands in another order than a
+plan: then such a call may go to nvcc, whatever its line says of @how and @launched.
 """
 import argparse
 import concurrent.futures
@@ -96,11 +99,13 @@ SOURCES = {
     "value.cu": "__global__ void k(int*p){*p=V;}\n",
 }
 LAUNCHER = '#!/bin/sh\nprintf "%s\\n" "${1##*/}" >> "$COMPARE_LOG"\nexec "$@"\n'
-FIELDS = {"name", "setup", "after", "cwd", "tmp", "ours", "headers", "how", "launched", "differs"}
+FIELDS = {"name", "setup", "after", "cwd", "tmp", "ours", "headers", "targets", "how", "launched", "differs"}
 OLD = 1_600_000_000
 WRITTEN_FOR = "13.0"  # the version of nvcc whose options the lists have
-# why an older nvcc makes a call that nvcc 13 doesn't make
-OLDER = ("a dry run fails", "nvcc reads the line otherwise", "a command fails, and nvcc has them in another order")
+TARGET = re.compile(r"(?<=\bsm_)\d+|(?<=\bcompute_)\d+|(?<=\blto_)\d+")
+# why an older nvcc makes a call that nvcc 13 doesn't make: whatever it does with the call, or if it ends with an error there
+OTHERWISE = "nvcc reads the line otherwise"
+FAILURES = ("a dry run fails", "a command fails, and nvcc has them in another order")
 # A kind, which is in capitals if it is a failure, and a text.
 Difference = tuple[str, str]
 
@@ -115,6 +120,7 @@ class Call:
     tmp: str
     ours: str
     headers: str
+    targets: str
     how: str
     launched: str
     differs: str
@@ -360,9 +366,9 @@ def differences(want: Ran, got: Ran, base: Path) -> list[Difference]:
     return found
 
 
-def claims(call: Call, got: Ran, version: str) -> Iterator[Difference]:
+def claims(call: Call, want: Ran, got: Ran, version: str) -> Iterator[Difference]:
     """What a line says of our call that isn't so."""
-    if float(version) < float(WRITTEN_FOR) and got["reason"] in OLDER:
+    if float(version) < float(WRITTEN_FOR) and (got["reason"] == OTHERWISE or want["status"] != 0 and got["reason"] in FAILURES):
         return
     how = "nvcc" if got["reason"] else "split"
     if call.how and call.how != how:
@@ -389,6 +395,36 @@ def version_of(nvcc: str) -> str:
     return found[1] if found else WRITTEN_FOR
 
 
+def values_of(nvcc: str) -> set[str]:
+    """The values of options that an nvcc lists, as sm_80, all-major and c++17; none if it doesn't say."""
+    said = subprocess.run([nvcc, "--help"], capture_output=True, text=True).stdout
+    return set(re.findall(r"'([\w+-]+)'", said))
+
+
+def suited(line: str, values: set[str]) -> str:
+    """A line for an nvcc with these values: in place of newer targets, the newest that it has and the line doesn't name."""
+    known = sorted(int(value.removeprefix("sm_")) for value in values if re.fullmatch(r"sm_\d+", value))
+    standards = sorted(value for value in values if re.fullmatch(r"c\+\+\d+", value))
+    if not known or not standards or "@targets=given " in line:
+        return line
+    if "all-major" not in values:
+        line = re.sub(r"-arch=(all|all-major)(?![\w-])", lambda found: spelled_out(known, found[1] == "all"), line)
+    named = sorted({int(number) for number in TARGET.findall(line)}, reverse=True)
+    free = [number for number in reversed(known) if number not in named]
+    instead = dict(zip((number for number in named if number > known[-1]), free))
+    line = TARGET.sub(lambda found: str(instead.get(int(found[0]), found[0])), line)
+    line = re.sub(r"\b((?:sm|compute)_\d+)[af]\b", lambda found: found[0] if found[0] in values else found[1], line)
+    return re.sub(r"c\+\+2\d", lambda found: found[0] if found[0] in values else standards[-1], line)
+
+
+def spelled_out(known: list[int], everyone: bool) -> str:
+    """What -arch=all or -arch=all-major means to an nvcc that has the word: code for each target or each major one and the first, and PTX."""
+    major = [number for number in known if number % 10 == 0]
+    targets = known if everyone else sorted({known[0], *major})
+    words = [f"-gencode arch=compute_{number},code=sm_{number}" for number in targets]
+    return " ".join([*words, f"-gencode arch=compute_{major[-1]},code=compute_{major[-1]}"])
+
+
 def compare(call: Call, args: argparse.Namespace) -> Compared:
     """A call by both tools: the records, what differs, and what differs between nvcc and nvcc."""
     base = Path(tempfile.mkdtemp(prefix="compare.", dir=args.scratch))
@@ -401,7 +437,7 @@ def compare(call: Call, args: argparse.Namespace) -> Compared:
         if not loud(found) <= explained(call, args.version):
             noise = differences(want, run(args.nvcc, "noise", call, base, keep), base)
             found = [one for one in found if one not in noise or one[0] == "STATUS"]
-        return call, want, got, found + list(claims(call, got, args.version)), noise
+        return call, want, got, found + list(claims(call, want, got, args.version)), noise
     finally:
         subprocess.run(["chmod", "-R", "u+rwx", str(base)], capture_output=True)
         shutil.rmtree(base, ignore_errors=True)
@@ -443,13 +479,14 @@ def options() -> argparse.Namespace:
 
 def read_calls(args: argparse.Namespace) -> list[Call]:
     lines = [line for name in args.files for line in Path(name).read_text().splitlines()]
-    calls = [Call(line, number) for number, line in enumerate((line for line in lines if line and line[0] != "#"), 1)]
+    values = values_of(args.nvcc)
+    calls = [Call(suited(line, values), number) for number, line in enumerate((line for line in lines if line and line[0] != "#"), 1)]
     return [call for call in calls if args.only in call.line]
 
 
 def longest_first(calls: list[Call]) -> list[Call]:
     """The calls, those for many targets first, so that none of them runs alone at the end."""
-    return sorted(calls, key=lambda call: "-arch=all" not in call.line)
+    return sorted(calls, key=lambda call: "-arch=all" not in call.line and call.line.count("-gencode") < 5)
 
 
 def shows_nothing(calls: int, failing: int, compiling: int, split: int) -> Iterator[str]:
@@ -462,18 +499,63 @@ def shows_nothing(calls: int, failing: int, compiling: int, split: int) -> Itera
         yield "no call is split"
 
 
-def too_few_split(least: int, compiling: int, split: int) -> Iterator[str]:
-    if split * 100 < least * compiling:
-        yield f"{split} of the {compiling} calls that nvcc compiles were split, less than {least} %"
+class Totals:
+    """How many calls there are, of each kind."""
+
+    def __init__(self) -> None:
+        self.calls = self.failing = self.compiling = self.split = self.both = self.listed = self.kept = 0
+        self.reasons = Counter[str]()
+
+    def add(self, call: Call, want: Ran, got: Ran) -> None:
+        """Counts a call."""
+        compiles, split = makes(want), not got["reason"]
+        listed = call.how == "split" or bool(call.launched)
+        self.calls += 1
+        self.failing += want["status"] != 0 and got["status"] != 0
+        self.compiling += compiles
+        self.split += split
+        self.both += compiles and split
+        self.listed += listed
+        self.kept += listed and split
+        if got["reason"] and compiles:
+            self.reasons[f"that nvcc compiles: {got['reason']}"] += 1
+        if got["reason"] and listed:
+            self.reasons[f"that the lists say are split: {why(want, got['reason'])}"] += 1
+
+    def say(self, reasons: bool) -> None:
+        """Prints the reasons, if they are asked for, and the shares."""
+        for reason, number in sorted(self.reasons.items(), key=lambda item: (-item[1], item[0])) if reasons else []:
+            print(f"{number:3} {reason}")
+        if self.listed:
+            print(f"{self.kept} of the {self.listed} calls that the lists say are split: {self.kept * 100 // self.listed} %")
+        print(f"{self.split} of {self.calls} calls were split, {self.both} of the {self.compiling} that nvcc compiles: "
+              f"{self.both * 100 // max(self.compiling, 1)} %")
+
+    def nothing(self, least: int) -> list[str]:
+        """Why so many calls show nothing, though they are alike, or how many too few are split."""
+        found = [*shows_nothing(self.calls, self.failing, self.compiling, self.split)]
+        for what, of, split in (("nvcc compiles", self.compiling, self.both), ("the lists say are split", self.listed, self.kept)):
+            if split * 100 < least * of:
+                found.append(f"{split} of the {of} calls that {what} were split, less than {least} %")
+        return found
+
+
+def makes(want: Ran) -> bool:
+    """Whether nvcc compiles a call."""
+    return want["status"] == 0 and bool(want["made"])
+
+
+def why(want: Ran, reason: str) -> str:
+    """Why nvcc makes a call: if a dry run fails, what nvcc says of the line."""
+    said = re.search(r"^nvcc (?:fatal|error) *:.*", want["err"], re.M)
+    return said[0] if said and reason == "a dry run fails" else reason
 
 
 def main() -> int:
     args = options()
     args.version = version_of(args.nvcc)
     calls = longest_first(read_calls(args))
-    counts, records = Counts(), []
-    failing = compiling = split = both = 0
-    reasons = Counter[str]()
+    counts, records, totals = Counts(), [], Totals()
     with concurrent.futures.ThreadPoolExecutor(args.jobs) as pool:
         for compared in pool.map(lambda one: compare(one, args), calls):
             call, want, got, found, noise = compared
@@ -481,25 +563,16 @@ def main() -> int:
             verdict = "same" if not kinds else "documented" if kinds <= explained(call, args.version) else "DIFFERS"
             counts.passed += verdict != "DIFFERS"
             counts.failed += verdict == "DIFFERS"
-            failing += want["status"] != 0 and got["status"] != 0
-            compiles = want["status"] == 0 and bool(want["made"])
-            compiling += compiles
-            split += not got["reason"]
-            both += compiles and not got["reason"]
-            if compiles and got["reason"]:
-                reasons[got["reason"]] += 1
+            totals.add(call, want, got)
             if args.all or verdict == "DIFFERS":
                 show(verdict, compared)
-            records.append({"line": call.line, "verdict": verdict, "compiles": compiles, "reason": got["reason"], "launched": got["launched"],
-                            "status": [want["status"], got["status"]], "differences": found, "noise": noise,
-                            "seconds": [want["seconds"], got["seconds"]]})
+            records.append({"number": call.number, "line": call.line, "verdict": verdict, "compiles": makes(want), "reason": got["reason"],
+                            "launched": got["launched"], "status": [want["status"], got["status"]], "differences": found, "noise": noise,
+                            "said": (want["out"] + want["err"])[-400:], "seconds": [want["seconds"], got["seconds"]]})
     if args.json:
         Path(args.json).write_text(json.dumps(records, indent=1))
-    for reason, number in reasons.most_common() if args.reasons else []:
-        print(f"{number:3} that nvcc compiles: {reason}")
-    print(f"{split} of {len(calls)} calls were split, {both} of the {compiling} that nvcc compiles: {both * 100 // max(compiling, 1)} %")
-    nothing = [*shows_nothing(len(calls), failing, compiling, split), *too_few_split(args.least_split, compiling, both)]
-    if calls and not args.only and nothing:
+    totals.say(args.reasons)
+    if calls and not args.only and (nothing := totals.nothing(args.least_split)):
         counts.case("", nothing)
     return counts.summary()
 

@@ -3,13 +3,14 @@
 
 Nothing here comes from the crates: shell words are those of Python's shlex, and each rule was written from docs/DEFINITIONS.md. For each
 pair in crates/test_plans/data/dry_runs it compares the plan with the pair's `.plan`, and each command's needs with the case of the pair in
-crates/test_plans/data/nvcc_versions.txt, if it has one.
+crates/test_plans/data/nvcc_versions.txt. It checks the premises of the laws on names, and that of the law on orders that words can show: each
+command that isn't in the last group names all its files, or preprocesses.
 
 It also checks what must hold of needs whatever the rules say, by files alone: if one command writes a file that another reads or
 writes, the later one needs the earlier. And it names a file that a command reads and that neither a command nor the source makes.
 
     tests/read_plans.py            prints a line for each finding, and last 'N passed, M failed'; the status is 1 if one failed
-    tests/read_plans.py --write    writes the .plan of each pair that has none, and prints the cases of all pairs below a version's folder
+    tests/read_plans.py --write    writes the .plan of each pair that has none, and prints the cases of all pairs
 """
 
 import os
@@ -257,12 +258,16 @@ def kept_case(name: str, flag: str) -> str:
 
 
 def cases_of(name: str, flag: str, groups: list[list[Command]]) -> str:
-    """The cases of a pair: the plan's text, the needs, and what the laws on orders and on names ask for."""
+    """The cases of a pair: the plan's text, the needs, and what the laws on orders and on names ask for. Other files than nvcc_versions.txt
+    have the cases of pairs without a folder, but for their needs."""
     both = f"file=dry_runs/{name}.dry1 file=dry_runs/{name}.dry2"
     told = " ; ".join(" ".join(["needs", *map(str, one)]) for one in needs_of(groups)[2])
+    needs = f"needs /w /t {flag or '%e'} {both}\n    {told}\n"
+    if "/" not in name:
+        return needs
     orders = "yes" if keeps_orders(groups) else "no"
     return (f"plan_text /w /t {flag or '%e'} text=dry_runs/{name}.plan {both} => yes\n"
-            f"needs /w /t {flag or '%e'} {both}\n    {told}\n"
+            f"{needs}"
             f"keeps_orders /w /t {flag or '%e'} {both} => {orders}\n"
             f"is_clean file=dry_runs/{name}.dry1 => yes\nis_clean file=dry_runs/{name}.dry2 => yes\n"
             f"is_step_shadow /t {both} => yes\n") + (kept_case(name, flag) if name.endswith("/one_target") else "")
@@ -275,9 +280,11 @@ def findings(name: str, cases: str) -> Iterable[str]:
     with open(f"{RUNS}/{name}.plan", encoding="utf-8") as file:
         if file.read() != text_of(groups, dropped):
             yield "its plan differs"
-    if "/" in name and cases_of(name, flag, groups) not in cases:
+    if cases_of(name, flag, groups) not in cases:
         yield "nvcc_versions.txt lacks its cases, or they differ"
-    yield from unlawful(name) if "/" in name else ()
+    yield from unlawful(name)
+    if not keeps_orders(groups):
+        yield "its plan doesn't keep its orders"
     for path in unmade(touched):
         yield f"nothing makes {path} before a command reads it"
     for later, (reads, writes) in enumerate(touched):
@@ -296,8 +303,7 @@ def write() -> None:
         if not os.path.exists(f"{RUNS}/{name}.plan"):
             with open(f"{RUNS}/{name}.plan", "w", encoding="utf-8") as file:
                 file.write(text_of(groups, dropped))
-        if "/" in name:
-            print(cases_of(name, flag, groups))
+        print(cases_of(name, flag, groups), end="\n" if "/" in name else "")
 
 
 def main() -> int:

@@ -45,14 +45,16 @@ by_module() {
 cat > "$scratch/nvcc" << 'END_OF_NVCC'
 #!/bin/sh
 set -e
-[ "$1" != --version ] || exit 0
+[ "$1" != --version ] || { echo "$RELEASE" && exit 0; }
 cp "$2" "$TMPDIR/it"
 mv "$TMPDIR/it" "$4"
 END_OF_NVCC
 {
-    cat "$scratch/nvcc"
     # shellcheck disable=SC2016 # for sh
-    echo '[ -z "$WORSE" ] || echo more >> "$4"; [ -z "$WHOLE" ] || echo "zigrunk-nvcc: nvcc itself: $WHOLE" >&2'
+    printf '%s\n' '#!/bin/sh' '[ -z "$WHOLE" ] || echo "zigrunk-nvcc: nvcc itself: $WHOLE" >&2'
+    sed 1d "$scratch/nvcc"
+    # shellcheck disable=SC2016 # for sh
+    echo '[ -z "$WORSE" ] || echo more >> "$4"'
 } > "$scratch/ours"
 chmod +x "$scratch/nvcc" "$scratch/ours"
 compile='-c kernel.cu -o k.o'
@@ -64,12 +66,40 @@ compares() {
     env WORSE= WHOLE= PYTHONDONTWRITEBYTECODE=1 tests/compare_calls.py --nvcc "$scratch/nvcc" --ours "$scratch/ours" "${@:1:$# - 3}" "$scratch/calls"
 }
 
+# compares_older OPTIONS.. LINE LINE LINE: the same with a stand-in for an older nvcc.
+compares_older() {
+    RELEASE='release 12.4' compares "$@"
+}
+
 # in_scratch COMMAND..: runs a command of tests/compare_calls.py where a relative scratch folder is.
 in_scratch() {
     local tests=$PWD/tests
     mkdir "$scratch/here" "$scratch/here/room"
     printf '%s\n' "$compile" "$compile" "$compile" > "$scratch/here/calls"
     (cd "$scratch/here" && env WORSE= WHOLE= PYTHONDONTWRITEBYTECODE=1 "$tests/compare_calls.py" --nvcc ../nvcc --ours ../ours --scratch room calls)
+}
+
+# suits VALUES LINE TEXT: a case: what a line becomes for an nvcc that lists these values of its options.
+suits() {
+    ends "$2 for nvcc with $1" 0 "becomes $3" env PYTHONPATH=tests PYTHONDONTWRITEBYTECODE=1 \
+        python3 -c 'import sys; from compare_calls import suited; print("becomes", suited(sys.argv[2], set(sys.argv[1].split())))' "$1" "$2"
+}
+
+# suited_lines: an older nvcc gets targets and a standard that it knows, as many as the line names, unless the line says otherwise.
+suited_lines() {
+    local known='sm_52 sm_60 sm_75 sm_80 compute_80 c++14 c++17' two='-gencode arch=compute_52,code=sm_52 -gencode arch=compute_60,code=sm_60'
+    suits "$known" '-arch=sm_80 -std=c++14 -c' '-arch=sm_80 -std=c++14 -c'
+    suits "$known" '-arch=sm_90 -std c++20' '-arch=sm_80 -std c++17'
+    suits "$known" '-arch=sm_35 -arch=sm_53' '-arch=sm_35 -arch=sm_53'
+    suits "$known" 'compute_80,sm_80 compute_90,sm_90 compute_100,lto_100' 'compute_80,sm_80 compute_60,sm_60 compute_75,lto_75'
+    suits "$known" '-arch=sm_100a' '-arch=sm_80'
+    suits "$known sm_90 sm_90a c++20" '-arch=sm_100a -std=c++20' '-arch=sm_90a -std=c++20'
+    suits "$known all-major" '-arch=all-major -c' '-arch=all-major -c'
+    suits "$known" '-t2 -arch=all-major -c' "-t2 $two -gencode arch=compute_80,code=sm_80 -gencode arch=compute_80,code=compute_80 -c"
+    suits 'sm_70 sm_75 c++17' '-arch=all' \
+        '-gencode arch=compute_70,code=sm_70 -gencode arch=compute_75,code=sm_75 -gencode arch=compute_70,code=compute_70'
+    suits "$known" '@targets=given -arch=sm_90' '@targets=given -arch=sm_90'
+    suits '' '-arch=sm_90' '-arch=sm_90'
 }
 
 # draws OURS STATUS TEXT: a case of tests/random_calls.py: nine calls, with stand-ins that make a file, whatever their words are.
@@ -116,6 +146,7 @@ versions() {
 
 if command -v python3 > /dev/null; then
     random_calls
+    suited_lines
     if command -v objcopy > /dev/null && command -v nm > /dev/null; then
         versions
     else
@@ -127,6 +158,17 @@ if command -v python3 > /dev/null; then
         compares "$compile" "$fail" "$compile"
     ends 'enough calls are split' 0 $'2 of 3 calls were split, 2 of the 3 that nvcc compiles: 66 %\n3 passed, 0 failed' \
         compares --least-split 65 "$compile" "@env=WHOLE=why $compile" "$compile"
+    otherwise="@how=split @env=WHOLE='nvcc reads the line otherwise' $compile"
+    ends 'calls that an older nvcc reads otherwise' 0 \
+        $'1 of the 2 calls that the lists say are split: 50 %\n2 of 3 calls were split, 2 of the 3 that nvcc compiles: 66 %\n3 passed, 0 failed' \
+        compares_older --least-split 50 "@how=split $compile" "$otherwise" "$compile"
+    ends 'too few of the calls are split that the lists say are' 1 \
+        $'1 of the 2 calls that the lists say are split were split, less than 51 %\n3 passed, 1 failed' \
+        compares_older --least-split 51 "@how=split $compile" "$otherwise" "$compile"
+    ends 'a call that is not split, though nvcc could run it' 1 '2 passed, 1 failed' \
+        compares_older "@how=split @env=WHOLE='a dry run fails' $compile" "$compile" "$compile"
+    ends 'a call that an older nvcc refuses' 0 '3 passed, 0 failed' \
+        compares_older "@how=split @env=WHOLE='a dry run fails' $fail" "$compile" "$compile"
     ends 'too few calls are split' 1 $'2 of the 3 calls that nvcc compiles were split, less than 67 %\n3 passed, 1 failed' \
         compares --least-split 67 "$compile" "@env=WHOLE=why $compile" "$compile"
     ends 'a call that differs' 1 '2 passed, 1 failed' compares "$compile" "@env=WORSE=yes $compile" "$compile"

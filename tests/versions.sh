@@ -11,7 +11,8 @@
 #   CUDA_VERSIONS=FOLDER   the toolkits (tests/toolkits.sh), else out/versions. What it lacks is downloaded: up to 3 GB, 1 GB of which stay.
 #   VERSIONS='11.8 ..'     only these
 #   PARTS='calls ..'       only these of calls, hosts, options, needs, isolated, cmake, clang
-#   CALLS='FILE ..'        other lists than tests/calls_quick.txt, calls.txt, calls_words.txt and calls_odd.txt
+#   CALLS='FILE ..'        other lists than tests/calls_quick.txt, calls.txt, calls_words.txt, calls_odd.txt and calls_older.txt
+#   RECORDS=FOLDER         keep a record of the calls with each version there, as VERSION.json
 #   JOBS=N                 so many calls at once, else as many as there are processors
 cd "$(dirname "$0")/.." || exit 1
 . tests/lib.sh
@@ -19,9 +20,9 @@ program=$(realpath -m "${1:-crates/zigrunk/out/zigrunk}")
 mkdir -p "${CUDA_VERSIONS:-out/versions}"
 folder=$(realpath "${CUDA_VERSIONS:-out/versions}")
 read -ra versions <<< "${VERSIONS:-11.2 11.8 12.4}"
-read -ra lists <<< "${CALLS:-tests/calls_quick.txt tests/calls.txt tests/calls_words.txt tests/calls_odd.txt}"
+read -ra lists <<< "${CALLS:-tests/calls_quick.txt tests/calls.txt tests/calls_words.txt tests/calls_odd.txt tests/calls_older.txt}"
 parts=${PARTS:-calls hosts options needs isolated cmake clang}
-# In per cent, of the calls in the lists that nvcc compiles.
+# In per cent, of the calls in the lists that nvcc compiles, and of those that the lists say are split.
 readonly LEAST_SPLIT=65
 require 'other versions of nvcc' "${ZIGRUNK_NINJA:-ninja}" objcopy nm python3
 [ -x "$program" ] || make build >&2 || exit 1
@@ -60,7 +61,7 @@ done
 [ ${#lacking[@]} -eq 0 ] || skip "nvcc ${lacking[*]}" "Debian's archive can't be reached"
 for version in "${ready[@]}"; do
     compare=(tests/compare_calls.py --scratch "$scratch" --jobs "${JOBS:-$(nproc)}")
-    part "$version" calls "${compare[@]}" --reasons --least-split "$LEAST_SPLIT" "${lists[@]}"
+    part "$version" calls "${compare[@]}" --reasons --least-split "$LEAST_SPLIT" ${RECORDS:+--json "$RECORDS/$version.json"} "${lists[@]}"
     part "$version" hosts "${compare[@]}" --only ccbin tests/calls_hosts.txt
     part "$version" options tests/nvcc_readings.py "$program"
     part "$version" needs env TARGETS="$(targets "$version")" tests/needs.sh "$program"
