@@ -159,6 +159,13 @@ lists() {
     same 'status and folder' "$status$(ls -d nvcc)" 1nvcc
     end
 
+    begin 'what runs a command does not come from the environment'
+    write a.cu 'echo a'
+    list='-c a.cu -o a.o'
+    batch slot='exit 9;'
+    same 'status and output' "$status $(cat "$room/out" "$room/err")" '0 a'
+    end
+
     begin 'words of a line'
     write 'a b.cu' ':'
     list=$'# nvcc -c no.cu\n\n   \n-c \'a b.cu\' "-DX=$HOME y" -o a.o # nvcc -c no.cu\n  zigrunk-nvcc -c a\\ b.cu -o b.o\n/opt/nvcc -c "a b.cu" -o c.o\nzigrunk-nvcc /opt/nvcc -c "a b.cu" -o d.o'

@@ -939,6 +939,21 @@ new:     syswrite STDOUT, "\n"; sleep 60;
 a slot is not held
 old:     1 while syswrite STDOUT, "\n" x 4096;
 new:     syswrite STDOUT, "\n";
+a failure has a stamp
+old:     if ($status == 0) {
+new:     if (1) {
+commands read what the call reads
+old:     open STDIN, '<', '/dev/null';
+new: 
+the call has no job of its own
+old: open my $own, '>>', "$call/zigrunk.tmp/job" or return;
+new: open my $own, '<', "$call/zigrunk.tmp/job" or return;
+a pipe that a shell closes early ends the server
+old:     $SIG{PIPE} = sub { } if ($SIG{PIPE} // '') ne 'IGNORE';
+new: 
+commands ignore pipes that are closed
+old:     $SIG{PIPE} = sub { } if ($SIG{PIPE} // '') ne 'IGNORE';
+new:     $SIG{PIPE} = 'IGNORE';
 END
 tries zigrunk-report tests/slots.sh << 'END'
 long lines are whole

@@ -206,8 +206,14 @@ plans() {
         begin "the usage of zigrunk-plan: $words"
         # shellcheck disable=SC2086 # one or several words
         as=$planner script ${words%:*}
-        same 'status and messages' "$status $(cat "$room/out" "$room/err")" \
+        same 'status and messages' "$status$(cat "$room/out") $(cat "$room/err")" \
             "2 zigrunk-plan: ${words##*:}"$'\n''usage: zigrunk-plan json|ninja|dot|shell|compdb|makeflow|text [--] NVCC WORD..'
+        end
+    done
+    for words in -h --help; do
+        begin "zigrunk-plan $words"
+        as=$planner script "$words"
+        same 'status and output' "$status $(cat "$room/out")$(cat "$room/err")" '0 usage: zigrunk-plan json|ninja|dot|shell|compdb|makeflow|text [--] NVCC WORD..'
         end
     done
 }
@@ -607,6 +613,15 @@ END
     script "${plain[@]}" REASON='goes to nvcc: it links' -o 'a b' ''
     by_nvcc 'it links'
     end
+    for words in "-E:its phase isn't split" "--preprocess:its phase isn't split" '-V:it prints something' '--version:it prints something'; do
+        begin "a call with ${words%%:*}, which a cache makes often"
+        script "${plain[@]}" k.cu "${words%%:*}" -o k.ii
+        by_nvcc "${words#*:}"
+        same calls "$(cat "$room/log")" "nvcc [k.cu] [${words%%:*}] [-o] [k.ii]"
+        script "${plain[@]}" ZIGRUNK_PLAN="$room/plan" k.cu "${words%%:*}" -o k.ii
+        same 'the plan of a batch' "$(cat "$room/plan")" $'nvcc\n'"${words#*:}"
+        end
+    done
     begin 'a call that zigrunk leaves to nvcc'
     script "${plain[@]}" REASON='the call links' -o 'a b' ''
     by_nvcc 'zigrunk: the call links'
@@ -779,6 +794,8 @@ END
     begin 'a command that fails without a message'
     script NINJA_DOES=': > "$tmp/zigrunk.0.0.err"; echo 7 > "$tmp/zigrunk.0.0.status"' NINJA_STATUS_IS=1 -c k.cu -o k.o
     same 'status and messages' "$status $(cat "$room/err")" '7 zigrunk-nvcc: a command failed with status 7 and without a message'
+    script NINJA_DOES='echo said > "$tmp/zigrunk.0.0.out"; echo 7 > "$tmp/zigrunk.0.0.status"' NINJA_STATUS_IS=1 -c k.cu -o k.o
+    same 'status, output and messages with an output' "$status $(cat "$room/out")$(cat "$room/err")" '7 said'
     script NINJA_DOES=': > "$tmp/zigrunk.0.0.err"; echo 7 > "$tmp/zigrunk.0.0.status"; mkdir "$tmp/zigrunk.tmp/room"' NINJA_STATUS_IS=1 -c k.cu -o k.o
     holds 'messages without room' "$room/err" "zigrunk-nvcc: a command failed with status 7 and without a message: there is no room in $room/tmp"
     end

@@ -38,6 +38,7 @@ ninja)
         shift
     done
     folder=$1 tmp=$2
+    eval "${DOES-}"
     printf '%s\n' "tmp = $tmp" '# stamps ${tmp}/zigrunk.0.0 ${tmp}/zigrunk.0.1 ${tmp}/zigrunk.0.2 ${tmp}/zigrunk.0.3' '# preprocessor ' \
         "slot = $(printf '%s\n' "$slot" | sed 's/\$/$$/g')" 'builddir = ${tmp}' 'rule run' '  command = ${slot} ${out}' '  rspfile = ${out}.sh' \
         '  rspfile_content = ${line} || { code=$$?; echo $$code > ${out}.status; exit $$code; }'
@@ -177,6 +178,32 @@ alike 'an odd variable' '' "${front} 'A-B=c' $variables $room/bin/tool $behind"
 alike 'no PWD' perl "$front $variables $words $behind" -u PWD
 end
 
+begin 'which commands the launcher runs'
+mkdir "$room/bin"
+for tool in gcc cicc ptxas cudafe++ fatbinary launcher; do
+    printf '%s\n' '#!/bin/sh' 'echo "${0##*/} $*"' > "$room/bin/$tool"
+    chmod +x "$room/bin/$tool"
+done
+
+# launched LIST: prints the commands that the launcher runs, of one of each kind, if the variable is this list.
+launched() {
+    local words
+    for words in "$room/bin/gcc -E k.cu" "$launches $room/bin/cudafe++ k.ii" "$launches $room/bin/cicc -E -c k.ii" "$launches $room/bin/ptxas -c k.ptx" \
+        "$room/bin/fatbinary -c k" "$launches $room/bin/gcc -c k.ii"; do
+        printf '%s' "( cd '$room' && env A=b \${ZIGRUNK_RUNNER-} $words ) && touch '$room/stamp' || { code=\$?; echo \$code > $room/it.status; exit \$code; }" > "$room/it.sh"
+        ZIGRUNK_LAUNCHER="$room/bin/launcher" ZIGRUNK_LAUNCHED=$1 perl "${script%/*}/zigrunk-slot" 0 '' "$room/it" || echo "status $?"
+        sed -n "s,^launcher $room/bin/\([^ ]* -[Ec]\).*,\1,p; s,^launcher $room/bin/\([^ ]*\).*,\1,p" "$room/it.out"
+    done | paste -sd ,
+}
+launches='${ZIGRUNK_LAUNCHER-}'
+same 'as the plan says' "$(launched '')" 'cudafe++,cicc -E,ptxas -c,gcc -c'
+same 'preprocessors too' "$(launched '-E cudafe++  cicc ptxas -c')" 'gcc -E,cudafe++,cicc -E,ptxas -c,gcc -c'
+same 'no host compiler' "$(launched 'cudafe++ cicc ptxas')" 'cudafe++,cicc -E,ptxas -c'
+same 'one of them' "$(launched cicc)" 'cicc -E'
+same 'another one' "$(launched fatbinary)" 'fatbinary -c'
+same 'none' "$(launched none)" ''
+end
+
 begin 'a call alone' 0.4
 graph 1
 begun=$SECONDS
@@ -314,6 +341,52 @@ same commands "$(grep -c '^+' "$LOG")" 8
 at_most 3 3
 same 'tokens' "$(dd bs=9 count=1 iflag=nonblock if="$room/jobs" 2> /dev/null)" +
 exec 5>&-
+end
+
+begin 'a call alone below a make whose jobserver it cannot use' 0.3
+graph 1
+make -j3 > said 2>&1
+at_most 3 3
+end
+
+begin 'the jobs of a make are those of Ninja' 0.3
+graph 1
+ZIGRUNK_SLOTS=0 make -j2 > said 2>&1
+at_most 2 2
+end
+
+begin 'slots that are no number' 0.3
+graph 2
+ZIGRUNK_SLOTS=some make -j2 > said 2>&1
+same 'status' "$?" 0
+at_most 2 2
+end
+
+begin 'jobservers that are not there, and one whose number is that of a lock' 0.2
+graph 2
+mkfifo "$room/jobs" "$room/other"
+exec 5<> "$room/jobs" 6<> "$room/other" 7>&5
+for server in fifo:"$room/missing" 5,6 5,77; do
+    : > "$LOG"
+    MAKEFLAGS=" -j2 --jobserver-auth=$server" ninja -j2 > said 2>&1
+    same "status with $server" "$? $(grep -c '^-' "$LOG")" '0 8'
+    at_most 2 2
+    rm ./*.o
+done
+exec 9>&5
+for server in 9,5 5,9 9,9; do
+    : > "$LOG"
+    MAKEFLAGS=" -j3 --jobserver-auth=$server" "$script" -c 1.cu -o 1.o > said 2>&1
+    same "status with $server" "$? $(grep -c '^-' "$LOG")" '0 4'
+    at_most 3 3
+done
+exec 9>&-
+printf '+' >&5
+: > "$LOG"
+MAKEFLAGS=' -j --jobserver-fds=5,7' ZIGRUNK_SLOTS=0 ninja -j2 > said 2>&1
+same 'status by the name of older makes' "$? $(grep -c '^-' "$LOG")" '0 8'
+at_most 3 3
+exec 5>&- 6>&- 7>&-
 end
 
 begin 'many calls'
@@ -462,6 +535,96 @@ ZIGRUNK_SLOTS=1 "$script" -c 1.cu -o 1.o > said 2>&1
 same 'commands, and processes that serve' "$(grep -c '^[0-9]' said) $(sort -u said | wc -l)" '4 1'
 end
 
+# The process that serves commands, and in the place of Ninja a script of bash, with a call of a few commands.
+
+# serving SCRIPT [LINE]: has it serve this script, started by a shell that has run this line. A command of the call is a script $room/call/NAME.sh.
+# Prints what the script prints, and the server's status if it isn't 0.
+serving() {
+    printf 'build ${tmp}/%s: run\n' "${names[@]}" > "$room/call/zigrunk.tmp/ninja"
+    rm -f "$room"/call/*.answer
+    env --default-signal=PIPE,CHLD timeout 60 bash -c "${2-}"' perl "$1" --serve "$$" 0 "" "$2" bash -c "$3" "$2" <&0 & wait "$!" || echo "status $?"' - \
+        "${script%/*}/zigrunk-slot" "$room/call" "$asks"$'\n'"$1" 2>&1 <<< 'a line for nobody'
+}
+# in that script: NAME asks for a command, and prints its status
+asks='ask() { local code; { printf "%s\n" "$0/$1" >&8 && read -r code; } <> "$0/$1.answer"; echo "$1 ${code-none}"; }'
+
+# commands NAME=LINE..: the commands of the call.
+commands() {
+    local command
+    mkdir -p "$room/call/zigrunk.tmp"
+    names=()
+    for command; do
+        names+=("${command%%=*}")
+        printf '%s\n' "${command#*=}" > "$room/call/${command%%=*}.sh"
+    done
+}
+
+begin 'what a server of commands answers'
+commands zero=: three='exit 3' high='exit 200' killed='kill -TERM $$' wrong='no-such-program' none=: said='echo out; echo err >&2'
+same 'statuses' "$(serving 'for name in zero three high killed wrong; do ask $name; done')" $'zero 0\nthree 3\nhigh 200\nkilled 143\nwrong 127'
+same 'what a command says' "$(serving 'ask said'; cat "$room/call/said.out" "$room/call/said.err")" $'said 0\nout\nerr'
+same "Ninja's status" "$(serving 'ask zero; exit 7'; serving 'exit 200'; serving 'kill -KILL $$')" $'zero 0\nstatus 7\nstatus 200\nstatus 137'
+same 'Ninja fails while a command runs' "$(commands long='sleep 40'; began=$SECONDS; serving 'ask long & sleep 0.3; kill $!; exit 4'; [ $((SECONDS - began)) -lt 20 ] || echo late)" 'status 4'
+end
+
+begin 'what a server of commands is asked in pieces'
+commands one=: two='exit 2' three='exit 3'
+two_at_once='exec 3<> "$0/one.answer" 4<> "$0/two.answer"; printf "%s\n" "$0/one" "$0/two" >&8; read -r code <&3; echo "$code"; read -r code <&4; echo "$code"'
+same 'two at once' "$(serving "$two_at_once")" $'0\n2'
+parts='exec 3<> "$0/three.answer"; printf %s "${0%/*}/" >&8; sleep 0.2; printf %s "call/th" >&8; sleep 0.2; printf "ree\n" >&8; read -r code <&3; echo "$code"'
+same 'one in three parts' "$(serving "$parts")" 3
+half='exec 3<> "$0/one.answer" 4<> "$0/three.answer"; printf "%s\n%s" "$0/one" "$0/th" >&8; read -r code <&3; echo "$code"; printf "ree\n" >&8; read -r code <&4; echo "$code"'
+same 'one and a half' "$(serving "$half")" $'0\n3'
+end
+
+begin 'a server of commands and its signals'
+ignored="sed -n 's/^SigIgn:.*\\(..\\)...\$/\\1/p' /proc/self/status"
+commands ignored="$ignored" one='sleep 0.3' two='sleep 0.3'
+same 'that a command ignores neither PIPE nor CHLD' "$(serving 'ask ignored'; cat "$room/call/ignored.out")" $'ignored 0\n00'
+same 'that Ninja ignores neither' "$(serving "$ignored")" 00
+same 'a pipe that is closed early' "$(serving 'ask one & sleep 0.1; kill -PIPE "$PPID"; ask two; kill -PIPE "$PPID"; wait; ask one' | sort)" $'one 0\none 0\ntwo 0'
+same 'a child of another' "$(serving 'for _ in 1 2 3 4 5; do kill -CHLD "$PPID"; done; ask one')" 'one 0'
+end
+
+begin 'shells that are gone before their answers'
+commands one=: two='sleep 0.3' three='sleep 0.3; exit 3'
+gone='for name in one two three; do (exec 3<> "$0/$name.answer"; printf "%s\n" "$0/$name" >&8); done; sleep 0.6; ask three'
+same 'a later answer' "$(serving "$gone")" 'three 3'
+end
+
+begin 'a server of many commands'
+names=()
+mapfile -t names < <(seq -f c%g 200)
+mkdir -p "$room/call/zigrunk.tmp"
+for name in "${names[@]}"; do echo "exit $((${name#c} % 7))" > "$room/call/$name.sh"; done
+same 'statuses' "$(serving 'for at in $(seq 200); do ask "c$at" & done; wait' | sort -V)" "$(for at in $(seq 200); do echo "c$at $((at % 7))"; done)"
+end
+
+begin 'a server of commands and open files'
+commands one='exit 1' stdin='cat'
+same 'standard input' "$(serving 'ask stdin'; cat "$room/call/stdin.out" 2> /dev/null)" 'stdin 0'
+for count in 0 1 2 3 4 5 6; do
+    opened=$(seq -f 'exec %g< /dev/null;' -s ' ' 3 $((2 + count)))
+    same "$count more" "$(serving 'ask one' "$opened")" 'one 1'
+done
+for limit in 12 11 10 9; do
+    began=$SECONDS
+    (ulimit -n "$limit" && serving 'ask one') > said 2>&1
+    [ $((SECONDS - began)) -lt 20 ] || problems+="  with $limit files it takes twenty seconds"$'\n'
+done
+end
+
+begin 'a command without a pipe for its answer, and what it starts lives on'
+graph 1
+sed -i "1i setsid sh -c 'echo \$\$ > \"$room/lives\"; exec sleep 30' > /dev/null 2>&1 < /dev/null &" command
+DOES='mkdir -p "$tmp/zigrunk.0.0.answer"' "$script" -c 1.cu -o 1.o > said 2>&1 &
+process=$!
+within 15 eval '! kill -0 "$process" 2> /dev/null' || problems+='  the call waits for it'$'\n'
+same 'commands' "$(grep -c '^-' "$LOG")" 4
+kill "$(cat "$room/lives")"
+wait "$process"
+end
+
 begin "a shell of Ninja's is killed" 30
 graph 1
 sed -i "s/^sleep.*/sh -c 'sleep 30; :' \"\$1\"/" command
@@ -527,15 +690,17 @@ if command -v python3 > /dev/null; then
     "${script%/*}/zigrunk-report" "$room/calls.log" > report
     same 'lines that are no entries' "$(tail -n 1 report)" '3 lines are no entries of such a log'
     cat > small.log << 'END'
-{"begin":10.0,"end":14.0,"status":0,"commands":[{"kind":"gcc -E","asked":10.0,"begin":10.5,"end":11.5,"status":0},{"kind":"cicc compute_80","asked":11.0,"begin":12.0,"end":14.0,"status":0}],"words":["nvcc","-c","a.cu"]}
 {"begin":12.0,"end":15.0,"status":2,"commands":[{"kind":"cicc compute_90","asked":12.0,"begin":12.0,"end":15.0,"status":2}],"words":["nvcc","-c","b.cu","-DNAME=a_value_that_goes_on_and_on_until_the_line_is_longer_than_what_the_report_prints_of_it"]}
+{"begin":10.0,"end":14.0,"status":0,"commands":[{"kind":"gcc -E","asked":10.0,"begin":10.5,"end":11.5,"status":0},{"kind":"cicc compute_80","asked":11.0,"begin":12.0,"end":14.0,"status":0}],"words":["nvcc","-c","a.cu"]}
 {"begin":15.0,"end":16.0,"status":0,"reason":"it links","commands":[],"words":["nvcc","a.o"]}
+{"begin":15.0,"end":15.5,"status":0,"reason":"a dry run fails","commands":[],"words":["nvcc","-c","c.cu"]}
 {"hint":"do this"}
 no entry
 END
     "${script%/*}/zigrunk-report" --trace small.trace small.log > report
-    same 'the report of a small log' "$(cat report)" "calls: 3, failed: 1
-split: 2 of 3 (67 %)
+    same 'the report of a small log' "$(cat report)" "calls: 4, failed: 1
+split: 2 of 4 (50 %)
+       1  to nvcc: a dry run fails
        1  to nvcc: it links
   hint: do this
 
@@ -554,7 +719,7 @@ commands that ran at once, on average: 1.0
 
 1 lines are no entries of such a log"
     same 'its trace' "$(python3 -c 'import json; [print(it["name"], it["tid"], it["ts"], it["dur"], it["args"]["status"]) for it in json.load(open("small.trace"))["traceEvents"]]')" \
-        $'gcc -E 0 10500000.0 1000000.0 0\ncicc compute_80 0 12000000.0 2000000.0 0\ncicc compute_90 1 12000000.0 3000000.0 2\nnvcc 0 15000000.0 1000000.0 0'
+        $'gcc -E 0 10500000.0 1000000.0 0\ncicc compute_90 0 12000000.0 3000000.0 2\ncicc compute_80 1 12000000.0 2000000.0 0\nnvcc 0 15000000.0 1000000.0 0\nnvcc 1 15000000.0 500000.0 0'
     "${script%/*}/zigrunk-report" missing > report 2>&1
     same 'no log' "$? $(cat report)" "1 zigrunk-report: [Errno 2] No such file or directory: 'missing'"
 fi

@@ -10,7 +10,12 @@
 //! A key is the command's, by [`zigrunk::command_key`], with the size and the time of the program, and what its input files contain. A host
 //! compiler reads headers, so it preprocesses first, and that text counts. An entry is a folder that has the digest of its key as its
 //! name; it gets that name once it is whole.
+//!
+//! With `ZIGRUNK_LAUNCHED='-E cudafe++ cicc ptxas -c'` it serves preprocessors too. Such an entry notes each file that was read, and each folder
+//! in which another file of that name could be found first, and holds as long as these are as they were. The list of the call's targets is a
+//! macro of each preprocessor; where no file names it, an entry holds for other lists.
 use std::collections::hash_map::RandomState;
+use std::collections::BTreeSet;
 use std::error::Error;
 use std::ffi::{OsStr, OsString};
 use std::fs::{self, File, OpenOptions};
@@ -21,7 +26,7 @@ use std::os::unix::fs::MetadataExt;
 use std::os::unix::process::CommandExt;
 use std::path::{Path, PathBuf};
 use std::process::{Command, Stdio};
-use std::time::SystemTime;
+use std::time::{Duration, SystemTime};
 use std::{env, process};
 
 use zigrunk::{command_key, line_records, variables, CommandTool, KeyCall, LineCall};
@@ -29,8 +34,7 @@ use zigrunk::{command_key, line_records, variables, CommandTool, KeyCall, LineCa
 type Outcome<T> = Result<T, Box<dyn Error>>;
 
 /// Options of a host compiler with which it touches files that its words don't name, or doesn't make one object.
-const UNCACHED: [&str; 14] = [
-    "-E",
+const UNCACHED: [&str; 13] = [
     "-S",
     "-M",
     "-save-temps",
@@ -46,6 +50,22 @@ const UNCACHED: [&str; 14] = [
     "@",
 ];
 
+/// Options of a preprocessor whose output depends on its words, on the files that its line markers name, and on nothing else.
+const PREPROCESSES: [&str; 15] =
+    ["-D", "-U", "-I", "-isystem", "-iquote", "-include", "-x", "-E", "-std=", "-m", "-O", "-g", "-W", "-f", "-pthread"];
+/// Other options that begin like these.
+const PREPROCESSES_OTHERWISE: [&str; 7] = ["-I-", "-Wp,", "-fpch", "-fpreprocessed", "-fdirectives-only", "-fplugin", "-fmodule"];
+/// Those whose value may be a word of its own.
+const WITH_VALUE: [&str; 7] = ["-D", "-U", "-I", "-isystem", "-iquote", "-include", "-x"];
+/// Those that name a folder of headers.
+const FOLDERS: [&str; 3] = ["-I", "-isystem", "-iquote"];
+/// The macro that lists the targets of a call.
+const TARGETS: &str = "__CUDA_ARCH_LIST__";
+/// Variables by which it finds headers or its own parts elsewhere.
+const PLACES: [&str; 5] = ["CPATH", "C_INCLUDE_PATH", "CPLUS_INCLUDE_PATH", "GCC_EXEC_PREFIX", "COMPILER_PATH"];
+/// What has other values at other times.
+const CLOCKS: [&str; 4] = ["__DATE__", "__TIME__", "__TIMESTAMP__", "GCC dependency"];
+
 /// What a cache has to know of a command.
 struct Files {
     tool: CommandTool,
@@ -53,6 +73,8 @@ struct Files {
     inputs: Vec<PathBuf>,
     /// What it writes, and whether it may leave the file out.
     outputs: Vec<(PathBuf, bool)>,
+    /// Whether it preprocesses. Then an entry says what was read.
+    preprocesses: bool,
 }
 
 /// The tool of a program, by its name.
@@ -65,15 +87,36 @@ fn tool_of(program: &str) -> CommandTool {
     }
 }
 
-/// The files of a host compiler's words `.. INPUT -o OUTPUT` with `-c`.
+/// Whether this cache knows what a preprocessor with these options reads.
+fn is_plain_preprocessor(options: &[String]) -> bool {
+    let mut words = options.iter();
+    while let Some(word) = words.next() {
+        let begins = |option: &&str| word.starts_with(*option);
+        if !PREPROCESSES.iter().any(begins) || PREPROCESSES_OTHERWISE.iter().any(begins) {
+            return false;
+        }
+        if WITH_VALUE.contains(&word.as_str()) {
+            words.next();
+        }
+    }
+    true
+}
+
+/// The files of a host compiler's words `.. INPUT -o OUTPUT` with `-c` or `-E`.
 fn host_files(cwd: &Path, words: &[String]) -> Option<Files> {
     let [options @ .., input, flag, output] = words else { return None };
-    let is_plain = |word: &String| !UNCACHED.iter().any(|option| word.starts_with(option));
-    let makes_object = options.iter().any(|word| word == "-c") && flag == "-o" && !input.starts_with('-');
-    (makes_object && options.iter().all(is_plain)).then(|| Files {
+    let has = |option: &str| options.iter().any(|word| word == option);
+    let preprocesses = has("-E");
+    let is_plain = if preprocesses {
+        is_plain_preprocessor(options) && PLACES.iter().all(|name| env::var_os(name).is_none())
+    } else {
+        has("-c") && !options.iter().any(|word| UNCACHED.iter().any(|option| word.starts_with(option)))
+    };
+    (is_plain && flag == "-o" && !input.starts_with('-')).then(|| Files {
         tool: CommandTool::Host,
         inputs: vec![cwd.join(input)],
         outputs: vec![(cwd.join(output), false)],
+        preprocesses,
     })
 }
 
@@ -86,11 +129,15 @@ fn files_of(cwd: &Path, program: &str, words: &[String]) -> Option<Files> {
         tool,
         inputs: [line.input()].into_iter().chain(line.extra_hash_files()).map(|path| cwd.join(path)).collect(),
         outputs: line.outputs().map(|it| (cwd.join(it.path), it.is_optional)).collect(),
+        preprocesses: false,
     })
 }
 
 /// What counts of a command's input: the contents of its files, or the preprocessor's output.
 fn contents(files: &Files, program: &str, words: &[String]) -> Outcome<Vec<Vec<u8>>> {
+    if files.preprocesses {
+        return Ok(Vec::new());
+    }
     if files.tool != CommandTool::Host {
         return Ok(files.inputs.iter().map(fs::read).collect::<Result<_, _>>()?);
     }
@@ -102,8 +149,11 @@ fn contents(files: &Files, program: &str, words: &[String]) -> Outcome<Vec<Vec<u
     Ok(vec![ran.stdout])
 }
 
-/// The directories whose paths don't count, inner ones first.
+/// The directories whose paths don't count, inner ones first. A preprocessor writes paths.
 fn roots(files: &Files) -> Vec<PathBuf> {
+    if files.preprocesses {
+        return Vec::new();
+    }
     let more = env::var_os("CACHE_ROOTS").unwrap_or_default();
     let mut roots: Vec<PathBuf> = env::split_paths(&more).filter(|root| root.is_absolute()).collect();
     roots.extend(files.inputs.first().and_then(|input| input.parent()).map(Path::to_path_buf));
@@ -111,18 +161,193 @@ fn roots(files: &Files) -> Vec<PathBuf> {
     roots
 }
 
-/// The digest of a command's key.
-fn digest(cwd: &Path, files: &Files, program: &str, words: &[String]) -> Outcome<String> {
+/// The digests of a command's keys: one in which the names of its files count, and one in which their places in the line stand for these.
+fn digests(cwd: &Path, files: &Files, program: &str, words: &[String]) -> Outcome<[String; 2]> {
     let tool = fs::metadata(program)?;
-    let mut texts: Vec<OsString> = vec![program.into()];
-    texts.extend(words.iter().map(OsString::from));
-    texts.push(format!("{} {}.{}", tool.size(), tool.mtime(), tool.mtime_nsec()).into());
-    texts.extend(contents(files, program, words)?.into_iter().map(OsString::from_vec));
-    let environment: Vec<(OsString, OsString)> = env::vars_os().chain([("PWD".into(), cwd.into())]).collect();
+    // (where a preprocessor's text goes doesn't change it, and an entry says whether the targets do)
+    let counted = if files.preprocesses { &words[..words.len() - 2] } else { words };
+    let is_list = |word: &&String| files.preprocesses && targets_of(word).is_some();
+    let named: Vec<OsString> = counted.iter().filter(|word| !is_list(word)).map(OsString::from).collect();
+    let mut rest = vec![OsString::from(format!("{} {}.{}", tool.size(), tool.mtime(), tool.mtime_nsec()))];
     let roots = roots(files);
+    // (a long text is a long key; where it has no root, its digest does)
+    let has_root = |text: &str| roots.iter().any(|root| root.to_str().map_or(true, |root| text.contains(root)));
+    rest.extend(contents(files, program, words)?.into_iter().map(|text| match std::str::from_utf8(&text) {
+        Ok(plain) if !has_root(plain) => sha256(&text).into(),
+        _ => OsString::from_vec(text),
+    }));
+    let environment: Vec<(OsString, OsString)> = env::vars_os().chain([("PWD".into(), cwd.into())]).collect();
     let roots: Vec<&Path> = roots.iter().map(PathBuf::as_path).collect();
-    let key = command_key(&KeyCall { tool: files.tool, words: &texts, variables: &variables(&environment), roots: &roots })?;
-    Ok(sha256(&key))
+    let digest = |form: &str, words: Vec<OsString>| {
+        let texts: Vec<OsString> = [form.into(), program.into()].into_iter().chain(words).chain(rest.iter().cloned()).collect();
+        let key = command_key(&KeyCall { tool: files.tool, words: &texts, variables: &variables(&environment), roots: &roots })?;
+        Ok::<_, Box<dyn Error>>(sha256(&key))
+    };
+    let placed = named.iter().map(|word| place_of(cwd, files, word).unwrap_or_else(|| word.clone())).collect();
+    Ok([digest("names", named.clone())?, digest("places", placed)?])
+}
+
+/// What stands for a word that names one of the command's files: an output, or a file whose contents count.
+fn place_of(cwd: &Path, files: &Files, word: &OsStr) -> Option<OsString> {
+    let path = cwd.join(word);
+    let output = files.outputs.iter().position(|it| it.0 == path).map(|number| format!("output {number}"));
+    let input = || files.inputs.iter().position(|it| *it == path).map(|number| format!("input {number}"));
+    (files.tool != CommandTool::Host).then(|| output.or_else(input)).flatten().map(OsString::from)
+}
+
+/// Whether what a command made has the name of one of its files. Then it has other contents under other names.
+fn names_files(files: &Files, ran: &process::Output) -> bool {
+    let paths = || files.outputs.iter().map(|it| &it.0).chain(&files.inputs);
+    let names: Vec<&str> = paths().filter_map(|path| path.file_name()?.to_str()).collect();
+    let is_named = |text: &[u8]| {
+        let text = String::from_utf8_lossy(text);
+        names.iter().any(|name| text.contains(name))
+    };
+    let made = files.outputs.iter().filter_map(|it| fs::read(&it.0).ok());
+    made.chain([ran.stdout.clone(), ran.stderr.clone()]).any(|text| is_named(&text)) || names.len() != paths().count()
+}
+
+/// The list of targets that a word defines.
+fn targets_of(word: &str) -> Option<&str> {
+    word.strip_prefix("-D")?.strip_prefix(TARGETS)?.strip_prefix('=')
+}
+
+/// What tells a file or a folder from what had its path before. Nothing if it changed after a time, or just before: then it may have been read
+/// before that.
+fn stamp(path: &Path, before: Option<SystemTime>) -> Option<String> {
+    let status = fs::metadata(path).ok()?;
+    let changed = Duration::new(u64::try_from(status.ctime()).ok()?, u32::try_from(status.ctime_nsec()).ok()?);
+    let is_old = |time: SystemTime| status.modified().is_ok_and(|it| it < time) && SystemTime::UNIX_EPOCH + changed < time;
+    before.map_or(true, |time| is_old(time - Duration::from_millis(50))).then(|| {
+        let size = if status.is_dir() { 0 } else { status.size() };
+        format!("{size} {}.{} {}.{} {}", status.mtime(), status.mtime_nsec(), status.ctime(), status.ctime_nsec(), status.ino())
+    })
+}
+
+/// The files that a preprocessor's line markers name, or `None` if one has a name that they quote.
+fn named_files(cwd: &Path, text: &[u8]) -> Option<BTreeSet<PathBuf>> {
+    let mut files = BTreeSet::new();
+    for line in text.split(|byte| *byte == b'\n').filter(|line| line.starts_with(b"# ")) {
+        let line = std::str::from_utf8(line).ok()?;
+        let name = line.split_once('"')?.1.rsplit_once('"')?.0;
+        if name.contains(['\\', '"', '\t']) {
+            return None;
+        }
+        if !name.starts_with('<') && !name.ends_with("//") {
+            files.insert(cwd.join(name));
+        }
+    }
+    Some(files)
+}
+
+/// The names that a text asks for by `__has_include`, or `None` if one isn't a plain name.
+fn asked_names(text: &str) -> Option<Vec<PathBuf>> {
+    let mut names = Vec::new();
+    for (at, asks) in text.match_indices("__has_include") {
+        let rest = &text[at + asks.len()..];
+        let rest = rest.strip_prefix("_next").unwrap_or(rest).trim_start_matches([' ', '\t']);
+        let line = text[..at].rsplit('\n').next()?.trim_start();
+        if let Some(argument) = rest.strip_prefix('(') {
+            let argument = argument.trim_start_matches([' ', '\t']);
+            let end = if argument.starts_with('<') { '>' } else { '"' };
+            let (name, _) = argument.strip_prefix(['<', '"'])?.split_once(end)?;
+            names.push(PathBuf::from(name));
+        } else if line.strip_prefix('#').is_some_and(|it| it.trim_start().starts_with("define")) {
+            return None;
+        }
+    }
+    Some(names)
+}
+
+/// The folders that a preprocessor looks into, at least: its own, those of its words and of the files that it read, and the system's.
+fn searched(cwd: &Path, words: &[String], files: &BTreeSet<PathBuf>) -> BTreeSet<PathBuf> {
+    let mut folders: BTreeSet<PathBuf> = files.iter().filter_map(|file| file.parent()).map(Path::to_path_buf).collect();
+    folders.extend([cwd.to_path_buf(), PathBuf::from("/usr/local/include")]);
+    let is_system = |it: &&Path| it.starts_with("/usr/include") || it.starts_with("/usr/lib");
+    folders.extend(files.iter().flat_map(|file| file.ancestors().skip(2)).filter(is_system).map(Path::to_path_buf));
+    for (number, word) in words.iter().enumerate() {
+        let Some(option) = FOLDERS.iter().find(|option| word.starts_with(**option)) else { continue };
+        let value = if word == option { words.get(number + 1).map_or("", String::as_str) } else { &word[option.len()..] };
+        folders.insert(cwd.join(value));
+    }
+    folders
+}
+
+/// The names of a folder that are among these.
+fn names_in(folder: &Path, names: &BTreeSet<OsString>) -> Option<String> {
+    let there = fs::read_dir(folder).ok()?.map(|it| it.map(|it| it.file_name())).collect::<io::Result<BTreeSet<_>>>().ok()?;
+    let found: Option<Vec<&str>> = there.intersection(names).map(|name| name.to_str()).collect();
+    Some(found?.join("/"))
+}
+
+/// What an entry notes of a preprocessor that began at a time and wrote this text: a line for the list of targets if a file names it, one for each
+/// file that was read, one with the names that were looked for, one for each folder where such a name could be, with those that are there, and
+/// one for each such folder that is missing. `None` if the text may depend on something else.
+fn reads(cwd: &Path, words: &[String], text: &[u8], begin: SystemTime) -> Option<String> {
+    let files = named_files(cwd, text)?;
+    let folders = searched(cwd, words, &files);
+    let mut tails = BTreeSet::new();
+    let mut lines = Vec::new();
+    let mut names_targets = false;
+    for file in &files {
+        let text = fs::read(file).ok()?;
+        let text = String::from_utf8_lossy(&text);
+        if CLOCKS.iter().any(|clock| text.contains(clock)) {
+            return None;
+        }
+        names_targets |= text.contains(TARGETS);
+        tails.extend(asked_names(&text)?);
+        tails.extend(
+            file.ancestors().filter(|it| folders.contains(*it)).filter_map(|it| file.strip_prefix(it).ok()).map(PathBuf::from),
+        );
+        lines.push(format!("file\t{}\t{}", stamp(file, Some(begin))?, file.to_str()?));
+    }
+    if names_targets {
+        lines.push(format!("targets\t{}", words.iter().find_map(|word| targets_of(word)).unwrap_or_default()));
+    }
+    let names: BTreeSet<OsString> = tails.iter().flat_map(|tail| tail.iter()).map(OsString::from).collect();
+    lines.push(format!("names\t{}", names.iter().map(|name| name.to_str()).collect::<Option<Vec<_>>>()?.join("/")));
+    let below: BTreeSet<&Path> = tails.iter().flat_map(|tail| tail.ancestors().skip(1)).collect();
+    let places: BTreeSet<PathBuf> = folders.iter().flat_map(|folder| below.iter().map(|it| folder.join(it))).collect();
+    for place in places.iter().filter(|place| place.is_dir()) {
+        let noted = stamp(place, None)?;
+        let there = names_in(place, &names)?;
+        // (a file that is new may have come after the preprocessor had looked)
+        let is_old = |name: &str| name.is_empty() || place.join(name).is_dir() || stamp(&place.join(name), Some(begin)).is_some();
+        if !there.split('/').all(is_old) {
+            return None;
+        }
+        lines.push(format!("folder\t{noted}\t{}\t{there}", place.to_str()?));
+    }
+    lines.extend(
+        folders
+            .iter()
+            .filter(|it| !it.is_dir())
+            .map(|it| it.to_str().map(|it| format!("none\t{it}")))
+            .collect::<Option<Vec<_>>>()?,
+    );
+    let is_plain = |line: &String| !line.contains('\n');
+    lines.iter().all(is_plain).then(|| lines.join("\n"))
+}
+
+/// Whether what an entry notes of a preprocessor still holds, for these words.
+fn still_holds(notes: &str, words: &[String]) -> bool {
+    let targets = words.iter().find_map(|word| targets_of(word)).unwrap_or_default();
+    let mut names = BTreeSet::new();
+    notes.lines().all(|line| match line.split('\t').collect::<Vec<_>>()[..] {
+        ["targets", list] => list == targets,
+        ["file", noted, file] => stamp(Path::new(file), None).is_some_and(|it| it == noted),
+        ["none", folder] => !Path::new(folder).is_dir(),
+        ["names", list] => {
+            names = list.split('/').map(OsString::from).collect();
+            true
+        }
+        ["folder", noted, folder, there] => {
+            let folder = Path::new(folder);
+            stamp(folder, None).is_some_and(|it| it == noted) || names_in(folder, &names).is_some_and(|it| it == there)
+        }
+        _ => false,
+    })
 }
 
 /// A name that no other process has.
@@ -152,13 +377,18 @@ fn take(entry: &Path, files: &Files) -> io::Result<()> {
     io::stderr().write_all(&err)
 }
 
-/// Keeps what a command has made.
-fn keep(entry: &Path, files: &Files, ran: &process::Output) -> io::Result<()> {
+/// Keeps what a command has made, and what an entry notes of it.
+fn keep(entry: &Path, files: &Files, ran: &process::Output, notes: &str) -> io::Result<()> {
     let new = entry.with_file_name(unused());
     fs::create_dir_all(&new)?;
     let fill = || {
         fs::write(new.join("stdout"), &ran.stdout)?;
         fs::write(new.join("stderr"), &ran.stderr)?;
+        if files.preprocesses {
+            fs::write(new.join("notes"), notes)?;
+            // (an entry that no longer holds)
+            let _ = fs::remove_dir_all(entry);
+        }
         for (number, (path, is_optional)) in files.outputs.iter().enumerate() {
             match fs::copy(path, new.join(number.to_string())) {
                 Err(error) if !is_optional || error.kind() != io::ErrorKind::NotFound => return Err(error),
@@ -218,11 +448,12 @@ fn log(what: &str, program: &OsStr) {
 
 /// A command that the cache can serve.
 struct Cached {
+    cwd: PathBuf,
     program: String,
     words: Vec<String>,
     files: Files,
-    /// Where its entry is, if it has one.
-    entry: PathBuf,
+    /// Where its entry is, if it has one: under the names of its files, or under their places.
+    entries: [PathBuf; 2],
     /// How large the entry's folder may be, in bytes.
     limit: u64,
 }
@@ -234,23 +465,41 @@ fn cached(program: &OsStr, words: &[OsString]) -> Option<Cached> {
     let words: Vec<String> = words.iter().map(|word| word.to_str().map(String::from)).collect::<Option<_>>()?;
     let (folder, limit) = settings()?;
     let files = files_of(&cwd, &program, &words)?;
-    let digest = digest(&cwd, &files, &program, &words).ok()?;
-    Some(Cached { entry: folder.join(&digest[..1]).join(&digest), program, words, files, limit: limit / 16 })
+    let entries = digests(&cwd, &files, &program, &words).ok()?.map(|digest| folder.join(&digest[..1]).join(&digest));
+    Some(Cached { entries, cwd, program, words, files, limit: limit / 16 })
+}
+
+/// Whether an entry of a command is there, and holds.
+fn holds(it: &Cached, entry: &Path) -> bool {
+    let notes = || fs::read_to_string(entry.join("notes"));
+    !it.files.preprocesses || notes().is_ok_and(|notes| still_holds(&notes, &it.words))
+}
+
+/// What an entry has to note of a command that ran from a time on, or `None` if it can't be kept.
+fn notes_of(it: &Cached, begin: SystemTime) -> Option<String> {
+    if !it.files.preprocesses {
+        return Some(String::new());
+    }
+    let (output, _) = it.files.outputs.first()?;
+    reads(&it.cwd, &it.words[..it.words.len() - 2], &fs::read(output).ok()?, begin)
 }
 
 /// Takes what a command made before, or runs it and keeps what it makes. Returns its status.
 fn run_cached(it: &Cached) -> io::Result<i32> {
-    if take(&it.entry, &it.files).is_ok() {
+    if it.entries.iter().any(|entry| holds(it, entry) && take(entry, &it.files).is_ok()) {
         log("hit", it.program.as_ref());
         return Ok(0);
     }
     log("miss", it.program.as_ref());
+    let begin = SystemTime::now();
     let ran = Command::new(&it.program).args(&it.words).stdin(Stdio::null()).output()?;
     io::stdout().write_all(&ran.stdout)?;
     io::stderr().write_all(&ran.stderr)?;
-    if ran.status.success() {
+    if let Some(notes) = ran.status.success().then(|| notes_of(it, begin)).flatten() {
         // A cache that can't be written is no reason to fail.
-        let _ = keep(&it.entry, &it.files, &ran).and_then(|()| it.entry.parent().map_or(Ok(()), |folder| trim(folder, it.limit)));
+        let entry = &it.entries[usize::from(it.files.tool != CommandTool::Host && !names_files(&it.files, &ran))];
+        let _ =
+            keep(entry, &it.files, &ran, &notes).and_then(|()| entry.parent().map_or(Ok(()), |folder| trim(folder, it.limit)));
     }
     Ok(ran.status.code().unwrap_or(1))
 }
