@@ -86,7 +86,7 @@ fn told(
 fn outcome_by(
     alloc: Global,
     call: &PlanCall<'_>,
-    form: Form,
+    form: Format,
     host: NvccHostCompiler,
     texts: Texts<'_>,
     tables: &Tables,
