@@ -954,6 +954,12 @@ new:
 commands ignore pipes that are closed
 old:     $SIG{PIPE} = sub { } if ($SIG{PIPE} // '') ne 'IGNORE';
 new:     $SIG{PIPE} = 'IGNORE';
+a command goes on when the process that serves it is killed
+old:             kill 'TERM', -$ended if $running{$ended} && $? & 127;
+new: 
+nobody answers for a process that was killed
+old:             answer(delete $running{$ended}, 1) if $running{$ended};
+new:             delete $running{$ended};
 END
 tries zigrunk-report tests/slots.sh << 'END'
 long lines are whole
