@@ -1,11 +1,7 @@
 -- The entries of a map by names, seen as texts.
-use Rattle.std.proofs.Common.{◌≡◌, ℕ, zero, suc, ◌+◌, ◌<◌, List, [], ◌∷◌, true, false, cond, not, nat_lt, map, length, refl, sym, ap, ◌∙◌, arith, Option, Some, None, String, Global, string_bytes}
-use Rattle.std.specs.Prelude.{slice_get, position}
+use Rattle.std.proofs.Common.{◌≡◌, ℕ, suc, ◌+◌, ◌<◌, List, [], ◌∷◌, true, false, cond, not, nat_lt, map, length, refl, sym, ap, ◌∙◌, arith, Option, Some, None, String, Global, string_bytes, position, bytes_eq, string_eq}
 use Rattle.std.specs.List.{position_or_len}
 use Rattle.std.specs.Map.{lookup, keys_of}
-use Rattle.std.specs.Option.{option_map}
-use Rattle.std.specs.Str.{bytes_eq}
-use Rattle.std.specs.String.{string_eq}
 use Rattle.std.proofs.lemmas.Bool.{ltb-true, lt-ltb, false≢true}
 use Rattle.indexmap.specs.IndexMap.{insert_entry}
 use Rattle.command_groups.specs.declared.openings.Opening.{Opening}
@@ -36,8 +32,7 @@ further_on p l s =
     elim (nat_lt p l) as (λ b. nat_lt p l ≡ b → numbered (cond (nat_lt (1 + p) (suc l)) (Some (1 + p)) None) s ≡ further (numbered (cond b (Some p) None) s)) [
       | true ↦ λ e. let h : p < l = ltb-true p l e in ap (λ b. numbered (cond b (Some (1 + p)) None) s) (lt-ltb (1 + p) (suc l) (omega arith)) ∙ shifted s
       | false ↦ λ e. ap (λ b. numbered (cond b (Some (1 + p)) None) s) (past e)
-    ]
-    refl
+    ] refl
   where
     shifted : (s : Option ℕ) → numbered (Some (1 + p)) s ≡ further (numbered (Some p) s)
     shifted None = refl
@@ -51,8 +46,7 @@ further_on p l s =
         elim (nat_lt (1 + p) (suc l)) as (λ b. nat_lt (1 + p) (suc l) ≡ b → b ≡ false) [
           | true ↦ λ f. let h : 1 + p < suc l = ltb-true (1 + p) (suc l) f in absurd (false≢true (sym e ∙ lt-ltb p l (omega arith)))
           | false ↦ λ f. refl
-        ]
-        refl
+        ] refl
 
 pub opening_seen : (es : List (String Global × ℕ)) (name : List ℕ) →
     opening_of (map entry_seen es) name ≡ numbered (position (λ k. bytes_eq name (string_bytes k)) (keys_of es)) (lookup (λ k. bytes_eq name (string_bytes k)) es)
@@ -67,8 +61,3 @@ opening_seen (e ∷ es) name =
           ap further (opening_seen es name)
           ∙ sym (further_on (position_or_len (λ k. bytes_eq name (string_bytes k)) (keys_of es)) (length (keys_of es)) (lookup (λ k. bytes_eq name (string_bytes k)) es))
     ]
-
-pub entry_got : (es : List (String Global × ℕ)) (i : ℕ) → slice_get (map entry_seen es) i ≡ option_map entry_seen (slice_get es i)
-entry_got [] i = refl
-entry_got (e ∷ es) zero = refl
-entry_got (e ∷ es) (suc i) = entry_got es i

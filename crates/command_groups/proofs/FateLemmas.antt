@@ -1,15 +1,13 @@
 -- Fates: each command has one, and device groups begin with their steps.
-use Rattle.std.proofs.Common.{◌≡◌, ℕ, ◌+◌, suc, List, [], ◌∷◌, ◌++◌, Bool, true, false, cond, ◌||◌, Option, Some, None, map, length, refl, sym, ap, subst, ◌∙◌, arith}
+use Rattle.std.proofs.Common.{◌≡◌, ℕ, ◌+◌, suc, List, [], ◌∷◌, ◌++◌, Bool, true, false, cond, ◌||◌, Option, Some, None, map, length, refl, sym, ap, subst, ◌∙◌, arith, IsPermutation, bytes_eq, append-nil}
 use Rattle.std.specs.List.{list_any, fold, find, flat_map}
-use Rattle.std.specs.Prelude.{IsPermutation}
-use Rattle.std.specs.Str.{bytes_eq}
-use Rattle.std.proofs.lemmas.Bool.{false≢true}
+use Rattle.std.proofs.lemmas.Bool.{false≢true, or_from, or_left, or_right, or_parts}
 use Rattle.std.proofs.lemmas.Slice.Eq.{bytes_eq-Decides}
 use Rattle.std.proofs.lemmas.List.Sorted.{IsPermutation-refl, IsPermutation-sym, IsPermutation-trans, IsPermutation-cons, IsPermutation-map, IsPermutation-middle, IsPermutation-append_left, IsPermutation-append_right}
+use Rattle.std.proofs.lemmas.List.Folds.{list_any-append}
 use Rattle.plans.specs.declared.plan.Reason.{Reason}
 use Rattle.plans.specs.declared.plan.Reason.TheVariants.{NoCiccGroup, NoPtxasGroup, Superseded}
-use Rattle.texts.specs.Lists.{is_some_and}
-use Rattle.texts.specs.Lists.{with_name}
+use Rattle.texts.specs.Lists.{is_some_and, with_name}
 use Rattle.command_groups.specs.Stage.{Stage, linking, splitting, device_compiling, assembling, preprocessing, host_compiling, foreign, StagedCommand, opens}
 use Rattle.command_groups.specs.Fate.{Fate, front, device, final, ungrouped, PlacedCommand, is_device, opens_name, opened_names, device_or, is_made, place_of, placed_after, places, fate_of, with_fates, fates}
 use Rattle.command_groups.specs.Plan.{is_front, is_final, of_fate, group_of}
@@ -17,39 +15,13 @@ use Rattle.command_groups.specs.FateLaws.{is_ungrouped, regrouped, EachHasOneFat
 
 -- Tests.
 
-pub both_false : (a b : Bool) → a ≡ false → b ≡ false → (a || b) ≡ false
-both_false true b e f = e
-both_false false b e f = f
-
-pub first_false : (a b : Bool) → (a || b) ≡ false → a ≡ false
-first_false true b e = e
-first_false false b e = refl
-
-pub second_false : (a b : Bool) → (a || b) ≡ false → b ≡ false
-second_false true b e = absurd (false≢true (sym e))
-second_false false b e = e
-
-pub first_true : (a b : Bool) → a ≡ true → (a || b) ≡ true
-first_true true b e = refl
-first_true false b e = absurd (false≢true e)
-
-pub second_true : (a b : Bool) → b ≡ true → (a || b) ≡ true
-second_true true b e = refl
-second_true false b e = e
-
 pub true_before_false : (a b : Bool) → (a || b) ≡ true → b ≡ false → a ≡ true
 true_before_false true b e f = refl
 true_before_false false b e f = absurd (false≢true (sym f ∙ e))
 
-one_of : {P : Type 0} (a b : Bool) → (a ≡ true → P) → (b ≡ true → P) → (a || b) ≡ true → P
+pub one_of : {P : Type 0} (a b : Bool) → (a ≡ true → P) → (b ≡ true → P) → (a || b) ≡ true → P
 one_of true b f g e = f refl
 one_of false b f g e = g e
-
-pub any_append : {X : Type 0} (test : X → Bool) (xs ys : List X) → list_any test (xs ++ ys) ≡ (list_any test xs || list_any test ys)
-any_append test [] ys = refl
-any_append test (x ∷ xs) ys =
-    let ih : list_any test (xs ++ ys) ≡ (list_any test xs || list_any test ys) = any_append test xs ys in
-    elim (test x) as (λ b. (b || list_any test (xs ++ ys)) ≡ ((b || list_any test xs) || list_any test ys)) [ true ↦ refl | false ↦ ih ]
 
 pub same_text : (a b : List ℕ) → bytes_eq a b ≡ true → a ≡ b
 same_text a b e = (bytes_eq-Decides a b).0 e
@@ -77,16 +49,15 @@ Distinct (n ∷ ns) = (list_any (bytes_eq n) ns ≡ false) × Distinct ns
 distinct_push : (names : List (List ℕ)) (x : List ℕ) → Distinct names → list_any (bytes_eq x) names ≡ false → Distinct (names ++ x ∷ [])
 distinct_push [] x d e = (refl, tt)
 distinct_push (n ∷ ns) x d e = (
-  any_append (bytes_eq n) ns (x ∷ []) ∙ both_false (list_any (bytes_eq n) ns) (bytes_eq n x || false) d.0 (both_false (bytes_eq n x) false (flipped n x ∙ first_false (bytes_eq x n) (list_any (bytes_eq x) ns) e) refl),
-  distinct_push ns x d.1 (second_false (bytes_eq x n) (list_any (bytes_eq x) ns) e),
+  list_any-append (bytes_eq n) ns (x ∷ []) ∙ or_from (list_any (bytes_eq n) ns) (bytes_eq n x || false) d.0 (or_from (bytes_eq n x) false (flipped n x ∙ (or_parts (bytes_eq x n) (list_any (bytes_eq x) ns) e).0) refl),
+  distinct_push ns x d.1 (or_parts (bytes_eq x n) (list_any (bytes_eq x) ns) e).1,
 )
 
 pub distinct_with : (names : List (List ℕ)) (name : Option (List ℕ)) → Distinct names → Distinct (with_name names name)
 distinct_with names None d = d
 distinct_with names (Some x) d =
     elim (list_any (bytes_eq x) names) as (λ b. list_any (bytes_eq x) names ≡ b → Distinct (cond b names (names ++ x ∷ [])))
-    [ true ↦ λ e. d | false ↦ λ e. distinct_push names x d e ]
-    refl
+    [ true ↦ λ e. d | false ↦ λ e. distinct_push names x d e ] refl
 
 -- the names after these, once some commands opened theirs
 abbrev pub names_after : List (List ℕ) → List StagedCommand → List (List ℕ)
@@ -100,10 +71,8 @@ distinct_after names (c ∷ cs) d = distinct_after (with_name names (opens c.sta
 
 -- a place that is a device group has one of these names
 abbrev Named : List (List ℕ) → Fate → Type 0
-Named names front = Unit {0}
 Named names (device name) = list_any (bytes_eq name) names ≡ true
-Named names final = Unit {0}
-Named names (ungrouped reason) = Unit {0}
+Named names _ = Unit {0}
 
 abbrev AllNamed : List (List ℕ) → List PlacedCommand → Type 0
 AllNamed names [] = Unit {0}
@@ -113,13 +82,11 @@ pub known_with : (names : List (List ℕ)) (name : Option (List ℕ)) (m : List 
 known_with names None m e = e
 known_with names (Some x) m e =
     elim (list_any (bytes_eq x) names) as (λ b. list_any (bytes_eq m) (cond b names (names ++ x ∷ [])) ≡ true)
-    [ true ↦ e | false ↦ any_append (bytes_eq m) names (x ∷ []) ∙ first_true (list_any (bytes_eq m) names) (bytes_eq m x || false) e ]
+    [ true ↦ e | false ↦ list_any-append (bytes_eq m) names (x ∷ []) ∙ or_left (list_any (bytes_eq m) names) (bytes_eq m x || false) e ]
 
 named_with : (names : List (List ℕ)) (name : Option (List ℕ)) (place : Fate) → Named names place → Named (with_name names name) place
-named_with names name front h = tt
 named_with names name (device m) h = known_with names name m h
-named_with names name final h = tt
-named_with names name (ungrouped reason) h = tt
+named_with names name _ h = tt
 
 all_named_with : (names : List (List ℕ)) (name : Option (List ℕ)) (ps : List PlacedCommand) → AllNamed names ps → AllNamed (with_name names name) ps
 all_named_with names name [] h = tt
@@ -133,22 +100,19 @@ pub new_name_known : (names : List (List ℕ)) (x : List ℕ) → list_any (byte
 new_name_known names x =
     elim (list_any (bytes_eq x) names) as (λ b. list_any (bytes_eq x) names ≡ b → list_any (bytes_eq x) (cond b names (names ++ x ∷ [])) ≡ true) [
       | true ↦ λ e. e
-      | false ↦ λ e. any_append (bytes_eq x) names (x ∷ []) ∙ second_true (list_any (bytes_eq x) names) (bytes_eq x x || false) (first_true (bytes_eq x x) false (equal_texts x x refl))
-    ]
-    refl
+      | false ↦ λ e. list_any-append (bytes_eq x) names (x ∷ []) ∙ or_right (list_any (bytes_eq x) names) (bytes_eq x x || false) (or_left (bytes_eq x x) false (equal_texts x x refl))
+    ] refl
 
 named_cons : (n : List ℕ) (names : List (List ℕ)) (place : Fate) → Named names place → Named (n ∷ names) place
-named_cons n names front h = tt
-named_cons n names (device m) h = second_true (bytes_eq m n) (list_any (bytes_eq m) names) h
-named_cons n names final h = tt
-named_cons n names (ungrouped reason) h = tt
+named_cons n names (device m) h = or_right (bytes_eq m n) (list_any (bytes_eq m) names) h
+named_cons n names _ h = tt
 
 found_named : (reason : Reason) (test : List ℕ → Bool) (names : List (List ℕ)) → Named names (device_or reason (find test names))
 found_named reason test [] = tt
 found_named reason test (n ∷ ns) =
     let ih : Named ns (device_or reason (find test ns)) = found_named reason test ns in
     elim (test n) as (λ b. Named (n ∷ ns) (device_or reason (cond b (Some n) (find test ns))))
-    [ true ↦ first_true (bytes_eq n n) (list_any (bytes_eq n) ns) (equal_texts n n refl) | false ↦ named_cons n ns (device_or reason (find test ns)) ih ]
+    [ true ↦ or_left (bytes_eq n n) (list_any (bytes_eq n) ns) (equal_texts n n refl) | false ↦ named_cons n ns (device_or reason (find test ns)) ih ]
 
 place_named : (names : List (List ℕ)) (before : List PlacedCommand) (stage : Stage) → Named (with_name names (opens stage)) (place_of names before stage)
 place_named names before linking = tt
@@ -170,10 +134,8 @@ placed_named names before (c ∷ cs) h =
     (all_named_push (with_name names (opens c.stage)) before p (all_named_with names (opens c.stage) before h) (place_named names before c.stage))
 
 fate_named : (names : List (List ℕ)) (after : List PlacedCommand) (place : Fate) → Named names place → Named names (fate_of after place)
-fate_named names after front h = tt
 fate_named names after (device m) h = elim (list_any (opens_name m) after) as (λ b. Named names (cond b (ungrouped Superseded) (device m))) [ true ↦ tt | false ↦ h ]
-fate_named names after final h = tt
-fate_named names after (ungrouped reason) h = tt
+fate_named names after _ h = tt
 
 fates_named : (names : List (List ℕ)) (ps : List PlacedCommand) → AllNamed names ps → AllNamed names (with_fates ps)
 fates_named names [] h = tt
@@ -181,16 +143,12 @@ fates_named names (p ∷ ps) h = (fate_named names ps p.fate h.0, fates_named na
 
 -- The commands themselves stay as they are.
 
-nil_right : {X : Type 0} (xs : List X) → xs ≡ xs ++ []
-nil_right [] = refl
-nil_right (x ∷ xs) = λ i. x ∷ nil_right xs i
-
 push_staged : (before : List PlacedCommand) (p : PlacedCommand) (cs : List StagedCommand) → (map (λ q. q.staged) (before ++ p ∷ []) ++ cs) ≡ (map (λ q. q.staged) before ++ p.staged ∷ cs)
 push_staged [] p cs = refl
 push_staged (q ∷ qs) p cs = λ i. q.staged ∷ push_staged qs p cs i
 
 pub placed_staged : (names : List (List ℕ)) (before : List PlacedCommand) (commands : List StagedCommand) → map (λ q. q.staged) (placed_after names before commands) ≡ (map (λ q. q.staged) before ++ commands)
-placed_staged names before [] = nil_right (map (λ q. q.staged) before)
+placed_staged names before [] = sym (append-nil (map (λ q. q.staged) before))
 placed_staged names before (c ∷ cs) =
     let p : PlacedCommand = record { staged = c; fate = place_of names before c.stage } in
     placed_staged (with_name names (opens c.stage)) (before ++ p ∷ []) cs ∙ push_staged before p cs
@@ -216,7 +174,7 @@ module _ (F : List ℕ → List PlacedCommand) (p : PlacedCommand) (m : List ℕ
 
   not_joined : (names : List (List ℕ)) → list_any (bytes_eq m) names ≡ false → flat_map joined_by names ≡ flat_map F names
   not_joined [] e = refl
-  not_joined (n ∷ ns) e = λ i. cond (first_false (bytes_eq m n) (list_any (bytes_eq m) ns) e i) (p ∷ F n) (F n) ++ not_joined ns (second_false (bytes_eq m n) (list_any (bytes_eq m) ns) e) i
+  not_joined (n ∷ ns) e = λ i. cond ((or_parts (bytes_eq m n) (list_any (bytes_eq m) ns) e).0 i) (p ∷ F n) (F n) ++ not_joined ns (or_parts (bytes_eq m n) (list_any (bytes_eq m) ns) e).1 i
 
   joins_one : (names : List (List ℕ)) → Distinct names → list_any (bytes_eq m) names ≡ true → IsPermutation (p ∷ flat_map F names) (flat_map joined_by names)
   joins_one [] d e = absurd (false≢true e)
@@ -309,15 +267,15 @@ all_home name names before (c ∷ cs) h =
 
 -- a name that is known after a step was known before it, or the step opens it
 known_or_opened : (names : List (List ℕ)) (opened : Option (List ℕ)) (name : List ℕ) (b : Bool) → (list_any (bytes_eq name) names ≡ true → b ≡ true) → list_any (bytes_eq name) (with_name names opened) ≡ true → (b || (is_some_and (λ o. bytes_eq o name) opened || false)) ≡ true
-known_or_opened names None name b f e = first_true b (false || false) (f e)
+known_or_opened names None name b f e = or_left b (false || false) (f e)
 known_or_opened names (Some x) name b f e =
     (elim (list_any (bytes_eq x) names) as (λ r. list_any (bytes_eq name) (cond r names (names ++ x ∷ [])) ≡ true → (b || (bytes_eq x name || false)) ≡ true) [
-      | true ↦ λ k. first_true b (bytes_eq x name || false) (f k)
+      | true ↦ λ k. or_left b (bytes_eq x name || false) (f k)
       | false ↦ λ k.
           one_of (list_any (bytes_eq name) names) (bytes_eq name x || false)
-          (λ g. first_true b (bytes_eq x name || false) (f g))
-          (λ g. second_true b (bytes_eq x name || false) (ap (λ r. r || false) (flipped x name) ∙ g))
-          (sym (any_append (bytes_eq name) names (x ∷ [])) ∙ k)
+          (λ g. or_left b (bytes_eq x name || false) (f g))
+          (λ g. or_right b (bytes_eq x name || false) (ap (λ r. r || false) (flipped x name) ∙ g))
+          (sym (list_any-append (bytes_eq name) names (x ∷ [])) ∙ k)
     ]) e
 
 names_are_opened : (name : List ℕ) (names : List (List ℕ)) (before : List PlacedCommand) (commands : List StagedCommand) → (list_any (bytes_eq name) names ≡ true → list_any (opens_name name) before ≡ true) → list_any (bytes_eq name) (names_after names commands) ≡ true → list_any (opens_name name) (placed_after names before commands) ≡ true
@@ -325,7 +283,7 @@ names_are_opened name names before [] f e = f e
 names_are_opened name names before (c ∷ cs) f e =
     let p : PlacedCommand = record { staged = c; fate = place_of names before c.stage } in
     names_are_opened name (with_name names (opens c.stage)) (before ++ p ∷ []) cs
-    (λ k. any_append (opens_name name) before (p ∷ []) ∙ known_or_opened names (opens c.stage) name (list_any (opens_name name) before) f k) e
+    (λ k. list_any-append (opens_name name) before (p ∷ []) ∙ known_or_opened names (opens c.stage) name (list_any (opens_name name) before) f k) e
 
 opened_by_fates : (name : List ℕ) (ps : List PlacedCommand) → list_any (opens_name name) (with_fates ps) ≡ list_any (opens_name name) ps
 opened_by_fates name [] = refl
@@ -339,10 +297,8 @@ lost name after (device m) e =
       | true ↦ λ f. refl
       | false ↦ λ f.
           elim (bytes_eq m name) as (λ r. bytes_eq m name ≡ r → r ≡ false)
-          [ true ↦ λ g. absurd (false≢true (sym f ∙ (ap (λ k. list_any (opens_name k) after) (same_text m name g) ∙ e))) | false ↦ λ g. refl ]
-          refl
-    ]
-    refl
+          [ true ↦ λ g. absurd (false≢true (sym f ∙ (ap (λ k. list_any (opens_name k) after) (same_text m name g) ∙ e))) | false ↦ λ g. refl ] refl
+    ] refl
 lost name after final e = refl
 lost name after (ungrouped reason) e = refl
 

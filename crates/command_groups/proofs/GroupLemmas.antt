@@ -1,14 +1,12 @@
 -- The plan that labels are cut into is the plan of the fates, and so are its origins.
-use Rattle.std.proofs.Common.{◌≡◌, ℕ, Bool, suc, zero, List, [], ◌∷◌, ◌++◌, true, false, cond, map, length, refl, sym, ap, ◌∙◌, arith, append_assoc, append-nil, Option, Some, None, Result, Ok, Err}
-use Rattle.std.specs.Prelude.{◌==◌, slice_get, fold, replicate, filter_map, if◌then◌else◌}
+use Rattle.std.proofs.Common.{◌≡◌, ℕ, Bool, suc, zero, List, [], ◌∷◌, ◌++◌, true, false, cond, map, length, refl, sym, ap, ◌∙◌, arith, append_assoc, append-nil, Option, Some, None, Result, Ok, Err, ◌==◌, slice_get, fold, replicate, filter_map, if◌then◌else◌, bytes_eq}
 use Rattle.std.specs.List.{list_any, flat_map}
-use Rattle.std.specs.Str.{bytes_eq}
-use Rattle.std.proofs.lemmas.Bool.{false≢true}
+use Rattle.std.proofs.lemmas.Bool.{false≢true, or_parts}
 use Rattle.std.proofs.lemmas.List.{length-replicate}
 use Rattle.texts.specs.Lists.{is_some_and}
 use Rattle.command_groups.specs.declared.openings.Opening.{Opening}
 use Rattle.command_groups.specs.declared.labels.Label.{Label}
-use Rattle.command_groups.specs.declared.labels.Label.TheVariants.{Front, Device, Final, Ungrouped}
+use Rattle.command_groups.specs.declared.labels.Label.TheVariants.{Device, Final}
 use Rattle.plans.specs.declared.origins.Origin.{Origin}
 use Rattle.plans.specs.declared.plan.Dropped.{Dropped}
 use Rattle.plans.specs.declared.plan.Reason.{Reason}
@@ -20,7 +18,7 @@ use Rattle.command_groups.specs.Openings.{Opened, names_of}
 use Rattle.command_groups.specs.Labels.{Labelled, GroupingState, grouped}
 use Rattle.command_groups.specs.Groups.{fate_at, fate_by, settled, dropped_for, group_of_label, put_at, with_grouped, with_dropped, no_groups, CutState, nothing_cut, with_labelled, planned_of_cut, plan_by_labels}
 use Rattle.command_groups.specs.Origins.{origin_of, origins_by, origins_of_placed, origins_of_staged}
-use Rattle.command_groups.proofs.FateLemmas.{Distinct, first_false, second_false, same_text, equal_texts}
+use Rattle.command_groups.proofs.FateLemmas.{Distinct, same_text, equal_texts}
 use Rattle.command_groups.proofs.LabelLemmas.{labels_are_fates, names_are_opened, names_are_distinct, stands}
 
 -- Lists of lists.
@@ -70,7 +68,7 @@ module _ {X : Type 0} (x : X) (g : List ℕ → List X) where
 
   not_joined : (name : List ℕ) (names : List (List ℕ)) → list_any (bytes_eq name) names ≡ false → map (joined_by name) names ≡ map g names
   not_joined name [] e = refl
-  not_joined name (n ∷ ns) e = λ i. cond (first_false (bytes_eq name n) (list_any (bytes_eq name) ns) e i) (x ∷ g n) (g n) ∷ not_joined name ns (second_false (bytes_eq name n) (list_any (bytes_eq name) ns) e) i
+  not_joined name (n ∷ ns) e = λ i. cond ((or_parts (bytes_eq name n) (list_any (bytes_eq name) ns) e).0 i) (x ∷ g n) (g n) ∷ not_joined name ns (or_parts (bytes_eq name n) (list_any (bytes_eq name) ns) e).1 i
 
   joined_at : (opened : Opened) (k : ℕ) (e : List ℕ × ℕ) (rest : List (List X)) → Distinct (names_of opened) → slice_get opened k ≡ Some e → map (joined_by e.0) (names_of opened) ++ rest ≡ cons_at k x (map g (names_of opened) ++ rest)
   joined_at [] k e rest d h = cc
@@ -86,8 +84,7 @@ module _ {X : Type 0} (x : X) (g : List ℕ → List X) where
           elim (bytes_eq e.0 y.0) as (λ b. bytes_eq e.0 y.0 ≡ b → b ≡ false) [
             | true ↦ λ f. absurd (false≢true (sym d.0 ∙ ap (λ n. list_any (bytes_eq n) (names_of ys)) (sym (same_text e.0 y.0 f)) ∙ stands ys k e h))
             | false ↦ λ f. refl
-          ]
-          refl
+          ] refl
 
   last_joined : (opened : Opened) (last : List X) → map g (names_of opened) ++ (x ∷ last) ∷ [] ≡ cons_at (length opened) x (map g (names_of opened) ++ last ∷ [])
   last_joined [] last = refl
@@ -125,10 +122,8 @@ module _ {X : Type 0} (of : StagedCommand → X) (opened : Opened) (d : Distinct
   fits_device : (c : StagedCommand) (ps : List PlacedCommand) (o : Opening) (e : Option (List ℕ × ℕ)) → slice_get opened o.number ≡ e → Fits c ps (fate_at e o.step) (if is_some_and (λ q. q.1 == o.step) e then Ok (suc o.number) else Err Superseded)
   fits_device c ps o None h = refl
   fits_device c ps o (Some e) h =
-      elim (e.1 == o.step) as (λ b. Fits c ps (cond b (device e.0) (ungrouped Superseded)) (cond b (Ok (suc o.number)) (Err Superseded))) [
-        | true ↦ ap (λ gs. elements is_front ps ∷ gs) (joined_by_name e h)
-        | false ↦ refl
-      ]
+      elim (e.1 == o.step) as (λ b. Fits c ps (cond b (device e.0) (ungrouped Superseded)) (cond b (Ok (suc o.number)) (Err Superseded)))
+      [ true ↦ ap (λ gs. elements is_front ps ∷ gs) (joined_by_name e h) | false ↦ refl ]
     where
       joined_by_name : (e : List ℕ × ℕ) → slice_get opened o.number ≡ Some e →
           map (λ name. elements (is_device name) (record { staged = c; fate = device e.0 } ∷ ps)) (names_of opened) ++ elements is_final ps ∷ [] ≡
@@ -149,10 +144,9 @@ module _ {X : Type 0} (of : StagedCommand → X) (opened : Opened) (d : Distinct
           pointwise e (n ∷ ns) = λ i. one e n i ∷ pointwise e ns i
 
   fits : (c : StagedCommand) (ps : List PlacedCommand) (label : Label) → Fits c ps (fate_by opened label) (group_of_label opened label)
-  fits c ps Front = refl
   fits c ps (Device o) = fits_device c ps o (slice_get opened o.number) refl
   fits c ps Final = ap (λ gs. elements is_front ps ∷ gs) (last_joined (of c) (λ name. elements (is_device name) ps) opened (elements is_final ps))
-  fits c ps (Ungrouped reason) = refl
+  fits c ps _ = refl
 
   -- all labelled commands
   by_result : (gs : List (List X)) (c : StagedCommand) (ps : List PlacedCommand) (place : Fate) (r : Result ℕ Reason) → Fits c ps place r → zipped (with_grouped of gs c r) (all_groups ps) ≡ zipped gs (all_groups (record { staged = c; fate = place } ∷ ps))
@@ -200,10 +194,8 @@ module _ (opened : Opened) where
       elim (e.1 == o.step) as (λ b. Falls c ps (cond b (device e.0) (ungrouped Superseded)) (cond b (Ok (suc o.number)) (Err Superseded))) [ true ↦ refl | false ↦ refl ]
 
   falls : (c : StagedCommand) (ps : List PlacedCommand) (label : Label) → Falls c ps (fate_by opened label) (group_of_label opened label)
-  falls c ps Front = refl
   falls c ps (Device o) = falls_device c ps o (slice_get opened o.number)
-  falls c ps Final = refl
-  falls c ps (Ungrouped reason) = refl
+  falls c ps _ = refl
 
   one_dropped : (ds more : List Dropped) (c : StagedCommand) (r : Result ℕ Reason) → with_dropped ds c r ++ more ≡ ds ++ (drops r c ++ more)
   one_dropped ds more c (Ok place) = refl

@@ -1,9 +1,10 @@
 -- The labels of grouping stand for the fates.
-use Rattle.std.proofs.Common.{◌≡◌, ℕ, suc, zero, ◌+◌, ◌<◌, ◌≤◌, List, [], ◌∷◌, ◌++◌, Bool, true, false, cond, not, map, length, refl, sym, ap, subst, ◌∙◌, ◌⊎◌, inl, inr, arith, Option, Some, None}
-use Rattle.std.specs.Prelude.{◌==◌, ◌&&◌, ◌||◌, nat_le, slice_get, fold}
+use Rattle.std.proofs.Common.{◌≡◌, ℕ, suc, zero, ◌<◌, ◌≤◌, List, [], ◌∷◌, ◌++◌, Bool, true, false, cond, not, map, length, refl, sym, ap, subst, ◌∙◌, ◌⊎◌, inl, inr, arith, Option, Some, None, ◌==◌, ◌&&◌, ◌||◌, nat_le, slice_get, fold, bytes_eq}
 use Rattle.std.specs.List.{list_any, find, AllByRecursion}
-use Rattle.std.specs.Str.{bytes_eq}
-use Rattle.std.proofs.lemmas.Bool.{false≢true, eqb-true, eq-eqb}
+use Rattle.std.proofs.lemmas.Bool.{false≢true, eqb-true, eq-eqb, or_parts}
+use Rattle.std.proofs.lemmas.List.Folds.{list_any-append}
+use Rattle.std.proofs.Math.Bool.{and-false, or-false}
+use Rattle.std.proofs.lemmas.List.{map_push, length_push}
 use Rattle.indexmap.specs.IndexMap.{insert_entry}
 use Rattle.texts.specs.Lists.{is_some_and, with_name, last_of}
 use Rattle.command_groups.specs.declared.openings.Opening.{Opening}
@@ -16,7 +17,7 @@ use Rattle.command_groups.specs.Fate.{Fate, front, device, final, ungrouped, Pla
 use Rattle.command_groups.specs.Openings.{Opened, Made, names_of, opening_at, further, opening_of, number_of, is_live, lower, first_live_after, first_live}
 use Rattle.command_groups.specs.Labels.{Labelled, GroupingState, no_commands, device_label, with_made, with_output, with_command, grouped}
 use Rattle.command_groups.specs.Groups.{fate_at, fate_by, settled}
-use Rattle.command_groups.proofs.FateLemmas.{Distinct, distinct_with, any_append, same_text, equal_texts, first_false, second_false, names_after}
+use Rattle.command_groups.proofs.FateLemmas.{Distinct, distinct_with, same_text, equal_texts, names_after}
 use Rattle.command_groups.proofs.OpeningLemmas.{names_opened, opening_found, opened_here, relabelled, Bounded, reopened, is_at, Tells, first_told}
 
 -- Fates, with one more command.
@@ -42,11 +43,11 @@ fate_pushed after p (Some name) e final = refl
 fate_pushed after p None e (ungrouped reason) = refl
 fate_pushed after p (Some name) e (ungrouped reason) = refl
 fate_pushed after p None e (device m) =
-    ap (λ b. cond b (ungrouped Superseded) (device m)) (any_append (opens_name m) after (p ∷ [])
+    ap (λ b. cond b (ungrouped Superseded) (device m)) (list_any-append (opens_name m) after (p ∷ [])
     ∙ ap (λ o. list_any (opens_name m) after || (is_some_and (λ (n : List ℕ). bytes_eq n m) o || false)) e)
     ∙ (elim (list_any (opens_name m) after) as (λ b. cond (b || (false || false)) (ungrouped Superseded) (device m) ≡ cond b (ungrouped Superseded) (device m)) [ true ↦ refl | false ↦ refl ])
 fate_pushed after p (Some name) e (device m) =
-    ap (λ b. cond b (ungrouped Superseded) (device m)) (any_append (opens_name m) after (p ∷ [])
+    ap (λ b. cond b (ungrouped Superseded) (device m)) (list_any-append (opens_name m) after (p ∷ [])
     ∙ ap (λ o. list_any (opens_name m) after || (is_some_and (λ (n : List ℕ). bytes_eq n m) o || false)) e)
     ∙ (elim (list_any (opens_name m) after) as (λ b. cond (b || (bytes_eq name m || false)) (ungrouped Superseded) (device m) ≡ relabelled name (cond b (ungrouped Superseded) (device m))) [
       | true ↦ refl
@@ -71,7 +72,7 @@ made_pushed : (path : List ℕ) (before : List PlacedCommand) (p : PlacedCommand
     is_made path (before ++ p ∷ []) name ≡ ((is_made path before name && not (opens_name name p)) || makes path name p)
 made_pushed path [] p name = elim (makes path name p) as (λ b. ((b && true) || false) ≡ b) [ true ↦ refl | false ↦ refl ]
 made_pushed path (q ∷ qs) p name =
-    ap (λ b. (makes path name q && not b) || is_made path (qs ++ p ∷ []) name) (any_append (opens_name name) qs (p ∷ []))
+    ap (λ b. (makes path name q && not b) || is_made path (qs ++ p ∷ []) name) (list_any-append (opens_name name) qs (p ∷ []))
     ∙ ap (λ b. (makes path name q && not (list_any (opens_name name) qs || (opens_name name p || false))) || b) (made_pushed path qs p name)
     ∙ shuffled (makes path name q) (list_any (opens_name name) qs) (opens_name name p) (is_made path qs name) (makes path name p)
 
@@ -112,8 +113,8 @@ entry_opened (x ∷ xs) name place d (suc k) e g =
     unlike [] j h q = cc
     unlike (y ∷ ys) zero h q =
         let same : y ≡ e = cc in
-        ap (λ (p : List ℕ × ℕ). bytes_eq name p.0) (sym same) ∙ first_false (bytes_eq name y.0) (list_any (bytes_eq name) (names_of ys)) h
-    unlike (y ∷ ys) (suc j) h q = unlike ys j (second_false (bytes_eq name y.0) (list_any (bytes_eq name) (names_of ys)) h) q
+        ap (λ (p : List ℕ × ℕ). bytes_eq name p.0) (sym same) ∙ (or_parts (bytes_eq name y.0) (list_any (bytes_eq name) (names_of ys)) h).0
+    unlike (y ∷ ys) (suc j) h q = unlike ys j (or_parts (bytes_eq name y.0) (list_any (bytes_eq name) (names_of ys)) h).1 q
 
 pub stands : (opened : Opened) (k : ℕ) (e : List ℕ × ℕ) → slice_get opened k ≡ Some e → list_any (bytes_eq e.0) (names_of opened) ≡ true
 stands [] k e g = cc
@@ -146,10 +147,8 @@ own_entry opened o d k e u g t h =
           elim (o.number == k) as (λ b. (o.number == k) ≡ b → false ≡ (b && (e.1 == o.step))) [
             | true ↦ λ q. absurd (false≢true (sym f ∙ equal_texts d.0 e.0 (ap (λ (p : List ℕ × ℕ). p.0) (entries (eqb-true o.number k q)))))
             | false ↦ λ q. refl
-          ]
-          refl
-    ]
-    refl
+          ] refl
+    ] refl
   where
     entries : o.number ≡ k → d ≡ e
     entries n = let both : Some d ≡ Some e = sym g ∙ ap (slice_get opened) n ∙ h in cc
@@ -178,18 +177,8 @@ module _ {X : Type 0} (P Q : X → Type 0) (f : (x : X) → P x → Q x) where
   weaker_with (x ∷ xs) y h q = (f x h.0, weaker_with xs y h.1 q)
 
 bounded_later : (opened opened' : Opened) (n m : ℕ) → length opened ≤ length opened' → n ≤ m → (label : Label) → Bounded opened n label → Bounded opened' m label
-bounded_later opened opened' n m h k Front b = tt
 bounded_later opened opened' n m h k (Device o) b = (omega (arith, b.0), omega (arith, b.1))
-bounded_later opened opened' n m h k Final b = tt
-bounded_later opened opened' n m h k (Ungrouped reason) b = tt
-
-one_longer : {X : Type 0} (xs : List X) (x : X) → length (xs ++ x ∷ []) ≡ length xs + 1
-one_longer [] x = refl
-one_longer (y ∷ ys) x = ap suc (one_longer ys x) ∙ omega arith
-
-mapped_with : {X Y : Type 0} (f : X → Y) (xs : List X) (x : X) → map f (xs ++ x ∷ []) ≡ map f xs ++ f x ∷ []
-mapped_with f [] x = refl
-mapped_with f (y ∷ ys) x = ap (λ zs. f y ∷ zs) (mapped_with f ys x)
+bounded_later opened opened' n m h k _ b = tt
 
 unchanged : (ps : List PlacedCommand) → map (λ q. with_place (relabelled_by None q.fate) q) ps ≡ ps
 unchanged [] = refl
@@ -205,11 +194,11 @@ module _ (names : List (List ℕ)) (before : List PlacedCommand) (g : GroupingSt
   new_label = record { staged = c; label = label }
 
   later : length g.labelled ≤ length (g.labelled ++ new_label ∷ [])
-  later = omega (arith, one_longer g.labelled new_label)
+  later = omega (arith, length_push g.labelled new_label)
 
   fates_follow : map (settled g.opened) (g.labelled ++ new_label ∷ []) ≡ with_fates (before ++ new_place ∷ [])
   fates_follow =
-      mapped_with (settled g.opened) g.labelled new_label ∙ (λ i. h.fates_are i ++ record { staged = c; fate = settles i } ∷ [])
+      map_push (settled g.opened) g.labelled new_label ∙ (λ i. h.fates_are i ++ record { staged = c; fate = settles i } ∷ [])
       ∙ ap (λ ps. ps ++ new_place ∷ []) (sym (unchanged (with_fates before))) ∙ sym (fates_pushed before new_place None quiet)
 
   labels_follow : AllByRecursion (λ l. Bounded g.opened (length (g.labelled ++ new_label ∷ [])) l.label) (g.labelled ++ new_label ∷ [])
@@ -239,14 +228,6 @@ Bounded_by P (Some o) = P o
 
 -- cicc.
 
-and_no : (a : Bool) → (a && false) ≡ false
-and_no true = refl
-and_no false = refl
-
-or_no : (a : Bool) → (a || false) ≡ a
-or_no true = refl
-or_no false = refl
-
 -- an opening of a name stands as an entry of that number
 abbrev StandsAs : Opened → ℕ → Option Opening → Type 0
 StandsAs opened place None = Unit {0}
@@ -256,10 +237,8 @@ opening_stands : (opened : Opened) (place : ℕ) (name : List ℕ) → AllByRecu
 opening_stands [] place name h = tt
 opening_stands (e ∷ es) place name h =
     let ih : StandsAs es place (opening_of es name) = opening_stands es place name h.1 in
-    elim (bytes_eq name e.0) as (λ b. StandsAs (e ∷ es) place (cond b (Some (opening_at 0 e.1)) (further (opening_of es name)))) [
-      | true ↦ (e, refl, eq-eqb e.1 e.1 refl, (omega arith, h.0))
-      | false ↦ shifted (opening_of es name) ih
-    ]
+    elim (bytes_eq name e.0) as (λ b. StandsAs (e ∷ es) place (cond b (Some (opening_at 0 e.1)) (further (opening_of es name))))
+    [ true ↦ (e, refl, eq-eqb e.1 e.1 refl, (omega arith, h.0)) | false ↦ shifted (opening_of es name) ih ]
   where
     shifted : (o : Option Opening) → StandsAs es place o → StandsAs (e ∷ es) place (further o)
     shifted None s = tt
@@ -268,13 +247,13 @@ opening_stands (e ∷ es) place name h =
 module _ (opened : Opened) (made : Made) (o : Opening) (d : List ℕ × ℕ) (u : Distinct (names_of opened)) (g : slice_get opened o.number ≡ Some d) (t : (d.1 == o.step) ≡ true) where
   told_with : (path : List ℕ) (last : Option (List ℕ)) (test : List ℕ → Bool) → Tells opened (made path) test → (k : ℕ) (e : List ℕ × ℕ) → slice_get opened k ≡ Some e →
       ((test e.0 && not false) || (true && (bytes_eq d.0 e.0 && is_some_and (bytes_eq path) last))) ≡ list_any (is_at k e) (with_made made (Some o) last path)
-  told_with path None test tells k e s = ap (λ b. (test e.0 && not false) || b) (and_no (bytes_eq d.0 e.0)) ∙ kept (test e.0) ∙ tells k e s
+  told_with path None test tells k e s = ap (λ b. (test e.0 && not false) || b) (and-false (bytes_eq d.0 e.0)) ∙ kept (test e.0) ∙ tells k e s
   told_with path (Some file) test tells k e s =
       elim (bytes_eq path file) as (λ b. ((test e.0 && not false) || (true && (bytes_eq d.0 e.0 && b))) ≡ list_any (is_at k e) (cond b (made path ++ o ∷ []) (made path))) [
         | true ↦
             (λ i. (tells k e s i && not false) || (own_entry opened o d k e u g t s i && true))
-            ∙ joined (list_any (is_at k e) (made path)) (is_at k e o) ∙ sym (any_append (is_at k e) (made path) (o ∷ []))
-        | false ↦ ap (λ b. (test e.0 && not false) || b) (and_no (bytes_eq d.0 e.0)) ∙ kept (test e.0) ∙ tells k e s
+            ∙ joined (list_any (is_at k e) (made path)) (is_at k e o) ∙ sym (list_any-append (is_at k e) (made path) (o ∷ []))
+        | false ↦ ap (λ b. (test e.0 && not false) || b) (and-false (bytes_eq d.0 e.0)) ∙ kept (test e.0) ∙ tells k e s
       ]
     where
       joined : (a b : Bool) → ((a && not false) || (b && true)) ≡ (a || (b || false))
@@ -349,9 +328,8 @@ module _ (names : List (List ℕ)) (before : List PlacedCommand) (g : GroupingSt
       past (o ∷ os) q w =
           elim (e.1 == o.step) as (λ b. (e.1 == o.step) ≡ b → (((o.number == k) && b) || list_any (is_at k e) os) ≡ false) [
             | true ↦ λ f. absurd (below (eqb-true e.1 o.step f) q w.0.1)
-            | false ↦ λ f. ap (λ b. b || list_any (is_at k e) os) (and_no (o.number == k)) ∙ past os q w.1
-          ]
-          refl
+            | false ↦ λ f. ap (λ b. b || list_any (is_at k e) os) (and-false (o.number == k)) ∙ past os q w.1
+          ] refl
         where
           below : e.1 ≡ o.step → e.1 ≡ length g.labelled → o.step < length g.labelled → ⊥
           below a b c = omega arith
@@ -359,7 +337,7 @@ module _ (names : List (List ℕ)) (before : List PlacedCommand) (g : GroupingSt
       by_entry : ((bytes_eq name e.0 ≡ true) × (e.1 ≡ length g.labelled)) ⊎ ((bytes_eq name e.0 ≡ false) × (slice_get g.opened k ≡ Some e)) →
           ((is_made path before e.0 && not (bytes_eq name e.0)) || false) ≡ list_any (is_at k e) (g.made path)
       by_entry (inl p) =
-          ap (λ b. (is_made path before e.0 && not b) || false) p.0 ∙ or_no (is_made path before e.0 && false) ∙ and_no (is_made path before e.0) ∙ sym (past (g.made path) p.1 (h.made_within path))
+          ap (λ b. (is_made path before e.0 && not b) || false) p.0 ∙ or-false (is_made path before e.0 && false) ∙ and-false (is_made path before e.0) ∙ sym (past (g.made path) p.1 (h.made_within path))
       by_entry (inr p) = ap (λ b. (is_made path before e.0 && not b) || false) p.0 ∙ kept (is_made path before e.0) ∙ h.told path k e p.1
 
   steps_after : (name : List ℕ) (place later : ℕ) (opened : Opened) → place < later → AllByRecursion (λ e. e.1 < place) opened → AllByRecursion (λ e. e.1 < later) (insert_entry bytes_eq opened name place)
@@ -381,14 +359,14 @@ module _ (names : List (List ℕ)) (before : List PlacedCommand) (g : GroupingSt
   after_step name =
       let l : Labelled = record { staged = staged_as (preprocessing (Some name)); label = Device (opening_at (number_of g.opened name) (length g.labelled)) } in
       let p : PlacedCommand = record { staged = staged_as (preprocessing (Some name)); fate = device name } in
-      let more = one_longer g.labelled l in
+      let more = length_push g.labelled l in
       let long = longer name (length g.labelled) g.opened in
       record {
         names_are = ap (λ ns. with_name ns (Some name)) h.names_are ∙ sym (names_opened g.opened name (length g.labelled));
         distinct = subst Distinct (sym (names_opened g.opened name (length g.labelled))) (distinct_with (names_of g.opened) (Some name) h.distinct);
         steps = steps_after name (length g.labelled) (length (g.labelled ++ l ∷ [])) g.opened (omega (arith, more)) h.steps;
         fates_are =
-            mapped_with (settled (entries_after name)) g.labelled l
+            map_push (settled (entries_after name)) g.labelled l
             ∙ (λ i. relabels name g.labelled h.labels i ++ record { staged = l.staged; fate = opened_here g.opened name (length g.labelled) i } ∷ [])
             ∙ ap (λ ps. map (λ q. with_place (relabelled name q.fate) q) ps ++ p ∷ []) h.fates_are
             ∙ sym (fates_pushed before p (Some name) refl);

@@ -1,8 +1,6 @@
 pub mod EntryLemmas
-pub mod EnvironmentLemmas
 pub mod FateLemmas
 pub mod GroupLemmas
-pub mod KindLemmas
 pub mod LabelLemmas
 pub mod MergeLemmas
 pub mod OpenerLemmas

@@ -1,49 +1,22 @@
 -- The merged list is in order, and nothing is lost in it.
-use Rattle.std.proofs.Common.{◌≡◌, ℕ, ◌+◌, ◌<◌, ◌≤◌, List, [], ◌∷◌, ◌++◌, Bool, true, false, cond, ◌||◌, ◌&&◌, nat_lt, map, filter, refl, sym, ap, ◌∙◌, ◌⊎◌, inl, inr, arith, Ordering, Less, Equal, Greater, is_lt, true≢false}
-use Rattle.std.specs.Prelude.{IsPermutation, nat_le, ◌==◌, if◌then◌else◌, sum_by}
+use Rattle.std.proofs.Common.{◌≡◌, ℕ, ◌+◌, ◌<◌, ◌≤◌, List, [], ◌∷◌, ◌++◌, Bool, true, false, cond, ◌||◌, ◌&&◌, nat_lt, map, filter, refl, sym, ap, ◌∙◌, ◌⊎◌, inl, inr, arith, Ordering, Less, Equal, Greater, is_lt, true≢false, IsPermutation, nat_le, ◌==◌, if◌then◌else◌, sum_by}
 use Rattle.std.specs.List.{list_all, AllByRecursion}
 use Rattle.std.specs.Ordering.{ordering_then, nat_cmp}
-use Rattle.std.proofs.lemmas.Bool.{false≢true, and_parts, ltb-true, ltb-false, leb-true, leb-false, eqb-true, lt-ltb, le-leb, eq-eqb}
+use Rattle.std.proofs.lemmas.Bool.{false≢true, and_parts, ltb-true, ltb-false, leb-true, leb-false, eqb-true, lt-ltb, le-leb, eq-eqb, and_from, or_left, or_right, or_parts}
 use Rattle.std.proofs.lemmas.List.Elements.{recursion_from_All, All-from_recursion}
 use Rattle.std.proofs.lemmas.List.Sums.{sum_by-cons, sum_by-append}
 use Rattle.std.proofs.lemmas.List.Sorted.{IsPermutation-refl, IsPermutation-sym, IsPermutation-trans, IsPermutation-cons, IsPermutation-middle, All-permutation, sum_by-IsPermutation}
+use Rattle.std.proofs.Math.Bool.{and-false}
 use Rattle.command_lines.specs.CommandLines.{CommandLine, line_of}
 use Rattle.command_groups.specs.Merge.{MergedCommand, selected, is_nvcc_stem, is_host_stem, of_run, is_in_order, put_in_order, in_order, merged}
 use Rattle.command_groups.specs.MergeLaws.{InOrder, MergedIsInOrder, MergedAreTheSelected, Rises, is_before, RisesInOrder}
+use Rattle.command_groups.proofs.FateLemmas.{one_of}
 
 -- Tests.
-
-both_true : (a b : Bool) → a ≡ true → b ≡ true → (a && b) ≡ true
-both_true true b e f = f
-both_true false b e f = absurd (false≢true e)
-
-left_true : (a b : Bool) → a ≡ true → (a || b) ≡ true
-left_true true b e = refl
-left_true false b e = absurd (false≢true e)
-
-right_true : (a b : Bool) → b ≡ true → (a || b) ≡ true
-right_true true b e = refl
-right_true false b e = e
-
-left_false : (a b : Bool) → (a || b) ≡ false → a ≡ false
-left_false true b e = e
-left_false false b e = refl
-
-right_false : (a b : Bool) → (a || b) ≡ false → b ≡ false
-right_false true b e = absurd (false≢true (sym e))
-right_false false b e = e
 
 second_fails : (a b : Bool) → a ≡ true → (a && b) ≡ false → b ≡ false
 second_fails true b e f = f
 second_fails false b e f = absurd (false≢true e)
-
-one_of : {P : Type 0} (a b : Bool) → (a ≡ true → P) → (b ≡ true → P) → (a || b) ≡ true → P
-one_of true b f g e = f refl
-one_of false b f g e = g e
-
-and_no : (a : Bool) → (a && false) ≡ false
-and_no true = refl
-and_no false = refl
 
 not_equal : (m n : ℕ) → (m ≡ n → ⊥) → (m == n) ≡ false
 not_equal m n h = elim (m == n) as (λ b. (m == n) ≡ b → b ≡ false) [ true ↦ λ e. absurd (h (eqb-true m n e)) | false ↦ λ e. refl ] refl
@@ -68,9 +41,9 @@ module _ (test : ℕ → ℕ → Bool) (Holds : ℕ → ℕ → Type 0) (says : 
       e
 
   tells_by_line : (a b : MergedCommand) → ByLine a b → (nat_lt a.line b.line || ((a.line == b.line) && test a.run b.run)) ≡ true
-  tells_by_line a b (inl h) = left_true (nat_lt a.line b.line) ((a.line == b.line) && test a.run b.run) (lt-ltb a.line b.line h)
+  tells_by_line a b (inl h) = or_left (nat_lt a.line b.line) ((a.line == b.line) && test a.run b.run) (lt-ltb a.line b.line h)
   tells_by_line a b (inr h) =
-      right_true (nat_lt a.line b.line) ((a.line == b.line) && test a.run b.run) (both_true (a.line == b.line) (test a.run b.run) (eq-eqb a.line b.line h.0) (said a.run b.run h.1))
+      or_right (nat_lt a.line b.line) ((a.line == b.line) && test a.run b.run) (and_from (a.line == b.line) (test a.run b.run) (eq-eqb a.line b.line h.0) (said a.run b.run h.1))
 
 -- The order is one.
 
@@ -91,16 +64,15 @@ chained a b c (inr h) (inr k) = inr (omega arith, omega arith)
 
 turned : (a b : MergedCommand) → is_in_order a b ≡ false → is_in_order b a ≡ true
 turned a b e =
-    let below : b.line ≤ a.line = ltb-false a.line b.line (left_false (nat_lt a.line b.line) ((a.line == b.line) && nat_le a.run b.run) e) in
+    let below : b.line ≤ a.line = ltb-false a.line b.line (or_parts (nat_lt a.line b.line) ((a.line == b.line) && nat_le a.run b.run) e).0 in
     elim (nat_lt b.line a.line) as (λ r. nat_lt b.line a.line ≡ r → is_in_order b a ≡ true) [
       | true ↦ λ f. tells b a (inl (ltb-true b.line a.line f))
       | false ↦ λ f.
           let above : a.line ≤ b.line = ltb-false b.line a.line f in
           let same : a.line ≡ b.line = omega arith in
-          let run : b.run < a.run = leb-false a.run b.run (second_fails (a.line == b.line) (nat_le a.run b.run) (eq-eqb a.line b.line same) (right_false (nat_lt a.line b.line) ((a.line == b.line) && nat_le a.run b.run) e)) in
+          let run : b.run < a.run = leb-false a.run b.run (second_fails (a.line == b.line) (nat_le a.run b.run) (eq-eqb a.line b.line same) (or_parts (nat_lt a.line b.line) ((a.line == b.line) && nat_le a.run b.run) e).1) in
           tells b a (inr (sym same, omega arith))
-    ]
-    refl
+    ] refl
 
 -- Putting a command in its place.
 
@@ -108,16 +80,16 @@ all_after : (c d : MergedCommand) (ds : List MergedCommand) → is_in_order c d 
 all_after c d [] e h = refl
 all_after c d (x ∷ xs) e h =
     let p = and_parts (is_in_order d x) (list_all (is_in_order d) xs) h in
-    both_true (is_in_order c x) (list_all (is_in_order c) xs) (tells c x (chained c d x (told c d e) (told d x p.0))) (all_after c d xs e p.1)
+    and_from (is_in_order c x) (list_all (is_in_order c) xs) (tells c x (chained c d x (told c d e) (told d x p.0))) (all_after c d xs e p.1)
 
 put_after : (c d : MergedCommand) (ds : List MergedCommand) → is_in_order c d ≡ true → list_all (is_in_order c) ds ≡ true → list_all (is_in_order c) (put_in_order d ds) ≡ true
-put_after c d [] e h = both_true (is_in_order c d) true e refl
+put_after c d [] e h = and_from (is_in_order c d) true e refl
 put_after c d (x ∷ xs) e h =
     let p = and_parts (is_in_order c x) (list_all (is_in_order c) xs) h in
     let ih : list_all (is_in_order c) (put_in_order d xs) ≡ true = put_after c d xs e p.1 in
     elim (is_in_order d x) as (λ r. list_all (is_in_order c) (cond r (d ∷ x ∷ xs) (x ∷ put_in_order d xs)) ≡ true) [
-      | true ↦ both_true (is_in_order c d) (is_in_order c x && list_all (is_in_order c) xs) e h
-      | false ↦ both_true (is_in_order c x) (list_all (is_in_order c) (put_in_order d xs)) p.0 ih
+      | true ↦ and_from (is_in_order c d) (is_in_order c x && list_all (is_in_order c) xs) e h
+      | false ↦ and_from (is_in_order c x) (list_all (is_in_order c) (put_in_order d xs)) p.0 ih
     ]
 
 put_ordered : (c : MergedCommand) (ds : List MergedCommand) → InOrder ds → InOrder (put_in_order c ds)
@@ -125,10 +97,9 @@ put_ordered c [] h = (refl, tt)
 put_ordered c (d ∷ ds) h =
     let ih : InOrder (put_in_order c ds) = put_ordered c ds h.1 in
     elim (is_in_order c d) as (λ r. is_in_order c d ≡ r → InOrder (cond r (c ∷ d ∷ ds) (d ∷ put_in_order c ds))) [
-      | true ↦ λ e. (both_true (is_in_order c d) (list_all (is_in_order c) ds) e (all_after c d ds e h.0), h)
+      | true ↦ λ e. (and_from (is_in_order c d) (list_all (is_in_order c) ds) e (all_after c d ds e h.0), h)
       | false ↦ λ e. (put_after d c ds (turned c d e) h.0, ih)
-    ]
-    refl
+    ] refl
 
 ordered : (cs : List MergedCommand) → InOrder (in_order cs)
 ordered [] = tt
@@ -245,7 +216,7 @@ tallied : (a x : MergedCommand) (xs : List MergedCommand) → tally a (x ∷ xs)
 tallied a x xs = sum_by-cons (tie a) x xs
 
 ties_itself : (a : MergedCommand) → tie a a ≡ 1
-ties_itself a = ap (λ b. if b then 1 else 0) (both_true (a.line == a.line) (a.run == a.run) (eq-eqb a.line a.line refl) (eq-eqb a.run a.run refl))
+ties_itself a = ap (λ b. if b then 1 else 0) (and_from (a.line == a.line) (a.run == a.run) (eq-eqb a.line a.line refl) (eq-eqb a.run a.run refl))
 
 no_ties_later : (x : MergedCommand) (xs : List MergedCommand) → NoTies (x ∷ xs) → NoTies xs
 no_ties_later x xs h a = omega (arith, tallied a x xs, h a)
@@ -261,15 +232,14 @@ strictly a b e t = go (told a b e)
           | false ↦ λ f.
               let above : b.run ≤ a.run = ltb-false a.run b.run f in
               let same : a.run ≡ b.run = omega arith in
-              absurd (omega (arith, sym t ∙ ap (λ r. if r then 1 else 0) (both_true (a.line == b.line) (a.run == b.run) (eq-eqb a.line b.line h.0) (eq-eqb a.run b.run same))))
-        ]
-        refl
+              absurd (omega (arith, sym t ∙ ap (λ r. if r then 1 else 0) (and_from (a.line == b.line) (a.run == b.run) (eq-eqb a.line b.line h.0) (eq-eqb a.run b.run same))))
+        ] refl
 
 all_strictly : (a : MergedCommand) (xs : List MergedCommand) → list_all (is_in_order a) xs ≡ true → tally a xs ≡ 0 → list_all (is_before a) xs ≡ true
 all_strictly a [] h t = refl
 all_strictly a (x ∷ xs) h t =
     let s = and_parts (is_in_order a x) (list_all (is_in_order a) xs) h in
-    both_true (is_before a x) (list_all (is_before a) xs) (strictly a x s.0 (omega (arith, tallied a x xs))) (all_strictly a xs s.1 (omega (arith, tallied a x xs)))
+    and_from (is_before a x) (list_all (is_before a) xs) (strictly a x s.0 (omega (arith, tallied a x xs))) (all_strictly a xs s.1 (omega (arith, tallied a x xs)))
 
 strict_order : (xs : List MergedCommand) → InOrder xs → NoTies xs → RisesInOrder xs
 strict_order [] h t = tt
@@ -299,13 +269,12 @@ rising_tally r a (c ∷ cs) h =
       | false ↦ λ e.
           let none : tie a (of_run r c) ≡ 0 = ap (λ b. if b then 1 else 0) e in
           omega (arith, tallied a (of_run r c) (map (of_run r) cs), rising_tally r a cs h.1)
-    ]
-    refl
+    ] refl
 
 other_run : (r : ℕ) (a : MergedCommand) (cs : List CommandLine) → (a.run == r) ≡ false → tally a (map (of_run r) cs) ≡ 0
 other_run r a [] e = refl
 other_run r a (c ∷ cs) e =
-    tallied a (of_run r c) (map (of_run r) cs) ∙ ap (λ b. (if (a.line == line_of c) && b then 1 else 0) + tally a (map (of_run r) cs)) e ∙ ap (λ b. (if b then 1 else 0) + tally a (map (of_run r) cs)) (and_no (a.line == line_of c)) ∙ omega (arith, other_run r a cs e)
+    tallied a (of_run r c) (map (of_run r) cs) ∙ ap (λ b. (if (a.line == line_of c) && b then 1 else 0) + tally a (map (of_run r) cs)) e ∙ ap (λ b. (if b then 1 else 0) + tally a (map (of_run r) cs)) (and-false (a.line == line_of c)) ∙ omega (arith, other_run r a cs e)
 
 all_left : (n : ℕ) (test : CommandLine → Bool) (cs : List CommandLine) → list_all (nat_lt n) (map line_of cs) ≡ true → list_all (nat_lt n) (map line_of (filter test cs)) ≡ true
 all_left n test [] h = refl
@@ -313,7 +282,7 @@ all_left n test (c ∷ cs) h =
     let s = and_parts (nat_lt n (line_of c)) (list_all (nat_lt n) (map line_of cs)) h in
     let ih : list_all (nat_lt n) (map line_of (filter test cs)) ≡ true = all_left n test cs s.1 in
     elim (test c) as (λ b. list_all (nat_lt n) (map line_of (cond b (c ∷ filter test cs) (filter test cs))) ≡ true)
-    [ true ↦ both_true (nat_lt n (line_of c)) (list_all (nat_lt n) (map line_of (filter test cs))) s.0 ih | false ↦ ih ]
+    [ true ↦ and_from (nat_lt n (line_of c)) (list_all (nat_lt n) (map line_of (filter test cs))) s.0 ih | false ↦ ih ]
 
 rises_left : (test : CommandLine → Bool) (cs : List CommandLine) → Rises (map line_of cs) → Rises (map line_of (filter test cs))
 rises_left test [] h = tt
@@ -332,8 +301,7 @@ two_runs cs ds h k a =
       | false ↦ λ e.
           let other : tally a (map (of_run 1) cs) ≡ 0 = other_run 1 a cs e in
           omega (arith, sum_by-append (tie a) (map (of_run 1) cs) (map (of_run 2) ds), rising_tally 2 a ds k)
-    ]
-    refl
+    ] refl
 
 tallies_stay : (xs ys : List MergedCommand) → IsPermutation xs ys → NoTies xs → NoTies ys
 tallies_stay xs ys p h a = omega (arith, sum_by-IsPermutation (tie a) xs ys p, h a)
@@ -364,16 +332,12 @@ ordered_by_neighbours [] h = tt
 ordered_by_neighbours (c ∷ []) h = (refl, tt)
 ordered_by_neighbours (c ∷ d ∷ ds) h =
     let ih : InOrder (d ∷ ds) = ordered_by_neighbours (d ∷ ds) h.1 in
-    (both_true (is_in_order c d) (list_all (is_in_order c) ds) h.0 (all_after c d ds h.0 ih.0), ih)
+    (and_from (is_in_order c d) (list_all (is_in_order c) ds) h.0 (all_after c d ds h.0 ih.0), ih)
 
 -- what sorting says of two neighbours
 pub not_greater : (a b : MergedCommand) (o : Ordering) → is_lt (ordering_then (nat_cmp b.line a.line) (ordering_then (nat_cmp b.run a.run) o)) ≡ false → is_in_order a b ≡ true
 not_greater a b o h =
-    elim (is_in_order a b) as (λ r. is_in_order a b ≡ r → r ≡ true) [
-      | true ↦ λ e. refl
-      | false ↦ λ e. absurd (below (turned a b e) e)
-    ]
-    refl
+    elim (is_in_order a b) as (λ r. is_in_order a b ≡ r → r ≡ true) [ true ↦ λ e. refl | false ↦ λ e. absurd (below (turned a b e) e) ] refl
   where
     line_first : nat_lt b.line a.line ≡ true → ⊥
     line_first e = true≢false (sym (ap (λ r. is_lt (ordering_then (cond r Less (cond (b.line == a.line) Equal Greater)) (ordering_then (nat_cmp b.run a.run) o))) e) ∙ h)
@@ -383,14 +347,13 @@ not_greater a b o h =
         true≢false
         (sym (ap (λ r. is_lt (ordering_then (cond r Less (cond (b.line == a.line) Equal Greater)) (ordering_then (nat_cmp b.run a.run) o))) e
         ∙ ap (λ r. is_lt (ordering_then (cond r Equal Greater) (ordering_then (nat_cmp b.run a.run) o))) f
-        ∙ ap (λ r. is_lt (ordering_then (cond r Less (cond (b.run == a.run) Equal Greater)) o)) g)
-        ∙ h)
+        ∙ ap (λ r. is_lt (ordering_then (cond r Less (cond (b.run == a.run) Equal Greater)) o)) g) ∙ h)
 
     by_place : Before b a → is_in_order a b ≡ false → ⊥
     by_place (inl k) e = line_first (lt-ltb b.line a.line k)
     by_place (inr k) e =
         let above : b.run < a.run =
-        leb-false a.run b.run (second_fails (a.line == b.line) (nat_le a.run b.run) (eq-eqb a.line b.line (sym k.0)) (right_false (nat_lt a.line b.line) ((a.line == b.line) && nat_le a.run b.run) e)) in
+        leb-false a.run b.run (second_fails (a.line == b.line) (nat_le a.run b.run) (eq-eqb a.line b.line (sym k.0)) (or_parts (nat_lt a.line b.line) ((a.line == b.line) && nat_le a.run b.run) e).1) in
         run_next (not_less b.line a.line (omega arith)) (eq-eqb b.line a.line k.0) (lt-ltb b.run a.run above)
 
     below : is_in_order b a ≡ true → is_in_order a b ≡ false → ⊥

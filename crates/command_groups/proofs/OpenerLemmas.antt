@@ -1,8 +1,7 @@
 -- The fate of a command whose group one step opens, and that doesn't stand before that step.
-use Rattle.std.proofs.Common.{◌≡◌, ℕ, List, [], ◌∷◌, ◌++◌, ◌||◌, Bool, true, false, cond, Option, Some, None, map, filter, refl, sym, ap, subst, ◌∙◌}
+use Rattle.std.proofs.Common.{◌≡◌, ℕ, List, [], ◌∷◌, ◌++◌, ◌||◌, Bool, true, false, cond, Option, Some, None, map, filter, refl, sym, ap, subst, ◌∙◌, bytes_eq}
 use Rattle.std.specs.List.{Contains, AllByRecursion, list_any, list_all}
-use Rattle.std.specs.Str.{bytes_eq}
-use Rattle.std.proofs.lemmas.Bool.{false≢true, and_parts}
+use Rattle.std.proofs.lemmas.Bool.{false≢true, and_parts, or_parts}
 use Rattle.std.proofs.lemmas.List.Elements.{All-from_recursion, All-contains}
 use Rattle.texts.specs.Lists.{is_some_and, with_name}
 use Rattle.canonical_names.proofs.CanonicalLemmas.{head-member, tail-member}
@@ -11,7 +10,7 @@ use Rattle.command_groups.specs.Merge.{is_in_order}
 use Rattle.command_groups.specs.MergeLaws.{InOrder}
 use Rattle.command_groups.specs.Stage.{Stage, linking, splitting, device_compiling, assembling, preprocessing, host_compiling, foreign, StagedCommand, opens}
 use Rattle.command_groups.specs.Fate.{Fate, device, ungrouped, PlacedCommand, opens_name, place_of, placed_after, places, fate_of, with_fates, fates}
-use Rattle.command_groups.proofs.FateLemmas.{second_false, same_text, known_with, new_name_known, placed_staged}
+use Rattle.command_groups.proofs.FateLemmas.{same_text, known_with, new_name_known, placed_staged}
 
 -- lists of which one element passes a test
 module _ {X : Type 0} (test : X → Bool) where
@@ -109,7 +108,7 @@ module _ (n : List ℕ) (step target : StagedCommand)
   late : (ps : List PlacedCommand) → AllByRecursion Good ps → list_any (opener n) (map (λ p. p.staged) ps) ≡ false → AllByRecursion Good (with_fates ps)
   late [] h k = tt
   late (p ∷ ps) h k =
-      let rest = second_false (opener n p.staged) (list_any (opener n) (map (λ p. p.staged) ps)) k in
+      let rest = (or_parts (opener n p.staged) (list_any (opener n) (map (λ p. p.staged) ps)) k).1 in
       (λ e. stays ps p.fate (h.0 e) rest, late ps h.1 rest)
 
   early : (ps : List PlacedCommand) → AllByRecursion Good ps → InOrder (map (λ t. t.command) (map (λ p. p.staged) ps)) → filter (opener n) (map (λ p. p.staged) ps) ≡ step ∷ [] → AllByRecursion Good (with_fates ps)

@@ -1,21 +1,19 @@
 -- Openings of device groups.
-use Rattle.std.proofs.Common.{◌≡◌, ℕ, suc, zero, ◌<◌, ◌≤◌, List, [], ◌∷◌, ◌++◌, Bool, true, false, cond, length, refl, sym, ap, ◌∙◌, ◌⊎◌, inl, inr, arith, Option, Some, None}
-use Rattle.std.specs.Prelude.{◌==◌, ◌&&◌, ◌||◌, nat_le, slice_get, if◌then◌else◌}
+use Rattle.std.proofs.Common.{◌≡◌, ℕ, suc, zero, ◌<◌, ◌≤◌, List, [], ◌∷◌, ◌++◌, Bool, true, false, cond, length, refl, sym, ap, ◌∙◌, ◌⊎◌, inl, inr, arith, Option, Some, None, ◌==◌, ◌&&◌, ◌||◌, nat_le, slice_get, if◌then◌else◌, bytes_eq}
 use Rattle.std.specs.List.{list_any, find, AllByRecursion}
-use Rattle.std.specs.Str.{bytes_eq}
-use Rattle.std.proofs.lemmas.Bool.{false≢true, and_parts, leb-true, leb-false, eqb-true, eq-eqb}
+use Rattle.std.proofs.lemmas.Bool.{false≢true, and_parts, leb-true, leb-false, eqb-true, eq-eqb, or_right, or_parts}
 use Rattle.indexmap.specs.IndexMap.{insert_entry}
 use Rattle.texts.specs.Lists.{is_some_and, with_name}
 use Rattle.command_groups.specs.declared.openings.Opening.{Opening}
 use Rattle.command_groups.specs.declared.labels.Label.{Label}
-use Rattle.command_groups.specs.declared.labels.Label.TheVariants.{Front, Device, Final, Ungrouped}
+use Rattle.command_groups.specs.declared.labels.Label.TheVariants.{Device}
 use Rattle.plans.specs.declared.plan.Reason.{Reason}
 use Rattle.plans.specs.declared.plan.Reason.TheVariants.{Superseded}
 use Rattle.command_groups.specs.Fate.{Fate, front, device, final, ungrouped, device_or}
 use Rattle.command_groups.specs.Openings.{Opened, names_of, opening_at, further, opening_of, number_of, is_live, lower, first_live_after, first_live}
 use Rattle.command_groups.specs.Labels.{device_label}
 use Rattle.command_groups.specs.Groups.{fate_at, fate_by}
-use Rattle.command_groups.proofs.FateLemmas.{Distinct, same_text, first_false, second_false, second_true}
+use Rattle.command_groups.proofs.FateLemmas.{Distinct, same_text}
 
 -- The names.
 
@@ -24,10 +22,8 @@ names_opened [] name place = refl
 names_opened (e ∷ es) name place =
     let ih : names_of (insert_entry bytes_eq es name place) ≡ with_name (names_of es) (Some name) = names_opened es name place in
     elim (bytes_eq name e.0)
-    as (λ b. names_of (cond b ((e.0, place) ∷ es) (e ∷ insert_entry bytes_eq es name place)) ≡ cond (b || list_any (bytes_eq name) (names_of es)) (e.0 ∷ names_of es) (e.0 ∷ (names_of es ++ name ∷ []))) [
-      | true ↦ refl
-      | false ↦ ap (λ ns. e.0 ∷ ns) ih ∙ pushed (list_any (bytes_eq name) (names_of es))
-    ]
+    as (λ b. names_of (cond b ((e.0, place) ∷ es) (e ∷ insert_entry bytes_eq es name place)) ≡ cond (b || list_any (bytes_eq name) (names_of es)) (e.0 ∷ names_of es) (e.0 ∷ (names_of es ++ name ∷ [])))
+    [ true ↦ refl | false ↦ ap (λ ns. e.0 ∷ ns) ih ∙ pushed (list_any (bytes_eq name) (names_of es)) ]
   where
     pushed : (b : Bool) → e.0 ∷ cond b (names_of es) (names_of es ++ name ∷ []) ≡ cond b (e.0 ∷ names_of es) (e.0 ∷ (names_of es ++ name ∷ []))
     pushed true = refl
@@ -41,10 +37,8 @@ opening_found [] name reason = refl
 opening_found (e ∷ es) name reason =
     let ih : fate_by es (device_label (opening_of es name) reason) ≡ device_or reason (find (bytes_eq name) (names_of es)) = opening_found es name reason in
     elim (bytes_eq name e.0)
-    as (λ b. fate_by (e ∷ es) (device_label (cond b (Some (opening_at 0 e.1)) (further (opening_of es name))) reason) ≡ device_or reason (cond b (Some e.0) (find (bytes_eq name) (names_of es)))) [
-      | true ↦ ap (λ b. cond b (device e.0) (ungrouped Superseded)) (eq-eqb e.1 e.1 refl)
-      | false ↦ shifted (opening_of es name) ∙ ih
-    ]
+    as (λ b. fate_by (e ∷ es) (device_label (cond b (Some (opening_at 0 e.1)) (further (opening_of es name))) reason) ≡ device_or reason (cond b (Some e.0) (find (bytes_eq name) (names_of es))))
+    [ true ↦ ap (λ b. cond b (device e.0) (ungrouped Superseded)) (eq-eqb e.1 e.1 refl) | false ↦ shifted (opening_of es name) ∙ ih ]
   where
     shifted : (o : Option Opening) → fate_by (e ∷ es) (device_label (further o) reason) ≡ fate_by es (device_label o reason)
     shifted None = refl
@@ -59,8 +53,7 @@ opened_here (e ∷ es) name place =
     fate_by (cond b ((e.0, place) ∷ es) (e ∷ insert_entry bytes_eq es name place)) (Device (opening_at (cond b 0 (suc (number_of es name))) place)) ≡ device name) [
       | true ↦ λ f. ap (λ b. cond b (device e.0) (ungrouped Superseded)) (eq-eqb place place refl) ∙ ap (λ n. device n) (sym (same_text name e.0 f))
       | false ↦ λ f. ih
-    ]
-    refl
+    ] refl
 
 -- a fate, once a group is opened again
 abbrev pub relabelled : List ℕ → Fate → Fate
@@ -71,10 +64,8 @@ relabelled name (ungrouped reason) = ungrouped reason
 
 -- a label whose opening stands in a list, below a place
 abbrev pub Bounded : Opened → ℕ → Label → Type 0
-Bounded opened place Front = Unit {0}
 Bounded opened place (Device o) = (o.number < length opened) × (o.step < place)
-Bounded opened place Final = Unit {0}
-Bounded opened place (Ungrouped reason) = Unit {0}
+Bounded opened place _ = Unit {0}
 
 apart : (m n : ℕ) → m < n → (n == m) ≡ false
 apart m n h = elim (n == m) as (λ b. (n == m) ≡ b → b ≡ false) [ true ↦ λ e. absurd (below (eqb-true n m e)) | false ↦ λ e. refl ] refl
@@ -85,10 +76,10 @@ apart m n h = elim (n == m) as (λ b. (n == m) ≡ b → b ≡ false) [ true ↦
 unmatched : (opened : Opened) (name : List ℕ) (k s : ℕ) → list_any (bytes_eq name) (names_of opened) ≡ false → fate_at (slice_get opened k) s ≡ relabelled name (fate_at (slice_get opened k) s)
 unmatched [] name k s h = refl
 unmatched (e ∷ es) name zero s h =
-    let other : bytes_eq name e.0 ≡ false = first_false (bytes_eq name e.0) (list_any (bytes_eq name) (names_of es)) h in
+    let other : bytes_eq name e.0 ≡ false = (or_parts (bytes_eq name e.0) (list_any (bytes_eq name) (names_of es)) h).0 in
     elim (e.1 == s) as (λ b. cond b (device e.0) (ungrouped Superseded) ≡ relabelled name (cond b (device e.0) (ungrouped Superseded)))
     [ true ↦ ap (λ b. cond b (ungrouped Superseded) (device e.0)) (sym other) | false ↦ refl ]
-unmatched (e ∷ es) name (suc k) s h = unmatched es name k s (second_false (bytes_eq name e.0) (list_any (bytes_eq name) (names_of es)) h)
+unmatched (e ∷ es) name (suc k) s h = unmatched es name k s (or_parts (bytes_eq name e.0) (list_any (bytes_eq name) (names_of es)) h).1
 
 reopened_at : (opened : Opened) (name : List ℕ) (place k s : ℕ) → Distinct (names_of opened) → k < length opened → s < place →
     fate_at (slice_get (insert_entry bytes_eq opened name place) k) s ≡ relabelled name (fate_at (slice_get opened k) s)
@@ -103,23 +94,17 @@ reopened_at (e ∷ es) name place zero s d h t =
       | false ↦ λ f.
           elim (e.1 == s) as (λ b. cond b (device e.0) (ungrouped Superseded) ≡ relabelled name (cond b (device e.0) (ungrouped Superseded)))
           [ true ↦ ap (λ b. cond b (ungrouped Superseded) (device e.0)) (sym f) | false ↦ refl ]
-    ]
-    refl
+    ] refl
 reopened_at (e ∷ es) name place (suc k) s d h t =
     let ih : fate_at (slice_get (insert_entry bytes_eq es name place) k) s ≡ relabelled name (fate_at (slice_get es k) s) = reopened_at es name place k s d.1 (omega arith) t in
     elim (bytes_eq name e.0) as (λ b. bytes_eq name e.0 ≡ b →
-    fate_at (slice_get (cond b ((e.0, place) ∷ es) (e ∷ insert_entry bytes_eq es name place)) (suc k)) s ≡ relabelled name (fate_at (slice_get es k) s)) [
-      | true ↦ λ f. unmatched es name k s (ap (λ n. list_any (bytes_eq n) (names_of es)) (same_text name e.0 f) ∙ d.0)
-      | false ↦ λ f. ih
-    ]
-    refl
+    fate_at (slice_get (cond b ((e.0, place) ∷ es) (e ∷ insert_entry bytes_eq es name place)) (suc k)) s ≡ relabelled name (fate_at (slice_get es k) s))
+    [ true ↦ λ f. unmatched es name k s (ap (λ n. list_any (bytes_eq n) (names_of es)) (same_text name e.0 f) ∙ d.0) | false ↦ λ f. ih ] refl
 
 pub reopened : (opened : Opened) (name : List ℕ) (place : ℕ) (label : Label) → Distinct (names_of opened) → Bounded opened place label →
     fate_by (insert_entry bytes_eq opened name place) label ≡ relabelled name (fate_by opened label)
-reopened opened name place Front d b = refl
 reopened opened name place (Device o) d b = reopened_at opened name place o.number o.step d b.0 b.1
-reopened opened name place Final d b = refl
-reopened opened name place (Ungrouped reason) d b = refl
+reopened opened name place _ d b = refl
 
 -- The first live opening.
 
@@ -197,8 +182,7 @@ module _ (opened : Opened) where
       elim (is_live opened o) as (λ b. is_live opened o ≡ b → Best opened first (o ∷ os) (first_live_after opened (cond b (Some (lower first o)) first) os)) [
         | true ↦ λ e. taken first o os (first_live_after opened (Some (lower first o)) os) e (ih (Some (lower first o)) (lower_live first o h e))
         | false ↦ λ e. passed first o os (first_live_after opened first os) e (ih first h)
-      ]
-      refl
+      ] refl
 
   live_here : (o : Opening) (k : ℕ) (e : List ℕ × ℕ) → slice_get opened k ≡ Some e → is_at k e o ≡ true → (is_live opened o ≡ true) × (o.number ≡ k)
   live_here o k e g h =
@@ -211,15 +195,14 @@ module _ (opened : Opened) where
   none_here (o ∷ os) k e g h =
       let ih : list_any (is_at k e) os ≡ false = none_here os k e g h.1 in
       elim (is_at k e o) as (λ b. is_at k e o ≡ b → (b || list_any (is_at k e) os) ≡ false)
-      [ true ↦ λ f. let p = live_here o k e g f in absurd (h.0 p.0 p.1) | false ↦ λ f. ih ]
-      refl
+      [ true ↦ λ f. let p = live_here o k e g f in absurd (h.0 p.0 p.1) | false ↦ λ f. ih ] refl
 
   any_here : (o : Opening) (os : List Opening) (e : List ℕ × ℕ) → Among o os → (e.1 == o.step) ≡ true → list_any (is_at o.number e) os ≡ true
   any_here o [] e a h = absurd a
   any_here o (p ∷ os) e (inl s) h =
       ap (λ (q : Opening). ((q.number == o.number) && (e.1 == q.step)) || list_any (is_at o.number e) os) (sym s)
       ∙ ap (λ b. (b && (e.1 == o.step)) || list_any (is_at o.number e) os) (eq-eqb o.number o.number refl) ∙ ap (λ b. b || list_any (is_at o.number e) os) h
-  any_here o (p ∷ os) e (inr a) h = second_true (is_at o.number e p) (list_any (is_at o.number e) os) (any_here o os e a h)
+  any_here o (p ∷ os) e (inr a) h = or_right (is_at o.number e p) (list_any (is_at o.number e) os) (any_here o os e a h)
 
   live_entry : (o : Opening) (g : Option (List ℕ × ℕ)) → is_some_and (λ (d : List ℕ × ℕ). d.1 == o.step) g ≡ true → (e : List ℕ × ℕ) × (g ≡ Some e) × ((e.1 == o.step) ≡ true)
   live_entry o None h = absurd (false≢true h)
@@ -253,8 +236,7 @@ first_told opened os test reason tells = by_result (first_live opened os) (best 
     by_result (Some f) b =
         let t = live_entry opened f (slice_get opened f.number) b.0 in
         let stands : Among f os = among b.1 in
-        ap (λ g. fate_at g f.step) t.1 ∙ ap (λ c. cond c (device t.0.0) (ungrouped Superseded)) t.2
-        ∙ ap (device_or reason)
+        ap (λ g. fate_at g f.step) t.1 ∙ ap (λ c. cond c (device t.0.0) (ungrouped Superseded)) t.2 ∙ ap (device_or reason)
         (sym (find_at opened test f.number t.0 t.1 (tells f.number t.0 t.1 ∙ any_here opened f os t.0 stands t.2)
         (λ j d l g. tells j d g ∙ none_here opened os j d g (weaker _ _ (λ o h k s. not_below o (h k) s l) os b.3))))
       where

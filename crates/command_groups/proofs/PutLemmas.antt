@@ -1,6 +1,5 @@
 -- Lists of vectors, seen as lists of lists: one with an element more, and empty ones.
-use Rattle.std.proofs.Common.{◌≡◌, ℕ, suc, zero, ◌<◌, List, [], ◌∷◌, ◌++◌, ◌+◌, map, length, ap, ◌∙◌, arith, slice_index_or, slice_set}
-use Rattle.std.specs.Prelude.{vec_items}
+use Rattle.std.proofs.Common.{◌≡◌, ℕ, suc, zero, ◌<◌, List, [], ◌∷◌, ◌++◌, ◌+◌, map, length, ap, ◌∙◌, arith, slice_index_or, slice_set, vec_items}
 use Rattle.std.specs.Global.{Vec}
 use Rattle.std.proofs.lemmas.List.{length-map, length-replicate}
 use Rattle.command_groups.specs.Groups.{put_at, no_groups}

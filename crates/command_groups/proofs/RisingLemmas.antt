@@ -1,6 +1,5 @@
 -- The commands of a dry run stand at rising lines, and their names change none.
-use Rattle.std.proofs.Common.{◌≡◌, ℕ, ◌+◌, ◌<◌, List, [], ◌∷◌, true, false, map, refl, sym, ap, subst, ◌∙◌, arith, Option, Some, None, Ok}
-use Rattle.std.specs.Prelude.{◌&&◌, nat_lt, codes, if◌then◌else◌}
+use Rattle.std.proofs.Common.{◌≡◌, ℕ, ◌+◌, ◌<◌, List, [], ◌∷◌, true, false, map, refl, sym, ap, subst, ◌∙◌, arith, Option, Some, None, Ok, ◌&&◌, nat_lt, codes, if◌then◌else◌}
 use Rattle.std.specs.Str.Lines.{lines}
 use Rattle.std.specs.List.{list_all, filter_map, enumerate_from}
 use Rattle.std.specs.Str.{is_utf8}
@@ -8,7 +7,7 @@ use Rattle.std.proofs.lemmas.Bool.{lt-ltb}
 use Rattle.texts.specs.declared.fault.Fault.{Fault}
 use Rattle.texts.specs.declared.fault.Fault.TheVariants.{NotUtf8}
 use Rattle.command_lines.specs.CommandLines.{CommandLine, line_of, words_of_command}
-use Rattle.dry_runs.specs.DryRun.{LookUp, Meaning, Ignored, Assigns, Runs, Bad, meaning_found, meaning_by_path, meaning_of_words, meaning_assigned, meaning_marked, meaning, environment_after, meanings, assigned_by, command_of, fault_of, run_or_fault, dry_run_of}
+use Rattle.dry_runs.specs.DryRun.{LookUp, Meaning, Runs, Bad, meaning_found, meaning_by_path, meaning_of_words, meaning_assigned, meaning_marked, meaning, environment_after, meanings, assigned_by, command_of, fault_of, run_or_fault, dry_run_of}
 use Rattle.dry_runs.specs.DryRunLines.{numbered_lines, marked_text}
 use Rattle.dry_runs.specs.Environment.{Variable, assignment, expanded}
 use Rattle.texts.specs.Variables.{first_value}
@@ -19,10 +18,8 @@ use Rattle.command_groups.specs.PlanOfBytes.{named}
 
 -- a meaning that is a command has the number of its line
 abbrev LineIs : ℕ → Meaning → Type 0
-LineIs n Ignored = Unit {0}
-LineIs n (Assigns v) = Unit {0}
 LineIs n (Runs c) = line_of c ≡ n
-LineIs n (Bad fault) = Unit {0}
+LineIs n _ = Unit {0}
 
 all_cons : (m n : ℕ) (ns : List ℕ) → m < n → list_all (nat_lt m) ns ≡ true → list_all (nat_lt m) (n ∷ ns) ≡ true
 all_cons m n ns h k = ap (λ b. b && list_all (nat_lt m) ns) (lt-ltb m n h) ∙ k
@@ -58,10 +55,8 @@ module _ (which : LookUp) (run : ℕ) (cwd : List ℕ) where
   lines_of ms = map line_of (filter_map command_of ms)
 
   above_with : (m n : ℕ) → m < n → (first : Meaning) (rest : List Meaning) → LineIs n first → list_all (nat_lt m) (lines_of rest) ≡ true → list_all (nat_lt m) (lines_of (first ∷ rest)) ≡ true
-  above_with m n h Ignored rest l k = k
-  above_with m n h (Assigns v) rest l k = k
   above_with m n h (Runs c) rest l k = all_cons m (line_of c) (lines_of rest) (omega (arith, l)) k
-  above_with m n h (Bad fault) rest l k = k
+  above_with m n h _ rest l k = k
 
   above : (m n : ℕ) (env : List Variable) (xs : List (List ℕ)) → m < n → list_all (nat_lt m) (lines_of (meanings which run cwd env (enumerate_from n xs))) ≡ true
   above m n env [] h = refl
@@ -70,10 +65,8 @@ module _ (which : LookUp) (run : ℕ) (cwd : List ℕ) where
       (above m (n + 1) (environment_after which run cwd env (meaning which run cwd env (n, x))) xs (omega arith))
 
   rises_with : (n : ℕ) (first : Meaning) (rest : List Meaning) → LineIs n first → list_all (nat_lt n) (lines_of rest) ≡ true → Rises (lines_of rest) → Rises (lines_of (first ∷ rest))
-  rises_with n Ignored rest l h k = k
-  rises_with n (Assigns v) rest l h k = k
   rises_with n (Runs c) rest l h k = (ap (λ m. list_all (nat_lt m) (lines_of rest)) l ∙ h, k)
-  rises_with n (Bad fault) rest l h k = k
+  rises_with n _ rest l h k = k
 
   rises : (n : ℕ) (env : List Variable) (xs : List (List ℕ)) → Rises (lines_of (meanings which run cwd env (enumerate_from n xs)))
   rises n env [] = tt

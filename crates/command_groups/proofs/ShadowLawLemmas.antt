@@ -1,17 +1,14 @@
 -- In the plans of shadow runs cicc stands beside the step that makes its input.
-use Rattle.std.proofs.Common.{◌≡◌, ℕ, ◌<◌, List, [], ◌∷◌, ◌++◌, ◌&&◌, ◌||◌, Bool, true, false, not, cond, eqb, eqb-true, Option, Some, None, inl, inr, map, filter, refl, sym, ap, subst, ◌∙◌, nat_eq, nat_lt, arith, codes}
-use Rattle.std.specs.Prelude.{nat_le}
+use Rattle.std.proofs.Common.{◌≡◌, ℕ, ◌<◌, List, [], ◌∷◌, ◌++◌, ◌&&◌, ◌||◌, Bool, true, false, not, cond, eqb, eqb-true, Option, Some, None, inl, inr, map, filter, refl, sym, ap, subst, ◌∙◌, nat_eq, nat_lt, arith, codes, nat_le, option_map, option_and_then, bytes_eq}
 use Rattle.std.specs.List.{Contains, list_any, list_all, find, starts_with, filter_map, cons_option}
 use Rattle.std.specs.Cmp.Lexicographic.{pointwise}
-use Rattle.std.specs.Option.{option_map, option_and_then}
-use Rattle.std.specs.Str.{bytes_eq}
-use Rattle.std.proofs.lemmas.Bool.{false≢true, and_parts, or_cases, ltb-true}
-use Rattle.std.proofs.lemmas.List.Elements.{Contains-append_left}
+use Rattle.std.proofs.lemmas.Bool.{false≢true, and_parts, or_cases, ltb-true, or_from, or_left, or_right}
+use Rattle.std.proofs.lemmas.List.Elements.{Contains-append_left, filter-append}
 use Rattle.std.proofs.lemmas.List.Folds.{list_any-append}
 use Rattle.std.proofs.lemmas.List.Sorted.{Contains-permutation}
 use Rattle.std.proofs.lemmas.Slice.Eq.{bytes_eq-Decides}
 use Rattle.compilers.specs.declared.compiler.NvccHostCompiler.{NvccHostCompiler}
-use Rattle.compilers.specs.declared.compiler.NvccHostCompiler.TheVariants.{Gcc, Msvc, Nvhpc}
+use Rattle.compilers.specs.declared.compiler.NvccHostCompiler.TheVariants.{Msvc}
 use Rattle.texts.specs.DeviceFiles.{is_cicc_word}
 use Rattle.texts.specs.Lists.{is_some_and, first_word, word_after}
 use Rattle.texts.specs.ObjectFlags.{makes_objects}
@@ -32,7 +29,7 @@ use Rattle.canonical_names.proofs.FileLemmas.{bare-relative}
 use Rattle.canonical_names.proofs.RankLemmas.{bytes_eq-itself, eqb-turned}
 use Rattle.canonical_names.proofs.ShadowLemmas.{test-kept, class-by_end, plain-class, plain-word, bare-canonical, canonical-file_name, renamed-cicc, file-end, plain-outputs_stay_apart}
 use Rattle.canonical_names.proofs.ShadowRankLemmas.{cicc-joined_name, step-names_keep_rank}
-use Rattle.canonical_names.proofs.SuffixLemmas.{any-member, each-member}
+use Rattle.canonical_names.proofs.SuffixLemmas.{each-member, any-member}
 use Rattle.plans.specs.declared.plan.Reason.TheVariants.{NoCiccGroup}
 use Rattle.command_groups.specs.Fate.{device, device_or, PlacedCommand, place_of, places, fates}
 use Rattle.command_groups.specs.Merge.{MergedCommand, of_run, is_taken, is_nvcc_stem, is_host_stem, selected, is_in_order, put_in_order, in_order, merged}
@@ -40,7 +37,7 @@ use Rattle.command_groups.specs.MergeLaws.{InOrder}
 use Rattle.command_groups.specs.Plan.{PlanSetting, staged_commands}
 use Rattle.command_groups.specs.ShadowLaws.{is_step, writes, is_step_to, planned_command, IsFedBy, HasFate, StandTogether, StepShadowsStandTogether, ShadowsStandTogether}
 use Rattle.command_groups.specs.Stage.{ProgramKind, linker, cudafe, cicc, ptxas, other, kind_of_optional_stem, kind_of_program, has_word, without_first_word, cicc_edit, edited_by, device_compiling, preprocessing, host_compiling, foreign, StagedCommand, staged, stage_by, opens, defines_cuda, is_for_cuda, preprocess_word, device_name, opened_name, cicc_input}
-use Rattle.command_groups.proofs.FateLemmas.{both_false, first_true, second_true, same_text, equal_texts, fates_staged, placed_staged}
+use Rattle.command_groups.proofs.FateLemmas.{same_text, equal_texts, fates_staged, placed_staged}
 use Rattle.command_groups.proofs.MergeLemmas.{merged_is_in_order, merged_are_the_selected}
 use Rattle.command_groups.proofs.OpenerLemmas.{filter_holds, filter_member, opener, opener_place, fate_settled}
 use Rattle.command_groups.proofs.PlanLemmas.{all_staged_in_order}
@@ -81,12 +78,6 @@ module _ (test : MergedCommand → Bool) where
             put_in c (in_order cs) e (sort_none cs rest) ∙ ap (λ z. z ∷ []) is
         | false ↦ λ e k. put_out c (in_order cs) e ∙ sort_one cs x k
       ] refl h
-
-filter_append : {A : Type 0} (test : A → Bool) (xs ys : List A) → filter test (xs ++ ys) ≡ filter test xs ++ filter test ys
-filter_append test [] ys = refl
-filter_append test (x ∷ xs) ys =
-    elim (test x) as (λ b. cond b (x ∷ filter test (xs ++ ys)) (filter test (xs ++ ys)) ≡ cond b (x ∷ filter test xs) (filter test xs) ++ filter test ys)
-    [ true ↦ ap (λ t. x ∷ t) (filter_append test xs ys) | false ↦ filter_append test xs ys ]
 
 filter_mapped : {A B : Type 0} (test : B → Bool) (f : A → B) (xs : List A) → filter test (map f xs) ≡ map f (filter (λ x. test (f x)) xs)
 filter_mapped test f [] = refl
@@ -153,13 +144,13 @@ no_dash_start t (c ∷ cs) h = ap (λ b. b && starts_with nat_eq cs t) (eqb-turn
 
 no_dash_macro : (text : List ℕ) → begins_with_dash text ≡ false → defines_cuda text ≡ false
 no_dash_macro text h =
-    both_false (starts_with nat_eq text (codes "-D__CUDACC__")) (starts_with nat_eq text (codes "-D__NVCC__") || (starts_with nat_eq text (codes "-D__CUDA_ARCH__") || (starts_with nat_eq text (codes "-D__CUDA_ARCH_LIST__") || false)))
+    or_from (starts_with nat_eq text (codes "-D__CUDACC__")) (starts_with nat_eq text (codes "-D__NVCC__") || (starts_with nat_eq text (codes "-D__CUDA_ARCH__") || (starts_with nat_eq text (codes "-D__CUDA_ARCH_LIST__") || false)))
     (no_dash_start (codes "D__CUDACC__") text h)
-    (both_false (starts_with nat_eq text (codes "-D__NVCC__")) (starts_with nat_eq text (codes "-D__CUDA_ARCH__") || (starts_with nat_eq text (codes "-D__CUDA_ARCH_LIST__") || false))
+    (or_from (starts_with nat_eq text (codes "-D__NVCC__")) (starts_with nat_eq text (codes "-D__CUDA_ARCH__") || (starts_with nat_eq text (codes "-D__CUDA_ARCH_LIST__") || false))
     (no_dash_start (codes "D__NVCC__") text h)
-    (both_false (starts_with nat_eq text (codes "-D__CUDA_ARCH__")) (starts_with nat_eq text (codes "-D__CUDA_ARCH_LIST__") || false)
+    (or_from (starts_with nat_eq text (codes "-D__CUDA_ARCH__")) (starts_with nat_eq text (codes "-D__CUDA_ARCH_LIST__") || false)
     (no_dash_start (codes "D__CUDA_ARCH__") text h)
-    (both_false (starts_with nat_eq text (codes "-D__CUDA_ARCH_LIST__")) false (no_dash_start (codes "D__CUDA_ARCH_LIST__") text h) refl)))
+    (or_from (starts_with nat_eq text (codes "-D__CUDA_ARCH_LIST__")) false (no_dash_start (codes "D__CUDA_ARCH_LIST__") text h) refl)))
 
 -- Members.
 
@@ -177,12 +168,12 @@ words_name suffixes [] word x h e = absurd (no-member word h)
 words_name suffixes (w ∷ ws) word x h e =
     let rest = filter_map (generated_name suffixes) ws in
     elim (member-cases w ws word h) as (λ _. list_any (bytes_eq x) (cons_option (generated_name suffixes w) rest) ≡ true) [
-      | inl is ↦ ap (λ o. list_any (bytes_eq x) (cons_option o rest)) (ap (generated_name suffixes) is ∙ e) ∙ first_true (bytes_eq x x) (list_any (bytes_eq x) rest) (bytes_eq-itself x)
+      | inl is ↦ ap (λ o. list_any (bytes_eq x) (cons_option o rest)) (ap (generated_name suffixes) is ∙ e) ∙ or_left (bytes_eq x x) (list_any (bytes_eq x) rest) (bytes_eq-itself x)
       | inr more ↦ more_any (generated_name suffixes w) (words_name suffixes ws word x more e)
     ] where
       more_any : (o : Option (List ℕ)) → list_any (bytes_eq x) (filter_map (generated_name suffixes) ws) ≡ true → list_any (bytes_eq x) (cons_option o (filter_map (generated_name suffixes) ws)) ≡ true
       more_any None k = k
-      more_any (Some y) k = second_true (bytes_eq x y) (list_any (bytes_eq x) (filter_map (generated_name suffixes) ws)) k
+      more_any (Some y) k = or_right (bytes_eq x y) (list_any (bytes_eq x) (filter_map (generated_name suffixes) ws)) k
 
 run_name : (suffixes : List (List ℕ)) (commands : List CommandLine) (c : CommandLine) (word x : List ℕ) → Contains commands c → Contains (words_of_command c) word → generated_name suffixes word ≡ Some x → list_any (bytes_eq x) (appearances suffixes commands) ≡ true
 run_name suffixes [] c word x h among e = absurd (no-member c h)
@@ -192,8 +183,8 @@ run_name suffixes (d ∷ ds) c word x h among e =
     elim (member-cases d ds c h) as (λ _. list_any (bytes_eq x) (front ++ rest) ≡ true) [
       | inl is ↦
           list_any-append (bytes_eq x) front rest
-          ∙ first_true (list_any (bytes_eq x) front) (list_any (bytes_eq x) rest) (words_name suffixes (words_of_command d) word x (subst (λ z. Contains (words_of_command z) word) (sym is) among) e)
-      | inr more ↦ list_any-append (bytes_eq x) front rest ∙ second_true (list_any (bytes_eq x) front) (list_any (bytes_eq x) rest) (run_name suffixes ds c word x more among e)
+          ∙ or_left (list_any (bytes_eq x) front) (list_any (bytes_eq x) rest) (words_name suffixes (words_of_command d) word x (subst (λ z. Contains (words_of_command z) word) (sym is) among) e)
+      | inr more ↦ list_any-append (bytes_eq x) front rest ∙ or_right (list_any (bytes_eq x) front) (list_any (bytes_eq x) rest) (run_name suffixes ds c word x more among e)
     ]
 
 name_known : (suffixes : List (List ℕ)) → AreSuffixes suffixes → (commands : List CommandLine) (c : CommandLine) (word : List ℕ) → Contains commands c → Contains (words_of_command c) word →
@@ -216,9 +207,8 @@ module _ (suffixes : List (List ℕ)) (lawful : AreSuffixes suffixes) (names : L
   cuda_kept words = any_kept defines_cuda (λ rest. refl) no_dash_macro words
 
   step_kept : (compiler : NvccHostCompiler) (words : List (List ℕ)) → has_word (preprocess_word compiler) (map new words) ≡ has_word (preprocess_word compiler) words
-  step_kept Gcc words = any_kept (bytes_eq (codes "-E")) (λ rest. refl) (no_dash_equal (codes "E")) words
   step_kept Msvc words = any_kept (bytes_eq (codes "-P")) (λ rest. refl) (no_dash_equal (codes "P")) words
-  step_kept Nvhpc words = any_kept (bytes_eq (codes "-E")) (λ rest. refl) (no_dash_equal (codes "E")) words
+  step_kept _ words = any_kept (bytes_eq (codes "-E")) (λ rest. refl) (no_dash_equal (codes "E")) words
 
   first_kept : (words : List (List ℕ)) → first_word (map new words) ≡ option_map new (first_word words)
   first_kept [] = refl
@@ -442,7 +432,7 @@ module _ (suffixes : List (List ℕ)) (lawful : AreSuffixes suffixes) (s : PlanS
   one_opener : filter (opener file) all ≡ fed_by ∷ []
   one_opener =
       let some : filter opens_file (own ++ hosts) ≡ of_run 2 (renamed_two step) ∷ [] =
-      filter_append opens_file own hosts ∙ ap (λ t. t ++ filter opens_file hosts) (own_filter firsts) ∙ steps_filter second (λ c h. h) ∙ ap (map (λ c. of_run 2 (renamed_two c))) fed.one_step in
+      filter-append opens_file own hosts ∙ ap (λ t. t ++ filter opens_file hosts) (own_filter firsts) ∙ steps_filter second (λ c h. h) ∙ ap (map (λ c. of_run 2 (renamed_two c))) fed.one_step in
       filter_mapped (opener file) (staged s.host_compiler s.flag) (merged firsts seconds)
       ∙ ap (map (staged s.host_compiler s.flag)) (sort_one opens_file (own ++ hosts) (of_run 2 (renamed_two step)) some)
 

@@ -1,9 +1,6 @@
 -- Words that are edited at the place of the first that is a given word.
-use Rattle.std.proofs.Common.{◌≡◌, ℕ, suc, zero, Bool, true, false, List, [], ◌∷◌, map, refl, ap, sym, arith, String, string_bytes, Global}
+use Rattle.std.proofs.Common.{◌≡◌, ℕ, suc, zero, Bool, true, false, List, [], ◌∷◌, map, refl, ap, sym, arith, String, string_bytes, Global, Option, Some, None, option_map, if◌then◌else◌, insert, remove, bytes_eq}
 use Rattle.std.proofs.lemmas.Option.{none-some, same_Some}
-use Rattle.std.specs.Prelude.{Option, Some, None, option_map, if◌then◌else◌}
-use Rattle.std.specs.List.{insert, remove}
-use Rattle.std.specs.Str.{bytes_eq}
 use Rattle.command_groups.specs.Stage.{with_word_before, without_first_word}
 use Rattle.command_groups.specs.WordPlace.{word_place}
 

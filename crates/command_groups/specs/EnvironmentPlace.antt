@@ -1,6 +1,5 @@
 -- Where a variable stands in an environment.
-use Rattle.std.specs.Prelude.{ℕ, suc, List, [], ◌∷◌, Option, Some, None, option_map, if◌then◌else◌}
-use Rattle.std.specs.Str.{bytes_eq}
+use Rattle.std.specs.Prelude.{ℕ, suc, List, [], ◌∷◌, Option, Some, None, option_map, if◌then◌else◌, bytes_eq}
 
 -- the place of the first variable of a name
 abbrev pub variable_place : List ℕ → List (List ℕ × List ℕ) → Option ℕ

@@ -1,12 +1,9 @@
 -- Where each merged command goes: its place, by the commands before it, and its fate, by the steps after it too.
-use Rattle.std.specs.Prelude.{ℕ, List, [], ◌∷◌, ◌++◌, Bool, true, false, not, ◌&&◌, ◌||◌, if◌then◌else◌, Option, Some, None, find}
+use Rattle.std.specs.Prelude.{ℕ, List, [], ◌∷◌, ◌++◌, Bool, true, false, not, ◌&&◌, ◌||◌, if◌then◌else◌, Option, Some, None, find, bytes_eq}
 use Rattle.std.specs.List.{list_any, fold}
-use Rattle.std.specs.Str.{bytes_eq}
 use Rattle.plans.specs.declared.plan.Reason.{Reason}
 use Rattle.plans.specs.declared.plan.Reason.TheVariants.{NotCuda, NoCiccGroup, NoPtxasGroup, Superseded}
-use Rattle.texts.specs.Lists.{last_of}
-use Rattle.texts.specs.Lists.{with_name}
-use Rattle.texts.specs.Lists.{is_some_and}
+use Rattle.texts.specs.Lists.{last_of, with_name, is_some_and}
 use Rattle.command_groups.specs.Stage.{Stage, linking, splitting, device_compiling, assembling, preprocessing, host_compiling, foreign, StagedCommand, opens}
 
 -- where a command goes: the front group, the device group of a name, the final group, or none for a reason
@@ -35,10 +32,8 @@ first_group reason test names = device_or reason (find test names)
 
 -- whether a command's place or fate is the device group of a name
 abbrev pub is_device : List ℕ → Fate → Bool
-is_device name front = false
 is_device name (device other) = bytes_eq other name
-is_device name final = false
-is_device name (ungrouped reason) = false
+is_device name _ = false
 
 -- whether a command opens the group of a name
 abbrev pub opens_name : List ℕ → PlacedCommand → Bool

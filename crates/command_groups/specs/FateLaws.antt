@@ -1,17 +1,14 @@
 -- What is claimed of fates and groups, for all lists of commands.
-use Rattle.std.specs.Prelude.{◌≡◌, ℕ, ◌+◌, List, ◌∷◌, ◌++◌, Bool, true, false, length, map, flat_map, IsPermutation}
+use Rattle.std.specs.Prelude.{◌≡◌, ℕ, ◌+◌, List, ◌∷◌, ◌++◌, Bool, true, false, length, map, flat_map, IsPermutation, bytes_eq}
 use Rattle.std.specs.List.{list_any}
-use Rattle.std.specs.Str.{bytes_eq}
 use Rattle.command_groups.specs.Stage.{StagedCommand}
-use Rattle.command_groups.specs.Fate.{Fate, front, device, final, ungrouped, PlacedCommand, is_device, opens_name, opened_names, fates}
+use Rattle.command_groups.specs.Fate.{Fate, ungrouped, PlacedCommand, is_device, opens_name, opened_names, fates}
 use Rattle.command_groups.specs.Plan.{PlanSetting, is_front, is_final, of_fate, plan_of_staged}
 
 -- whether a fate is no group
 abbrev pub is_ungrouped : Fate → Bool
-is_ungrouped front = false
-is_ungrouped (device name) = false
-is_ungrouped final = false
 is_ungrouped (ungrouped reason) = true
+is_ungrouped _ = false
 
 -- the commands of the front group, of the device groups of these names, of the final group, and of none
 abbrev pub regrouped : List (List ℕ) → List PlacedCommand → List PlacedCommand

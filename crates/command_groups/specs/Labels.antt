@@ -1,6 +1,5 @@
 -- The labels of commands, given one after the other.
-use Rattle.std.specs.Prelude.{ℕ, List, [], ◌∷◌, ◌++◌, length, fold, Option, Some, None}
-use Rattle.std.specs.Str.{bytes_eq}
+use Rattle.std.specs.Prelude.{ℕ, List, [], ◌∷◌, ◌++◌, length, fold, Option, Some, None, bytes_eq}
 use Rattle.indexmap.specs.IndexMap.{insert_entry}
 use Rattle.texts.specs.Lists.{last_of}
 use Rattle.command_groups.specs.declared.openings.Opening.{Opening}
@@ -75,23 +74,13 @@ label_of opened made place foreign = Ungrouped NotCuda
 
 -- the names opened after a stage
 abbrev pub opened_after : Opened → ℕ → Stage → Opened
-opened_after opened place linking = opened
-opened_after opened place splitting = opened
-opened_after opened place (device_compiling name) = opened
-opened_after opened place (assembling path) = opened
 opened_after opened place (preprocessing name) = with_opened opened place name
-opened_after opened place host_compiling = opened
-opened_after opened place foreign = opened
+opened_after opened place _ = opened
 
 -- the files made after a stage with these words
 abbrev pub made_after : Opened → Made → List (List ℕ) → Stage → Made
-made_after opened made words linking = made
-made_after opened made words splitting = made
 made_after opened made words (device_compiling name) = with_output made (input_opening opened name) words
-made_after opened made words (assembling path) = made
-made_after opened made words (preprocessing name) = made
-made_after opened made words host_compiling = made
-made_after opened made words foreign = made
+made_after opened made words _ = made
 
 -- one more command
 abbrev pub with_command : GroupingState → StagedCommand → GroupingState

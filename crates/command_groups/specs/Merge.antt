@@ -1,7 +1,6 @@
 -- The commands of two dry runs that are planned: which of each run, and in which order.
-use Rattle.std.specs.Prelude.{ℕ, List, [], ◌∷◌, ◌++◌, Bool, not, ◌&&◌, ◌||◌, ◌==◌, nat_lt, nat_le, if◌then◌else◌, map, filter, codes}
+use Rattle.std.specs.Prelude.{ℕ, List, [], ◌∷◌, ◌++◌, Bool, not, ◌&&◌, ◌||◌, ◌==◌, nat_lt, nat_le, if◌then◌else◌, map, filter, codes, bytes_eq}
 use Rattle.std.specs.List.{list_any}
-use Rattle.std.specs.Str.{bytes_eq}
 use Rattle.texts.specs.Path.{file_stem_of}
 use Rattle.command_lines.specs.CommandLines.{CommandLine, line_of, program_of, words_of_command}
 use Rattle.texts.specs.Lists.{is_some_and}

@@ -1,6 +1,5 @@
 -- Openings of device groups, as names in order of first appearance with the places of the steps that opened them last.
-use Rattle.std.specs.Prelude.{ℕ, suc, List, [], ◌∷◌, ◌++◌, Bool, ◌==◌, nat_le, map, if◌then◌else◌, Option, Some, None, slice_get}
-use Rattle.std.specs.Str.{bytes_eq}
+use Rattle.std.specs.Prelude.{ℕ, suc, List, [], ◌∷◌, ◌++◌, Bool, ◌==◌, nat_le, map, if◌then◌else◌, Option, Some, None, slice_get, bytes_eq}
 use Rattle.texts.specs.Lists.{is_some_and}
 use Rattle.command_groups.specs.declared.openings.Opening.{Opening}
 

@@ -7,8 +7,8 @@ use Rattle.plans.specs.declared.plan.Plan.{Plan}
 use Rattle.command_lines.specs.CommandLines.{CommandLine}
 use Rattle.command_groups.specs.Merge.{MergedCommand, merged}
 use Rattle.dry_runs.specs.Environment.{with_variables}
-use Rattle.command_groups.specs.Stage.{Stage, linking, splitting, device_compiling, assembling, preprocessing, host_compiling, foreign, StagedCommand, staged, cacheable_mark}
-use Rattle.command_groups.specs.Fate.{Fate, front, device, final, ungrouped, PlacedCommand, is_device, opened_names, fates}
+use Rattle.command_groups.specs.Stage.{Stage, host_compiling, StagedCommand, staged, cacheable_mark}
+use Rattle.command_groups.specs.Fate.{Fate, front, final, ungrouped, PlacedCommand, is_device, opened_names, fates}
 
 -- what a plan is made for: the working directory, the folder of temporary files, the compilation flag, the host compiler and
 -- the environment
@@ -26,13 +26,8 @@ folder_of_run s run = if run == 1 then s.tmp else s.cwd
 -- The environment of a stage. The last host compile gets one more pair at the end. The compiler doesn't look at it: sccache's server
 -- does, and counts this compilation in its statistics as CUDA, though its line is one of C++.
 abbrev pub environment_of : Stage → List (List ℕ × List ℕ) → List (List ℕ × List ℕ)
-environment_of linking environment = environment
-environment_of splitting environment = environment
-environment_of (device_compiling name) environment = environment
-environment_of (assembling path) environment = environment
-environment_of (preprocessing name) environment = environment
 environment_of host_compiling environment = environment ++ (codes "__SCCACHE_THIS_IS_A_CUDA_COMPILATION__", []) ∷ []
-environment_of foreign environment = environment
+environment_of _ environment = environment
 
 -- a command as a group holds it
 abbrev pub subcommand_of : PlanSetting → StagedCommand → NvccGeneratedSubcommand
@@ -54,22 +49,16 @@ group_of s test commands = map (λ p. subcommand_of s p.staged) (of_fate test co
 -- whether a fate is the front group, and whether it is the final group
 abbrev pub is_front : Fate → Bool
 is_front front = true
-is_front (device name) = false
-is_front final = false
-is_front (ungrouped reason) = false
+is_front _ = false
 
 abbrev pub is_final : Fate → Bool
-is_final front = false
-is_final (device name) = false
 is_final final = true
-is_final (ungrouped reason) = false
+is_final _ = false
 
 -- a command that stands in no group, with the reason of its fate
 abbrev pub dropped_by : Fate → MergedCommand → Option Dropped
-dropped_by front c = None
-dropped_by (device name) c = None
-dropped_by final c = None
 dropped_by (ungrouped reason) c = Some (record { line = c.line; run = c.run; exe = c.program; args = c.words; reason = reason })
+dropped_by _ c = None
 
 -- the groups: the front group, a device group for each opened name, and the final group
 abbrev pub groups_of : PlanSetting → List (List ℕ) → List PlacedCommand → List (List NvccGeneratedSubcommand)

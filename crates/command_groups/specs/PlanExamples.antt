@@ -85,8 +85,7 @@ one_kernel_plan name second =
 
 -- both runs with canonical names
 abbrev pub OneKernelPlan : Type 0
-OneKernelPlan =
-    plan_of_both (commands_of (codes "x_0")) ≡ one_kernel_plan (codes "x_0") (codes "x_0")
+OneKernelPlan = plan_of_both (commands_of (codes "x_0")) ≡ one_kernel_plan (codes "x_0") (codes "x_0")
 
 -- the second run names its files in the folder of temporary files, and the device group is the same, since it has the file name
 abbrev pub NamesInAFolder : Type 0
@@ -95,13 +94,11 @@ NamesInAFolder =
 
 -- no word is renamed
 abbrev pub NamesAsTheyAre : Type 0
-NamesAsTheyAre =
-    plan_of_both (commands_of (codes "kernel")) ≡ one_kernel_plan (codes "kernel") (codes "kernel")
+NamesAsTheyAre = plan_of_both (commands_of (codes "kernel")) ≡ one_kernel_plan (codes "kernel") (codes "kernel")
 
 -- runs without commands: the outer groups are there, and empty
 abbrev pub EmptyRuns : Type 0
-EmptyRuns =
-    plan_of (setting Gcc (codes "-c")) [] [] [] ≡ plan_with ([] ∷ [] ∷ []) []
+EmptyRuns = plan_of (setting Gcc (codes "-c")) [] [] [] ≡ plan_with ([] ∷ [] ∷ []) []
 
 -- host code alone is in the final group, and its environment says that it is compiled for CUDA
 abbrev pub HostCodeAlone : Type 0
@@ -132,8 +129,7 @@ step_and_cicc =
 
 -- a step that opens a name again supersedes the commands that were in its group
 abbrev pub ReopenedGroup : Type 0
-ReopenedGroup =
-    plan_of_both step_and_cicc_twice ≡ plan_with ([] ∷ step_and_cicc ∷ [] ∷ []) superseded_pair
+ReopenedGroup = plan_of_both step_and_cicc_twice ≡ plan_with ([] ∷ step_and_cicc ∷ [] ∷ []) superseded_pair
 
 -- both ptxas commands join the group whose cicc makes their input
 abbrev pub SecondPtxas : Type 0
@@ -168,8 +164,7 @@ StepMakesNoPtx =
 
 -- two steps, which open two groups
 abbrev pub two_steps : List CommandLine
-two_steps =
-    at 1 (codes "/b/gcc") (codes "-D__NVCC__ -E k.cu -o x_0.cpp1.ii") ∷ at 2 (codes "/b/gcc") (codes "-D__NVCC__ -E k.cu -o x_1.cpp1.ii") ∷ []
+two_steps = at 1 (codes "/b/gcc") (codes "-D__NVCC__ -E k.cu -o x_0.cpp1.ii") ∷ at 2 (codes "/b/gcc") (codes "-D__NVCC__ -E k.cu -o x_1.cpp1.ii") ∷ []
 
 -- two groups whose cicc make one file share the later ptxas in the first of them
 abbrev pub SharedPtx : Type 0
@@ -202,8 +197,7 @@ PreprocessesForMsvc =
 
 -- under Gcc the same command compiles host code
 abbrev pub CompilesForGcc : Type 0
-CompilesForGcc =
-    plan_of_both cl_step ≡ plan_with ([] ∷ (compiles (codes "/b/cl") (codes "-D__NVCC__ -P k.cu -o x_0.cpp1.ii") ∷ []) ∷ []) []
+CompilesForGcc = plan_of_both cl_step ≡ plan_with ([] ∷ (compiles (codes "/b/cl") (codes "-D__NVCC__ -P k.cu -o x_0.cpp1.ii") ∷ []) ∷ []) []
 
 -- a step and a cicc that says twice that the module id file is made
 abbrev pub step_and_generating_cicc : List CommandLine
@@ -229,8 +223,7 @@ CiccKeepsItsWords =
 
 -- a command that defines no macro of CUDA is dropped
 abbrev pub NotForCuda : Type 0
-NotForCuda =
-    plan_of_both (at 1 (codes "/b/") (codes "x") ∷ []) ≡ plan_with ([] ∷ [] ∷ []) (drops NotCuda 1 2 (codes "/b/") (codes "x") ∷ [])
+NotForCuda = plan_of_both (at 1 (codes "/b/") (codes "x") ∷ []) ≡ plan_with ([] ∷ [] ∷ []) (drops NotCuda 1 2 (codes "/b/") (codes "x") ∷ [])
 
 -- a program without a stem is of neither run
 abbrev pub ProgramWithoutAStem : Type 0

@@ -24,13 +24,11 @@ planned first second = planned_with None first second
 
 -- the one-kernel dry run twice
 abbrev pub OneKernelFromBytes : Type 0
-OneKernelFromBytes =
-    planned bytes.one_kernel bytes.one_kernel ≡ Ok (one_kernel_plan (codes "x_0") (codes "x_0"))
+OneKernelFromBytes = planned bytes.one_kernel bytes.one_kernel ≡ Ok (one_kernel_plan (codes "x_0") (codes "x_0"))
 
 -- with other names of the generated files the plan is the same
 abbrev pub OtherNamesFromBytes : Type 0
-OtherNamesFromBytes =
-    planned bytes.one_kernel_elsewhere bytes.one_kernel_elsewhere ≡ Ok (one_kernel_plan (codes "x_0") (codes "x_0"))
+OtherNamesFromBytes = planned bytes.one_kernel_elsewhere bytes.one_kernel_elsewhere ≡ Ok (one_kernel_plan (codes "x_0") (codes "x_0"))
 
 -- both texts are alike, as the law of alike texts asks
 abbrev pub OtherNamesAreAlike : Type 0
@@ -48,18 +46,15 @@ other_names_are_alike = record {
 
 -- with the second run's generated files in the folder of temporary files, host commands name them there
 abbrev pub TemporaryNamesFromBytes : Type 0
-TemporaryNamesFromBytes =
-    planned bytes.one_kernel bytes.one_kernel_in_temporary ≡ Ok (one_kernel_plan (codes "x_0") (codes "/t/x_0"))
+TemporaryNamesFromBytes = planned bytes.one_kernel bytes.one_kernel_in_temporary ≡ Ok (one_kernel_plan (codes "x_0") (codes "/t/x_0"))
 
 -- where files are kept, no word is renamed
 abbrev pub KeptNamesFromBytes : Type 0
-KeptNamesFromBytes =
-    planned_with (Some (codes "/w/keep")) bytes.one_kernel bytes.one_kernel ≡ Ok (one_kernel_plan (codes "kernel") (codes "kernel"))
+KeptNamesFromBytes = planned_with (Some (codes "/w/keep")) bytes.one_kernel bytes.one_kernel ≡ Ok (one_kernel_plan (codes "kernel") (codes "kernel"))
 
 -- no bytes: the outer groups alone
 abbrev pub NothingFromBytes : Type 0
-NothingFromBytes =
-    planned [] [] ≡ Ok (plan_with ([] ∷ [] ∷ []) [])
+NothingFromBytes = planned [] [] ≡ Ok (plan_with ([] ∷ [] ∷ []) [])
 
 -- a dry run of one host command, its lines ended in two ways
 abbrev pub host_code_run : List ℕ
@@ -67,18 +62,15 @@ host_code_run = codes "kernel.cu\r\n#$ PATH=/b\r\n#$ gcc -D__NVCC__ -c x.cpp"
 
 -- host code alone
 abbrev pub HostCodeFromBytes : Type 0
-HostCodeFromBytes =
-    planned host_code_run host_code_run ≡ Ok (plan_with ([] ∷ (compiles (codes "/b/gcc") (codes "-D__NVCC__ -c x.cpp") ∷ []) ∷ []) [])
+HostCodeFromBytes = planned host_code_run host_code_run ≡ Ok (plan_with ([] ∷ (compiles (codes "/b/gcc") (codes "-D__NVCC__ -c x.cpp") ∷ []) ∷ []) [])
 
 -- only the second run can't be read: its fault
 abbrev pub SecondRunIsBad : Type 0
-SecondRunIsBad =
-    planned [] (codes "#$ gcc\n") ≡ Err (NoPath 2 0)
+SecondRunIsBad = planned [] (codes "#$ gcc\n") ≡ Err (NoPath 2 0)
 
 -- neither can be read: the fault of the first
 abbrev pub FirstRunIsBad : Type 0
-FirstRunIsBad =
-    planned (codes "#$ gcc \"a\n") (codes "#$ gcc\n") ≡ Err (BadShell 1 0)
+FirstRunIsBad = planned (codes "#$ gcc \"a\n") (codes "#$ gcc\n") ≡ Err (BadShell 1 0)
 
 -- a dry run of a step and cicc, twice over, and of two ptxas commands
 abbrev pub step_and_cicc_twice_run : List ℕ
@@ -137,5 +129,4 @@ nameless_run = codes "#$ PATH=/b\n#$ \"\" x\n"
 
 -- the program is the folder, and the command isn't for CUDA
 abbrev pub NamelessFromBytes : Type 0
-NamelessFromBytes =
-    planned nameless_run nameless_run ≡ Ok (plan_with ([] ∷ [] ∷ []) (drops NotCuda 1 2 (codes "/b/") (codes "x") ∷ []))
+NamelessFromBytes = planned nameless_run nameless_run ≡ Ok (plan_with ([] ∷ [] ∷ []) (drops NotCuda 1 2 (codes "/b/") (codes "x") ∷ []))

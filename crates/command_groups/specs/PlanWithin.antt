@@ -28,5 +28,4 @@ planning_with_origins_within limit suffixes keep_dir s which first second =
 
 -- the plan that the bytes of two runs have within the limit
 abbrev pub planning_within : ℕ → List (List ℕ) → Option (List ℕ) → PlanSetting → LookUp → List ℕ → List ℕ → Result Plan LimitedFault
-planning_within limit suffixes keep_dir s which first second =
-    plan_alone (planning_with_origins_within limit suffixes keep_dir s which first second)
+planning_within limit suffixes keep_dir s which first second = plan_alone (planning_with_origins_within limit suffixes keep_dir s which first second)

@@ -1,7 +1,6 @@
 -- The commands of one dry run that a caller selects, and the environment behind the run.
-use Rattle.std.specs.Prelude.{◌≡◌, ℕ, List, Bool, Result, Ok, Err, if◌then◌else◌}
+use Rattle.std.specs.Prelude.{◌≡◌, ℕ, List, Bool, Result, Ok, Err, if◌then◌else◌, IsUtf8}
 use Rattle.std.specs.Borrow.{Bor}
-use Rattle.std.specs.Str.{IsUtf8}
 use Rattle.texts.specs.declared.fault.Fault.{Fault}
 use Rattle.command_lines.specs.CommandLines.{CommandLine}
 use Rattle.dry_runs.specs.Environment.{Variable, with_variables}

@@ -1,6 +1,5 @@
 -- Selections of dry runs worked out by hand.
-use Rattle.std.specs.Prelude.{◌≡◌, ℕ, List, [], ◌∷◌, ◌++◌, Bool, true, false, Result, Ok, Err, refl, codes}
-use Rattle.std.specs.Str.{bytes_eq}
+use Rattle.std.specs.Prelude.{◌≡◌, ℕ, List, [], ◌∷◌, ◌++◌, Bool, true, false, Result, Ok, Err, refl, codes, bytes_eq}
 use Rattle.texts.specs.Rows.{spaced}
 use Rattle.texts.specs.declared.fault.Fault.{Fault}
 use Rattle.texts.specs.declared.fault.Fault.TheVariants.{BadShell}
@@ -87,8 +86,7 @@ later_line_sets_too = refl
 
 -- a bad line behind a command that is selected refuses the whole run
 abbrev pub BadRunIsRefused : Type 0
-BadRunIsRefused =
-    ciccs true (codes "#$ PATH=/b\n#$ cicc k.cpp1.ii\n#$ gcc \"a\n") ≡ Err (BadShell 1 2)
+BadRunIsRefused = ciccs true (codes "#$ PATH=/b\n#$ cicc k.cpp1.ii\n#$ gcc \"a\n") ≡ Err (BadShell 1 2)
 
 pub bad_run_is_refused : BadRunIsRefused
 unfolding dry_runs_compute

@@ -1,7 +1,5 @@
 -- What is claimed of the plans of shadow runs: cicc stands beside the step that makes its input.
-use Rattle.std.specs.Prelude.{◌≡◌, ℕ, ◌<◌, List, [], ◌∷◌, Bool, true, false, ◌&&◌, map, filter, Some, None, codes}
-use Rattle.std.specs.List.{Contains}
-use Rattle.std.specs.Str.{bytes_eq}
+use Rattle.std.specs.Prelude.{◌≡◌, ℕ, ◌<◌, List, [], ◌∷◌, Bool, true, false, ◌&&◌, map, filter, Some, None, codes, Contains, bytes_eq}
 use Rattle.compilers.specs.declared.compiler.NvccHostCompiler.{NvccHostCompiler}
 use Rattle.texts.specs.Lists.{is_some_and, word_after}
 use Rattle.texts.specs.Path.{joined, is_bare, is_absolute_path, file_stem_of}

@@ -1,8 +1,6 @@
 -- What a merged command does in a compilation: its words as they are run, and its stage.
-use Rattle.std.specs.Prelude.{ℕ, List, [], ◌∷◌, Bool, not, ◌||◌, nat_eq, if◌then◌else◌, Option, Some, None, find, codes}
+use Rattle.std.specs.Prelude.{ℕ, List, [], ◌∷◌, Bool, not, ◌||◌, nat_eq, if◌then◌else◌, Option, Some, None, find, codes, option_and_then, bytes_eq}
 use Rattle.std.specs.List.{list_any, starts_with}
-use Rattle.std.specs.Option.{option_and_then}
-use Rattle.std.specs.Str.{bytes_eq}
 use Rattle.compilers.specs.declared.command.Cacheable.{Cacheable}
 use Rattle.compilers.specs.declared.command.Cacheable.TheVariants.{Yes, No}
 use Rattle.texts.specs.Path.{file_name_of, file_stem_of}
@@ -65,11 +63,9 @@ cicc_edit flag words = if makes_objects flag then without_first_word (codes "--g
 
 -- the words of a program, edited; only those of cudafe++ and of cicc are
 abbrev pub edited_by : ProgramKind → List ℕ → List (List ℕ) → List (List ℕ)
-edited_by linker flag words = words
 edited_by cudafe flag words = cudafe_edit words
 edited_by cicc flag words = cicc_edit flag words
-edited_by ptxas flag words = words
-edited_by other flag words = words
+edited_by _ flag words = words
 
 -- a merged command with edited words, under a compilation flag
 abbrev pub edited : List ℕ → MergedCommand → MergedCommand
@@ -162,9 +158,6 @@ opens _ = None
 -- always defines `__CUDA_ARCH__`: code under `#ifndef __CUDA_ARCH__` isn't in it, so a change there would go unseen.
 abbrev pub cacheable_mark : Stage → Cacheable
 cacheable_mark linking = No
-cacheable_mark splitting = Yes
-cacheable_mark (device_compiling name) = Yes
-cacheable_mark (assembling path) = Yes
 cacheable_mark (preprocessing name) = No
-cacheable_mark host_compiling = Yes
 cacheable_mark foreign = No
+cacheable_mark _ = Yes

@@ -1,6 +1,5 @@
 -- Where a word stands among words.
-use Rattle.std.specs.Prelude.{ℕ, suc, List, [], ◌∷◌, Option, Some, None, option_map, if◌then◌else◌}
-use Rattle.std.specs.Str.{bytes_eq}
+use Rattle.std.specs.Prelude.{ℕ, suc, List, [], ◌∷◌, Option, Some, None, option_map, if◌then◌else◌, bytes_eq}
 
 -- the place of the first that is a given word
 abbrev pub word_place : List ℕ → List (List ℕ) → Option ℕ

@@ -1,7 +1,6 @@
 //! The groups that labelled commands are cut into.
 
-ghost use Rattle.std.specs.Prelude.{◌≡◌, ℕ, ◌+◌, ◌<◌, ◌^◌, List, [], ◌∷◌, ◌++◌, map, fold, length, IfOk, OnOk, string_bytes, vec_items};
-ghost use Rattle.std.specs.List.{flat_map};
+ghost use Rattle.std.specs.Prelude.{◌≡◌, ℕ, ◌+◌, ◌<◌, ◌^◌, List, [], ◌∷◌, ◌++◌, map, fold, length, IfOk, OnOk, string_bytes, vec_items, flat_map};
 ghost use Rattle.command_groups.specs.Groups as spec;
 ghost use Rattle.command_groups.specs.GroupsView.{cut_seen};
 ghost use Rattle.command_groups.specs.LabelsView.{labelled_seen};

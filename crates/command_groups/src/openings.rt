@@ -1,7 +1,6 @@
 //! The device groups that preprocess steps opened, and the files that the commands in them make.
 
-ghost use Rattle.std.specs.Prelude.{◌≡◌, ◌<◌, ◌^◌, ℕ, List, [], length, IfOk, OnOk};
-ghost use Rattle.std.specs.Str.{bytes_eq};
+ghost use Rattle.std.specs.Prelude.{◌≡◌, ◌<◌, ◌^◌, ℕ, List, [], length, IfOk, OnOk, bytes_eq};
 ghost use Rattle.indexmap.specs.IndexMap.{insert_entry};
 ghost use Rattle.command_groups.specs.Openings.{opening_at, opening_of, number_of, is_live as is_live_at, lower as lower_of, first_live as first_live_of, with_file};
 ghost use Rattle.command_groups.specs.MadeView.{made_seen};

@@ -1,7 +1,6 @@
 //! The plan of two dry runs.
 
-ghost use Rattle.std.specs.Prelude.{◌≡◌, map, IfOk, Result};
-ghost use Rattle.std.specs.Option.{option_copied};
+ghost use Rattle.std.specs.Prelude.{◌≡◌, map, IfOk, Result, option_copied};
 ghost use Rattle.texts.specs.Fault.{UnlessMemory};
 ghost use Rattle.texts.specs.Variables.{pair_of};
 ghost use Rattle.dry_runs.specs.declared.limit.LimitedFault.{LimitedFault};

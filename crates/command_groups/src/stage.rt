@@ -1,8 +1,7 @@
 //! What a merged command does in a compilation: its words as they are run, and its stage.
 
-ghost use Rattle.std.specs.Prelude.{◌≡◌, ◌<◌, ℕ, List, nat_eq, map, length, IfOk, IfSome, string_bytes};
+ghost use Rattle.std.specs.Prelude.{◌≡◌, ◌<◌, ℕ, List, nat_eq, map, length, IfOk, IfSome, string_bytes, option_copied};
 ghost use Rattle.std.specs.List.{starts_with};
-ghost use Rattle.std.specs.Option.{option_copied};
 ghost use Rattle.texts.specs.Lists.{last_of};
 ghost use Rattle.command_groups.specs.Stage as spec;
 ghost use Rattle.command_groups.specs.StageView.{kind_seen, named_stage};

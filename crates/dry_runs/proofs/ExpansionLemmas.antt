@@ -1,26 +1,18 @@
 -- Cutting a text at a mark, and what environment lines and references come to.
-use Rattle.std.proofs.Common.{◌≡◌, ℕ, suc, ◌+◌, ◌-◌, ◌<◌, Bool, true, false, cond, eqb, eqb-true, not, ◌&&◌, ◌||◌, List, [], ◌∷◌, ◌++◌, Option, Some, None, Bor, refl, ap, sym, ◌∙◌, subst, length, take, drop, get_or, append-nil, arith}
+use Rattle.std.proofs.Common.{◌≡◌, ℕ, suc, ◌+◌, ◌<◌, Bool, true, false, cond, eqb, eqb-true, not, ◌&&◌, ◌||◌, List, [], ◌∷◌, ◌++◌, Option, Some, None, Bor, refl, ap, sym, ◌∙◌, subst, length, take, drop, get_or, append-nil, arith, is_some, one-add, sub-one}
 use Rattle.std.specs.List.{position_or_len, prefix_len, list_all, before_first, after_first}
-use Rattle.std.specs.Option.{is_some}
 use Rattle.std.specs.Cmp.Lexicographic.{pointwise}
-use Rattle.std.proofs.lemmas.Bool.{false≢true, and_parts}
+use Rattle.std.proofs.lemmas.Bool.{false≢true, and_parts, not-true}
 use Rattle.std.proofs.lemmas.List.Sums.{split_at_first, passes_at_first}
 use Rattle.std.proofs.lemmas.List.Folds.{length-prefix_len}
 use Rattle.std.proofs.lemmas.Str.Pattern.{IsSplitOnceResult, split_once_first}
 use Rattle.std.proofs.Math.Seq.{take-length, take-append_seam, drop-append_seam}
 use Rattle.texts.specs.Path.{lacks}
 use Rattle.texts.specs.Lists.{rest_after}
-use Rattle.dry_runs.specs.Environment.{Variable, is_name_byte, assigned, assignment, is_followed, refers, expanded}
+use Rattle.dry_runs.specs.Environment.{Variable, is_name_byte, assigned, assignment, is_followed, refers}
 use Rattle.command_lines.specs.Replacing.{replaced_past, replaced}
 use Rattle.dry_runs.specs.Reading.{IsCutAt, is_name, begins_name}
-use Rattle.dry_runs.specs.FirstReferred.{behind_dollars}
-use Rattle.dry_runs.specs.FirstReferred.{refers as refers_by}
-
-one-more : (n : ℕ) → 1 + n ≡ suc n
-one-more n = omega arith
-
-one-less : (n : ℕ) → suc n - 1 ≡ n
-one-less n = omega arith
+use Rattle.dry_runs.specs.FirstReferred.{behind_dollars, refers as refers_by}
 
 pub not-zero : (n : ℕ) → eqb (suc n) 0 ≡ false
 not-zero n = grind arith
@@ -31,7 +23,7 @@ lacks-before mark [] = refl
 lacks-before mark (b ∷ bs) =
     elim (eqb b mark)
     as (λ t. eqb b mark ≡ t → lacks mark (take (cond (not t) (1 + prefix_len (λ x. not (eqb x mark)) bs) 0) (b ∷ bs)) ≡ true)
-    [ true ↦ λ _. refl | false ↦ λ e. subst (λ n. lacks mark (take n (b ∷ bs)) ≡ true) (sym (one-more (prefix_len (λ x. not (eqb x mark)) bs))) (rw e (lacks-before mark bs)) ] refl
+    [ true ↦ λ _. refl | false ↦ λ e. subst (λ n. lacks mark (take n (b ∷ bs)) ≡ true) (sym (one-add (prefix_len (λ x. not (eqb x mark)) bs))) (rw e (lacks-before mark bs)) ] refl
 
 pub cut-once : (mark : ℕ) (bs : List ℕ) (r : Option (Bor (List ℕ) × Bor (List ℕ))) → IsSplitOnceResult mark bs r → mark < 128 → IsCutAt mark bs r
 cut-once mark bs None h small =
@@ -46,10 +38,6 @@ cut-once mark bs (Some x) h small =
       whole ∙ ap (λ m. before_first (λ b. eqb b mark) bs ++ (m ∷ after_first (λ b. eqb b mark) bs)) found ∙ ap (λ f. f ++ (mark ∷ after_first (λ b. eqb b mark) bs)) (sym front) ∙ ap (λ k. x.0.now ++ (mark ∷ k)) (sym back),
       ap (lacks mark) front ∙ lacks-before mark bs,
     )
-
-pub lacking : (b : Bool) → not b ≡ false → b ≡ true
-lacking true h = refl
-lacking false h = absurd (false≢true (sym h))
 
 -- what follows the bytes of a name
 abbrev behind_bytes : List ℕ → List ℕ
@@ -73,20 +61,20 @@ behind-lacking : (text : List ℕ) → lacks 61 text ≡ true → begins_without
 behind-lacking [] h = refl
 behind-lacking (c ∷ cs) h =
     let parts = and_parts (not (eqb c 61)) (lacks 61 cs) h in
-    elim (is_name_byte c) as (λ b. begins_without_equals (drop (cond b (1 + prefix_len is_name_byte cs) 0) (c ∷ cs)) ≡ true) [ true ↦ subst (λ n. begins_without_equals (drop n (c ∷ cs)) ≡ true) (sym (one-more (prefix_len is_name_byte cs))) (behind-lacking cs parts.1) | false ↦ parts.0 ]
+    elim (is_name_byte c) as (λ b. begins_without_equals (drop (cond b (1 + prefix_len is_name_byte cs) 0) (c ∷ cs)) ≡ true) [ true ↦ subst (λ n. begins_without_equals (drop n (c ∷ cs)) ≡ true) (sym (one-add (prefix_len is_name_byte cs))) (behind-lacking cs parts.1) | false ↦ parts.0 ]
 
 behind-other : (name rest : List ℕ) → lacks 61 name ≡ true → list_all is_name_byte name ≡ false → begins_without_equals (behind_bytes (name ++ rest)) ≡ true
 behind-other [] rest h other = absurd (false≢true (sym other))
 behind-other (c ∷ cs) rest h other =
     let parts = and_parts (not (eqb c 61)) (lacks 61 cs) h in
     elim (is_name_byte c) as (λ b. (b && list_all is_name_byte cs) ≡ false → begins_without_equals (drop (cond b (1 + prefix_len is_name_byte (cs ++ rest)) 0) (c ∷ (cs ++ rest))) ≡ true)
-    [ true ↦ λ k. subst (λ n. begins_without_equals (drop n (c ∷ (cs ++ rest))) ≡ true) (sym (one-more (prefix_len is_name_byte (cs ++ rest)))) (behind-other cs rest parts.1 k) | false ↦ λ k. parts.0 ] other
+    [ true ↦ λ k. subst (λ n. begins_without_equals (drop n (c ∷ (cs ++ rest))) ≡ true) (sym (one-add (prefix_len is_name_byte (cs ++ rest)))) (behind-other cs rest parts.1 k) | false ↦ λ k. parts.0 ] other
 
 bytes-all : (name rest : List ℕ) → list_all is_name_byte name ≡ true → prefix_len is_name_byte (name ++ 61 ∷ rest) ≡ length name
 bytes-all [] rest all = refl
 bytes-all (c ∷ cs) rest all =
     let parts = and_parts (is_name_byte c) (list_all is_name_byte cs) all in
-    rw (parts.0, bytes-all cs rest parts.1) (one-more (length cs))
+    rw (parts.0, bytes-all cs rest parts.1) (one-add (length cs))
 
 -- a text that begins with another byte assigns nothing
 pub assignment-otherwise : (text : List ℕ) → begins_name text ≡ false → assignment text ≡ None
@@ -113,21 +101,11 @@ assignment-named text name value is all =
     ap assignment is ∙ assignment-is (name ++ 61 ∷ value)
     ∙ ap (λ n. assigned (take n (name ++ 61 ∷ value)) (drop n (name ++ 61 ∷ value))) (bytes-all name value parts.1)
     ∙ ap (λ t. assigned t (drop (length name) (name ++ 61 ∷ value))) (take-append_seam name (61 ∷ value))
-    ∙ ap (assigned name) (drop-append_seam name (61 ∷ value))
-    ∙ named name value parts.0
+    ∙ ap (assigned name) (drop-append_seam name (61 ∷ value)) ∙ named name value parts.0
 
 -- a byte that isn't `$` begins no reference
 no_dollar : (c : ℕ) → not (eqb c 36) ≡ true → eqb 36 c ≡ false
 no_dollar c = grind arith
-
-pub refers-past : (name front rest : List ℕ) → lacks 36 front ≡ true → refers (36 ∷ name) (front ++ rest) ≡ refers (36 ∷ name) rest
-refers-past name [] rest h = refl
-refers-past name (c ∷ cs) rest h =
-    let parts = and_parts (not (eqb c 36)) (lacks 36 cs) h in
-    rw (no_dollar c parts.0) (refers-past name cs rest parts.1)
-
-pub refers-nothing : (name text : List ℕ) → lacks 36 text ≡ true → refers (36 ∷ name) text ≡ false
-refers-nothing name text h = ap (refers (36 ∷ name)) (sym (append-nil text)) ∙ refers-past name text [] h
 
 -- what follows each `$`, past a text without one
 pub behind-past : (front rest : List ℕ) → lacks 36 front ≡ true → behind_dollars (front ++ rest) ≡ behind_dollars rest
@@ -135,10 +113,7 @@ behind-past [] rest h = refl
 behind-past (c ∷ cs) rest h =
     let parts = and_parts (not (eqb c 36)) (lacks 36 cs) h in
     let other : eqb c 36 ≡ false = not-true (eqb c 36) parts.0 in
-    rw other (behind-past cs rest parts.1) where
-      not-true : (b : Bool) → not b ≡ true → b ≡ false
-      not-true true e = absurd (false≢true e)
-      not-true false e = refl
+    rw other (behind-past cs rest parts.1)
 
 pub behind-nothing : (text : List ℕ) → lacks 36 text ≡ true → behind_dollars text ≡ []
 behind-nothing text h = ap behind_dollars (sym (append-nil text)) ∙ behind-past text [] h
@@ -154,13 +129,6 @@ refers-behind name (c ∷ cs) =
     rw flipped
     (elim (eqb c 36) as (λ b. (is_followed (cond b (rest_after name cs) None) || refers (36 ∷ name) cs) ≡ refers_by name (cond b (cs ∷ behind_dollars cs) (behind_dollars cs)))
     [ true ↦ ap (λ r. is_followed (rest_after name cs) || r) (refers-behind name cs) | false ↦ refers-behind name cs ])
-
--- one more variable, by what follows each `$` of the text
-pub expanded-unreferred : (env : List Variable) (name value text : List ℕ) → refers_by name (behind_dollars text) ≡ false → expanded ((name, value) ∷ env) text ≡ expanded env text
-expanded-unreferred env name value text h = rw (refers-behind name text ∙ h) refl
-
-pub expanded-referred : (env : List Variable) (name value text : List ℕ) → refers_by name (behind_dollars text) ≡ true → expanded ((name, value) ∷ env) text ≡ expanded env (replaced (36 ∷ name) value text)
-expanded-referred env name value text h = rw (refers-behind name text ∙ h) refl
 
 pub replaced-past : (name value front rest : List ℕ) → lacks 36 front ≡ true → replaced (36 ∷ name) value (front ++ rest) ≡ front ++ replaced (36 ∷ name) value rest
 replaced-past name value [] rest h = refl
@@ -191,14 +159,9 @@ passed (c ∷ cs) old new (d ∷ ds) rest h =
 pub replaced-reference : (name value after behind : List ℕ) → Some behind ≡ rest_after name after → replaced (36 ∷ name) value (36 ∷ after) ≡ value ++ replaced (36 ∷ name) value behind
 replaced-reference name value after behind h =
     let begins : pointwise eqb name (take (length name) after) ≡ true = begins-with name after ∙ ap is_some (sym h) in
-    rw begins (ap (λ t. value ++ t) (ap (λ n. replaced_past n (36 ∷ name) value after) (one-less (length name)) ∙ passed name (36 ∷ name) value after behind (sym h)))
+    rw begins (ap (λ t. value ++ t) (ap (λ n. replaced_past n (36 ∷ name) value after) (sub-one (suc (length name))) ∙ passed name (36 ∷ name) value after behind (sym h)))
 
 pub replaced-dollar : (name value after : List ℕ) → None ≡ rest_after name after → replaced (36 ∷ name) value (36 ∷ after) ≡ 36 ∷ replaced (36 ∷ name) value after
 replaced-dollar name value after h =
     let begins : pointwise eqb name (take (length name) after) ≡ false = begins-with name after ∙ ap is_some (sym h) in
     rw begins refl
-
--- a text without `$` is its own expansion
-pub expanded-nothing : (env : List Variable) (text : List ℕ) → lacks 36 text ≡ true → expanded env text ≡ text
-expanded-nothing [] text h = refl
-expanded-nothing (v ∷ env) text h = rw (refers-nothing v.0 text h) (expanded-nothing env text h)

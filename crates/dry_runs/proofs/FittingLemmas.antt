@@ -1,16 +1,13 @@
 -- What expanding within a limit makes, and when a text is too long.
-use Rattle.std.proofs.Common.{◌≡◌, ℕ, ◌+◌, ◌-◌, true, false, cond, List, [], ◌∷◌, ◌++◌, Option, Some, None, Bor, MatchOption, refl, ap, sym, ◌∙◌, subst, fold, length, drop, nat_le, arith}
-use Rattle.std.specs.Option.{option_map}
+use Rattle.std.proofs.Common.{◌≡◌, ℕ, ◌+◌, ◌-◌, true, false, cond, List, [], ◌∷◌, ◌++◌, Option, Some, None, Bor, MatchOption, refl, ap, sym, ◌∙◌, subst, fold, length, drop, nat_le, arith, option_map}
 use Rattle.std.proofs.lemmas.List.{length-append}
-use Rattle.texts.specs.Path.{lacks}
 use Rattle.shell_words.specs.Shell.Splitting.{shell_words}
 use Rattle.dry_runs.specs.declared.set_variables.Reference.{Reference}
 use Rattle.dry_runs.specs.Environment.{Variable, refers, expanded}
 use Rattle.command_lines.specs.Replacing.{replaced}
-use Rattle.dry_runs.specs.FirstReferred.{behind_dollars}
-use Rattle.dry_runs.specs.FirstReferred.{refers as refers_by}
+use Rattle.dry_runs.specs.FirstReferred.{behind_dollars, refers as refers_by}
 use Rattle.dry_runs.specs.Limit.{fitting, begun, made, expanded_fitting, expanded_within, words_left}
-use Rattle.dry_runs.proofs.ExpansionLemmas.{refers-nothing, refers-behind}
+use Rattle.dry_runs.proofs.ExpansionLemmas.{refers-behind}
 
 -- one more variable, by what follows each `$` of the text
 pub fitting-unreferred : (left : ℕ) (env : List Variable) (name value text : List ℕ) → refers_by name (behind_dollars text) ≡ false → fold expanded_fitting (Some (left, text)) ((name, value) ∷ env) ≡ fold expanded_fitting (Some (left, text)) env
@@ -18,11 +15,6 @@ fitting-unreferred left env name value text h = rw (refers-behind name text ∙ 
 
 pub fitting-referred : (left : ℕ) (env : List Variable) (name value text : List ℕ) → refers_by name (behind_dollars text) ≡ true → fold expanded_fitting (Some (left, text)) ((name, value) ∷ env) ≡ fold expanded_fitting (made left (replaced (36 ∷ name) value text)) env
 fitting-referred left env name value text h = rw (refers-behind name text ∙ h) refl
-
--- a text without `$` stays
-pub fitting-nothing : (left : ℕ) (env : List Variable) (text : List ℕ) → lacks 36 text ≡ true → fold expanded_fitting (Some (left, text)) env ≡ Some (left, text)
-fitting-nothing left [] text h = refl
-fitting-nothing left (v ∷ env) text h = rw (refers-nothing v.0 text h) (fitting-nothing left env text h)
 
 -- nothing stays nothing
 pub fitting-none : (env : List Variable) → fold expanded_fitting None env ≡ None
@@ -34,25 +26,6 @@ begins left text h = rw h refl
 
 begins-not : (left : ℕ) (text : List ℕ) → nat_le (length text) left ≡ false → begun left text ≡ None
 begins-not left text h = rw h refl
-
--- what a text that is made leaves, by whether it fits
-pub made-none : (left : ℕ) (text : List ℕ) → None ≡ fitting left text → None ≡ made left text
-made-none left text =
-    elim (nat_le (length text) left)
-    as (λ b. None ≡ cond {A = Option (List ℕ)} b (Some text) None → None ≡ cond {A = Option (ℕ × List ℕ)} b (Some (left - length text, text)) None)
-    [ true ↦ λ h. cc | false ↦ λ h. refl ]
-
-pub made-some : (left : ℕ) (text t : List ℕ) → Some t ≡ fitting left text → Some (left - length t, t) ≡ made left text
-made-some left text t =
-    elim (nat_le (length text) left)
-    as (λ b. Some t ≡ cond {A = Option (List ℕ)} b (Some text) None → Some (left - length t, t) ≡ cond {A = Option (ℕ × List ℕ)} b (Some (left - length text, text)) None)
-    [ true ↦ λ h. (let same : t ≡ text = cc in ap (λ x. Some (left - length x, x)) same) | false ↦ λ h. cc ]
-
-pub made-fits : (left : ℕ) (text t : List ℕ) → Some t ≡ fitting left text → nat_le (length t) left ≡ true
-made-fits left text t =
-    elim (nat_le (length text) left)
-    as (λ b. nat_le (length text) left ≡ b → Some t ≡ cond {A = Option (List ℕ)} b (Some text) None → nat_le (length t) left ≡ true)
-    [ true ↦ λ e h. (let same : t ≡ text = cc in ap (λ x. nat_le (length x) left) same ∙ e) | false ↦ λ e h. cc ] refl
 
 pub fits : (left : ℕ) (text : List ℕ) → nat_le (length text) left ≡ true → fitting left text ≡ Some text
 fits left text h = rw h refl

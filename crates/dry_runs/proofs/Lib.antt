@@ -1,6 +1,5 @@
 pub mod ExpansionLemmas
 pub mod FittingLemmas
-pub mod FolderLemmas
 pub mod LineLemmas
 pub mod ParsedLemmas
 pub mod PlaceLemmas

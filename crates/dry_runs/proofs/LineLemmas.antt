@@ -1,6 +1,5 @@
 -- The first line of what is left of a dry run, and the rest.
-use Rattle.std.proofs.Common.{◌≡◌, ℕ, ◌+◌, ◌-◌, ◌<◌, Bool, true, false, cond, eqb, not, List, [], ◌∷◌, Option, Some, None, refl, ap, sym, ◌∙◌, nat_lt, length, take, drop, length-drop, arith}
-use Rattle.std.proofs.Math.Seq.{take-length}
+use Rattle.std.proofs.Common.{◌≡◌, ℕ, ◌+◌, ◌<◌, Bool, true, false, cond, eqb, not, List, [], ◌∷◌, Option, Some, None, refl, ap, ◌∙◌, nat_lt, length, take, drop, arith}
 use Rattle.std.specs.List.{position, position_or_len, slice_split}
 use Rattle.std.specs.Str.Lines.{lines, lines_of_parts, strip_carriage_return}
 use Rattle.std.proofs.lemmas.Bool.{ltb-true, not_from_false, false_from_ne_true}
@@ -59,9 +58,3 @@ lines-last (b ∷ bs) some e =
 
 pub some-left : (n : ℕ) → eqb n 0 ≡ false → 0 < n
 some-left n = grind arith
-
--- the rest of a list, as a slice of it
-pub rest-whole : (n : ℕ) (xs : List ℕ) → take (length xs - n) (drop n xs) ≡ drop n xs
-rest-whole n xs =
-    let all : length (drop n xs) ≡ length xs - n = search (arith, length-drop) in
-    ap (λ k. take k (drop n xs)) (sym all) ∙ take-length (drop n xs)

@@ -1,9 +1,7 @@
 -- A run that is read up to its first bad line, and what the look-ups of a parsed one make of it.
-use Rattle.std.proofs.Common.{◌≡◌, ℕ, ◌+◌, true, false, cond, List, [], ◌∷◌, ◌++◌, Option, Some, None, Result, Ok, Err, refl, ap, sym, ◌∙◌, subst, append_assoc, append-nil, codes}
+use Rattle.std.proofs.Common.{◌≡◌, ℕ, ◌+◌, true, false, cond, List, [], ◌∷◌, ◌++◌, Option, Some, None, Result, Ok, Err, refl, ap, sym, ◌∙◌, subst, append_assoc, append-nil, codes, unwrap_or, bytes_eq}
 use Rattle.std.specs.List.{filter_map, enumerate_from}
 use Rattle.std.specs.Map.{lookup}
-use Rattle.std.specs.Option.{unwrap_or}
-use Rattle.std.specs.Str.{bytes_eq}
 use Rattle.std.specs.Str.Lines.{lines}
 use Rattle.texts.specs.declared.fault.Fault.{Fault}
 use Rattle.texts.specs.declared.fault.Fault.TheVariants.{Memory}
@@ -228,8 +226,7 @@ module _ (which : LookUp) (run : ℕ) (cwd : List ℕ) where
       let read = read_all after ls in
       ap (λ e. looked_up (path_of e) (with_line (Assigns v) asked)) (sym (append_assoc env (v ∷ []) asked.env))
       ∙ missing-variable asked.env v asked.fault (found_commands which cwd (path_of (after ++ asked.env)) asked.commands)
-      ∙ ap (with_one v) (same after)
-      ∙ sym (bad-variable read.commands read.env v read.fault)
+      ∙ ap (with_one v) (same after) ∙ sym (bad-variable read.commands read.env v read.fault)
   alike-stated number env ls (statements.Runs []) same = refl
   alike-stated number env ls (statements.Runs (program ∷ words)) same = alike-path number env ls program words (first_value (codes "PATH") env) refl (same env)
   alike-stated number env ls BadShell same = refl

@@ -1,5 +1,5 @@
 -- Where variables stand by the beginnings of their names, and which of them a text refers to first.
-use Rattle.std.proofs.Common.{◌≡◌, ℕ, zero, suc, ◌+◌, ◌<◌, ◌≤◌, Bool, true, false, cond, eqb, eqb-true, not, ◌&&◌, ◌||◌, nat_le, List, [], ◌∷◌, ◌++◌, Option, Some, None, Result, Ok, Err, OnErr, refl, ap, sym, ◌∙◌, subst, fold, map, length, drop, get_or, string_bytes, String, append_assoc, add-one, arith}
+use Rattle.std.proofs.Common.{◌≡◌, ℕ, zero, suc, ◌+◌, ◌<◌, ◌≤◌, Bool, true, false, cond, eqb, eqb-true, not, ◌&&◌, ◌||◌, nat_le, List, [], ◌∷◌, ◌++◌, Option, Some, None, refl, ap, sym, ◌∙◌, subst, fold, map, length, drop, get_or, string_bytes, String, append_assoc, add-one, arith, option_map, zero-add, add-zero, one-add}
 use Rattle.std.specs.declared.alloc.Global.{Global}
 use Rattle.std.specs.List.{prefix_len, list_all, slice_get}
 use Rattle.std.specs.Str.{chars, bytes_eq, IsUtf8, IsCharBoundary}
@@ -7,9 +7,9 @@ use Rattle.std.proofs.lemmas.Bool.{false≢true, lt-ltb, and_parts}
 use Rattle.std.proofs.lemmas.List.{map-append, length-map}
 use Rattle.std.proofs.lemmas.List.Sums.{prefix_len-le-length}
 use Rattle.std.proofs.lemmas.Option.{slice_get-get_or, slice_get-map, slice_get_past, slice_get_within}
-use Rattle.std.specs.Option.{option_map}
 use Rattle.std.proofs.lemmas.Str.{IsCharBoundary-start, IsCharBoundary-after_ascii}
 use Rattle.std.proofs.lemmas.Slice.Eq.{bytes_eq-Decides}
+use Rattle.std.proofs.Math.Bool.{and-false, and-true}
 use Rattle.ucd_perl.specs.Perl.{is_word_char, is_word_byte}
 use Rattle.ucd_perl.proofs.PerlLemmas.{is_word_char-ascii}
 use Rattle.texts.specs.Lists.{is_some_and, rest_after}
@@ -39,11 +39,8 @@ first-char c (d ∷ ds) small = rw (lt-ltb c 128 small) refl
 name-first : (c : ℕ) (cs : List ℕ) → is_name_byte c ≡ true → begins_otherwise (chars (c ∷ cs)) ≡ false
 name-first c cs h = first-char c cs (name-small c h) ∙ ap not (is_word_char-ascii c (name-small c h) ∙ name-word c h)
 
-one-more : (n : ℕ) → 1 + n ≡ suc n
-one-more n = omega arith
-
 beginning-byte : (c : ℕ) (cs : List ℕ) → is_name_byte c ≡ true → beginning (c ∷ cs) ≡ c ∷ beginning cs
-beginning-byte c cs h = rw (h, one-more (prefix_len is_name_byte cs)) refl
+beginning-byte c cs h = rw (h, one-add (prefix_len is_name_byte cs)) refl
 
 beginning-other : (c : ℕ) (cs : List ℕ) → is_name_byte c ≡ false → beginning (c ∷ cs) ≡ []
 beginning-other c cs h = rw h refl
@@ -59,8 +56,7 @@ one-byte-more c xs ys h =
     elim (is_name_byte c) as (λ b. is_name_byte c ≡ b → beginning (c ∷ xs) ≡ beginning (c ∷ ys)) [
       | true ↦ λ e. beginning-byte c xs e ∙ ap (λ t. c ∷ t) h ∙ sym (beginning-byte c ys e)
       | false ↦ λ e. beginning-other c xs e ∙ sym (beginning-other c ys e)
-    ]
-    refl
+    ] refl
 
 same-beginning : (name after : List ℕ) → is_followed (rest_after name after) ≡ true → beginning after ≡ beginning name
 same-beginning [] after h = nothing-begun after h
@@ -94,43 +90,32 @@ name-boundary text (suc n) utf8 is =
 
 -- One more variable has one more place.
 
-no-more : (n : ℕ) → n + 0 ≡ n
-no-more n = omega arith
-
 moved-on : (n k : ℕ) → (n + 1) + k ≡ n + suc k
 moved-on n k = omega arith
 
 pub places-pushed : (place : ℕ) (env : List Variable) (v : Variable) (start : List ℕ) → places_from place (env ++ v ∷ []) start ≡ with_place (places_from place env) (beginning v.0) (place + length env) start
 places-pushed place [] v start =
     elim (bytes_eq start (beginning v.0)) as (λ b. cond {A = List ℕ} b (place ∷ []) [] ++ [] ≡ cond {A = List ℕ} b ([] ++ (place + 0) ∷ []) [])
-    [ true ↦ ap (λ n. n ∷ []) (sym (no-more place)) | false ↦ refl ]
+    [ true ↦ ap (λ n. n ∷ []) (sym (add-zero place)) | false ↦ refl ]
 places-pushed place (w ∷ ws) v start =
     let here : List ℕ = cond {A = List ℕ} (bytes_eq start (beginning w.0)) (place ∷ []) [] in
     let rest : List ℕ = places_from (place + 1) ws start in
-    ap (λ t. here ++ t) (places-pushed (place + 1) ws v start)
-    ∙ (elim (bytes_eq start (beginning v.0))
+    ap (λ t. here ++ t) (places-pushed (place + 1) ws v start) ∙ (elim (bytes_eq start (beginning v.0))
     as (λ b. here ++ cond {A = List ℕ} b (rest ++ ((place + 1) + length ws) ∷ []) rest ≡ cond {A = List ℕ} b ((here ++ rest) ++ (place + length (w ∷ ws)) ∷ []) (here ++ rest))
     [ true ↦ sym (append_assoc here rest (((place + 1) + length ws) ∷ [])) ∙ ap (λ n. (here ++ rest) ++ n ∷ []) (moved-on place (length ws)) | false ↦ refl ])
-
-counted-on : (n : ℕ) → 0 + n ≡ n
-counted-on n = omega arith
 
 -- the places of a list with one more pair
 pub places-more : (pairs more : List (String Global × String Global)) (pair : String Global × String Global) (places placed : Places) (n : ℕ) (name : List ℕ) → more ≡ pairs ++ pair ∷ [] → places ≡ places_from 0 (map pair_of pairs) → n ≡ length pairs → name ≡ string_bytes pair.0 → placed ≡ with_place places (beginning name) n → placed ≡ places_from 0 (map pair_of more)
 places-more pairs more pair places placed n name grown known count same noted =
     let env : List Variable = map pair_of pairs in
-    let size : n ≡ 0 + length env = count ∙ sym (length-map pairs pair_of) ∙ sym (counted-on (length env)) in
-    noted
-    ∙ (λ i. with_place (known i) (beginning (same i)) (size i))
+    let size : n ≡ 0 + length env = count ∙ sym (length-map pairs pair_of) ∙ sym (zero-add (length env)) in
+    noted ∙ (λ i. with_place (known i) (beginning (same i)) (size i))
     ∙ sym (λ i start. places-pushed 0 env (pair_of pair) start i)
     ∙ ap (places_from 0) (sym (ap (map pair_of) grown ∙ map-append pair_of pairs (pair ∷ [])))
 
 -- whether the names are plain, with one more
 plain-pushed : (env : List Variable) (v : Variable) → are_plain (env ++ v ∷ []) ≡ (are_plain env && list_all is_name_byte v.0)
-plain-pushed [] v = by (list_all is_name_byte v.0) where
-  by : (b : Bool) → (b && true) ≡ b
-  by true = refl
-  by false = refl
+plain-pushed [] v = and-true (list_all is_name_byte v.0)
 plain-pushed (w ∷ ws) v = ap (λ b. list_all is_name_byte w.0 && b) (plain-pushed ws v) ∙ by (list_all is_name_byte w.0) where
   by : (b : Bool) → (b && (are_plain ws && list_all is_name_byte v.0)) ≡ ((b && are_plain ws) && list_all is_name_byte v.0)
   by true = refl
@@ -138,15 +123,14 @@ plain-pushed (w ∷ ws) v = ap (λ b. list_all is_name_byte w.0 && b) (plain-pus
 
 pub plain-more : (pairs more : List (String Global × String Global)) (pair : String Global × String Global) (was is : Bool) → more ≡ pairs ++ pair ∷ [] → was ≡ are_plain (map pair_of pairs) → is ≡ (was && list_all is_name_byte (string_bytes pair.0)) → is ≡ are_plain (map pair_of more)
 plain-more pairs more pair was is grown known noted =
-    noted
-    ∙ ap (λ b. b && list_all is_name_byte (string_bytes pair.0)) known
+    noted ∙ ap (λ b. b && list_all is_name_byte (string_bytes pair.0)) known
     ∙ sym (plain-pushed (map pair_of pairs) (pair_of pair))
     ∙ ap are_plain (sym (ap (map pair_of) grown ∙ map-append pair_of pairs (pair ∷ [])))
 
 -- Where a text doesn't end a name, no plain name is one that it refers to.
 
 behind-byte : (c : ℕ) (cs : List ℕ) → is_name_byte c ≡ true → behind_beginning (c ∷ cs) ≡ behind_beginning cs
-behind-byte c cs h = rw (h, one-more (prefix_len is_name_byte cs)) refl
+behind-byte c cs h = rw (h, one-add (prefix_len is_name_byte cs)) refl
 
 unended : (after : List ℕ) → begins_otherwise (chars (behind_beginning after)) ≡ false → begins_otherwise (chars after) ≡ false
 unended [] h = h
@@ -183,10 +167,7 @@ none-passes test bound (p ∷ ps) h =
 -- a text that doesn't end a name refers to no variable of a plain name
 pub first-unended : (env : List Variable) (from bound : ℕ) (after : List ℕ) (places : List ℕ) → are_plain env ≡ true → begins_otherwise (chars (behind_beginning after)) ≡ false → bound ≡ first_below (follows_from from env after) bound places
 first-unended env from bound after places plain h =
-    sym (none-passes (follows_from from env after) bound places (λ p. ap (λ b. nat_le from p && b) (plain-at env p after plain h) ∙ none (nat_le from p))) where
-      none : (b : Bool) → (b && false) ≡ false
-      none true = refl
-      none false = refl
+    sym (none-passes (follows_from from env after) bound places (λ p. ap (λ b. nat_le from p && b) (plain-at env p after plain h) ∙ and-false (nat_le from p)))
 
 pub first-within : (test : ℕ → Bool) (bound : ℕ) (places : List ℕ) → first_below test bound places ≤ bound
 first-within test bound [] = omega arith
@@ -194,8 +175,7 @@ first-within test bound (p ∷ ps) =
     elim (nat_le bound p) as (λ b. nat_le bound p ≡ b → cond b bound (cond (test p) p (first_below test bound ps)) ≤ bound) [
       | true ↦ λ e. omega arith
       | false ↦ λ e. elim (test p) as (λ b. cond b p (first_below test bound ps) ≤ bound) [ true ↦ grind (arith, e) | false ↦ first-within test bound ps ]
-    ]
-    refl
+    ] refl
 
 pub first-passes : (test : ℕ → Bool) (bound : ℕ) (places : List ℕ) → first_below test bound places < bound → test (first_below test bound places) ≡ true
 first-passes test bound [] less = absurd (omega (arith, less))
@@ -206,10 +186,6 @@ first-passes test bound (p ∷ ps) less =
           [ true ↦ λ e k. e | false ↦ λ e k. first-passes test bound ps k ] refl
     ]
     less
-
-and-false : (b : Bool) → (b && false) ≡ false
-and-false true = refl
-and-false false = refl
 
 -- none before the first place passes, of variables that are numbered from a place on
 module _ (env : List Variable) (from bound : ℕ) (after : List ℕ) where
@@ -226,16 +202,13 @@ module _ (env : List Variable) (from bound : ℕ) (after : List ℕ) where
   -- this place doesn't pass and neither does any behind it, so none of both does
   or-later : (place i : ℕ) → place ≤ i → test place ≡ false → (place + 1 ≤ i → test i ≡ false) → test i ≡ false
   or-later place i le here later =
-      elim (eqb place i) as (λ b. eqb place i ≡ b → test i ≡ false) [
-        | true ↦ λ e. subst (λ n. test n ≡ false) (eqb-true place i e) here
-        | false ↦ λ e. later (grind (arith, e, le))
-      ]
-      refl
+      elim (eqb place i) as (λ b. eqb place i ≡ b → test i ≡ false)
+      [ true ↦ λ e. subst (λ n. test n ≡ false) (eqb-true place i e) here | false ↦ λ e. later (grind (arith, e, le)) ] refl
 
   pub none-before : (place : ℕ) (vs : List Variable) → ((j : ℕ) → slice_get env (place + j) ≡ slice_get vs j) → bound ≤ place + length vs → (i : ℕ) → place ≤ i → i < first_below test bound (places_from place vs (beginning after)) → test i ≡ false
   none-before place [] at all i le less = absurd (omega (arith, all, le, less))
   none-before place (v ∷ vs) at all i le less =
-      let here : slice_get env place ≡ Some v = ap (slice_get env) (sym (no-more place)) ∙ at 0 in
+      let here : slice_get env place ≡ Some v = ap (slice_get env) (sym (add-zero place)) ∙ at 0 in
       let next : (j : ℕ) → slice_get env ((place + 1) + j) ≡ slice_get vs j = λ j. ap (slice_get env) (moved-on place j) ∙ at (suc j) in
       let rest : List ℕ = places_from (place + 1) vs (beginning after) in
       let further : bound ≤ (place + 1) + length vs = omega (arith, all) in
@@ -256,13 +229,10 @@ module _ (env : List Variable) (from bound : ℕ) (after : List ℕ) where
       ]
       refl less
 
-  from-zero : (j : ℕ) → 0 + j ≡ j
-  from-zero j = omega arith
-
   -- the same, of all variables
   pub none-follows : bound ≤ length env → (i : ℕ) → from ≤ i → i < first_below test bound (places_from 0 env (beginning after)) → follows_at env after i ≡ false
   none-follows all i le less =
-      passed (nat_le from i) (follows_at env after i) (grind (arith, le)) (none-before 0 env (λ j. ap (slice_get env) (from-zero j)) (omega (arith, all)) i (omega arith) less) where
+      passed (nat_le from i) (follows_at env after i) (grind (arith, le)) (none-before 0 env (λ j. ap (slice_get env) (zero-add j)) (omega (arith, all)) i (omega arith) less) where
         passed : (a b : Bool) → a ≡ true → (a && b) ≡ false → b ≡ false
         passed true b e h = h
         passed false b e h = absurd (false≢true e)
@@ -314,27 +284,17 @@ pub record FirstSoFar (env : List Variable) (from : ℕ) (text rest : List ℕ) 
   pub before : (i : ℕ) → from ≤ i → i < place → refers_at env text i ≡ refers_at env rest i
   pub is_one : place < length env → (from ≤ place) × (refers_at env text place ≡ true)
 
-pub first-start : (env : List Variable) (from : ℕ) (text : List ℕ) → FirstSoFar env from text text (length env)
-first-start env from text = record { within = omega arith; before = λ i low high. refl; is_one = λ less. absurd (omega (arith, less)) }
-
 module _ (env : List Variable) (from : ℕ) (text rest front after : List ℕ) (place next : ℕ) (so : FirstSoFar env from text rest place) (is : rest ≡ front ++ 36 ∷ after) (clear : lacks 36 front ≡ true) (found : next ≡ first_below (follows_from from env after) place (places_from 0 env (beginning after))) where
   lower : next ≤ place
   lower = subst (λ n. n ≤ place) (sym found) (first-within (follows_from from env after) place (places_from 0 env (beginning after)))
 
-  either : (a b c d : Bool) → a ≡ (b || c) → b ≡ d → d ≡ false → a ≡ c
-  either a b c d e f g = e ∙ ap (λ x. x || c) (f ∙ g)
-
   cut : (i : ℕ) → from ≤ i → i < place → refers_at env text i ≡ (follows_at env after i || refers_at env after i)
   cut i low high = so.before i low high ∙ refers-cut env rest front after i is clear
-
-  holds : (a b : Bool) → (a && b) ≡ true → (a ≡ true) × (b ≡ true)
-  holds true b h = (refl, h)
-  holds false b h = absurd (false≢true h)
 
   one : next < place → (from ≤ next) × (refers_at env text next ≡ true)
   one less =
       let passes : follows_from from env after next ≡ true = subst (λ n. follows_from from env after n ≡ true) (sym found) (first-passes (follows_from from env after) place (places_from 0 env (beginning after)) (subst (λ n. n < place) found less)) in
-      let parts = holds (nat_le from next) (follows_at env after next) passes in
+      let parts = and_parts (nat_le from next) (follows_at env after next) passes in
       let low : from ≤ next = grind (arith, parts) in
       (low, cut next low less ∙ ap (λ b. b || refers_at env after next) parts.1)
 
@@ -369,10 +329,8 @@ module _ (left : ℕ) (env : List Variable) (from : ℕ) (text : List ℕ) (plac
   pub first-none-there : slice_get env place ≡ None → fold expanded_fitting (Some (left, text)) (drop from env) ≡ Some (left, text)
   first-none-there none =
       none-referred left text env from (λ i low.
-      elim (nat_le (length env) i) as (λ b. nat_le (length env) i ≡ b → refers_at env text i ≡ false) [
-        | true ↦ λ e. past i (grind (arith, e))
-        | false ↦ λ e. first.none_before i low (before i (grind (arith, e)))
-      ]
+      elim (nat_le (length env) i) as (λ b. nat_le (length env) i ≡ b → refers_at env text i ≡ false)
+      [ true ↦ λ e. past i (grind (arith, e)) | false ↦ λ e. first.none_before i low (before i (grind (arith, e))) ]
       refl)
     where
       some : (i : ℕ) → i < length env → slice_get env i ≡ None → ⊥
@@ -385,8 +343,7 @@ module _ (left : ℕ) (env : List Variable) (from : ℕ) (text : List ℕ) (plac
           elim (nat_le place i) as (λ b. nat_le place i ≡ b → i < place) [
             | true ↦ λ e. let w = first.within in let at : place < length env = grind (arith, e, less) in absurd (some place at none)
             | false ↦ λ e. grind (arith, e)
-          ]
-          refl
+          ] refl
 
   pub first-there : (v : Variable) → slice_get env place ≡ Some v → fold expanded_fitting (Some (left, text)) (drop from env) ≡ fold expanded_fitting (made left (replaced (36 ∷ v.0) v.1 text)) (drop (suc place) env)
   first-there v at =
@@ -402,8 +359,3 @@ no-pair pairs env place is le =
 
 pub pair-there : (pairs : List (String Global × String Global)) (env : List Variable) (place : ℕ) (pair : String Global × String Global) → map pair_of pairs ≡ env → slice_get pairs place ≡ Some pair → slice_get env place ≡ Some (pair_of pair)
 pair-there pairs env place pair is at = ap (λ (e : List Variable). slice_get e place) (sym is) ∙ slice_get-map pair_of pairs place ∙ ap (option_map pair_of) at
-
--- what a failed call leaves
-pub on-err : {T E P : Type 0} (r : Result T E) → P → OnErr r P
-on-err (Ok x) p = tt
-on-err (Err e) p = p

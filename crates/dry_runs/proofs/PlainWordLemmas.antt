@@ -1,8 +1,6 @@
 -- The shell words of a plain text are its parts between spaces.
-use Rattle.std.proofs.Common.{◌≡◌, ℕ, suc, ◌<◌, Bool, true, false, cond, eqb, eqb-true, not, ◌&&◌, ◌||◌, List, [], ◌∷◌, ◌++◌, Option, Some, None, refl, ap, sym, ◌∙◌, subst, map, length, get_or, append-nil, arith, encode_utf8, encode_utf8_all}
+use Rattle.std.proofs.Common.{◌≡◌, ℕ, suc, ◌<◌, Bool, true, false, cond, eqb, eqb-true, not, ◌&&◌, ◌||◌, List, [], ◌∷◌, ◌++◌, Option, Some, None, refl, ap, sym, ◌∙◌, subst, map, length, get_or, append-nil, arith, encode_utf8, encode_utf8_all, option_map, is_none, chars, IsUtf8}
 use Rattle.std.specs.List.{list_all}
-use Rattle.std.specs.Option.{option_map, is_none}
-use Rattle.std.specs.Str.{chars, IsUtf8}
 use Rattle.std.proofs.lemmas.Bool.{false≢true, and_parts, or_parts, not-true, not_from_false, false_from_ne_true}
 use Rattle.std.proofs.lemmas.Bool.Decides.{Decides-eqb, nat_tests}
 use Rattle.std.proofs.lemmas.List.Folds.{list_all-append, list_all_at}
@@ -95,8 +93,7 @@ cut-encoded inside (c ∷ cs) =
       | true ↦ λ e. subst (λ x. cut inside (encode_utf8_all (x ∷ cs)) ≡ map encode_utf8_all (cut inside (x ∷ cs))) (sym (eqb-true c 32 e)) (at-space inside (cut-encoded false cs))
       | false ↦ λ e.
           cut-bytes inside (encode_utf8 c) (encode_utf8_all cs) (encoded-some c) (encoded-lacks c e)
-          ∙ ap (prepend (encode_utf8 c)) (cut-encoded true cs)
-          ∙ sym (encoded-prepend c (cut true cs))
+          ∙ ap (prepend (encode_utf8 c)) (cut-encoded true cs) ∙ sym (encoded-prepend c (cut true cs))
           ∙ ap (map encode_utf8_all) (sym (at-other inside e))
     ] refl where
       at-space : (inside : Bool) → cut false (encode_utf8_all cs) ≡ map encode_utf8_all (cut false cs) → cut inside (encode_utf8_all (32 ∷ cs)) ≡ map encode_utf8_all (cut inside (32 ∷ cs))

@@ -1,6 +1,5 @@
 -- Facts of one more line.
-use Rattle.std.proofs.Common.{◌≡◌, ℕ, ◌+◌, List, ◌∷◌, ◌++◌, Option, Some, None, Ok, Err, ap, ◌∙◌}
-use Rattle.std.specs.Str.Lines.{lines}
+use Rattle.std.proofs.Common.{◌≡◌, ℕ, List, Option, Some, None, Ok, Err, ap}
 use Rattle.texts.specs.declared.fault.Fault.{Fault}
 use Rattle.dry_runs.specs.declared.reader.Said.{Said}
 use Rattle.dry_runs.specs.DryRun.{LookUp, Meaning, Ignored, Assigns, Runs, Bad, meaning_found, environment_after}

@@ -1,30 +1,14 @@
 -- What a line says, by whether it is text, and what it means.
-use Rattle.std.proofs.Common.{◌≡◌, ℕ, List, Option, Some, None, Result, refl, ap, sym, ◌∙◌, subst, true, false, cond, IfOk}
-use Rattle.std.specs.Str.{is_utf8, IsUtf8}
-use Rattle.std.proofs.lemmas.Str.{IsUtf8-from_is_utf8, is_utf8-from_IsUtf8}
-use Rattle.std.specs.declared.alloc.AllocError.{AllocError}
+use Rattle.std.proofs.Common.{◌≡◌, ℕ, List, Option, Some, None, refl, true, false, cond}
+use Rattle.std.specs.Str.{is_utf8}
 use Rattle.texts.specs.declared.fault.Fault.TheVariants as fault
 use Rattle.shell_words.specs.Shell.Splitting.{shell_words}
-use Rattle.dry_runs.specs.declared.statement.Statement.{Statement}
 use Rattle.dry_runs.specs.declared.statement.Statement.TheVariants.{NotUtf8}
 use Rattle.dry_runs.specs.DryRun.{LookUp, Bad, meaning, meaning_marked, meaning_assigned, meaning_of_words}
 use Rattle.dry_runs.specs.DryRunLines.{marked_text}
 use Rattle.dry_runs.specs.Environment.{Variable, assignment, expanded}
 use Rattle.dry_runs.specs.Reading.{meaning_stated}
 use Rattle.dry_runs.specs.Statement.{stated, stated_marked, stated_assigned, stated_by_words}
-
-pub stated-no_text : (env : List Variable) (line : List ℕ) → (IsUtf8 line → ⊥) → NotUtf8 ≡ stated env line
-stated-no_text env line h =
-    elim (is_utf8 line) as (λ b. is_utf8 line ≡ b → NotUtf8 ≡ cond b (stated_marked env (marked_text line)) NotUtf8)
-    [ true ↦ λ e. absurd (h (IsUtf8-from_is_utf8 line e)) | false ↦ λ e. refl ] refl
-
-same-text : (env : List Variable) (text line : List ℕ) → text ≡ line → IsUtf8 line → stated_marked env (marked_text text) ≡ stated env line
-same-text env text line same h =
-    ap (λ t. stated_marked env (marked_text t)) same
-    ∙ sym (ap (λ b. cond b (stated_marked env (marked_text line)) NotUtf8) (is_utf8-from_IsUtf8 line h))
-
-pub stated-text : (env : List Variable) (text line : List ℕ) (r : Result Statement AllocError) → text ≡ line → IsUtf8 line → IfOk r (λ s. s ≡ stated_marked env (marked_text text)) → IfOk r (λ s. s ≡ stated env line)
-stated-text env text line r same h told = subst (λ q. IfOk r (λ s. s ≡ q)) (same-text env text line same h) told
 
 -- a line means what it says, once its program is looked up
 module _ (which : LookUp) (run : ℕ) (cwd : List ℕ) (number : ℕ) (env : List Variable) where

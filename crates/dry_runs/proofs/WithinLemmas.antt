@@ -1,8 +1,6 @@
 -- What a line says within a limit, and which line is the first that exceeds it.
-use Rattle.std.proofs.Common.{◌≡◌, ℕ, ◌+◌, ◌-◌, nat_le, arith, Bool, true, false, cond, List, ◌∷◌, Option, Some, None, Result, Ok, Err, refl, ap, sym, ◌∙◌, subst, IfOk}
+use Rattle.std.proofs.Common.{◌≡◌, ℕ, ◌+◌, ◌-◌, nat_le, arith, true, false, cond, List, ◌∷◌, Option, Some, None, Result, Ok, Err, refl, ap, sym, ◌∙◌, subst, IfOk, option_map, is_some, IsErrAnd}
 use Rattle.std.specs.List.{enumerate_from}
-use Rattle.std.specs.Option.{option_map, is_some}
-use Rattle.std.specs.Result.{IsErrAnd}
 use Rattle.std.specs.Str.{is_utf8, IsUtf8}
 use Rattle.std.specs.Str.Lines.{lines}
 use Rattle.std.specs.declared.alloc.AllocError.{AllocError}
@@ -19,7 +17,7 @@ use Rattle.dry_runs.specs.declared.limit.LimitedFault.TheVariants as limited
 use Rattle.dry_runs.specs.declared.statement.Statement.{Statement}
 use Rattle.dry_runs.specs.declared.statement.Statement.TheVariants.{NotUtf8}
 use Rattle.command_lines.specs.CommandLines.{CommandLine}
-use Rattle.dry_runs.specs.DryRun.{LookUp, Meaning, Ignored, Assigns, Runs, Bad, meaning, meaning_found, meaning_by_path, environment_after, fault_of}
+use Rattle.dry_runs.specs.DryRun.{LookUp, Meaning, Bad, meaning, meaning_found, meaning_by_path, environment_after, fault_of}
 use Rattle.dry_runs.specs.DryRunLines.{marked_text}
 use Rattle.dry_runs.specs.Environment.{Variable, expanded}
 use Rattle.dry_runs.specs.Limit.{UnlessMemoryWithin, expanded_within, words_left, left_assigned, left_marked, left_by_texts, left_holding, stated_marked_within, stated_within, held_by, left_behind, left_behind_line, too_long_from, first_too_long, answer_within}
@@ -104,16 +102,12 @@ next-long run number (Some left) (Ok s) r n h = cc
 next-long run number (Some left) (Err f) r n h = cc
 
 fault-none : (s t : Said) (m : Meaning) → said_next s m ≡ Ok t → fault_of m ≡ None
-fault-none s t Ignored e = refl
-fault-none s t (Assigns v) e = refl
-fault-none s t (Runs command) e = refl
 fault-none s t (Bad fault) e = cc
+fault-none s t _ e = refl
 
 fault-some : (s : Said) (m : Meaning) (fault : Fault) → said_next s m ≡ Err fault → fault_of m ≡ Some fault
-fault-some s Ignored fault e = cc
-fault-some s (Assigns v) fault e = cc
-fault-some s (Runs command) fault e = cc
 fault-some s (Bad f) fault e = let same : f ≡ fault = cc in ap Some same
+fault-some s _ fault e = cc
 
 from-fault : (number : ℕ) (fault : Fault) (room : Option ℕ) (rest : ℕ → Option ℕ) → is_some room ≡ true → too_long_from number (Some fault) room rest ≡ None
 from-fault number fault None rest h = absurd (false≢true h)
@@ -181,11 +175,6 @@ is-refused fault h e = h e
 pub passed-left : (r : Result ℕ LimitedFault) (s : Said) (fault : LimitedFault) (whole : Result (Said × ℕ) LimitedFault) → IsErrAnd r (λ f. f ≡ fault) → UnlessMemoryWithin {T = Said × ℕ} (Err fault) whole → UnlessMemoryWithin (said_left r s) whole
 passed-left (Ok x) s fault whole is told = absurd is
 passed-left (Err f) s fault whole is told = subst (λ (g : LimitedFault). UnlessMemoryWithin {T = Said × ℕ} (Err g) whole) (sym is) told
-
--- a program that isn't found
-limited-next : (run number : ℕ) (room : Option ℕ) (said : Result Said Fault) (fault : Fault) → is_some room ≡ true → said ≡ Err fault → next_within run number room said ≡ Err (limited.Fault fault)
-limited-next run number None said fault h e = absurd (false≢true h)
-limited-next run number (Some left) said fault h e = ap (next_within run number (Some left)) e
 
 nothing-held : (left : ℕ) → nat_le 0 left ≡ true
 nothing-held left = grind arith

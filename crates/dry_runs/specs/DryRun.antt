@@ -1,6 +1,5 @@
 -- What a dry run says: its commands and its environment, or the first line that is bad.
-use Rattle.std.specs.Prelude.{ℕ, List, [], ◌∷◌, ◌++◌, Option, Some, None, Result, Ok, Err, if◌then◌else◌, codes}
-use Rattle.std.specs.List.{filter_map}
+use Rattle.std.specs.Prelude.{ℕ, List, [], ◌∷◌, ◌++◌, Option, Some, None, Result, Ok, Err, if◌then◌else◌, codes, filter_map}
 use Rattle.std.specs.Str.{is_utf8}
 use Rattle.texts.specs.declared.fault.Fault.{Fault}
 use Rattle.texts.specs.declared.fault.Fault.TheVariants.{NotUtf8, BadShell, EmptyCommand, NoPath, NotFound}
@@ -55,10 +54,8 @@ module _ (which : LookUp) (run : ℕ) (cwd : List ℕ) where
 
   -- the environment behind a line
   abbrev pub environment_after : List Variable → Meaning → List Variable
-  environment_after env Ignored = env
   environment_after env (Assigns v) = env ++ v ∷ []
-  environment_after env (Runs command) = env
-  environment_after env (Bad fault) = env
+  environment_after env _ = env
 
   -- what lines mean behind these environment lines
   abbrev pub meanings : List Variable → List (ℕ × List ℕ) → List Meaning
@@ -66,23 +63,17 @@ module _ (which : LookUp) (run : ℕ) (cwd : List ℕ) where
   meanings env (line ∷ lines) = meaning env line ∷ meanings (environment_after env (meaning env line)) lines
 
 abbrev pub assigned_by : Meaning → Option Variable
-assigned_by Ignored = None
 assigned_by (Assigns v) = Some v
-assigned_by (Runs command) = None
-assigned_by (Bad fault) = None
+assigned_by _ = None
 
 abbrev pub command_of : Meaning → Option CommandLine
-command_of Ignored = None
-command_of (Assigns v) = None
 command_of (Runs command) = Some command
-command_of (Bad fault) = None
+command_of _ = None
 
 -- why a line is bad
 abbrev pub fault_of : Meaning → Option Fault
-fault_of Ignored = None
-fault_of (Assigns v) = None
-fault_of (Runs command) = None
 fault_of (Bad fault) = Some fault
+fault_of _ = None
 
 -- a run's commands and its environment, where there is no fault, else the first one
 abbrev pub run_or_fault : List Meaning → List Fault → Result (List CommandLine × List Variable) Fault

@@ -1,6 +1,5 @@
 -- Dry runs worked out by hand.
-use Rattle.std.specs.Prelude.{◌≡◌, ℕ, List, [], ◌∷◌, ◌++◌, None, Result, Ok, Err, encode_utf8_all, if◌then◌else◌, codes}
-use Rattle.std.specs.Str.{bytes_eq}
+use Rattle.std.specs.Prelude.{◌≡◌, ℕ, List, [], ◌∷◌, ◌++◌, None, Result, Ok, Err, encode_utf8_all, if◌then◌else◌, codes, bytes_eq}
 use Rattle.texts.specs.declared.fault.Fault.{Fault}
 use Rattle.texts.specs.declared.fault.Fault.TheVariants.{NotUtf8, BadShell, EmptyCommand, NoPath, NotFound}
 use Rattle.command_lines.specs.CommandLines.{CommandLine}
@@ -23,8 +22,7 @@ lacking missing exe path cwd = if bytes_eq exe missing then None else first_dir 
 
 -- the one-kernel dry run, read whole
 abbrev pub OneKernelIsRead : Type 0
-OneKernelIsRead =
-    first_run one_kernel ≡ Ok (one_kernel_commands, (codes "PATH", codes "/b") ∷ [])
+OneKernelIsRead = first_run one_kernel ≡ Ok (one_kernel_commands, (codes "PATH", codes "/b") ∷ [])
 
 -- unmarked lines are passed over, but have their numbers; a carriage return before a newline goes, and the last line needs no newline
 abbrev pub LastLineNeedsNoNewline : Type 0
@@ -37,23 +35,19 @@ LastLineNeedsNoNewline =
 
 -- a run without lines, and one whose only line lacks the blank of the mark
 abbrev pub NothingIsRead : Type 0
-NothingIsRead =
-    (first_run [] ≡ Ok ([], [])) × (first_run (codes "#$\n") ≡ Ok ([], []))
+NothingIsRead = (first_run [] ≡ Ok ([], [])) × (first_run (codes "#$\n") ≡ Ok ([], []))
 
 -- a line that is no text refuses the run, also where it is unmarked
 abbrev pub UnmarkedLineIsNotText : Type 0
-UnmarkedLineIsNotText =
-    first_run (codes "kernel" ++ 255 ∷ 10 ∷ []) ≡ Err (NotUtf8 1 0)
+UnmarkedLineIsNotText = first_run (codes "kernel" ++ 255 ∷ 10 ∷ []) ≡ Err (NotUtf8 1 0)
 
 -- an open quote
 abbrev pub QuoteIsOpen : Type 0
-QuoteIsOpen =
-    first_run (codes "#$ gcc \"a\n") ≡ Err (BadShell 1 0)
+QuoteIsOpen = first_run (codes "#$ gcc \"a\n") ≡ Err (BadShell 1 0)
 
 -- a comment, and nothing at all, hold no word
 abbrev pub CommentIsNoCommand : Type 0
-CommentIsNoCommand =
-    (first_run (codes "#$ # note\n") ≡ Err (EmptyCommand 1 0)) × (first_run (codes "#$ \n") ≡ Err (EmptyCommand 1 0))
+CommentIsNoCommand = (first_run (codes "#$ # note\n") ≡ Err (EmptyCommand 1 0)) × (first_run (codes "#$ \n") ≡ Err (EmptyCommand 1 0))
 
 -- a command before any line that sets `PATH`, in the first run and in the second; two blanks make no environment line
 abbrev pub NoPathIsSet : Type 0
@@ -64,13 +58,11 @@ NoPathIsSet =
 
 -- a name with a digit assigns nothing, so its line is a command, which is looked up
 abbrev pub DigitMakesACommand : Type 0
-DigitMakesACommand =
-    dry_run_of 1 (codes "#$ PATH=/b\n#$ A1=x\n") (codes "/w") (lacking (codes "A1=x")) ≡ Err (NotFound (codes "A1=x"))
+DigitMakesACommand = dry_run_of 1 (codes "#$ PATH=/b\n#$ A1=x\n") (codes "/w") (lacking (codes "A1=x")) ≡ Err (NotFound (codes "A1=x"))
 
 -- an empty `PATH` is set, but holds no program
 abbrev pub PathIsEmpty : Type 0
-PathIsEmpty =
-    first_run (codes "#$ PATH=\n#$ gcc\n") ≡ Err (NotFound (codes "gcc"))
+PathIsEmpty = first_run (codes "#$ PATH=\n#$ gcc\n") ≡ Err (NotFound (codes "gcc"))
 
 -- the first bad line decides, whatever is wrong with a later one; and it counts that the whole run is bad, not what stood before
 abbrev pub FirstBadLineDecides : Type 0
@@ -98,13 +90,11 @@ EmptyProgramIsLookedUp =
 
 -- at the end of a text no character follows a reference, so it does not count
 abbrev pub ReferenceAtTheEndStays : Type 0
-ReferenceAtTheEndStays =
-    expanded ((codes "TOP", codes "/u") ∷ []) (codes "gcc -L$TOP") ≡ codes "gcc -L$TOP"
+ReferenceAtTheEndStays = expanded ((codes "TOP", codes "/u") ∷ []) (codes "gcc -L$TOP") ≡ codes "gcc -L$TOP"
 
 -- where one reference counts, all are expanded, within longer names too
 abbrev pub OneReferenceExpandsAll : Type 0
-OneReferenceExpandsAll =
-    expanded ((codes "TOP", codes "/u") ∷ []) (codes "$TOP/gcc -L$TOPX") ≡ codes "/u/gcc -L/uX"
+OneReferenceExpandsAll = expanded ((codes "TOP", codes "/u") ∷ []) (codes "$TOP/gcc -L$TOPX") ≡ codes "/u/gcc -L/uX"
 
 -- a letter of any script goes on with the name, and a hyphen ends it
 abbrev pub LetterFollowsAReference : Type 0
@@ -159,8 +149,7 @@ LastLineKeepsItsReturn =
 
 -- behind a byte order mark the first line is unmarked, so here `PATH` isn't set
 abbrev pub ByteOrderMarkUnmarks : Type 0
-ByteOrderMarkUnmarks =
-    first_run (239 ∷ 187 ∷ 191 ∷ codes "#$ PATH=/b\n#$ gcc\n") ≡ Err (NoPath 1 1)
+ByteOrderMarkUnmarks = first_run (239 ∷ 187 ∷ 191 ∷ codes "#$ PATH=/b\n#$ gcc\n") ≡ Err (NoPath 1 1)
 
 -- the value of an environment line isn't expanded, and neither is `PATH` where it is searched
 abbrev pub ValuesAreKeptAsTheyStand : Type 0
@@ -173,13 +162,11 @@ ValuesAreKeptAsTheyStand =
 
 -- a `PATH` whose first folder is empty holds no program
 abbrev pub FirstFolderIsEmpty : Type 0
-FirstFolderIsEmpty =
-    first_run (codes "#$ PATH=:/b\n#$ gcc\n") ≡ Err (NotFound (codes "gcc"))
+FirstFolderIsEmpty = first_run (codes "#$ PATH=:/b\n#$ gcc\n") ≡ Err (NotFound (codes "gcc"))
 
 -- a program with a folder needs a `PATH` before it too
 abbrev pub FolderNeedsAPathToo : Type 0
-FolderNeedsAPathToo =
-    first_run (codes "#$ ./gcc\n#$ PATH=/b\n") ≡ Err (NoPath 1 0)
+FolderNeedsAPathToo = first_run (codes "#$ ./gcc\n#$ PATH=/b\n") ≡ Err (NoPath 1 0)
 
 -- a name that is set twice, as nvcc 13 does, stands twice in the environment, and its first value counts
 abbrev pub NameIsSetTwice : Type 0
@@ -196,8 +183,7 @@ before c = expanded ((codes "TOP", codes "/u") ∷ []) (codes "$TOP" ++ encode_u
 
 -- `²` and `·` go on with no name
 abbrev pub OtherCharactersEndAName : Type 0
-OtherCharactersEndAName =
-    (before 178 ≡ codes "/u" ++ encode_utf8_all (178 ∷ [])) × (before 183 ≡ codes "/u" ++ encode_utf8_all (183 ∷ []))
+OtherCharactersEndAName = (before 178 ≡ codes "/u" ++ encode_utf8_all (178 ∷ [])) × (before 183 ≡ codes "/u" ++ encode_utf8_all (183 ∷ []))
 
 -- a name goes on with `ⓐ`, `Ⅷ`, `‿`, a combining accent, an enclosing circle, and the joiner U+200D
 abbrev pub WordCharactersGoOn : Type 0

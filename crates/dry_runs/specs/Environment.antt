@@ -1,7 +1,5 @@
 -- Environment lines, and the expansion of references to them.
-use Rattle.std.specs.Prelude.{◌≡◌, ℕ, List, [], ◌∷◌, ◌++◌, Bool, false, not, ◌==◌, ◌&&◌, ◌||◌, nat_le, length, drop, fold, if◌then◌else◌, Option, Some, None, refl, codes}
-use Rattle.std.specs.List.{take_while}
-use Rattle.std.specs.Str.{chars, bytes_eq}
+use Rattle.std.specs.Prelude.{◌≡◌, ℕ, List, [], ◌∷◌, ◌++◌, Bool, false, not, ◌==◌, ◌&&◌, ◌||◌, nat_le, length, drop, fold, if◌then◌else◌, Option, Some, None, refl, codes, take_while, chars, bytes_eq}
 use Rattle.ucd_perl.specs.Perl.{is_word_char}
 use Rattle.texts.specs.Lists.{rest_after}
 use Rattle.command_lines.specs.Replacing.{replaced}

@@ -1,7 +1,6 @@
 -- Reading a dry run within a limit of bytes: what counts, and which line is the first that exceeds it.
-use Rattle.std.specs.Prelude.{◌≡◌, ℕ, ◌+◌, ◌-◌, List, [], ◌∷◌, ◌++◌, Vec, String, map, nat_le, length, fold, if◌then◌else◌, Option, Some, None, Result, Ok, Err, codes, string_bytes}
+use Rattle.std.specs.Prelude.{◌≡◌, ℕ, ◌+◌, ◌-◌, List, [], ◌∷◌, ◌++◌, Vec, String, map, nat_le, length, fold, if◌then◌else◌, Option, Some, None, Result, Ok, Err, codes, string_bytes, option_map}
 use Rattle.std.specs.declared.alloc.Global.{Global}
-use Rattle.std.specs.Option.{option_map}
 use Rattle.std.specs.Str.{is_utf8}
 use Rattle.texts.specs.declared.fault.Fault.{Fault}
 use Rattle.texts.specs.declared.fault.Fault.TheVariants.{Memory}

@@ -36,5 +36,4 @@ FirstOfBothDecides =
 
 -- lines without the mark count nothing
 abbrev pub UnmarkedLinesAreFree : Type 0
-UnmarkedLinesAreFree =
-    first_within 0 (codes "nvcc warning : deprecated\n") ≡ Ok ([], [])
+UnmarkedLinesAreFree = first_within 0 (codes "nvcc warning : deprecated\n") ≡ Ok ([], [])

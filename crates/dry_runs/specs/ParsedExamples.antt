@@ -1,5 +1,5 @@
 -- Dry runs that are parsed, worked out by hand.
-use Rattle.std.specs.Prelude.{◌≡◌, ℕ, List, [], ◌∷◌, ◌++◌, None, Some, Ok, Err, codes}
+use Rattle.std.specs.Prelude.{◌≡◌, ℕ, List, [], ◌∷◌, Some, Ok, Err, codes}
 use Rattle.texts.specs.declared.fault.Fault.TheVariants.{BadShell, NotFound}
 use Rattle.dry_runs.specs.declared.limit.LimitedFault.TheVariants.{TooLong}
 use Rattle.dry_runs.specs.DryRunExamples.{lacking}

@@ -1,7 +1,6 @@
 -- Where the variables of an environment stand, by the beginnings of their names.
-use Rattle.std.specs.Prelude.{◌≡◌, ℕ, ◌+◌, List, [], ◌∷◌, ◌++◌, Bool, drop, if◌then◌else◌, refl, codes}
+use Rattle.std.specs.Prelude.{◌≡◌, ℕ, ◌+◌, List, [], ◌∷◌, ◌++◌, Bool, drop, if◌then◌else◌, refl, codes, bytes_eq}
 use Rattle.std.specs.List.{take_while, prefix_len, list_all}
-use Rattle.std.specs.Str.{bytes_eq}
 use Rattle.dry_runs.specs.Environment.{Variable, is_name_byte}
 
 -- the bytes of a name that a text begins with. A name and a text that refers to it begin with the same ones

@@ -1,18 +1,14 @@
 //! The environment lines of a dry run, and the expansion of references to what they set.
 
-ghost use Rattle.std.specs.Prelude.{◌≡◌, ◌++◌, ◌<◌, ◌≤◌, ℕ, Some, true, false, nat_le, not, length, map, fold, drop, codes, IfOk, IfSome, MatchOption, string_bytes};
+ghost use Rattle.std.specs.Prelude.{◌≡◌, ◌++◌, ◌<◌, ◌≤◌, ℕ, Some, true, false, nat_le, not, length, map, fold, drop, codes, IfOk, IfSome, MatchOption, string_bytes, option_copied, option_map, chars};
 ghost use Rattle.std.specs.List.{list_all};
-ghost use Rattle.std.specs.Option.{option_copied, option_map};
-ghost use Rattle.std.specs.Str.{chars};
-ghost use Rattle.texts.specs.Path.{lacks};
 ghost use Rattle.texts.specs.Lists.{rest_after};
-ghost use Rattle.texts.specs.Variables.{pair_of};
 ghost use Rattle.shell_words.specs.Shell.Splitting.{shell_words};
 ghost use Rattle.dry_runs.specs.Environment as spec;
 ghost use Rattle.dry_runs.specs.Limit as limit;
 ghost use Rattle.command_lines.specs.Replacing as replacing;
 ghost use Rattle.dry_runs.specs.Reading as reading;
-ghost use Rattle.dry_runs.specs.Reading.{text_of, texts_of, IsCutAt};
+ghost use Rattle.dry_runs.specs.Reading.{texts_of, IsCutAt};
 
 use crate::plain_words::words_of;
 use crate::set_variables::{Reference, SetVariables};

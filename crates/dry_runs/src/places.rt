@@ -1,7 +1,6 @@
 //! The places of variables in an environment, found by the beginnings of their names.
 
-ghost use Rattle.std.specs.Prelude.{◌≡◌, length, OnErr, OnOk};
-ghost use Rattle.std.specs.Str.{chars};
+ghost use Rattle.std.specs.Prelude.{◌≡◌, length, OnErr, OnOk, chars};
 ghost use Rattle.std.specs.List.{prefix_len};
 ghost use Rattle.dry_runs.specs.Environment as environment;
 ghost use Rattle.dry_runs.specs.Places as spec;

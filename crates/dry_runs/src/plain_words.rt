@@ -1,8 +1,7 @@
 //! The shell words of a text, which are soon found in a plain one.
 
-ghost use Rattle.std.specs.Prelude.{◌≡◌, ◌++◌, not, map, IfOk, OnOk, string_bytes};
+ghost use Rattle.std.specs.Prelude.{◌≡◌, ◌++◌, not, map, IfOk, OnOk, string_bytes, option_map};
 ghost use Rattle.std.specs.List.{list_all};
-ghost use Rattle.std.specs.Option.{option_map};
 ghost use Rattle.memchr.specs.Find.{is_byte3};
 ghost use Rattle.shell_words.specs.Shell.Splitting.{shell_words};
 ghost use Rattle.dry_runs.specs.PlainWords as spec;

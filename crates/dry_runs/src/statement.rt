@@ -1,7 +1,6 @@
 //! What a line of a dry run says.
 
-ghost use Rattle.std.specs.Prelude.{◌≡◌, Some, IfOk, map, string_bytes};
-ghost use Rattle.std.specs.Option.{option_map};
+ghost use Rattle.std.specs.Prelude.{◌≡◌, Some, IfOk, map, string_bytes, option_map};
 ghost use Rattle.dry_runs.specs.DryRunLines.{marked_text};
 ghost use Rattle.dry_runs.specs.Limit as limit;
 ghost use Rattle.dry_runs.specs.Statement as spec;

@@ -1,7 +1,6 @@
 //! The look-up of the programs that a dry run names.
 
-ghost use Rattle.std.specs.Prelude.{◌≡◌, IfOk, MatchOption, string_bytes, ℕ, List, Option};
-ghost use Rattle.std.specs.Option.{option_map};
+ghost use Rattle.std.specs.Prelude.{◌≡◌, IfOk, MatchOption, string_bytes, ℕ, List, Option, option_map};
 ghost use Rattle.texts.specs.Fault.{UnlessMemory};
 ghost use Rattle.dry_runs.specs.FirstDir.{first_folder_of};
 ghost use Rattle.dry_runs.specs.Reading.{found_seen, found_or_fault};

@@ -1,18 +1,15 @@
 -- A group's account, command by command.
-use Rattle.std.proofs.Common.{◌≡◌, ℕ, ◌+◌, List, [], ◌∷◌, ◌++◌, Bool, true, false, not, ◌&&◌, ltb, refl, ap, sym, ◌∙◌, map, subst, append_assoc, MatchBool, Result, Ok, Err, ℤ, pos, negsuc, zero, suc, ◌↔◌, length, arith}
+use Rattle.std.proofs.Common.{◌≡◌, ℕ, ◌+◌, List, [], ◌∷◌, ◌++◌, Bool, true, false, not, ◌&&◌, ltb, refl, ap, sym, ◌∙◌, map, subst, append_assoc, MatchBool, Result, Ok, Err, ℤ, pos, negsuc, zero, suc, ◌↔◌, arith, fold, IsTrue, IfOk, IsErr, MatchResult}
 use Rattle.std.proofs.lemmas.List.{append-nil, map-append}
 use Rattle.std.proofs.lemmas.List.Sums.{fold-append}
-use Rattle.std.specs.List.{fold}
-use Rattle.std.specs.Bool.{IsTrue}
 use Rattle.std.proofs.lemmas.Bool.{ne_eqb}
-use Rattle.std.specs.Result.{IfOk, IsErr, MatchResult}
 use Rattle.std.specs.declared.alloc.AllocError.{AllocError}
 use Rattle.plans.specs.declared.plan.NvccGeneratedSubcommand.{NvccGeneratedSubcommand}
 use Rattle.texts.specs.declared.status.Output.{Output}
 use Rattle.texts.specs.Endings.{is_success}
 use Rattle.plan_runners.specs.Outcome.{aggregated}
 use Rattle.plan_runners.specs.Running.{step_at, OfGroup}
-use Rattle.plan_runners.specs.Schedule.{Step, AccountEntry, output_of_entry, fails, step_of, Gains}
+use Rattle.plan_runners.specs.Schedule.{AccountEntry, output_of_entry, fails, step_of, Gains}
 
 abbrev no_entries : List AccountEntry
 no_entries = []
@@ -23,9 +20,6 @@ push-next xs x ys = append_assoc xs (x ∷ []) ys
 
 -- What a command's run says.
 
-abbrev pub Answered : List AccountEntry → List AccountEntry → Step → Output → Type 0
-Answered before after step output = (e : AccountEntry) × (after ≡ before ++ e ∷ []) × (step_of e ≡ step) × (output ≡ output_of_entry e)
-
 -- one entry is an account of a group's command that may stop anywhere
 pub one-entry : (e : AccountEntry) (group index : ℕ) (c : NvccGeneratedSubcommand) (cs : List NvccGeneratedSubcommand) → step_of e ≡ step_at group index c → OfGroup false group index (e ∷ []) (c ∷ cs)
 one-entry e group index c cs at = (at, held (fails e))
@@ -33,10 +27,6 @@ one-entry e group index c cs at = (at, held (fails e))
     held : (failed : Bool) → MatchBool failed (no_entries ≡ []) (Unit {0})
     held true = refl
     held false = tt
-
--- nothing ran
-pub none-gained : (before after : List AccountEntry) (group index : ℕ) (commands : List NvccGeneratedSubcommand) → after ≡ before → Gains before after (λ account. OfGroup false group index account commands)
-none-gained before after group index commands same = ([], same ∙ sym (append-nil before), tt)
 
 -- the answer's output was made, or memory was refused for it
 pub command-answered : (r : Result Output AllocError) (before after : List AccountEntry) (e : AccountEntry) (group index : ℕ) (c : NvccGeneratedSubcommand) → after ≡ before ++ e ∷ [] → step_of e ≡ step_at group index c → IfOk r (λ output. output ≡ output_of_entry e) → MatchResult r (λ output. (e : AccountEntry) × (after ≡ before ++ e ∷ []) × (step_of e ≡ step_at group index c) × (output ≡ output_of_entry e)) (λ _. Gains before after (λ account. OfGroup false group index account (c ∷ [])))
@@ -51,14 +41,6 @@ pub record GroupSoFar (before after : List AccountEntry) (group index : ℕ) (re
   pub gained : after ≡ before ++ account
   pub whole : (to_end : Bool) (more : List AccountEntry) → OfGroup to_end group index more rest → OfGroup to_end group 0 (account ++ more) commands
   pub outputs : joined ≡ fold aggregated output (map output_of_entry account)
-
-pub group-begins : (before : List AccountEntry) (group : ℕ) (commands : List NvccGeneratedSubcommand) (output : Output) → GroupSoFar before before group 0 commands commands output output
-group-begins before group commands output = record {
-  account = [];
-  gained = sym (append-nil before);
-  whole = λ to_end more h. h;
-  outputs = refl;
-}
 
 -- the joined output with one more
 joined-next : (output joined more : Output) (account : List AccountEntry) (e : AccountEntry) → joined ≡ fold aggregated output (map output_of_entry account) → more ≡ output_of_entry e → aggregated joined more ≡ fold aggregated output (map output_of_entry (account ++ e ∷ []))
@@ -147,7 +129,3 @@ held-test last next success held status h test = ap (λ b. ltb last next && not 
 pub refused : {T E : Type 0} (r : Result T E) (P : T → Type 0) (Q : Type 0) → IsErr r → Q → MatchResult r P (λ _. Q)
 refused (Ok x) P Q h q = cc
 refused (Err e) P Q h q = q
-
-pub nothing-left : {A : Type 0} (xs : List A) → length xs ≡ 0 → xs ≡ []
-nothing-left [] h = refl
-nothing-left (x ∷ xs) h = absurd (omega (arith, h))

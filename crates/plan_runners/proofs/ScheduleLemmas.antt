@@ -3,11 +3,12 @@ use Rattle.std.proofs.Common.{◌≡◌, ℕ, ◌+◌, ◌-◌, ◌/◌, ◌<◌
 use Rattle.std.specs.List.{list_any, fold}
 use Rattle.std.proofs.Math.Nat.{div-le_self, div-mul-le_self}
 use Rattle.std.proofs.lemmas.Nat.{le-div}
-use Rattle.std.proofs.lemmas.Bool.{ltb-true, le-ltb, lt-ltb, eqb-true, eq-eqb, ne_eqb, leb-true, leb-false, eqb-false, ltb-false}
+use Rattle.std.proofs.lemmas.Bool.{ltb-true, le-ltb, lt-ltb, eqb-true, eq-eqb, ne_eqb, leb-true, leb-false, eqb-false, ltb-false, and_right, or_parts}
 use Rattle.std.proofs.lemmas.List.{append-nil, map-append}
 use Rattle.std.proofs.lemmas.List.Elements.{filter-append}
 use Rattle.std.proofs.lemmas.List.Folds.{list_any-append}
 use Rattle.std.proofs.lemmas.List.Sums.{fold-append}
+use Rattle.std.proofs.Math.Bool.{and-true, or-true, not-not, or-false}
 use Rattle.plans.specs.declared.plan.NvccGeneratedSubcommand.{NvccGeneratedSubcommand}
 use Rattle.plan_runners.specs.declared.runner.Place.{Place}
 use Rattle.texts.specs.declared.fault.Fault.TheVariants.{Process}
@@ -68,25 +69,13 @@ of_group to_end group index (e ∷ es) (c ∷ cs) h = ((ap (λ s. s.place.group)
 
 -- Tests.
 
-and-false : (x f : Bool) → f ≡ false → (x && f) ≡ false
-and-false true f h = h
-and-false false f h = refl
-
-or-true : (x : Bool) → (x || true) ≡ true
-or-true true = refl
-or-true false = refl
-
-and-true : (x : Bool) → (x && true) ≡ x
-and-true true = refl
-and-true false = refl
-
 -- neither in its group and before it, nor in an earlier chunk
 quiet : (a b c f : Bool) → (a && b) ≡ false → c ≡ false → (((a && b) || c) && f) ≡ false
 quiet a b c f own other = (λ i. (own i || other i) && f)
 
 quiet_if_failed : (a b c f : Bool) → a ≡ false → (f ≡ true → c ≡ false) → (((a && b) || c) && f) ≡ false
 quiet_if_failed a b c true other h = quiet a b c true (ap (λ x. x && b) other) (h refl)
-quiet_if_failed a b c false other h = and-false ((a && b) || c) false refl
+quiet_if_failed a b c false other h = and_right ((a && b) || c) false refl
 
 loud : (a b c f : Bool) → a ≡ true → b ≡ true → f ≡ true → (((a && b) || c) && f) ≡ true
 loud a b c f p q r = λ i. ((p i && q i) || c) && r i
@@ -98,7 +87,7 @@ loud_by_chunk x c f p q = (λ i. (x || p i) && q i) ∙ and-true (x || true) ∙
 not-behind : (chunk : ℕ → ℕ) (group index : ℕ) (e : AccountEntry) → e.place.group ≡ group → index ≤ e.place.index → stops chunk (at group index) e ≡ false
 not-behind chunk group index e same behind =
     quiet (eqb e.place.group group) (ltb e.place.index index) (ltb (chunk e.place.group) (chunk group)) (fails e)
-    (and-false (eqb e.place.group group) (ltb e.place.index index) (le-ltb e.place.index index behind))
+    (and_right (eqb e.place.group group) (ltb e.place.index index) (le-ltb e.place.index index behind))
     (le-ltb (chunk e.place.group) (chunk group) (omega (arith, ap chunk same)))
 
 -- nor by one of a later group
@@ -174,7 +163,7 @@ group-due chunk to_end group index before (e ∷ es) (c ∷ cs) harmless run =
       no-step_left to_end,
     )
     by-failure false succeeds more again =
-        let ih = again (λ j le. each-append (λ x. stops chunk (at group j) x ≡ false) before (e ∷ []) (harmless j (omega (arith, le))) (and-false (depends_on chunk (at group j) e.place) (fails e) succeeds, tt)) more in (
+        let ih = again (λ j le. each-append (λ x. stops chunk (at group j) x ≡ false) before (e ∷ []) (harmless j (omega (arith, le))) (and_right (depends_on chunk (at group j) e.place) (fails e) succeeds, tt)) more in (
           ih.0,
           first-due (is_due chunk (before ++ e ∷ es)) (step_at group index c) (step_of e) others (map step_of es ++ ih.0) first (sym run.0)
               (ap (λ l. filter (is_due chunk l) others) (sym (append_assoc before (e ∷ []) es)) ∙ ih.1),
@@ -246,10 +235,6 @@ still-due chunk rises account more group passed own earlier =
     filter-same (is_due chunk (account ++ more)) (is_due chunk account) passed
     (each-map (λ s. s.place.group < group) (λ s. is_due chunk (account ++ more) s ≡ is_due chunk account s) passed (λ s lt. same s lt) earlier)
   where
-    or-false : (b : Bool) → (b || false) ≡ b
-    or-false true = refl
-    or-false false = refl
-
     same : (s : Step) → s.place.group < group → is_due chunk (account ++ more) s ≡ is_due chunk account s
     same s lt =
         ap not (list_any-append (stops chunk s.place) account more
@@ -274,26 +259,18 @@ Free last next joined = (ltb last next && not (is_success joined.status)) ≡ fa
 
 none-fail : (account : List AccountEntry) → list_any fails account ≡ false → Each (λ e. fails e ≡ true → ⊥) account
 none-fail [] h = tt
-none-fail (e ∷ es) h = (λ failed. absurd (true-or (fails e) (list_any fails es) failed h), none-fail es (or-rest (fails e) (list_any fails es) h))
+none-fail (e ∷ es) h = (λ failed. absurd (true-or (fails e) (list_any fails es) failed h), none-fail es (or_parts (fails e) (list_any fails es) h).1)
   where
     true-or : (a b : Bool) → a ≡ true → (a || b) ≡ false → ⊥
     true-or true b p q = cc
     true-or false b p q = cc
-
-    or-rest : (a b : Bool) → (a || b) ≡ false → b ≡ false
-    or-rest true b q = cc
-    or-rest false b q = q
 
 -- if the next group runs, what failed is of no earlier chunk
 held-back : (chunk : ℕ → ℕ) (account : List AccountEntry) (last next : ℕ) (joined : Output) → joined ≡ output_of_account account → Free last next joined → Each (λ e. fails e ≡ true → last ≤ chunk e.place.group) account → Each (λ e. fails e ≡ true → next ≤ chunk e.place.group) account
 held-back chunk account last next joined is free failed_last = by-test (ltb last next) refl (list_any fails account) refl
   where
     success : not (is_success joined.status) ≡ list_any fails account
-    success = ap (λ o. not (is_success o.status)) is ∙ ap not (account-status account) ∙ twice (list_any fails account)
-      where
-        twice : (b : Bool) → not (not b) ≡ b
-        twice true = refl
-        twice false = refl
+    success = ap (λ o. not (is_success o.status)) is ∙ ap not (account-status account) ∙ not-not (list_any fails account)
 
     by-test : (later : Bool) → ltb last next ≡ later → (failed : Bool) → list_any fails account ≡ failed → Each (λ e. fails e ≡ true → next ≤ chunk e.place.group) account
     by-test false e failed f = each-map (λ x. fails x ≡ true → last ≤ chunk x.place.group) (λ x. fails x ≡ true → next ≤ chunk x.place.group) account (λ x h bad. omega (arith, h bad, ltb-false last next e)) failed_last
@@ -421,13 +398,9 @@ chunks-rise devices parallel a b le =
 
 -- The outcome of an account.
 
-twice : (b : Bool) → not (not b) ≡ b
-twice true = refl
-twice false = refl
-
 failed-if : (account : List AccountEntry) (output : Output) (success : Bool) → output ≡ output_of_account account → is_success output.status ≡ success → list_any fails account ≡ not success
 failed-if account output success is h =
-    sym (twice (list_any fails account)) ∙ ap not (sym (account-status account) ∙ ap (λ o. is_success o.status) (sym is) ∙ h)
+    sym (not-not (list_any fails account)) ∙ ap not (sym (account-status account) ∙ ap (λ o. is_success o.status) (sym is) ∙ h)
 
 pub outcome-ok : (account : List AccountEntry) (output : Output) → output ≡ output_of_account account → is_success output.status ≡ true → outcome_of account ≡ Ok output
 outcome-ok account output is h = λ i. cond (failed-if account output true is h i) (Err (Process (sym is i))) (Ok (sym is i))

@@ -1,6 +1,5 @@
 -- The outputs of answers to commands, and outputs joined.
-use Rattle.std.specs.Prelude.{◌≡◌, ℕ, suc, List, [], ◌∷◌, ◌++◌, if◌then◌else◌, Option, Some, None, ℤ, pos, negsuc, unwrap_or, codes, refl}
-use Rattle.std.specs.List.{fold}
+use Rattle.std.specs.Prelude.{◌≡◌, ℕ, suc, List, [], ◌∷◌, ◌++◌, if◌then◌else◌, Option, Some, None, ℤ, pos, negsuc, unwrap_or, codes, refl, fold}
 use Rattle.texts.specs.declared.fault.Fault.{Fault}
 use Rattle.texts.specs.declared.fault.Fault.TheVariants.{Process, Runner}
 use Rattle.texts.specs.declared.status.Output.{Output}

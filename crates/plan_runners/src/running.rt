@@ -1,7 +1,6 @@
 //! Running the groups of a plan.
 
-ghost use Rattle.std.specs.Prelude.{◌≡◌, ◌++◌, ◌∷◌, [], ◌-◌, length, map, IfOk, MatchResult, true, false, nat_lt, not, ◌&&◌};
-ghost use Rattle.std.specs.List.{fold};
+ghost use Rattle.std.specs.Prelude.{◌≡◌, ◌++◌, ◌∷◌, [], ◌-◌, length, map, IfOk, MatchResult, true, false, nat_lt, not, ◌&&◌, fold};
 ghost use Rattle.plan_runners.specs.Outcome.{aggregated, empty_success, output_of_answer as output_of};
 ghost use Rattle.plan_runners.specs.Running.{step_at, OfGroup};
 ghost use Rattle.plan_runners.specs.Schedule as spec;

@@ -1,5 +1,4 @@
-use Rattle.std.proofs.Common.{◌≡◌, ◌+◌, map, drop}
-use Rattle.std.specs.Prelude.{option_map}
+use Rattle.std.proofs.Common.{◌≡◌, ◌+◌, map, drop, option_map}
 use Rattle.texts.specs.Variables.{pair_of}
 use Rattle.command_groups.specs.EnvironmentPlace.{variable_place}
 use Rattle.command_groups.proofs.environment.place_of.Given as goal

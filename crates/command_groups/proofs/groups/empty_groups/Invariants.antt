@@ -1,5 +1,4 @@
-use Rattle.std.proofs.Common.{◌≡◌, [], map}
-use Rattle.std.specs.Prelude.{replicate, vec_items}
+use Rattle.std.proofs.Common.{◌≡◌, [], map, replicate, vec_items}
 use Rattle.command_groups.proofs.groups.empty_groups.Given as goal
 
 -- as many empty groups as steps were taken

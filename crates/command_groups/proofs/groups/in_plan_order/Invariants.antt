@@ -1,5 +1,4 @@
-use Rattle.std.proofs.Common.{◌≡◌, ◌++◌, map, drop, vec_items}
-use Rattle.std.specs.List.{flat_map}
+use Rattle.std.proofs.Common.{◌≡◌, ◌++◌, map, drop, vec_items, flat_map}
 use Rattle.command_groups.proofs.groups.in_plan_order.Given as goal
 
 abbrev pub invariant-loop-group : goal.invariant-loop-group

@@ -1,5 +1,4 @@
-use Rattle.std.proofs.Common.{List, map, sym, subst}
-use Rattle.std.specs.Option.{option_copied}
+use Rattle.std.proofs.Common.{List, map, sym, subst, option_copied}
 use Rattle.command_lines.specs.CommandLines.{CommandLine, line_of}
 use Rattle.command_groups.specs.MergeLaws.{Rises}
 use Rattle.command_groups.proofs.RisingLemmas.{named_rises}

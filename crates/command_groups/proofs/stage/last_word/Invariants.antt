@@ -1,5 +1,4 @@
-use Rattle.std.proofs.Common.{◌≡◌, Some, map, fold, string_bytes, drop}
-use Rattle.std.specs.Option.{option_copied}
+use Rattle.std.proofs.Common.{◌≡◌, Some, map, fold, string_bytes, drop, option_copied}
 use Rattle.texts.specs.Lists.{last_of}
 use Rattle.command_groups.proofs.stage.last_word.Given as goal
 

@@ -1,5 +1,4 @@
-use Rattle.std.proofs.Common.{◌≡◌, ◌+◌, map, string_bytes, drop}
-use Rattle.std.specs.Prelude.{option_map}
+use Rattle.std.proofs.Common.{◌≡◌, ◌+◌, map, string_bytes, drop, option_map}
 use Rattle.command_groups.specs.WordPlace.{word_place}
 use Rattle.command_groups.proofs.stage.place_of_word.Given as goal
 

@@ -11,8 +11,7 @@ returns c =
     let word = c.args.word.now in
     elim c.match-place_of_word.branch [
       | in-Some+in_ok-copy-in-Some+in_ok-insert-in-Some w ↦
-          (λ i. map string_bytes (w.edited-is i).items)
-          ∙ (λ i. map string_bytes (w.in_ok-insert-in-Some.ensures.items i))
+          (λ i. map string_bytes (w.edited-is i).items) ∙ (λ i. map string_bytes (w.in_ok-insert-in-Some.ensures.items i))
           ∙ before-known w.in_ok-copy-in-Some.copy word words w.in-Some.place ((λ i. word_place word (map string_bytes (sym c.as_slice.ensures.value i))) ∙ sym w.in-Some.ensures.place)
           ∙ (λ i. with_word_before (w.in_ok-copy-in-Some.ensures.ok i) word (map string_bytes words))
       | in-None w ↦

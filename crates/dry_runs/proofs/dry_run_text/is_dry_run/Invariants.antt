@@ -1,5 +1,4 @@
-use Rattle.std.proofs.Common.{◌≡◌, length, codes}
-use Rattle.std.specs.Prelude.{nat_eq}
+use Rattle.std.proofs.Common.{◌≡◌, length, codes, nat_eq}
 use Rattle.std.specs.List.{list_any, starts_with}
 use Rattle.std.specs.Str.Lines.{lines}
 use Rattle.dry_runs.proofs.dry_run_text.is_dry_run.Given as goal

@@ -1,5 +1,4 @@
-use Rattle.std.proofs.Common.{◌∷◌, ◌∙◌, Some, ap, sym, fold, drop, string_bytes}
-use Rattle.std.specs.Option.{option_map}
+use Rattle.std.proofs.Common.{◌∷◌, ◌∙◌, Some, ap, sym, fold, drop, option_map}
 use Rattle.dry_runs.specs.Limit.{expanded_fitting, made, text_seen}
 use Rattle.command_lines.specs.Replacing.{replaced}
 use Rattle.dry_runs.proofs.FittingLemmas.{fitting-none, first-none, first-some}
@@ -24,8 +23,7 @@ returns-in_default-2 c =
     ∙ ap (λ o. fold expanded_fitting o behind) (ap (option_map text_seen) (sym c.in_default-2.is) ∙ c.in_ok-less.ensures)
     ∙ ap (λ t. fold expanded_fitting (made left (replaced (36 ∷ name) value t)) behind) same
     ∙ sym (first-some left env c.loop-next.from text c.first_reference.result c.in-Some-first_reference.next c.in-Some-first_reference.is c.first_reference.ensures.found)
-    ∙ ap (λ t. fold expanded_fitting (Some (left, t)) rest) c.as_str.ensures.value
-    ∙ c.loop-next.invariant
+    ∙ ap (λ t. fold expanded_fitting (Some (left, t)) rest) c.as_str.ensures.value ∙ c.loop-next.invariant
 
 pub returns : goal.returns
 returns c =
@@ -35,5 +33,4 @@ returns c =
     let text = c.as_str.result.now in
     ap (λ t. Some (left, t)) (sym c.as_str.ensures.value)
     ∙ sym (first-none left env c.loop-next.from text c.first_reference.result c.in_default-first_reference.is c.first_reference.ensures.found)
-    ∙ ap (λ t. fold expanded_fitting (Some (left, t)) rest) c.as_str.ensures.value
-    ∙ c.loop-next.invariant
+    ∙ ap (λ t. fold expanded_fitting (Some (left, t)) rest) c.as_str.ensures.value ∙ c.loop-next.invariant

@@ -1,6 +1,4 @@
-use Rattle.std.proofs.Common.{◌∙◌, ℕ, Vec, String, ap, sym, refl, map, string_bytes}
-use Rattle.std.specs.Option.{option_map}
-use Rattle.std.specs.declared.alloc.Global.{Global}
+use Rattle.std.proofs.Common.{◌∙◌, ℕ, ap, sym, refl, option_map}
 use Rattle.dry_runs.specs.Limit.{expanded_within, words_seen}
 use Rattle.dry_runs.proofs.FittingLemmas.{within-words}
 use Rattle.dry_runs.proofs.environment.expanded_words.Goals as goal

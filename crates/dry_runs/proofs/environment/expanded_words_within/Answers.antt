@@ -1,5 +1,4 @@
-use Rattle.std.proofs.Common.{◌≡◌, IfOk, subst, nat_le, length, true, arith}
-use Rattle.std.specs.Option.{option_map}
+use Rattle.std.proofs.Common.{◌≡◌, IfOk, subst, nat_le, length, true, arith, option_map}
 use Rattle.dry_runs.specs.Limit.{words_seen}
 use Rattle.dry_runs.proofs.FittingLemmas.{words-too_long, words-from, first-none, first-some}
 use Rattle.dry_runs.proofs.environment.expanded_words_within.Goals as goal

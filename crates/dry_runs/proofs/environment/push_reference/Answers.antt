@@ -7,8 +7,7 @@ pub returns-then-branch-clause-text : goal.returns-then-branch-clause-text
 returns-then-branch-clause-text c =
     let out = string_bytes c.args.out.now in
     let left = replaced (36 ∷ c.args.name.now) c.args.value.now c.piece_of.result.1.now in
-    ap (λ t. t ++ left) (c.in_ok-push_within.ensures.text c.if-branch.true)
-    ∙ append_assoc out c.piece_of.result.0.now left
+    ap (λ t. t ++ left) (c.in_ok-push_within.ensures.text c.if-branch.true) ∙ append_assoc out c.piece_of.result.0.now left
     ∙ ap (λ t. out ++ t) (sym c.piece_of.ensures.cut)
 
 pub returns-else-branch-clause-text : goal.returns-else-branch-clause-text

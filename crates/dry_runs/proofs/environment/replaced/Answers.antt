@@ -43,10 +43,8 @@ loop-front-preserved c =
     let pushed = string_bytes c.push_within.new.out in (
       search rules,
       written-some c.args.left pushed name value after (string_bytes c.push_reference.new.out) c.in_ok-behind.field-0 c.in-Some-2.behind c.in-Some-2.is c.in_ok-behind.ensures.text
-          ∙ ap (λ t. t ++ left) (c.in_ok-push_within.ensures.text c.if-not-branch.false)
-          ∙ append_assoc out front left
-          ∙ ap (λ t. out ++ t) (sym cut)
-          ∙ c.loop-front.invariant.1,
+          ∙ ap (λ t. t ++ left) (c.in_ok-push_within.ensures.text c.if-not-branch.false) ∙ append_assoc out front left
+          ∙ ap (λ t. out ++ t) (sym cut) ∙ c.loop-front.invariant.1,
     )
 
 pub returns-then-branch : goal.returns-then-branch

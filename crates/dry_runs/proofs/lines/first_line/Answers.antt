@@ -1,6 +1,7 @@
 use Rattle.std.proofs.Common.{◌∷◌, ◌+◌, ◌∙◌, ap, sym, drop, length}
 use Rattle.std.specs.Str.Lines.{lines}
-use Rattle.dry_runs.proofs.LineLemmas.{lines-at_newline, lines-last, some-left, rest-whole}
+use Rattle.std.proofs.lemmas.List.{take_rest}
+use Rattle.dry_runs.proofs.LineLemmas.{lines-at_newline, lines-last, some-left}
 use Rattle.dry_runs.proofs.lines.first_line.Goals as goal
 
 pub returns-in-None-clause-lines : goal.returns-in-None-clause-lines
@@ -13,4 +14,4 @@ returns-in-Some-clause-lines c =
     let rest = c.args.rest.now in
     lines-at_newline rest c.in-Some.end (sym c.in-Some.ensures)
     ∙ ap (λ line. line ∷ lines (drop (c.in-Some.end + 1) rest)) (sym c.without_return.ensures)
-    ∙ ap (λ behind. c.without_return.result.now ∷ lines behind) (sym (rest-whole (c.in-Some.end + 1) rest))
+    ∙ ap (λ behind. c.without_return.result.now ∷ lines behind) (sym (take_rest rest (c.in-Some.end + 1)))

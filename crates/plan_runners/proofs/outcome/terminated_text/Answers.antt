@@ -1,5 +1,4 @@
-use Rattle.std.proofs.Common.{◌≡◌, ◌++◌, ◌∙◌, ap, string_bytes, subst, codes, w32}
-use Rattle.std.specs.Result.{IfOk}
+use Rattle.std.proofs.Common.{◌≡◌, ◌++◌, ◌∙◌, ap, string_bytes, subst, codes, w32, IfOk}
 use Rattle.std.proofs.lemmas.Int.{to_z-of_z}
 use Rattle.plan_runners.specs.Outcome.{program_name, signed_numeral, terminated_text}
 use Rattle.plan_runners.proofs.outcome.terminated_text.Goals as goal

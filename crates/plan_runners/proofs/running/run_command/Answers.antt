@@ -1,5 +1,4 @@
-use Rattle.std.proofs.Common.{◌≡◌, ◌∙◌, refl, subst}
-use Rattle.std.specs.Result.{IfOk}
+use Rattle.std.proofs.Common.{◌≡◌, ◌∙◌, refl, subst, IfOk}
 use Rattle.plan_runners.specs.Outcome.{output_of_answer}
 use Rattle.plan_runners.specs.Schedule.{answered}
 use Rattle.plan_runners.proofs.RunningLemmas.{command-answered}

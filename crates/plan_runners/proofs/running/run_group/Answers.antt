@@ -1,7 +1,8 @@
 use Rattle.std.proofs.Common.{◌+◌, length, subst, arith, true, not, ap, ◌∙◌, sym}
+use Rattle.std.proofs.lemmas.List.{nil_from_length}
 use Rattle.texts.specs.Endings.{is_success}
 use Rattle.plan_runners.specs.Schedule.{Gains}
-use Rattle.plan_runners.proofs.RunningLemmas.{GroupSoFar, GroupEnds, group-goes_on, group-fails, group-ends, group-cut, group-cut_joining, success-is, refused, nothing-left}
+use Rattle.plan_runners.proofs.RunningLemmas.{GroupSoFar, GroupEnds, group-goes_on, group-fails, group-ends, group-cut, group-cut_joining, success-is, refused}
 use Rattle.plan_runners.proofs.running.run_group.Goals as goal
 
 pub returns-in_err-left : goal.returns-in_err-left
@@ -53,4 +54,4 @@ returns g c =
     let before = g.R.Runner.log c.args.runner.now in
     let after = g.R.Runner.log c.loop-command.runner in
     group-ends before after c.args.group c.loop-command.index c.args.commands.items c.args.output c.loop-command.joined
-    (subst (λ l. GroupSoFar before after c.args.group c.loop-command.index l c.args.commands.items c.args.output c.loop-command.joined) (nothing-left c.loop-command.command-iterator.rest.items (omega (arith, c.loop-command.command-iterator.rest.ok.0, c.in-None.ensures.steps.0))) c.loop-command.invariant.far)
+    (subst (λ l. GroupSoFar before after c.args.group c.loop-command.index l c.args.commands.items c.args.output c.loop-command.joined) (nil_from_length c.loop-command.command-iterator.rest.items (omega (arith, c.loop-command.command-iterator.rest.ok.0, c.in-None.ensures.steps.0))) c.loop-command.invariant.far)

@@ -1,8 +1,8 @@
-use Rattle.std.proofs.Common.{◌≡◌, ◌+◌, ◌≤◌, length, map, vec_items, subst, arith, ap, ◌∙◌, sym}
-use Rattle.std.proofs.lemmas.List.{length-map}
+use Rattle.std.proofs.Common.{◌+◌, ◌≤◌, length, map, vec_items, subst, arith, ap, ◌∙◌, sym}
+use Rattle.std.proofs.lemmas.List.{length-map, nil_from_length}
 use Rattle.texts.specs.Endings.{is_success}
 use Rattle.plan_runners.specs.Schedule.{chunk_of, device_groups, steps}
-use Rattle.plan_runners.proofs.RunningLemmas.{held-test, refused, nothing-left}
+use Rattle.plan_runners.proofs.RunningLemmas.{held-test, refused}
 use Rattle.plan_runners.proofs.ScheduleLemmas.{PlanSoFar, plan-left, plan-begins, plan-goes_on, plan-ends, plan-cut, plan-stops, chunks-rise, held-true}
 use Rattle.plan_runners.proofs.running.run_groups.Goals as goal
 
@@ -61,4 +61,4 @@ returns g c =
     let all = steps c.args.groups in
     plan-ends chunk before after all c.loop-commands.group c.loop-commands.chunk c.loop-commands.joined
     (subst (λ l. PlanSoFar chunk before after all c.loop-commands.group l c.loop-commands.chunk c.loop-commands.joined)
-    (ap (map vec_items) (nothing-left c.loop-commands.commands-iterator.rest.items (omega (arith, c.loop-commands.commands-iterator.rest.ok.0, c.in-None.ensures.steps.0)))) c.loop-commands.invariant.far)
+    (ap (map vec_items) (nil_from_length c.loop-commands.commands-iterator.rest.items (omega (arith, c.loop-commands.commands-iterator.rest.ok.0, c.in-None.ensures.steps.0)))) c.loop-commands.invariant.far)

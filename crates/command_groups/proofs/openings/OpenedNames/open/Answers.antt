@@ -1,5 +1,4 @@
-use Rattle.std.proofs.Common.{map, ap, ◌∙◌}
-use Rattle.std.specs.Str.{bytes_eq}
+use Rattle.std.proofs.Common.{map, ap, ◌∙◌, bytes_eq}
 use Rattle.indexmap.specs.IndexMap.{insert_entry}
 use Rattle.command_groups.specs.EntryView.{entry_seen}
 use Rattle.command_groups.specs.Openings.{opening_at, number_of}
