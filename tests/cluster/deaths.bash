@@ -71,7 +71,7 @@ back() {
 
 # vanishes NAME PATTERN: the lane's second node vanishes in a command of this kind.
 vanishes() {
-    begin "$1" 3 6
+    begin "$1" 3 6 TOOL_HOLD="n$second $2"
     moment 1 "^start n$second $2"
     power_off "$second"
     finish "with a node that vanished in $1"

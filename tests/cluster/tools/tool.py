@@ -3,7 +3,8 @@
 
 A product is a digest of the tool's words and of all that it reads, so a missing, old or wrong input shows in the object. It has a last
 line, and it is written in two halves, so a reader notices half a file. TOOL_LOG, if set, names a file that gets a line for each start,
-end and bad input, with the node's name. TOOL_SECONDS is how long each tool takes.
+end and bad input, with the node's name. TOOL_SECONDS is how long each tool takes. Commands whose node, tool and product match TOOL_HOLD take
+ten seconds more, so that a test is in time to end them.
 """
 import hashlib
 import os
@@ -29,11 +30,11 @@ products = PRODUCTS.get(tool, ["-o"])
 makes: list[str] = []
 reads: list[str] = []
 others = [tool]
+node = os.environ.get("SLURMD_NODENAME") or os.uname().nodename
 
 
 def note(kind: str, name: str = "") -> None:
     if log := os.environ.get("TOOL_LOG"):
-        node = os.environ.get("SLURMD_NODENAME") or os.uname().nodename
         with open(log, "a", encoding="utf-8") as file:
             file.write(f"{kind} {node} {tool} {name}\n")
 
@@ -97,7 +98,8 @@ except OSError as error:
 finally:
     if os.path.exists(scratch):
         os.remove(scratch)
-time.sleep(seconds)
+hold = os.environ.get("TOOL_HOLD", "")
+time.sleep(seconds + 10 if hold and re.match(hold, f"{node} {tool} {''.join(makes[:1])}") else seconds)
 for number, name in enumerate(makes):
     with open(name, "wb", buffering=0) as product:
         product.write(f"{text} {number}\n".encode() * 50)
