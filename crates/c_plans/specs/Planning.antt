@@ -54,7 +54,7 @@ told limit form texts (Err fault) = failed_within limit fault
 
 -- a call whose numbers have a meaning, and whose texts are UTF-8 and its directories plain
 abbrev pub outcome_by : PlanCall → Format → NvccHostCompiler → Texts → Tables → Outcome
-outcome_by call format host texts tables = told call.limit form texts (planned call host texts tables)
+outcome_by call form host texts tables = told call.limit form texts (planned call host texts tables)
 
 -- a call with numbers that have a meaning. A text that isn't UTF-8 comes before a directory that isn't plain, and that before any fault
 -- of the plan
