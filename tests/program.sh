@@ -718,7 +718,7 @@ plan_files() {
     text+=",\"flag\":\"-c\",\"groups\":3,\"tmp\":\"/t\",\"version\":1}"$'\n'
     check 'a plan as JSON' 0 "$text" '' json /w /t -c "$scratch/short" "$scratch/short.2"
     text=$(lines 'group 0' 'group 1' "no cd /w && $bin/gcc -D__NVCC__ -E k.cu -o x_0.cpp1.ii" "yes cd /t && $bin/cicc x_0.cpp1.ii -o k.ptx" 'group 2' \
-        "dropped 5 run 2 NotCuda $bin/g++ a b")
+        "dropped 4 run 2 NotCuda $bin/g++ a b")
     check 'a plan as text' 0 "${text%.}" '' text /w /t -c "$scratch/short" "$scratch/short.2"
     text_kept=${text//x_0/k}
     check 'a plan as text, with names kept' 0 "${text_kept%.}" '' text --keep /w /t -c "$scratch/short" "$scratch/short.2"

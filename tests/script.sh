@@ -180,7 +180,7 @@ plans() {
     as=$planner script KEEP_DIR=/kept json nvcc -c k.cu
     same 'with --keep' "$(grep -c 'json\] \[--keep\] ' "$room/log")" 1
     as=$planner script KEEP_DIR=/kept text nvcc -c k.cu
-    same 'text has no --keep' "$(grep -c 'plan\] \[/.*\[-c\]' "$room/log")" 1
+    same 'text with --keep' "$(grep -c 'text\] \[--keep\] ' "$room/log")" 1
     end
     begin 'zigrunk-plan, and a keep directory that only the environment names'
     as=$planner script KEEP_DIR=none keep_dir=/kept json nvcc -c k.cu
