@@ -229,11 +229,11 @@ lists() {
     mkdir sub
     write sub/a.cu 'echo sub >> ../made'
     write a.cu 'echo "$NAME" >> made'
-    list=$'cd sub && nvcc -c a.cu -o a.o\nNAME=value nvcc -c a.cu -o b.o\nnvcc -c a.cu -o "$(echo run >> ran; echo c.o)"\nnvcc -c a.cu -o `echo d.o`\necho text > text; exit 4\nif true; then echo if; fi\n! true'
+    list=$'cd sub && nvcc -c a.cu -o a.o\nNAME=value nvcc -c a.cu -o b.o\nnvcc -c a.cu -o "$(echo run >> ran; echo c.o)"\nnvcc -c a.cu -o `echo d.o`\necho text > text; exit 4\nif true; then echo if; fi\n! true\necho \'in quotes\' > quoted\necho end;'
     batch NAME=before ZIGRUNK_RUNNER=runner
     same status "$status" 4
-    same made "$(sort made | tr '\n' ,) $(cat ran text | tr '\n' ' ')$(cat "$room/out")" 'before,before,sub,value, run text if'
-    same 'by the runner' "$(logged '^runner sh -c ')" 7
+    same made "$(sort made | tr '\n' ,) $(cat ran text quoted | tr '\n' ' ')$(cat "$room/out")" $'before,before,sub,value, run text in quotes if\nend'
+    same 'by the runner' "$(logged '^runner sh -c ')" 9
     same messages "$(cat "$room/err")" "zigrunk-batch: line 5: exit status 4: echo text > text; exit 4"$'\n''zigrunk-batch: line 7: exit status 1: ! true'
     same 'calls of nvcc' "$(logged '^nvcc ')" 4
     end

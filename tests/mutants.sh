@@ -633,6 +633,39 @@ new: [0-9]) plain
 always 0
 old: exit "$status"
 new: exit
+the helper is looked for where the call runs
+old: here=$0
+new: here=${0##*/}
+with a dependency file, only preprocessors count
+old: / -E / && ENVIRON["ZIGRUNK_RULE"] != "" &&
+new: ENVIRON["ZIGRUNK_RULE"] != "" &&
+the directory of a first call is one that another has
+old: [ -e "$base/$name" ] || return 0
+new: [ -e "$base/$name" ] || return 1
+what commands say is looked for where the call runs
+old: stamp=$tmp/$stamp
+new: :
+an output is no message
+old: { said=yes && cat "$stamp.out"; }
+new: cat "$stamp.out"
+a dependency file may be standard error
+old: case "$dependencies " in
+new: case " " in
+a batch's call forgets its keep directory
+old: "$tmp" "$keep_dir" > "$ZIGRUNK_PLAN"
+new: "$tmp" > "$ZIGRUNK_PLAN"
+a cache's preprocessor is planned
+old:     -E | --preprocess) plain
+new:     --preprocess) plain
+a cache's preprocessor by its long name is planned
+old:     -E | --preprocess) plain
+new:     -E) plain
+a cache's question for the version is planned
+old:     -V | --version) plain
+new:     -V) plain
+the version by its short name is planned
+old:     -V | --version) plain
+new:     --version) plain
 END
 tries zigrunk-nvcc tests/slots.sh << 'END'
 the words behind the number of jobs are part of it
@@ -662,6 +695,27 @@ new: slots=
 dry runs take no slot
 old: { read -r _; dry_runs "$@"; } &
 new: dry_runs "$@" &
+a jobserver that the call can't use has its jobs
+old: most=${most%%[!0-9]*} && MAKEFLAGS='' ;;
+new: most=${most%%[!0-9]*} ;;
+a make that says no number of jobs has its jobserver's
+old: *' --jobserver-auth='* | *' --jobserver-fds='*) ;;
+new: *' --jobserver-auth='*) ;;
+the file of a lock is a jobserver
+old: *[!0-9,]* | 9,* | *,9) ;;
+new: *[!0-9,]*) ;;
+a pipe with one end is a jobserver
+old: [ -p "$pipe" ] && [ "$pipe" -ef "/proc/self/fd/${make#*,}" ] &&
+new: [ -p "$pipe" ] &&
+a fifo that is gone is a jobserver
+old: fifo:*) [ -p "${make#fifo:}" ] && MAKEFLAGS='' && return ;;
+new: fifo:*) MAKEFLAGS='' && return ;;
+make's jobs are no limit for Ninja
+old: jobs=${jobs:-$most}
+new: 
+the whole list of jobs is the number of slots
+old: '' | *[!0-9]*) slots=${most:+max$most} ;;
+new: '') slots=${most:+max$most} ;;
 END
 tries zigrunk-slot tests/slots.sh << 'END'
 slots are in /tmp
@@ -954,12 +1008,57 @@ new:
 commands ignore pipes that are closed
 old:     $SIG{PIPE} = sub { } if ($SIG{PIPE} // '') ne 'IGNORE';
 new:     $SIG{PIPE} = 'IGNORE';
+the server waits for standard input
+old:     vec(my $bits = '', fileno $stamps, 1) = 1;
+new:     vec(my $bits = '', 0, 1) = 1;
 a command goes on when the process that serves it is killed
 old:             kill 'TERM', -$ended if $running{$ended} && $? & 127;
 new: 
 nobody answers for a process that was killed
 old:             answer(delete $running{$ended}, 1) if $running{$ended};
 new:             delete $running{$ended};
+commands go on when Ninja is killed
+old:         kill 'TERM', keys %running if defined $status && $status & 127;
+new: 
+a server that a command starts holds the directory
+old:     for my $number (8, 9) {
+new:     for my $number (8) {
+a server that a command starts holds up the call
+old:     for my $number (8, 9) {
+new:     for my $number (9) {
+the server ends with 0
+old:     $status = $? if !defined $status && waitpid($ninja, 0) == $ninja;
+new:     $status = 0 unless defined $status;
+each command succeeds
+old:     syswrite $shell, "$status\n";
+new:     syswrite $shell, "0\n";
+of two stamps at once one is read
+old:         while ($asked =~ s/^(.*)\n//) {
+new:         if ($asked =~ s/^(.*)\n//) {
+a stamp in two parts is two
+old: sysread $stamps, $asked, 65536, length $asked
+new: sysread $stamps, $asked, 65536
+Ninja has no pipe if its number is right
+old:     fileno $shells == 8 ? fcntl($shells, $set_flags, 0) : syscall($dup2, fileno $shells, 8);
+new:     syscall($dup2, fileno $shells, 8);
+Ninja's signal is its status
+old:     return $status & 127 ? 128 + ($status & 127) : $status >> 8;
+new:     return $status >> 8;
+a Ninja that is missing has no message
+old:     exec { $words[0] } @words or print STDERR "zigrunk-slot: cannot run $words[0]: $!\n";
+new:     exec { $words[0] } @words;
+a list of what is launched is no list
+old:     return grep { $_ eq $kind } split ' ', $ENV{ZIGRUNK_LAUNCHED};
+new:     return $kind eq $ENV{ZIGRUNK_LAUNCHED};
+the plan alone says what is launched
+old:     return $planned unless ($ENV{ZIGRUNK_LAUNCHED} // '') ne '' && defined $program;
+new:     return $planned;
+an empty list launches nothing
+old: ($ENV{ZIGRUNK_LAUNCHED} // '') ne '' &&
+new: defined $ENV{ZIGRUNK_LAUNCHED} &&
+a program with -E preprocesses
+old: '-E' : '-c' if $kind !~ /^(?:cudafe\+\+|cicc|ptxas|fatbinary)$/;
+new: '-E' : '-c' if $kind !~ /^(?:cudafe\+\+|ptxas|fatbinary)$/;
 END
 tries zigrunk-report tests/slots.sh << 'END'
 long lines are whole
@@ -986,6 +1085,18 @@ new:         if False:
 the trace is added to another
 old: open(options.trace, "w",
 new: open(options.trace, "a",
+the trace is in the order of the log
+old: in sorted(entries, key=lambda row: float(row[0]["begin"])):
+new: in entries:
+a command without times is an entry
+old:         float(command["asked"]), float(command["begin"]), float(command["end"]), int(command["status"]), str(command["kind"])
+new:         str(command["kind"])
+reasons of the same number are in any order
+old: key=lambda row: (-row[1], row[0])
+new: key=lambda row: -row[1]
+calls that nvcc makes count among the split ones
+old:     beside = sum(seconds(call) for call in calls if not call["commands"])
+new:     beside = 0
 END
 tries zigrunk-plan tests/script.sh << 'END'
 the keep directory comes from the environment
@@ -1036,6 +1147,18 @@ new:
 both dry runs are one
 old: for run in first_dry_run second_dry_run
 new: for run in first_dry_run first_dry_run
+the usage is output
+old: "$1" "$usage" >&2
+new: "$1" "$usage"
+-- is nvcc
+old: [ "${1-}" != -- ] || shift
+new: :
+a dry run's commands are its message
+old: { sed '/^#\$ /d' "$own/$run" >&2
+new: { cat "$own/$run" >&2
+-h is a format
+old: -h | --help) echo "$usage" && exit ;;
+new: --help) echo "$usage" && exit ;;
 END
 tries zigrunk-batch tests/batch.sh << 'END'
 other words are the same call
@@ -1320,6 +1443,39 @@ new: cat "$1.err" >&2
 always 0
 old: exit "$status"
 new: exit
+the usage has no -j
+old: usage='usage: zigrunk-batch [-j N] [-k N]
+new: usage='usage: zigrunk-batch [-k N]
+a product that isn't there yet is none
+old:     [ ! -e "$2" ] || [ -f "$2" ] || return 0
+new:     [ -f "$2" ] || return 0
+a product behind a link is another
+old: 2> /dev/null && pwd -P || pwd)" "${2##*/}"
+new: 2> /dev/null && pwd || pwd)" "${2##*/}"
+each call has a dependency file
+old:     [ -z "$asked" ] || printf '%s\n' "${depfile:=
+new:     printf '%s\n' "${depfile:=
+the record of a name with a blank has a part of it
+old: { cat "$1.call" && sed -n 's/^@ [0-9]* [^ ]* [^ ]* [^ ]* //p'
+new: { cat "$1.call" && sed -n 's/^@ .* //p'
+a launcher's files stay where it runs
+old: prefix=$scratch/call ZIGRUNK_RECORDS
+new: prefix=$PWD/call ZIGRUNK_RECORDS
+a line's last character doesn't count
+old: for (at = 1; at <= length(line); at++) {
+new: for (at = 1; at < length(line); at++) {
+a word in quotes goes on to the end of the line
+old: if (quote == "\047") { if (character == quote) quote = "" }
+new: if (quote == "\047") { }
+a call without a plan is made again
+old: [ -e "$1.status" ] || [ ! -s "$1.plan" ] || { mv "$1.plan" "$1.again" && sh ./run "$1" again; }
+new: [ -e "$1.status" ] || { mv "$1.plan" "$1.again" && sh ./run "$1" again; }
+there are no functions for products
+old: products > "$batch/products"
+new: : > "$batch/products"
+what runs a command comes from the environment
+old: slot=''
+new: 
 END
 wait
 for ((number = 1; ; number++)); do

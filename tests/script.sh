@@ -367,6 +367,10 @@ END
     same output "$(cat "$room/out" "$room/err")" ''
     holds calls "$room/log" "ninja [-f] [$room/work/tmp/zigrunk-$user/zigrunk-name/zigrunk.tmp/ninja]"
     same 'files left' "$(ls -A tmp)" ''
+    script TMPDIR=tmp ZIGRUNK_LAUNCHER=sccache NINJA_DOES='echo "$TMPDIR" > "$LOG.tmp"' -c k.cu -o k.o
+    same 'TMPDIR of commands with sccache' "$(cat "$room/log.tmp")" "$room/work/tmp"
+    script TMPDIR=tmp ZIGRUNK_TMP="$room/tmp" NINJA_DOES='echo "$TMPDIR" > "$LOG.tmp"' -c k.cu -o k.o
+    same 'TMPDIR of commands with ZIGRUNK_TMP' "$(cat "$room/log.tmp")" "$room/work/tmp"
     end
 
     for form in ROOM/tmp/ ROOM//tmp ROOM/./tmp ROOM/tmp/. ROOM/work/../tmp ./../tmp; do
