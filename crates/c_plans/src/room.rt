@@ -1,4 +1,5 @@
-//! The room that the texts of a plan's records take. With that much reserved, writing them moves nothing.
+//! The room to reserve for the texts of a plan's records. A command with as many variables as commands share is counted as one that shares
+//! them. With other variables it needs more, and then writing moves the texts.
 
 ghost use Rattle.std.specs.Prelude.{◌≡◌, fold, length, map, string_bytes, vec_items};
 ghost use Rattle.texts.specs.Variables.{pair_of};
@@ -60,7 +61,8 @@ impl Room {
         room
     }
 
-    // Room for variables, unless there are as many as commands share.
+    // Room for a command's own variables: none if it has as many as commands share, which is quicker to find out than whether they are
+    // the same.
     fn with_own(self, shared: usize, variables: &[(String, String)]) -> Room
         ensures { result ≡ spec.with_own shared self (map pair_of variables.now) }
     {
@@ -71,7 +73,7 @@ impl Room {
         }
     }
 
-    // Room for a command of a group, if commands share so many variables.
+    // Room for the texts of a group's command. `shared` is how many variables commands share.
     fn with_command(self, shared: usize, command: &NvccGeneratedSubcommand) -> Room
         ensures { result ≡ spec.with_command shared self command.now }
     {
