@@ -10,7 +10,7 @@
     --jobs N                    N calls at once, 1 by default
     --json FILE                 write a record of each call
     --reasons                   print why nvcc itself makes calls that compile, or that the lists say are split, and how many for each reason
-    --least-split N             at least N per cent of the calls that nvcc compiles have to be split, and of those that the lists say are
+    --least-split N             at least N per cent of all calls have to be split, of those that nvcc compiles, and of those that the lists say are
     --all                       print the calls that pass too
 
 A line of FILE is the words of a call, quoted as for bash; nothing is globbed. Words in front of them may be
@@ -24,6 +24,8 @@ A line of FILE is the words of a call, quoted as for bash; nothing is globbed. W
     @tmp=FOLDER         TMPDIR, below the work folder; else an empty folder beside it
     @ours=SHELL         run by bash instead of our tool, which is $TOOL; the words are "$@"
     @targets=given      its targets and C++ standard stay as they are, though an older nvcc may not know them
+    @later=WORDS        words of the call that came with a later nvcc: one whose help lacks the first of them gets the call without them
+    @instead=WORDS      what it gets in their place
     @headers=toolkit    the call gets the toolkit's cuda_runtime.h, else a small one
     @how=split          the call is split; @how=nvcc: it goes to nvcc unchanged
     @launched=TEXT      the commands that go through the launcher, as 'cicc:2 ptxas:2'
@@ -40,14 +42,15 @@ toolkit's place for both tools, and a call takes a fifth of the processor's time
 
 The line before the last has two shares: which of all calls were split, and which of those that nvcc compiles, that is those where it ends with 0
 and makes or changes a file. The lists also have calls that print something, as --help and -dryrun do, and calls that nvcc refuses. The line before
-has a third: which of those that the lists say are split, by @how and @launched.
+has a third: which of those that the lists say are split, by @how and @launched. A call is split if zigrunk-nvcc runs its plan. That counts too if a
+command fails and nvcc, before version 12, makes the call again: it may have run another command first, and says what is wrong with that one.
 
 The last line is 'N passed, M failed'. Two tools that always fail alike show nothing. So it is a failure too if no call was made, if
 most fail by both tools, if none compiles anything, or if none is split; with --only, that a call was made is enough.
 
 The lists are for nvcc 13. With an older nvcc, both tools get the newest targets and C++ standard that it knows in place of newer ones, and
-the targets themselves for -arch=all and -arch=all-major if it has no such word. It may lack an option, or run commands in another order than a
-plan: then such a call may go to nvcc, whatever its line says of @how and @launched.
+the targets themselves for -arch=all and -arch=all-major if it has no such word. It may lack an option that no @later names, or run commands in
+another order than a plan: then such a call may go to nvcc, whatever its line says of @how and @launched.
 """
 import argparse
 import concurrent.futures
@@ -99,13 +102,15 @@ SOURCES = {
     "value.cu": "__global__ void k(int*p){*p=V;}\n",
 }
 LAUNCHER = '#!/bin/sh\nprintf "%s\\n" "${1##*/}" >> "$COMPARE_LOG"\nexec "$@"\n'
-FIELDS = {"name", "setup", "after", "cwd", "tmp", "ours", "headers", "targets", "how", "launched", "differs"}
+FIELDS = {"name", "setup", "after", "cwd", "tmp", "ours", "headers", "targets", "later", "instead", "how", "launched", "differs"}
 OLD = 1_600_000_000
 WRITTEN_FOR = "13.0"  # the version of nvcc whose options the lists have
 TARGET = re.compile(r"(?<=\bsm_)\d+|(?<=\bcompute_)\d+|(?<=\blto_)\d+")
 # why an older nvcc makes a call that nvcc 13 doesn't make: whatever it does with the call, or if it ends with an error there
 OTHERWISE = "nvcc reads the line otherwise"
-FAILURES = ("a dry run fails", "a command fails, and nvcc has them in another order")
+# a plan ran, and one of its commands failed
+MADE_AGAIN = "a command fails, and nvcc has them in another order"
+FAILURES = ("a dry run fails", MADE_AGAIN)
 # A kind, which is in capitals if it is a failure, and a text.
 Difference = tuple[str, str]
 
@@ -121,6 +126,8 @@ class Call:
     ours: str
     headers: str
     targets: str
+    later: str
+    instead: str
     how: str
     launched: str
     differs: str
@@ -370,7 +377,7 @@ def claims(call: Call, want: Ran, got: Ran, version: str) -> Iterator[Difference
     """What a line says of our call that isn't so."""
     if float(version) < float(WRITTEN_FOR) and (got["reason"] == OTHERWISE or want["status"] != 0 and got["reason"] in FAILURES):
         return
-    how = "nvcc" if got["reason"] else "split"
+    how = "split" if is_split(got) else "nvcc"
     if call.how and call.how != how:
         yield "HOW", f"{how}, not {call.how}: {got['reason']}"
     if call.launched and call.launched != got["launched"]:
@@ -395,9 +402,13 @@ def version_of(nvcc: str) -> str:
     return found[1] if found else WRITTEN_FOR
 
 
-def values_of(nvcc: str) -> set[str]:
-    """The values of options that an nvcc lists, as sm_80, all-major and c++17; none if it doesn't say."""
-    said = subprocess.run([nvcc, "--help"], capture_output=True, text=True).stdout
+def help_of(nvcc: str) -> str:
+    """What an nvcc says of its options; nothing if it doesn't."""
+    return subprocess.run([nvcc, "--help"], capture_output=True, text=True).stdout
+
+
+def values_in(said: str) -> set[str]:
+    """The values of options that a help lists, as sm_80, all-major and c++17."""
     return set(re.findall(r"'([\w+-]+)'", said))
 
 
@@ -415,6 +426,21 @@ def suited(line: str, values: set[str]) -> str:
     line = TARGET.sub(lambda found: str(instead.get(int(found[0]), found[0])), line)
     line = re.sub(r"\b((?:sm|compute)_\d+)[af]\b", lambda found: found[0] if found[0] in values else found[1], line)
     return re.sub(r"c\+\+2\d", lambda found: found[0] if found[0] in values else standards[-1], line)
+
+
+def earlier(call: Call, said: str) -> Call:
+    """A call without the words that a later nvcc brought, if this one's help lacks the first of them."""
+    if not call.later:
+        return call
+    later = shell_words(call.later)
+    option = later[0].split("=")[0].lstrip("-")
+    if not said or re.search(rf"(?<![\w-])--?{re.escape(option)}(?![\w-])", said):
+        return call
+    places = [at for at in range(len(call.words)) if call.words[at:at + len(later)] == later]
+    if not places:
+        sys.exit(f"{call.line}: it has no words {call.later}")
+    call.words[places[0]:places[0] + len(later)] = shell_words(call.instead) if call.instead else []
+    return call
 
 
 def spelled_out(known: list[int], everyone: bool) -> str:
@@ -479,8 +505,10 @@ def options() -> argparse.Namespace:
 
 def read_calls(args: argparse.Namespace) -> list[Call]:
     lines = [line for name in args.files for line in Path(name).read_text().splitlines()]
-    values = values_of(args.nvcc)
-    calls = [Call(suited(line, values), number) for number, line in enumerate((line for line in lines if line and line[0] != "#"), 1)]
+    said = help_of(args.nvcc)
+    values = values_in(said)
+    lines = [line for line in lines if line and line[0] != "#"]
+    calls = [earlier(Call(suited(line, values), number), said) for number, line in enumerate(lines, 1)]
     return [call for call in calls if args.only in call.line]
 
 
@@ -508,7 +536,7 @@ class Totals:
 
     def add(self, call: Call, want: Ran, got: Ran) -> None:
         """Counts a call."""
-        compiles, split = makes(want), not got["reason"]
+        compiles, split = makes(want), is_split(got)
         listed = call.how == "split" or bool(call.launched)
         self.calls += 1
         self.failing += want["status"] != 0 and got["status"] != 0
@@ -517,10 +545,10 @@ class Totals:
         self.both += compiles and split
         self.listed += listed
         self.kept += listed and split
-        if got["reason"] and compiles:
+        if not split and compiles:
             self.reasons[f"that nvcc compiles: {got['reason']}"] += 1
-        if got["reason"] and listed:
-            self.reasons[f"that the lists say are split: {why(want, got['reason'])}"] += 1
+        if not split and listed:
+            self.reasons[f"that the lists say are split: {why(want, got)}"] += 1
 
     def say(self, reasons: bool) -> None:
         """Prints the reasons, if they are asked for, and the shares."""
@@ -534,9 +562,11 @@ class Totals:
     def nothing(self, least: int) -> list[str]:
         """Why so many calls show nothing, though they are alike, or how many too few are split."""
         found = [*shows_nothing(self.calls, self.failing, self.compiling, self.split)]
-        for what, of, split in (("nvcc compiles", self.compiling, self.both), ("the lists say are split", self.listed, self.kept)):
+        shares = (("calls", self.calls, self.split), ("calls that nvcc compiles", self.compiling, self.both),
+                  ("calls that the lists say are split", self.listed, self.kept))
+        for what, of, split in shares:
             if split * 100 < least * of:
-                found.append(f"{split} of the {of} calls that {what} were split, less than {least} %")
+                found.append(f"{split} of the {of} {what} were split, less than {least} %")
         return found
 
 
@@ -545,10 +575,15 @@ def makes(want: Ran) -> bool:
     return want["status"] == 0 and bool(want["made"])
 
 
-def why(want: Ran, reason: str) -> str:
+def is_split(got: Ran) -> bool:
+    """Whether zigrunk-nvcc ran the plan of a call."""
+    return got["reason"] in (None, MADE_AGAIN)
+
+
+def why(want: Ran, got: Ran) -> str:
     """Why nvcc makes a call: if a dry run fails, what nvcc says of the line."""
     said = re.search(r"^nvcc (?:fatal|error) *:.*", want["err"], re.M)
-    return said[0] if said and reason == "a dry run fails" else reason
+    return said[0] if said and got["reason"] == "a dry run fails" else str(got["reason"])
 
 
 def main() -> int:

@@ -1,8 +1,8 @@
 #!/usr/bin/env bash
 # Tests zigrunk-nvcc with other versions of nvcc: 11.2, 11.8 and 12.4 of Debian's archive, each with a g++ that suits it. With each it makes
-# the call lists beside that nvcc (tests/compare_calls.py), calls with other host compilers, lines with each option
-# (tests/nvcc_readings.py), a fatbin for several targets twenty times (tests/needs.sh), commands that have only their own files
-# (tests/isolated.py) and CMake projects (tests/cmake.sh), and with 11.8 has clang's tools read compilation databases
+# the call lists beside that nvcc (tests/compare_calls.py), calls that only older versions get, calls with other host compilers, lines
+# with each option (tests/nvcc_readings.py), a fatbin for several targets twenty times (tests/needs.sh), commands that have only their
+# own files (tests/isolated.py) and CMake projects (tests/cmake.sh), and with 11.8 has clang's tools read compilation databases
 # (tests/clang_tools.sh). Each version and part has a line of counts, and one that fails doesn't stop the others. The last line is
 # 'N passed, M failed'.
 #
@@ -10,8 +10,8 @@
 #
 #   CUDA_VERSIONS=FOLDER   the toolkits (tests/toolkits.sh), else out/versions. What it lacks is downloaded: up to 3 GB, 1 GB of which stay.
 #   VERSIONS='11.8 ..'     only these
-#   PARTS='calls ..'       only these of calls, hosts, options, needs, isolated, cmake, clang
-#   CALLS='FILE ..'        other lists than tests/calls_quick.txt, calls.txt, calls_words.txt, calls_odd.txt and calls_older.txt
+#   PARTS='calls ..'       only these of calls, older, hosts, options, needs, isolated, cmake, clang
+#   CALLS='FILE ..'        other lists than tests/calls_quick.txt, calls.txt, calls_words.txt and calls_odd.txt, which nvcc 13.0 gets too
 #   RECORDS=FOLDER         keep a record of the calls with each version there, as VERSION.json
 #   JOBS=N                 so many calls at once, else as many as there are processors
 cd "$(dirname "$0")/.." || exit 1
@@ -20,9 +20,9 @@ program=$(realpath -m "${1:-crates/zigrunk/out/zigrunk}")
 mkdir -p "${CUDA_VERSIONS:-out/versions}"
 folder=$(realpath "${CUDA_VERSIONS:-out/versions}")
 read -ra versions <<< "${VERSIONS:-11.2 11.8 12.4}"
-read -ra lists <<< "${CALLS:-tests/calls_quick.txt tests/calls.txt tests/calls_words.txt tests/calls_odd.txt tests/calls_older.txt}"
-parts=${PARTS:-calls hosts options needs isolated cmake clang}
-# In per cent, of the calls in the lists that nvcc compiles, and of those that the lists say are split.
+read -ra lists <<< "${CALLS:-tests/calls_quick.txt tests/calls.txt tests/calls_words.txt tests/calls_odd.txt}"
+parts=${PARTS:-calls older hosts options needs isolated cmake clang}
+# In per cent, of all calls in the lists, of those that nvcc compiles, and of those that the lists say are split.
 readonly LEAST_SPLIT=65
 require 'other versions of nvcc' "${ZIGRUNK_NINJA:-ninja}" objcopy nm python3
 [ -x "$program" ] || make build >&2 || exit 1
@@ -62,6 +62,8 @@ done
 for version in "${ready[@]}"; do
     compare=(tests/compare_calls.py --scratch "$scratch" --jobs "${JOBS:-$(nproc)}")
     part "$version" calls "${compare[@]}" --reasons --least-split "$LEAST_SPLIT" ${RECORDS:+--json "$RECORDS/$version.json"} "${lists[@]}"
+    # (with --only, since an older nvcc refuses most of these)
+    part "$version" older "${compare[@]}" --only @name= ${RECORDS:+--json "$RECORDS/$version.older.json"} tests/calls_older.txt
     part "$version" hosts "${compare[@]}" --only ccbin tests/calls_hosts.txt
     part "$version" options tests/nvcc_readings.py "$program"
     part "$version" needs env TARGETS="$(targets "$version")" tests/needs.sh "$program"
