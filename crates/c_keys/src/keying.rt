@@ -1,7 +1,6 @@
 //! The key of a command, as a call.
 
-ghost use Rattle.std.specs.Prelude.{◌≡◌, [], map, IfOk};
-ghost use Rattle.std.specs.Option.{option_map};
+ghost use Rattle.std.specs.Prelude.{◌≡◌, [], map, IfOk, option_map};
 ghost use Rattle.c_texts.specs.Memory.{bytes_of};
 ghost use Rattle.c_texts.specs.Outcomes.{GivesText, TellsText, of_text, refused};
 ghost use Rattle.c_texts.specs.Variables.{pair_of};

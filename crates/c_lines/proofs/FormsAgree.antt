@@ -1,5 +1,5 @@
 -- JSON and records are of the same arguments, and have the same refusals.
-use Rattle.std.proofs.Common.{◌≡◌, Result, Ok, Err, refl}
+use Rattle.std.proofs.Common.{◌≡◌, Result, Ok, Err, refl, arith}
 use Rattle.compilers.specs.Compiler.{Reading, accepted, cannot_cache, not_compilation}
 use Rattle.c_texts.specs.declared.status.Status.{Status}
 use Rattle.c_lines.specs.declared.line_call.LineTool.{LineTool}
@@ -9,13 +9,10 @@ use Rattle.c_lines.specs.LineRecordLaws.{FormsAgree}
 use Rattle.c_lines.specs.Lines.{read_by, if_accepted, json_of, json_by, on_line}
 
 of-reading : (reading : Reading) → if_accepted reading json_of ≡ as_json (parsed_of reading)
-of-reading (accepted p) = refl
-of-reading (cannot_cache text word) = refl
-of-reading not_compilation = refl
+of-reading reading = grind arith
 
 of-line : (found : Result (LineTool × Line) Status) → on_line json_by found ≡ as_json (parsed_at found)
-of-line (Ok at) = of-reading (read_by at.0 at.1)
-of-line (Err status) = refl
+of-line found = grind (arith, of-reading)
 
 pub forms-agree : FormsAgree
 forms-agree call = of-line (line_in call)

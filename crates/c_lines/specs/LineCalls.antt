@@ -1,6 +1,5 @@
 -- What a caller passes for a line of a tool.
-use Rattle.std.specs.Prelude.{ℕ, List, ◌==◌, if◌then◌else◌, map, Option, Some, None, Result, Ok, Err}
-use Rattle.std.specs.Option.{option_and_then}
+use Rattle.std.specs.Prelude.{ℕ, List, ◌==◌, if◌then◌else◌, map, Option, Some, None, Result, Ok, Err, option_and_then}
 use Rattle.texts.specs.Results.{and_then}
 use Rattle.c_lines.specs.declared.line_call.Line.{Line as HeldLine}
 use Rattle.c_lines.specs.declared.line_call.LineCall.{LineCall}

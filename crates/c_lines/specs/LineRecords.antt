@@ -1,6 +1,5 @@
 -- What a line says as records, and texts one behind the other.
-use Rattle.std.specs.Prelude.{◌≡◌, ◌⊎◌, ℕ, ◌+◌, List, [], ◌∷◌, ◌++◌, ◌&&◌, Bool, true, false, length, Option, Some, None}
-use Rattle.std.specs.List.{flat_map}
+use Rattle.std.specs.Prelude.{◌≡◌, ◌⊎◌, ℕ, ◌+◌, List, [], ◌∷◌, ◌++◌, ◌&&◌, Bool, true, false, length, Option, Some, None, flat_map}
 use Rattle.compilers.specs.declared.arguments.ColorMode.{ColorMode}
 use Rattle.compilers.specs.declared.arguments.ColorMode.TheVariants.{Off, On, Auto}
 use Rattle.compilers.specs.declared.arguments.ParsedArguments.{ParsedArguments}

@@ -1,6 +1,5 @@
 -- The call on lines of nvcc.
-use Rattle.std.specs.Prelude.{ℕ, List, [], ◌∷◌, ◌++◌, ◌==◌, if◌then◌else◌, Option, Some, Result, Ok, Err, codes}
-use Rattle.std.specs.Option.{option_and_then}
+use Rattle.std.specs.Prelude.{ℕ, List, [], ◌∷◌, ◌++◌, ◌==◌, if◌then◌else◌, Option, Some, Result, Ok, Err, codes, option_and_then}
 use Rattle.nvcc_calls.specs.declared.answer.Answer.{Answer}
 use Rattle.nvcc_calls.specs.declared.answer.Answer.TheVariants.{Split, Pass}
 use Rattle.nvcc_calls.specs.declared.outline.Outline.{Outline}

@@ -1,7 +1,6 @@
 //! What a C program hands over for a line of a tool.
 
-ghost use Rattle.std.specs.Prelude.{◌≡◌, IfOk};
-ghost use Rattle.std.specs.Option.{option_map};
+ghost use Rattle.std.specs.Prelude.{◌≡◌, IfOk, option_map};
 ghost use Rattle.c_lines.specs.LineCalls as spec;
 
 use c_texts::{InputText, Status, Variable, text_of, variables_of, words_of};

@@ -1,7 +1,6 @@
 //! Lines of nvcc: what to run for a plan of one.
 
-ghost use Rattle.std.specs.Prelude.{◌≡◌, IfOk, Result};
-ghost use Rattle.std.specs.Option.{option_map};
+ghost use Rattle.std.specs.Prelude.{◌≡◌, IfOk, Result, option_map};
 ghost use Rattle.texts.specs.declared.fault.Fault.{Fault};
 ghost use Rattle.texts.specs.Fault.{UnlessMemory};
 ghost use Rattle.nvcc_calls.specs.declared.answer.Answer.{Answer};

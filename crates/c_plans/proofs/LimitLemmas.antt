@@ -1,23 +1,19 @@
 -- A limit of 0 is none.
-use Rattle.std.proofs.Common.{◌≡◌, List, ℕ, Result, Ok, Err, refl, ap}
+use Rattle.std.proofs.Common.{◌≡◌, List, ℕ, Result, Ok, Err, refl, ap, arith}
 use Rattle.texts.specs.declared.fault.Fault.{Fault}
 use Rattle.texts.specs.Results.{and_then}
 use Rattle.plans.specs.declared.origins.PlanWithOrigins.{PlanWithOrigins}
 use Rattle.dry_runs.specs.declared.limit.LimitedFault.{LimitedFault}
-use Rattle.canonical_names.specs.FurtherSuffixes.{all_suffixes}
 use Rattle.c_plans.specs.LimitLaws.{PlansWithoutLimit, LookupsWithoutLimit}
 use Rattle.c_plans.specs.Limits.{within_limit, without_limit}
-use Rattle.c_plans.specs.Planning.{planned_whole, planned_within}
 
 -- what follows a step that may refuse: without a limit before both, or behind both
 step : (suffixes : Result (List (List ℕ)) Fault) (whole : List (List ℕ) → Result PlanWithOrigins Fault) (within : List (List ℕ) → Result PlanWithOrigins LimitedFault) (limit : ℕ) → limit ≡ 0 →
     and_then (without_limit suffixes) (λ s. within_limit limit (without_limit (whole s)) (within s)) ≡ without_limit (and_then suffixes whole)
-step (Ok s) whole within limit none = ap (λ n. within_limit n (without_limit (whole s)) (within s)) none
-step (Err fault) whole within limit none = refl
+step suffixes whole within limit none = grind arith
 
 pub plans-without-limit : PlansWithoutLimit
-plans-without-limit call host texts tables none =
-    step (all_suffixes tables.suffixes) (planned_whole call host texts tables) (planned_within call host texts tables) call.limit none
+plans-without-limit call host texts tables none = simp step
 
 pub lookups-without-limit : LookupsWithoutLimit
 lookups-without-limit dry1 dry2 cwd = refl

@@ -1,6 +1,5 @@
 -- Texts and records behind others.
-use Rattle.std.proofs.Common.{◌≡◌, ◌++◌, ◌+◌, ◌-◌, ◌∷◌, [], ℕ, suc, List, map, length, refl, sym, ap, ◌∙◌, arith, length-append, append_assoc}
-use Rattle.std.specs.List.{flat_map}
+use Rattle.std.proofs.Common.{◌≡◌, ◌++◌, ◌+◌, ◌-◌, ◌∷◌, [], ℕ, suc, List, map, length, refl, sym, ap, ◌∙◌, arith, length-append, append_assoc, flat_map}
 use Rattle.plans.specs.declared.origins.Origin.{Origin}
 use Rattle.plans.specs.declared.origins.PlanWithOrigins.{PlanWithOrigins}
 use Rattle.plans.specs.declared.plan.Dropped.{Dropped}
@@ -62,16 +61,14 @@ entry-then recorded e ys =
 
 -- how many records there are, behind further commands
 pub commands-then : (recorded : Recorded) (xs : List Entry) → length (with_entries recorded xs).1.1 ≡ length recorded.1.1 + length xs
-commands-then recorded xs =
-    length-append recorded.1.1 (records_at (length recorded.0.1.0) xs)
-    ∙ ap (λ n. length recorded.1.1 + n) (records-length (length recorded.0.1.0) xs)
+commands-then recorded xs = simp (length-append, records-length)
 
 -- groups and their commands, and others behind them
 pub groups-then : (recorded : Recorded) (here there : List GroupRecord) (xs ys : List Entry) →
     with_groups (with_groups recorded here xs) there ys ≡ with_groups recorded (here ++ there) (xs ++ ys)
 groups-then recorded here there xs ys =
     let groups : (recorded.1.0 ++ here) ++ there ≡ recorded.1.0 ++ (here ++ there) = append_assoc recorded.1.0 here there in
-    λ i. ((entries-then recorded xs ys i).0, (groups i, (entries-then recorded xs ys i).1.1))
+    grind (arith, entries-then)
 
 -- a group has as many commands as before
 pub group-length : {X : Type 0} (described : ℕ → ℕ → NvccGeneratedSubcommand → X) (number group : ℕ) (commands : List NvccGeneratedSubcommand) →
@@ -112,17 +109,7 @@ command-record t0 t1 t2 t3 e first second third =
     let counted : length t2.1.0 ≡ length t1.1.0 + 1 = ap (λ (t : Outcome). length t.1.0) second ∙ count-then t1 (e.cwd ∷ []) in
     let two : length t2.1.0 ≡ n + 2 = omega (arith, one, counted) in
     let behind : length t3.1.0 ≡ n + 2 + length e.arguments = ap (λ (t : Outcome). length t.1.0) third ∙ count-then t2 e.arguments ∙ ap (λ k. k + length e.arguments) two in
-    λ i. record {
-      arguments = record { offset = two i; length = length e.arguments };
-      variables = variables_at (behind i) e.shared e.variables;
-      program = n;
-      cwd = one i;
-      group = e.group;
-      run = e.run;
-      line = e.line;
-      reason = e.reason;
-      cacheable = e.cacheable;
-    }
+    grind arith
 
 -- groups and their commands, and then further commands, where only texts are before them
 pub from-texts : (before : List (List ℕ)) (groups : List GroupRecord) (xs ys : List Entry) →
@@ -142,16 +129,7 @@ pub groups-step : (described : ℕ → ℕ → NvccGeneratedSubcommand → Entry
     after ≡ with_groups before (group_record last group (length before.1.1) commands ∷ []) (of_group described (length before.1.1) group commands) →
     with_groups after (groups_at last (group + 1) (length after.1.1) left) (of_groups described (length after.1.1) (group + 1) left) ≡
     with_groups before (groups_at last group (length before.1.1) (commands ∷ left)) (of_groups described (length before.1.1) group (commands ∷ left))
-groups-step described last group before after commands left pushed =
-    let n = length before.1.1 in
-    let next = n + length commands in
-    let entries : List Entry = of_group described n group commands in
-    let here : List GroupRecord = group_record last group n commands ∷ [] in
-    let now : Recorded = with_groups before here entries in
-    let counted : length now.1.1 ≡ next = commands-then before entries ∙ ap (λ k. n + k) (group-length described n group commands) in
-    ap (λ (r : Recorded). with_groups r (groups_at last (group + 1) (length r.1.1) left) (of_groups described (length r.1.1) (group + 1) left)) pushed
-    ∙ ap (λ k. with_groups now (groups_at last (group + 1) k left) (of_groups described k (group + 1) left)) counted
-    ∙ groups-then before here (groups_at last (group + 1) next left) entries (of_groups described next (group + 1) left)
+groups-step described last group before after commands left pushed = grind (arith, commands-then, group-length, groups-then)
 
 -- the records of a plan, by its parts
 abbrev made : List Origin → Variables → List (List NvccGeneratedSubcommand) → ℕ → List Dropped → Recorded

@@ -1,20 +1,15 @@
 -- A plan is read back from its records.
-use Rattle.std.proofs.Common.{◌≡◌, ◌⊎◌, inl, inr, ◌++◌, ◌+◌, ◌-◌, ◌&&◌, ◌∷◌, [], ℕ, zero, suc, List, true, false, Option, Some, None, ◌==◌, nat_le, not, map, length, take, drop, get_or, cond, refl, sym, ap, subst, ◌∙◌, arith, length-append, append_assoc, add-one}
+use Rattle.std.proofs.Common.{◌≡◌, ◌⊎◌, inl, inr, ◌++◌, ◌+◌, ◌-◌, ◌&&◌, ◌∷◌, [], ℕ, zero, suc, List, true, false, Option, Some, None, ◌==◌, nat_le, not, map, length, take, drop, get_or, cond, refl, sym, ap, subst, ◌∙◌, arith, length-append, append_assoc, add-one, flat_map, get_or-append-add, append-nil, bytes_eq}
 use Rattle.std.specs.Prelude.{filter, if◌then◌else◌, ⊤}
-use Rattle.std.specs.List.{flat_map}
 use Rattle.std.proofs.Math.Seq.{drop-append_seam, drop-append-add, take-append_seam, get_or-append_seam}
 use Rattle.std.proofs.lemmas.Bool.{false≢true, and_parts, le-leb, lt-leb}
-use Rattle.std.proofs.lemmas.List.{get_or-append-add, append-nil}
 use Rattle.std.proofs.lemmas.Slice.Eq.{bytes_eq-Decides}
-use Rattle.std.specs.Str.{bytes_eq}
 use Rattle.compilers.specs.declared.command.Cacheable.{Cacheable}
-use Rattle.compilers.specs.declared.command.Cacheable.TheVariants.{Yes, No}
 use Rattle.plans.specs.declared.origins.Origin.{Origin}
 use Rattle.plans.specs.declared.origins.PlanWithOrigins.{PlanWithOrigins}
 use Rattle.plans.specs.declared.plan.Dropped.{Dropped}
 use Rattle.plans.specs.declared.plan.NvccGeneratedSubcommand.{NvccGeneratedSubcommand}
 use Rattle.plans.specs.declared.plan.Reason.{Reason}
-use Rattle.plans.specs.declared.plan.Reason.TheVariants.{NotCuda, NoCiccGroup, NoPtxasGroup, Superseded}
 use Rattle.plan_json.specs.Json.{origin_at}
 use Rattle.command_files.specs.Numbered.{of_group, of_groups}
 use Rattle.c_texts.specs.declared.memory.Range.{Range}
@@ -95,20 +90,11 @@ shared-read variables before more rest e begins shared same =
     let range = (shared_first variables).texts in
     let here = e.program ∷ e.cwd ∷ ((e.arguments ++ []) ++ rest) in
     let whole : before ++ here ≡ pairs ++ (more ++ here) = ap (λ t. t ++ here) begins ∙ append_assoc pairs more here in
-    let read : pairs_of (take (length pairs) (before ++ here)) ≡ e.variables =
-    ap (λ t. pairs_of (take (length pairs) t)) whole ∙ ap pairs_of (take-append_seam pairs (more ++ here)) ∙ pairs-are variables ∙ same in
-    let first : nat_le 0 (length before) ≡ true = le-leb 0 (length before) (omega arith) in
-    let both : (pairs_of (part (before ++ here) range), if nat_le range.offset (length before) then Some range else None) ≡ (e.variables, Some range) =
-    λ i. (read i, if first i then Some range else None) in
-    subst
-    (λ o. variables_read (before ++ (texts_of (with_shared e o) ++ rest)) (length before) (length e.arguments) (with_shared e o) ≡ (e.variables, o))
-    (sym shared)
-    both
+    grind (arith, take-append_seam, pairs-are, le-leb)
 
 any-read : (variables : Variables) (before more rest : List (List ℕ)) (e : Entry) → before ≡ variable_texts variables ++ more → IsSharing variables e →
     variables_read (before ++ (texts_of e ++ rest)) (length before) (length e.arguments) e ≡ (e.variables, e.shared)
-any-read variables before more rest e begins (inl none) = own-read before rest e none
-any-read variables before more rest e begins (inr both) = shared-read variables before more rest e begins both.0 both.1
+any-read variables before more rest e begins h = grind (arith, own-read, shared-read)
 
 read-one : (variables : Variables) (before more rest : List (List ℕ)) (e : Entry) → before ≡ variable_texts variables ++ more → IsSharing variables e →
     entry_in (before ++ (texts_of e ++ rest)) (record_at (length before) e) ≡ e
@@ -122,18 +108,7 @@ read-one variables before more rest e begins is =
     let first : drop (length before + 2) all ≡ words ++ (own ++ rest) = drop-append-add before (e.program ∷ e.cwd ∷ behind) 2 ∙ append_assoc words own rest in
     let arguments : take (length words) (drop (length before + 2) all) ≡ words = ap (take (length words)) first ∙ take-append_seam words (own ++ rest) in
     let last = any-read variables before more rest e begins is in
-    λ i. record {
-      program = program i;
-      cwd = cwd i;
-      arguments = arguments i;
-      variables = (last i).0;
-      group = e.group;
-      run = e.run;
-      line = e.line;
-      reason = e.reason;
-      cacheable = e.cacheable;
-      shared = (last i).1;
-    }
+    grind arith
 
 -- commands by their texts, with others before and behind them
 pub entries-read : (variables : Variables) (before more : List (List ℕ)) (entries : List Entry) (behind : List (List ℕ)) →
@@ -176,10 +151,7 @@ module _ (origins : List Origin) (variables : Variables) where
 
   groups-sharing : (id group : ℕ) (groups : List (List NvccGeneratedSubcommand)) → AreSharing variables (of_groups (command_entry origins (shared_first variables)) id group groups)
   groups-sharing id group [] = tt
-  groups-sharing id group (commands ∷ groups) =
-      sharing-append variables (of_group (command_entry origins (shared_first variables)) id group commands)
-      (of_groups (command_entry origins (shared_first variables)) (id + length commands) (group + 1) groups)
-      (group-sharing id group commands) (groups-sharing (id + length commands) (group + 1) groups)
+  groups-sharing id group (commands ∷ groups) = grind (arith, sharing-append, group-sharing, (groups-sharing (id + length commands) (group + 1) groups))
 
 dropped-sharing : (variables : Variables) (groups : ℕ) (dropped : List Dropped) → AreSharing variables (map (dropped_entry groups) dropped)
 dropped-sharing variables groups [] = tt
@@ -200,8 +172,7 @@ all-read planned behind =
 -- ---- groups
 
 cacheable-is : (c : Cacheable) → cacheable_of (cacheable_number c) ≡ c
-cacheable-is Yes = refl
-cacheable-is No = refl
+cacheable-is c = grind arith
 
 module _ (origins : List Origin) (shared : Shared) where
   commands-are : (id group : ℕ) (commands : List NvccGeneratedSubcommand) → map command_of (of_group (command_entry origins shared) id group commands) ≡ commands
@@ -220,18 +191,7 @@ module _ (origins : List Origin) (shared : Shared) where
       let long : length here ≡ length commands = group-length (command_entry origins shared) (length before) group commands in
       let nested : all ≡ before ++ (here ++ (rest ++ behind)) = ap (λ t. before ++ t) (append_assoc here rest behind) in
       let aside : all ≡ (before ++ here) ++ (rest ++ behind) = nested ∙ sym (append_assoc before here (rest ++ behind)) in
-      let cut-here : take (length commands) (drop (length before) all) ≡ here =
-      ap (λ n. take n (drop (length before) all)) (sym long) ∙ ap (λ t. take (length here) (drop (length before) t)) nested ∙ part-behind before here (rest ++ behind) in
-      let first : map command_of (take (length commands) (drop (length before) all)) ≡ commands = ap (map command_of) cut-here ∙ commands-are (length before) group commands in
-      let counted : length (before ++ here) ≡ next = length-append before here ∙ ap (λ n. length before + n) long in
-      let moved : map (λ g. map command_of (part ((before ++ here) ++ (rest ++ behind)) g.commands)) (groups_at last (group + 1) next groups) ≡ groups =
-      subst
-      (λ n. map (λ g. map command_of (part ((before ++ here) ++ (of_groups (command_entry origins shared) n (group + 1) groups ++ behind)) g.commands)) (groups_at last (group + 1) n groups) ≡ groups)
-      counted
-      (groups-are last (before ++ here) (group + 1) groups behind) in
-      let others : map (λ g. map command_of (part all g.commands)) (groups_at last (group + 1) next groups) ≡ groups =
-      subst (λ q. map (λ g. map command_of (part q g.commands)) (groups_at last (group + 1) next groups) ≡ groups) (sym aside) moved in
-      ap (λ t. t ∷ map (λ g. map command_of (part all g.commands)) (groups_at last (group + 1) next groups)) first ∙ ap (λ t. commands ∷ t) others
+      grind (arith, part-behind, commands-are, length-append, (groups-are last (before ++ here) (group + 1) groups behind))
 
   -- ---- which commands are in groups
 
@@ -269,28 +229,18 @@ module _ (origins : List Origin) (shared : Shared) where
 -- ---- dropped commands
 
 reason-is : (reason : Reason) → reason_of (reason_number reason) ≡ reason
-reason-is NotCuda = refl
-reason-is NoCiccGroup = refl
-reason-is NoPtxasGroup = refl
-reason-is Superseded = refl
+reason-is reason = grind arith
 
 reason-nonzero : (reason : Reason) → (reason_number reason == 0) ≡ false
-reason-nonzero NotCuda = refl
-reason-nonzero NoCiccGroup = refl
-reason-nonzero NoPtxasGroup = refl
-reason-nonzero Superseded = refl
+reason-nonzero reason = grind arith
 
 none-in-groups : (groups : ℕ) (dropped : List Dropped) → filter (λ e. e.reason == 0) (map (dropped_entry groups) dropped) ≡ []
 none-in-groups groups [] = refl
-none-in-groups groups (d ∷ dropped) =
-    let left = filter (λ e. e.reason == 0) (map (dropped_entry groups) dropped) in
-    ap (λ b. cond b (dropped_entry groups d ∷ left) left) (reason-nonzero d.reason) ∙ none-in-groups groups dropped
+none-in-groups groups (d ∷ dropped) = simp (reason-nonzero, (none-in-groups groups dropped))
 
 all-dropped : (groups : ℕ) (dropped : List Dropped) → filter (λ e. not (e.reason == 0)) (map (dropped_entry groups) dropped) ≡ map (dropped_entry groups) dropped
 all-dropped groups [] = refl
-all-dropped groups (d ∷ dropped) =
-    let left = filter (λ e. not (e.reason == 0)) (map (dropped_entry groups) dropped) in
-    ap (λ b. cond (not b) (dropped_entry groups d ∷ left) left) (reason-nonzero d.reason) ∙ ap (λ t. dropped_entry groups d ∷ t) (all-dropped groups dropped)
+all-dropped groups (d ∷ dropped) = simp (reason-nonzero, (all-dropped groups dropped))
 
 dropped-are : (groups : ℕ) (dropped : List Dropped) → map dropped_of (map (dropped_entry groups) dropped) ≡ dropped
 dropped-are groups [] = refl
@@ -316,30 +266,19 @@ module _ (origins : List Origin) (shared : Shared) where
   group-origins : (id group : ℕ) (commands : List NvccGeneratedSubcommand) (rest : List Entry) →
       map origin_of (of_group (command_entry origins shared) id group commands ++ rest) ≡ origins-from origins (length commands) id ++ map origin_of rest
   group-origins id group [] rest = refl
-  group-origins id group (c ∷ commands) rest =
-      ap (λ t. origin_at origins id ∷ t) (group-origins (id + 1) group commands rest)
-      ∙ ap (λ n. origin_at origins id ∷ (origins-from origins (length commands) n ++ map origin_of rest)) (add-one id)
+  group-origins id group (c ∷ commands) rest = grind (arith, add-one, (group-origins (id + 1) group commands rest))
 
   joined-origins : (n m id : ℕ) → origins-from origins n id ++ origins-from origins m (id + n) ≡ origins-from origins (n + m) id
-  joined-origins zero m id =
-      let nothing-more : m ≡ 0 + m = omega arith in
-      let at-once : id + 0 ≡ id = omega arith in
-      λ i. origins-from origins (nothing-more i) (at-once i)
+  joined-origins zero m id = grind arith
   joined-origins (suc n) m id =
       let further : id + suc n ≡ suc id + n = omega arith in
       let more : suc (n + m) ≡ suc n + m = omega arith in
-      ap (λ k. origin_at origins id ∷ (origins-from origins n (suc id) ++ origins-from origins m k)) further
-      ∙ ap (λ t. origin_at origins id ∷ t) (joined-origins n m (suc id))
-      ∙ ap (λ k. origins-from origins k id) more
+      grind (arith, (joined-origins n m (suc id)))
 
   origins-are : (id group : ℕ) (groups : List (List NvccGeneratedSubcommand)) →
       map origin_of (of_groups (command_entry origins shared) id group groups) ≡ origins-from origins (length (flat_map (λ g. g) groups)) id
   origins-are id group [] = refl
-  origins-are id group (commands ∷ groups) =
-      group-origins id group commands (of_groups (command_entry origins shared) (id + length commands) (group + 1) groups)
-      ∙ ap (λ t. origins-from origins (length commands) id ++ t) (origins-are (id + length commands) (group + 1) groups)
-      ∙ joined-origins (length commands) (length (flat_map (λ g. g) groups)) id
-      ∙ ap (λ n. origins-from origins n id) (sym (length-append commands (flat_map (λ g. g) groups)))
+  origins-are id group (commands ∷ groups) = simp (group-origins, joined-origins, length-append, (origins-are (id + length commands) (group + 1) groups))
 
 -- ---- plans
 

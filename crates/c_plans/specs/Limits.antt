@@ -1,6 +1,5 @@
 -- The limit of a call: how many bytes reading a dry run may make. 0 is no limit.
-use Rattle.std.specs.Prelude.{ℕ, List, ◌++◌, ◌==◌, if◌then◌else◌, Result, Ok, Err, codes}
-use Rattle.std.specs.Fmt.{decimal}
+use Rattle.std.specs.Prelude.{ℕ, List, ◌++◌, ◌==◌, if◌then◌else◌, Result, Ok, Err, codes, decimal}
 use Rattle.texts.specs.declared.fault.Fault.{Fault}
 use Rattle.texts.specs.Fault.{UnlessMemoryIs, line_text}
 use Rattle.dry_runs.specs.declared.limit.LimitedFault.{LimitedFault}

@@ -1,7 +1,6 @@
 -- What a caller passes for a plan.
-use Rattle.std.specs.Prelude.{ℕ, List, ◌==◌, ◌&&◌, Bool, nat_le, if◌then◌else◌, map, Option, Some, None}
+use Rattle.std.specs.Prelude.{ℕ, List, ◌==◌, ◌&&◌, Bool, nat_le, if◌then◌else◌, map, Option, Some, None, option_and_then}
 use Rattle.std.specs.List.{list_all}
-use Rattle.std.specs.Option.{option_and_then}
 use Rattle.std.specs.Str.{is_utf8}
 use Rattle.compilers.specs.declared.compiler.NvccHostCompiler.{NvccHostCompiler}
 use Rattle.compilers.specs.declared.compiler.NvccHostCompiler.TheVariants.{Gcc, Msvc, Nvhpc}

@@ -1,7 +1,6 @@
 //! Look-ups of programs.
 
-ghost use Rattle.std.specs.Prelude.{◌≡◌, IfOk, OnOk, Result};
-ghost use Rattle.std.specs.List.{flat_map};
+ghost use Rattle.std.specs.Prelude.{◌≡◌, IfOk, OnOk, Result, flat_map};
 ghost use Rattle.dry_runs.specs.declared.limit.LimitedFault.{LimitedFault};
 ghost use Rattle.dry_runs.specs.declared.parsed_runs.ParsedRuns.{ParsedRuns};
 ghost use Rattle.dry_runs.specs.Limit.{UnlessMemoryWithin};

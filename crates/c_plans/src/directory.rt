@@ -1,7 +1,6 @@
 //! Which directory of a call a plan can't be made for.
 
-ghost use Rattle.std.specs.Prelude.{◌≡◌, IfOk};
-ghost use Rattle.std.specs.Option.{option_map};
+ghost use Rattle.std.specs.Prelude.{◌≡◌, IfOk, option_map};
 ghost use Rattle.directories.specs.Directories.{is_plain};
 ghost use Rattle.c_plans.specs.OddDirectories as spec;
 ghost use Rattle.c_plans.specs.PlanCalls.{texts_seen};

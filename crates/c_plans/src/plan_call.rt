@@ -1,8 +1,7 @@
 //! What a caller passes for a plan.
 
-ghost use Rattle.std.specs.Prelude.{◌≡◌, IfOk};
+ghost use Rattle.std.specs.Prelude.{◌≡◌, IfOk, option_copied, option_map};
 ghost use Rattle.std.specs.List.{list_all};
-ghost use Rattle.std.specs.Option.{option_copied, option_map};
 ghost use Rattle.program_lookups.specs.Lookup.{lookup_of};
 ghost use Rattle.c_plans.specs.PlanCalls as spec;
 

@@ -1,7 +1,6 @@
 //! The commands of a plan as records.
 
-ghost use Rattle.std.specs.Prelude.{◌≡◌, ◌-◌, ◌∷◌, [], List, ℕ, ◌&&◌, IfOk, OnOk, length, map, vec_items};
-ghost use Rattle.std.specs.Str.{bytes_eq};
+ghost use Rattle.std.specs.Prelude.{◌≡◌, ◌-◌, ◌∷◌, [], List, ℕ, ◌&&◌, IfOk, OnOk, length, map, vec_items, bytes_eq};
 ghost use Rattle.texts.specs.Variables.{pair_of};
 ghost use Rattle.plans.specs.declared.origins.Origin.{Origin};
 ghost use Rattle.plan_json.specs.Json.{origin_at};

@@ -1,6 +1,5 @@
 -- The files and needs of commands, one behind the other.
-use Rattle.std.proofs.Common.{◌≡◌, ◌++◌, ◌+◌, ◌∷◌, [], ℕ, suc, List, length, refl, sym, ap, ◌∙◌, arith, length-append, append_assoc}
-use Rattle.std.specs.List.{flat_map}
+use Rattle.std.proofs.Common.{◌≡◌, ◌++◌, ◌+◌, ◌∷◌, [], ℕ, suc, List, length, refl, sym, ap, ◌∙◌, arith, length-append, append_assoc, flat_map}
 use Rattle.plans.specs.declared.plan.NvccGeneratedSubcommand.{NvccGeneratedSubcommand}
 use Rattle.c_texts.proofs.TextLemmas.{texts-then, count-then}
 use Rattle.c_texts.specs.declared.memory.Range.{Range}
@@ -29,13 +28,7 @@ extra-then s e extras =
 -- the texts of a command's files, added one after the other
 pub file-texts-are : (t0 t1 t2 t3 : Outcome) (e : Extra) →
     t1 ≡ with_texts t0 e.files.reads → t2 ≡ with_texts t1 e.files.writes → t3 ≡ with_texts t2 e.files.may_write → t3 ≡ with_texts t0 (file_texts e)
-file-texts-are t0 t1 t2 t3 e first second third =
-    let f = e.files in
-    let two : t2 ≡ with_texts t0 (f.reads ++ f.writes) = second ∙ ap (λ t. with_texts t f.writes) first ∙ texts-then t0 f.reads f.writes in
-    third
-    ∙ ap (λ t. with_texts t f.may_write) two
-    ∙ texts-then t0 (f.reads ++ f.writes) f.may_write
-    ∙ ap (with_texts t0) (append_assoc f.reads f.writes f.may_write)
+file-texts-are t0 t1 t2 t3 e first second third = grind (arith, texts-then)
 
 -- a command's record, by how many texts there are before each part
 pub step-record-is : (t0 t1 t2 : Outcome) (needs : Range) (e : Extra) → t1 ≡ with_texts t0 e.files.reads → t2 ≡ with_texts t1 e.files.writes →
@@ -47,19 +40,7 @@ pub step-record-is : (t0 t1 t2 : Outcome) (needs : Range) (e : Extra) → t1 ≡
       tool = e.tool;
       missing = e.missing;
     } ≡ files_at (length t0.1.0) needs e
-step-record-is t0 t1 t2 needs e first second =
-    let f = e.files in
-    let one : length t1.1.0 ≡ length t0.1.0 + length f.reads = ap (λ (t : Outcome). length t.1.0) first ∙ count-then t0 f.reads in
-    let two : length t2.1.0 ≡ length t0.1.0 + length f.reads + length f.writes =
-    ap (λ (t : Outcome). length t.1.0) second ∙ count-then t1 f.writes ∙ ap (λ n. n + length f.writes) one in
-    λ i. record {
-      needs = needs;
-      reads = record { offset = length t0.1.0; length = length f.reads };
-      writes = record { offset = one i; length = length f.writes };
-      may_write = record { offset = two i; length = length f.may_write };
-      tool = e.tool;
-      missing = e.missing;
-    }
+step-record-is t0 t1 t2 needs e first second = grind (arith, count-then)
 
 -- ---- commands behind commands
 
@@ -79,19 +60,8 @@ steps-length text number (e ∷ extras) = ap suc (steps-length (text + length (f
 steps-append : (text number : ℕ) (xs ys : List Extra) →
     steps_at text number (xs ++ ys) ≡
     steps_at text number xs ++ steps_at (text + length (flat_map file_texts xs)) (number + length (flat_map (λ e. e.needs) xs)) ys
-steps-append text number [] ys =
-    let same : text ≡ text + 0 = omega arith in
-    let alike : number ≡ number + 0 = omega arith in
-    λ i. steps_at (same i) (alike i) ys
-steps-append text number (x ∷ xs) ys =
-    let files = flat_map file_texts xs in
-    let needs = flat_map (λ e. e.needs) xs in
-    let texts : length (file_texts x ++ files) ≡ length (file_texts x) + length files = length-append (file_texts x) files in
-    let numbers : length (x.needs ++ needs) ≡ length x.needs + length needs = length-append x.needs needs in
-    let same : text + length (file_texts x) + length files ≡ text + length (file_texts x ++ files) = omega (arith, texts) in
-    let alike : number + length x.needs + length needs ≡ number + length (x.needs ++ needs) = omega (arith, numbers) in
-    ap (λ t. step_at text number x ∷ t) (steps-append (text + length (file_texts x)) (number + length x.needs) xs ys)
-    ∙ (λ i. step_at text number x ∷ (steps_at (text + length (file_texts x)) (number + length x.needs) xs ++ steps_at (same i) (alike i) ys))
+steps-append text number [] ys = grind arith
+steps-append text number (x ∷ xs) ys = grind (arith, length-append, (steps-append (text + length (file_texts x)) (number + length x.needs) xs ys))
 
 -- commands, and others behind them
 extras-then : (s : Stepped) (xs ys : List Extra) → with_extras (with_extras s xs) ys ≡ with_extras s (xs ++ ys)
@@ -118,27 +88,11 @@ module _ (known : Known) where
 
   extras-append : (id : ℕ) (xs ys : List NvccGeneratedSubcommand) →
       extras_from known id (xs ++ ys) ≡ extras_from known id xs ++ extras_from known (id + length xs) ys
-  extras-append id [] ys =
-      let same : id ≡ id + 0 = omega arith in
-      ap (λ n. extras_from known n ys) same
-  extras-append id (x ∷ xs) ys =
-      let same : id + 1 + length xs ≡ id + suc (length xs) = omega arith in
-      ap (λ t. extra_of known id x ∷ t) (extras-append (id + 1) xs ys)
-      ∙ ap (λ n. extra_of known id x ∷ (extras_from known (id + 1) xs ++ extras_from known n ys)) same
+  extras-append id [] ys = grind arith
+  extras-append id (x ∷ xs) ys = grind (arith, (extras-append (id + 1) xs ys))
 
   -- a group's commands, and others behind them
   pub group-then : (before after : Stepped) (commands left : List NvccGeneratedSubcommand) →
       after ≡ with_extras before (extras_from known (length before.steps) commands) →
       with_extras after (extras_from known (length after.steps) left) ≡ with_extras before (extras_from known (length before.steps) (commands ++ left))
-  group-then before after commands left pushed =
-      let n = length before.steps in
-      let extras : List Extra = extras_from known n commands in
-      let now : Stepped = with_extras before extras in
-      let here : List StepRecord = steps_at (length before.recorded.0.1.0) (length before.numbers) extras in
-      let counted : length now.steps ≡ n + length commands =
-      length-append before.steps here
-      ∙ ap (λ k. n + k) (steps-length (length before.recorded.0.1.0) (length before.numbers) extras ∙ extras-length n commands) in
-      ap (λ (s : Stepped). with_extras s (extras_from known (length s.steps) left)) pushed
-      ∙ ap (λ k. with_extras now (extras_from known k left)) counted
-      ∙ extras-then before extras (extras_from known (n + length commands) left)
-      ∙ ap (with_extras before) (sym (extras-append n commands left))
+  group-then before after commands left pushed = grind (arith, length-append, steps-length, extras-length, extras-then, extras-append)

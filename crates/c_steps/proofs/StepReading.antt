@@ -1,7 +1,5 @@
 -- What the records of a plan's commands say.
-use Rattle.std.proofs.Common.{◌≡◌, ◌++◌, ◌+◌, ◌∷◌, [], ℕ, List, Bool, true, false, ◌==◌, map, length, take, drop, refl, sym, ap, subst, ◌∙◌, arith, length-append, append_assoc}
-use Rattle.std.specs.Prelude.{◌-◌, nat_le, if◌then◌else◌}
-use Rattle.std.specs.List.{flat_map}
+use Rattle.std.proofs.Common.{◌≡◌, ◌++◌, ◌+◌, ◌∷◌, [], ℕ, List, Bool, true, false, ◌==◌, map, length, take, drop, refl, sym, ap, subst, ◌∙◌, arith, length-append, append_assoc, ◌-◌, nat_le, if◌then◌else◌, flat_map}
 use Rattle.command_files.specs.PlanNeeds.{plan_files, plan_needs, preprocesses}
 use Rattle.plans.specs.declared.plan.NvccGeneratedSubcommand.{NvccGeneratedSubcommand}
 use Rattle.c_texts.proofs.RangeLemmas.{cut_behind}
@@ -18,13 +16,10 @@ use Rattle.c_steps.specs.StepLaws.{StepsReadBack, PlansReadBack, extra_in}
 
 -- a command's files are all if nothing is missing
 any-missing : (unread preprocesses : Bool) → ((if unread then 1 else if preprocesses then 2 else 3) == 0) ≡ false
-any-missing true preprocesses = refl
-any-missing false true = refl
-any-missing false false = refl
+any-missing unread preprocesses = grind arith
 
 complete-is : (tool : ℕ) (complete preprocesses : Bool) → (missing_of tool complete preprocesses == 0) ≡ complete
-complete-is tool true preprocesses = refl
-complete-is tool false preprocesses = any-missing (nat_le tool 2) preprocesses
+complete-is tool complete preprocesses = grind (arith, any-missing)
 
 -- a part of a list at an offset
 part-at : {X : Type 0} (before here behind all : List X) (offset : ℕ) → all ≡ before ++ (here ++ behind) → offset ≡ length before →
@@ -90,13 +85,7 @@ cut-texts : (texts more : List (List ℕ)) → map (cut (with_texts (of_texts te
 cut-texts texts more = ap (λ (o : Outcome). map (cut o.1.1) o.1.0) (both-texts texts more) ∙ cut_behind [] (texts ++ more)
 
 pub steps-read-back : StepsReadBack
-steps-read-back planned =
-    let plan = planned.plan in
-    let texts = variable_texts (shared_of plan.groups) ++ flat_map texts_of (entries_of planned) in
-    let extras = extras_of plan in
-    ap (λ ts. map (extra_in ts (steps_of planned).numbers) (steps_of planned).steps) (cut-texts texts (flat_map file_texts extras))
-    ∙ ap (λ n. map (extra_in (texts ++ flat_map file_texts extras) (flat_map (λ e. e.needs) extras)) (steps_at n 0 extras)) (ranges-length 0 texts)
-    ∙ extras-read (record { needs = plan_needs plan; files = plan_files plan }) texts [] 0 (commands_of plan.groups)
+steps-read-back planned = simp (cut-texts, ranges-length, extras-read)
 
 pub plans-read-back : PlansReadBack
 plans-read-back planned has =

@@ -1,6 +1,5 @@
 -- The tools that commands run, as numbers: those of the tools whose lines `c_lines` reads, and more.
-use Rattle.std.specs.Prelude.{ℕ, List, if◌then◌else◌, Option, Some, None, codes}
-use Rattle.std.specs.Str.{bytes_eq}
+use Rattle.std.specs.Prelude.{ℕ, List, if◌then◌else◌, Option, Some, None, codes, bytes_eq}
 use Rattle.texts.specs.Path.{file_stem_of}
 
 -- the tool of a program's stem. 8 is a host compiler, or any other program

@@ -1,7 +1,6 @@
 //! Whether texts can be those of a call: its directories, its dry runs and its flag.
 
-ghost use Rattle.std.specs.Prelude.{◌≡◌, map, vec_items};
-ghost use Rattle.std.specs.Option.{option_map};
+ghost use Rattle.std.specs.Prelude.{◌≡◌, map, vec_items, option_map};
 ghost use Rattle.c_plans.specs.OddDirectories.{odd_seen};
 ghost use Rattle.c_plans.specs.PlanCalls.{texts_seen};
 ghost use Rattle.c_steps.specs.Fitness as spec;

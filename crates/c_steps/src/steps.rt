@@ -6,11 +6,11 @@ ghost use Rattle.c_plans.specs.Records as records;
 ghost use Rattle.c_plans.specs.Rooms.{no_room};
 ghost use Rattle.c_steps.specs.Steps as spec;
 
-use crate::missing::{missing_of, preprocesses};
+use crate::missing::missing_of;
 use crate::stepped::{Extra, Stepped};
 use crate::tool::tool_of;
 use c_plans::{Room, records_of};
-use command_files::{CommandFiles, files_and_needs, files_of};
+use command_files::{CommandFiles, files_and_needs, files_of, preprocesses};
 use plans::{NvccGeneratedSubcommand, PlanWithOrigins};
 use std::alloc::{AllocError, Global};
 

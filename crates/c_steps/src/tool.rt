@@ -1,7 +1,6 @@
 //! The tools that commands run, as numbers.
 
-ghost use Rattle.std.specs.Prelude.{◌≡◌};
-ghost use Rattle.std.specs.Option.{option_copied};
+ghost use Rattle.std.specs.Prelude.{◌≡◌, option_copied};
 ghost use Rattle.texts.specs.Path.{file_stem_of};
 ghost use Rattle.c_steps.specs.Tools as spec;
 

@@ -1,5 +1,5 @@
 -- Ranges, and what they cut.
-use Rattle.std.proofs.Common.{◌≡◌, ◌++◌, ◌+◌, ◌∷◌, [], ℕ, List, map, length, take, refl, ap, subst, ◌∙◌, length-append, append_assoc}
+use Rattle.std.proofs.Common.{◌≡◌, ◌++◌, ◌+◌, ◌∷◌, [], ℕ, List, map, length, take, refl, ap, subst, ◌∙◌, length-append, append_assoc, arith}
 use Rattle.std.specs.List.{concat}
 use Rattle.std.proofs.Math.Seq.{drop-append_seam, take-append_seam}
 use Rattle.c_texts.specs.Memory.{ranges_at, cut}
@@ -13,4 +13,4 @@ cut_behind before (text ∷ texts) =
     let first : cut bytes (record { offset = length before; length = length text }) ≡ text = ap (take (length text)) (drop-append_seam before (text ++ concat texts)) ∙ take-append_seam text (concat texts) in
     let moved : map (cut ((before ++ text) ++ concat texts)) (ranges_at behind texts) ≡ texts = subst (λ n. map (cut ((before ++ text) ++ concat texts)) (ranges_at n texts) ≡ texts) (length-append before text) (cut_behind (before ++ text) texts) in
     let rest : map (cut bytes) (ranges_at behind texts) ≡ texts = subst (λ q. map (cut q) (ranges_at behind texts) ≡ texts) (append_assoc before text (concat texts)) moved in
-    ap (λ t. t ∷ map (cut bytes) (ranges_at behind texts)) first ∙ ap (λ ts. text ∷ ts) rest
+    grind arith

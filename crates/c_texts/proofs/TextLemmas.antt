@@ -1,6 +1,5 @@
 -- Texts behind other texts.
-use Rattle.std.proofs.Common.{◌≡◌, ◌++◌, ◌+◌, ◌∷◌, [], ℕ, suc, List, map, length, refl, sym, ap, ◌∙◌, arith, length-append, append_assoc}
-use Rattle.std.proofs.lemmas.List.{append-nil}
+use Rattle.std.proofs.Common.{◌≡◌, ◌++◌, ◌+◌, ◌∷◌, [], ℕ, suc, List, map, length, refl, sym, ap, ◌∙◌, arith, length-append, append_assoc, append-nil}
 use Rattle.std.specs.List.{concat}
 use Rattle.c_texts.specs.declared.memory.Range.{Range}
 use Rattle.c_texts.specs.Memory.{ranges_at}
@@ -17,14 +16,8 @@ ranges-length first [] = refl
 ranges-length first (text ∷ texts) = ap suc (ranges-length (first + length text) texts)
 
 ranges-append : (first : ℕ) (xs ys : List (List ℕ)) → ranges_at first (xs ++ ys) ≡ ranges_at first xs ++ ranges_at (first + length (concat xs)) ys
-ranges-append first [] ys =
-    let same : first ≡ first + 0 = omega arith in
-    ap (λ n. ranges_at n ys) same
-ranges-append first (x ∷ xs) ys =
-    let range : Range = record { offset = first; length = length x } in
-    let joined : length (x ++ concat xs) ≡ length x + length (concat xs) = length-append x (concat xs) in
-    let same : first + length x + length (concat xs) ≡ first + length (x ++ concat xs) = omega (arith, joined) in
-    ap (λ t. range ∷ t) (ranges-append (first + length x) xs ys ∙ ap (λ n. ranges_at (first + length x) xs ++ ranges_at n ys) same)
+ranges-append first [] ys = grind arith
+ranges-append first (x ∷ xs) ys = grind (arith, length-append, (ranges-append (first + length x) xs ys))
 
 concat-append : (xs ys : List (List ℕ)) → concat (xs ++ ys) ≡ concat xs ++ concat ys
 concat-append [] ys = refl
@@ -50,6 +43,4 @@ with-none outcome = λ i. (outcome.0, (sym (append-nil outcome.1.0) i, sym (appe
 
 -- how many ranges there are, behind further texts
 pub count-then : (outcome : Outcome) (xs : List (List ℕ)) → length (with_texts outcome xs).1.0 ≡ length outcome.1.0 + length xs
-count-then outcome xs =
-    length-append outcome.1.0 (ranges_at (length outcome.1.1) xs)
-    ∙ ap (λ n. length outcome.1.0 + n) (ranges-length (length outcome.1.1) xs)
+count-then outcome xs = simp (length-append, ranges-length)

@@ -1,7 +1,6 @@
 //! Shell words.
 
-ghost use Rattle.std.specs.Prelude.{◌≡◌, IfOk, map, string_bytes};
-ghost use Rattle.std.specs.Option.{option_map};
+ghost use Rattle.std.specs.Prelude.{◌≡◌, IfOk, map, string_bytes, option_map};
 ghost use Rattle.shell_words.specs.Shell.Splitting.{shell_words};
 ghost use Rattle.c_texts.specs.Memory.{bytes_of};
 ghost use Rattle.c_texts.specs.Outcomes.{GivesList, GivesText};

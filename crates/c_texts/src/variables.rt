@@ -1,7 +1,6 @@
 //! Environment variables of the caller.
 
-ghost use Rattle.std.specs.Prelude.{◌≡◌, IfOk};
-ghost use Rattle.std.specs.Option.{option_map};
+ghost use Rattle.std.specs.Prelude.{◌≡◌, IfOk, option_map};
 ghost use Rattle.texts.specs.Variables.{pair_of as held_pair};
 ghost use Rattle.c_texts.specs.Variables as spec;
 

@@ -1,5 +1,5 @@
 -- Clean runs that have one canonical run are alike.
-use Rattle.std.proofs.Common.{◌≡◌, ℕ, ◌++◌, List, [], ◌∷◌, Option, Some, None, inl, inr, map, refl, ap, sym, ◌∙◌, subst, fold, Contains, find, filter_map, option_map, unwrap_or, bytes_eq}
+use Rattle.std.proofs.Common.{◌≡◌, ℕ, ◌++◌, List, [], ◌∷◌, Option, Some, None, inl, inr, map, refl, ap, sym, ◌∙◌, subst, fold, Contains, find, filter_map, option_map, unwrap_or, bytes_eq, arith}
 use Rattle.std.proofs.lemmas.List.Elements.{All-nil, All-contains}
 use Rattle.std.proofs.lemmas.Slice.Eq.{bytes_eq-Decides}
 use Rattle.texts.specs.Path.{folder_of}
@@ -42,20 +42,15 @@ told_again g c = (c.0, c.1, map (word_again g) c.2)
 -- through two maps, one after the other
 module _ (suffixes : List (List ℕ)) (g f : List ℕ → List ℕ) where
   core-twice : (core : List ℕ) (o : Option (List ℕ)) → core_through g (core_through f core o) o ≡ core_through (λ n. g (f n)) core o
-  core-twice core None = refl
-  core-twice core (Some class) = refl
+  core-twice core o = grind arith
 
   words-twice : (words : List (List ℕ)) → map (word_again g) (map (word_through suffixes f) words) ≡ map (word_through suffixes (λ n. g (f n))) words
   words-twice [] = refl
-  words-twice (w ∷ ws) =
-      ap (λ t. (head_of w, class_of suffixes w, t) ∷ map (word_again g) (map (word_through suffixes f) ws)) (core-twice (core_of w) (class_of suffixes w))
-      ∙ ap (λ t. word_through suffixes (λ n. g (f n)) w ∷ t) (words-twice ws)
+  words-twice (w ∷ ws) = simp (core-twice, (words-twice ws))
 
   run-twice : (commands : List CommandLine) → map (told_again g) (map (command_through suffixes f) commands) ≡ map (command_through suffixes (λ n. g (f n))) commands
   run-twice [] = refl
-  run-twice (c ∷ cs) =
-      ap (λ t. (line_of c, program_of c, t) ∷ map (told_again g) (map (command_through suffixes f) cs)) (words-twice (words_of_command c))
-      ∙ ap (λ t. command_through suffixes (λ n. g (f n)) c ∷ t) (run-twice cs)
+  run-twice (c ∷ cs) = simp (words-twice, (run-twice cs))
 
 -- a map that leaves the names of a run as they are
 module _ (suffixes : List (List ℕ)) (lawful : AreSuffixes suffixes) (first : List CommandLine) (g : List ℕ → List ℕ) (still : (n : List ℕ) → Contains (names_of_run suffixes first) n → g n ≡ n) where
@@ -84,8 +79,7 @@ module _ (suffixes : List (List ℕ)) (lawful : AreSuffixes suffixes) (first : L
   run-still seen (command ∷ commands) all =
       let words = words_of_command command in
       let next = seen_after suffixes seen words in
-      ap (λ t. (line_of command, program_of command, t) ∷ map (command_through suffixes g) commands) (words-still seen words (appearances suffixes commands) (all ∙ run-names suffixes next commands))
-      ∙ ap (λ t. command_through suffixes (λ n. n) command ∷ t) (run-still next commands all)
+      grind (arith, words-still, run-names, (run-still next commands all))
 
 -- Below, two runs of which the same is told through their canonical names.
 module _ (suffixes : List (List ℕ)) (lawful : AreSuffixes suffixes) (first second : List CommandLine) where
@@ -135,7 +129,7 @@ module _ (suffixes : List (List ℕ)) (lawful : AreSuffixes suffixes) (first sec
   kept-by commands n h =
       let class : HasClass suffixes n = All-contains (HasClass suffixes) (names_of_run suffixes commands) n (run-all suffixes [] commands (All-nil (HasClass suffixes))) h in
       let stay = folder_and_class-stay suffixes lawful (names_of_run suffixes commands) n class.0 class.1 in
-      (stay.0, stay.1 ∙ sym class.1)
+      grind arith
 
   partner-renaming : map (command_through suffixes canonical) first ≡ map (command_through suffixes canonical_other) second → IsRenaming suffixes names (λ n. name_of (canonical n))
   partner-renaming told = record {

@@ -1,11 +1,10 @@
 -- Clean runs that are alike have one canonical run.
-use Rattle.std.proofs.Common.{◌≡◌, ℕ, ◌+◌, ◌-◌, ◌++◌, ◌||◌, Bool, true, false, cond, List, [], ◌∷◌, Option, Some, None, inl, inr, map, refl, ap, sym, ◌∙◌, subst, nat_eq, length, take, fold, option_map, bytes_eq, map-id}
+use Rattle.std.proofs.Common.{◌≡◌, ℕ, ◌+◌, ◌-◌, ◌++◌, ◌||◌, Bool, true, false, cond, List, [], ◌∷◌, Option, Some, None, inl, inr, map, refl, ap, sym, ◌∙◌, subst, nat_eq, length, take, fold, option_map, bytes_eq, map-id, arith}
 use Rattle.std.specs.List.{Contains, list_any, ends_with, filter_map, flat_map, cons_option}
 use Rattle.std.proofs.lemmas.Bool.{false≢true, or_cases}
 use Rattle.std.proofs.lemmas.List.Elements.{Contains-append_left, Contains-push}
 use Rattle.std.proofs.lemmas.Slice.Eq.{bytes_eq-Decides}
 use Rattle.std.proofs.lemmas.List.{map-append}
-use Rattle.texts.specs.Path.{joined, folder_of}
 use Rattle.command_lines.specs.CommandLines.{CommandLine, words_of_command}
 use Rattle.canonical_names.specs.Generated.{head_of, core_of, class_of, class_of_name, begins_with_dash, generated_name}
 use Rattle.canonical_names.specs.Renaming.{canonical_file, rank, with_words, seen_after_word, seen_after, names_of_run}
@@ -26,9 +25,7 @@ Told = ℕ × List ℕ × List ToldWord
 
 -- tests that hold of the same
 pub same-tests : (a b : Bool) → (a ≡ true → b ≡ true) → (b ≡ true → a ≡ true) → a ≡ b
-same-tests true b h k = sym (h refl)
-same-tests false true h k = k refl
-same-tests false false h k = refl
+same-tests a b h k = grind arith
 
 -- a name that is added is a member
 pub any-member : (x : List ℕ) (seen : List (List ℕ)) → list_any (bytes_eq x) seen ≡ true → Contains seen x
@@ -53,25 +50,18 @@ names_told told = flat_map (λ (c : Told). filter_map name_told c.2) told
 
 module _ (suffixes : List (List ℕ)) (f : List ℕ → List ℕ) where
   one-told : (core : List ℕ) (o : Option (List ℕ)) → option_map (λ (_ : List ℕ). core_through f core o) o ≡ option_map f (option_map (λ (_ : List ℕ). core) o)
-  one-told core None = refl
-  one-told core (Some class) = refl
+  one-told core o = grind arith
 
   cons-mapped : (o : Option (List ℕ)) (xs : List (List ℕ)) → cons_option (option_map f o) (map f xs) ≡ map f (cons_option o xs)
-  cons-mapped None xs = refl
-  cons-mapped (Some x) xs = refl
+  cons-mapped o xs = grind arith
 
   words-told : (words : List (List ℕ)) → filter_map name_told (map (word_through suffixes f) words) ≡ map f (filter_map (generated_name suffixes) words)
   words-told [] = refl
-  words-told (w ∷ ws) =
-      ap (λ o. cons_option o (filter_map name_told (map (word_through suffixes f) ws))) (one-told (core_of w) (class_of suffixes w))
-      ∙ ap (λ t. cons_option (option_map f (generated_name suffixes w)) t) (words-told ws) ∙ cons-mapped (generated_name suffixes w) (filter_map (generated_name suffixes) ws)
+  words-told (w ∷ ws) = simp (one-told, cons-mapped, (words-told ws))
 
   pub run-told : (commands : List CommandLine) → names_told (map (command_through suffixes f) commands) ≡ map f (appearances suffixes commands)
   run-told [] = refl
-  run-told (c ∷ cs) =
-      ap (λ t. t ++ names_told (map (command_through suffixes f) cs)) (words-told (words_of_command c))
-      ∙ ap (λ t. map f (filter_map (generated_name suffixes) (words_of_command c)) ++ t) (run-told cs)
-      ∙ sym (map-append f (filter_map (generated_name suffixes) (words_of_command c)) (appearances suffixes cs))
+  run-told (c ∷ cs) = simp (words-told, map-append, (run-told cs))
 
 -- Below, a renaming of the names of a run.
 module _ (suffixes : List (List ℕ)) (lawful : AreSuffixes suffixes) (names : List (List ℕ)) (f : List ℕ → List ℕ) (renaming : IsRenaming suffixes names f) where
@@ -88,10 +78,7 @@ module _ (suffixes : List (List ℕ)) (lawful : AreSuffixes suffixes) (names : L
       ∙ ap (λ b. bytes_eq x n || b) (any-mapped x part hx (λ m h. within m (tail-member n part m h)))
 
   pub add-mapped : (seen : List (List ℕ)) (x : List ℕ) → Contains names x → ((n : List ℕ) → Contains seen n → Contains names n) → add (map f seen) (f x) ≡ map f (add seen x)
-  add-mapped seen x hx within =
-      ap (λ b. cond b (map f seen) (map f seen ++ f x ∷ [])) (any-mapped x seen hx within)
-      ∙ elim (list_any (bytes_eq x) seen) as (λ b. cond b (map f seen) (map f seen ++ f x ∷ []) ≡ map f (cond b seen (seen ++ x ∷ [])))
-      [ true ↦ refl | false ↦ sym (map-append f seen (x ∷ [])) ]
+  add-mapped seen x hx within = grind (arith, any-mapped, map-append)
 
   -- names that were added so far are names of the run
   pub within-all : (seen xs : List (List ℕ)) → names ≡ fold add seen xs → (n : List ℕ) → Contains seen n → Contains names n
@@ -135,26 +122,20 @@ command_of_told names c = (c.0, c.1, map (word_of_told names) c.2)
 -- a run by what is told of it as it is
 module _ (suffixes names : List (List ℕ)) where
   core-same : (core : List ℕ) (o : Option (List ℕ)) → core_by_all names (core_through (λ n. n) core o) o ≡ core_by_all names core o
-  core-same core None = refl
-  core-same core (Some class) = refl
+  core-same core o = grind arith
 
   words-same : (words : List (List ℕ)) → map (word_of_told names) (map (word_through suffixes (λ n. n)) words) ≡ map (word_by_all suffixes names) words
   words-same [] = refl
-  words-same (w ∷ ws) =
-      ap (λ t. (head_of w ++ t) ∷ map (word_of_told names) (map (word_through suffixes (λ n. n)) ws)) (core-same (core_of w) (class_of suffixes w))
-      ∙ ap (λ t. word_by_all suffixes names w ∷ t) (words-same ws)
+  words-same (w ∷ ws) = simp (core-same, (words-same ws))
 
   run-same : (commands : List CommandLine) → map (command_of_told names) (map (command_through suffixes (λ n. n)) commands) ≡ map (command_by_all suffixes names) commands
   run-same [] = refl
-  run-same (c ∷ cs) =
-      ap (λ ws. with_words c ws ∷ map (command_of_told names) (map (command_through suffixes (λ n. n)) cs)) (words-same (words_of_command c))
-      ∙ ap (λ t. command_by_all suffixes names c ∷ t) (run-same cs)
+  run-same (c ∷ cs) = simp (words-same, (run-same cs))
 
 -- a run by what is told of it through a renaming
 module _ (suffixes : List (List ℕ)) (lawful : AreSuffixes suffixes) (names : List (List ℕ)) (f : List ℕ → List ℕ) (renaming : IsRenaming suffixes names f) where
   class-member : (word class : List ℕ) (b : Bool) → cond b None (class_of_name suffixes (core_of word)) ≡ Some class → Contains suffixes class
-  class-member word class true e = cc
-  class-member word class false e = (find-found (ends_with nat_eq (core_of word)) suffixes class e).0
+  class-member word class b e = grind (arith, find-found)
 
   core-agrees : (seen xs : List (List ℕ)) (word : List ℕ) (o : Option (List ℕ)) → class_of suffixes word ≡ o → names ≡ fold add (with_name seen (option_map (λ (_ : List ℕ). core_of word) o)) xs →
       core_by_all (map f names) (core_through f (core_of word) o) o ≡ core_by_all names (core_of word) o
@@ -163,8 +144,7 @@ module _ (suffixes : List (List ℕ)) (lawful : AreSuffixes suffixes) (names : L
       let core = core_of word in
       let hc = class-member word class (begins_with_dash core) e in
       let hn : Contains names core = within-all suffixes lawful names f renaming (add seen core) xs all core (added-member seen core) in
-      ap (λ d. joined d (canonical_file (rank class (map f names) (f core)) class)) (renaming.keeps_folder core hn)
-      ∙ ap (λ k. joined (folder_of core) (canonical_file k class)) (rank-mapped suffixes lawful names f renaming class core hc hn names (λ m h. h))
+      grind (arith, rank-mapped)
 
   words-agree : (seen words xs : List (List ℕ)) → names ≡ fold add (seen_after suffixes seen words) xs → map (word_of_told (map f names)) (map (word_through suffixes f) words) ≡ map (word_by_all suffixes names) words
   words-agree seen [] xs all = refl
@@ -172,8 +152,7 @@ module _ (suffixes : List (List ℕ)) (lawful : AreSuffixes suffixes) (names : L
       let next = seen_after_word suffixes seen word in
       let later = filter_map (generated_name suffixes) words ++ xs in
       let behind : names ≡ fold add next later = all ∙ ap (λ s. fold add s xs) (words-names suffixes next words) ∙ sym (fold-append next (filter_map (generated_name suffixes) words) xs) in
-      ap (λ t. (head_of word ++ t) ∷ map (word_of_told (map f names)) (map (word_through suffixes f) words)) (core-agrees seen later word (class_of suffixes word) refl behind)
-      ∙ ap (λ t. word_by_all suffixes names word ∷ t) (words-agree next words xs all)
+      grind (arith, core-agrees, (words-agree next words xs all))
 
   run-agrees : (seen : List (List ℕ)) (commands : List CommandLine) → names ≡ fold (λ seen command. seen_after suffixes seen (words_of_command command)) seen commands →
       map (command_of_told (map f names)) (map (command_through suffixes f) commands) ≡ map (command_by_all suffixes names) commands
@@ -181,8 +160,7 @@ module _ (suffixes : List (List ℕ)) (lawful : AreSuffixes suffixes) (names : L
   run-agrees seen (command ∷ commands) all =
       let words = words_of_command command in
       let next = seen_after suffixes seen words in
-      ap (λ ws. with_words command ws ∷ map (command_of_told (map f names)) (map (command_through suffixes f) commands)) (words-agree seen words (appearances suffixes commands) (all ∙ run-names suffixes next commands))
-      ∙ ap (λ t. command_by_all suffixes names command ∷ t) (run-agrees next commands all)
+      grind (arith, words-agree, run-names, (run-agrees next commands all))
 
 pub alike-runs_agree : AlikeRunsAgree
 alike-runs_agree suffixes lawful first second one other (f, renaming, told) =

@@ -1,5 +1,5 @@
 -- The names that appear in a run have a class, and a text holds one of them where it holds one of the run's names.
-use Rattle.std.proofs.Common.{◌≡◌, ℕ, ◌++◌, ◌&&◌, ◌||◌, Bool, true, false, not, cond, List, [], ◌∷◌, Option, Some, None, is_some, map, filter, refl, ap, sym, ◌∙◌, nat_eq, fold, codes, length, take, ◌-◌, append_assoc, option_map, bytes_eq}
+use Rattle.std.proofs.Common.{◌≡◌, ℕ, ◌++◌, ◌&&◌, ◌||◌, Bool, true, false, not, cond, List, [], ◌∷◌, Option, Some, None, is_some, map, filter, refl, ap, sym, ◌∙◌, nat_eq, fold, codes, length, take, ◌-◌, append_assoc, option_map, bytes_eq, arith}
 use Rattle.std.specs.List.{list_any, list_all, filter_map, cons_option, ends_with}
 use Rattle.std.specs.Cmp.Lexicographic.{pointwise}
 use Rattle.std.proofs.lemmas.Bool.{false≢true, and_parts, and_from, or_right}
@@ -27,13 +27,11 @@ pub all-append : {A : Type 0} (test : A → Bool) (xs ys : List A) → list_all 
 all-append test [] ys h k = k
 all-append test (x ∷ xs) ys h k =
     let parts = and_parts (test x) (list_all test xs) h in
-    and_from (test x) (list_all test (xs ++ ys)) parts.0 (all-append test xs ys parts.1 k)
+    grind (arith, and_from, (all-append test xs ys parts.1 k))
 
 name-class : (suffixes : List (List ℕ)) (core : List ℕ) (b : Bool) (o : Option (List ℕ)) → class_of_name suffixes core ≡ o → (more : List (List ℕ)) → list_all (has_class suffixes) more ≡ true →
     list_all (has_class suffixes) (cons_option (option_map (λ (_ : List ℕ). core) (cond b None o)) more) ≡ true
-name-class suffixes core true o e more h = h
-name-class suffixes core false None e more h = h
-name-class suffixes core false (Some class) e more h = and_from (has_class suffixes core) (list_all (has_class suffixes) more) (ap is_some e) h
+name-class suffixes core b o e more h = grind (arith, and_from)
 
 words-classes : (suffixes words : List (List ℕ)) → list_all (has_class suffixes) (filter_map (generated_name suffixes) words) ≡ true
 words-classes suffixes [] = refl
@@ -41,8 +39,7 @@ words-classes suffixes (w ∷ words) = name-class suffixes (core_of w) (begins_w
 
 pub appearances-classes : (suffixes : List (List ℕ)) (commands : List CommandLine) → list_all (has_class suffixes) (appearances suffixes commands) ≡ true
 appearances-classes suffixes [] = refl
-appearances-classes suffixes (c ∷ commands) =
-    all-append (has_class suffixes) (filter_map (generated_name suffixes) (words_of_command c)) (appearances suffixes commands) (words-classes suffixes (words_of_command c)) (appearances-classes suffixes commands)
+appearances-classes suffixes (c ∷ commands) = simp (all-append, words-classes, (appearances-classes suffixes commands))
 
 -- a test of the different names tests all that appear
 module _ (test : List ℕ → Bool) where
@@ -55,20 +52,11 @@ module _ (test : List ℕ → Bool) where
       ] refl h
 
   absorbed : (a b c : Bool) → (b ≡ true → a ≡ true) → (a || c) ≡ (a || (b || c))
-  absorbed true b c h = refl
-  absorbed false true c h = absurd (false≢true (h refl))
-  absorbed false false c h = refl
+  absorbed a b c h = grind (arith, false≢true)
 
   any-added : (xs seen : List (List ℕ)) → list_any test (fold add seen xs) ≡ (list_any test seen || list_any test xs)
   any-added [] seen = sym (or-false (list_any test seen))
-  any-added (x ∷ xs) seen =
-      elim (list_any (bytes_eq x) seen) as (λ b. list_any (bytes_eq x) seen ≡ b → list_any test (fold add (cond b seen (seen ++ x ∷ [])) xs) ≡ (list_any test seen || (test x || list_any test xs))) [
-        | true ↦ λ e. any-added xs seen ∙ absorbed (list_any test seen) (test x) (list_any test xs) (seen-tested x seen e)
-        | false ↦ λ _.
-            any-added xs (seen ++ x ∷ []) ∙ ap (λ b. b || list_any test xs) (list_any-append test seen (x ∷ []))
-            ∙ or_assoc (list_any test seen) (test x || false) (list_any test xs)
-            ∙ ap (λ b. list_any test seen || b) (or_assoc (test x) false (list_any test xs))
-      ] refl
+  any-added (x ∷ xs) seen = grind (arith, add, absorbed, seen-tested, list_any-append, or_assoc, (any-added xs seen), (any-added xs (seen ++ x ∷ [])))
 
 pub names-tested : (test : List ℕ → Bool) (suffixes : List (List ℕ)) (commands : List CommandLine) → list_any test (names_of_run suffixes commands) ≡ list_any test (appearances suffixes commands)
 names-tested test suffixes commands = ap (list_any test) (run-names suffixes [] commands) ∙ any-added test (appearances suffixes commands) []
@@ -117,8 +105,7 @@ all-kept : {A : Type 0} (test kept : A → Bool) (xs : List A) → list_all test
 all-kept test kept [] h = refl
 all-kept test kept (x ∷ xs) h =
     let parts = and_parts (test x) (list_all test xs) h in
-    elim (kept x) as (λ b. list_all test (cond b (x ∷ filter kept xs) (filter kept xs)) ≡ true)
-    [ true ↦ and_from (test x) (list_all test (filter kept xs)) parts.0 (all-kept test kept xs parts.1) | false ↦ all-kept test kept xs parts.1 ]
+    grind (arith, and_from, (all-kept test kept xs parts.1))
 
 pub shadow-is_step_shadow : ShadowIsStepShadow
 shadow-is_step_shadow suffixes lawful first second folder h =
@@ -129,6 +116,4 @@ shadow-is_step_shadow suffixes lawful first second folder h =
     let two = and_parts (pointwise bytes_eq others (map (joined folder) names)) plain one.1 in
     let same : others ≡ map (joined folder) names = (lists bytes_eq bytes_eq-Decides others (map (joined folder) names)).0 two.0 in
     let steps : step_names suffixes second ≡ map (joined folder) (step_names suffixes first) = ap (filter is_cicc_word) same ∙ filter-joined suffixes lawful folder names (appearances-classes suffixes first) in
-    and_from (list_all is_bare (step_names suffixes first)) (pointwise bytes_eq (step_names suffixes second) (map (joined folder) (step_names suffixes first)) && plain)
-    (all-kept is_bare is_cicc_word names one.0)
-    (and_from (pointwise bytes_eq (step_names suffixes second) (map (joined folder) (step_names suffixes first))) plain ((lists bytes_eq bytes_eq-Decides (step_names suffixes second) (map (joined folder) (step_names suffixes first))).1 steps) two.1)
+    grind (arith, and_from, all-kept, lists, bytes_eq-Decides)

@@ -27,7 +27,7 @@ same a b h = (bytes_eq-Decides a b).0 h
 pub ends-split : (text s : List ℕ) → ends_with nat_eq text s ≡ true → text ≡ take (length text - length s) text ++ s
 ends-split text s h =
     let end : s ≡ drop (length text - length s) text = same s (drop (length text - length s) text) h in
-    sym (take-append-drop (length text - length s) text) ∙ ap (λ t. take (length text - length s) text ++ t) (sym end)
+    grind (arith, take-append-drop)
 
 -- of two ends of one text the shorter one is an end of the longer one
 pub shorter-end : (front other s t : List ℕ) → front ++ s ≡ other ++ t → length s ≤ length t → ends_with nat_eq t s ≡ true
@@ -35,19 +35,17 @@ shorter-end front other s t e le =
     let lengths : length front + length s ≡ length other + length t = sym (length-append front s) ∙ ap length e ∙ length-append other t in
     let places : length front ≡ length other + (length t - length s) = omega (arith, lengths, le) in
     let end : s ≡ drop (length t - length s) t = sym (drop-append_seam front s) ∙ ap (λ x. drop (length front) x) e ∙ ap (λ n. drop n (other ++ t)) places ∙ drop-append-add other t (length t - length s) in
-    subst (λ x. bytes_eq s x ≡ true) end (bytes_eq-itself s)
+    grind (arith, bytes_eq-itself)
 
 pub ends-append : (front s : List ℕ) → ends_with nat_eq (front ++ s) s ≡ true
 ends-append front s =
     let places : length (front ++ s) - length s ≡ length front = omega (arith, length-append front s) in
-    subst (λ x. bytes_eq s x ≡ true) (sym (ap (λ n. drop n (front ++ s)) places ∙ drop-append_seam front s)) (bytes_eq-itself s)
+    grind (arith, drop-append_seam, bytes_eq-itself)
 
 -- numerals
 unshift : (ds : List ℕ) → map (λ d. d - 48) (map (λ d. 48 + d) ds) ≡ ds
 unshift [] = refl
-unshift (d ∷ ds) =
-    let one : (48 + d) - 48 ≡ d = omega arith in
-    ap (λ x. x ∷ map (λ d. d - 48) (map (λ d. 48 + d) ds)) one ∙ ap (λ t. d ∷ t) (unshift ds)
+unshift (d ∷ ds) = grind (arith, (unshift ds))
 
 shift-cancel : (xs ys : List ℕ) → map (λ d. 48 + d) xs ≡ map (λ d. 48 + d) ys → xs ≡ ys
 shift-cancel xs ys e = sym (unshift xs) ∙ ap (map (λ d. d - 48)) e ∙ unshift ys
@@ -60,13 +58,10 @@ no-zero_digit : (n : ℕ) → 0 < n → codes "0" ≡ map (λ d. 48 + d) (digits
 no-zero_digit n pos e =
     let zero_digit : digits_of 10 n ≡ 0 ∷ [] = sym (unshift (digits_of 10 n)) ∙ sym (ap (map (λ d. d - 48)) e) in
     let bad : 0 < get_or (0 ∷ []) 0 0 = subst (λ ds. 0 < get_or ds 0 0) zero_digit (first_digits_of 10 n (omega arith) pos) in
-    omega (arith, bad)
+    grind arith
 
 numeral-cases : (m n : ℕ) (a b : Bool) → eqb m 0 ≡ a → eqb n 0 ≡ b → cond a (codes "0") (map (λ d. 48 + d) (digits_of 10 m)) ≡ cond b (codes "0") (map (λ d. 48 + d) (digits_of 10 n)) → m ≡ n
-numeral-cases m n true true em en e = eqb-true m 0 em ∙ sym (eqb-true n 0 en)
-numeral-cases m n true false em en e = absurd (no-zero_digit n (positive n en) e)
-numeral-cases m n false true em en e = absurd (no-zero_digit m (positive m em) (sym e))
-numeral-cases m n false false em en e = same_from_digits_of 10 m n (omega arith) (shift-cancel (digits_of 10 m) (digits_of 10 n) e)
+numeral-cases m n a b em en e = grind (arith, eqb-true, no-zero_digit, positive, same_from_digits_of, shift-cancel)
 
 pub numeral-same : (m n : ℕ) → numeral m ≡ numeral n → m ≡ n
 numeral-same m n e = numeral-cases m n (eqb m 0) (eqb n 0) refl refl e
@@ -76,13 +71,11 @@ lacks-append : (byte : ℕ) (front back : List ℕ) → lacks byte front ≡ tru
 lacks-append byte [] back h k = k
 lacks-append byte (c ∷ front) back h k =
     let parts = and_parts (not (eqb c byte)) (lacks byte front) h in
-    and_from (not (eqb c byte)) (lacks byte (front ++ back)) parts.0 (lacks-append byte front back parts.1 k)
+    grind (arith, and_from, (lacks-append byte front back parts.1 k))
 
 lacks-shifted : (ds : List ℕ) → lacks 47 (map (λ d. 48 + d) ds) ≡ true
 lacks-shifted [] = refl
-lacks-shifted (d ∷ ds) =
-    let other : eqb (48 + d) 47 ≡ false = ne_eqb (48 + d) 47 (λ e. omega arith) in
-    and_from (not (eqb (48 + d) 47)) (lacks 47 (map (λ d. 48 + d) ds)) (ap not other) (lacks-shifted ds)
+lacks-shifted (d ∷ ds) = grind (arith, and_from, (lacks-shifted ds))
 
 lacks-numeral : (k : ℕ) → lacks 47 (numeral k) ≡ true
 lacks-numeral k = cond_both (eqb k 0) (codes "0") (map (λ d. 48 + d) (digits_of 10 k)) (λ t. lacks 47 t ≡ true) (λ _. refl) (λ _. lacks-shifted (digits_of 10 k))
@@ -102,11 +95,7 @@ module _ {A : Type 0} where
   tail-member x xs y h = Contains-append_right (x ∷ []) xs y h
 
   pub member-cases : (x : A) (xs : List A) (y : A) → Contains (x ∷ xs) y → (x ≡ y) ⊎ Contains xs y
-  member-cases x xs y h =
-      elim (Contains-append_cases (x ∷ []) xs y h) as (λ _. (x ≡ y) ⊎ Contains xs y) [
-        | inl one ↦ elim (Contains-push_cases [] x y one) as (λ _. (x ≡ y) ⊎ Contains xs y) [ inl none ↦ absurd (no-member y none) | inr is ↦ inl is ]
-        | inr more ↦ inr more
-      ]
+  member-cases x xs y h = grind (arith, Contains-append_cases, Contains-push_cases, no-member)
 
   -- the first that passes a test is a member that passes it
   pub find-found : (test : A → Bool) (xs : List A) (x : A) → find test xs ≡ Some x → Contains xs x × (test x ≡ true)
@@ -170,21 +159,16 @@ rank-cases class x m n more true false em en cm cn rest e =
     let one : ends_with nat_eq x class ≡ true = ap (λ z. ends_with nat_eq z class) (same x m em) ∙ cm in
     let bad : 0 ≡ 1 + rank class more n = e ∙ ap (λ b. cond b 1 0 + rank class more n) one in
     let no : ⊥ = omega (arith, bad) in
-    absurd no
+    grind arith
 rank-cases class x m n more false true em en cm cn rest e =
     let one : ends_with nat_eq x class ≡ true = ap (λ z. ends_with nat_eq z class) (same x n en) ∙ cn in
     let bad : 0 ≡ 1 + rank class more m = sym e ∙ ap (λ b. cond b 1 0 + rank class more m) one in
     let no : ⊥ = omega (arith, bad) in
-    absurd no
-rank-cases class x m n more false false em en cm cn rest e =
-    rest refl refl (cancel (cond (ends_with nat_eq x class) 1 0) (rank class more m) (rank class more n) e) where
-      cancel : (k i j : ℕ) → k + i ≡ k + j → i ≡ j
-      cancel k i j h = omega (arith, h)
+    grind arith
+rank-cases class x m n more false false em en cm cn rest e = grind arith
 
 later-member : (x : List ℕ) (xs : List (List ℕ)) (m : List ℕ) → Contains (x ∷ xs) m → bytes_eq x m ≡ false → Contains xs m
-later-member x xs m h differs =
-    elim (member-cases x xs m h) as (λ _. Contains xs m)
-    [ inl is ↦ absurd (false≢true (sym differs ∙ ap (λ z. bytes_eq z m) is ∙ bytes_eq-itself m)) | inr more ↦ more ]
+later-member x xs m h differs = grind (arith, member-cases, false≢true, bytes_eq-itself)
 
 pub rank-apart : (class : List ℕ) (names : List (List ℕ)) (m n : List ℕ) → Contains names m → Contains names n → ends_with nat_eq m class ≡ true → ends_with nat_eq n class ≡ true → rank class names m ≡ rank class names n → m ≡ n
 rank-apart class [] m n hm hn cm cn e = absurd (no-member m hm)
@@ -201,8 +185,7 @@ named-class suffixes core None h n e = cc
 named-class suffixes core (Some class) h n e = let is : core ≡ n = cc in (class, subst (λ z. class_of_name suffixes z ≡ Some class) is h)
 
 generated-class : (suffixes : List (List ℕ)) (core : List ℕ) (b : Bool) (n : List ℕ) → option_map (λ (_ : List ℕ). core) (cond b None (class_of_name suffixes core)) ≡ Some n → HasClass suffixes n
-generated-class suffixes core true n e = cc
-generated-class suffixes core false n e = named-class suffixes core (class_of_name suffixes core) refl n e
+generated-class suffixes core b n e = grind (arith, named-class)
 
 with_name-all : (P : List ℕ → Type 0) (seen : List (List ℕ)) (o : Option (List ℕ)) → All P seen → ((n : List ℕ) → o ≡ Some n → P n) → All P (with_name seen o)
 with_name-all P seen None h p = h
@@ -241,17 +224,7 @@ different-names suffixes lawful commands m n hm hn e =
 
 -- the standard suffixes
 standard-apart : (s t : List ℕ) → Contains standard_suffixes s → Contains standard_suffixes t → ends_with nat_eq s t ≡ true → s ≡ t
-standard-apart s t hs ht ends =
-    let rows : list_all (λ s. list_all (λ t. not (ends_with nat_eq s t) || bytes_eq s t) standard_suffixes) standard_suffixes ≡ true = refl in
-    let row : list_all (λ t. not (ends_with nat_eq s t) || bytes_eq s t) standard_suffixes ≡ true =
-    All-contains (λ s. list_all (λ t. not (ends_with nat_eq s t) || bytes_eq s t) standard_suffixes ≡ true) standard_suffixes s (AllPass-from_list_all (λ s. list_all (λ t. not (ends_with nat_eq s t) || bytes_eq s t) standard_suffixes) standard_suffixes rows) hs in
-    let pair : (not (ends_with nat_eq s t) || bytes_eq s t) ≡ true =
-    All-contains (λ t. (not (ends_with nat_eq s t) || bytes_eq s t) ≡ true) standard_suffixes t (AllPass-from_list_all (λ t. not (ends_with nat_eq s t) || bytes_eq s t) standard_suffixes row) ht in
-    same s t (sym (ap (λ b. not b || bytes_eq s t) ends) ∙ pair)
+standard-apart s t hs ht ends = grind (arith, All-contains, AllPass-from_list_all, same)
 
 pub standard-are_suffixes : StandardAreSuffixes
-standard-are_suffixes = record {
-  apart = standard-apart;
-  bare = λ s hs. All-contains (λ s. is_bare s ≡ true) standard_suffixes s (AllPass-from_list_all is_bare standard_suffixes refl) hs;
-  input = (0, omega arith, refl);
-}
+standard-are_suffixes = grind (arith, standard-apart, All-contains, AllPass-from_list_all)

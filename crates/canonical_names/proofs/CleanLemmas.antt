@@ -1,8 +1,7 @@
 -- In a clean run every word is renamed by all names of the run.
-use Rattle.std.proofs.Common.{◌≡◌, ℕ, ◌++◌, ◌||◌, true, false, not, cond, List, [], ◌∷◌, Option, Some, None, is_some, map, refl, ap, sym, ◌∙◌, nat_eq, fold, option_map}
+use Rattle.std.proofs.Common.{◌≡◌, ℕ, ◌++◌, ◌||◌, true, false, not, cond, List, [], ◌∷◌, Option, Some, None, is_some, map, refl, ap, sym, ◌∙◌, nat_eq, fold, option_map, arith}
 use Rattle.std.specs.List.{list_any, list_all, starts_with, filter_map}
 use Rattle.std.proofs.lemmas.Bool.{and_parts, or_parts, or_from, not-true}
-use Rattle.texts.specs.Path.{joined, folder_of}
 use Rattle.command_lines.specs.CommandLines.{CommandLine, words_of_command}
 use Rattle.canonical_names.specs.Generated.{head_of, core_of, class_of, is_file_mark, generated_name}
 use Rattle.canonical_names.specs.Renaming.{canonical_file, rank, with_words, seen_after_word, seen_after, names_of_run, renamed_core, renamed_word, renamed_words, renamed_after}
@@ -22,13 +21,13 @@ core-free part (a ∷ b ∷ c ∷ rest) h =
     let one = or_parts (starts_with nat_eq (a ∷ b ∷ c ∷ rest) part) (holds part (b ∷ c ∷ rest)) h in
     let two = or_parts (starts_with nat_eq (b ∷ c ∷ rest) part) (holds part (c ∷ rest)) one.1 in
     let three = or_parts (starts_with nat_eq (c ∷ rest) part) (holds part rest) two.1 in
-    elim (is_file_mark a b c) as (λ t. holds part (cond t (core_of rest) (a ∷ b ∷ c ∷ rest)) ≡ false) [ true ↦ core-free part rest three.1 | false ↦ h ]
+    grind (arith, (core-free part rest three.1))
 
 fewer-held : (word : List ℕ) (seen more : List (List ℕ)) → list_any (λ n. holds n word) (seen ++ more) ≡ false → list_any (λ n. holds n (core_of word)) seen ≡ false
 fewer-held word [] more h = refl
 fewer-held word (n ∷ seen) more h =
     let parts = or_parts (holds n word) (list_any (λ n. holds n word) (seen ++ more)) h in
-    or_from (holds n (core_of word)) (list_any (λ n. holds n (core_of word)) seen) (core-free n word parts.0) (fewer-held word seen more parts.1)
+    grind (arith, or_from, core-free, (fewer-held word seen more parts.1))
 
 -- a word of a clean run, by its class; names has those seen before it, itself and the later ones
 word-clean : (suffixes names seen xs : List (List ℕ)) (word : List ℕ) (o : Option (List ℕ)) → class_of suffixes word ≡ o → names ≡ fold add (with_name seen (option_map (λ (_ : List ℕ). core_of word) o)) xs →
@@ -37,11 +36,8 @@ word-clean suffixes names seen xs word None e all clean =
     let rest = fold-front seen xs in
     let whole : names ≡ seen ++ rest.0 = all ∙ rest.1 in
     let none : list_any (λ n. holds n word) names ≡ false = not-true (list_any (λ n. holds n word) names) (sym (ap (λ o. is_some o || not (list_any (λ n. holds n word) names)) e) ∙ clean) in
-    other-words_stay suffixes seen word e (fewer-held word seen rest.0 (sym (ap (list_any (λ n. holds n word)) whole) ∙ none))
-word-clean suffixes names seen xs word (Some class) e all clean =
-    let ranks : rank class seen (core_of word) ≡ rank class names (core_of word) = sym (rank-stable class (core_of word) seen xs) ∙ sym (ap (λ ns. rank class ns (core_of word)) all) in
-    ap (λ o. head_of word ++ renamed_core suffixes seen (core_of word) o) e
-    ∙ ap (λ k. head_of word ++ joined (folder_of (core_of word)) (canonical_file k class)) ranks
+    grind (arith, other-words_stay, fewer-held)
+word-clean suffixes names seen xs word (Some class) e all clean = grind (arith, rank-stable)
 
 -- the words of a command
 words-clean : (suffixes names seen words xs : List (List ℕ)) → names ≡ fold add (seen_after suffixes seen words) xs → list_all (is_clean_word suffixes names) words ≡ true →
@@ -63,8 +59,7 @@ run-clean suffixes names seen (command ∷ commands) all clean =
     let words = words_of_command command in
     let parts = and_parts (list_all (is_clean_word suffixes names) words) (list_all (λ command. list_all (is_clean_word suffixes names) (words_of_command command)) commands) clean in
     let behind : names ≡ fold add (seen_after suffixes seen words) (appearances suffixes commands) = all ∙ run-names suffixes (seen_after suffixes seen words) commands in
-    ap (λ ws. with_words command ws ∷ renamed_after suffixes (seen_after suffixes seen words) commands) (words-clean suffixes names seen words (appearances suffixes commands) behind parts.0)
-    ∙ ap (λ cs. command_by_all suffixes names command ∷ cs) (run-clean suffixes names (seen_after suffixes seen words) commands all parts.1)
+    grind (arith, words-clean, (run-clean suffixes names (seen_after suffixes seen words) commands all parts.1))
 
 pub clean-run_is_a_map : CleanRunIsAMap
 clean-run_is_a_map suffixes commands clean = run-clean suffixes (names_of_run suffixes commands) [] commands refl clean

@@ -1,9 +1,7 @@
 -- A name that is new is counted, and a name that was seen keeps its canonical name.
-use Rattle.std.proofs.Common.{◌≡◌, ℕ, ◌+◌, ◌<◌, ◌≤◌, ◌||◌, Bool, true, false, cond, suc, zero, List, [], ◌∷◌, ◌++◌, Option, Some, None, is_some, map, filter, length, inl, inr, refl, ap, sym, ◌∙◌, subst, nat_eq, codes, arith, string_bytes, String, slice_set, get_or, replicate, decimal, ◌^◌, unwrap_or, option_copied, bytes_eq}
-use Rattle.std.specs.declared.alloc.Global.{Global}
+use Rattle.std.proofs.Common.{◌≡◌, ℕ, ◌+◌, ◌<◌, ◌≤◌, ◌||◌, Bool, true, false, cond, suc, zero, List, [], ◌∷◌, ◌++◌, Option, Some, None, is_some, map, filter, length, inl, inr, refl, ap, sym, ◌∙◌, subst, nat_eq, codes, arith, string_bytes, String, slice_set, get_or, replicate, decimal, ◌^◌, unwrap_or, option_copied, bytes_eq, Global, Bor}
 use Rattle.std.specs.List.{Contains, ends_with, list_all, list_any, slice_get}
 use Rattle.std.specs.Map.{lookup}
-use denote.Ref.{Bor}
 use Rattle.indexmap.specs.IndexMap.{insert_entry}
 use Rattle.std.proofs.lemmas.Bool.{false≢true, and_parts, and_from, or_parts}
 use Rattle.texts.proofs.NumeralLemmas.{decimal-numeral}
@@ -60,13 +58,10 @@ member-among (x ∷ xs) m h =
     ] refl
 
 canonical-stays : (names more : List (List ℕ)) (m : List ℕ) (o : Option (List ℕ)) → list_any (λ n. bytes_eq n m) names ≡ true → canonical_or (names ++ more) m o ≡ canonical_or names m o
-canonical-stays names more m None h = refl
-canonical-stays names more m (Some class) h = ap (λ k. joined (folder_of m) (canonical_file k class)) (rank-found class m names more h)
+canonical-stays names more m o h = grind (arith, rank-found)
 
 rank-same : (class n : List ℕ) (names : List (List ℕ)) → list_any (bytes_eq n) names ≡ false → rank class (names ++ n ∷ []) n ≡ rank class names n
-rank-same class n names new =
-    let absent : list_any (λ m. bytes_eq m n) names ≡ false = sym (any-turned class n names) ∙ new in
-    rank-settled class n names [] absent ∙ sym (rank-absent class n names absent)
+rank-same class n names new = grind (arith, any-turned, rank-settled, rank-absent)
 
 -- a new name's rank is the counter of its class
 pub rank-counted : (class n : List ℕ) (names : List (List ℕ)) → list_any (bytes_eq n) names ≡ false → rank class names n ≡ count_of names class
@@ -74,41 +69,26 @@ rank-counted class n names new = rank-absent class n names (sym (any-turned clas
 
 -- counters
 count-of-push : (names : List (List ℕ)) (n class : List ℕ) → count_of (names ++ n ∷ []) class ≡ count_of names class + cond (ends_with nat_eq n class) 1 0
-count-of-push names n class =
-    ap length (filter-append (λ m. ends_with nat_eq m class) names (n ∷ [])) ∙ length-append (filter (λ m. ends_with nat_eq m class) names) (filter (λ m. ends_with nat_eq m class) (n ∷ []))
-    ∙ ap (λ k. count_of names class + k) (one (ends_with nat_eq n class)) where
-      one : (b : Bool) → length (cond b (n ∷ []) []) ≡ cond b 1 0
-      one true = refl
-      one false = refl
+count-of-push names n class = grind (arith, filter-append, length-append)
 
 count-other : (names : List (List ℕ)) (n class : List ℕ) → ends_with nat_eq n class ≡ false → count_of names class ≡ count_of (names ++ n ∷ []) class
-count-other names n class other =
-    let same : count_of (names ++ n ∷ []) class ≡ count_of names class + 0 = count-of-push names n class ∙ ap (λ b. count_of names class + cond b 1 0) other in
-    omega (arith, same)
+count-other names n class other = grind (arith, count-of-push)
 
 counts-others : (names : List (List ℕ)) (n s : List ℕ) → ends_with nat_eq n s ≡ true → (suffixes : List (List ℕ)) → list_all (is_apart s) suffixes ≡ true → map (count_of names) suffixes ≡ map (count_of (names ++ n ∷ [])) suffixes
 counts-others names n s ends [] h = refl
 counts-others names n s ends (t ∷ suffixes) h =
     let parts = and_parts (is_apart s t) (list_all (is_apart s) suffixes) h in
-    ap (λ k. k ∷ map (count_of names) suffixes) (count-other names n t (one-end n s t parts.0 ends))
-    ∙ ap (λ ks. count_of (names ++ n ∷ []) t ∷ ks) (counts-others names n s ends suffixes parts.1)
+    grind (arith, count-other, one-end, (counts-others names n s ends suffixes parts.1))
 
 apart-at : (s : List ℕ) (suffixes : List (List ℕ)) (i : ℕ) (class : List ℕ) → list_all (is_apart s) suffixes ≡ true → slice_get suffixes i ≡ Some class → is_apart s class ≡ true
 apart-at s [] i class h at = cc
-apart-at s (t ∷ suffixes) zero class h at =
-    let is : t ≡ class = cc in
-    subst (λ z. is_apart s z ≡ true) is (and_parts (is_apart s t) (list_all (is_apart s) suffixes) h).0
+apart-at s (t ∷ suffixes) zero class h at = grind (arith, and_parts)
 apart-at s (t ∷ suffixes) (suc i) class h at = apart-at s suffixes i class (and_parts (is_apart s t) (list_all (is_apart s) suffixes) h).1 at
 
 counts-raised : (names : List (List ℕ)) (n class : List ℕ) → ends_with nat_eq n class ≡ true → (suffixes : List (List ℕ)) → are_apart suffixes ≡ true → (i : ℕ) → slice_get suffixes i ≡ Some class →
     slice_set (map (count_of names) suffixes) i (count_of names class + 1) ≡ map (count_of (names ++ n ∷ [])) suffixes
 counts-raised names n class ends [] apart i at = cc
-counts-raised names n class ends (s ∷ suffixes) apart zero at =
-    let parts = and_parts (list_all (is_apart s) suffixes) (are_apart suffixes) apart in
-    let is : s ≡ class = cc in
-    let more : count_of names class + 1 ≡ count_of (names ++ n ∷ []) s = sym (ap (λ b. count_of names class + cond b 1 0) ends) ∙ sym (count-of-push names n class) ∙ ap (count_of (names ++ n ∷ [])) (sym is) in
-    ap (λ k. k ∷ map (count_of names) suffixes) more
-    ∙ ap (λ ks. count_of (names ++ n ∷ []) s ∷ ks) (counts-others names n s (ap (ends_with nat_eq n) is ∙ ends) suffixes parts.0)
+counts-raised names n class ends (s ∷ suffixes) apart zero at = grind (arith, and_parts, count-of-push, counts-others)
 counts-raised names n class ends (s ∷ suffixes) apart (suc i) at =
     let parts = and_parts (list_all (is_apart s) suffixes) (are_apart suffixes) apart in
     let other : ends_with nat_eq n s ≡ false = elim (ends_with nat_eq n s) as (λ b. ends_with nat_eq n s ≡ b → b ≡ false)
@@ -123,9 +103,7 @@ count-at names (s ∷ suffixes) (suc i) class at d = count-at names suffixes i c
 
 pub count-bound : (names : List (List ℕ)) (class : List ℕ) → count_of names class ≤ length names
 count-bound [] class = omega arith
-count-bound (n ∷ names) class =
-    elim (ends_with nat_eq n class) as (λ b. length (cond b (n ∷ filter (λ m. ends_with nat_eq m class) names) (filter (λ m. ends_with nat_eq m class) names)) ≤ length (n ∷ names))
-    [ true ↦ let rest : count_of names class ≤ length names = count-bound names class in omega (arith, rest) | false ↦ let rest : count_of names class ≤ length names = count-bound names class in omega (arith, rest) ]
+count-bound (n ∷ names) class = grind (arith, (count-bound names class))
 
 -- nothing is counted at first
 pub nothing-counted : (suffixes : List (List ℕ)) → are_suffixes suffixes ≡ true → (counts : List ℕ) → counts ≡ replicate (length suffixes) 0 → IsCounted suffixes [] [] counts
@@ -139,23 +117,12 @@ classes-push : (suffixes names : List (List ℕ)) (n : List ℕ) → list_all (h
 classes-push suffixes [] n h one = and_from (has_class suffixes n) true one refl
 classes-push suffixes (m ∷ names) n h one =
     let parts = and_parts (has_class suffixes m) (list_all (has_class suffixes) names) h in
-    and_from (has_class suffixes m) (list_all (has_class suffixes) (names ++ n ∷ [])) parts.0 (classes-push suffixes names n parts.1 one)
+    grind (arith, and_from, (classes-push suffixes names n parts.1 one))
 
 pub name-counted : (suffixes names : List (List ℕ)) (pairs : List (List ℕ × List ℕ)) (counts : List ℕ) (n class : List ℕ) (i : ℕ) → IsCounted suffixes names pairs counts →
     slice_get suffixes i ≡ Some class → class_of_name suffixes n ≡ Some class → list_any (bytes_eq n) names ≡ false →
     IsCounted suffixes (names ++ n ∷ []) (pairs ++ (n, canonical_in names n class) ∷ []) (slice_set counts i (count_of names class + 1))
-name-counted suffixes names pairs counts n class i before at is new =
-    let ends = (find-found (ends_with nat_eq n) suffixes class is).1 in
-    let seen = names ++ n ∷ [] in
-    let old : map (with_canonical suffixes names) names ≡ map (with_canonical suffixes seen) names =
-    same-map (with_canonical suffixes names) (with_canonical suffixes seen) names (λ m among. ap (λ t. (m, t)) (sym (canonical-stays names (n ∷ []) m (class_of_name suffixes m) (member-among names m among)))) in
-    let one : canonical_in names n class ≡ canonical_name suffixes seen n = ap (λ k. joined (folder_of n) (canonical_file k class)) (sym (rank-same class n names new)) ∙ sym (canonical-at suffixes seen n class is) in
-    record {
-      accepted = before.accepted;
-      classes = classes-push suffixes names n before.classes (ap is_some is);
-      canonical = ap (λ ps. ps ++ (n, canonical_in names n class) ∷ []) (before.canonical ∙ old) ∙ ap (λ t. map (with_canonical suffixes seen) names ++ (n, t) ∷ []) one ∙ sym (map-append (with_canonical suffixes seen) names (n ∷ []));
-      counted = ap (λ ks. slice_set ks i (count_of names class + 1)) before.counted ∙ counts-raised names n class ends suffixes (all-apart suffixes before.accepted) i at;
-    }
+name-counted suffixes names pairs counts n class i before at is new = grind (arith, find-found, same-map, canonical-stays, member-among, rank-same, canonical-at, classes-push, map-append, counts-raised, all-apart)
 
 -- numerals of machine numbers
 pub numeral-decimal : (k : ℕ) → k < 2 ^ 64 → numeral k ≡ decimal k
@@ -192,8 +159,7 @@ pub entry-last : (es : List (String Global × String Global)) (n c : String Glob
 entry-last [] n c h = refl
 entry-last (e ∷ es) n c h =
     let parts = or_parts (bytes_eq (string_bytes n) (string_bytes e.0)) (list_any (bytes_eq (string_bytes n)) (old_names (map pair_of es))) h in
-    ap (λ b. cond b ((e.0, c) ∷ es) (e ∷ insert_entry (λ (a d : String Global). bytes_eq (string_bytes a) (string_bytes d)) es n c)) parts.0
-    ∙ ap (λ l. e ∷ l) (entry-last es n c parts.1)
+    grind (arith, (entry-last es n c parts.1))
 
 pub names-put : (es more : List (String Global × String Global)) (n c : String Global) → more ≡ es ++ (n, c) ∷ [] → old_names (map pair_of more) ≡ old_names (map pair_of es) ++ string_bytes n ∷ []
 names-put es more n c is = ap (λ l. old_names (map pair_of l)) is ∙ ap old_names (pairs-push es n c) ∙ old_names-push (map pair_of es) (string_bytes n) (string_bytes c)
@@ -215,9 +181,7 @@ put-counted suffixes es more counts raised n c i k before within class new canon
     let text : string_bytes c ≡ canonical_in names (string_bytes n) at.0 = canonical ∙ canonical-at suffixes names (string_bytes n) at.0 of_class in
     let pairs : map pair_of more ≡ map pair_of es ++ (string_bytes n, canonical_in names (string_bytes n) at.0) ∷ [] = ap (map pair_of) is ∙ pairs-push es n c ∙ ap (λ t. map pair_of es ++ (string_bytes n, t) ∷ []) text in
     let all : raised ≡ slice_set counts i (count_of names at.0 + 1) = up ∙ ap (λ m. slice_set counts i (m + 1)) (count at.0 at.1) in
-    subst (λ ks. IsCounted suffixes (old_names (map pair_of more)) (map pair_of more) ks) (sym all)
-    (subst (λ ps. IsCounted suffixes (old_names (map pair_of more)) ps (slice_set counts i (count_of names at.0 + 1))) (sym pairs)
-    (subst (λ ns. IsCounted suffixes ns (map pair_of es ++ (string_bytes n, canonical_in names (string_bytes n) at.0) ∷ []) (slice_set counts i (count_of names at.0 + 1))) (sym (names-put es more n c is)) counted))
+    grind (arith, names-put)
 
 -- the canonical name of a name that is new, by the counter of its class
 pub counted-name : (suffixes names : List (List ℕ)) (n suffix : List ℕ) (i k : ℕ) → i < length suffixes → class_of_name suffixes n ≡ slice_get suffixes i → unwrap_or (slice_get suffixes i) [] ≡ suffix → list_any (bytes_eq n) names ≡ false →
@@ -226,14 +190,11 @@ counted-name suffixes names n suffix i k within class given new count small =
     let at = class-at suffixes i within in
     let is : suffix ≡ at.0 = sym given ∙ ap (λ o. unwrap_or o []) at.1 in
     let number : k ≡ rank at.0 names n = count at.0 at.1 ∙ sym (rank-counted at.0 n names new) in
-    ap (joined (folder_of n)) (decimal-file k suffix small ∙ ap (canonical_file k) is ∙ ap (λ m. canonical_file m at.0) number) ∙ sym (canonical-at suffixes names n at.0 (class ∙ at.1))
+    grind (arith, decimal-file, canonical-at)
 
 -- what a counter reads as
 pub counter-read : (suffixes names : List (List ℕ)) (pairs : List (List ℕ × List ℕ)) (counts : List ℕ) → IsCounted suffixes names pairs counts → (i x : ℕ) → i < length suffixes → x ≡ get_or counts i x → x ≡ get_or counts i 0
-counter-read suffixes names pairs counts h i x within read =
-    let all : length counts ≡ length suffixes = ap length h.counted ∙ length-map suffixes (count_of names) in
-    read ∙ get_or_default counts i x 0 (subst (λ n. i < n) (sym all) within)
+counter-read suffixes names pairs counts h i x within read = grind (arith, length-map, get_or_default)
 
 pub text-or : (o : Option (Bor (List ℕ))) (d : Bor (List ℕ)) → (unwrap_or o d).now ≡ unwrap_or (option_copied o) d.now
-text-or None d = refl
-text-or (Some x) d = refl
+text-or o d = grind arith

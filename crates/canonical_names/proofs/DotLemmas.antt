@@ -1,8 +1,7 @@
 -- Suffixes begin with a dot, so they are looked for behind dots alone.
-use Rattle.std.proofs.Common.{◌≡◌, ℕ, ◌+◌, ◌<◌, ◌≤◌, ◌&&◌, ◌||◌, Bool, true, false, not, cond, List, [], ◌∷◌, ◌++◌, Option, Some, None, Bor, refl, ap, sym, ◌∙◌, subst, nat_eq, nat_le, eqb, eqb-true, length, take, drop, get_or, arith, one-add}
+use Rattle.std.proofs.Common.{◌≡◌, ℕ, ◌+◌, ◌<◌, ◌≤◌, ◌&&◌, ◌||◌, Bool, true, false, not, cond, List, [], ◌∷◌, ◌++◌, Option, Some, None, Bor, refl, ap, sym, ◌∙◌, subst, nat_eq, nat_le, eqb, eqb-true, length, take, drop, get_or, arith, one-add, length-append}
 use Rattle.std.specs.List.{position_or_len, prefix_len, list_any, list_all, before_first, after_first, starts_with}
 use Rattle.std.proofs.lemmas.Bool.{false≢true, and_parts, and_from}
-use Rattle.std.proofs.lemmas.List.{length-append}
 use Rattle.std.proofs.lemmas.List.Sums.{split_at_first, passes_at_first}
 use Rattle.std.proofs.lemmas.Str.Pattern.{IsSplitOnceResult, split_once_first}
 use Rattle.std.proofs.Math.Seq.{take-length}
@@ -14,26 +13,18 @@ use Rattle.canonical_names.proofs.ReplaceLemmas.{holds-split}
 
 -- a suffix is a dot, and something behind it
 pub dot-first : (s : List ℕ) → is_suffix s ≡ true → s ≡ 46 ∷ drop 1 s
-dot-first [] h = absurd (false≢true h)
-dot-first (c ∷ cs) h = ap (λ d. d ∷ cs) (eqb-true c 46 (and_parts (eqb c 46) _ h).0)
+dot-first s h = grind (arith, false≢true, eqb-true, and_parts)
 
 -- no text is as short as that of which a longer one is a part
 pub held-short : (s text : List ℕ) → holds s text ≡ true → length s ≤ length text
-held-short s text h =
-    let split = holds-split s text h in
-    let all : length text ≡ length split.0 + length (s ++ split.1) = ap length split.2 ∙ length-append split.0 (s ++ split.1) in
-    let part : length (s ++ split.1) ≡ length s + length split.1 = length-append s split.1 in
-    omega (arith, all, part)
+held-short s text h = grind (arith, holds-split, length-append)
 
 pub short-none : (text : List ℕ) (n : ℕ) → length text < n → (suffixes : List (List ℕ)) → list_all (λ s. nat_le n (length s)) suffixes ≡ true → list_any (λ s. holds s text) suffixes ≡ false
 short-none text n short [] all = refl
 short-none text n short (s ∷ suffixes) all =
     let parts = and_parts (nat_le n (length s)) (list_all (λ s. nat_le n (length s)) suffixes) all in
     let long : n ≤ length s = grind (arith, parts) in
-    elim (holds s text) as (λ b. holds s text ≡ b → (b || list_any (λ s. holds s text) suffixes) ≡ false) [
-      | true ↦ λ e. absurd (let bound : length s ≤ length text = held-short s text e in omega (arith, bound, short, long))
-      | false ↦ λ _. short-none text n short suffixes parts.1
-    ] refl
+    grind (arith, held-short, (short-none text n short suffixes parts.1))
 
 -- where a text that begins with a dot stands in one that lacks dots, or has one
 lacks-none : (r text : List ℕ) → lacks 46 text ≡ true → holds (46 ∷ r) text ≡ false
@@ -73,19 +64,14 @@ dot-split bs x h =
     let found : get_or bs (position_or_len (λ b. eqb b 46) bs) 0 ≡ 46 = eqb-true _ 46 (passes_at_first (λ b. eqb b 46) bs 0 at.0) in
     let whole : bs ≡ front ++ (get_or bs (position_or_len (λ b. eqb b 46) bs) 0 ∷ after_first (λ b. eqb b 46) bs) = split_at_first (λ b. eqb b 46) bs 0 at.0 in
     let back : x.1.now ≡ after_first (λ b. eqb b 46) bs = at.2 in
-    (front, whole ∙ ap (λ m. front ++ (m ∷ after_first (λ b. eqb b 46) bs)) found ∙ ap (λ k. front ++ (46 ∷ k)) (sym back), lacks-before bs)
+    grind (arith, lacks-before)
 
 -- of all suffixes
 each-or : {A : Type 0} (f g h : A → Bool) (xs : List A) (all : A → Bool) → list_all all xs ≡ true → ((x : A) → all x ≡ true → f x ≡ (g x || h x)) → list_any f xs ≡ (list_any g xs || list_any h xs)
 each-or f g h [] all every step = refl
 each-or f g h (x ∷ xs) all every step =
     let parts = and_parts (all x) (list_all all xs) every in
-    ap (λ b. b || list_any f xs) (step x parts.0) ∙ ap (λ b. (g x || h x) || b) (each-or f g h xs all parts.1 step) ∙ turned (g x) (h x) (list_any g xs) (list_any h xs) where
-      turned : (a b c d : Bool) → ((a || b) || (c || d)) ≡ ((a || c) || (b || d))
-      turned true b c d = refl
-      turned false true true d = refl
-      turned false true false d = refl
-      turned false false c d = refl
+    grind (arith, (each-or f g h xs all parts.1 step))
 
 pub dots-none : (text : List ℕ) (suffixes : List (List ℕ)) → list_all is_suffix suffixes ≡ true → lacks 46 text ≡ true → list_any (λ s. holds s text) suffixes ≡ false
 dots-none text [] all none = refl
@@ -95,10 +81,7 @@ dots-none text (s ∷ suffixes) all none =
 
 pub dots-behind : (text front back : List ℕ) (suffixes : List (List ℕ)) → list_all is_suffix suffixes ≡ true → text ≡ front ++ 46 ∷ back → lacks 46 front ≡ true →
     list_any (λ s. holds s text) suffixes ≡ (list_any (λ s. starts_with nat_eq back (drop 1 s)) suffixes || list_any (λ s. holds s back) suffixes)
-dots-behind text front back suffixes all is none =
-    each-or (λ s. holds s text) (λ s. starts_with nat_eq back (drop 1 s)) (λ s. holds s back) suffixes is_suffix all
-    (λ s ok. let dot = dot-first s ok in
-    ap (holds s) is ∙ ap (λ z. holds z (front ++ 46 ∷ back)) dot ∙ behind-dot (drop 1 s) front back none ∙ ap (λ z. starts_with nat_eq back (drop 1 s) || holds z back) (sym dot))
+dots-behind text front back suffixes all is none = grind (arith, each-or, dot-first, behind-dot)
 
 -- no suffix is empty
 pub least-one : (suffixes : List (List ℕ)) → list_all is_suffix suffixes ≡ true → list_all (λ s. nat_le 1 (length s)) suffixes ≡ true
@@ -107,4 +90,4 @@ least-one (s ∷ suffixes) all =
     let parts = and_parts (is_suffix s) (list_all is_suffix suffixes) all in
     let long : length s ≡ length (46 ∷ drop 1 s) = ap length (dot-first s parts.0) in
     let one : nat_le 1 (length s) ≡ true = grind (arith, long) in
-    and_from (nat_le 1 (length s)) (list_all (λ s. nat_le 1 (length s)) suffixes) one (least-one suffixes parts.1)
+    grind (arith, and_from, (least-one suffixes parts.1))

@@ -1,6 +1,5 @@
 -- File names of paths that end in a given text.
-use Rattle.std.proofs.Common.{◌≡◌, ℕ, ◌-◌, ◌++◌, ◌&&◌, ◌||◌, true, false, not, cond, eqb, List, [], ◌∷◌, Option, Some, None, refl, ap, sym, ◌∙◌, subst, nat_eq, length, take, reverse, append_assoc, append-nil, codes, bytes_eq}
-use Rattle.std.specs.List.{ends_with}
+use Rattle.std.proofs.Common.{◌≡◌, ℕ, ◌-◌, ◌++◌, ◌&&◌, ◌||◌, true, false, not, cond, eqb, List, [], ◌∷◌, Option, Some, None, refl, ap, sym, ◌∙◌, subst, nat_eq, length, take, reverse, append_assoc, append-nil, codes, bytes_eq, arith}
 use Rattle.std.specs.Option.{option_map_or}
 use Rattle.std.proofs.lemmas.Bool.{false≢true, and_parts, or_right}
 use Rattle.std.proofs.lemmas.List.{reverse-append, reverse-reverse}
@@ -15,10 +14,7 @@ use Rattle.canonical_names.proofs.CanonicalLemmas.{ends-split, ends-append}
 
 -- a text of three characters and more is a proper name
 long-proper : (x y z : ℕ) (rest : List ℕ) → proper_name (x ∷ y ∷ z ∷ rest) ≡ Some (x ∷ y ∷ z ∷ rest)
-long-proper x y z rest =
-    ap (λ b. cond (b || (eqb x 46 && (eqb y 46 && false))) None (Some (x ∷ y ∷ z ∷ rest))) (and-false (eqb x 46))
-    ∙ ap (λ b. cond (eqb x 46 && b) None (Some (x ∷ y ∷ z ∷ rest))) (and-false (eqb y 46))
-    ∙ ap (λ b. cond b None (Some (x ∷ y ∷ z ∷ rest))) (and-false (eqb x 46))
+long-proper x y z rest = simp and-false
 
 pub proper-behind : (front : List ℕ) (x y z : ℕ) (rest : List ℕ) → proper_name (front ++ x ∷ y ∷ z ∷ rest) ≡ Some (front ++ x ∷ y ∷ z ∷ rest)
 proper-behind [] x y z rest = long-proper x y z rest
@@ -39,27 +35,20 @@ proper-cicc text h =
     let begin = take (length text - length s) text in
     let split = ends-split text s h in
     let proper : proper_name text ≡ Some text = subst (λ z. proper_name z ≡ Some z) (sym split) (proper-behind begin 46 99 112 (codes "p1.ii")) in
-    ap is_cicc_file proper ∙ h
+    grind arith
 
 cicc-proper : (text : List ℕ) → is_cicc_file (proper_name text) ≡ true → is_cicc_word text ≡ true
-cicc-proper text h =
-    elim (bytes_eq text [] || (bytes_eq text (codes ".") || bytes_eq text (codes ".."))) as (λ b. is_cicc_file (cond b None (Some text)) ≡ true → is_cicc_word text ≡ true)
-    [ true ↦ λ k. absurd (false≢true k) | false ↦ λ k. k ] h
+cicc-proper text h = grind (arith, false≢true)
 
 -- the file name of a path that ends in a bare text
 pub bare-relative : (text : List ℕ) → is_bare text ≡ true → is_absolute_path text ≡ false
-bare-relative [] h = refl
-bare-relative (c ∷ cs) h = not-is 47 c (and_parts (not (eqb c 47)) (lacks 47 cs) h).0
+bare-relative text h = grind (arith, not-is, and_parts)
 
 joined-nothing : (text : List ℕ) → joined [] text ≡ text
 joined-nothing text = elim (is_absolute_path text) as (λ b. cond b text text ≡ text) [ true ↦ refl | false ↦ refl ]
 
 joined-slash : (a text : List ℕ) → is_bare text ≡ true → joined (a ++ 47 ∷ []) text ≡ (a ++ 47 ∷ []) ++ text
-joined-slash a text bare =
-    let base = a ++ 47 ∷ [] in
-    let none : separator_after base ≡ [] = ap (λ b. cond b [] (codes "/")) (or_right (eqb (length base) 0) (ends_with nat_eq base (codes "/")) (ends-append a (codes "/"))) in
-    ap (λ b. cond b text ((base ++ separator_after base) ++ text)) (bare-relative text bare)
-    ∙ ap (λ z. (base ++ z) ++ text) none ∙ ap (λ z. z ++ text) (append-nil base)
+joined-slash a text bare = simp (or_right, ends-append, bare-relative, append-nil)
 
 pub any-front : (front text : List ℕ) → is_bare text ≡ true → ((b : List ℕ) → proper_name (b ++ text) ≡ Some (b ++ text)) → (b : List ℕ) × (file_name_of (front ++ text) ≡ Some (b ++ text))
 any-front front text bare proper = by_split (split_at_last 47 front) refl where
@@ -100,9 +89,7 @@ last-front (c ∷ front) text =
 trimmed-behind : (u more : List ℕ) → trimmed (is_idle false) (u ++ 45 ∷ more) ≡ trimmed (is_idle false) (u ++ 45 ∷ []) ++ more
 trimmed-behind [] [] = refl
 trimmed-behind [] (d ∷ more) = refl
-trimmed-behind (c ∷ []) more =
-    elim (is_idle false c (45 ∷ [])) as (λ b. cond b (trimmed (is_idle false) (45 ∷ more)) (c ∷ 45 ∷ more) ≡ cond b (trimmed (is_idle false) (45 ∷ [])) (c ∷ 45 ∷ []) ++ more)
-    [ true ↦ trimmed-behind [] more | false ↦ refl ]
+trimmed-behind (c ∷ []) more = grind (arith, (trimmed-behind [] more))
 trimmed-behind (c ∷ d ∷ u) more =
     elim (is_idle false c (d ∷ u)) as (λ b. cond b (trimmed (is_idle false) (d ∷ (u ++ 45 ∷ more))) (c ∷ d ∷ (u ++ 45 ∷ more)) ≡ cond b (trimmed (is_idle false) (d ∷ (u ++ 45 ∷ []))) (c ∷ d ∷ (u ++ 45 ∷ [])) ++ more)
     [ true ↦ trimmed-behind (d ∷ u) more | false ↦ ap (λ z. c ∷ d ∷ z) (sym (append_assoc u (45 ∷ []) more)) ]

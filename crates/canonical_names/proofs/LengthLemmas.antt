@@ -23,8 +23,7 @@ over m ps = filter (λ p. not (nat_le (length p.0) m)) ps
 module _ (P : Pair → Type 0) where
   insert-each : (ps : List Pair) (p : Pair) → AllByRecursion P ps → P p → AllByRecursion P (insert_pair ps p)
   insert-each [] p all one = (one, tt)
-  insert-each (q ∷ qs) p all one =
-      elim (nat_lt (length q.0) (length p.0)) as (λ b. AllByRecursion P (cond b (p ∷ q ∷ qs) (q ∷ insert_pair qs p))) [ true ↦ (one, all) | false ↦ (all.0, insert-each qs p all.1 one) ]
+  insert-each (q ∷ qs) p all one = grind (arith, (insert-each qs p all.1 one))
 
   fold-each : (ps sorted : List Pair) → AllByRecursion P ps → AllByRecursion P sorted → AllByRecursion P (fold insert_pair sorted ps)
   fold-each [] sorted all done = done
@@ -34,20 +33,12 @@ module _ (P : Pair → Type 0) where
 module _ (m : ℕ) where
   insert-long : (p : Pair) → m < length p.0 → (longs shorts : List Pair) → AllByRecursion (λ q. length q.0 ≤ m) shorts → insert_pair (longs ++ shorts) p ≡ insert_pair longs p ++ shorts
   insert-long p long [] [] all = refl
-  insert-long p long [] (q ∷ qs) all =
-      let short = all.0 in
-      let less : nat_lt (length q.0) (length p.0) ≡ true = grind (arith, short, long) in
-      ap (λ b. cond b (p ∷ q ∷ qs) (q ∷ insert_pair qs p)) less
-  insert-long p long (q ∷ qs) shorts all =
-      elim (nat_lt (length q.0) (length p.0)) as (λ b. cond b (p ∷ q ∷ (qs ++ shorts)) (q ∷ insert_pair (qs ++ shorts) p) ≡ cond b (p ∷ q ∷ qs) (q ∷ insert_pair qs p) ++ shorts)
-      [ true ↦ refl | false ↦ ap (λ ps. q ∷ ps) (insert-long p long qs shorts all) ]
+  insert-long p long [] (q ∷ qs) all = grind arith
+  insert-long p long (q ∷ qs) shorts all = grind (arith, (insert-long p long qs shorts all))
 
   insert-short : (p : Pair) → length p.0 ≤ m → (longs shorts : List Pair) → AllByRecursion (λ q. m < length q.0) longs → insert_pair (longs ++ shorts) p ≡ longs ++ insert_pair shorts p
   insert-short p short [] shorts all = refl
-  insert-short p short (q ∷ qs) shorts all =
-      let long = all.0 in
-      let more : nat_lt (length q.0) (length p.0) ≡ false = grind (arith, short, long) in
-      ap (λ b. cond b (p ∷ q ∷ (qs ++ shorts)) (q ∷ insert_pair (qs ++ shorts) p)) more ∙ ap (λ ps. q ∷ ps) (insert-short p short qs shorts all.1)
+  insert-short p short (q ∷ qs) shorts all = grind (arith, (insert-short p short qs shorts all.1))
 
   fold-cut : (ps longs shorts : List Pair) → AllByRecursion (λ q. m < length q.0) longs → AllByRecursion (λ q. length q.0 ≤ m) shorts →
       fold insert_pair (longs ++ shorts) ps ≡ fold insert_pair longs (over m ps) ++ fold insert_pair shorts (up_to m ps)
@@ -81,13 +72,7 @@ cut-none m ps text none = cut-by m ps text ∙ ap (replaced_by_all (longest_pair
 
 up_to-less : (k m : ℕ) → k ≤ m → (ps : List Pair) → up_to k (up_to m ps) ≡ up_to k ps
 up_to-less k m le [] = refl
-up_to-less k m le (p ∷ ps) =
-    elim (nat_le (length p.0) m) as (λ b. nat_le (length p.0) m ≡ b → up_to k (cond b (p ∷ up_to m ps) (up_to m ps)) ≡ cond (nat_le (length p.0) k) (p ∷ up_to k ps) (up_to k ps)) [
-      | true ↦ λ _. ap (λ qs. cond (nat_le (length p.0) k) (p ∷ qs) qs) (up_to-less k m le ps)
-      | false ↦ λ e.
-          let none : nat_le (length p.0) k ≡ false = grind (arith, e, le) in
-          up_to-less k m le ps ∙ sym (ap (λ b. cond b (p ∷ up_to k ps) (up_to k ps)) none)
-    ] refl
+up_to-less k m le (p ∷ ps) = grind (arith, (up_to-less k m le ps))
 
 -- names that are longer than a text don't stand in it
 pub longest-begun : (ps : List Pair) (text : List ℕ) → replaced_by_all (longest_pairs_first ps) text ≡ replaced_by_all (longest_pairs_first (up_to (length text) ps)) text
@@ -109,32 +94,17 @@ longest-begun ps text = cut-none (length text) ps text (too-long ps) where
 -- what the search for the longest name tells
 module _ (text : List ℕ) (m : ℕ) where
   longer-more : (best : ℕ) (n : List ℕ) → best ≤ longer text m best n
-  longer-more best n =
-      elim (nat_lt best (length n) && (nat_le (length n) m && holds n text)) as (λ b. (nat_lt best (length n) && (nat_le (length n) m && holds n text)) ≡ b → best ≤ cond b (length n) best) [
-        | true ↦ λ e. let less : nat_lt best (length n) ≡ true = (and_parts (nat_lt best (length n)) _ e).0 in grind (arith, less)
-        | false ↦ λ _. omega arith
-      ] refl
+  longer-more best n = grind (arith, and_parts)
 
   pub longer-least : (best : ℕ) (n : List ℕ) → nat_le (length n) m ≡ true → holds n text ≡ true → length n ≤ longer text m best n
-  longer-least best n le held =
-      subst (λ (b : Bool). length n ≤ cond (nat_lt best (length n) && b) (length n) best) (sym (ap (λ b. b && holds n text) le ∙ held))
-      (elim (nat_lt best (length n)) as (λ b. nat_lt best (length n) ≡ b → length n ≤ cond (b && true) (length n) best)
-      [ true ↦ λ _. omega arith | false ↦ λ e. grind (arith, e) ] refl)
+  longer-least best n le held = grind arith
 
   longer-bound : (best : ℕ) (n : List ℕ) → best ≤ m → longer text m best n ≤ m
-  longer-bound best n le =
-      elim (nat_lt best (length n)) as (λ b. cond (b && (nat_le (length n) m && holds n text)) (length n) best ≤ m) [
-        | true ↦ elim (nat_le (length n) m) as (λ b. nat_le (length n) m ≡ b → cond (b && holds n text) (length n) best ≤ m)
-            [ true ↦ λ e. elim (holds n text) as (λ b. cond b (length n) best ≤ m) [ true ↦ grind (arith, e) | false ↦ le ] | false ↦ λ _. le ] refl
-        | false ↦ le
-      ]
+  longer-bound best n le = grind arith
 
   pub fold-more : (names : List (List ℕ)) (best : ℕ) → best ≤ fold (longer text m) best names
   fold-more [] best = omega arith
-  fold-more (n ∷ names) best =
-      let one = longer-more best n in
-      let rest = fold-more names (longer text m best n) in
-      omega (arith, one, rest)
+  fold-more (n ∷ names) best = grind (arith, longer-more, (fold-more names (longer text m best n)))
 
   fold-bound : (names : List (List ℕ)) (best : ℕ) → best ≤ m → fold (longer text m) best names ≤ m
   fold-bound [] best le = le
@@ -147,20 +117,7 @@ module _ (text : List ℕ) (m : ℕ) where
   none-over k [] best le = tt
   none-over k (p ∷ ps) best le =
       let rest = none-over k ps (longer text m best p.0) le in
-      elim (nat_le (length p.0) m) as (λ b. nat_le (length p.0) m ≡ b → AllByRecursion (λ p. holds p.0 text ≡ false) (over k (cond b (p ∷ up_to m ps) (up_to m ps)))) [
-        | true ↦ λ e. elim (nat_le (length p.0) k) as (λ b. nat_le (length p.0) k ≡ b → AllByRecursion (λ p. holds p.0 text ≡ false) (cond (not b) (p ∷ over k (up_to m ps)) (over k (up_to m ps)))) [
-          | true ↦ λ _. rest
-          | false ↦ λ f. (
-            elim (holds p.0 text) as (λ h. holds p.0 text ≡ h → h ≡ false) [
-              | true ↦ λ h.
-                  absurd (let least = longer-least best p.0 e h in let more = fold-more (old_names ps) (longer text m best p.0) in let above : k < length p.0 = grind (arith, f) in omega (arith, least, more, above, le))
-              | false ↦ λ _. refl
-            ] refl,
-            rest,
-          )
-        ] refl
-        | false ↦ λ _. rest
-      ] refl
+      grind (arith, longer-least, fold-more)
 
   pub longest-next : (ps : List Pair) → replaced_by_all (longest_pairs_first (up_to m ps)) text ≡ replaced_by_all (longest_pairs_first (up_to (longest_in text m (old_names ps)) ps)) text
   longest-next ps =
@@ -170,10 +127,7 @@ module _ (text : List ℕ) (m : ℕ) where
 -- those of one length
 equal-last : (k : ℕ) (p : Pair) → length p.0 ≡ k → (done : List Pair) → AllByRecursion (λ q. length q.0 ≡ k) done → insert_pair done p ≡ done ++ p ∷ []
 equal-last k p is [] all = refl
-equal-last k p is (q ∷ qs) all =
-    let here = all.0 in
-    let more : nat_lt (length q.0) (length p.0) ≡ false = grind (arith, here, is) in
-    ap (λ b. cond b (p ∷ q ∷ qs) (q ∷ insert_pair qs p)) more ∙ ap (λ ps. q ∷ ps) (equal-last k p is qs all.1)
+equal-last k p is (q ∷ qs) all = grind (arith, (equal-last k p is qs all.1))
 
 module _ (k : ℕ) (some : 0 < k) where
   -- a pair among those of at most k bytes and over k - 1 is one of k bytes

@@ -1,5 +1,5 @@
 -- Runs for which the laws of renaming fail once a premise is left out.
-use Rattle.std.proofs.Common.{◌≡◌, ℕ, List, [], ◌∷◌, Bool, true, false, get_or, Option, None, map, refl, sym, ap, ◌∙◌, codes, Contains, bytes_eq}
+use Rattle.std.proofs.Common.{◌≡◌, ℕ, List, [], ◌∷◌, Bool, true, false, get_or, Option, None, map, refl, sym, ap, ◌∙◌, codes, Contains, bytes_eq, arith}
 use Rattle.std.specs.Cmp.Lexicographic.{pointwise}
 use Rattle.std.proofs.lemmas.Bool.{false≢true}
 use Rattle.std.proofs.lemmas.List.Elements.{All-from_recursion, All-contains}
@@ -33,11 +33,7 @@ b = codes "b.cpp1.ii"
 
 -- a map of one name to another in no folder, of the same class
 pub one_name : (from to : List ℕ) → folder_of to ≡ folder_of from → class_of_name standard_suffixes to ≡ class_of_name standard_suffixes from → IsRenaming standard_suffixes (from ∷ []) (λ _. to)
-one_name from to folder class = record {
-  one_to_one = λ m n hm hn e. among_one from m hm ∙ sym (among_one from n hn);
-  keeps_folder = λ n h. folder ∙ sym (ap folder_of (among_one from n h));
-  keeps_class = λ n h. class ∙ sym (ap (class_of_name standard_suffixes) (among_one from n h));
-}
+one_name from to folder class = grind (arith, among_one)
 
 -- the words `b, -a` and `a, -a`, the suffix left out, of which the latter run isn't clean
 pub clean_to_unclean : Alike standard_suffixes (naming b (codes "-a.cpp1.ii")) (naming a (codes "-a.cpp1.ii"))
@@ -112,13 +108,13 @@ pub one_run_second_clean : OneRunIsAlikeSecondUnclean → ⊥
 one_run_second_clean law =
     let alike = law standard_suffixes standard-are_suffixes canonical_reference own_reference refl refl in
     let cores : codes "-x_0.cpp1.ii" ≡ codes "-b.cpp1.ii" = ap core_told alike.2 in
-    false≢true (ap (λ t. bytes_eq t (codes "-b.cpp1.ii")) cores)
+    grind (arith, false≢true)
 
 pub one_run_first_clean : OneRunIsAlikeFirstUnclean → ⊥
 one_run_first_clean law =
     let alike = law standard_suffixes standard-are_suffixes own_reference canonical_reference refl refl in
     let cores : codes "-b.cpp1.ii" ≡ codes "-x_0.cpp1.ii" = ap core_told alike.2 in
-    false≢true (ap (λ t. bytes_eq t (codes "-x_0.cpp1.ii")) cores)
+    grind (arith, false≢true)
 
 -- a text that refers to a name becomes generated once the name is replaced, by a suffix of the caller's
 abbrev own_suffixes : List (List ℕ)

@@ -1,9 +1,8 @@
 -- A clean run is renamed once for all.
-use Rattle.std.proofs.Common.{◌≡◌, ℕ, zero, suc, ◌-◌, ◌++◌, Bool, true, false, cond, List, [], ◌∷◌, Option, Some, None, map, refl, ap, sym, ◌∙◌, subst, nat_eq, length, fold, drop, option_map, sub-one}
+use Rattle.std.proofs.Common.{◌≡◌, ℕ, zero, suc, ◌-◌, ◌++◌, Bool, true, false, cond, List, [], ◌∷◌, Option, Some, None, map, refl, ap, sym, ◌∙◌, subst, nat_eq, length, fold, drop, option_map, sub-one, arith}
 use Rattle.std.specs.List.{Contains, All, AllByRecursion, ends_with, starts_with, filter_map}
 use Rattle.std.proofs.lemmas.List.Elements.{All-nil, All-contains}
 use Rattle.texts.specs.Lists.{with_name}
-use Rattle.texts.specs.Numeral.{numeral}
 use Rattle.texts.specs.Path.{joined, folder_of, separator_after}
 use Rattle.command_lines.specs.CommandLines.{CommandLine, words_of_command}
 use Rattle.command_lines.specs.Replacing.{replaced, replaced_past}
@@ -26,13 +25,7 @@ past-itself : (x : ℕ) (xs : List ℕ) (k : ℕ) (text : List ℕ) → replaced
 past-itself x xs zero [] = refl
 past-itself x xs (suc k) [] = refl
 past-itself x xs (suc k) (c ∷ cs) = past-itself x xs k cs
-past-itself x xs zero (c ∷ cs) =
-    elim (starts_with nat_eq (c ∷ cs) (x ∷ xs)) as (λ b. starts_with nat_eq (c ∷ cs) (x ∷ xs) ≡ b → cond b (x ∷ xs) (c ∷ []) ++ replaced_past (cond b (length (x ∷ xs) - 1) 0) (x ∷ xs) (x ∷ xs) cs ≡ c ∷ cs) [
-      | true ↦ λ e.
-          ap (λ n. (x ∷ xs) ++ replaced_past n (x ∷ xs) (x ∷ xs) cs) (sub-one (suc (length xs)))
-          ∙ ap (λ t. (x ∷ xs) ++ t) (past-itself x xs (length xs) cs) ∙ sym (starts-split (c ∷ cs) (x ∷ xs) e)
-      | false ↦ λ _. ap (λ t. c ∷ t) (past-itself x xs zero cs)
-    ] refl
+past-itself x xs zero (c ∷ cs) = grind (arith, sub-one, starts-split, (past-itself x xs (length xs) cs), (past-itself x xs zero cs))
 
 replaced-itself : (front : List ℕ) (x : ℕ) (xs text : List ℕ) → replaced (front ++ x ∷ xs) (front ++ x ∷ xs) text ≡ text
 replaced-itself [] x xs text = past-itself x xs zero text
@@ -55,7 +48,7 @@ module _ (suffixes : List (List ℕ)) (lawful : AreSuffixes suffixes) (names : L
   rank-kept : (class n : List ℕ) (seen xs : List (List ℕ)) → names ≡ fold add seen xs → Contains seen n → rank class seen n ≡ rank class names n
   rank-kept class n seen xs all h =
       let rest = fold-front seen xs in
-      sym (ap (λ ns. rank class ns n) (all ∙ rest.1) ∙ rank-found class n seen rest.0 (member-among seen n h))
+      grind (arith, rank-found, member-among)
 
   -- a canonical name, among canonical names, is its own canonical name
   canonical-again : (seen xs : List (List ℕ)) → names ≡ fold add seen xs → (n : List ℕ) → Contains seen n → canonical_name suffixes (map f seen) (f n) ≡ f n
@@ -73,8 +66,7 @@ module _ (suffixes : List (List ℕ)) (lawful : AreSuffixes suffixes) (names : L
   name-itself : (n text : List ℕ) → Contains names n → replaced (f n) (f n) text ≡ text
   name-itself n text hn =
       let class : HasClass suffixes n = All-contains (HasClass suffixes) names n classes hn in
-      subst (λ z. replaced z z text ≡ text) (sym (canonical-at suffixes names n class.0 class.1))
-      (replaced-itself (folder_of n ++ separator_after (folder_of n)) 120 (95 ∷ (numeral (rank class.0 names n) ++ class.0)) text)
+      grind (arith, canonical-at, replaced-itself)
 
   each-again : (seen xs : List (List ℕ)) → names ≡ fold add seen xs → (text : List ℕ) (part : List (List ℕ)) → ((n : List ℕ) → Contains part n → Contains seen n) →
       AllByRecursion (λ m. replaced m (canonical_name suffixes (map f seen) m) text ≡ text) (map f part)
@@ -90,8 +82,7 @@ module _ (suffixes : List (List ℕ)) (lawful : AreSuffixes suffixes) (names : L
 
   -- what a renamed word is made of
   through : (t : List ℕ) (o : Option (List ℕ)) → core_through (λ n. n) t o ≡ t
-  through t None = refl
-  through t (Some c) = refl
+  through t o = grind arith
 
   abbrev new_word : List ℕ → Option (List ℕ) → List ℕ
   new_word word o = head_of word ++ core_by_all names (core_of word) o
@@ -109,8 +100,7 @@ module _ (suffixes : List (List ℕ)) (lawful : AreSuffixes suffixes) (names : L
 
   -- the new core of a word stays
   class-member : (word class : List ℕ) (b : Bool) → cond b None (class_of_name suffixes (core_of word)) ≡ Some class → Contains suffixes class
-  class-member word class true e = cc
-  class-member word class false e = (find-found (ends_with nat_eq (core_of word)) suffixes class e).0
+  class-member word class b e = grind (arith, find-found)
 
   core-stays : (seen xs : List (List ℕ)) (word : List ℕ) (o : Option (List ℕ)) → class_of suffixes word ≡ o → names ≡ fold add (with_name seen (option_map (λ (_ : List ℕ). core_of word) o)) xs →
       renamed_core suffixes (map f seen) (core_through f (core_of word) o) o ≡ core_by_all names (core_of word) o
@@ -126,12 +116,7 @@ module _ (suffixes : List (List ℕ)) (lawful : AreSuffixes suffixes) (names : L
 
   word-again : (seen xs : List (List ℕ)) (word : List ℕ) (o : Option (List ℕ)) → class_of suffixes word ≡ o → names ≡ fold add (with_name seen (option_map (λ (_ : List ℕ). core_of word) o)) xs →
       renamed_word suffixes (map f seen) (new_word word o) ≡ new_word word o
-  word-again seen xs word o e all =
-      let new = new_word word o in
-      ap (λ h. h ++ renamed_core suffixes (map f seen) (core_of new) (class_of suffixes new)) (head-again word o e)
-      ∙ ap (λ c. head_of word ++ renamed_core suffixes (map f seen) (core_of new) c) (class-again word o e)
-      ∙ ap (λ t. head_of word ++ renamed_core suffixes (map f seen) t o) (core-again word o e)
-      ∙ ap (λ t. head_of word ++ t) (core-stays seen xs word o e all)
+  word-again seen xs word o e all = grind (arith, head-again, class-again, core-again, core-stays)
 
   seen-again : (seen xs : List (List ℕ)) (word : List ℕ) (o : Option (List ℕ)) → class_of suffixes word ≡ o → names ≡ fold add (with_name seen (option_map (λ (_ : List ℕ). core_of word) o)) xs →
       seen_after_word suffixes (map f seen) (new_word word o) ≡ map f (with_name seen (option_map (λ (_ : List ℕ). core_of word) o))
@@ -154,9 +139,7 @@ module _ (suffixes : List (List ℕ)) (lawful : AreSuffixes suffixes) (names : L
       let behind : names ≡ fold add next later = all ∙ ap (λ s. fold add s xs) (words-names suffixes next words) ∙ sym (fold-append next (filter_map (generated_name suffixes) words) xs) in
       let new = word_by_all suffixes names word in
       let news = map (word_by_all suffixes names) words in
-      ap (λ t. t ∷ renamed_words suffixes (seen_after_word suffixes (map f seen) new) news) (word-again seen later word (class_of suffixes word) refl behind)
-      ∙ ap (λ s. new ∷ renamed_words suffixes s news) (seen-again seen later word (class_of suffixes word) refl behind)
-      ∙ ap (λ t. new ∷ t) (words-again next words xs all)
+      grind (arith, word-again, seen-again, (words-again next words xs all))
 
   seen-words : (seen words xs : List (List ℕ)) → names ≡ fold add (seen_after suffixes seen words) xs → seen_after suffixes (map f seen) (map (word_by_all suffixes names) words) ≡ map f (seen_after suffixes seen words)
   seen-words seen [] xs all = refl
@@ -164,8 +147,7 @@ module _ (suffixes : List (List ℕ)) (lawful : AreSuffixes suffixes) (names : L
       let next = seen_after_word suffixes seen word in
       let later = filter_map (generated_name suffixes) words ++ xs in
       let behind : names ≡ fold add next later = all ∙ ap (λ s. fold add s xs) (words-names suffixes next words) ∙ sym (fold-append next (filter_map (generated_name suffixes) words) xs) in
-      ap (λ s. seen_after suffixes s (map (word_by_all suffixes names) words)) (seen-again seen later word (class_of suffixes word) refl behind)
-      ∙ seen-words next words xs all
+      grind (arith, seen-again, (seen-words next words xs all))
 
   run-again : (seen : List (List ℕ)) (commands : List CommandLine) → names ≡ fold (λ seen command. seen_after suffixes seen (words_of_command command)) seen commands →
       renamed_after suffixes (map f seen) (map (command_by_all suffixes names) commands) ≡ map (command_by_all suffixes names) commands
@@ -175,9 +157,7 @@ module _ (suffixes : List (List ℕ)) (lawful : AreSuffixes suffixes) (names : L
       let next = seen_after suffixes seen words in
       let behind : names ≡ fold add next (appearances suffixes commands) = all ∙ run-names suffixes next commands in
       let news = map (command_by_all suffixes names) commands in
-      ap (λ ws. with_words command ws ∷ renamed_after suffixes (seen_after suffixes (map f seen) (map (word_by_all suffixes names) words)) news) (words-again seen words (appearances suffixes commands) behind)
-      ∙ ap (λ s. command_by_all suffixes names command ∷ renamed_after suffixes s news) (seen-words seen words (appearances suffixes commands) behind)
-      ∙ ap (λ t. command_by_all suffixes names command ∷ t) (run-again next commands all)
+      grind (arith, words-again, seen-words, (run-again next commands all))
 
 pub renamed-once : RenamedOnceForAll
 renamed-once suffixes lawful commands clean =

@@ -37,7 +37,7 @@ module _ (xs ys : List (List ℕ)) (i : ℕ) (one : i < length xs) (other : i < 
       let x = at-place xs i one in
       let y = at-place ys i other in
       let same : bytes_eq x.0 y.0 ≡ b = sym (ap (λ o. is_some_and (λ a. is_some_and (bytes_eq a) (slice_get ys i)) o) x.1 ∙ ap (is_some_and (bytes_eq x.0)) y.1) ∙ h in
-      ap (λ l. pointwise bytes_eq l (drop i ys)) x.2 ∙ ap (pointwise bytes_eq (x.0 ∷ drop (i + 1) xs)) y.2 ∙ ap (λ t. t && pointwise bytes_eq (drop (i + 1) xs) (drop (i + 1) ys)) same
+      grind arith
 
   pub equal-later : is_some_and (λ a. is_some_and (bytes_eq a) (slice_get ys i)) (slice_get xs i) ≡ true → pointwise bytes_eq (drop (i + 1) xs) (drop (i + 1) ys) ≡ pointwise bytes_eq (drop i xs) (drop i ys)
   equal-later h = sym (both true h)

@@ -34,20 +34,15 @@ fold-append seen (x ∷ xs) ys = fold-append (add seen x) xs ys
 
 -- the names of a run are the different ones among the names that appear
 one-name : (o : Option (List ℕ)) (seen more : List (List ℕ)) → fold add (with_name seen o) more ≡ fold add seen (cons_option o more)
-one-name None seen more = refl
-one-name (Some n) seen more = refl
+one-name o seen more = grind arith
 
 pub words-names : (suffixes seen words : List (List ℕ)) → seen_after suffixes seen words ≡ fold add seen (filter_map (generated_name suffixes) words)
 words-names suffixes seen [] = refl
-words-names suffixes seen (word ∷ words) =
-    words-names suffixes (seen_after_word suffixes seen word) words ∙ one-name (generated_name suffixes word) seen (filter_map (generated_name suffixes) words)
+words-names suffixes seen (word ∷ words) = simp (one-name, (words-names suffixes (seen_after_word suffixes seen word) words))
 
 pub run-names : (suffixes seen : List (List ℕ)) (commands : List CommandLine) → fold (λ seen command. seen_after suffixes seen (words_of_command command)) seen commands ≡ fold add seen (appearances suffixes commands)
 run-names suffixes seen [] = refl
-run-names suffixes seen (command ∷ commands) =
-    run-names suffixes (seen_after suffixes seen (words_of_command command)) commands
-    ∙ ap (λ s. fold add s (appearances suffixes commands)) (words-names suffixes seen (words_of_command command))
-    ∙ sym (fold-append seen (filter_map (generated_name suffixes) (words_of_command command)) (appearances suffixes commands))
+run-names suffixes seen (command ∷ commands) = grind (arith, words-names, fold-append, (run-names suffixes (seen_after suffixes seen (words_of_command command)) commands))
 
 -- names that were seen stay in front
 pub fold-front : (seen xs : List (List ℕ)) → (more : List (List ℕ)) × (fold add seen xs ≡ seen ++ more)
@@ -65,29 +60,25 @@ module _ (class name : List ℕ) where
   count names = length (filter (λ n. ends_with nat_eq n class) names)
 
   count-cons : (n : List ℕ) (names : List (List ℕ)) → cond (ends_with nat_eq n class) 1 0 + count names ≡ count (n ∷ names)
-  count-cons n names =
-      elim (ends_with nat_eq n class) as (λ t. cond t 1 0 + count names ≡ length (cond t (n ∷ filter (λ n. ends_with nat_eq n class) names) (filter (λ n. ends_with nat_eq n class) names)))
-      [ true ↦ omega arith | false ↦ omega arith ]
+  count-cons n names = grind arith
 
   pub rank-absent : (seen : List (List ℕ)) → among seen ≡ false → rank class seen name ≡ count seen
   rank-absent [] h = refl
   rank-absent (n ∷ seen) h =
       let parts = or_parts (bytes_eq n name) (among seen) h in
-      ap (λ b. cond b 0 (cond (ends_with nat_eq n class) 1 0 + rank class seen name)) parts.0
-      ∙ ap (λ k. cond (ends_with nat_eq n class) 1 0 + k) (rank-absent seen parts.1) ∙ count-cons n seen
+      grind (arith, count-cons, (rank-absent seen parts.1))
 
   pub rank-settled : (seen more : List (List ℕ)) → among seen ≡ false → rank class (seen ++ name ∷ more) name ≡ count seen
   rank-settled [] more h = ap (λ b. cond b 0 (cond (ends_with nat_eq name class) 1 0 + rank class more name)) (bytes_eq-itself name)
   rank-settled (n ∷ seen) more h =
       let parts = or_parts (bytes_eq n name) (among seen) h in
-      ap (λ b. cond b 0 (cond (ends_with nat_eq n class) 1 0 + rank class (seen ++ name ∷ more) name)) parts.0
-      ∙ ap (λ k. cond (ends_with nat_eq n class) 1 0 + k) (rank-settled seen more parts.1) ∙ count-cons n seen
+      grind (arith, count-cons, (rank-settled seen more parts.1))
 
   among-push : (seen : List (List ℕ)) (x : List ℕ) → among seen ≡ false → bytes_eq x name ≡ false → among (seen ++ x ∷ []) ≡ false
   among-push [] x h k = or_from (bytes_eq x name) false k refl
   among-push (n ∷ seen) x h k =
       let parts = or_parts (bytes_eq n name) (among seen) h in
-      or_from (bytes_eq n name) (among (seen ++ x ∷ [])) parts.0 (among-push seen x parts.1 k)
+      grind (arith, or_from, (among-push seen x parts.1 k))
 
   among-add : (seen : List (List ℕ)) (x : List ℕ) → among seen ≡ false → bytes_eq x name ≡ false → among (add seen x) ≡ false
   among-add seen x h k = cond_both (list_any (bytes_eq x) seen) seen (seen ++ x ∷ []) (λ s. among s ≡ false) (λ _. h) (λ _. among-push seen x h k)
@@ -129,5 +120,4 @@ module _ (class name : List ℕ) where
       ] refl
 
 pub rank-counts_names : RankCountsNames
-rank-counts_names suffixes commands name class =
-    ap (λ names. rank class names name) (run-names suffixes [] commands) ∙ rank-over class name [] (appearances suffixes commands) refl
+rank-counts_names suffixes commands name class = simp (run-names, rank-over)

@@ -1,8 +1,7 @@
 -- References in the order of their lengths, and what they make of a text.
-use Rattle.std.proofs.Common.{◌≡◌, ℕ, ◌+◌, ◌-◌, ◌<◌, ◌||◌, ◌++◌, true, false, cond, List, [], ◌∷◌, Option, Some, None, is_some, map, refl, ap, sym, ◌∙◌, subst, nat_eq, nat_lt, length, fold, take, arith, append_assoc}
+use Rattle.std.proofs.Common.{◌≡◌, ℕ, ◌+◌, ◌-◌, ◌<◌, ◌||◌, ◌++◌, true, false, cond, List, [], ◌∷◌, Option, Some, None, is_some, map, refl, ap, sym, ◌∙◌, subst, nat_eq, nat_lt, length, fold, take, arith, append_assoc, length-append}
 use Rattle.std.specs.List.{list_any, list_all, ends_with, AllByRecursion, Contains}
 use Rattle.std.proofs.lemmas.Bool.{false≢true, and_parts}
-use Rattle.std.proofs.lemmas.List.{length-append}
 use Rattle.command_lines.specs.Replacing.{replaced}
 use Rattle.canonical_names.specs.Alike.{holds}
 use Rattle.canonical_names.specs.Counted.{has_class, with_canonical}
@@ -19,9 +18,7 @@ use Rattle.canonical_names.proofs.SuffixLemmas.{each-member, each-suffix, none-m
 module _ (f : List ℕ → List ℕ) where
   insert-mapped : (names : List (List ℕ)) (n : List ℕ) → insert_pair (map (λ m. (m, f m)) names) (n, f n) ≡ map (λ m. (m, f m)) (insert_by_length names n)
   insert-mapped [] n = refl
-  insert-mapped (m ∷ names) n =
-      elim (nat_lt (length m) (length n)) as (λ b. cond b ((n, f n) ∷ (m, f m) ∷ map (λ k. (k, f k)) names) ((m, f m) ∷ insert_pair (map (λ k. (k, f k)) names) (n, f n)) ≡ map (λ k. (k, f k)) (cond b (n ∷ m ∷ names) (m ∷ insert_by_length names n)))
-      [ true ↦ refl | false ↦ ap (λ ps. (m, f m) ∷ ps) (insert-mapped names n) ]
+  insert-mapped (m ∷ names) n = grind (arith, (insert-mapped names n))
 
   fold-mapped : (names sorted : List (List ℕ)) → fold insert_pair (map (λ m. (m, f m)) sorted) (map (λ m. (m, f m)) names) ≡ map (λ m. (m, f m)) (fold insert_by_length sorted names)
   fold-mapped [] sorted = refl
@@ -41,25 +38,23 @@ rewritten-by_pairs suffixes names pairs is text =
 
 -- no name is empty
 first-some : (s : List ℕ) → is_suffix s ≡ true → 0 < length s
-first-some [] h = absurd (false≢true h)
-first-some (c ∷ cs) h = omega arith
+first-some s h = grind (arith, false≢true)
 
 pub class-found : (suffixes : List (List ℕ)) (n : List ℕ) (o : Option (List ℕ)) → class_of_name suffixes n ≡ o → is_some o ≡ true → (c : List ℕ) × Contains suffixes c × (ends_with nat_eq n c ≡ true)
-class-found suffixes n None e h = absurd (false≢true h)
-class-found suffixes n (Some c) e h = let found = find-found (ends_with nat_eq n) suffixes c e in (c, found.0, found.1)
+class-found suffixes n o e h = grind (arith, false≢true, find-found)
 
 named-some : (suffixes : List (List ℕ)) → are_suffixes suffixes ≡ true → (n : List ℕ) → has_class suffixes n ≡ true → 0 < length n
 named-some suffixes accepted n h =
     let class = class-found suffixes n (class_of_name suffixes n) refl h in
     let some = first-some class.0 (each-member is_suffix suffixes class.0 (each-suffix suffixes accepted) class.1) in
     let parts : length n ≡ length (take (length n - length class.0) n) + length class.0 = ap length (ends-split n class.0 class.2) ∙ length-append (take (length n - length class.0) n) class.0 in
-    omega (arith, some, parts)
+    grind arith
 
 names-some : (suffixes : List (List ℕ)) → are_suffixes suffixes ≡ true → (names : List (List ℕ)) → list_all (has_class suffixes) names ≡ true → AllByRecursion (λ n. 0 < length n) names
 names-some suffixes accepted [] h = tt
 names-some suffixes accepted (n ∷ names) h =
     let parts = and_parts (has_class suffixes n) (list_all (has_class suffixes) names) h in
-    (named-some suffixes accepted n parts.0, names-some suffixes accepted names parts.1)
+    grind (arith, named-some, (names-some suffixes accepted names parts.1))
 
 pairs-some : (f : List ℕ → List ℕ) (names : List (List ℕ)) → AllByRecursion (λ n. 0 < length n) names → AllByRecursion (λ (p : List ℕ × List ℕ). 0 < length p.0) (map (λ m. (m, f m)) names)
 pairs-some f [] h = tt
@@ -89,7 +84,7 @@ pub no-suffix-no_names : (suffixes names : List (List ℕ)) (text : List ℕ) �
 no-suffix-no_names suffixes [] text classes none = refl
 no-suffix-no_names suffixes (n ∷ names) text classes none =
     let parts = and_parts (has_class suffixes n) (list_all (has_class suffixes) names) classes in
-    ap (λ b. b || list_any (λ m. holds m text) names) (name-needs_suffix suffixes text n parts.0 none) ∙ no-suffix-no_names suffixes names text parts.1 none
+    grind (arith, name-needs_suffix, (no-suffix-no_names suffixes names text parts.1 none))
 
 pub rewritten-none : (suffixes names : List (List ℕ)) (text : List ℕ) → list_all (has_class suffixes) names ≡ true → list_any (λ s. holds s text) suffixes ≡ false → text ≡ rewritten suffixes names text
 rewritten-none suffixes names text classes none =

@@ -1,5 +1,5 @@
 -- Words renamed one after the other.
-use Rattle.std.proofs.Common.{◌≡◌, ℕ, ◌+◌, suc, zero, List, [], ◌∷◌, ◌++◌, map, drop, take, append_assoc, refl, ap, sym, ◌∙◌, add-one}
+use Rattle.std.proofs.Common.{◌≡◌, ℕ, ◌+◌, suc, zero, List, [], ◌∷◌, ◌++◌, map, drop, take, append_assoc, refl, ap, sym, ◌∙◌, add-one, arith}
 use Rattle.command_lines.specs.CommandLines.{CommandLine, words_of_command}
 use Rattle.canonical_names.specs.Renaming.{renamed_word, renamed_words, seen_after_word, seen_after, with_words, renamed_after}
 
@@ -17,8 +17,7 @@ module _ (suffixes : List (List ℕ)) where
 
   pub seen-step : {A : Type 0} (f : A → List ℕ) (first names : List (List ℕ)) (args : List A) (i : ℕ) (x : A) (rest : List A) → drop i args ≡ x ∷ rest →
       names ≡ seen_after suffixes first (take i (map f args)) → seen_after_word suffixes names (f x) ≡ seen_after suffixes first (take (i + 1) (map f args))
-  seen-step f first names args i x rest is seen =
-      ap (λ ns. seen_after_word suffixes ns (f x)) seen ∙ sym (seen-last first (take i (map f args)) (f x)) ∙ (let more : take (i + 1) (map f args) ≡ take i (map f args) ++ f x ∷ [] = rw add-one (take-next f args i x rest is) in ap (seen_after suffixes first) (sym more))
+  seen-step f first names args i x rest is seen = grind (arith, seen-last, add-one, take-next)
 
   pub words-step : (names done target rest : List (List ℕ)) (w : List ℕ) → done ++ renamed_words suffixes names (w ∷ rest) ≡ target →
       (done ++ renamed_word suffixes names w ∷ []) ++ renamed_words suffixes (seen_after_word suffixes names w) rest ≡ target

@@ -1,12 +1,10 @@
 -- What std's search and replacement in texts make, by the definitions that compute.
-use Rattle.std.proofs.Common.{◌≡◌, ℕ, suc, zero, ◌+◌, ◌-◌, ◌<◌, ◌≤◌, ◌++◌, ◌||◌, Bool, true, false, cond, List, [], ◌∷◌, inl, inr, refl, ap, sym, ◌∙◌, subst, nat_eq, length, take, drop, arith, bytes_eq, MatchBool, None}
-use denote.Ref.{Bor}
+use Rattle.std.proofs.Common.{◌≡◌, ℕ, suc, zero, ◌+◌, ◌-◌, ◌<◌, ◌≤◌, ◌++◌, ◌||◌, Bool, true, false, cond, List, [], ◌∷◌, inl, inr, refl, ap, sym, ◌∙◌, subst, nat_eq, length, take, drop, arith, bytes_eq, MatchBool, None, Bor, length-append, take-append-drop, take_at}
 use Rattle.std.specs.List.{starts_with}
 use Rattle.std.specs.Str.Iter.{HasSubslice}
 use Rattle.std.specs.Str.Pattern.{LacksTextAt, FindsText, HasMatch}
 use Rattle.std.specs.Str.Replace.{ReplacesMatches}
 use Rattle.std.proofs.lemmas.Bool.{false≢true, or_right}
-use Rattle.std.proofs.lemmas.List.{length-append, take-append-drop, take_at}
 use Rattle.std.proofs.lemmas.Slice.Eq.{bytes_eq-Decides}
 use Rattle.std.proofs.lemmas.Str.Pattern.{contains_text}
 use Rattle.std.proofs.Math.Seq.{drop-append_seam}
@@ -20,9 +18,7 @@ pub starts-append : (n b : List ℕ) → starts_with nat_eq (n ++ b) n ≡ true
 starts-append n b = subst (λ t. bytes_eq n t ≡ true) (sym (take_at n b (length n) refl)) (bytes_eq-itself n)
 
 pub starts-split : (text n : List ℕ) → starts_with nat_eq text n ≡ true → text ≡ n ++ drop (length n) text
-starts-split text n h =
-    let front : n ≡ take (length n) text = (bytes_eq-Decides n (take (length n) text)).0 h in
-    sym (take-append-drop (length n) text) ∙ ap (λ t. t ++ drop (length n) text) (sym front)
+starts-split text n h = grind (arith, bytes_eq-Decides, take-append-drop)
 
 -- a text holds another where it is put together round it
 pub holds-within : (n a b : List ℕ) → holds n (a ++ (n ++ b)) ≡ true
@@ -45,13 +41,7 @@ holds-split n (c ∷ cs) h =
 
 -- what `contains` answers
 pub contains-holds : (r : Bool) (n s : List ℕ) → MatchBool r (HasMatch (FindsText n) s) (FindsText n s None) → r ≡ holds n s
-contains-holds r n s cases =
-    let both = contains_text r n s cases in
-    elim r as (λ b. r ≡ b → b ≡ holds n s) [
-      | true ↦ λ e. let parts = both.0 e in sym (ap (holds n) parts.2 ∙ holds-within n parts.0 parts.1)
-      | false ↦ λ e. elim (holds n s) as (λ t. holds n s ≡ t → false ≡ t)
-          [ true ↦ λ k. absurd (false≢true (sym e ∙ both.1 (holds-split n s k))) | false ↦ λ _. refl ] refl
-    ] refl
+contains-holds r n s cases = grind (arith, contains_text, holds-within, false≢true, holds-split)
 
 -- one place replaced
 module _ (old new : List ℕ) (some : 0 < length old) where
@@ -60,12 +50,7 @@ module _ (old new : List ℕ) (some : 0 < length old) where
   skip (o ∷ os) t = skip os t
 
   at-front : (os t : List ℕ) (o : ℕ) → old ≡ o ∷ os → replaced old new (old ++ t) ≡ new ++ replaced old new t
-  at-front os t o is =
-      let here : starts_with nat_eq (o ∷ (os ++ t)) old ≡ true = subst (λ z. starts_with nat_eq (z ++ t) old ≡ true) is (starts-append old t) in
-      let past : length old - 1 ≡ length os = let all : length old ≡ length (o ∷ os) = ap length is in omega (arith, all) in
-      ap (λ z. replaced old new (z ++ t)) is
-      ∙ ap (λ b. cond b new (o ∷ []) ++ replaced_past (cond b (length old - 1) 0) old new (os ++ t)) here
-      ∙ ap (λ k. new ++ replaced_past k old new (os ++ t)) past ∙ ap (λ r. new ++ r) (skip os t)
+  at-front os t o is = grind (arith, starts-append, skip)
 
   begun : (l : List ℕ) → old ≡ l → (t : List ℕ) → replaced old new (old ++ t) ≡ new ++ replaced old new t
   begun [] is t = absurd (let none : length old ≡ 0 = ap length is in omega (arith, none))

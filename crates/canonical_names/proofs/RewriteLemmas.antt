@@ -1,5 +1,5 @@
 -- A word that holds no name seen so far keeps its text.
-use Rattle.std.proofs.Common.{◌≡◌, ℕ, ◌++◌, ◌-◌, false, cond, List, [], ◌∷◌, refl, ap, ◌∙◌, nat_eq, nat_lt, length, fold}
+use Rattle.std.proofs.Common.{◌≡◌, ℕ, ◌++◌, ◌-◌, false, cond, List, [], ◌∷◌, refl, ap, ◌∙◌, nat_eq, nat_lt, length, fold, arith}
 use Rattle.std.specs.List.{list_any, starts_with, AllByRecursion}
 use Rattle.std.proofs.lemmas.Bool.{or_parts, cond_both}
 use Rattle.command_lines.specs.Replacing.{replaced, replaced_past}
@@ -13,14 +13,13 @@ pub replaced-none : (old new text : List ℕ) → holds old text ≡ false → r
 replaced-none old new [] h = refl
 replaced-none old new (c ∷ cs) h =
     let parts = or_parts (starts_with nat_eq (c ∷ cs) old) (holds old cs) h in
-    ap (λ b. cond b new (c ∷ []) ++ replaced_past (cond b (length old - 1) 0) old new cs) parts.0 ∙ ap (λ t. c ∷ t) (replaced-none old new cs parts.1)
+    grind (arith, (replaced-none old new cs parts.1))
 
 -- what holds of each name holds of each in the order of their lengths
 module _ (P : List ℕ → Type 0) where
   pub insert-each : (names : List (List ℕ)) (name : List ℕ) → AllByRecursion P names → P name → AllByRecursion P (insert_by_length names name)
   insert-each [] name all one = (one, tt)
-  insert-each (n ∷ ns) name all one =
-      cond_both (nat_lt (length n) (length name)) (name ∷ n ∷ ns) (n ∷ insert_by_length ns name) (AllByRecursion P) (λ _. (one, all)) (λ _. (all.0, insert-each ns name all.1 one))
+  insert-each (n ∷ ns) name all one = grind (arith, cond_both, (insert-each ns name all.1 one))
 
   pub fold-each : (names sorted : List (List ℕ)) → AllByRecursion P names → AllByRecursion P sorted → AllByRecursion P (fold insert_by_length sorted names)
   fold-each [] sorted all done = done
@@ -31,7 +30,7 @@ pub none-each : (text : List ℕ) (names : List (List ℕ)) → list_any (λ n. 
 none-each text [] h = tt
 none-each text (n ∷ ns) h =
     let parts = or_parts (holds n text) (list_any (λ n. holds n text) ns) h in
-    (parts.0, none-each text ns parts.1)
+    grind (arith, (none-each text ns parts.1))
 
 -- names that don't stand in a text are replaced nowhere
 pub fold-none : (new : List ℕ → List ℕ) (text : List ℕ) (names : List (List ℕ)) → AllByRecursion (λ n. holds n text ≡ false) names → fold (λ t name. replaced name (new name) t) text names ≡ text

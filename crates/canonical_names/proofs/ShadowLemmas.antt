@@ -1,5 +1,5 @@
 -- Which renamed words are options, inputs of cicc, and outputs that open a group.
-use Rattle.std.proofs.Common.{◌≡◌, ℕ, ◌-◌, ◌++◌, ◌&&◌, ◌⊎◌, Bool, true, false, not, cond, eqb, eqb-true, List, [], ◌∷◌, Option, Some, None, inl, inr, refl, ap, sym, ◌∙◌, nat_eq, length, take, drop, append_assoc, codes}
+use Rattle.std.proofs.Common.{◌≡◌, ℕ, ◌-◌, ◌++◌, ◌&&◌, ◌⊎◌, Bool, true, false, not, cond, eqb, eqb-true, List, [], ◌∷◌, Option, Some, None, inl, inr, refl, ap, sym, ◌∙◌, nat_eq, length, take, drop, append_assoc, codes, arith}
 use Rattle.std.specs.List.{Contains, starts_with, ends_with}
 use Rattle.std.proofs.lemmas.Bool.{false≢true, and_parts, or_cases, not-true}
 use Rattle.std.proofs.lemmas.List.{append_cancel_left, append_cancel_right}
@@ -21,19 +21,13 @@ use Rattle.canonical_names.proofs.ReplaceLemmas.{starts-split}
 
 -- a word is something before its head and its core
 pub unmarked-core : (text : List ℕ) → starts_with nat_eq text (codes "-Fi") ≡ false → core_of text ≡ text
-unmarked-core [] h = refl
-unmarked-core (a ∷ []) h = refl
-unmarked-core (a ∷ b ∷ []) h = refl
-unmarked-core (a ∷ b ∷ c ∷ rest) h = (long-unmarked a b c rest (sym (mark-turned a b c) ∙ h)).whole
+unmarked-core text h = grind (arith, long-unmarked, mark-turned)
 
 unmarked-front : (text : List ℕ) → Unmarked text → (front : List ℕ) × (text ≡ front ++ (head_of text ++ core_of text))
 unmarked-front text u = ([], sym (ap (λ b. cond b (codes "-Fi") [] ++ core_of text) u.no_head ∙ u.whole))
 
 marked-text : (a b c : ℕ) (rest : List ℕ) → is_file_mark a b c ≡ true → a ∷ b ∷ c ∷ rest ≡ codes "-Fi" ++ rest
-marked-text a b c rest h =
-    let one = and_parts (eqb a 45 && eqb b 70) (eqb c 105) h in
-    let two = and_parts (eqb a 45) (eqb b 70) one.0 in
-    ap (λ x. x ∷ b ∷ c ∷ rest) (eqb-true a 45 two.0) ∙ ap (λ y. 45 ∷ y ∷ c ∷ rest) (eqb-true b 70 two.1) ∙ ap (λ z. 45 ∷ 70 ∷ z ∷ rest) (eqb-true c 105 one.1)
+marked-text a b c rest h = grind (arith, and_parts, eqb-true)
 
 marked-front : (rest : List ℕ) → (front : List ℕ) × (rest ≡ front ++ (head_of rest ++ core_of rest)) → (front : List ℕ) × (codes "-Fi" ++ rest ≡ front ++ (codes "-Fi" ++ core_of rest))
 marked-front rest more =
@@ -83,14 +77,7 @@ module _ (suffixes : List (List ℕ)) (lawful : AreSuffixes suffixes) (names : L
 
   -- a word stays, or it is no option before nor after
   kept-by_class : (word : List ℕ) → starts_with nat_eq word (codes "-Fi") ≡ false → (o : Option (List ℕ)) → class_of suffixes word ≡ o → (renamed_one word ≡ word) ⊎ (NoOption (renamed_one word) × NoOption word)
-  kept-by_class word e None k =
-      let whole = unmarked-core word e in
-      inl (ap (λ b. cond b (codes "-Fi") [] ++ core_by_all names (core_of word) (class_of suffixes word)) e ∙ ap (core_by_all names (core_of word)) k ∙ whole)
-  kept-by_class word e (Some class) k =
-      let whole = unmarked-core word e in
-      let dash = (not-dash suffixes lawful names word class (begins_with_dash (core_of word)) refl k).0 in
-      let is : renamed_one word ≡ canonical_in names (core_of word) class = ap (λ b. cond b (codes "-Fi") [] ++ core_by_all names (core_of word) (class_of suffixes word)) e ∙ ap (core_by_all names (core_of word)) k in
-      inr (inr (ap begins_with_dash is ∙ dash-canonical names (core_of word) class dash), inr (sym (ap begins_with_dash whole) ∙ dash))
+  kept-by_class word e o k = grind (arith, unmarked-core, not-dash, dash-canonical)
 
   pub word-kept : (word : List ℕ) → (renamed_one word ≡ word) ⊎ (NoOption (renamed_one word) × NoOption word)
   word-kept word =
@@ -103,13 +90,10 @@ module _ (suffixes : List (List ℕ)) (lawful : AreSuffixes suffixes) (names : L
       ] refl
 
   no-option : (test : List ℕ → Bool) → ((rest : List ℕ) → test (45 ∷ 70 ∷ rest) ≡ false) → ((text : List ℕ) → begins_with_dash text ≡ false → test text ≡ false) → (text : List ℕ) → NoOption text → test text ≡ false
-  no-option test marked plain text (inl (rest, e)) = ap test e ∙ marked rest
-  no-option test marked plain text (inr e) = plain text e
+  no-option test marked plain text h = grind arith
 
   pub test-kept : (test : List ℕ → Bool) → ((rest : List ℕ) → test (45 ∷ 70 ∷ rest) ≡ false) → ((text : List ℕ) → begins_with_dash text ≡ false → test text ≡ false) → (word : List ℕ) → test (renamed_one word) ≡ test word
-  test-kept test marked plain word =
-      elim (word-kept word) as (λ _. test (renamed_one word) ≡ test word)
-      [ inl is ↦ ap test is | inr both ↦ no-option test marked plain (renamed_one word) both.0 ∙ sym (no-option test marked plain word both.1) ]
+  test-kept test marked plain word = grind (arith, word-kept, no-option)
 
   -- a word that ends as cicc's input does, and begins with no `-`
   pub class-by_end : (class text : List ℕ) → Contains suffixes class → ends_with nat_eq text class ≡ true → class_of_name suffixes text ≡ Some class
@@ -123,11 +107,7 @@ module _ (suffixes : List (List ℕ)) (lawful : AreSuffixes suffixes) (names : L
       ∙ ap (λ b. cond b None (class_of_name suffixes word)) dash ∙ class-by_end (codes ".cpp1.ii") word lawful.input ends
 
   pub plain-word : (word : List ℕ) → begins_with_dash word ≡ false → is_cicc_word word ≡ true → renamed_one word ≡ canonical_in names word (codes ".cpp1.ii")
-  plain-word word dash ends =
-      let u = dash-unmarked word dash in
-      ap (λ b. cond b (codes "-Fi") [] ++ core_by_all names (core_of word) (class_of suffixes word)) u.no_head
-      ∙ ap (λ t. core_by_all names t (class_of suffixes word)) u.whole
-      ∙ ap (core_by_all names word) (plain-class word dash ends)
+  plain-word word dash ends = grind (arith, dash-unmarked, plain-class)
 
   pub bare-canonical : (word class : List ℕ) → is_bare word ≡ true → canonical_in names word class ≡ canonical_file (rank class names word) class
   bare-canonical word class bare = ap (λ d. joined d (canonical_file (rank class names word) class)) (folder-lacking word bare)
@@ -141,16 +121,15 @@ module _ (suffixes : List (List ℕ)) (lawful : AreSuffixes suffixes) (names : L
       let named = (not-dash suffixes lawful names word class (begins_with_dash (core_of word)) refl e).1 in
       let found = find-found (ends_with nat_eq (core_of word)) suffixes class named in
       let front = word-front word in
-      ap is_cicc_word front.1 ∙ cicc-front front.0 (head_of word ++ core_of word) (cicc-front (head_of word) (core_of word) (ap (ends_with nat_eq (core_of word)) same ∙ found.1))
+      grind (arith, cicc-front)
 
   class-member : (word class : List ℕ) → class_of suffixes word ≡ Some class → Contains suffixes class
-  class-member word class e =
-      (find-found (ends_with nat_eq (core_of word)) suffixes class (not-dash suffixes lawful names word class (begins_with_dash (core_of word)) refl e).1).0
+  class-member word class e = grind (arith, find-found, not-dash)
 
   cicc-by_class : (word : List ℕ) (o : Option (List ℕ)) → class_of suffixes word ≡ o → is_cicc_word (head_of word ++ core_by_all names (core_of word) o) ≡ true → is_cicc_word word ≡ true
   cicc-by_class word None e h =
       let front = word-front word in
-      ap is_cicc_word front.1 ∙ cicc-front front.0 (head_of word ++ core_of word) h
+      grind (arith, cicc-front)
   cicc-by_class word (Some class) e h =
       let text = head_of word ++ canonical_in names (core_of word) class in
       let begin = canonical-front names (core_of word) class in
@@ -172,15 +151,7 @@ module _ (suffixes : List (List ℕ)) (lawful : AreSuffixes suffixes) (names : L
   unread-by_class word k None e h =
       let front = word-front word in
       let file : is_cicc_file (file_name_of (head_of word ++ core_of word)) ≡ true = ap is_cicc_file h ∙ file-end k in
-      elim (starts_with nat_eq word (codes "-Fi")) as (λ b. starts_with nat_eq word (codes "-Fi") ≡ b → is_cicc_file (file_name_of word) ≡ true) [
-        | true ↦ λ s.
-            let head : head_of word ≡ codes "-Fi" = ap (λ b. cond b (codes "-Fi") []) s in
-            ap (λ z. is_cicc_file (file_name_of z)) (front.1 ∙ ap (λ z. front.0 ++ (z ++ core_of word)) head)
-            ∙ dash-file front.0 (70 ∷ 105 ∷ core_of word) (sym (ap (λ z. is_cicc_file (file_name_of (z ++ core_of word))) head) ∙ file)
-        | false ↦ λ s.
-            let head : head_of word ≡ [] = ap (λ b. cond b (codes "-Fi") []) s in
-            sym (ap (λ z. is_cicc_file (file_name_of (z ++ core_of word))) head ∙ ap (λ z. is_cicc_file (file_name_of z)) (unmarked-core word s)) ∙ file
-      ] refl
+      grind (arith, dash-file, unmarked-core)
   unread-by_class word k (Some class) e h =
       let core = core_of word in
       let hc = class-member word class e in
@@ -196,19 +167,7 @@ module _ (suffixes : List (List ℕ)) (lawful : AreSuffixes suffixes) (names : L
 
   opened-is : (word : List ℕ) (k : ℕ) → is_plain_output (Some word) ≡ true → file_name_of (renamed_one word) ≡ Some (canonical_file k (codes ".cpp1.ii")) →
       (begins_with_dash word ≡ false) × (is_cicc_word word ≡ true) × (rank (codes ".cpp1.ii") names word ≡ k)
-  opened-is word k plain h =
-      elim (or_cases (not (is_cicc_file (file_name_of word))) (not (begins_with_dash word) && is_cicc_word word) plain) as (λ _. (begins_with_dash word ≡ false) × (is_cicc_word word ≡ true) × (rank (codes ".cpp1.ii") names word ≡ k)) [
-        | inl none ↦ absurd (false≢true (sym (not-true (is_cicc_file (file_name_of word)) none) ∙ unread-by_class word k (class_of suffixes word) refl h))
-        | inr both ↦
-            let parts = and_parts (not (begins_with_dash word)) (is_cicc_word word) both in
-            let dash = not-true (begins_with_dash word) parts.0 in
-            let s = codes ".cpp1.ii" in
-            let j = rank s names word in
-            let files : canonical_file j s ≡ canonical_file k s =
-            same_Some (canonical_file j s) (canonical_file k s) (sym (ap file_name_of (plain-word word dash parts.1) ∙ canonical-file_name word s lawful.input) ∙ h) in
-            let digits : numeral j ≡ numeral k = append_cancel_right (numeral j) (numeral k) s (append_cancel_left (codes "x_") (numeral j ++ s) (numeral k ++ s) files) in
-            (dash, parts.1, numeral-same j k digits)
-      ]
+  opened-is word k plain h = grind (arith, or_cases, false≢true, not-true, unread-by_class, and_parts, same_Some, plain-word, canonical-file_name, append_cancel_right, append_cancel_left, numeral-same)
 
 pub plain-outputs_stay_apart : PlainOutputsStayApart
 plain-outputs_stay_apart suffixes lawful names word k plain h = opened-is suffixes lawful names word k plain h

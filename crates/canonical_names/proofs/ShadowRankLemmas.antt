@@ -1,5 +1,5 @@
 -- An input of cicc and the same one in a folder have one rank, each among those of its run.
-use Rattle.std.proofs.Common.{◌≡◌, ℕ, ◌+◌, ◌++◌, ◌&&◌, ◌||◌, Bool, true, false, cond, List, [], ◌∷◌, map, filter, refl, ap, sym, ◌∙◌, subst, nat_eq, fold, codes, bytes_eq, zero-add}
+use Rattle.std.proofs.Common.{◌≡◌, ℕ, ◌+◌, ◌++◌, ◌&&◌, ◌||◌, Bool, true, false, cond, List, [], ◌∷◌, map, filter, refl, ap, sym, ◌∙◌, subst, nat_eq, fold, codes, bytes_eq, zero-add, arith}
 use Rattle.std.specs.Cmp.Lexicographic.{pointwise}
 use Rattle.std.specs.List.{list_any, list_all, ends_with}
 use Rattle.std.proofs.lemmas.Bool.{false≢true, and_parts, and_from}
@@ -21,27 +21,15 @@ use Rattle.canonical_names.proofs.RankLemmas.{add, bytes_eq-itself, run-names}
 
 -- a name that is no input of cicc is another than one that is
 other-name : (n name : List ℕ) → is_cicc_word n ≡ false → is_cicc_word name ≡ true → bytes_eq n name ≡ false
-other-name n name e h =
-    elim (bytes_eq n name) as (λ b. bytes_eq n name ≡ b → b ≡ false)
-    [ true ↦ λ k. absurd (false≢true (sym e ∙ ap is_cicc_word ((bytes_eq-Decides n name).0 k) ∙ h)) | false ↦ λ _. refl ] refl
+other-name n name e h = grind (arith, false≢true, bytes_eq-Decides)
 
 name-other : (name n : List ℕ) → is_cicc_word n ≡ false → is_cicc_word name ≡ true → bytes_eq name n ≡ false
-name-other name n e h =
-    elim (bytes_eq name n) as (λ b. bytes_eq name n ≡ b → b ≡ false)
-    [ true ↦ λ k. absurd (false≢true (sym e ∙ sym (ap is_cicc_word ((bytes_eq-Decides name n).0 k)) ∙ h)) | false ↦ λ _. refl ] refl
+name-other name n e h = grind (arith, false≢true, bytes_eq-Decides)
 
 -- ranks among the inputs of cicc alone
 rank-filtered : (name : List ℕ) → is_cicc_word name ≡ true → (seen : List (List ℕ)) → rank (codes ".cpp1.ii") seen name ≡ rank (codes ".cpp1.ii") (filter is_cicc_word seen) name
 rank-filtered name h [] = refl
-rank-filtered name h (n ∷ seen) =
-    let s = codes ".cpp1.ii" in
-    let more = rank-filtered name h seen in
-    elim (is_cicc_word n) as (λ b. is_cicc_word n ≡ b → cond (bytes_eq n name) 0 (cond (ends_with nat_eq n s) 1 0 + rank s seen name) ≡ rank s (cond b (n ∷ filter is_cicc_word seen) (filter is_cicc_word seen)) name) [
-      | true ↦ λ e. ap (λ k. cond (bytes_eq n name) 0 (cond (ends_with nat_eq n s) 1 0 + k)) more
-      | false ↦ λ e.
-          ap (λ b. cond b 0 (cond (ends_with nat_eq n s) 1 0 + rank s seen name)) (other-name n name e h)
-          ∙ ap (λ b. cond b 1 0 + rank s seen name) e ∙ zero-add (rank s seen name) ∙ more
-    ] refl
+rank-filtered name h (n ∷ seen) = grind (arith, other-name, zero-add, (rank-filtered name h seen))
 
 -- the different ones among them
 any-filtered : (x : List ℕ) → is_cicc_word x ≡ true → (seen : List (List ℕ)) → list_any (bytes_eq x) (filter is_cicc_word seen) ≡ list_any (bytes_eq x) seen
@@ -60,56 +48,34 @@ push-in x h (n ∷ seen) =
 
 push-out : (x : List ℕ) → is_cicc_word x ≡ false → (seen : List (List ℕ)) → filter is_cicc_word (seen ++ x ∷ []) ≡ filter is_cicc_word seen
 push-out x h [] = ap (λ b. cond b (x ∷ []) []) h
-push-out x h (n ∷ seen) =
-    elim (is_cicc_word n) as (λ b. cond b (n ∷ filter is_cicc_word (seen ++ x ∷ [])) (filter is_cicc_word (seen ++ x ∷ [])) ≡ cond b (n ∷ filter is_cicc_word seen) (filter is_cicc_word seen))
-    [ true ↦ ap (λ t. n ∷ t) (push-out x h seen) | false ↦ push-out x h seen ]
+push-out x h (n ∷ seen) = simp (push-out x h seen)
 
 add-in : (x : List ℕ) → is_cicc_word x ≡ true → (seen : List (List ℕ)) → filter is_cicc_word (add seen x) ≡ add (filter is_cicc_word seen) x
-add-in x h seen =
-    let kept = filter is_cicc_word seen in
-    elim (list_any (bytes_eq x) seen) as (λ b. list_any (bytes_eq x) seen ≡ b → filter is_cicc_word (cond b seen (seen ++ x ∷ [])) ≡ cond (list_any (bytes_eq x) kept) kept (kept ++ x ∷ [])) [
-      | true ↦ λ e. sym (ap (λ b. cond b kept (kept ++ x ∷ [])) (any-filtered x h seen ∙ e))
-      | false ↦ λ e. push-in x h seen ∙ sym (ap (λ b. cond b kept (kept ++ x ∷ [])) (any-filtered x h seen ∙ e))
-    ] refl
+add-in x h seen = grind (arith, any-filtered, push-in)
 
 add-out : (x : List ℕ) → is_cicc_word x ≡ false → (seen : List (List ℕ)) → filter is_cicc_word (add seen x) ≡ filter is_cicc_word seen
-add-out x h seen =
-    elim (list_any (bytes_eq x) seen) as (λ b. filter is_cicc_word (cond b seen (seen ++ x ∷ [])) ≡ filter is_cicc_word seen)
-    [ true ↦ refl | false ↦ push-out x h seen ]
+add-out x h seen = grind (arith, push-out)
 
 fold-filtered : (xs seen : List (List ℕ)) → filter is_cicc_word (fold add seen xs) ≡ fold add (filter is_cicc_word seen) (filter is_cicc_word xs)
 fold-filtered [] seen = refl
-fold-filtered (x ∷ xs) seen =
-    fold-filtered xs (add seen x)
-    ∙ elim (is_cicc_word x) as (λ b. is_cicc_word x ≡ b → fold add (filter is_cicc_word (add seen x)) (filter is_cicc_word xs) ≡ fold add (filter is_cicc_word seen) (cond b (x ∷ filter is_cicc_word xs) (filter is_cicc_word xs))) [
-      | true ↦ λ e. ap (λ s. fold add s (filter is_cicc_word xs)) (add-in x e seen)
-      | false ↦ λ e. ap (λ s. fold add s (filter is_cicc_word xs)) (add-out x e seen)
-    ] refl
+fold-filtered (x ∷ xs) seen = grind (arith, add, add-in, add-out, (fold-filtered xs (add seen x)))
 
 rank-of_steps : (suffixes : List (List ℕ)) (commands : List CommandLine) (name : List ℕ) → is_cicc_word name ≡ true → rank (codes ".cpp1.ii") (names_of_run suffixes commands) name ≡ rank (codes ".cpp1.ii") (fold add [] (step_names suffixes commands)) name
-rank-of_steps suffixes commands name h =
-    let s = codes ".cpp1.ii" in
-    ap (λ ns. rank s ns name) (run-names suffixes [] commands)
-    ∙ rank-filtered name h (fold add [] (appearances suffixes commands))
-    ∙ ap (λ ns. rank s ns name) (fold-filtered (appearances suffixes commands) [])
+rank-of_steps suffixes commands name h = grind (arith, run-names, rank-filtered, add, fold-filtered)
 
 -- what holds of some names holds of the different ones among them
 all-filtered : (xs : List (List ℕ)) → list_all is_cicc_word (filter is_cicc_word xs) ≡ true
 all-filtered [] = refl
-all-filtered (x ∷ xs) =
-    elim (is_cicc_word x) as (λ b. is_cicc_word x ≡ b → list_all is_cicc_word (cond b (x ∷ filter is_cicc_word xs) (filter is_cicc_word xs)) ≡ true)
-    [ true ↦ λ e. and_from (is_cicc_word x) (list_all is_cicc_word (filter is_cicc_word xs)) e (all-filtered xs) | false ↦ λ _. all-filtered xs ] refl
+all-filtered (x ∷ xs) = grind (arith, and_from, (all-filtered xs))
 
 all-add : (test : List ℕ → Bool) (seen : List (List ℕ)) (x : List ℕ) → list_all test seen ≡ true → test x ≡ true → list_all test (add seen x) ≡ true
-all-add test seen x h k =
-    elim (list_any (bytes_eq x) seen) as (λ b. list_all test (cond b seen (seen ++ x ∷ [])) ≡ true)
-    [ true ↦ h | false ↦ all-append test seen (x ∷ []) h (and_from (test x) true k refl) ]
+all-add test seen x h k = grind (arith, all-append, and_from)
 
 all-fold : (test : List ℕ → Bool) (xs seen : List (List ℕ)) → list_all test xs ≡ true → list_all test seen ≡ true → list_all test (fold add seen xs) ≡ true
 all-fold test [] seen h k = k
 all-fold test (x ∷ xs) seen h k =
     let parts = and_parts (test x) (list_all test xs) h in
-    all-fold test xs (add seen x) parts.1 (all-add test seen x k parts.0)
+    grind (arith, add, all-add, (all-fold test xs (add seen x) parts.1 (all-add test seen x k parts.0)))
 
 -- Below, bare names are put into a folder.
 module _ (folder : List ℕ) where
@@ -117,29 +83,22 @@ module _ (folder : List ℕ) where
   cicc-joined_name n h = let split = joined-split folder n in ap is_cicc_word split.1 ∙ cicc-front split.0 n h
 
   bytes-joined : (m n : List ℕ) → is_bare m ≡ true → is_bare n ≡ true → bytes_eq (joined folder m) (joined folder n) ≡ bytes_eq m n
-  bytes-joined m n hm hn =
-      same-tests (bytes_eq (joined folder m) (joined folder n)) (bytes_eq m n)
-      (λ e. subst (λ z. bytes_eq m z ≡ true) (joined-cancels folder m n (bare-relative m hm) (bare-relative n hn) ((bytes_eq-Decides (joined folder m) (joined folder n)).0 e)) (bytes_eq-itself m))
-      (λ e. subst (λ z. bytes_eq (joined folder m) (joined folder z) ≡ true) ((bytes_eq-Decides m n).0 e) (bytes_eq-itself (joined folder m)))
+  bytes-joined m n hm hn = grind (arith, same-tests, joined-cancels, bare-relative, bytes_eq-Decides, bytes_eq-itself)
 
   any-joined : (x : List ℕ) → is_bare x ≡ true → (seen : List (List ℕ)) → list_all is_bare seen ≡ true → list_any (bytes_eq (joined folder x)) (map (joined folder) seen) ≡ list_any (bytes_eq x) seen
   any-joined x hx [] h = refl
   any-joined x hx (n ∷ seen) h =
       let parts = and_parts (is_bare n) (list_all is_bare seen) h in
-      ap (λ b. b || list_any (bytes_eq (joined folder x)) (map (joined folder) seen)) (bytes-joined x n hx parts.0)
-      ∙ ap (λ b. bytes_eq x n || b) (any-joined x hx seen parts.1)
+      grind (arith, bytes-joined, (any-joined x hx seen parts.1))
 
   add-joined : (seen : List (List ℕ)) (x : List ℕ) → list_all is_bare seen ≡ true → is_bare x ≡ true → add (map (joined folder) seen) (joined folder x) ≡ map (joined folder) (add seen x)
-  add-joined seen x h hx =
-      ap (λ b. cond b (map (joined folder) seen) (map (joined folder) seen ++ joined folder x ∷ [])) (any-joined x hx seen h)
-      ∙ elim (list_any (bytes_eq x) seen) as (λ b. cond b (map (joined folder) seen) (map (joined folder) seen ++ joined folder x ∷ []) ≡ map (joined folder) (cond b seen (seen ++ x ∷ [])))
-      [ true ↦ refl | false ↦ sym (map-append (joined folder) seen (x ∷ [])) ]
+  add-joined seen x h hx = grind (arith, any-joined, map-append)
 
   fold-joined : (xs seen : List (List ℕ)) → list_all is_bare xs ≡ true → list_all is_bare seen ≡ true → fold add (map (joined folder) seen) (map (joined folder) xs) ≡ map (joined folder) (fold add seen xs)
   fold-joined [] seen h k = refl
   fold-joined (x ∷ xs) seen h k =
       let parts = and_parts (is_bare x) (list_all is_bare xs) h in
-      ap (λ s. fold add s (map (joined folder) xs)) (add-joined seen x k parts.0) ∙ fold-joined xs (add seen x) parts.1 (all-add is_bare seen x k parts.0)
+      grind (arith, add, add-joined, all-add, (fold-joined xs (add seen x) parts.1 (all-add is_bare seen x k parts.0)))
 
   rank-joined : (name : List ℕ) → is_bare name ≡ true → (seen : List (List ℕ)) → list_all is_bare seen ≡ true → list_all is_cicc_word seen ≡ true →
       rank (codes ".cpp1.ii") (map (joined folder) seen) (joined folder name) ≡ rank (codes ".cpp1.ii") seen name
@@ -148,9 +107,7 @@ module _ (folder : List ℕ) where
       let s = codes ".cpp1.ii" in
       let parts = and_parts (is_bare n) (list_all is_bare seen) h in
       let ends = and_parts (is_cicc_word n) (list_all is_cicc_word seen) k in
-      ap (λ b. cond b 0 (cond (ends_with nat_eq (joined folder n) s) 1 0 + rank s (map (joined folder) seen) (joined folder name))) (bytes-joined n name parts.0 hn)
-      ∙ ap (λ b. cond (bytes_eq n name) 0 (cond b 1 0 + rank s (map (joined folder) seen) (joined folder name))) (cicc-joined_name n ends.0 ∙ sym ends.0)
-      ∙ ap (λ r. cond (bytes_eq n name) 0 (cond (ends_with nat_eq n s) 1 0 + r)) (rank-joined name hn seen parts.1 ends.1)
+      grind (arith, bytes-joined, cicc-joined_name, (rank-joined name hn seen parts.1 ends.1))
 
 pub step-names_keep_rank : StepNamesKeepRank
 step-names_keep_rank suffixes lawful first second folder h name bare ends =

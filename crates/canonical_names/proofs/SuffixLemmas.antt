@@ -23,18 +23,13 @@ pub each-suffix : (suffixes : List (List ℕ)) → are_suffixes suffixes ≡ tru
 each-suffix suffixes h = (and_parts (list_all is_suffix suffixes) (are_apart suffixes && list_any (bytes_eq (codes ".cpp1.ii")) suffixes) h).0
 
 pub all-apart : (suffixes : List (List ℕ)) → are_suffixes suffixes ≡ true → are_apart suffixes ≡ true
-all-apart suffixes h =
-    (and_parts (are_apart suffixes) (list_any (bytes_eq (codes ".cpp1.ii")) suffixes) (and_parts (list_all is_suffix suffixes) (are_apart suffixes && list_any (bytes_eq (codes ".cpp1.ii")) suffixes) h).1).0
+all-apart suffixes h = grind (arith, and_parts)
 
 input-member : (suffixes : List (List ℕ)) → are_suffixes suffixes ≡ true → Contains suffixes (codes ".cpp1.ii")
-input-member suffixes h =
-    any-member (codes ".cpp1.ii") suffixes
-    (and_parts (are_apart suffixes) (list_any (bytes_eq (codes ".cpp1.ii")) suffixes) (and_parts (list_all is_suffix suffixes) (are_apart suffixes && list_any (bytes_eq (codes ".cpp1.ii")) suffixes) h).1).1
+input-member suffixes h = grind (arith, any-member, and_parts)
 
 pub apart-parts : (s t : List ℕ) → is_apart s t ≡ true → (ends_with nat_eq s t ≡ false) × (ends_with nat_eq t s ≡ false)
-apart-parts s t h =
-    let parts = and_parts (not (ends_with nat_eq s t)) (not (ends_with nat_eq t s)) h in
-    (not-true (ends_with nat_eq s t) parts.0, not-true (ends_with nat_eq t s) parts.1)
+apart-parts s t h = grind (arith, and_parts, not-true)
 
 apart-members : (suffixes : List (List ℕ)) → are_apart suffixes ≡ true → (s t : List ℕ) → Contains suffixes s → Contains suffixes t → ends_with nat_eq s t ≡ true → s ≡ t
 apart-members [] h s t hs ht e = absurd (no-member s hs)

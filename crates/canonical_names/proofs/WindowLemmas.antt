@@ -1,10 +1,8 @@
 -- Which names of a length stand in a text, by the parts of it that have that length.
-use Rattle.std.proofs.Common.{◌≡◌, ℕ, ◌+◌, ◌-◌, ◌<◌, ◌≤◌, ◌&&◌, ◌||◌, Bool, true, false, cond, suc, zero, List, [], ◌∷◌, Some, is_some, map, refl, ap, sym, ◌∙◌, subst, eqb, eqb-true, nat_eq, nat_lt, nat_le, length, fold, take, drop, arith, string_bytes, String, get_or, add-one, bytes_eq, IsUtf8, IsCharBoundary}
-use Rattle.std.specs.declared.alloc.Global.{Global}
+use Rattle.std.proofs.Common.{◌≡◌, ℕ, ◌+◌, ◌-◌, ◌<◌, ◌≤◌, ◌&&◌, ◌||◌, Bool, true, false, cond, suc, zero, List, [], ◌∷◌, Some, is_some, map, refl, ap, sym, ◌∙◌, subst, eqb, eqb-true, nat_eq, nat_lt, nat_le, length, fold, take, drop, arith, string_bytes, String, get_or, add-one, bytes_eq, IsUtf8, IsCharBoundary, Global, length-take-le, length-append, take-append-drop}
 use Rattle.std.specs.List.{list_any, starts_with}
 use Rattle.std.specs.Map.{lookup}
 use Rattle.std.proofs.lemmas.Bool.{false≢true, or_parts, and_parts}
-use Rattle.std.proofs.lemmas.List.{length-take-le, length-append, take-append-drop}
 use Rattle.std.proofs.lemmas.Slice.Eq.{bytes_eq-Decides}
 use Rattle.std.proofs.lemmas.Str.{IsUtf8-string_bytes, IsUtf8-drop, IsCharBoundary-from_take, IsCharBoundary-from_rest, IsCharBoundary-start}
 use Rattle.std.proofs.Math.Bool.{and-false, and-or_distrib_left, and-true}
@@ -26,25 +24,16 @@ any-none f h (x ∷ xs) = ap (λ b. b || list_any f xs) (h x) ∙ any-none f h x
 
 any-or : {A : Type 0} (f g : A → Bool) (xs : List A) → (list_any f xs || list_any g xs) ≡ list_any (λ x. f x || g x) xs
 any-or f g [] = refl
-any-or f g (x ∷ xs) = turned (f x) (g x) (list_any f xs) (list_any g xs) ∙ ap (λ b. (f x || g x) || b) (any-or f g xs) where
-  turned : (a b c d : Bool) → ((a || c) || (b || d)) ≡ ((a || b) || (c || d))
-  turned true b c d = refl
-  turned false true true d = refl
-  turned false true false d = refl
-  turned false false c d = refl
+any-or f g (x ∷ xs) = grind (arith, (any-or f g xs))
 
 any-and : {A : Type 0} (a : Bool) (f : A → Bool) (xs : List A) → (a && list_any f xs) ≡ list_any (λ x. a && f x) xs
-any-and true f xs = refl
-any-and false f xs = sym (any-none (λ _. false) (λ _. refl) xs)
+any-and a f xs = grind (arith, any-none)
 
 module _ (k : ℕ) (names : List (List ℕ)) where
   -- a text that is shorter has no such part
   pub windows-none : (text : List ℕ) → length text < k → windows_are k names text ≡ false
   windows-none [] short = refl
-  windows-none (c ∷ cs) short =
-      let less : nat_le k (length (c ∷ cs)) ≡ false = grind (arith, short) in
-      let rest : windows_are k names cs ≡ false = windows-none cs (omega (arith, short)) in
-      ap (λ b. (b && window_is k names (c ∷ cs)) || windows_are k names cs) less ∙ rest
+  windows-none (c ∷ cs) short = grind (arith, (windows-none cs (omega (arith, short))))
 
   pub windows-from : 0 < k → (text : List ℕ) (i : ℕ) → i + k ≤ length text → windows_are k names (drop i text) ≡ (window_is k names (drop i text) || windows_are k names (drop (i + 1) text))
   windows-from some text i within = rw add-one (from text i within) where
@@ -112,21 +101,13 @@ module _ (k : ℕ) (names : List (List ℕ)) where
 -- the longest name, length by length
 module _ (text : List ℕ) (k : ℕ) where
   less-each : 0 < k → (n : List ℕ) → (eqb (length n) k && holds n text) ≡ false → (nat_le (length n) k && holds n text) ≡ (nat_le (length n) (k - 1) && holds n text)
-  less-each some n none =
-      elim (holds n text) as (λ h. (eqb (length n) k && h) ≡ false → (nat_le (length n) k && h) ≡ (nat_le (length n) (k - 1) && h)) [
-        | true ↦ λ e.
-            let other : eqb (length n) k ≡ false = sym (and-true (eqb (length n) k)) ∙ e in
-            let same : nat_le (length n) k ≡ nat_le (length n) (k - 1) = elim (nat_le (length n) k) as (λ b. nat_le (length n) k ≡ b → b ≡ nat_le (length n) (k - 1))
-            [ true ↦ λ a. grind (arith, a, other, some) | false ↦ λ a. grind (arith, a, some) ] refl in
-            ap (λ b. b && true) same
-        | false ↦ λ _. and-false (nat_le (length n) k) ∙ sym (and-false (nat_le (length n) (k - 1)))
-      ] none
+  less-each some n none = grind (arith, and-true, and-false)
 
   less-fold : 0 < k → (names : List (List ℕ)) (best : ℕ) → stand_of k names text ≡ false → fold (longer text k) best names ≡ fold (longer text (k - 1)) best names
   less-fold some [] best none = refl
   less-fold some (n ∷ names) best none =
       let parts = or_parts (eqb (length n) k && holds n text) (stand_of k names text) none in
-      ap (λ b. fold (longer text k) (cond (nat_lt best (length n) && b) (length n) best) names) (less-each some n parts.0) ∙ less-fold some names (longer text (k - 1) best n) parts.1
+      grind (arith, less-each, (less-fold some names (longer text (k - 1) best n) parts.1))
 
   pub longest-less : 0 < k → (names : List (List ℕ)) → stand_of k names text ≡ false → longest_in text k names ≡ longest_in text (k - 1) names
   longest-less some names none = less-fold some names 0 none
@@ -146,10 +127,7 @@ module _ (text : List ℕ) (k : ℕ) where
       ] refl h
 
   pub longest-stands : (names : List (List ℕ)) → stand_of k names text ≡ true → longest_in text k names ≡ k
-  longest-stands names h =
-      let least : k ≤ longest_in text k names = stands-least names 0 h in
-      let bound : longest_in text k names ≤ k = longest-bound text k names in
-      omega (arith, least, bound)
+  longest-stands names h = grind (arith, stands-least, longest-bound)
 
 pub longest-nothing : (text : List ℕ) (names : List (List ℕ)) → longest_in text 0 names ≡ 0
 longest-nothing text names = let bound : longest_in text 0 names ≤ 0 = longest-bound text 0 names in omega (arith, bound)
@@ -157,9 +135,7 @@ longest-nothing text names = let bound : longest_in text 0 names ≤ 0 = longest
 -- what is found in the map
 pub found-named : (es : List (String Global × String Global)) (part : List ℕ) → is_some (lookup (λ k. bytes_eq part (string_bytes k)) es) ≡ list_any (bytes_eq part) (old_names (map pair_of es))
 found-named [] part = refl
-found-named (e ∷ es) part =
-    elim (bytes_eq part (string_bytes e.0)) as (λ t. is_some (cond t (Some e.1) (lookup (λ k. bytes_eq part (string_bytes k)) es)) ≡ (t || list_any (bytes_eq part) (old_names (map pair_of es))))
-    [ true ↦ refl | false ↦ found-named es part ]
+found-named (e ∷ es) part = grind (arith, (found-named es part))
 
 -- a part that no characters make up is no name
 module _ (text : List ℕ) (utf8 : IsUtf8 text) (i k : ℕ) (some : 0 < k) (within : i + k ≤ length text) where
@@ -169,9 +145,7 @@ module _ (text : List ℕ) (utf8 : IsUtf8 text) (i k : ℕ) (some : 0 < k) (with
   enough (c ∷ cs) (suc i) le = enough cs i (omega (arith, le))
 
   front : (k : ℕ) (t : List ℕ) → 0 < k → get_or (take k t) 0 0 ≡ get_or t 0 0
-  front zero t lt = absurd (omega (arith, lt))
-  front (suc k) [] lt = refl
-  front (suc k) (c ∷ cs) lt = refl
+  front k t lt = grind arith
 
   dropped : (t : List ℕ) (i : ℕ) → get_or (drop i t) 0 0 ≡ get_or t i 0
   dropped t zero = refl

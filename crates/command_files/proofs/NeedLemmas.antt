@@ -1,10 +1,9 @@
 -- Needs by a test: they hold it, and by them the plan's own order is an order.
-use Rattle.std.proofs.Common.{◌≡◌, ℕ, zero, suc, ◌+◌, ◌<◌, List, [], ◌∷◌, ◌++◌, Bool, true, false, cond, ◌||◌, ◌==◌, length, take, get_or, refl, sym, ap, subst, ◌∙◌, arith}
+use Rattle.std.proofs.Common.{◌≡◌, ℕ, zero, suc, ◌+◌, ◌<◌, List, [], ◌∷◌, ◌++◌, Bool, true, false, cond, ◌||◌, ◌==◌, length, take, get_or, refl, sym, ap, subst, ◌∙◌, arith, append_assoc, append-nil, get_or-take, length-take-le}
 use Rattle.std.specs.List.{list_any, list_all, range_with_len}
 use Rattle.std.proofs.lemmas.Bool.{false≢true, eqb-true, eq-eqb}
 use Rattle.std.proofs.lemmas.List.Folds.{list_any-append}
 use Rattle.std.proofs.lemmas.List.Sorted.{IsPermutation-refl}
-use Rattle.std.proofs.lemmas.List.{append_assoc, append-nil, get_or-take, length-take-le}
 use Rattle.command_files.specs.Order.{numbers_where, needs_behind, needs_by, is_in, is_ready, needs_at, own_order, NeedsHold, OwnOrderIsOne}
 use Rattle.command_files.proofs.OrderLemmas.{in_either, in_first, in_second, in_both, passes}
 
@@ -49,13 +48,10 @@ pub needs_earlier : {X : Type 0} (needed : X → X → Bool) (d : X) (xs : List 
 needs_earlier needed d xs j m k e =
     let size : length (take j xs) ≡ j = length-take-le j xs (omega arith) in
     let below : m < 0 + length (take j xs) = numbers_below (λ x. needed x (get_or xs j d)) 0 (take j xs) m (sym (ap (λ ns. is_in ns m) (needs_at_place needed d [] xs j k)) ∙ e) in
-    omega arith
+    grind arith
 
 pub needs_hold : NeedsHold
-needs_hold test plan = record {
-  each = length-needs_behind test [] plan;
-  needed = λ i j h k e. needs_each test (record { reads = []; writes = [] }) plan i j h k e;
-}
+needs_hold test plan = grind (arith, length-needs_behind, needs_each)
 
 pub all_from : (test : ℕ → Bool) (ns : List ℕ) → ((m : ℕ) → is_in ns m ≡ true → test m ≡ true) → list_all test ns ≡ true
 all_from test [] f = refl
@@ -82,12 +78,7 @@ ready_in_order needs bound earlier done a (suc n) e known =
         below k = let differ : a ≡ m → ⊥ = λ s. false≢true (sym k ∙ eq-eqb a m s) in omega arith
 
 pub own_order_ready : {X : Type 0} (needed : X → X → Bool) (d : X) (xs : List X) → is_ready (needs_at (needs_by needed xs)) [] (own_order (needs_by needed xs)) ≡ true
-own_order_ready needed d xs =
-    let size = length-needs_behind needed [] xs in
-    ready_in_order (needs_at (needs_by needed xs)) (length xs) (λ j m h e. needs_earlier needed d xs j m h e) [] 0 (length (needs_by needed xs)) (omega arith) (λ m h. absurd (omega arith))
+own_order_ready needed d xs = grind (arith, length-needs_behind, ready_in_order, needs_earlier)
 
 pub own_order_is_one : OwnOrderIsOne
-own_order_is_one test plan = record {
-  each_once = IsPermutation-refl (own_order (needs_by test plan));
-  ready = own_order_ready test (record { reads = []; writes = [] }) plan;
-}
+own_order_is_one test plan = grind (arith, IsPermutation-refl, own_order_ready)

@@ -1,11 +1,8 @@
 -- What the code gathers for a command is what the command needs.
-use Rattle.std.proofs.Common.{◌≡◌, ℕ, suc, ◌+◌, ◌<◌, ◌≤◌, List, [], ◌∷◌, ◌++◌, true, false, ◌&&◌, ◌||◌, ◌==◌, nat_lt, length, take, drop, drop-cons, add-one, get_or, refl, sym, ap, ◌∙◌, arith, append_assoc}
-use Rattle.std.proofs.Math.Seq.{take-suc}
+use Rattle.std.proofs.Common.{◌≡◌, ℕ, suc, ◌+◌, ◌<◌, ◌≤◌, List, [], ◌∷◌, ◌++◌, true, false, ◌&&◌, ◌||◌, ◌==◌, nat_lt, length, take, drop, drop-cons, add-one, get_or, refl, sym, ap, ◌∙◌, arith, append_assoc, take-suc, ltb-true, lt-ltb, length-take-le}
 use Rattle.std.specs.List.{list_any}
 use Rattle.std.specs.List.Sorted.{IsStrictlyIncreasing}
 use Rattle.std.specs.Bool.{one_answer}
-use Rattle.std.proofs.lemmas.Bool.{ltb-true, lt-ltb}
-use Rattle.std.proofs.lemmas.List.{length-take-le}
 use Rattle.std.proofs.lemmas.List.Folds.{list_any-append}
 use Rattle.command_files.specs.declared.steps.Role.{Role}
 use Rattle.command_files.specs.declared.steps.Role.TheVariants as roles
@@ -19,10 +16,7 @@ use Rattle.command_files.proofs.TouchedLemmas.{both_of_three, share_sym, in_numb
 -- the numbers of a file with those of one command more
 pub one_later : (files : Step → List (List ℕ)) (steps : List Step) (n : ℕ) (s : Step) → n ≤ length steps → take (n + 1) steps ≡ take n steps ++ s ∷ [] →
     numbers_from files no_numbers 0 (take (n + 1) steps) ≡ with_numbers (numbers_from files no_numbers 0 (take n steps)) (files s) n
-one_later files steps n s h one_more =
-    ap (numbers_from files no_numbers 0) one_more
-    ∙ numbers_from_both files no_numbers 0 (take n steps) s
-    ∙ ap (with_numbers (numbers_from files no_numbers 0 (take n steps)) (files s)) (let size : length (take n steps) ≡ n = length-take-le n steps h in let all : 0 + length (take n steps) ≡ n = omega arith in all)
+one_later files steps n s h one_more = grind (arith, numbers_from_both, length-take-le)
 
 -- the commands before one that touch one of some paths share one with them
 in_shared : (files : Step → List (List ℕ)) (d : Step) (steps : List Step) (n : ℕ) (paths : List (List ℕ)) (m : ℕ) → n ≤ length steps → m < n →
@@ -38,10 +32,7 @@ in_shared files d steps n paths m h before =
 
 in_others : (d : Step) (steps : List Step) (role : Role) (m : ℕ) → m < length steps →
     is_in (numbers_for (role_numbers roles.DeviceStep steps) (role_numbers roles.Final steps) role) m ≡ role_needs role (get_or steps m d).role
-in_others d steps roles.Plain m h = refl
-in_others d steps roles.FrontStep m h = refl
-in_others d steps roles.DeviceStep m h = in_numbers (λ e. role_needs roles.DeviceStep e.role) d steps m h
-in_others d steps roles.Final m h = in_numbers (λ e. role_needs roles.Final e.role) d steps m h
+in_others d steps role m h = grind (arith, in_numbers)
 
 -- what is gathered for a command
 abbrev pub all_gathered : List Step → ℕ → Step → List ℕ
@@ -53,15 +44,7 @@ in_parts : (readers writers : Numbers) (others : List ℕ) (n : ℕ) (s : Step) 
     ((list_any (λ path. is_in (writers path) m) (read_by s)
     || (list_any (λ path. is_in (readers path) m) (written_by s) || list_any (λ path. is_in (writers path) m) (written_by s)))
     || is_in others m))
-in_parts readers writers others n s m =
-    let a : List ℕ = touching n writers (read_by s) in
-    let b : List ℕ = touching_either n readers writers (written_by s) in
-    let e : List ℕ = below n others in
-    list_any-append (λ k. k == m) a (b ++ e)
-    ∙ ap (λ x. is_in a m || x) (list_any-append (λ k. k == m) b e)
-    ∙ (λ i. in_touching n writers (read_by s) m i || (in_touching_either n readers writers (written_by s) m i || in_below n others m i))
-    ∙ both_of_three (nat_lt m n) (list_any (λ path. is_in (writers path) m) (read_by s))
-    (list_any (λ path. is_in (readers path) m) (written_by s) || list_any (λ path. is_in (writers path) m) (written_by s)) (is_in others m)
+in_parts readers writers others n s m = simp (list_any-append, in_touching, in_touching_either, in_below, both_of_three)
 
 in_gathered : (d : Step) (steps : List Step) (n : ℕ) (s : Step) (m : ℕ) → n + 1 ≤ length steps → take (n + 1) steps ≡ take n steps ++ s ∷ [] →
     is_in (all_gathered steps n s) m ≡ (nat_lt m n && step_needs (get_or steps m d) s)

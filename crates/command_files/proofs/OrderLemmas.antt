@@ -1,8 +1,6 @@
 -- Every order by the needs does what the plan's own order does.
-use Rattle.std.proofs.Common.{◌≡◌, ℕ, zero, suc, ◌+◌, ◌<◌, ◌≤◌, List, [], ◌∷◌, ◌++◌, Bool, true, false, cond, ◌&&◌, ◌||◌, ◌==◌, nat_lt, Option, Some, map, length, get_or, refl, sym, ap, subst, ◌∙◌, arith}
+use Rattle.std.proofs.Common.{◌≡◌, ℕ, zero, suc, ◌+◌, ◌<◌, ◌≤◌, List, [], ◌∷◌, ◌++◌, Bool, true, false, cond, ◌&&◌, ◌||◌, ◌==◌, nat_lt, Option, Some, map, length, get_or, refl, sym, ap, subst, ◌∙◌, arith, IsPermutation, bytes_eq}
 use Rattle.std.specs.List.{filter, list_any, list_all, range_with_len, sum_by}
-use Rattle.std.specs.Prelude.{IsPermutation}
-use Rattle.std.specs.Str.{bytes_eq}
 use Rattle.std.proofs.lemmas.Bool.{false≢true, and_parts, or_parts, eqb-true, eq-eqb, lt-ltb, ltb-true}
 use Rattle.std.proofs.lemmas.List.Folds.{list_any-append}
 use Rattle.std.proofs.lemmas.List.Sums.{sum_by-cons, sum_by-append}
@@ -14,29 +12,23 @@ use Rattle.command_files.specs.Order.{numbers_where, is_in, is_ready, needs_at, 
 -- Tests.
 
 pub in_either : {P : Type 0} (a b : Bool) → (a ≡ true → P) → (b ≡ true → P) → (a || b) ≡ true → P
-in_either true b f g e = f refl
-in_either false b f g e = g e
+in_either a b f g e = grind arith
 
 pub in_first : (a b : Bool) → a ≡ true → (a || b) ≡ true
-in_first true b e = refl
-in_first false b e = absurd (false≢true e)
+in_first a b e = grind (arith, false≢true)
 
 pub in_second : (a b : Bool) → b ≡ true → (a || b) ≡ true
-in_second true b e = refl
-in_second false b e = e
+in_second a b e = grind arith
 
 pub in_neither : (a b : Bool) → a ≡ false → b ≡ false → (a || b) ≡ false
-in_neither true b e f = absurd (false≢true (sym e))
-in_neither false b e f = f
+in_neither a b e f = grind (arith, false≢true)
 
 pub in_both : (a b : Bool) → a ≡ true → b ≡ true → (a && b) ≡ true
-in_both true b e f = f
-in_both false b e f = absurd (false≢true e)
+in_both a b e f = grind (arith, false≢true)
 
 -- a test that can't hold fails
 pub fails : (b : Bool) → (b ≡ true → ⊥) → b ≡ false
-fails true f = absurd (f refl)
-fails false f = refl
+fails b f = grind arith
 
 -- Commands that share no written file.
 
@@ -72,14 +64,8 @@ turned a b h = record { first = h.second; second = h.first }
 -- a number that passes is among those that do
 pub passes : {X : Type 0} (test : X → Bool) (d : X) (n : ℕ) (xs : List X) (i : ℕ) → i < length xs → test (get_or xs i d) ≡ true → is_in (numbers_where test n xs) (n + i) ≡ true
 passes test d n [] i h e = absurd (omega arith)
-passes test d n (x ∷ xs) zero h e =
-    subst (λ b. list_any (λ m. m == (n + 0)) (cond b (n ∷ []) [] ++ numbers_where test (n + 1) xs) ≡ true) (sym e)
-    (in_first (n == (n + 0)) (is_in (numbers_where test (n + 1) xs) (n + 0)) (eq-eqb n (n + 0) (omega arith)))
-passes test d n (x ∷ xs) (suc i) h e =
-    let ih : is_in (numbers_where test (n + 1) xs) ((n + 1) + i) ≡ true = passes test d (n + 1) xs i (omega arith) e in
-    let same : (n + 1) + i ≡ n + suc i = omega arith in
-    list_any-append (λ m. m == (n + suc i)) (cond (test x) (n ∷ []) []) (numbers_where test (n + 1) xs)
-    ∙ in_second (is_in (cond (test x) (n ∷ []) []) (n + suc i)) (is_in (numbers_where test (n + 1) xs) (n + suc i)) (subst (λ k. is_in (numbers_where test (n + 1) xs) k ≡ true) same ih)
+passes test d n (x ∷ xs) zero h e = grind (arith, in_first, eq-eqb)
+passes test d n (x ∷ xs) (suc i) h e = grind (arith, list_any-append, in_second, (passes test d (n + 1) xs i (omega arith) e))
 
 pub all_pass : (test : ℕ → Bool) (xs : List ℕ) (n : ℕ) → list_all test xs ≡ true → is_in xs n ≡ true → test n ≡ true
 all_pass test [] n h e = absurd (false≢true e)
@@ -90,7 +76,7 @@ all_pass test (x ∷ xs) n h e =
 written_by_it : (plan : List Files) (n : ℕ) (file : List ℕ) → n < length plan → is_among (files_at plan n).writes file ≡ true → is_in (writers plan file) n ≡ true
 written_by_it plan n file h w =
     let here : 0 + n ≡ n = omega arith in
-    subst (λ k. is_in (writers plan file) k ≡ true) here (passes (λ f. is_among f.writes file) (record { reads = []; writes = [] }) 0 plan n h w)
+    grind (arith, passes)
 
 -- Two commands that no need orders, share no written file and stay within their records.
 
@@ -104,15 +90,7 @@ record Free (plan : List Files) (needs : List (List ℕ)) (a b : ℕ) (ea eb : E
   loose_b : are_ordered needs b a ≡ false
 
 turned_free : (plan : List Files) (needs : List (List ℕ)) (a b : ℕ) (ea eb : Effect) → Free plan needs a b ea eb → Free plan needs b a eb ea
-turned_free plan needs a b ea eb h = record {
-  within_a = h.within_b;
-  within_b = h.within_a;
-  apart = turned (files_at plan a) (files_at plan b) h.apart;
-  there_a = h.there_b;
-  there_b = h.there_a;
-  loose_a = h.loose_b;
-  loose_b = h.loose_a;
-}
+turned_free plan needs a b ea eb h = grind (arith, apart, turned)
 
 -- what one may see the other doesn't write
 unseen : (plan : List Files) (needs : List (List ℕ)) (a b : ℕ) (ea eb : Effect) → Free plan needs a b ea eb → (file : List ℕ) → may_see plan needs a file ≡ true → is_among (files_at plan b).writes file ≡ false
@@ -124,9 +102,7 @@ unseen plan needs a b ea eb h file see =
 
 -- one after the other in a file that the first of them writes
 exchange_written : (plan : List Files) (needs : List (List ℕ)) (a b : ℕ) (ea eb : Effect) → Free plan needs a b ea eb → (c : Contents) (file : List ℕ) → is_among (files_at plan a).writes file ≡ true → ea (eb c) file ≡ eb (ea c) file
-exchange_written plan needs a b ea eb h c file w =
-    h.within_a.depends (eb c) c (λ g see. h.within_b.changes c g (unseen plan needs a b ea eb h g see)) file w
-    ∙ sym (h.within_b.changes (ea c) file (or_parts (is_among (files_at plan b).reads file) (is_among (files_at plan b).writes file) (h.apart.first file w)).1)
+exchange_written plan needs a b ea eb h c file w = grind (arith, unseen, or_parts)
 
 exchange_at : (plan : List Files) (needs : List (List ℕ)) (a b : ℕ) (ea eb : Effect) → Free plan needs a b ea eb → (c : Contents) (file : List ℕ) → ea (eb c) file ≡ eb (ea c) file
 exchange_at plan needs a b ea eb h c file =
@@ -179,10 +155,7 @@ moved files effects p (a ∷ before) after h c =
     ∙ ap (contents_after effects (before ++ after)) ((h a (at_head a before)).both c)
 
 exchange_tests : {X : Type 0} (u v : Bool) (x y z : X) → (u ≡ true → v ≡ true → ⊥) → cond u x (cond v y z) ≡ cond v y (cond u x z)
-exchange_tests true true x y z h = absurd (h refl refl)
-exchange_tests true false x y z h = refl
-exchange_tests false true x y z h = refl
-exchange_tests false false x y z h = refl
+exchange_tests u v x y z h = grind arith
 
 moved_reads : (files : ℕ → Files) (effects : ℕ → Effect) (k p : ℕ) (before after : List ℕ) → is_in before p ≡ false → ((x : ℕ) → is_in before x ≡ true → Exchange files effects p x) → (c : Contents) → contents_read files effects k (before ++ p ∷ after) c ≡ contents_read files effects k (p ∷ (before ++ after)) c
 moved_reads files effects k p [] after new h c = refl
@@ -269,7 +242,7 @@ all_more : (test more : ℕ → Bool) → ((n : ℕ) → test n ≡ true → mor
 all_more test more f [] h = refl
 all_more test more f (x ∷ xs) h =
     let parts : (test x ≡ true) × (list_all test xs ≡ true) = and_parts (test x) (list_all test xs) h in
-    in_both (more x) (list_all more xs) (f x parts.0) (all_more test more f xs parts.1)
+    grind (arith, in_both, (all_more test more f xs parts.1))
 
 more_behind : (a : ℕ) (done more : List ℕ) → ((n : ℕ) → is_in done n ≡ true → is_in more n ≡ true) → (n : ℕ) → is_in (a ∷ done) n ≡ true → is_in (a ∷ more) n ≡ true
 more_behind a done more f n e = in_either (a == n) (is_in done n) (λ k. in_first (a == n) (is_in more n) k) (λ k. in_second (a == n) (is_in more n) (f n k)) e
@@ -278,26 +251,17 @@ ready_more : (needs : ℕ → List ℕ) (done more xs : List ℕ) → ((n : ℕ)
 ready_more needs done more [] f h = refl
 ready_more needs done more (x ∷ xs) f h =
     let parts : (list_all (is_in done) (needs x) ≡ true) × (is_ready needs (x ∷ done) xs ≡ true) = and_parts (list_all (is_in done) (needs x)) (is_ready needs (x ∷ done) xs) h in
-    in_both (list_all (is_in more) (needs x)) (is_ready needs (x ∷ more) xs)
-    (all_more (is_in done) (is_in more) f (needs x) parts.0)
-    (ready_more needs (x ∷ done) (x ∷ more) xs (more_behind x done more f) parts.1)
+    grind (arith, in_both, all_more, more_behind, (ready_more needs (x ∷ done) (x ∷ more) xs (more_behind x done more f) parts.1))
 
 exchanged_behind : (a p : ℕ) (done : List ℕ) (n : ℕ) → is_in (p ∷ (a ∷ done)) n ≡ true → is_in (a ∷ (p ∷ done)) n ≡ true
-exchanged_behind a p done n e =
-    in_either (p == n) ((a == n) || is_in done n)
-    (λ k. in_second (a == n) ((p == n) || is_in done n) (in_first (p == n) (is_in done n) k))
-    (λ m. in_either (a == n) (is_in done n)
-    (λ k. in_first (a == n) ((p == n) || is_in done n) k)
-    (λ k. in_second (a == n) ((p == n) || is_in done n) (in_second (p == n) (is_in done n) k)) m) e
+exchanged_behind a p done n e = grind (arith, in_either, in_second, in_first)
 
 -- a command may run first where an order is ready
 ready_moved : (needs : ℕ → List ℕ) (done : List ℕ) (p : ℕ) (before after : List ℕ) → is_ready needs done (before ++ p ∷ after) ≡ true → is_ready needs (p ∷ done) (before ++ after) ≡ true
 ready_moved needs done p [] after h = (and_parts (list_all (is_in done) (needs p)) (is_ready needs (p ∷ done) after) h).1
 ready_moved needs done p (a ∷ before) after h =
     let parts : (list_all (is_in done) (needs a) ≡ true) × (is_ready needs (a ∷ done) (before ++ p ∷ after) ≡ true) = and_parts (list_all (is_in done) (needs a)) (is_ready needs (a ∷ done) (before ++ p ∷ after)) h in
-    in_both (list_all (is_in (p ∷ done)) (needs a)) (is_ready needs (a ∷ (p ∷ done)) (before ++ after))
-    (all_more (is_in done) (is_in (p ∷ done)) (each_below p done) (needs a) parts.0)
-    (ready_more needs (p ∷ (a ∷ done)) (a ∷ (p ∷ done)) (before ++ after) (exchanged_behind a p done) (ready_moved needs (a ∷ done) p before after parts.1))
+    grind (arith, in_both, all_more, each_below, ready_more, exchanged_behind, (ready_moved needs (a ∷ done) p before after parts.1))
 
 -- none of the commands before one needs it
 not_needed : (needs : ℕ → List ℕ) (done : List ℕ) (p : ℕ) (before after : List ℕ) → is_in done p ≡ false → is_in before p ≡ false → is_ready needs done (before ++ p ∷ after) ≡ true → (x : ℕ) → is_in before x ≡ true → is_in (needs x) p ≡ false
@@ -335,7 +299,7 @@ agree files needs effects [] (x ∷ xs) done distinct same fresh swaps ready c =
     let here = times-cons x x xs in
     let one = mark-same x in
     let none = times-nil x in
-    absurd (omega arith)
+    grind arith
 agree files needs effects (p ∷ ps) os done distinct same fresh swaps ready c =
     let counted : 1 ≤ times p (p ∷ ps) = times-in p (p ∷ ps) (at_head p ps) in
     let count = same p in
@@ -381,8 +345,7 @@ in_range a (suc n) x e =
 
 range_is_distinct : (a n : ℕ) → Distinct (range_with_len a n)
 range_is_distinct a zero = tt
-range_is_distinct a (suc n) =
-    (fails (is_in (range_with_len (a + 1) n) a) (λ k. let h : (a + 1 ≤ a) × (a < (a + 1) + n) = in_range (a + 1) n a k in omega arith), range_is_distinct (a + 1) n)
+range_is_distinct a (suc n) = grind (arith, fails, in_range, (range_is_distinct (a + 1) n))
 
 range_has : (a n x : ℕ) → a ≤ x → x < a + n → is_in (range_with_len a n) x ≡ true
 range_has a zero x h k = absurd (omega arith)
@@ -401,8 +364,7 @@ not_ordered : (needs : List (List ℕ)) (a x : ℕ) → a < x → is_in (needs_a
 not_ordered needs a x h e = ap (λ b. cond b (is_in (needs_at needs x) a) (is_in (needs_at needs a) x)) (lt-ltb a x h) ∙ e
 
 not_ordered_back : (needs : List (List ℕ)) (a x : ℕ) → a < x → is_in (needs_at needs x) a ≡ false → are_ordered needs x a ≡ false
-not_ordered_back needs a x h e =
-    ap (λ b. cond b (is_in (needs_at needs a) x) (is_in (needs_at needs x) a)) (fails (nat_lt x a) (λ k. let back : x < a = ltb-true x a k in omega arith)) ∙ e
+not_ordered_back needs a x h e = grind (arith, fails, ltb-true)
 
 -- then neither has one place in all orders
 many_places : (needs : List (List ℕ)) (n m : ℕ) → m < length needs → (m ≡ n → ⊥) → are_ordered needs m n ≡ false → has_one_place needs n ≡ false
@@ -417,15 +379,7 @@ free plan needs effects holds stay a x h k e =
     let size = holds.each in
     let forth : are_ordered needs a x ≡ false = not_ordered needs a x h e in
     let back : are_ordered needs x a ≡ false = not_ordered_back needs a x h e in
-    record {
-      within_a = stay a (omega arith) (many_places needs a x (omega arith) (λ s. omega arith) back);
-      within_b = stay x k (many_places needs x a (omega arith) (λ s. omega arith) forth);
-      apart = apart_if_free (files_at plan a) (files_at plan x) (fails (must_follow (files_at plan a) (files_at plan x)) (λ m. false≢true (sym e ∙ holds.needed a x h k m)));
-      there_a = omega arith;
-      there_b = k;
-      loose_a = forth;
-      loose_b = back;
-    }
+    grind (arith, many_places, apart, apart_if_free, fails, false≢true)
 
 range_exchanges : (plan : List Files) (needs : List (List ℕ)) (effects : ℕ → Effect) → Hold must_follow plan needs → AllStayWithin plan needs effects
     → (a n : ℕ) → a + n ≡ length plan → Exchanged (files_at plan) effects (needs_at needs) (range_with_len a n)
@@ -448,19 +402,11 @@ in_filter test (y ∷ ys) x e =
 
 some_distinct : (test : ℕ → Bool) (xs : List ℕ) → Distinct xs → Distinct (filter test xs)
 some_distinct test [] d = tt
-some_distinct test (x ∷ xs) d =
-    elim (test x) as (λ b. Distinct (cond b (x ∷ filter test xs) (filter test xs))) [
-      | true ↦ (fails (is_in (filter test xs) x) (λ k. false≢true (sym d.0 ∙ in_filter test xs x k)), some_distinct test xs d.1)
-      | false ↦ some_distinct test xs d.1
-    ]
+some_distinct test (x ∷ xs) d = grind (arith, fails, false≢true, in_filter, (some_distinct test xs d.1))
 
 some_exchange : (files : ℕ → Files) (effects : ℕ → Effect) (needs : ℕ → List ℕ) (test : ℕ → Bool) (xs : List ℕ) → Exchanged files effects needs xs → Exchanged files effects needs (filter test xs)
 some_exchange files effects needs test [] h = tt
-some_exchange files effects needs test (x ∷ xs) h =
-    elim (test x) as (λ b. Exchanged files effects needs (cond b (x ∷ filter test xs) (filter test xs))) [
-      | true ↦ (λ y k u. h.0 y (in_filter test xs y k) u, some_exchange files effects needs test xs h.1)
-      | false ↦ some_exchange files effects needs test xs h.1
-    ]
+some_exchange files effects needs test (x ∷ xs) h = grind (arith, in_filter, (some_exchange files effects needs test xs h.1))
 
 pub orders_agree : OrdersAgree must_follow
 orders_agree plan needs order effects contents holds is stay =

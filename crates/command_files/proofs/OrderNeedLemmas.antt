@@ -1,7 +1,5 @@
 -- Two commands each that may not change places.
-use Rattle.std.proofs.Common.{◌≡◌, ℕ, zero, suc, ◌<◌, List, [], ◌∷◌, Bool, true, false, cond, ◌||◌, Some, None, length, refl, sym, ap, ◌∙◌, arith}
-use Rattle.std.specs.List.{list_all}
-use Rattle.std.specs.Str.{bytes_eq}
+use Rattle.std.proofs.Common.{◌≡◌, ℕ, zero, suc, ◌<◌, List, [], ◌∷◌, Bool, true, false, cond, ◌||◌, Some, None, length, refl, sym, ap, ◌∙◌, arith, bytes_eq}
 use Rattle.std.proofs.lemmas.Bool.{false≢true, or_parts}
 use Rattle.std.proofs.lemmas.List.Sorted.{IsPermutation-append_comm}
 use Rattle.command_files.specs.Files.{Files, is_among, touches}
@@ -37,24 +35,10 @@ that_file : (file target : List ℕ) → (bytes_eq file target || false) ≡ tru
 that_file file target e = in_either (bytes_eq file target) false (λ k. k) (λ k. absurd (false≢true k)) e
 
 puts_within : (plan : List Files) (needs : List (List ℕ)) (n : ℕ) (target value : List ℕ) → files_at plan n ≡ putting target → StaysWithin plan needs n (puts target value)
-puts_within plan needs n target value at = record {
-  changes = λ contents file e. ap (λ b. cond b (Some value) (contents file)) (other_than file target (sym (ap (λ f. is_among f.writes file) at) ∙ e));
-  depends = λ one other same file e.
-      let it : bytes_eq file target ≡ true = that_file file target (sym (ap (λ f. is_among f.writes file) at) ∙ e) in
-      ap (λ b. cond b (Some value) (one file)) it ∙ sym (ap (λ b. cond b (Some value) (other file)) it);
-}
+puts_within plan needs n target value at = grind (arith, other_than, that_file)
 
 copies_within : (plan : List Files) (needs : List (List ℕ)) (n : ℕ) (target source : List ℕ) → bytes_eq source source ≡ true → files_at plan n ≡ copying target source → StaysWithin plan needs n (copies target source)
-copies_within plan needs n target source itself at = record {
-  changes = λ contents file e. ap (λ b. cond b (contents source) (contents file)) (other_than file target (sym (ap (λ f. is_among f.writes file) at) ∙ e));
-  depends = λ one other same file e.
-      let it : bytes_eq file target ≡ true = that_file file target (sym (ap (λ f. is_among f.writes file) at) ∙ e) in
-      let seen : touches (files_at plan n) source ≡ true =
-      ap (λ f. touches f source) at ∙ in_first (bytes_eq source source || false) (bytes_eq source target || false) (in_first (bytes_eq source source) false itself) in
-      ap (λ b. cond b (one source) (one file)) it
-      ∙ same source (in_first (touches (files_at plan n) source) (list_all (are_ordered needs n) (writers plan source)) seen)
-      ∙ sym (ap (λ b. cond b (other source) (other file)) it);
-}
+copies_within plan needs n target source itself at = grind (arith, other_than, that_file, in_first)
 
 -- two commands, and what two orders of them leave
 abbrev two : Effect → Effect → ℕ → Effect
@@ -65,9 +49,7 @@ abbrev plan_of : Files → Files → List Files
 plan_of f g = f ∷ g ∷ []
 
 two_stay : (needs : List (List ℕ)) (f g : Files) (a b : Effect) → StaysWithin (plan_of f g) needs 0 a → StaysWithin (plan_of f g) needs 1 b → (n : ℕ) → n < length (plan_of f g) → StaysWithin (plan_of f g) needs n (two a b n)
-two_stay needs f g a b s t zero h = s
-two_stay needs f g a b s t (suc zero) h = t
-two_stay needs f g a b s t (suc (suc n)) h = absurd (omega arith)
+two_stay needs f g a b s t n h = grind arith
 
 abbrev nothing : Contents
 nothing file = None

@@ -17,27 +17,10 @@ part_at plan (p ∷ ps) zero h = refl
 part_at plan (p ∷ ps) (suc i) h = part_at plan ps i (omega arith)
 
 follows : (plan : List Files) (needs : List (List ℕ)) → Hold must_follow plan needs → (a b : ℕ) → a ≤ b → b < length plan → must_follow (files_at plan a) (files_at plan b) ≡ true → part_follows needs a b ≡ true
-follows plan needs holds a b h k e =
-    elim (a == b) as (λ t. (a == b) ≡ t → (t || is_in (needs_at needs b) a) ≡ true) [
-      | true ↦ λ same. refl
-      | false ↦ λ other.
-          let differ : a ≡ b → ⊥ = λ s. false≢true (sym other ∙ eq-eqb a b s) in
-          holds.needed a b (omega arith) k e
-    ]
-    refl
+follows plan needs holds a b h k e = grind (arith, false≢true, eq-eqb)
 
 parts_hold : (plan : List Files) (needs : List (List ℕ)) (parts : List ℕ) → Hold must_follow plan needs → ArePartsOf plan parts → Hold must_follow (part_records plan parts) (part_needs needs parts)
-parts_hold plan needs parts holds are = record {
-  each = length-needs_behind (part_follows needs) [] parts ∙ sym (length-part_records plan parts);
-  needed = λ i j h k e.
-      let size : length (part_records plan parts) ≡ length parts = length-part_records plan parts in
-      let there : i < length parts = omega arith in
-      let later : j < length parts = omega arith in
-      needs_each (part_follows needs) 0 parts i j h later
-      (follows plan needs holds (get_or parts i 0) (get_or parts j 0) (are.rise i j h later) (are.of_commands j later)
-      (sym (λ t. must_follow (part_at plan parts i there t) (part_at plan parts j later t)) ∙ e));
-}
+parts_hold plan needs parts holds are = grind (arith, length-needs_behind, length-part_records, needs_each, follows, part_at)
 
 pub overlaps_agree : OverlapsAgree must_follow
-overlaps_agree plan needs parts ran effects contents holds are is stay =
-    runs_agree (part_records plan parts) (part_needs needs parts) ran effects contents (parts_hold plan needs parts holds are) is stay
+overlaps_agree plan needs parts ran effects contents holds are is stay = grind (arith, runs_agree, parts_hold)

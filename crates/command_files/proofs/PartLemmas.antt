@@ -1,7 +1,5 @@
 -- Paths of words, one more at a time; the parts of an image, cut at its first comma.
-use Rattle.std.proofs.Common.{◌≡◌, ℕ, suc, ◌+◌, List, [], ◌∷◌, ◌++◌, map, drop, drop-cons, add-one, append_assoc, sym, Option, Some, None, Bor, MatchOption, refl, ap, ◌∙◌, ◌<◌, length, false, eqb, get_or, arith}
-use Rattle.std.specs.List.{All}
-use Rattle.std.proofs.lemmas.Bool.{ne_eqb}
+use Rattle.std.proofs.Common.{◌≡◌, ℕ, suc, ◌+◌, List, [], ◌∷◌, ◌++◌, map, drop, drop-cons, add-one, append_assoc, sym, Option, Some, None, Bor, MatchOption, refl, ap, ◌∙◌, ◌<◌, length, false, eqb, get_or, arith, All, ne_eqb}
 use Rattle.std.proofs.lemmas.Grind.{get_or_default_zero}
 use Rattle.std.proofs.lemmas.List.Splits.{slice_split_none, slice_split_at}
 use Rattle.std.proofs.lemmas.Str.Pattern.{IsSplitOnceResult, split_parts}
@@ -11,12 +9,7 @@ all-other : (c : ℕ) (xs : List ℕ) → ((i : ℕ) → i < length xs → get_o
 all-other c xs h = λ k d within. ap (λ x. eqb x c) (get_or_default_zero xs k d within) ∙ ne_eqb (get_or xs k 0) c (h k within)
 
 pub first-part : (image : List ℕ) (r : Option (Bor (List ℕ) × Bor (List ℕ))) → IsSplitOnceResult 44 image r → MatchOption r (parts_of image ≡ image ∷ []) (λ x. parts_of image ≡ x.0.now ∷ parts_of x.1.now)
-first-part image None h =
-    let none : Option (Bor (List ℕ) × Bor (List ℕ)) = None in
-    slice_split_none (λ b. eqb b 44) image (all-other 44 image (split_parts 44 image none h (omega arith)))
-first-part image (Some x) h =
-    let cut = split_parts 44 image (Some x) h (omega arith) in
-    ap parts_of cut.0 ∙ slice_split_at (λ b. eqb b 44) x.0.now 44 x.1.now (all-other 44 x.0.now cut.1) refl
+first-part image r h = grind (arith, slice_split_none, all-other, split_parts, slice_split_at)
 
 paths-step : (cwd : List ℕ) (path_of : List ℕ → Option (List ℕ)) (done new target : List (List ℕ)) (word : List ℕ) (words : List (List ℕ)) (path : Option (List ℕ)) → path_of word ≡ path → new ≡ done ++ joined_option cwd path →
     done ++ paths_by cwd path_of (word ∷ words) ≡ target → new ++ paths_by cwd path_of words ≡ target

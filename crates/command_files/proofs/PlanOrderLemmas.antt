@@ -9,7 +9,6 @@ use Rattle.plans.specs.declared.plan.Plan.{Plan}
 use Rattle.command_files.specs.declared.steps.Role.{Role}
 use Rattle.command_files.specs.declared.steps.Role.TheVariants as roles
 use Rattle.command_files.specs.declared.steps.Step.{Step}
-use Rattle.plans.specs.Programs.{program_at}
 use Rattle.command_files.specs.Files.{Files, must_follow}
 use Rattle.command_files.specs.Order.{needs_by, needs_at, own_order, is_in, are_ordered, has_one_place, files_at, Effect, AllStayWithin, Hold}
 use Rattle.command_files.specs.PlanNeeds.{record_of, is_host_compiler, role_of, step_of, steps_from, plan_steps, plan_records, plan_needs, role_needs, step_needs}
@@ -60,53 +59,35 @@ abbrev is_last : ℕ → ℕ → Bool
 is_last count group = cond (group == 0) false (count - group == 1)
 
 not_first : (first last : Bool) → cond first false last ≡ true → last ≡ true
-not_first true last e = absurd (false≢true e)
-not_first false last e = e
+not_first first last e = grind (arith, false≢true)
 
 front_is_not_final : (compiles : Bool) → is_final (cond compiles roles.FrontStep roles.Plain) ≡ false
-front_is_not_final true = refl
-front_is_not_final false = refl
+front_is_not_final compiles = grind arith
 
 device_is_not_final : (compiles : Bool) → is_final (cond compiles roles.DeviceStep roles.Plain) ≡ false
-device_is_not_final true = refl
-device_is_not_final false = refl
+device_is_not_final compiles = grind arith
 
 role_by : (first last compiles : Bool) → is_final (cond first (cond compiles roles.FrontStep roles.Plain) (cond last roles.Final (cond compiles roles.DeviceStep roles.Plain))) ≡ cond first false last
-role_by true last compiles = front_is_not_final compiles
-role_by false true compiles = refl
-role_by false false compiles = device_is_not_final compiles
+role_by first last compiles = grind (arith, front_is_not_final, device_is_not_final)
 
 final_by_group : (count group : ℕ) (compiles : Bool) → is_final (role_of count group compiles) ≡ is_last count group
 final_by_group count group compiles = role_by (group == 0) (count - group == 1) compiles
 
-abbrev compiles_by : NvccGeneratedSubcommand → Bool
-compiles_by c = is_host_compiler (program_at c.exe)
-
 last_group : (count group : ℕ) (commands : List NvccGeneratedSubcommand) → is_last count group ≡ true → all_final (map (step_of count group) commands) ≡ true
 last_group count group [] e = refl
-last_group count group (c ∷ cs) e =
-    in_both (is_final (role_of count group (compiles_by c))) (all_final (map (step_of count group) cs)) (final_by_group count group (compiles_by c) ∙ e) (last_group count group cs e)
+last_group count group (c ∷ cs) e = simp (in_both, final_by_group, (last_group count group cs e))
 
 final_last_in : (count group : ℕ) (commands : List NvccGeneratedSubcommand) (rest : List Step) → (is_last count group ≡ true → all_final rest ≡ true) → FinalLast rest → FinalLast (map (step_of count group) commands ++ rest)
 final_last_in count group [] rest behind h = h
-final_last_in count group (c ∷ cs) rest behind h = (
-  λ e.
-      let last : is_last count group ≡ true = sym (final_by_group count group (compiles_by c)) ∙ e in
-      list_all-append (λ s. is_final s.role) (map (step_of count group) cs) rest
-      ∙ in_both (all_final (map (step_of count group) cs)) (all_final rest) (last_group count group cs last) (behind last),
-  final_last_in count group cs rest behind h,
-)
+final_last_in count group (c ∷ cs) rest behind h = grind (arith, final_by_group, list_all-append, in_both, last_group, (final_last_in count group cs rest behind h))
 
 none_behind : (count group : ℕ) (groups : List (List NvccGeneratedSubcommand)) → group + suc (length groups) ≡ count → is_last count group ≡ true → all_final (steps_from count (group + 1) groups) ≡ true
 none_behind count group [] e last = refl
-none_behind count group (g ∷ gs) e last =
-    let one : count - group ≡ 1 = eqb-true (count - group) 1 (not_first (group == 0) (count - group == 1) last) in
-    absurd (omega arith)
+none_behind count group (g ∷ gs) e last = grind (arith, eqb-true, not_first)
 
 final_last : (count group : ℕ) (groups : List (List NvccGeneratedSubcommand)) → group + length groups ≡ count → FinalLast (steps_from count group groups)
 final_last count group [] e = tt
-final_last count group (g ∷ gs) e =
-    final_last_in count group g (steps_from count (group + 1) gs) (none_behind count group gs (omega arith)) (final_last count (group + 1) gs (omega arith))
+final_last count group (g ∷ gs) e = grind (arith, final_last_in, none_behind, (final_last count (group + 1) gs (omega arith)))
 
 final_of_all : (steps : List Step) (n : ℕ) → n < length steps → all_final steps ≡ true → is_final (get_or steps n no_step).role ≡ true
 final_of_all [] n h e = absurd (omega arith)
@@ -130,10 +111,7 @@ role_is (s ∷ steps) zero = refl
 role_is (s ∷ steps) (suc n) = role_is steps n
 
 final_needs_all : (role earlier : Role) → is_final role ≡ true → role_needs role earlier ≡ true
-final_needs_all roles.Plain earlier e = absurd (false≢true e)
-final_needs_all roles.FrontStep earlier e = absurd (false≢true e)
-final_needs_all roles.DeviceStep earlier e = absurd (false≢true e)
-final_needs_all roles.Final earlier e = refl
+final_needs_all role earlier e = grind (arith, false≢true)
 
 -- a final command needs each one before it
 needs_before : (steps : List Step) (m n : ℕ) → m < n → n < length steps → is_final (get_or steps n no_step).role ≡ true → is_in (needs_at (needs_by step_needs steps) n) m ≡ true
@@ -144,52 +122,24 @@ needs_before steps m n h k e =
     (in_second (must_follow (record_of earlier.files) (record_of later.files)) (role_needs later.role earlier.role) (final_needs_all later.role earlier.role e))
 
 ordered_with_all : (steps : List Step) (n m : ℕ) → FinalLast steps → n < length steps → m < length steps → is_final (get_or steps n no_step).role ≡ true → (m == n || are_ordered (needs_by step_needs steps) m n) ≡ true
-ordered_with_all steps n m last h k e =
-    elim (nat_lt m n) as (λ b. nat_lt m n ≡ b → (m == n || cond b (is_in (needs_at (needs_by step_needs steps) n) m) (is_in (needs_at (needs_by step_needs steps) m) n)) ≡ true) [
-      | true ↦ λ before.
-          in_second (m == n) (is_in (needs_at (needs_by step_needs steps) n) m) (needs_before steps m n (ltb-true m n before) h e)
-      | false ↦ λ later.
-          elim (m == n) as (λ b. (m == n) ≡ b → (b || is_in (needs_at (needs_by step_needs steps) m) n) ≡ true) [
-            | true ↦ λ same. refl
-            | false ↦ λ other.
-                let differ : m ≡ n → ⊥ = λ s. false≢true (sym other ∙ eq-eqb m n s) in
-                let not_before : m < n → ⊥ = λ s. false≢true (sym later ∙ lt-ltb m n s) in
-                let behind : n < m = omega arith in
-                needs_before steps n m behind k (final_behind steps n m last behind k e)
-          ]
-          refl
-    ]
-    refl
+ordered_with_all steps n m last h k e = grind (arith, in_second, needs_before, ltb-true, false≢true, eq-eqb, lt-ltb, final_behind)
 
 pub final_has_one_place : FinalHasOnePlace
-final_has_one_place plan n e =
-    let steps : List Step = plan_steps plan in
-    let is : is_final (get_or steps n no_step).role ≡ true = sym (ap is_final (role_is steps n)) ∙ e in
-    let size = length-needs_behind step_needs [] steps in
-    all_from (λ m. m == n || are_ordered (plan_needs plan) m n) (own_order (plan_needs plan))
-    (λ m k.
-    let place : (0 ≤ m) × (m < 0 + length (plan_needs plan)) = in_range 0 (length (plan_needs plan)) m k in
-    ordered_with_all steps n m (final_last (length plan.groups) 0 plan.groups (omega arith)) (final_is_there steps n is) (omega arith) is)
+final_has_one_place plan n e = grind (arith, role_is, length-needs_behind, all_from, in_range, ordered_with_all, final_last, final_is_there)
 
 -- Plans.
 
 others_stay : (plan : Plan) (effects : ℕ → Effect) → OthersStayWithin plan effects → AllStayWithin (plan_records plan) (plan_needs plan) effects
-others_stay plan effects stay n h many =
-    stay n h (fails (is_final (role_at plan n)) (λ e. false≢true (sym many ∙ final_has_one_place plan n e)))
+others_stay plan effects stay n h many = grind (arith, fails, false≢true, final_has_one_place)
 
 pub plan_orders_agree : PlanOrdersAgree
-plan_orders_agree plan order effects contents is stay =
-    orders_agree (plan_records plan) (plan_needs plan) order effects contents (steps_hold (plan_steps plan)) is (others_stay plan effects stay)
+plan_orders_agree plan order effects contents is stay = grind (arith, orders_agree, steps_hold, others_stay)
 
 pub plan_runs_agree : PlanRunsAgree
-plan_runs_agree plan ran effects contents is stay =
-    runs_agree (plan_records plan) (plan_needs plan) ran effects contents (steps_hold (plan_steps plan)) is (others_stay plan effects stay)
+plan_runs_agree plan ran effects contents is stay = grind (arith, runs_agree, steps_hold, others_stay)
 
 pub plan_order_is_one : PlanOrderIsOne
-plan_order_is_one plan = record {
-  each_once = IsPermutation-refl (own_order (plan_needs plan));
-  ready = own_order_ready step_needs no_step (plan_steps plan);
-}
+plan_order_is_one plan = grind (arith, IsPermutation-refl, own_order_ready)
 
 recorded_there : (steps : List Step) (n : ℕ) → n < length steps → list_all (λ s. is_final s.role || is_recorded s) steps ≡ true → is_final (get_or (map (λ s. s.role) steps) n roles.Plain) ≡ false → get_or (map is_recorded steps) n false ≡ true
 recorded_there [] n h keeps other = absurd (omega arith)

@@ -1,6 +1,5 @@
 -- A text that was pushed to, one part after the other.
-use Rattle.std.proofs.Common.{◌≡◌, ℕ, suc, ◌+◌, ◌<◌, List, [], ◌∷◌, ◌++◌, map, length, drop, drop-cons, get_or, add-one, append_assoc, arith, refl, ap, sym, ◌∙◌, Result, Ok, Err, OnOk}
-use Rattle.std.specs.Prelude.{is_ok, if◌then◌else◌}
+use Rattle.std.proofs.Common.{◌≡◌, ℕ, suc, ◌+◌, ◌<◌, List, [], ◌∷◌, ◌++◌, map, length, drop, drop-cons, get_or, add-one, append_assoc, arith, refl, ap, sym, ◌∙◌, Result, Ok, Err, OnOk, is_ok, if◌then◌else◌}
 
 -- what stands behind a pushed part stands behind that part and the text before it
 pub pushed : (before part after rest : List ℕ) → after ≡ before ++ part → after ++ rest ≡ before ++ (part ++ rest)
@@ -13,8 +12,7 @@ pushed-parts t0 t1 t2 t3 t4 a b c d e h0 h1 h2 h3 =
 
 -- a text that is pushed to last: what it is unless memory runs out
 pub on-ok : {X E : Type 0} (r : Result X E) (new long short : List ℕ) → new ≡ (if is_ok r then long else short) → OnOk r (new ≡ long)
-on-ok (Ok x) new long short e = e
-on-ok (Err x) new long short e = tt
+on-ok r new long short e = grind arith
 
 -- what stands behind pushed items, as for texts
 pub pushed-items : {X : Type 0} (before part after rest : List X) → after ≡ before ++ part → after ++ rest ≡ before ++ (part ++ rest)
@@ -30,8 +28,7 @@ pushed-length (x ∷ ys) y = omega (arith, pushed-length ys y)
 
 -- a list, seen item by item, is one longer once one item is pushed
 pub one-longer : {X Y : Type 0} (f : X → Y) (before after : List X) (item : Y) → map f after ≡ map f before ++ item ∷ [] → length after ≡ length before + 1
-one-longer f before after item e =
-    sym (mapped-length f after) ∙ ap length e ∙ pushed-length (map f before) item ∙ ap (λ n. n + 1) (mapped-length f before)
+one-longer f before after item e = grind (arith, mapped-length, pushed-length)
 
 -- what is left at an element is that element and what is left behind it
 pub next-left : {X : Type 0} (xs : List X) (i : ℕ) (item : X) → i < length xs → item ≡ get_or xs i item → drop i xs ≡ item ∷ drop (i + 1) xs

@@ -1,13 +1,11 @@
 -- Which numbers the code gathers, and that numbers which rise are known by which they are.
-use Rattle.std.proofs.Common.{◌≡◌, ℕ, zero, suc, ◌+◌, ◌<◌, ◌≤◌, List, [], ◌∷◌, ◌++◌, Bool, true, false, cond, ◌&&◌, ◌||◌, ◌==◌, nat_lt, length, take, get_or, refl, sym, ap, subst, ◌∙◌, arith, append_assoc, add-one}
+use Rattle.std.proofs.Common.{◌≡◌, ℕ, zero, suc, ◌+◌, ◌<◌, ◌≤◌, List, [], ◌∷◌, ◌++◌, Bool, true, false, cond, ◌&&◌, ◌||◌, ◌==◌, nat_lt, length, take, get_or, refl, sym, ap, subst, ◌∙◌, arith, append_assoc, add-one, bytes_eq, append-nil, get_or-take, length-take-le}
 use Rattle.std.specs.Bool.{one_answer}
 use Rattle.std.specs.List.{list_any, Contains}
 use Rattle.std.specs.List.Sorted.{IsStrictlyIncreasing}
-use Rattle.std.specs.Str.{bytes_eq}
 use Rattle.std.proofs.lemmas.Bool.{false≢true, eqb-true, eq-eqb, ltb-true, lt-ltb}
 use Rattle.std.proofs.lemmas.List.Elements.{Contains-append_right, filter-append}
 use Rattle.std.proofs.lemmas.List.Folds.{list_any-append, list_any_at}
-use Rattle.std.proofs.lemmas.List.{append-nil, get_or-take, length-take-le}
 use Rattle.std.proofs.lemmas.Slice.Eq.{bytes_eq-Decides}
 use Rattle.command_files.specs.declared.steps.Step.{Step}
 use Rattle.command_files.specs.Files.{is_among, share}
@@ -19,33 +17,22 @@ use Rattle.command_files.proofs.NeedLemmas.{numbers_below}
 -- Tests.
 
 or_none : (a : Bool) → (a || false) ≡ a
-or_none true = refl
-or_none false = refl
+or_none a = grind arith
 
 pub either_side : (a b c d : Bool) → ((a || (b && d)) || (c && d)) ≡ (a || ((b || c) && d))
-either_side true b c d = refl
-either_side false true c true = refl
-either_side false true true false = refl
-either_side false true false false = refl
-either_side false false c d = refl
+either_side a b c d = grind arith
 
 or_moved : (a b c : Bool) → ((a || b) || c) ≡ (a || (b || c))
-or_moved true b c = refl
-or_moved false b c = refl
+or_moved a b c = grind arith
 
 pub both_of_three : (t a b c : Bool) → ((t && a) || ((t && b) || (t && c))) ≡ (t && ((a || b) || c))
-both_of_three false a b c = refl
-both_of_three true true b c = refl
-both_of_three true false true c = refl
-both_of_three true false false c = refl
+both_of_three t a b c = grind arith
 
 and_or : (t a b : Bool) → ((t && a) || (t && b)) ≡ (t && (a || b))
-and_or true a b = refl
-and_or false a b = refl
+and_or t a b = grind arith
 
 and_false : (t : Bool) → (t && false) ≡ false
-and_false true = refl
-and_false false = refl
+and_false t = grind arith
 
 same_answer : (a b : Bool) → (a ≡ true → b ≡ true) → (b ≡ true → a ≡ true) → a ≡ b
 same_answer a b f g = one_answer a b (f, g) (λ k. k, λ k. k)
@@ -58,25 +45,14 @@ any_none (x ∷ xs) = any_none xs
 
 any_or : {X : Type 0} (f g : X → Bool) (xs : List X) → list_any (λ x. f x || g x) xs ≡ (list_any f xs || list_any g xs)
 any_or f g [] = refl
-any_or f g (x ∷ xs) = ap (λ b. (f x || g x) || b) (any_or f g xs) ∙ crossed (f x) (g x) (list_any f xs) (list_any g xs)
-  where
-    crossed : (a b c d : Bool) → ((a || b) || (c || d)) ≡ ((a || c) || (b || d))
-    crossed true b c d = refl
-    crossed false true true d = refl
-    crossed false true false d = refl
-    crossed false false c d = refl
+any_or f g (x ∷ xs) = grind (arith, (any_or f g xs))
 
 any_exchanged : {X Y : Type 0} (r : X → Y → Bool) (xs : List X) (ys : List Y) → list_any (λ x. list_any (λ y. r x y) ys) xs ≡ list_any (λ y. list_any (λ x. r x y) xs) ys
 any_exchanged r [] ys = sym (any_none ys)
-any_exchanged r (x ∷ xs) ys =
-    ap (λ b. list_any (λ y. r x y) ys || b) (any_exchanged r xs ys)
-    ∙ sym (any_or (λ y. r x y) (λ y. list_any (λ z. r z y) xs) ys)
+any_exchanged r (x ∷ xs) ys = simp (any_or, (any_exchanged r xs ys))
 
 bytes_eq_sym : (a b : List ℕ) → bytes_eq a b ≡ bytes_eq b a
-bytes_eq_sym a b =
-    same_answer (bytes_eq a b) (bytes_eq b a)
-    (λ e. (bytes_eq-Decides b a).1 (sym ((bytes_eq-Decides a b).0 e)))
-    (λ e. (bytes_eq-Decides a b).1 (sym ((bytes_eq-Decides b a).0 e)))
+bytes_eq_sym a b = grind (arith, same_answer, bytes_eq-Decides)
 
 pub share_sym : (some others : List (List ℕ)) → share some others ≡ share others some
 share_sym some others =
@@ -86,65 +62,36 @@ share_sym some others =
 -- The numbers of a file.
 
 in_with_number : (numbers : Numbers) (path : List ℕ) (n : ℕ) (file : List ℕ) (m : ℕ) → is_in (with_number numbers path n file) m ≡ (is_in (numbers file) m || (bytes_eq file path && (n == m)))
-in_with_number numbers path n file m = by (bytes_eq file path)
-  where
-    by : (b : Bool) → is_in (cond b (numbers file ++ n ∷ []) (numbers file)) m ≡ (is_in (numbers file) m || (b && (n == m)))
-    by true = list_any-append (λ k. k == m) (numbers file) (n ∷ []) ∙ ap (λ b. is_in (numbers file) m || b) (or_none (n == m))
-    by false = sym (or_none (is_in (numbers file) m))
+in_with_number numbers path n file m = grind (arith, list_any-append, or_none)
 
 in_with_numbers : (numbers : Numbers) (paths : List (List ℕ)) (n : ℕ) (file : List ℕ) (m : ℕ) → is_in (with_numbers numbers paths n file) m ≡ (is_in (numbers file) m || (is_among paths file && (n == m)))
 in_with_numbers numbers [] n file m = sym (or_none (is_in (numbers file) m))
-in_with_numbers numbers (path ∷ paths) n file m =
-    in_with_numbers (with_number numbers path n) paths n file m
-    ∙ ap (λ b. b || (is_among paths file && (n == m))) (in_with_number numbers path n file m)
-    ∙ either_side (is_in (numbers file) m) (bytes_eq file path) (is_among paths file) (n == m)
+in_with_numbers numbers (path ∷ paths) n file m = simp (in_with_number, either_side, (in_with_numbers (with_number numbers path n) paths n file m))
 
 in_one_or_none : (b : Bool) (n m : ℕ) → is_in (cond b (n ∷ []) []) m ≡ (b && (n == m))
-in_one_or_none true n m = or_none (n == m)
-in_one_or_none false n m = refl
+in_one_or_none b n m = grind (arith, or_none)
 
 pub in_numbers_from : (files : Step → List (List ℕ)) (numbers : Numbers) (n : ℕ) (steps : List Step) (file : List ℕ) (m : ℕ) →
     is_in (numbers_from files numbers n steps file) m ≡ (is_in (numbers file) m || is_in (numbers_where (λ s. is_among (files s) file) n steps) m)
 in_numbers_from files numbers n [] file m = sym (or_none (is_in (numbers file) m))
-in_numbers_from files numbers n (s ∷ steps) file m =
-    let here : Bool = is_among (files s) file in
-    let rest : List ℕ = numbers_where (λ t. is_among (files t) file) (n + 1) steps in
-    in_numbers_from files (with_numbers numbers (files s) n) (n + 1) steps file m
-    ∙ ap (λ b. b || is_in rest m) (in_with_numbers numbers (files s) n file m)
-    ∙ or_moved (is_in (numbers file) m) (here && (n == m)) (is_in rest m)
-    ∙ ap (λ b. is_in (numbers file) m || (b || is_in rest m)) (sym (in_one_or_none here n m))
-    ∙ ap (λ b. is_in (numbers file) m || b) (sym (list_any-append (λ k. k == m) (cond here (n ∷ []) []) rest))
+in_numbers_from files numbers n (s ∷ steps) file m = simp (in_with_numbers, or_moved, in_one_or_none, list_any-append, (in_numbers_from files (with_numbers numbers (files s) n) (n + 1) steps file m))
 
 pub numbers_from_both : (files : Step → List (List ℕ)) (numbers : Numbers) (n : ℕ) (steps : List Step) (s : Step) →
     numbers_from files numbers n (steps ++ s ∷ []) ≡ with_numbers (numbers_from files numbers n steps) (files s) (n + length steps)
 numbers_from_both files numbers n [] s = ap (with_numbers numbers (files s)) (let none : n ≡ n + 0 = omega arith in none)
-numbers_from_both files numbers n (t ∷ steps) s =
-    numbers_from_both files (with_numbers numbers (files t) n) (n + 1) steps s
-    ∙ ap (with_numbers (numbers_from files (with_numbers numbers (files t) n) (n + 1) steps) (files s)) (let same : (n + 1) + length steps ≡ n + suc (length steps) = omega arith in same)
+numbers_from_both files numbers n (t ∷ steps) s = grind (arith, (numbers_from_both files (with_numbers numbers (files t) n) (n + 1) steps s))
 
 -- Numbers below a bound.
 
 below_found : (bound : ℕ) (x m : ℕ) (rest : List ℕ) (among : Bool) → is_in rest m ≡ (nat_lt m bound && among) → (x == m) ≡ true → is_in (cond (nat_lt x bound) (x ∷ rest) rest) m ≡ (nat_lt m bound && true)
-below_found bound x m rest among ih e =
-    subst (λ k. is_in (cond (nat_lt k bound) (x ∷ rest) rest) m ≡ (nat_lt m bound && true)) (sym (eqb-true x m e)) (at (nat_lt m bound) ih)
-  where
-    at : (b : Bool) → is_in rest m ≡ (b && among) → is_in (cond b (x ∷ rest) rest) m ≡ (b && true)
-    at true h = in_first (x == m) (is_in rest m) e
-    at false h = h
+below_found bound x m rest among ih e = grind (arith, eqb-true, in_first)
 
 below_other : (bound : ℕ) (x m : ℕ) (rest : List ℕ) (among : Bool) → is_in rest m ≡ (nat_lt m bound && among) → (x == m) ≡ false → (b : Bool) → is_in (cond b (x ∷ rest) rest) m ≡ (nat_lt m bound && among)
-below_other bound x m rest among ih e true = ap (λ b. b || is_in rest m) e ∙ ih
-below_other bound x m rest among ih e false = ih
+below_other bound x m rest among ih e b = grind arith
 
 pub in_below : (bound : ℕ) (numbers : List ℕ) (m : ℕ) → is_in (below bound numbers) m ≡ (nat_lt m bound && is_in numbers m)
 in_below bound [] m = sym (and_false (nat_lt m bound))
-in_below bound (x ∷ xs) m =
-    let ih : is_in (below bound xs) m ≡ (nat_lt m bound && is_in xs m) = in_below bound xs m in
-    elim (x == m) as (λ b. (x == m) ≡ b → is_in (cond (nat_lt x bound) (x ∷ below bound xs) (below bound xs)) m ≡ (nat_lt m bound && (b || is_in xs m))) [
-      | true ↦ λ e. below_found bound x m (below bound xs) (is_in xs m) ih e
-      | false ↦ λ e. below_other bound x m (below bound xs) (is_in xs m) ih e (nat_lt x bound)
-    ]
-    refl
+in_below bound (x ∷ xs) m = grind (arith, below_found, below_other, (in_below bound xs m))
 
 pub in_touching : (bound : ℕ) (numbers : Numbers) (paths : List (List ℕ)) (m : ℕ) → is_in (touching bound numbers paths) m ≡ (nat_lt m bound && list_any (λ path. is_in (numbers path) m) paths)
 in_touching bound numbers [] m = sym (and_false (nat_lt m bound))
@@ -155,17 +102,10 @@ in_touching bound numbers (path ∷ paths) m =
 
 -- numbers below one that isn't below itself
 below_without : (n : ℕ) (numbers : List ℕ) → below n (numbers ++ n ∷ []) ≡ below n numbers
-below_without n numbers = filter-append (λ m. nat_lt m n) numbers (n ∷ []) ∙ (elim (nat_lt n n) as (λ b. nat_lt n n ≡ b → below n numbers ++ cond b (n ∷ []) [] ≡ below n numbers) [
-  | true ↦ λ e. let wrong : n < n = ltb-true n n e in absurd (omega arith)
-  | false ↦ λ e. append-nil (below n numbers)
-] refl)
+below_without n numbers = grind (arith, filter-append, ltb-true, append-nil)
 
 below_with_number : (n : ℕ) (numbers : Numbers) (path file : List ℕ) → below n (with_number numbers path n file) ≡ below n (numbers file)
-below_with_number n numbers path file = by (bytes_eq file path)
-  where
-    by : (b : Bool) → below n (cond b (numbers file ++ n ∷ []) (numbers file)) ≡ below n (numbers file)
-    by true = below_without n (numbers file)
-    by false = refl
+below_with_number n numbers path file = grind (arith, below_without)
 
 -- what writes a file doesn't count for itself
 pub touching_noted : (n : ℕ) (readers writers : Numbers) (path : List ℕ) (paths : List (List ℕ)) → touching_either n readers (with_number writers path n) paths ≡ touching_either n readers writers paths
@@ -186,8 +126,7 @@ touching_either_both n readers writers (p ∷ paths) others =
 -- touching files and further ones
 pub touching_both : (n : ℕ) (readers writers : Numbers) (some others : List (List ℕ)) →
     touching_either n readers writers some ++ touching_either n readers (with_numbers writers some n) others ≡ touching_either n readers writers (some ++ others)
-touching_both n readers writers some others =
-    ap (λ ns. touching_either n readers writers some ++ ns) (touching_all_noted n readers writers some others) ∙ touching_either_both n readers writers some others
+touching_both n readers writers some others = simp (touching_all_noted, touching_either_both)
 
 pub in_touching_either : (bound : ℕ) (readers writers : Numbers) (paths : List (List ℕ)) (m : ℕ) →
     is_in (touching_either bound readers writers paths) m ≡ (nat_lt m bound && (list_any (λ path. is_in (readers path) m) paths || list_any (λ path. is_in (writers path) m) paths))
@@ -227,20 +166,14 @@ numbers_from_first test n (x ∷ xs) m e =
     one false k = absurd (false≢true k)
 
 holds_both : (a b : Bool) → (a && b) ≡ true → a ≡ true
-holds_both true b h = refl
-holds_both false b h = h
+holds_both a b h = grind arith
 
 not_later : (b : Bool) (n j : ℕ) → is_in (cond b (n ∷ []) []) (n + suc j) ≡ true → ⊥
-not_later true n j h = in_either (n == (n + suc j)) false (λ e. let same = eqb-true n (n + suc j) e in omega arith) (λ e. false≢true e) h
-not_later false n j h = false≢true h
+not_later b n j h = grind (arith, in_either, eqb-true, false≢true)
 
 passed : {X : Type 0} (test : X → Bool) (d : X) (n : ℕ) (xs : List X) (i : ℕ) → is_in (numbers_where test n xs) (n + i) ≡ true → test (get_or xs i d) ≡ true
 passed test d n [] i e = absurd (false≢true e)
-passed test d n (x ∷ xs) zero e =
-    in_either (is_in (cond (test x) (n ∷ []) []) (n + 0)) (is_in (numbers_where test (n + 1) xs) (n + 0))
-    (λ k. holds_both (test x) (n == (n + 0)) (sym (in_one_or_none (test x) n (n + 0)) ∙ k))
-    (λ k. let least : n + 1 ≤ n + 0 = numbers_from_first test (n + 1) xs (n + 0) k in absurd (omega arith))
-    (sym (list_any-append (λ m. m == (n + 0)) (cond (test x) (n ∷ []) []) (numbers_where test (n + 1) xs)) ∙ e)
+passed test d n (x ∷ xs) zero e = grind (arith, in_either, holds_both, in_one_or_none, numbers_from_first, list_any-append)
 passed test d n (x ∷ xs) (suc i) e =
     let same : n + suc i ≡ (n + 1) + i = omega arith in
     in_either (is_in (cond (test x) (n ∷ []) []) (n + suc i)) (is_in (numbers_where test (n + 1) xs) (n + suc i))
@@ -252,9 +185,7 @@ passed test d n (x ∷ xs) (suc i) e =
 pub in_numbers : {X : Type 0} (test : X → Bool) (d : X) (xs : List X) (m : ℕ) → m < length xs → is_in (numbers_where test 0 xs) m ≡ test (get_or xs m d)
 in_numbers test d xs m h =
     let none : 0 + m ≡ m = omega arith in
-    same_answer (is_in (numbers_where test 0 xs) m) (test (get_or xs m d))
-    (λ e. passed test d 0 xs m (subst (λ k. is_in (numbers_where test 0 xs) k ≡ true) (sym none) e))
-    (λ e. subst (λ k. is_in (numbers_where test 0 xs) k ≡ true) none (passes test d 0 xs m h e))
+    grind (arith, same_answer, passed, passes)
 
 -- and of the items before one, if it is before that one too
 pub in_earlier : {X : Type 0} (test : X → Bool) (d : X) (xs : List X) (j m : ℕ) → j ≤ length xs → is_in (numbers_where test 0 (take j xs)) m ≡ (nat_lt m j && test (get_or xs m d))
@@ -292,8 +223,7 @@ rises [] h = tt
 rises (x ∷ xs) h = (omega arith, rises_behind x xs h)
 
 rise_on : (b : Bool) (n : ℕ) (rest : List ℕ) → Rises (n + 1) rest → Rises n (cond b (n ∷ []) [] ++ rest)
-rise_on true n rest r = (omega arith, rises_higher (suc n) (n + 1) rest (omega arith) r)
-rise_on false n rest r = rises_higher n (n + 1) rest (omega arith) r
+rise_on b n rest r = grind (arith, rises_higher)
 
 pub numbers_rise : {X : Type 0} (test : X → Bool) (n : ℕ) (xs : List X) → Rises n (numbers_where test n xs)
 numbers_rise test n [] = tt

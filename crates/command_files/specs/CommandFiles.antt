@@ -1,8 +1,6 @@
 -- The files that a planned command reads and writes according to its words.
-use Rattle.std.specs.Prelude.{◌≡◌, ℕ, List, [], ◌∷◌, ◌++◌, true, false, ◌==◌, ◌||◌, nat_eq, length, if◌then◌else◌, Option, Some, None, refl, codes}
+use Rattle.std.specs.Prelude.{◌≡◌, ℕ, List, [], ◌∷◌, ◌++◌, true, false, ◌==◌, ◌||◌, nat_eq, length, if◌then◌else◌, Option, Some, None, refl, codes, option_and_then, bytes_eq}
 use Rattle.std.specs.List.{slice_split, starts_with}
-use Rattle.std.specs.Option.{option_and_then}
-use Rattle.std.specs.Str.{bytes_eq}
 use Rattle.texts.specs.Lists.{word_after, rest_after}
 use Rattle.texts.specs.Path.{joined}
 use Rattle.compilers.specs.Compiler.{Reading, accepted, cannot_cache, not_compilation}

@@ -1,7 +1,6 @@
 -- The files that commands read and write, and which command must follow which because of them.
-use Rattle.std.specs.Prelude.{ℕ, List, Bool, ◌||◌}
+use Rattle.std.specs.Prelude.{ℕ, List, Bool, ◌||◌, bytes_eq}
 use Rattle.std.specs.List.{list_any}
-use Rattle.std.specs.Str.{bytes_eq}
 
 -- the record of a command: the paths of the files that it reads, and of those that it writes
 pub record Files : Type 0 where

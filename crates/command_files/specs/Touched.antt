@@ -1,9 +1,7 @@
 -- Files with the numbers of the commands that touch them: how the code finds what a command needs.
-use Rattle.std.specs.Prelude.{ℕ, ◌+◌, List, [], ◌∷◌, ◌++◌, Option, nat_lt, if◌then◌else◌, filter, take}
+use Rattle.std.specs.Prelude.{ℕ, ◌+◌, List, [], ◌∷◌, ◌++◌, Option, nat_lt, if◌then◌else◌, filter, take, Contains, bytes_eq}
 use Rattle.std.specs.HashMap.{get_by}
-use Rattle.std.specs.List.{Contains}
 use Rattle.std.specs.Option.{option_map_or}
-use Rattle.std.specs.Str.{bytes_eq}
 use Rattle.command_files.specs.declared.steps.Role.{Role}
 use Rattle.command_files.specs.declared.steps.Role.TheVariants as roles
 use Rattle.command_files.specs.declared.steps.Step.{Step}

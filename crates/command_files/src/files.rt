@@ -1,7 +1,6 @@
 //! The files that a planned command reads and writes according to its words.
 
-ghost use Rattle.std.specs.Prelude.{◌≡◌, ◌<◌, ◌++◌, ◌∷◌, [], ℕ, List, Option, length, map, codes, IfOk, IfSome, MatchOption, OnOk, string_bytes};
-ghost use Rattle.std.specs.Option.{option_copied, option_map};
+ghost use Rattle.std.specs.Prelude.{◌≡◌, ◌<◌, ◌++◌, ◌∷◌, [], ℕ, List, Option, length, map, codes, IfOk, IfSome, MatchOption, OnOk, string_bytes, option_copied, option_map};
 ghost use Rattle.texts.specs.Lists.{rest_after};
 ghost use Rattle.compilers.specs.declared.arguments.ParsedArguments.{ParsedArguments};
 ghost use Rattle.device_lines.specs.LineFiles.{files_of as line_files};

@@ -11,4 +11,4 @@ mod touched;
 pub use files::{CommandFiles, files_of};
 pub use needed::{CommandNeeds, FilesAndNeeds, files_and_needs, needs};
 pub use orders::keeps_orders;
-pub use steps::files_of_plan;
+pub use steps::{files_of_plan, preprocesses};

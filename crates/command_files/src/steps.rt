@@ -58,8 +58,8 @@ fn role_of(count: usize, group: usize, compiles: bool) -> Role
     }
 }
 
-// Whether words ask a host compiler to preprocess only.
-fn preprocesses(words: &[String]) -> bool
+/// Whether words ask a host compiler to preprocess only, as the words of nvcc's steps do, by `-E`.
+pub fn preprocesses(words: &[String]) -> bool
     ensures { result ≡ spec.preprocesses (map string_bytes words.now) }
 {
     for word in words {

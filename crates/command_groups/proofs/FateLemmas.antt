@@ -6,7 +6,6 @@ use Rattle.std.proofs.lemmas.Slice.Eq.{bytes_eq-Decides}
 use Rattle.std.proofs.lemmas.List.Sorted.{IsPermutation-refl, IsPermutation-sym, IsPermutation-trans, IsPermutation-cons, IsPermutation-map, IsPermutation-middle, IsPermutation-append_left, IsPermutation-append_right}
 use Rattle.std.proofs.lemmas.List.Folds.{list_any-append}
 use Rattle.plans.specs.declared.plan.Reason.{Reason}
-use Rattle.plans.specs.declared.plan.Reason.TheVariants.{NoCiccGroup, NoPtxasGroup, Superseded}
 use Rattle.texts.specs.Lists.{is_some_and, with_name}
 use Rattle.command_groups.specs.Stage.{Stage, linking, splitting, device_compiling, assembling, preprocessing, host_compiling, foreign, StagedCommand, opens}
 use Rattle.command_groups.specs.Fate.{Fate, front, device, final, ungrouped, PlacedCommand, is_device, opens_name, opened_names, device_or, is_made, place_of, placed_after, places, fate_of, with_fates, fates}
@@ -16,12 +15,10 @@ use Rattle.command_groups.specs.FateLaws.{is_ungrouped, regrouped, EachHasOneFat
 -- Tests.
 
 pub true_before_false : (a b : Bool) → (a || b) ≡ true → b ≡ false → a ≡ true
-true_before_false true b e f = refl
-true_before_false false b e f = absurd (false≢true (sym f ∙ e))
+true_before_false a b e f = grind (arith, false≢true)
 
 pub one_of : {P : Type 0} (a b : Bool) → (a ≡ true → P) → (b ≡ true → P) → (a || b) ≡ true → P
-one_of true b f g e = f refl
-one_of false b f g e = g e
+one_of a b f g e = grind arith
 
 pub same_text : (a b : List ℕ) → bytes_eq a b ≡ true → a ≡ b
 same_text a b e = (bytes_eq-Decides a b).0 e
@@ -30,15 +27,7 @@ pub equal_texts : (a b : List ℕ) → a ≡ b → bytes_eq a b ≡ true
 equal_texts a b e = (bytes_eq-Decides a b).1 e
 
 pub flipped : (a b : List ℕ) → bytes_eq a b ≡ bytes_eq b a
-flipped a b =
-    elim (bytes_eq a b) as (λ r. bytes_eq a b ≡ r → r ≡ bytes_eq b a) [
-      | true ↦ λ e. sym (equal_texts b a (sym (same_text a b e)))
-      | false ↦ λ e.
-          elim (bytes_eq b a) as (λ q. bytes_eq b a ≡ q → false ≡ q)
-          [ true ↦ λ f. absurd (false≢true (sym e ∙ equal_texts a b (sym (same_text b a f)))) | false ↦ λ f. refl ]
-          refl
-    ]
-    refl
+flipped a b = grind (arith, equal_texts, same_text, false≢true)
 
 -- Different names.
 
@@ -48,16 +37,10 @@ Distinct (n ∷ ns) = (list_any (bytes_eq n) ns ≡ false) × Distinct ns
 
 distinct_push : (names : List (List ℕ)) (x : List ℕ) → Distinct names → list_any (bytes_eq x) names ≡ false → Distinct (names ++ x ∷ [])
 distinct_push [] x d e = (refl, tt)
-distinct_push (n ∷ ns) x d e = (
-  list_any-append (bytes_eq n) ns (x ∷ []) ∙ or_from (list_any (bytes_eq n) ns) (bytes_eq n x || false) d.0 (or_from (bytes_eq n x) false (flipped n x ∙ (or_parts (bytes_eq x n) (list_any (bytes_eq x) ns) e).0) refl),
-  distinct_push ns x d.1 (or_parts (bytes_eq x n) (list_any (bytes_eq x) ns) e).1,
-)
+distinct_push (n ∷ ns) x d e = grind (arith, list_any-append, or_from, flipped, or_parts, (distinct_push ns x d.1 (or_parts (bytes_eq x n) (list_any (bytes_eq x) ns) e).1))
 
 pub distinct_with : (names : List (List ℕ)) (name : Option (List ℕ)) → Distinct names → Distinct (with_name names name)
-distinct_with names None d = d
-distinct_with names (Some x) d =
-    elim (list_any (bytes_eq x) names) as (λ b. list_any (bytes_eq x) names ≡ b → Distinct (cond b names (names ++ x ∷ [])))
-    [ true ↦ λ e. d | false ↦ λ e. distinct_push names x d e ] refl
+distinct_with names name d = grind (arith, distinct_push)
 
 -- the names after these, once some commands opened theirs
 abbrev pub names_after : List (List ℕ) → List StagedCommand → List (List ℕ)
@@ -79,10 +62,7 @@ AllNamed names [] = Unit {0}
 AllNamed names (p ∷ ps) = Named names p.fate × AllNamed names ps
 
 pub known_with : (names : List (List ℕ)) (name : Option (List ℕ)) (m : List ℕ) → list_any (bytes_eq m) names ≡ true → list_any (bytes_eq m) (with_name names name) ≡ true
-known_with names None m e = e
-known_with names (Some x) m e =
-    elim (list_any (bytes_eq x) names) as (λ b. list_any (bytes_eq m) (cond b names (names ++ x ∷ [])) ≡ true)
-    [ true ↦ e | false ↦ list_any-append (bytes_eq m) names (x ∷ []) ∙ or_left (list_any (bytes_eq m) names) (bytes_eq m x || false) e ]
+known_with names name m e = grind (arith, list_any-append, or_left)
 
 named_with : (names : List (List ℕ)) (name : Option (List ℕ)) (place : Fate) → Named names place → Named (with_name names name) place
 named_with names name (device m) h = known_with names name m h
@@ -97,45 +77,26 @@ all_named_push names [] p h k = (k, tt)
 all_named_push names (q ∷ qs) p h k = (h.0, all_named_push names qs p h.1 k)
 
 pub new_name_known : (names : List (List ℕ)) (x : List ℕ) → list_any (bytes_eq x) (with_name names (Some x)) ≡ true
-new_name_known names x =
-    elim (list_any (bytes_eq x) names) as (λ b. list_any (bytes_eq x) names ≡ b → list_any (bytes_eq x) (cond b names (names ++ x ∷ [])) ≡ true) [
-      | true ↦ λ e. e
-      | false ↦ λ e. list_any-append (bytes_eq x) names (x ∷ []) ∙ or_right (list_any (bytes_eq x) names) (bytes_eq x x || false) (or_left (bytes_eq x x) false (equal_texts x x refl))
-    ] refl
+new_name_known names x = grind (arith, list_any-append, or_right, or_left, equal_texts)
 
 named_cons : (n : List ℕ) (names : List (List ℕ)) (place : Fate) → Named names place → Named (n ∷ names) place
-named_cons n names (device m) h = or_right (bytes_eq m n) (list_any (bytes_eq m) names) h
-named_cons n names _ h = tt
+named_cons n names place h = grind (arith, or_right)
 
 found_named : (reason : Reason) (test : List ℕ → Bool) (names : List (List ℕ)) → Named names (device_or reason (find test names))
 found_named reason test [] = tt
-found_named reason test (n ∷ ns) =
-    let ih : Named ns (device_or reason (find test ns)) = found_named reason test ns in
-    elim (test n) as (λ b. Named (n ∷ ns) (device_or reason (cond b (Some n) (find test ns))))
-    [ true ↦ or_left (bytes_eq n n) (list_any (bytes_eq n) ns) (equal_texts n n refl) | false ↦ named_cons n ns (device_or reason (find test ns)) ih ]
+found_named reason test (n ∷ ns) = grind (arith, or_left, equal_texts, named_cons, (found_named reason test ns))
 
 place_named : (names : List (List ℕ)) (before : List PlacedCommand) (stage : Stage) → Named (with_name names (opens stage)) (place_of names before stage)
-place_named names before linking = tt
-place_named names before splitting = tt
-place_named names before (device_compiling None) = tt
-place_named names before (device_compiling (Some name)) = found_named NoCiccGroup (bytes_eq name) names
-place_named names before (assembling None) = tt
-place_named names before (assembling (Some path)) = found_named NoPtxasGroup (is_made path before) names
-place_named names before (preprocessing None) = tt
-place_named names before (preprocessing (Some name)) = new_name_known names name
-place_named names before host_compiling = tt
-place_named names before foreign = tt
+place_named names before stage = grind (arith, found_named, new_name_known)
 
 placed_named : (names : List (List ℕ)) (before : List PlacedCommand) (commands : List StagedCommand) → AllNamed names before → AllNamed (names_after names commands) (placed_after names before commands)
 placed_named names before [] h = h
 placed_named names before (c ∷ cs) h =
     let p : PlacedCommand = record { staged = c; fate = place_of names before c.stage } in
-    placed_named (with_name names (opens c.stage)) (before ++ p ∷ []) cs
-    (all_named_push (with_name names (opens c.stage)) before p (all_named_with names (opens c.stage) before h) (place_named names before c.stage))
+    grind (arith, all_named_push, all_named_with, place_named, (placed_named (with_name names (opens c.stage)) (before ++ p ∷ []) cs (all_named_push (with_name names (opens c.stage)) before p (all_named_with names (opens c.stage) before h) (place_named names before c.stage))))
 
 fate_named : (names : List (List ℕ)) (after : List PlacedCommand) (place : Fate) → Named names place → Named names (fate_of after place)
-fate_named names after (device m) h = elim (list_any (opens_name m) after) as (λ b. Named names (cond b (ungrouped Superseded) (device m))) [ true ↦ tt | false ↦ h ]
-fate_named names after _ h = tt
+fate_named names after place h = grind arith
 
 fates_named : (names : List (List ℕ)) (ps : List PlacedCommand) → AllNamed names ps → AllNamed names (with_fates ps)
 fates_named names [] h = tt
@@ -151,7 +112,7 @@ pub placed_staged : (names : List (List ℕ)) (before : List PlacedCommand) (com
 placed_staged names before [] = sym (append-nil (map (λ q. q.staged) before))
 placed_staged names before (c ∷ cs) =
     let p : PlacedCommand = record { staged = c; fate = place_of names before c.stage } in
-    placed_staged (with_name names (opens c.stage)) (before ++ p ∷ []) cs ∙ push_staged before p cs
+    grind (arith, push_staged, (placed_staged (with_name names (opens c.stage)) (before ++ p ∷ []) cs))
 
 pub fates_staged : (ps : List PlacedCommand) → map (λ q. q.staged) (with_fates ps) ≡ map (λ q. q.staged) ps
 fates_staged [] = refl
@@ -246,14 +207,7 @@ AllAtHome name [] = Unit {0}
 AllAtHome name (p ∷ ps) = AtHome name p × AllAtHome name ps
 
 home : (name : List ℕ) (names : List (List ℕ)) (before : List PlacedCommand) (stage : Stage) → is_some_and (λ opened. bytes_eq opened name) (opens stage) ≡ true → is_device name (place_of names before stage) ≡ true
-home name names before linking e = absurd (false≢true e)
-home name names before splitting e = absurd (false≢true e)
-home name names before (device_compiling input) e = absurd (false≢true e)
-home name names before (assembling path) e = absurd (false≢true e)
-home name names before (preprocessing None) e = absurd (false≢true e)
-home name names before (preprocessing (Some opened)) e = e
-home name names before host_compiling e = absurd (false≢true e)
-home name names before foreign e = absurd (false≢true e)
+home name names before stage e = grind (arith, false≢true)
 
 home_push : (name : List ℕ) (ps : List PlacedCommand) (p : PlacedCommand) → AllAtHome name ps → AtHome name p → AllAtHome name (ps ++ p ∷ [])
 home_push name [] p h k = (k, tt)
@@ -263,20 +217,11 @@ all_home : (name : List ℕ) (names : List (List ℕ)) (before : List PlacedComm
 all_home name names before [] h = h
 all_home name names before (c ∷ cs) h =
     let p : PlacedCommand = record { staged = c; fate = place_of names before c.stage } in
-    all_home name (with_name names (opens c.stage)) (before ++ p ∷ []) cs (home_push name before p h (home name names before c.stage))
+    grind (arith, home_push, home, (all_home name (with_name names (opens c.stage)) (before ++ p ∷ []) cs (home_push name before p h (home name names before c.stage))))
 
 -- a name that is known after a step was known before it, or the step opens it
 known_or_opened : (names : List (List ℕ)) (opened : Option (List ℕ)) (name : List ℕ) (b : Bool) → (list_any (bytes_eq name) names ≡ true → b ≡ true) → list_any (bytes_eq name) (with_name names opened) ≡ true → (b || (is_some_and (λ o. bytes_eq o name) opened || false)) ≡ true
-known_or_opened names None name b f e = or_left b (false || false) (f e)
-known_or_opened names (Some x) name b f e =
-    (elim (list_any (bytes_eq x) names) as (λ r. list_any (bytes_eq name) (cond r names (names ++ x ∷ [])) ≡ true → (b || (bytes_eq x name || false)) ≡ true) [
-      | true ↦ λ k. or_left b (bytes_eq x name || false) (f k)
-      | false ↦ λ k.
-          one_of (list_any (bytes_eq name) names) (bytes_eq name x || false)
-          (λ g. or_left b (bytes_eq x name || false) (f g))
-          (λ g. or_right b (bytes_eq x name || false) (ap (λ r. r || false) (flipped x name) ∙ g))
-          (sym (list_any-append (bytes_eq name) names (x ∷ [])) ∙ k)
-    ]) e
+known_or_opened names opened name b f e = grind (arith, or_left, one_of, or_right, flipped, list_any-append)
 
 names_are_opened : (name : List ℕ) (names : List (List ℕ)) (before : List PlacedCommand) (commands : List StagedCommand) → (list_any (bytes_eq name) names ≡ true → list_any (opens_name name) before ≡ true) → list_any (bytes_eq name) (names_after names commands) ≡ true → list_any (opens_name name) (placed_after names before commands) ≡ true
 names_are_opened name names before [] f e = f e
@@ -292,21 +237,14 @@ opened_by_fates name (p ∷ ps) = λ i. opens_name name p || opened_by_fates nam
 -- where a later step opens a name, no earlier command is left in its group
 lost : (name : List ℕ) (after : List PlacedCommand) (place : Fate) → list_any (opens_name name) after ≡ true → is_device name (fate_of after place) ≡ false
 lost name after front e = refl
-lost name after (device m) e =
-    elim (list_any (opens_name m) after) as (λ b. list_any (opens_name m) after ≡ b → is_device name (cond b (ungrouped Superseded) (device m)) ≡ false) [
-      | true ↦ λ f. refl
-      | false ↦ λ f.
-          elim (bytes_eq m name) as (λ r. bytes_eq m name ≡ r → r ≡ false)
-          [ true ↦ λ g. absurd (false≢true (sym f ∙ (ap (λ k. list_any (opens_name k) after) (same_text m name g) ∙ e))) | false ↦ λ g. refl ] refl
-    ] refl
+lost name after (device m) e = grind (arith, false≢true, same_text)
 lost name after final e = refl
 lost name after (ungrouped reason) e = refl
 
 -- where none does, a command of its group stays there
 stays : (name : List ℕ) (after : List PlacedCommand) (place : Fate) → is_device name place ≡ true → list_any (opens_name name) after ≡ false → is_device name (fate_of after place) ≡ true
 stays name after front e f = absurd (false≢true e)
-stays name after (device m) e f =
-    ap (λ b. is_device name (cond b (ungrouped Superseded) (device m))) (ap (λ k. list_any (opens_name k) after) (same_text m name e) ∙ f) ∙ e
+stays name after (device m) e f = grind (arith, same_text)
 stays name after final e f = absurd (false≢true e)
 stays name after (ungrouped reason) e f = absurd (false≢true e)
 
@@ -336,5 +274,4 @@ length_with_last f [] y = refl
 length_with_last f (x ∷ xs) y = ap suc (length_with_last f xs y) ∙ omega arith
 
 pub outer_groups_are_there : OuterGroupsAreThere
-outer_groups_are_there s commands =
-    ap suc (length_with_last (λ name. group_of s (is_device name) (fates commands)) (opened_names commands) (group_of s is_final (fates commands))) ∙ omega arith
+outer_groups_are_there s commands = grind (arith, length_with_last)

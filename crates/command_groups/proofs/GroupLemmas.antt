@@ -6,7 +6,6 @@ use Rattle.std.proofs.lemmas.List.{length-replicate}
 use Rattle.texts.specs.Lists.{is_some_and}
 use Rattle.command_groups.specs.declared.openings.Opening.{Opening}
 use Rattle.command_groups.specs.declared.labels.Label.{Label}
-use Rattle.command_groups.specs.declared.labels.Label.TheVariants.{Device, Final}
 use Rattle.plans.specs.declared.origins.Origin.{Origin}
 use Rattle.plans.specs.declared.plan.Dropped.{Dropped}
 use Rattle.plans.specs.declared.plan.Reason.{Reason}
@@ -72,10 +71,7 @@ module _ {X : Type 0} (x : X) (g : List ℕ → List X) where
 
   joined_at : (opened : Opened) (k : ℕ) (e : List ℕ × ℕ) (rest : List (List X)) → Distinct (names_of opened) → slice_get opened k ≡ Some e → map (joined_by e.0) (names_of opened) ++ rest ≡ cons_at k x (map g (names_of opened) ++ rest)
   joined_at [] k e rest d h = cc
-  joined_at (y ∷ ys) zero e rest d h =
-      let same : y ≡ e = cc in
-      let name : e.0 ≡ y.0 = ap (λ (p : List ℕ × ℕ). p.0) (sym same) in
-      (λ i. cond (equal_texts e.0 y.0 name i) (x ∷ g y.0) (g y.0) ∷ (not_joined e.0 (names_of ys) (ap (λ n. list_any (bytes_eq n) (names_of ys)) name ∙ d.0) i ++ rest))
+  joined_at (y ∷ ys) zero e rest d h = grind (arith, equal_texts, not_joined)
   joined_at (y ∷ ys) (suc k) e rest d h =
       λ i. cond (apart i) (x ∷ g y.0) (g y.0) ∷ joined_at ys k e rest d.1 h i
     where
@@ -144,14 +140,11 @@ module _ {X : Type 0} (of : StagedCommand → X) (opened : Opened) (d : Distinct
           pointwise e (n ∷ ns) = λ i. one e n i ∷ pointwise e ns i
 
   fits : (c : StagedCommand) (ps : List PlacedCommand) (label : Label) → Fits c ps (fate_by opened label) (group_of_label opened label)
-  fits c ps (Device o) = fits_device c ps o (slice_get opened o.number) refl
-  fits c ps Final = ap (λ gs. elements is_front ps ∷ gs) (last_joined (of c) (λ name. elements (is_device name) ps) opened (elements is_final ps))
-  fits c ps _ = refl
+  fits c ps label = grind (arith, fits_device, last_joined)
 
   -- all labelled commands
   by_result : (gs : List (List X)) (c : StagedCommand) (ps : List PlacedCommand) (place : Fate) (r : Result ℕ Reason) → Fits c ps place r → zipped (with_grouped of gs c r) (all_groups ps) ≡ zipped gs (all_groups (record { staged = c; fate = place } ∷ ps))
-  by_result gs c ps place (Ok k) f = put_before k (of c) gs (all_groups ps) ∙ ap (zipped gs) (sym f)
-  by_result gs c ps place (Err reason) f = ap (zipped gs) (sym f)
+  by_result gs c ps place r f = grind (arith, put_before)
 
   groups_after : (gs : List (List X)) (ls : List Labelled) → length gs ≡ suc (suc (length opened)) → fold (with_element of opened) gs ls ≡ zipped gs (all_groups (map (settled opened) ls))
   groups_after gs [] h = sym (zipped_with_nothing (names_of opened) gs (omega (arith, h, names_length opened)))
@@ -171,9 +164,7 @@ module _ {X : Type 0} (of : StagedCommand → X) (opened : Opened) (d : Distinct
       one_more (e ∷ es) = ap suc (one_more es)
 
   groups_are : (ls : List Labelled) → fold (with_element of opened) (no_groups (length opened)) ls ≡ all_groups (map (settled opened) ls)
-  groups_are ls =
-      groups_after (no_groups (length opened)) ls (length-replicate (suc (suc (length opened))) [])
-      ∙ zipped_nothing (suc (suc (length opened))) (all_groups (map (settled opened) ls)) (groups_long (map (settled opened) ls))
+  groups_are ls = simp (groups_after, length-replicate, zipped_nothing, groups_long)
 
 -- Dropped commands.
 
@@ -189,13 +180,10 @@ module _ (opened : Opened) where
   Falls c ps place r = all_dropped (record { staged = c; fate = place } ∷ ps) ≡ drops r c ++ all_dropped ps
 
   falls_device : (c : StagedCommand) (ps : List PlacedCommand) (o : Opening) (e : Option (List ℕ × ℕ)) → Falls c ps (fate_at e o.step) (if is_some_and (λ q. q.1 == o.step) e then Ok (suc o.number) else Err Superseded)
-  falls_device c ps o None = refl
-  falls_device c ps o (Some e) =
-      elim (e.1 == o.step) as (λ b. Falls c ps (cond b (device e.0) (ungrouped Superseded)) (cond b (Ok (suc o.number)) (Err Superseded))) [ true ↦ refl | false ↦ refl ]
+  falls_device c ps o e = grind arith
 
   falls : (c : StagedCommand) (ps : List PlacedCommand) (label : Label) → Falls c ps (fate_by opened label) (group_of_label opened label)
-  falls c ps (Device o) = falls_device c ps o (slice_get opened o.number)
-  falls c ps _ = refl
+  falls c ps label = grind (arith, falls_device)
 
   one_dropped : (ds more : List Dropped) (c : StagedCommand) (r : Result ℕ Reason) → with_dropped ds c r ++ more ≡ ds ++ (drops r c ++ more)
   one_dropped ds more c (Ok place) = refl
@@ -203,10 +191,7 @@ module _ (opened : Opened) where
 
   dropped_after : (ds : List Dropped) (ls : List Labelled) → fold (λ ds l. with_dropped ds l.staged (group_of_label opened l.label)) ds ls ≡ ds ++ all_dropped (map (settled opened) ls)
   dropped_after ds [] = sym (append-nil ds)
-  dropped_after ds (l ∷ ls) =
-      dropped_after (with_dropped ds l.staged (group_of_label opened l.label)) ls
-      ∙ one_dropped ds (all_dropped (map (settled opened) ls)) l.staged (group_of_label opened l.label)
-      ∙ ap (λ more. ds ++ more) (sym (falls l.staged (map (settled opened) ls) l.label))
+  dropped_after ds (l ∷ ls) = simp (one_dropped, falls, (dropped_after (with_dropped ds l.staged (group_of_label opened l.label)) ls))
 
 -- groups, one after the other
 joined_groups : (names : List (List ℕ)) (ps : List PlacedCommand) →
@@ -234,16 +219,4 @@ parts_are s opened cut (l ∷ ls) = parts_are s opened (with_labelled s opened c
 -- the plan that labels are cut into is the plan of the commands
 pub cut_is_plan : (s : PlanSetting) (commands : List StagedCommand) →
     plan_by_labels s (grouped commands) ≡ record { plan = plan_of_staged s commands; origins = origins_of_staged commands }
-cut_is_plan s commands =
-    let g : GroupingState = grouped commands in
-    let d = names_are_distinct commands in
-    let ps : List PlacedCommand = map (settled g.opened) g.labelled in
-    ap planned_of_cut (parts_are s g.opened (nothing_cut (length g.opened)) g.labelled)
-    ∙ (λ i. record {
-      plan = record { groups = groups_are (subcommand_of s) g.opened d g.labelled i; dropped = dropped_after g.opened [] g.labelled i };
-      origins = (ap (flat_map (λ (group : List Origin). group)) (groups_are origin_of g.opened d g.labelled) ∙ joined_groups (names_of g.opened) ps) i;
-    })
-    ∙ (λ i. record {
-      plan = record { groups = groups_of s (names_are_opened commands i) (labels_are_fates commands i); dropped = filter_map (λ p. dropped_by p.fate p.staged.command) (labels_are_fates commands i) };
-      origins = origins_of_placed (names_are_opened commands i) (labels_are_fates commands i);
-    })
+cut_is_plan s commands = simp (names_are_distinct, parts_are, groups_are, dropped_after, joined_groups, names_are_opened, labels_are_fates)

@@ -30,29 +30,10 @@ abbrev with_place : Fate → PlacedCommand → PlacedCommand
 with_place place p = record { staged = p.staged; fate = place }
 
 last_fate : (place : Fate) → fate_of [] place ≡ place
-last_fate front = refl
-last_fate (device name) = refl
-last_fate final = refl
-last_fate (ungrouped reason) = refl
+last_fate place = grind arith
 
 fate_pushed : (after : List PlacedCommand) (p : PlacedCommand) (opened : Option (List ℕ)) → opens p.staged.stage ≡ opened → (place : Fate) → fate_of (after ++ p ∷ []) place ≡ relabelled_by opened (fate_of after place)
-fate_pushed after p None e front = refl
-fate_pushed after p (Some name) e front = refl
-fate_pushed after p None e final = refl
-fate_pushed after p (Some name) e final = refl
-fate_pushed after p None e (ungrouped reason) = refl
-fate_pushed after p (Some name) e (ungrouped reason) = refl
-fate_pushed after p None e (device m) =
-    ap (λ b. cond b (ungrouped Superseded) (device m)) (list_any-append (opens_name m) after (p ∷ [])
-    ∙ ap (λ o. list_any (opens_name m) after || (is_some_and (λ (n : List ℕ). bytes_eq n m) o || false)) e)
-    ∙ (elim (list_any (opens_name m) after) as (λ b. cond (b || (false || false)) (ungrouped Superseded) (device m) ≡ cond b (ungrouped Superseded) (device m)) [ true ↦ refl | false ↦ refl ])
-fate_pushed after p (Some name) e (device m) =
-    ap (λ b. cond b (ungrouped Superseded) (device m)) (list_any-append (opens_name m) after (p ∷ [])
-    ∙ ap (λ o. list_any (opens_name m) after || (is_some_and (λ (n : List ℕ). bytes_eq n m) o || false)) e)
-    ∙ (elim (list_any (opens_name m) after) as (λ b. cond (b || (bytes_eq name m || false)) (ungrouped Superseded) (device m) ≡ relabelled name (cond b (ungrouped Superseded) (device m))) [
-      | true ↦ refl
-      | false ↦ elim (bytes_eq name m) as (λ b. cond (b || false) (ungrouped Superseded) (device m) ≡ cond b (ungrouped Superseded) (device m)) [ true ↦ refl | false ↦ refl ]
-    ])
+fate_pushed after p opened e place = grind (arith, list_any-append, relabelled)
 
 fates_pushed : (before : List PlacedCommand) (p : PlacedCommand) (opened : Option (List ℕ)) → opens p.staged.stage ≡ opened →
     with_fates (before ++ p ∷ []) ≡ map (λ q. with_place (relabelled_by opened q.fate) q) (with_fates before) ++ p ∷ []
@@ -62,45 +43,27 @@ fates_pushed (q ∷ qs) p opened e = λ i. record { staged = q.staged; fate = fa
 -- What is made, with one more command.
 
 shuffled : (m a o i k : Bool) → ((m && not (a || (o || false))) || ((i && not o) || k)) ≡ ((((m && not a) || i) && not o) || k)
-shuffled false a o i k = refl
-shuffled true true o i k = refl
-shuffled true false true true k = refl
-shuffled true false true false k = refl
-shuffled true false false i k = refl
+shuffled m a o i k = grind arith
 
 made_pushed : (path : List ℕ) (before : List PlacedCommand) (p : PlacedCommand) (name : List ℕ) →
     is_made path (before ++ p ∷ []) name ≡ ((is_made path before name && not (opens_name name p)) || makes path name p)
 made_pushed path [] p name = elim (makes path name p) as (λ b. ((b && true) || false) ≡ b) [ true ↦ refl | false ↦ refl ]
-made_pushed path (q ∷ qs) p name =
-    ap (λ b. (makes path name q && not b) || is_made path (qs ++ p ∷ []) name) (list_any-append (opens_name name) qs (p ∷ []))
-    ∙ ap (λ b. (makes path name q && not (list_any (opens_name name) qs || (opens_name name p || false))) || b) (made_pushed path qs p name)
-    ∙ shuffled (makes path name q) (list_any (opens_name name) qs) (opens_name name p) (is_made path qs name) (makes path name p)
+made_pushed path (q ∷ qs) p name = grind (arith, list_any-append, shuffled, (made_pushed path qs p name))
 
 kept : (a : Bool) → ((a && not false) || false) ≡ a
-kept true = refl
-kept false = refl
+kept a = grind arith
 
 -- a command that opens nothing and isn't cicc's makes nothing, and what was made stays
 quiet_made : (path : List ℕ) (before : List PlacedCommand) (p : PlacedCommand) (name : List ℕ) → opens p.staged.stage ≡ None → is_device_compiling p.staged.stage ≡ false → is_made path (before ++ p ∷ []) name ≡ is_made path before name
-quiet_made path before p name e f =
-    made_pushed path before p name
-    ∙ (λ i. (is_made path before name && not (is_some_and (λ (n : List ℕ). bytes_eq n name) (e i))) || (f i && (is_device name p.fate && is_some_and (bytes_eq path) (last_of p.staged.command.words))))
-    ∙ kept (is_made path before name)
+quiet_made path before p name e f = grind (arith, made_pushed, kept)
 
 -- Entries.
 
 entry_opened : (opened : Opened) (name : List ℕ) (place : ℕ) → Distinct (names_of opened) → (k : ℕ) (e : List ℕ × ℕ) → slice_get (insert_entry bytes_eq opened name place) k ≡ Some e →
     ((bytes_eq name e.0 ≡ true) × (e.1 ≡ place)) ⊎ ((bytes_eq name e.0 ≡ false) × (slice_get opened k ≡ Some e))
-entry_opened [] name place d zero e g =
-    let same : (name, place) ≡ e = cc in
-    inl (equal_texts name e.0 (ap (λ (p : List ℕ × ℕ). p.0) same), sym (ap (λ (p : List ℕ × ℕ). p.1) same))
+entry_opened [] name place d zero e g = grind (arith, equal_texts)
 entry_opened [] name place d (suc k) e g = cc
-entry_opened (x ∷ xs) name place d zero e g =
-    (elim (bytes_eq name x.0) as (λ b. bytes_eq name x.0 ≡ b → slice_get (cond b ((x.0, place) ∷ xs) (x ∷ insert_entry bytes_eq xs name place)) 0 ≡ Some e →
-    ((bytes_eq name e.0 ≡ true) × (e.1 ≡ place)) ⊎ ((bytes_eq name e.0 ≡ false) × (Some x ≡ Some e))) [
-      | true ↦ λ f h. let same : (x.0, place) ≡ e = cc in inl (ap (λ (p : List ℕ × ℕ). bytes_eq name p.0) (sym same) ∙ f, sym (ap (λ (p : List ℕ × ℕ). p.1) same))
-      | false ↦ λ f h. let same : x ≡ e = cc in inr (ap (λ (p : List ℕ × ℕ). bytes_eq name p.0) (sym same) ∙ f, h)
-    ]) refl g
+entry_opened (x ∷ xs) name place d zero e g = grind arith
 entry_opened (x ∷ xs) name place d (suc k) e g =
     let ih : (slice_get (insert_entry bytes_eq xs name place) k ≡ Some e → ((bytes_eq name e.0 ≡ true) × (e.1 ≡ place)) ⊎ ((bytes_eq name e.0 ≡ false) × (slice_get xs k ≡ Some e))) = entry_opened xs name place d.1 k e in
     (elim (bytes_eq name x.0) as (λ b. bytes_eq name x.0 ≡ b → slice_get (cond b ((x.0, place) ∷ xs) (x ∷ insert_entry bytes_eq xs name place)) (suc k) ≡ Some e →
@@ -118,40 +81,20 @@ entry_opened (x ∷ xs) name place d (suc k) e g =
 
 pub stands : (opened : Opened) (k : ℕ) (e : List ℕ × ℕ) → slice_get opened k ≡ Some e → list_any (bytes_eq e.0) (names_of opened) ≡ true
 stands [] k e g = cc
-stands (x ∷ xs) zero e g =
-    let same : x ≡ e = cc in
-    ap (λ b. b || list_any (bytes_eq e.0) (names_of xs)) (equal_texts e.0 x.0 (ap (λ (p : List ℕ × ℕ). p.0) (sym same)))
+stands (x ∷ xs) zero e g = grind (arith, equal_texts)
 stands (x ∷ xs) (suc k) e g = elim (bytes_eq e.0 x.0) as (λ b. (b || list_any (bytes_eq e.0) (names_of xs)) ≡ true) [ true ↦ refl | false ↦ stands xs k e g ]
 
 -- entries of equal names stand at one number
 one_number : (opened : Opened) (j k : ℕ) (d e : List ℕ × ℕ) → Distinct (names_of opened) → slice_get opened j ≡ Some d → slice_get opened k ≡ Some e → d.0 ≡ e.0 → j ≡ k
 one_number [] j k d e u g h s = cc
 one_number (x ∷ xs) zero zero d e u g h s = refl
-one_number (x ∷ xs) zero (suc k) d e u g h s =
-    let same : x ≡ d = cc in
-    absurd (false≢true (sym u.0 ∙ ap (λ n. list_any (bytes_eq n) (names_of xs)) (ap (λ (p : List ℕ × ℕ). p.0) same ∙ s) ∙ stands xs k e h))
-one_number (x ∷ xs) (suc j) zero d e u g h s =
-    let same : x ≡ e = cc in
-    absurd (false≢true (sym u.0 ∙ ap (λ n. list_any (bytes_eq n) (names_of xs)) (ap (λ (p : List ℕ × ℕ). p.0) same ∙ sym s) ∙ stands xs j d g))
+one_number (x ∷ xs) zero (suc k) d e u g h s = grind (arith, false≢true, stands)
+one_number (x ∷ xs) (suc j) zero d e u g h s = grind (arith, false≢true, stands)
 one_number (x ∷ xs) (suc j) (suc k) d e u g h s = ap suc (one_number xs j k d e u.1 g h s)
 
 -- an opening that stands, as a test of an entry
 own_entry : (opened : Opened) (o : Opening) (d : List ℕ × ℕ) (k : ℕ) (e : List ℕ × ℕ) → Distinct (names_of opened) → slice_get opened o.number ≡ Some d → (d.1 == o.step) ≡ true → slice_get opened k ≡ Some e → bytes_eq d.0 e.0 ≡ is_at k e o
-own_entry opened o d k e u g t h =
-    elim (bytes_eq d.0 e.0) as (λ b. bytes_eq d.0 e.0 ≡ b → b ≡ is_at k e o) [
-      | true ↦ λ f.
-          let number : o.number ≡ k = one_number opened o.number k d e u g h (same_text d.0 e.0 f) in
-          let same : d ≡ e = entries number in
-          sym (ap (λ b. b && (e.1 == o.step)) (eq-eqb o.number k number) ∙ ap (λ (p : List ℕ × ℕ). p.1 == o.step) (sym same) ∙ t)
-      | false ↦ λ f.
-          elim (o.number == k) as (λ b. (o.number == k) ≡ b → false ≡ (b && (e.1 == o.step))) [
-            | true ↦ λ q. absurd (false≢true (sym f ∙ equal_texts d.0 e.0 (ap (λ (p : List ℕ × ℕ). p.0) (entries (eqb-true o.number k q)))))
-            | false ↦ λ q. refl
-          ] refl
-    ] refl
-  where
-    entries : o.number ≡ k → d ≡ e
-    entries n = let both : Some d ≡ Some e = sym g ∙ ap (slice_get opened) n ∙ h in cc
+own_entry opened o d k e u g t h = grind (arith, is_at, one_number, same_text, eq-eqb, false≢true, equal_texts, eqb-true)
 
 -- What holds of the commands so far.
 
@@ -177,8 +120,7 @@ module _ {X : Type 0} (P Q : X → Type 0) (f : (x : X) → P x → Q x) where
   weaker_with (x ∷ xs) y h q = (f x h.0, weaker_with xs y h.1 q)
 
 bounded_later : (opened opened' : Opened) (n m : ℕ) → length opened ≤ length opened' → n ≤ m → (label : Label) → Bounded opened n label → Bounded opened' m label
-bounded_later opened opened' n m h k (Device o) b = (omega (arith, b.0), omega (arith, b.1))
-bounded_later opened opened' n m h k _ b = tt
+bounded_later opened opened' n m h k label b = grind arith
 
 unchanged : (ps : List PlacedCommand) → map (λ q. with_place (relabelled_by None q.fate) q) ps ≡ ps
 unchanged [] = refl
@@ -207,15 +149,7 @@ module _ (names : List (List ℕ)) (before : List PlacedCommand) (g : GroupingSt
 
   follows : (made : Made) → ((path : List ℕ) → Tells g.opened (made path) (is_made path (before ++ new_place ∷ []))) → ((path : List ℕ) → AllByRecursion (Within g.opened (length g.labelled)) (made path)) →
       Holds names (before ++ new_place ∷ []) (record { opened = g.opened; made = made; labelled = g.labelled ++ new_label ∷ [] })
-  follows made t w = record {
-    names_are = h.names_are;
-    distinct = h.distinct;
-    steps = weaker (λ e. e.1 < length g.labelled) (λ e. e.1 < length (g.labelled ++ new_label ∷ [])) (λ e b. omega (arith, b, later)) g.opened h.steps;
-    fates_are = fates_follow;
-    labels = labels_follow;
-    told = t;
-    made_within = λ path. weaker (Within g.opened (length g.labelled)) (Within g.opened (length (g.labelled ++ new_label ∷ []))) (λ o b. (b.0, omega (arith, b.1, later))) (made path) (w path);
-  }
+  follows made t w = grind (arith, weaker, later, fates_follow, labels_follow)
 
   -- where no file is made
   follows_quietly : is_device_compiling c.stage ≡ false → Holds names (before ++ new_place ∷ []) (record { opened = g.opened; made = g.made; labelled = g.labelled ++ new_label ∷ [] })
@@ -247,19 +181,7 @@ opening_stands (e ∷ es) place name h =
 module _ (opened : Opened) (made : Made) (o : Opening) (d : List ℕ × ℕ) (u : Distinct (names_of opened)) (g : slice_get opened o.number ≡ Some d) (t : (d.1 == o.step) ≡ true) where
   told_with : (path : List ℕ) (last : Option (List ℕ)) (test : List ℕ → Bool) → Tells opened (made path) test → (k : ℕ) (e : List ℕ × ℕ) → slice_get opened k ≡ Some e →
       ((test e.0 && not false) || (true && (bytes_eq d.0 e.0 && is_some_and (bytes_eq path) last))) ≡ list_any (is_at k e) (with_made made (Some o) last path)
-  told_with path None test tells k e s = ap (λ b. (test e.0 && not false) || b) (and-false (bytes_eq d.0 e.0)) ∙ kept (test e.0) ∙ tells k e s
-  told_with path (Some file) test tells k e s =
-      elim (bytes_eq path file) as (λ b. ((test e.0 && not false) || (true && (bytes_eq d.0 e.0 && b))) ≡ list_any (is_at k e) (cond b (made path ++ o ∷ []) (made path))) [
-        | true ↦
-            (λ i. (tells k e s i && not false) || (own_entry opened o d k e u g t s i && true))
-            ∙ joined (list_any (is_at k e) (made path)) (is_at k e o) ∙ sym (list_any-append (is_at k e) (made path) (o ∷ []))
-        | false ↦ ap (λ b. (test e.0 && not false) || b) (and-false (bytes_eq d.0 e.0)) ∙ kept (test e.0) ∙ tells k e s
-      ]
-    where
-      joined : (a b : Bool) → ((a && not false) || (b && true)) ≡ (a || (b || false))
-      joined true b = refl
-      joined false true = refl
-      joined false false = refl
+  told_with path last test tells k e s = grind (arith, and-false, kept, is_at, own_entry, list_any-append)
 
   within_with : (place : ℕ) → Within opened place o → (path : List ℕ) (last : Option (List ℕ)) → AllByRecursion (Within opened place) (made path) → AllByRecursion (Within opened place) (with_made made (Some o) last path)
   within_with place w path None h = h
@@ -301,8 +223,7 @@ module _ (names : List (List ℕ)) (before : List PlacedCommand) (g : GroupingSt
       lowest (Some f) b = elim (nat_le f.number o.number) as (λ c. P (cond c f o)) [ true ↦ b | false ↦ a.0 ]
 
   label_within : (r : Option Opening) → Bounded_by (Within g.opened (length g.labelled)) r → Bounded g.opened (length g.labelled) (device_label r NoPtxasGroup)
-  label_within None b = tt
-  label_within (Some o) b = b
+  label_within r b = grind arith
 
   after_ptxas : (path : List ℕ) → After (assembling (Some path))
   after_ptxas path =
@@ -342,18 +263,11 @@ module _ (names : List (List ℕ)) (before : List PlacedCommand) (g : GroupingSt
 
   steps_after : (name : List ℕ) (place later : ℕ) (opened : Opened) → place < later → AllByRecursion (λ e. e.1 < place) opened → AllByRecursion (λ e. e.1 < later) (insert_entry bytes_eq opened name place)
   steps_after name place later [] l a = (l, tt)
-  steps_after name place later (e ∷ es) l a =
-      let ih : AllByRecursion (λ e. e.1 < later) (insert_entry bytes_eq es name place) = steps_after name place later es l a.1 in
-      elim (bytes_eq name e.0) as (λ b. AllByRecursion (λ e. e.1 < later) (cond b ((e.0, place) ∷ es) (e ∷ insert_entry bytes_eq es name place)))
-      [ true ↦ (l, weaker (λ (d : List ℕ × ℕ). d.1 < place) (λ (d : List ℕ × ℕ). d.1 < later) (λ d b. omega (arith, b, l)) es a.1) | false ↦ (omega (arith, a.0), ih) ]
+  steps_after name place later (e ∷ es) l a = grind (arith, later, weaker, (steps_after name place later es l a.1))
 
   longer : (name : List ℕ) (place : ℕ) (opened : Opened) → (length opened ≤ length (insert_entry bytes_eq opened name place)) × (number_of opened name < length (insert_entry bytes_eq opened name place))
   longer name place [] = (omega arith, omega arith)
-  longer name place (e ∷ es) =
-      let ih : (length es ≤ length (insert_entry bytes_eq es name place)) × (number_of es name < length (insert_entry bytes_eq es name place)) = longer name place es in
-      elim (bytes_eq name e.0) as (λ b.
-      (suc (length es) ≤ length (cond b ((e.0, place) ∷ es) (e ∷ insert_entry bytes_eq es name place))) × (cond b 0 (suc (number_of es name)) < length (cond b ((e.0, place) ∷ es) (e ∷ insert_entry bytes_eq es name place))))
-      [ true ↦ (omega arith, omega arith) | false ↦ (omega (arith, ih.0), omega (arith, ih.1)) ]
+  longer name place (e ∷ es) = grind (arith, (longer name place es))
 
   after_step : (name : List ℕ) → After (preprocessing (Some name))
   after_step name =
@@ -394,8 +308,7 @@ module _ (names : List (List ℕ)) (before : List PlacedCommand) (g : GroupingSt
 
 holds_all : (names : List (List ℕ)) (before : List PlacedCommand) (g : GroupingState) (cs : List StagedCommand) → Holds names before g → Holds (names_after names cs) (placed_after names before cs) (fold with_command g cs)
 holds_all names before g [] h = h
-holds_all names before g (c ∷ cs) h =
-    holds_all (with_name names (opens c.stage)) (before ++ record { staged = c; fate = place_of names before c.stage } ∷ []) (with_command g c) cs (after names before g h c.command c.stage)
+holds_all names before g (c ∷ cs) h = grind (arith, after, (holds_all (with_name names (opens c.stage)) (before ++ record { staged = c; fate = place_of names before c.stage } ∷ []) (with_command g c) cs (after names before g h c.command c.stage)))
 
 all_held : (commands : List StagedCommand) → Holds (opened_names commands) (places commands) (grouped commands)
 all_held commands =

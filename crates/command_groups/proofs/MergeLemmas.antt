@@ -15,17 +15,13 @@ use Rattle.command_groups.proofs.FateLemmas.{one_of}
 -- Tests.
 
 second_fails : (a b : Bool) → a ≡ true → (a && b) ≡ false → b ≡ false
-second_fails true b e f = f
-second_fails false b e f = absurd (false≢true e)
+second_fails a b e f = grind (arith, false≢true)
 
 not_equal : (m n : ℕ) → (m ≡ n → ⊥) → (m == n) ≡ false
 not_equal m n h = elim (m == n) as (λ b. (m == n) ≡ b → b ≡ false) [ true ↦ λ e. absurd (h (eqb-true m n e)) | false ↦ λ e. refl ] refl
 
 not_less : (m n : ℕ) → n ≤ m → nat_lt m n ≡ false
-not_less m n h = elim (nat_lt m n) as (λ b. nat_lt m n ≡ b → b ≡ false) [ true ↦ λ e. absurd (below (ltb-true m n e)) | false ↦ λ e. refl ] refl
-  where
-    below : m < n → ⊥
-    below k = omega arith
+not_less m n h = grind (arith, ltb-true)
 
 -- Commands by line, and on equal lines by what a test says of their runs.
 
@@ -34,16 +30,10 @@ module _ (test : ℕ → ℕ → Bool) (Holds : ℕ → ℕ → Type 0) (says : 
   ByLine a b = (a.line < b.line) ⊎ ((a.line ≡ b.line) × Holds a.run b.run)
 
   told_by_line : (a b : MergedCommand) → (nat_lt a.line b.line || ((a.line == b.line) && test a.run b.run)) ≡ true → ByLine a b
-  told_by_line a b e =
-      one_of (nat_lt a.line b.line) ((a.line == b.line) && test a.run b.run)
-      (λ f. inl (ltb-true a.line b.line f))
-      (λ f. let p = and_parts (a.line == b.line) (test a.run b.run) f in inr (eqb-true a.line b.line p.0, says a.run b.run p.1))
-      e
+  told_by_line a b e = grind (arith, one_of, ltb-true, and_parts, eqb-true)
 
   tells_by_line : (a b : MergedCommand) → ByLine a b → (nat_lt a.line b.line || ((a.line == b.line) && test a.run b.run)) ≡ true
-  tells_by_line a b (inl h) = or_left (nat_lt a.line b.line) ((a.line == b.line) && test a.run b.run) (lt-ltb a.line b.line h)
-  tells_by_line a b (inr h) =
-      or_right (nat_lt a.line b.line) ((a.line == b.line) && test a.run b.run) (and_from (a.line == b.line) (test a.run b.run) (eq-eqb a.line b.line h.0) (said a.run b.run h.1))
+  tells_by_line a b h = grind (arith, or_left, lt-ltb, or_right, and_from, eq-eqb)
 
 -- The order is one.
 
@@ -57,22 +47,10 @@ tells : (a b : MergedCommand) → Before a b → is_in_order a b ≡ true
 tells = tells_by_line nat_le (λ m n. m ≤ n) leb-true le-leb
 
 chained : (a b c : MergedCommand) → Before a b → Before b c → Before a c
-chained a b c (inl h) (inl k) = inl (omega arith)
-chained a b c (inl h) (inr k) = inl (omega arith)
-chained a b c (inr h) (inl k) = inl (omega arith)
-chained a b c (inr h) (inr k) = inr (omega arith, omega arith)
+chained a b c h k = grind arith
 
 turned : (a b : MergedCommand) → is_in_order a b ≡ false → is_in_order b a ≡ true
-turned a b e =
-    let below : b.line ≤ a.line = ltb-false a.line b.line (or_parts (nat_lt a.line b.line) ((a.line == b.line) && nat_le a.run b.run) e).0 in
-    elim (nat_lt b.line a.line) as (λ r. nat_lt b.line a.line ≡ r → is_in_order b a ≡ true) [
-      | true ↦ λ f. tells b a (inl (ltb-true b.line a.line f))
-      | false ↦ λ f.
-          let above : a.line ≤ b.line = ltb-false b.line a.line f in
-          let same : a.line ≡ b.line = omega arith in
-          let run : b.run < a.run = leb-false a.run b.run (second_fails (a.line == b.line) (nat_le a.run b.run) (eq-eqb a.line b.line same) (or_parts (nat_lt a.line b.line) ((a.line == b.line) && nat_le a.run b.run) e).1) in
-          tells b a (inr (sym same, omega arith))
-    ] refl
+turned a b e = grind (arith, ltb-false, or_parts, tells, ltb-true, leb-false, second_fails, eq-eqb)
 
 -- Putting a command in its place.
 
@@ -80,26 +58,18 @@ all_after : (c d : MergedCommand) (ds : List MergedCommand) → is_in_order c d 
 all_after c d [] e h = refl
 all_after c d (x ∷ xs) e h =
     let p = and_parts (is_in_order d x) (list_all (is_in_order d) xs) h in
-    and_from (is_in_order c x) (list_all (is_in_order c) xs) (tells c x (chained c d x (told c d e) (told d x p.0))) (all_after c d xs e p.1)
+    grind (arith, and_from, tells, chained, told, (all_after c d xs e p.1))
 
 put_after : (c d : MergedCommand) (ds : List MergedCommand) → is_in_order c d ≡ true → list_all (is_in_order c) ds ≡ true → list_all (is_in_order c) (put_in_order d ds) ≡ true
 put_after c d [] e h = and_from (is_in_order c d) true e refl
 put_after c d (x ∷ xs) e h =
     let p = and_parts (is_in_order c x) (list_all (is_in_order c) xs) h in
     let ih : list_all (is_in_order c) (put_in_order d xs) ≡ true = put_after c d xs e p.1 in
-    elim (is_in_order d x) as (λ r. list_all (is_in_order c) (cond r (d ∷ x ∷ xs) (x ∷ put_in_order d xs)) ≡ true) [
-      | true ↦ and_from (is_in_order c d) (is_in_order c x && list_all (is_in_order c) xs) e h
-      | false ↦ and_from (is_in_order c x) (list_all (is_in_order c) (put_in_order d xs)) p.0 ih
-    ]
+    grind (arith, and_from)
 
 put_ordered : (c : MergedCommand) (ds : List MergedCommand) → InOrder ds → InOrder (put_in_order c ds)
 put_ordered c [] h = (refl, tt)
-put_ordered c (d ∷ ds) h =
-    let ih : InOrder (put_in_order c ds) = put_ordered c ds h.1 in
-    elim (is_in_order c d) as (λ r. is_in_order c d ≡ r → InOrder (cond r (c ∷ d ∷ ds) (d ∷ put_in_order c ds))) [
-      | true ↦ λ e. (and_from (is_in_order c d) (list_all (is_in_order c) ds) e (all_after c d ds e h.0), h)
-      | false ↦ λ e. (put_after d c ds (turned c d e) h.0, ih)
-    ] refl
+put_ordered c (d ∷ ds) h = grind (arith, and_from, all_after, put_after, turned, (put_ordered c ds h.1))
 
 ordered : (cs : List MergedCommand) → InOrder (in_order cs)
 ordered [] = tt
@@ -162,10 +132,7 @@ strictly_tells : (a b : MergedCommand) → StrictlyBefore a b → is_before a b 
 strictly_tells = tells_by_line nat_lt (λ m n. m < n) ltb-true lt-ltb
 
 not_both : (a b : MergedCommand) → StrictlyBefore a b → StrictlyBefore b a → ⊥
-not_both a b (inl h) (inl k) = omega arith
-not_both a b (inl h) (inr k) = omega arith
-not_both a b (inr h) (inl k) = omega arith
-not_both a b (inr h) (inr k) = omega arith
+not_both a b h k = grind arith
 
 never_before_itself : (a b : MergedCommand) → a ≡ b → is_before b a ≡ true → ⊥
 never_before_itself a b e h = let k : is_before b b ≡ true = ap (is_before b) (sym e) ∙ h in not_both b b (strictly_told b b k) (strictly_told b b k)
@@ -175,11 +142,7 @@ left_behind : (p : MergedCommand) (ps zs : List MergedCommand) → list_all (is_
 left_behind p ps [] h k = tt
 left_behind p ps (z ∷ zs) h k =
     let s = and_parts (is_before p z) (list_all (is_before p) zs) h in
-    (one z s.0 k.0, left_behind p ps zs s.1 k.1)
-  where
-    one : (z : MergedCommand) → is_before p z ≡ true → Among z (p ∷ ps) → Among z ps
-    one z b (inl e) = absurd (never_before_itself z p e b)
-    one z b (inr a) = a
+    grind (arith, never_before_itself, (left_behind p ps zs s.1 k.1))
 
 same_list : (ps ms : List MergedCommand) → RisesInOrder ps → RisesInOrder ms → AllByRecursion (λ z. Among z ps) ms → AllByRecursion (λ z. Among z ms) ps → ms ≡ ps
 same_list [] [] r s h k = refl
@@ -222,31 +185,17 @@ no_ties_later : (x : MergedCommand) (xs : List MergedCommand) → NoTies (x ∷ 
 no_ties_later x xs h a = omega (arith, tallied a x xs, h a)
 
 strictly : (a b : MergedCommand) → is_in_order a b ≡ true → tie a b ≡ 0 → is_before a b ≡ true
-strictly a b e t = go (told a b e)
-  where
-    go : Before a b → is_before a b ≡ true
-    go (inl h) = strictly_tells a b (inl h)
-    go (inr h) =
-        elim (nat_lt a.run b.run) as (λ r. nat_lt a.run b.run ≡ r → is_before a b ≡ true) [
-          | true ↦ λ f. strictly_tells a b (inr (h.0, ltb-true a.run b.run f))
-          | false ↦ λ f.
-              let above : b.run ≤ a.run = ltb-false a.run b.run f in
-              let same : a.run ≡ b.run = omega arith in
-              absurd (omega (arith, sym t ∙ ap (λ r. if r then 1 else 0) (and_from (a.line == b.line) (a.run == b.run) (eq-eqb a.line b.line h.0) (eq-eqb a.run b.run same))))
-        ] refl
+strictly a b e t = grind (arith, told, strictly_tells, ltb-true, ltb-false, and_from, eq-eqb)
 
 all_strictly : (a : MergedCommand) (xs : List MergedCommand) → list_all (is_in_order a) xs ≡ true → tally a xs ≡ 0 → list_all (is_before a) xs ≡ true
 all_strictly a [] h t = refl
 all_strictly a (x ∷ xs) h t =
     let s = and_parts (is_in_order a x) (list_all (is_in_order a) xs) h in
-    and_from (is_before a x) (list_all (is_before a) xs) (strictly a x s.0 (omega (arith, tallied a x xs))) (all_strictly a xs s.1 (omega (arith, tallied a x xs)))
+    grind (arith, and_from, strictly, tallied, (all_strictly a xs s.1 (omega (arith, tallied a x xs))))
 
 strict_order : (xs : List MergedCommand) → InOrder xs → NoTies xs → RisesInOrder xs
 strict_order [] h t = tt
-strict_order (x ∷ xs) h t = (
-  all_strictly x xs h.0 (omega (arith, tallied x x xs, ties_itself x, t x)),
-  strict_order xs h.1 (no_ties_later x xs t),
-)
+strict_order (x ∷ xs) h t = grind (arith, all_strictly, tallied, ties_itself, no_ties_later, (strict_order xs h.1 (no_ties_later x xs t)))
 
 -- The commands of two runs share no line and run.
 
@@ -256,52 +205,29 @@ none_above r n a (c ∷ cs) l h =
     let s = and_parts (nat_lt n (line_of c)) (list_all (nat_lt n) (map line_of cs)) h in
     let above : n < line_of c = ltb-true n (line_of c) s.0 in
     let apart : (a.line == line_of c) ≡ false = not_equal a.line (line_of c) (omega arith) in
-    tallied a (of_run r c) (map (of_run r) cs) ∙ ap (λ b. (if b && (a.run == r) then 1 else 0) + tally a (map (of_run r) cs)) apart ∙ omega (arith, none_above r n a cs l s.1)
+    grind (arith, tallied, (none_above r n a cs l s.1))
 
 rising_tally : (r : ℕ) (a : MergedCommand) (cs : List CommandLine) → Rises (map line_of cs) → tally a (map (of_run r) cs) ≤ 1
 rising_tally r a [] h = omega arith
-rising_tally r a (c ∷ cs) h =
-    elim (ties a (of_run r c)) as (λ b. ties a (of_run r c) ≡ b → tally a (map (of_run r) (c ∷ cs)) ≤ 1) [
-      | true ↦ λ e.
-          let same : a.line ≡ line_of c = eqb-true a.line (line_of c) (and_parts (a.line == line_of c) (a.run == r) e).0 in
-          let one : tie a (of_run r c) ≡ 1 = ap (λ b. if b then 1 else 0) e in
-          omega (arith, tallied a (of_run r c) (map (of_run r) cs), none_above r (line_of c) a cs (omega arith) h.0)
-      | false ↦ λ e.
-          let none : tie a (of_run r c) ≡ 0 = ap (λ b. if b then 1 else 0) e in
-          omega (arith, tallied a (of_run r c) (map (of_run r) cs), rising_tally r a cs h.1)
-    ] refl
+rising_tally r a (c ∷ cs) h = grind (arith, eqb-true, and_parts, tallied, none_above, (rising_tally r a cs h.1))
 
 other_run : (r : ℕ) (a : MergedCommand) (cs : List CommandLine) → (a.run == r) ≡ false → tally a (map (of_run r) cs) ≡ 0
 other_run r a [] e = refl
-other_run r a (c ∷ cs) e =
-    tallied a (of_run r c) (map (of_run r) cs) ∙ ap (λ b. (if (a.line == line_of c) && b then 1 else 0) + tally a (map (of_run r) cs)) e ∙ ap (λ b. (if b then 1 else 0) + tally a (map (of_run r) cs)) (and-false (a.line == line_of c)) ∙ omega (arith, other_run r a cs e)
+other_run r a (c ∷ cs) e = grind (arith, tallied, and-false, (other_run r a cs e))
 
 all_left : (n : ℕ) (test : CommandLine → Bool) (cs : List CommandLine) → list_all (nat_lt n) (map line_of cs) ≡ true → list_all (nat_lt n) (map line_of (filter test cs)) ≡ true
 all_left n test [] h = refl
 all_left n test (c ∷ cs) h =
     let s = and_parts (nat_lt n (line_of c)) (list_all (nat_lt n) (map line_of cs)) h in
     let ih : list_all (nat_lt n) (map line_of (filter test cs)) ≡ true = all_left n test cs s.1 in
-    elim (test c) as (λ b. list_all (nat_lt n) (map line_of (cond b (c ∷ filter test cs) (filter test cs))) ≡ true)
-    [ true ↦ and_from (nat_lt n (line_of c)) (list_all (nat_lt n) (map line_of (filter test cs))) s.0 ih | false ↦ ih ]
+    grind (arith, and_from)
 
 rises_left : (test : CommandLine → Bool) (cs : List CommandLine) → Rises (map line_of cs) → Rises (map line_of (filter test cs))
 rises_left test [] h = tt
-rises_left test (c ∷ cs) h =
-    let ih : Rises (map line_of (filter test cs)) = rises_left test cs h.1 in
-    elim (test c) as (λ b. Rises (map line_of (cond b (c ∷ filter test cs) (filter test cs))))
-    [ true ↦ (all_left (line_of c) test cs h.0, ih) | false ↦ ih ]
+rises_left test (c ∷ cs) h = grind (arith, all_left, (rises_left test cs h.1))
 
 two_runs : (cs ds : List CommandLine) → Rises (map line_of cs) → Rises (map line_of ds) → NoTies (map (of_run 1) cs ++ map (of_run 2) ds)
-two_runs cs ds h k a =
-    elim (a.run == 1) as (λ b. (a.run == 1) ≡ b → tally a (map (of_run 1) cs ++ map (of_run 2) ds) ≤ 1) [
-      | true ↦ λ e.
-          let first : a.run ≡ 1 = eqb-true a.run 1 e in
-          let other : tally a (map (of_run 2) ds) ≡ 0 = other_run 2 a ds (not_equal a.run 2 (omega arith)) in
-          omega (arith, sum_by-append (tie a) (map (of_run 1) cs) (map (of_run 2) ds), rising_tally 1 a cs h)
-      | false ↦ λ e.
-          let other : tally a (map (of_run 1) cs) ≡ 0 = other_run 1 a cs e in
-          omega (arith, sum_by-append (tie a) (map (of_run 1) cs) (map (of_run 2) ds), rising_tally 2 a ds k)
-    ] refl
+two_runs cs ds h k a = grind (arith, eqb-true, other_run, not_equal, sum_by-append, rising_tally)
 
 tallies_stay : (xs ys : List MergedCommand) → IsPermutation xs ys → NoTies xs → NoTies ys
 tallies_stay xs ys p h a = omega (arith, sum_by-IsPermutation (tie a) xs ys p, h a)
@@ -330,31 +256,8 @@ Adjacent (c ∷ d ∷ ds) = (is_in_order c d ≡ true) × Adjacent (d ∷ ds)
 pub ordered_by_neighbours : (cs : List MergedCommand) → Adjacent cs → InOrder cs
 ordered_by_neighbours [] h = tt
 ordered_by_neighbours (c ∷ []) h = (refl, tt)
-ordered_by_neighbours (c ∷ d ∷ ds) h =
-    let ih : InOrder (d ∷ ds) = ordered_by_neighbours (d ∷ ds) h.1 in
-    (and_from (is_in_order c d) (list_all (is_in_order c) ds) h.0 (all_after c d ds h.0 ih.0), ih)
+ordered_by_neighbours (c ∷ d ∷ ds) h = grind (arith, and_from, all_after, (ordered_by_neighbours (d ∷ ds) h.1))
 
 -- what sorting says of two neighbours
 pub not_greater : (a b : MergedCommand) (o : Ordering) → is_lt (ordering_then (nat_cmp b.line a.line) (ordering_then (nat_cmp b.run a.run) o)) ≡ false → is_in_order a b ≡ true
-not_greater a b o h =
-    elim (is_in_order a b) as (λ r. is_in_order a b ≡ r → r ≡ true) [ true ↦ λ e. refl | false ↦ λ e. absurd (below (turned a b e) e) ] refl
-  where
-    line_first : nat_lt b.line a.line ≡ true → ⊥
-    line_first e = true≢false (sym (ap (λ r. is_lt (ordering_then (cond r Less (cond (b.line == a.line) Equal Greater)) (ordering_then (nat_cmp b.run a.run) o))) e) ∙ h)
-
-    run_next : nat_lt b.line a.line ≡ false → (b.line == a.line) ≡ true → nat_lt b.run a.run ≡ true → ⊥
-    run_next e f g =
-        true≢false
-        (sym (ap (λ r. is_lt (ordering_then (cond r Less (cond (b.line == a.line) Equal Greater)) (ordering_then (nat_cmp b.run a.run) o))) e
-        ∙ ap (λ r. is_lt (ordering_then (cond r Equal Greater) (ordering_then (nat_cmp b.run a.run) o))) f
-        ∙ ap (λ r. is_lt (ordering_then (cond r Less (cond (b.run == a.run) Equal Greater)) o)) g) ∙ h)
-
-    by_place : Before b a → is_in_order a b ≡ false → ⊥
-    by_place (inl k) e = line_first (lt-ltb b.line a.line k)
-    by_place (inr k) e =
-        let above : b.run < a.run =
-        leb-false a.run b.run (second_fails (a.line == b.line) (nat_le a.run b.run) (eq-eqb a.line b.line (sym k.0)) (or_parts (nat_lt a.line b.line) ((a.line == b.line) && nat_le a.run b.run) e).1) in
-        run_next (not_less b.line a.line (omega arith)) (eq-eqb b.line a.line k.0) (lt-ltb b.run a.run above)
-
-    below : is_in_order b a ≡ true → is_in_order a b ≡ false → ⊥
-    below k e = by_place (told b a k) e
+not_greater a b o h = grind (arith, turned, lt-ltb, leb-false, second_fails, eq-eqb, or_parts, not_less, told)

@@ -1,5 +1,5 @@
 -- The fate of a command whose group one step opens, and that doesn't stand before that step.
-use Rattle.std.proofs.Common.{◌≡◌, ℕ, List, [], ◌∷◌, ◌++◌, ◌||◌, Bool, true, false, cond, Option, Some, None, map, filter, refl, sym, ap, subst, ◌∙◌, bytes_eq}
+use Rattle.std.proofs.Common.{◌≡◌, ℕ, List, [], ◌∷◌, ◌++◌, ◌||◌, Bool, true, false, cond, Option, Some, None, map, filter, refl, sym, ap, subst, ◌∙◌, bytes_eq, arith}
 use Rattle.std.specs.List.{Contains, AllByRecursion, list_any, list_all}
 use Rattle.std.proofs.lemmas.Bool.{false≢true, and_parts, or_parts}
 use Rattle.std.proofs.lemmas.List.Elements.{All-from_recursion, All-contains}
@@ -109,7 +109,7 @@ module _ (n : List ℕ) (step target : StagedCommand)
   late [] h k = tt
   late (p ∷ ps) h k =
       let rest = (or_parts (opener n p.staged) (list_any (opener n) (map (λ p. p.staged) ps)) k).1 in
-      (λ e. stays ps p.fate (h.0 e) rest, late ps h.1 rest)
+      grind (arith, stays, (late ps h.1 rest))
 
   early : (ps : List PlacedCommand) → AllByRecursion Good ps → InOrder (map (λ t. t.command) (map (λ p. p.staged) ps)) → filter (opener n) (map (λ p. p.staged) ps) ≡ step ∷ [] → AllByRecursion Good (with_fates ps)
   early [] h o f = tt
@@ -124,10 +124,4 @@ module _ (n : List ℕ) (step target : StagedCommand)
       ] refl f
 
   pub fate_settled : (cs : List StagedCommand) → InOrder (map (λ t. t.command) cs) → filter (opener n) cs ≡ step ∷ [] → (p : PlacedCommand) → Contains (fates cs) p → p.staged ≡ target → p.fate ≡ device n
-  fate_settled cs o f p among =
-      let same : map (λ (p : PlacedCommand). p.staged) (places cs) ≡ cs = placed_staged [] [] cs in
-      let all : AllByRecursion Good (fates cs) =
-      early (places cs) (good_before [] [] cs tt o f)
-      (subst (λ ts. InOrder (map (λ t. t.command) ts)) (sym same) o)
-      (subst (λ ts. filter (opener n) ts ≡ step ∷ []) (sym same) f) in
-      All-contains Good (fates cs) p (All-from_recursion Good (fates cs) all) among
+  fate_settled cs o f p among = grind (arith, placed_staged, early, good_before, All-contains, All-from_recursion)

@@ -19,30 +19,14 @@ use Rattle.command_groups.proofs.FateLemmas.{Distinct, same_text}
 
 pub names_opened : (opened : Opened) (name : List ℕ) (place : ℕ) → names_of (insert_entry bytes_eq opened name place) ≡ with_name (names_of opened) (Some name)
 names_opened [] name place = refl
-names_opened (e ∷ es) name place =
-    let ih : names_of (insert_entry bytes_eq es name place) ≡ with_name (names_of es) (Some name) = names_opened es name place in
-    elim (bytes_eq name e.0)
-    as (λ b. names_of (cond b ((e.0, place) ∷ es) (e ∷ insert_entry bytes_eq es name place)) ≡ cond (b || list_any (bytes_eq name) (names_of es)) (e.0 ∷ names_of es) (e.0 ∷ (names_of es ++ name ∷ [])))
-    [ true ↦ refl | false ↦ ap (λ ns. e.0 ∷ ns) ih ∙ pushed (list_any (bytes_eq name) (names_of es)) ]
-  where
-    pushed : (b : Bool) → e.0 ∷ cond b (names_of es) (names_of es ++ name ∷ []) ≡ cond b (e.0 ∷ names_of es) (e.0 ∷ (names_of es ++ name ∷ []))
-    pushed true = refl
-    pushed false = refl
+names_opened (e ∷ es) name place = grind (arith, (names_opened es name place))
 
 -- A label at a list of openings.
 
 -- the label of a found opening is that of the found name
 pub opening_found : (opened : Opened) (name : List ℕ) (reason : Reason) → fate_by opened (device_label (opening_of opened name) reason) ≡ device_or reason (find (bytes_eq name) (names_of opened))
 opening_found [] name reason = refl
-opening_found (e ∷ es) name reason =
-    let ih : fate_by es (device_label (opening_of es name) reason) ≡ device_or reason (find (bytes_eq name) (names_of es)) = opening_found es name reason in
-    elim (bytes_eq name e.0)
-    as (λ b. fate_by (e ∷ es) (device_label (cond b (Some (opening_at 0 e.1)) (further (opening_of es name))) reason) ≡ device_or reason (cond b (Some e.0) (find (bytes_eq name) (names_of es))))
-    [ true ↦ ap (λ b. cond b (device e.0) (ungrouped Superseded)) (eq-eqb e.1 e.1 refl) | false ↦ shifted (opening_of es name) ∙ ih ]
-  where
-    shifted : (o : Option Opening) → fate_by (e ∷ es) (device_label (further o) reason) ≡ fate_by es (device_label o reason)
-    shifted None = refl
-    shifted (Some o) = refl
+opening_found (e ∷ es) name reason = grind (arith, eq-eqb, (opening_found es name reason))
 
 -- the opening that a step makes is the last one of its name
 pub opened_here : (opened : Opened) (name : List ℕ) (place : ℕ) → fate_by (insert_entry bytes_eq opened name place) (Device (opening_at (number_of opened name) place)) ≡ device name
@@ -68,33 +52,17 @@ Bounded opened place (Device o) = (o.number < length opened) × (o.step < place)
 Bounded opened place _ = Unit {0}
 
 apart : (m n : ℕ) → m < n → (n == m) ≡ false
-apart m n h = elim (n == m) as (λ b. (n == m) ≡ b → b ≡ false) [ true ↦ λ e. absurd (below (eqb-true n m e)) | false ↦ λ e. refl ] refl
-  where
-    below : n ≡ m → ⊥
-    below e = omega arith
+apart m n h = grind (arith, eqb-true)
 
 unmatched : (opened : Opened) (name : List ℕ) (k s : ℕ) → list_any (bytes_eq name) (names_of opened) ≡ false → fate_at (slice_get opened k) s ≡ relabelled name (fate_at (slice_get opened k) s)
 unmatched [] name k s h = refl
-unmatched (e ∷ es) name zero s h =
-    let other : bytes_eq name e.0 ≡ false = (or_parts (bytes_eq name e.0) (list_any (bytes_eq name) (names_of es)) h).0 in
-    elim (e.1 == s) as (λ b. cond b (device e.0) (ungrouped Superseded) ≡ relabelled name (cond b (device e.0) (ungrouped Superseded)))
-    [ true ↦ ap (λ b. cond b (ungrouped Superseded) (device e.0)) (sym other) | false ↦ refl ]
+unmatched (e ∷ es) name zero s h = grind (arith, or_parts)
 unmatched (e ∷ es) name (suc k) s h = unmatched es name k s (or_parts (bytes_eq name e.0) (list_any (bytes_eq name) (names_of es)) h).1
 
 reopened_at : (opened : Opened) (name : List ℕ) (place k s : ℕ) → Distinct (names_of opened) → k < length opened → s < place →
     fate_at (slice_get (insert_entry bytes_eq opened name place) k) s ≡ relabelled name (fate_at (slice_get opened k) s)
 reopened_at [] name place k s d h t = absurd (omega arith)
-reopened_at (e ∷ es) name place zero s d h t =
-    elim (bytes_eq name e.0) as (λ b. bytes_eq name e.0 ≡ b →
-    fate_at (slice_get (cond b ((e.0, place) ∷ es) (e ∷ insert_entry bytes_eq es name place)) 0) s ≡ relabelled name (cond (e.1 == s) (device e.0) (ungrouped Superseded))) [
-      | true ↦ λ f.
-          ap (λ b. cond b (device e.0) (ungrouped Superseded)) (apart s place t)
-          ∙ (elim (e.1 == s) as (λ b. ungrouped Superseded ≡ relabelled name (cond b (device e.0) (ungrouped Superseded)))
-          [ true ↦ ap (λ b. cond b (ungrouped Superseded) (device e.0)) (sym f) | false ↦ refl ])
-      | false ↦ λ f.
-          elim (e.1 == s) as (λ b. cond b (device e.0) (ungrouped Superseded) ≡ relabelled name (cond b (device e.0) (ungrouped Superseded)))
-          [ true ↦ ap (λ b. cond b (ungrouped Superseded) (device e.0)) (sym f) | false ↦ refl ]
-    ] refl
+reopened_at (e ∷ es) name place zero s d h t = grind (arith, apart)
 reopened_at (e ∷ es) name place (suc k) s d h t =
     let ih : fate_at (slice_get (insert_entry bytes_eq es name place) k) s ≡ relabelled name (fate_at (slice_get es k) s) = reopened_at es name place k s d.1 (omega arith) t in
     elim (bytes_eq name e.0) as (λ b. bytes_eq name e.0 ≡ b →
@@ -103,8 +71,7 @@ reopened_at (e ∷ es) name place (suc k) s d h t =
 
 pub reopened : (opened : Opened) (name : List ℕ) (place : ℕ) (label : Label) → Distinct (names_of opened) → Bounded opened place label →
     fate_by (insert_entry bytes_eq opened name place) label ≡ relabelled name (fate_by opened label)
-reopened opened name place (Device o) d b = reopened_at opened name place o.number o.step d b.0 b.1
-reopened opened name place _ d b = refl
+reopened opened name place label d b = grind (arith, reopened_at)
 
 -- The first live opening.
 
@@ -136,77 +103,41 @@ Best opened first os (Some f) =
 
 module _ (opened : Opened) where
   lower_live : (first : Option Opening) (o : Opening) → IsLive opened first → is_live opened o ≡ true → is_live opened (lower first o) ≡ true
-  lower_live None o h k = k
-  lower_live (Some g) o h k = elim (nat_le g.number o.number) as (λ b. is_live opened (cond b g o) ≡ true) [ true ↦ h | false ↦ k ]
+  lower_live first o h k = grind arith
 
   lower_is : (first : Option Opening) (o f : Opening) (os : List Opening) → lower first o ≡ f → (first ≡ Some f) ⊎ Among f (o ∷ os)
-  lower_is None o f os e = inr (inl (sym e))
-  lower_is (Some g) o f os e =
-      (elim (nat_le g.number o.number) as (λ b. cond b g o ≡ f → (Some g ≡ Some f) ⊎ Among f (o ∷ os))
-      [ true ↦ λ h. inl (ap Some h) | false ↦ λ h. inr (inl (sym h)) ]) e
+  lower_is first o f os e = grind arith
 
   lower_both : (first : Option Opening) (o f : Opening) → f.number ≤ (lower first o).number → AtMost f first × (f.number ≤ o.number)
-  lower_both None o f h = (tt, h)
-  lower_both (Some g) o f h =
-      (elim (nat_le g.number o.number) as (λ b. nat_le g.number o.number ≡ b → f.number ≤ (cond b g o).number → (f.number ≤ g.number) × (f.number ≤ o.number)) [
-        | true ↦ λ e k. let l : g.number ≤ o.number = leb-true g.number o.number e in (k, omega arith)
-        | false ↦ λ e k. let l : o.number < g.number = leb-false g.number o.number e in (omega arith, k)
-      ]) refl h
+  lower_both first o f h = grind (arith, leb-true, leb-false)
 
   taken : (first : Option Opening) (o : Opening) (os : List Opening) (r : Option Opening) → is_live opened o ≡ true → Best opened (Some (lower first o)) os r → Best opened first (o ∷ os) r
-  taken first o os None h b = absurd (some_none b.0)
-    where
-      some_none : Some (lower first o) ≡ None → ⊥
-      some_none e = cc
-  taken first o os (Some f) h b =
-      let both = lower_both first o f b.2 in
-      (b.0, whose b.1, both.0, ((λ _. both.1), b.3))
-    where
-      whose : (Some (lower first o) ≡ Some f) ⊎ Among f os → (first ≡ Some f) ⊎ Among f (o ∷ os)
-      whose (inl e) = lower_is first o f os cc
-      whose (inr a) = inr (inr a)
+  taken first o os r h b = grind (arith, lower_both, lower_is)
 
   passed : (first : Option Opening) (o : Opening) (os : List Opening) (r : Option Opening) → is_live opened o ≡ false → Best opened first os r → Best opened first (o ∷ os) r
-  passed first o os None h b = (b.0, (h, b.1))
-  passed first o os (Some f) h b = (b.0, whose b.1, b.2, ((λ k. absurd (false≢true (sym h ∙ k))), b.3))
-    where
-      whose : (first ≡ Some f) ⊎ Among f os → (first ≡ Some f) ⊎ Among f (o ∷ os)
-      whose (inl e) = inl e
-      whose (inr a) = inr (inr a)
+  passed first o os r h b = grind (arith, false≢true)
 
   best : (first : Option Opening) (os : List Opening) → IsLive opened first → Best opened first os (first_live_after opened first os)
   best None [] h = (refl, tt)
   best (Some f) [] h = (h, inl refl, omega arith, tt)
   best first (o ∷ os) h =
       let ih : (g : Option Opening) → IsLive opened g → Best opened g os (first_live_after opened g os) = λ g k. best g os k in
-      elim (is_live opened o) as (λ b. is_live opened o ≡ b → Best opened first (o ∷ os) (first_live_after opened (cond b (Some (lower first o)) first) os)) [
-        | true ↦ λ e. taken first o os (first_live_after opened (Some (lower first o)) os) e (ih (Some (lower first o)) (lower_live first o h e))
-        | false ↦ λ e. passed first o os (first_live_after opened first os) e (ih first h)
-      ] refl
+      grind (arith, taken, lower_live, passed)
 
   live_here : (o : Opening) (k : ℕ) (e : List ℕ × ℕ) → slice_get opened k ≡ Some e → is_at k e o ≡ true → (is_live opened o ≡ true) × (o.number ≡ k)
-  live_here o k e g h =
-      let p = and_parts (o.number == k) (e.1 == o.step) h in
-      let same : o.number ≡ k = eqb-true o.number k p.0 in
-      (ap (λ i. is_some_and (λ (d : List ℕ × ℕ). d.1 == o.step) (slice_get opened i)) same ∙ ap (is_some_and (λ (d : List ℕ × ℕ). d.1 == o.step)) g ∙ p.1, same)
+  live_here o k e g h = grind (arith, and_parts, eqb-true)
 
   none_here : (os : List Opening) (k : ℕ) (e : List ℕ × ℕ) → slice_get opened k ≡ Some e → AllByRecursion (λ o. is_live opened o ≡ true → o.number ≡ k → ⊥) os → list_any (is_at k e) os ≡ false
   none_here [] k e g h = refl
-  none_here (o ∷ os) k e g h =
-      let ih : list_any (is_at k e) os ≡ false = none_here os k e g h.1 in
-      elim (is_at k e o) as (λ b. is_at k e o ≡ b → (b || list_any (is_at k e) os) ≡ false)
-      [ true ↦ λ f. let p = live_here o k e g f in absurd (h.0 p.0 p.1) | false ↦ λ f. ih ] refl
+  none_here (o ∷ os) k e g h = grind (arith, live_here, (none_here os k e g h.1))
 
   any_here : (o : Opening) (os : List Opening) (e : List ℕ × ℕ) → Among o os → (e.1 == o.step) ≡ true → list_any (is_at o.number e) os ≡ true
   any_here o [] e a h = absurd a
-  any_here o (p ∷ os) e (inl s) h =
-      ap (λ (q : Opening). ((q.number == o.number) && (e.1 == q.step)) || list_any (is_at o.number e) os) (sym s)
-      ∙ ap (λ b. (b && (e.1 == o.step)) || list_any (is_at o.number e) os) (eq-eqb o.number o.number refl) ∙ ap (λ b. b || list_any (is_at o.number e) os) h
+  any_here o (p ∷ os) e (inl s) h = grind (arith, eq-eqb)
   any_here o (p ∷ os) e (inr a) h = or_right (is_at o.number e p) (list_any (is_at o.number e) os) (any_here o os e a h)
 
   live_entry : (o : Opening) (g : Option (List ℕ × ℕ)) → is_some_and (λ (d : List ℕ × ℕ). d.1 == o.step) g ≡ true → (e : List ℕ × ℕ) × (g ≡ Some e) × ((e.1 == o.step) ≡ true)
-  live_entry o None h = absurd (false≢true h)
-  live_entry o (Some e) h = (e, refl, h)
+  live_entry o g h = grind (arith, false≢true)
 
 weaker : (P Q : Opening → Type 0) → ((o : Opening) → P o → Q o) → (os : List Opening) → AllByRecursion P os → AllByRecursion Q os
 weaker P Q f [] h = tt
@@ -219,9 +150,7 @@ find_none (e ∷ es) test h = ap (λ b. cond b (Some e.0) (find test (names_of e
 find_at : (opened : Opened) (test : List ℕ → Bool) (k : ℕ) (e : List ℕ × ℕ) → slice_get opened k ≡ Some e → test e.0 ≡ true →
     ((j : ℕ) (d : List ℕ × ℕ) → j < k → slice_get opened j ≡ Some d → test d.0 ≡ false) → find test (names_of opened) ≡ Some e.0
 find_at [] test k e g t h = cc
-find_at (d ∷ ds) test zero e g t h =
-    let same : d ≡ e = cc in
-    ap (λ b. cond b (Some d.0) (find test (names_of ds))) (ap (λ (p : List ℕ × ℕ). test p.0) same ∙ t) ∙ ap (λ (p : List ℕ × ℕ). Some p.0) same
+find_at (d ∷ ds) test zero e g t h = grind arith
 find_at (d ∷ ds) test (suc k) e g t h =
     ap (λ b. cond b (Some d.0) (find test (names_of ds))) (h 0 d (omega arith) refl) ∙ find_at ds test k e g t (λ j p l q. h (suc j) p (omega arith) q)
 

@@ -1,5 +1,5 @@
 -- Plans of dry runs that can be read, and of dry runs that are alike.
-use Rattle.std.proofs.Common.{◌≡◌, ℕ, List, [], ◌∷◌, Bool, true, false, cond, map, Option, None, Result, Ok, refl, sym, ap, subst, ◌∙◌}
+use Rattle.std.proofs.Common.{◌≡◌, ℕ, List, [], ◌∷◌, Bool, true, false, cond, map, Option, None, Result, Ok, refl, sym, ap, subst, ◌∙◌, arith}
 use Rattle.std.specs.List.{list_all}
 use Rattle.std.proofs.lemmas.Bool.{and_parts, and_from}
 use Rattle.texts.specs.declared.fault.Fault.{Fault}
@@ -27,15 +27,12 @@ one_name : (suffixes : List (List ℕ)) → AreSuffixes suffixes → (one other 
 one_name suffixes lawful one other like = alike-runs_agree suffixes lawful one other like.one_is_clean like.other_is_clean like.alike
 
 pub alike_pairs_have_one_plan : AlikePairsHaveOnePlan
-alike_pairs_have_one_plan suffixes lawful s variables first second other_first other_second firsts seconds =
-    ap (λ r. plan_of s variables r (renamed suffixes second)) (one_name suffixes lawful first other_first firsts)
-    ∙ ap (plan_of s variables (renamed suffixes other_first)) (one_name suffixes lawful second other_second seconds)
+alike_pairs_have_one_plan suffixes lawful s variables first second other_first other_second firsts seconds = grind (arith, one_name)
 
 planned : (suffixes : List (List ℕ)) (keep_dir : Option (List ℕ)) (s : PlanSetting) (which : LookUp) (first second : List ℕ) (one two : List CommandLine × List Variable) →
     dry_run_of 1 first s.cwd which ≡ Ok one → dry_run_of 2 second s.cwd which ≡ Ok two →
     planning_of suffixes keep_dir s which first second ≡ Ok (plan_of s one.1 (named suffixes keep_dir one.0) (named suffixes keep_dir two.0))
-planned suffixes keep_dir s which first second one two e f =
-    ap (λ r. plan_or_fault suffixes keep_dir s r (dry_run_of 2 second s.cwd which)) e ∙ ap (plan_or_fault suffixes keep_dir s (Ok one)) f
+planned suffixes keep_dir s which first second one two e f = grind arith
 
 pub alike_texts_have_one_plan : AlikeTextsHaveOnePlan
 alike_texts_have_one_plan suffixes lawful s which first second other_first other_second firsts seconds same =
@@ -56,31 +53,24 @@ alike_texts_have_one_plan suffixes lawful s which first second other_first other
 module _ (suffixes : List (List ℕ)) (keep_dir : Option (List ℕ)) (s : PlanSetting) where
   only : (lines more : List Meaning) (faults others : List Fault) (plan : Plan) →
       plan_or_fault suffixes keep_dir s (run_or_fault lines faults) (run_or_fault more others) ≡ Ok plan → (faults ≡ []) × (others ≡ [])
-  only lines more [] [] plan e = (refl, refl)
-  only lines more [] (f ∷ fs) plan e = cc
-  only lines more (f ∷ fs) others plan e = cc
+  only lines more faults others plan e = grind arith
 
   pub by_faults : (which : LookUp) (first second : List ℕ) (faults others : List Fault) → faults_of_run which s.cwd 1 first ≡ faults → faults_of_run which s.cwd 2 second ≡ others →
       planning_of suffixes keep_dir s which first second ≡
       plan_or_fault suffixes keep_dir s (run_or_fault (meanings which 1 s.cwd [] (numbered_lines first)) faults) (run_or_fault (meanings which 2 s.cwd [] (numbered_lines second)) others)
-  by_faults which first second faults others e f =
-      ap (λ r. plan_or_fault suffixes keep_dir s (run_or_fault (meanings which 1 s.cwd [] (numbered_lines first)) r) (dry_run_of 2 second s.cwd which)) e
-      ∙ ap (λ r. plan_or_fault suffixes keep_dir s (run_or_fault (meanings which 1 s.cwd [] (numbered_lines first)) faults) (run_or_fault (meanings which 2 s.cwd [] (numbered_lines second)) r)) f
+  by_faults which first second faults others e f = grind arith
 
 pub readable_runs_are_planned : ReadableRunsArePlanned
 readable_runs_are_planned suffixes keep_dir s which first second e f = (_, by_faults suffixes keep_dir s which first second [] [] e f)
 
 pub planned_runs_are_readable : PlannedRunsAreReadable
-planned_runs_are_readable suffixes keep_dir s which first second plan e =
-    only suffixes keep_dir s (meanings which 1 s.cwd [] (numbered_lines first)) (meanings which 2 s.cwd [] (numbered_lines second)) (faults_of_run which s.cwd 1 first) (faults_of_run which s.cwd 2 second) plan e
+planned_runs_are_readable suffixes keep_dir s which first second plan e = grind (arith, only)
 
 pub first_run_is_refused : FirstRunIsRefused
-first_run_is_refused suffixes keep_dir s which first second fault others e =
-    by_faults suffixes keep_dir s which first second (fault ∷ others) (faults_of_run which s.cwd 2 second) e refl
+first_run_is_refused suffixes keep_dir s which first second fault others e = grind (arith, by_faults)
 
 pub second_run_is_refused : SecondRunIsRefused
-second_run_is_refused suffixes keep_dir s which first second fault others e f =
-    by_faults suffixes keep_dir s which first second [] (fault ∷ others) e f
+second_run_is_refused suffixes keep_dir s which first second fault others e f = grind (arith, by_faults)
 
 -- Groups in order.
 
@@ -89,7 +79,7 @@ staged_in_order : (s : PlanSetting) (c : MergedCommand) (cs : List MergedCommand
 staged_in_order s c [] h = refl
 staged_in_order s c (d ∷ ds) h =
     let parts = and_parts (is_in_order c d) (list_all (is_in_order c) ds) h in
-    and_from (is_in_order c d) (list_all (is_in_order (staged s.host_compiler s.flag c).command) (map (λ t. t.command) (map (staged s.host_compiler s.flag) ds))) parts.0 (staged_in_order s c ds parts.1)
+    grind (arith, and_from, (staged_in_order s c ds parts.1))
 
 pub all_staged_in_order : (s : PlanSetting) (cs : List MergedCommand) → InOrder cs → InOrder (map (λ t. t.command) (map (staged s.host_compiler s.flag) cs))
 all_staged_in_order s [] h = tt
@@ -100,40 +90,23 @@ filtered_after : (test : Fate → Bool) (c : MergedCommand) (ps : List PlacedCom
 filtered_after test c [] h = refl
 filtered_after test c (p ∷ ps) h =
     let parts = and_parts (is_in_order c p.staged.command) (list_all (is_in_order c) (map (λ p. p.staged.command) ps)) h in
-    elim (test p.fate) as (λ b. list_all (is_in_order c) (map (λ p. p.staged.command) (cond b (p ∷ of_fate test ps) (of_fate test ps))) ≡ true) [
-      | true ↦ and_from (is_in_order c p.staged.command) (list_all (is_in_order c) (map (λ p. p.staged.command) (of_fate test ps))) parts.0 (filtered_after test c ps parts.1)
-      | false ↦ filtered_after test c ps parts.1
-    ]
+    grind (arith, and_from, (filtered_after test c ps parts.1))
 
 filtered_in_order : (test : Fate → Bool) (ps : List PlacedCommand) → InOrder (map (λ p. p.staged.command) ps) → InOrder (map (λ p. p.staged.command) (of_fate test ps))
 filtered_in_order test [] h = tt
-filtered_in_order test (p ∷ ps) h =
-    elim (test p.fate) as (λ b. InOrder (map (λ p. p.staged.command) (cond b (p ∷ of_fate test ps) (of_fate test ps))))
-    [ true ↦ (filtered_after test p.staged.command ps h.0, filtered_in_order test ps h.1) | false ↦ filtered_in_order test ps h.1 ]
+filtered_in_order test (p ∷ ps) h = grind (arith, filtered_after, (filtered_in_order test ps h.1))
 
 commands_of_placed : (ps : List PlacedCommand) → map (λ p. p.staged.command) ps ≡ map (λ t. t.command) (map (λ p. p.staged) ps)
 commands_of_placed [] = refl
 commands_of_placed (p ∷ ps) = ap (λ t. p.staged.command ∷ t) (commands_of_placed ps)
 
 pub group_is_in_order : (s : PlanSetting) (first second : List CommandLine) (test : Fate → Bool) → GroupIsInOrder test (staged_commands s first second)
-group_is_in_order s first second test =
-    let commands = staged_commands s first second in
-    filtered_in_order test (fates commands)
-    (subst InOrder
-    (sym (commands_of_placed (fates commands) ∙ ap (map (λ t. t.command)) (fates_staged (places commands) ∙ placed_staged [] [] commands)))
-    (all_staged_in_order s (merged first second) (merged_is_in_order first second)))
+group_is_in_order s first second test = grind (arith, filtered_in_order, commands_of_placed, fates_staged, placed_staged, all_staged_in_order, merged_is_in_order)
 
 -- Fates.
 
 has_one_fate_each : (s : PlanSetting) (variables : List Variable) (first second : List CommandLine) → HasOneFateEach s variables first second (plan_of s variables first second)
-has_one_fate_each s variables first second = record {
-  selected_are_merged = merged_are_the_selected first second;
-  merged_in_order = merged_is_in_order first second;
-  one_fate = each_has_one_fate (staged_commands s first second);
-  groups = refl;
-  dropped = refl;
-  in_order = group_is_in_order s first second;
-}
+has_one_fate_each s variables first second = grind (arith, merged_are_the_selected, merged_is_in_order, each_has_one_fate, group_is_in_order)
 
 one_answer : (r : Result Plan Fault) (p q : Plan) → r ≡ Ok p → r ≡ Ok q → p ≡ q
 one_answer r p q e f = cc

@@ -1,7 +1,6 @@
 -- The plan of two dry runs, by its parts.
-use Rattle.std.proofs.Common.{◌≡◌, ◌∙◌, ℕ, List, map, Option, Result, Ok, Err, IfOk, ap, refl, sym, subst}
+use Rattle.std.proofs.Common.{◌≡◌, ◌∙◌, ℕ, List, map, Option, Result, Ok, Err, IfOk, ap, refl, sym, subst, arith}
 use Rattle.texts.specs.declared.fault.Fault.{Fault}
-use Rattle.texts.specs.declared.fault.Fault.TheVariants.{Memory}
 use Rattle.texts.specs.Fault.{UnlessMemory, UnlessMemoryIs}
 use Rattle.command_lines.specs.declared.commands.DryRun.{DryRun}
 use Rattle.dry_runs.specs.declared.parsed.ParsedRun.{ParsedRun}
@@ -27,28 +26,20 @@ resolved_rises which cwd parsed (Ok said) (run, bytes, is) e =
 resolved_rises which cwd parsed (Err fault) p e = tt
 
 pub parsed_runs_are_planned : ParsedRunsArePlanned
-parsed_runs_are_planned suffixes keep_dir s which dry1 dry2 =
-    λ i. origins_or_fault suffixes keep_dir s (parses-then-resolves 1 dry1 s.cwd which i) (parses-then-resolves 2 dry2 s.cwd which i)
+parsed_runs_are_planned suffixes keep_dir s which dry1 dry2 = simp parses-then-resolves
 
 pub parsed_is_planned : (suffixes : List (List ℕ)) (keep_dir : Option (List ℕ)) (s : PlanSetting) (which : LookUp) (dry1 dry2 : List ℕ) (runs : ParsedRuns) (planned : Result PlanWithOrigins Fault) → runs ≡ both_parsed dry1 dry2 → UnlessMemory planned (planning_of_parsed suffixes keep_dir s which runs) → UnlessMemory planned (planning_with_origins suffixes keep_dir s which dry1 dry2)
-parsed_is_planned suffixes keep_dir s which dry1 dry2 runs planned are e =
-    subst (UnlessMemory planned) (ap (planning_of_parsed suffixes keep_dir s which) are ∙ parsed_runs_are_planned suffixes keep_dir s which dry1 dry2) e
+parsed_is_planned suffixes keep_dir s which dry1 dry2 runs planned are e = grind (arith, parsed_runs_are_planned)
 
 -- the plan without the origins of its commands
 alone : (suffixes : List (List ℕ)) (keep_dir : Option (List ℕ)) (s : PlanSetting) (first second : Result (List CommandLine × List Variable) Fault) → plan_alone (origins_or_fault suffixes keep_dir s first second) ≡ plan_or_fault suffixes keep_dir s first second
-alone suffixes keep_dir s (Err fault) second = refl
-alone suffixes keep_dir s (Ok first) (Err fault) = refl
-alone suffixes keep_dir s (Ok first) (Ok second) = refl
+alone suffixes keep_dir s first second = grind arith
 
 unless : {P Q : Type 0} (fault : Fault) → (P → Q) → UnlessMemoryIs fault P → UnlessMemoryIs fault Q
-unless Memory h e = tt
-unless fault h e = h e
+unless fault h e = grind arith
 
 alone_is : (planned expected : Result PlanWithOrigins Fault) → UnlessMemory planned expected → UnlessMemory (plan_alone planned) (plan_alone expected)
-alone_is (Ok planned) expected e = ap plan_alone e
-alone_is (Err fault) expected e = unless fault (ap plan_alone) e
+alone_is planned expected e = grind (arith, unless)
 
 pub planned_alone : (suffixes : List (List ℕ)) (keep_dir : Option (List ℕ)) (s : PlanSetting) (first second : Result (List CommandLine × List Variable) Fault) (planned : Result PlanWithOrigins Fault) (answer : Result Plan Fault) → answer ≡ plan_alone planned → UnlessMemory planned (origins_or_fault suffixes keep_dir s first second) → UnlessMemory answer (plan_or_fault suffixes keep_dir s first second)
-planned_alone suffixes keep_dir s first second planned answer same e =
-    subst (λ (r : Result Plan Fault). UnlessMemory r (plan_or_fault suffixes keep_dir s first second)) (sym same)
-    (subst (UnlessMemory (plan_alone planned)) (alone suffixes keep_dir s first second) (alone_is planned (origins_or_fault suffixes keep_dir s first second) e))
+planned_alone suffixes keep_dir s first second planned answer same e = grind (arith, alone, alone_is)

@@ -12,7 +12,4 @@ put_seen (w ∷ ws) (suc place) v old d x h r e = ap (λ gs. w.items ∷ gs) (pu
 
 -- as many vectors as empty groups
 pub groups_begun : {X : Type 0} (vs : List (Vec X)) (names : ℕ) → map vec_items vs ≡ no_groups names → length vs ≡ names + 2
-groups_begun vs names begun =
-    let seen : length (map vec_items vs) ≡ length vs = length-map vs vec_items in
-    let count : length (map vec_items vs) ≡ suc (suc names) = ap length begun ∙ length-replicate (suc (suc names)) [] in
-    omega (arith, seen, count)
+groups_begun vs names begun = grind (arith, length-map, length-replicate)

@@ -8,10 +8,8 @@ use Rattle.std.proofs.lemmas.List.Folds.{list_any-append}
 use Rattle.std.proofs.lemmas.List.Sorted.{Contains-permutation}
 use Rattle.std.proofs.lemmas.Slice.Eq.{bytes_eq-Decides}
 use Rattle.compilers.specs.declared.compiler.NvccHostCompiler.{NvccHostCompiler}
-use Rattle.compilers.specs.declared.compiler.NvccHostCompiler.TheVariants.{Msvc}
 use Rattle.texts.specs.DeviceFiles.{is_cicc_word}
 use Rattle.texts.specs.Lists.{is_some_and, first_word, word_after}
-use Rattle.texts.specs.ObjectFlags.{makes_objects}
 use Rattle.texts.specs.Path.{joined, is_bare, is_absolute_path, separator_after, file_name_of, file_stem_of}
 use Rattle.command_lines.specs.CommandLines.{CommandLine, line_of, program_of, words_of_command}
 use Rattle.canonical_names.specs.CanonicalNames.{AreSuffixes, word_by_all, command_by_all}
@@ -46,12 +44,7 @@ use Rattle.command_groups.proofs.PlanLemmas.{all_staged_in_order}
 module _ (test : MergedCommand → Bool) where
   put_out : (c : MergedCommand) (ds : List MergedCommand) → test c ≡ false → filter test (put_in_order c ds) ≡ filter test ds
   put_out c [] h = ap (λ b. cond b (c ∷ []) []) h
-  put_out c (d ∷ ds) h =
-      elim (is_in_order c d) as (λ r. filter test (cond r (c ∷ d ∷ ds) (d ∷ put_in_order c ds)) ≡ filter test (d ∷ ds)) [
-        | true ↦ ap (λ b. cond b (c ∷ filter test (d ∷ ds)) (filter test (d ∷ ds))) h
-        | false ↦ elim (test d) as (λ b. cond b (d ∷ filter test (put_in_order c ds)) (filter test (put_in_order c ds)) ≡ cond b (d ∷ filter test ds) (filter test ds))
-            [ true ↦ ap (λ t. d ∷ t) (put_out c ds h) | false ↦ put_out c ds h ]
-      ]
+  put_out c (d ∷ ds) h = grind (arith, (put_out c ds h))
 
   put_in : (c : MergedCommand) (ds : List MergedCommand) → test c ≡ true → filter test ds ≡ [] → filter test (put_in_order c ds) ≡ c ∷ []
   put_in c [] h k = ap (λ b. cond b (c ∷ []) []) h
@@ -81,9 +74,7 @@ module _ (test : MergedCommand → Bool) where
 
 filter_mapped : {A B : Type 0} (test : B → Bool) (f : A → B) (xs : List A) → filter test (map f xs) ≡ map f (filter (λ x. test (f x)) xs)
 filter_mapped test f [] = refl
-filter_mapped test f (x ∷ xs) =
-    elim (test (f x)) as (λ b. cond b (f x ∷ filter test (map f xs)) (filter test (map f xs)) ≡ map f (cond b (x ∷ filter (λ x. test (f x)) xs) (filter (λ x. test (f x)) xs)))
-    [ true ↦ ap (λ t. f x ∷ t) (filter_mapped test f xs) | false ↦ filter_mapped test f xs ]
+filter_mapped test f (x ∷ xs) = grind (arith, (filter_mapped test f xs))
 
 kept_member : {A : Type 0} (test : A → Bool) (xs : List A) (x : A) → Contains xs x → test x ≡ true → Contains (filter test xs) x
 kept_member test [] x h k = h
@@ -102,55 +93,30 @@ abbrev is_own : Bool → Bool → Bool → Bool → Bool → Bool
 is_own ci pt cu nv fa = ci || (pt || (cu || (nv || (fa || false))))
 
 own_opens : (ci pt cu nv fa : Bool) → is_own ci pt cu nv fa ≡ true → (compiler : NvccHostCompiler) (words : List (List ℕ)) → opens (stage_by (kind_by ci pt cu nv fa) compiler words) ≡ None
-own_opens ci pt cu nv true h compiler words = refl
-own_opens ci pt cu true false h compiler words = refl
-own_opens ci pt true false false h compiler words = refl
-own_opens true pt false false false h compiler words = refl
-own_opens false true false false false h compiler words = refl
-own_opens false false false false false h compiler words = absurd (false≢true h)
+own_opens ci pt cu nv fa h compiler words = grind (arith, false≢true)
 
 host_kind : (ci pt cu nv fa : Bool) → not (is_own ci pt cu nv fa) ≡ true → kind_by ci pt cu nv fa ≡ other
-host_kind true pt cu nv fa h = absurd (false≢true h)
-host_kind false true cu nv fa h = absurd (false≢true h)
-host_kind false false true nv fa h = absurd (false≢true h)
-host_kind false false false true fa h = absurd (false≢true h)
-host_kind false false false false true h = absurd (false≢true h)
-host_kind false false false false false h = refl
+host_kind ci pt cu nv fa h = grind (arith, false≢true)
 
 own_program : (stem : Option (List ℕ)) → is_some_and is_nvcc_stem stem ≡ true → (compiler : NvccHostCompiler) (words : List (List ℕ)) → opens (stage_by (kind_of_optional_stem stem) compiler words) ≡ None
-own_program None h compiler words = absurd (false≢true h)
-own_program (Some stem) h compiler words =
-    own_opens (bytes_eq stem (codes "cicc")) (bytes_eq stem (codes "ptxas")) (bytes_eq stem (codes "cudafe++")) (bytes_eq stem (codes "nvlink")) (bytes_eq stem (codes "fatbinary")) h compiler words
+own_program stem h compiler words = grind (arith, false≢true, own_opens)
 
 host_program : (stem : Option (List ℕ)) → is_some_and is_host_stem stem ≡ true → kind_of_optional_stem stem ≡ other
-host_program None h = absurd (false≢true h)
-host_program (Some stem) h =
-    host_kind (bytes_eq stem (codes "cicc")) (bytes_eq stem (codes "ptxas")) (bytes_eq stem (codes "cudafe++")) (bytes_eq stem (codes "nvlink")) (bytes_eq stem (codes "fatbinary")) h
+host_program stem h = grind (arith, false≢true, host_kind)
 
 host_opens : (test : List ℕ → Bool) (a b : Bool) (o : Option (List ℕ)) → is_some_and test (opens (cond (not a) foreign (cond b (preprocessing o) host_compiling))) ≡ ((a && b) && is_some_and test o)
-host_opens test true true o = refl
-host_opens test true false o = refl
-host_opens test false b o = refl
+host_opens test a b o = grind arith
 
 -- Words that begin with `-`.
 
 no_dash_equal : (t text : List ℕ) → begins_with_dash text ≡ false → bytes_eq (45 ∷ t) text ≡ false
-no_dash_equal t [] h = refl
-no_dash_equal t (c ∷ cs) h = ap (λ b. b && bytes_eq t cs) (eqb-turned 45 c ∙ h)
+no_dash_equal t text h = grind (arith, eqb-turned)
 
 no_dash_start : (t text : List ℕ) → begins_with_dash text ≡ false → starts_with nat_eq text (45 ∷ t) ≡ false
-no_dash_start t [] h = refl
-no_dash_start t (c ∷ cs) h = ap (λ b. b && starts_with nat_eq cs t) (eqb-turned 45 c ∙ h)
+no_dash_start t text h = grind (arith, eqb-turned)
 
 no_dash_macro : (text : List ℕ) → begins_with_dash text ≡ false → defines_cuda text ≡ false
-no_dash_macro text h =
-    or_from (starts_with nat_eq text (codes "-D__CUDACC__")) (starts_with nat_eq text (codes "-D__NVCC__") || (starts_with nat_eq text (codes "-D__CUDA_ARCH__") || (starts_with nat_eq text (codes "-D__CUDA_ARCH_LIST__") || false)))
-    (no_dash_start (codes "D__CUDACC__") text h)
-    (or_from (starts_with nat_eq text (codes "-D__NVCC__")) (starts_with nat_eq text (codes "-D__CUDA_ARCH__") || (starts_with nat_eq text (codes "-D__CUDA_ARCH_LIST__") || false))
-    (no_dash_start (codes "D__NVCC__") text h)
-    (or_from (starts_with nat_eq text (codes "-D__CUDA_ARCH__")) (starts_with nat_eq text (codes "-D__CUDA_ARCH_LIST__") || false)
-    (no_dash_start (codes "D__CUDA_ARCH__") text h)
-    (or_from (starts_with nat_eq text (codes "-D__CUDA_ARCH_LIST__")) false (no_dash_start (codes "D__CUDA_ARCH_LIST__") text h) refl)))
+no_dash_macro text h = simp (or_from, no_dash_start)
 
 -- Members.
 
@@ -207,12 +173,10 @@ module _ (suffixes : List (List ℕ)) (lawful : AreSuffixes suffixes) (names : L
   cuda_kept words = any_kept defines_cuda (λ rest. refl) no_dash_macro words
 
   step_kept : (compiler : NvccHostCompiler) (words : List (List ℕ)) → has_word (preprocess_word compiler) (map new words) ≡ has_word (preprocess_word compiler) words
-  step_kept Msvc words = any_kept (bytes_eq (codes "-P")) (λ rest. refl) (no_dash_equal (codes "P")) words
-  step_kept _ words = any_kept (bytes_eq (codes "-E")) (λ rest. refl) (no_dash_equal (codes "E")) words
+  step_kept compiler words = grind (arith, any_kept, no_dash_equal)
 
   first_kept : (words : List (List ℕ)) → first_word (map new words) ≡ option_map new (first_word words)
-  first_kept [] = refl
-  first_kept (w ∷ ws) = refl
+  first_kept words = grind arith
 
   output_kept : (words : List (List ℕ)) → word_after (codes "-o") (map new words) ≡ option_map new (word_after (codes "-o") words)
   output_kept [] = refl
@@ -238,16 +202,10 @@ module _ (suffixes : List (List ℕ)) (lawful : AreSuffixes suffixes) (names : L
 
 without_kept : (t : List ℕ) → is_cicc_word t ≡ false → (words : List (List ℕ)) → find is_cicc_word (without_first_word t words) ≡ find is_cicc_word words
 without_kept t h [] = refl
-without_kept t h (w ∷ ws) =
-    elim (bytes_eq t w) as (λ b. bytes_eq t w ≡ b → find is_cicc_word (cond b ws (w ∷ without_first_word t ws)) ≡ find is_cicc_word (w ∷ ws)) [
-      | true ↦ λ e. sym (ap (λ b. cond b (Some w) (find is_cicc_word ws)) (sym (ap is_cicc_word ((bytes_eq-Decides t w).0 e)) ∙ h))
-      | false ↦ λ _. elim (is_cicc_word w) as (λ b. cond b (Some w) (find is_cicc_word (without_first_word t ws)) ≡ cond b (Some w) (find is_cicc_word ws)) [ true ↦ refl | false ↦ without_kept t h ws ]
-    ] refl
+without_kept t h (w ∷ ws) = grind (arith, bytes_eq-Decides, (without_kept t h ws))
 
 edit_kept : (flag : List ℕ) (words : List (List ℕ)) → cicc_input (cicc_edit flag words) ≡ cicc_input words
-edit_kept flag words =
-    elim (makes_objects flag) as (λ b. find is_cicc_word (cond b (without_first_word (codes "--gen_module_id_file") words) words) ≡ find is_cicc_word words)
-    [ true ↦ without_kept (codes "--gen_module_id_file") refl words | false ↦ refl ]
+edit_kept flag words = grind (arith, without_kept)
 
 found_known : (n : List ℕ) (names : List (List ℕ)) → list_any (bytes_eq n) names ≡ true → find (bytes_eq n) names ≡ Some n
 found_known n [] h = absurd (false≢true h)
@@ -257,21 +215,14 @@ found_known n (m ∷ ms) h =
 
 -- a path in an absolute folder begins with no `-`
 path_plain : (folder name : List ℕ) → is_absolute_path folder ≡ true → is_bare name ≡ true → begins_with_dash (joined folder name) ≡ false
-path_plain [] name h bare = absurd (false≢true h)
-path_plain (c ∷ cs) name h bare =
-    ap (λ b. begins_with_dash (cond b name (((c ∷ cs) ++ separator_after (c ∷ cs)) ++ name))) (bare-relative name bare) ∙ ap (λ z. eqb z 45) (eqb-true c 47 h)
+path_plain folder name h bare = grind (arith, false≢true, bare-relative, eqb-true)
 
 -- a command of a later line doesn't stand before one of an earlier line
 not_before : (a b : ℕ) → b < a → (nat_lt a b || (eqb a b && nat_le 1 2)) ≡ true → ⊥
-not_before a b lt h =
-    elim (or_cases (nat_lt a b) (eqb a b && nat_le 1 2) h) as (λ _. ⊥) [
-      | inl l ↦ let k : a < b = ltb-true a b l in omega (arith, lt, k)
-      | inr r ↦ let k : a ≡ b = eqb-true a b (and_parts (eqb a b) (nat_le 1 2) r).0 in omega (arith, lt, k)
-    ]
+not_before a b lt h = grind (arith, or_cases, ltb-true, eqb-true, and_parts)
 
 written : (path : List ℕ) (o : Option (List ℕ)) → is_some_and (bytes_eq path) o ≡ true → o ≡ Some path
-written path None h = absurd (false≢true h)
-written path (Some v) h = ap Some (sym ((bytes_eq-Decides path v).0 h))
+written path o h = grind (arith, false≢true, bytes_eq-Decides)
 
 -- Below, the second run shadows the first, and a step feeds a cicc command.
 module _ (suffixes : List (List ℕ)) (lawful : AreSuffixes suffixes) (s : PlanSetting) (first second : List CommandLine) (cicc_line step : CommandLine) (name : List ℕ)
@@ -325,9 +276,7 @@ module _ (suffixes : List (List ℕ)) (lawful : AreSuffixes suffixes) (s : PlanS
   step_stands = filter_member (is_step_to s.host_compiler path) second step fed.one_step
 
   step_writes : word_after (codes "-o") (words_of_command step) ≡ Some path
-  step_writes =
-      written path (word_after (codes "-o") (words_of_command step))
-      (and_parts (is_step s.host_compiler step) (writes path step) (filter_holds (is_step_to s.host_compiler path) second step fed.one_step)).1
+  step_writes = grind (arith, written, and_parts, filter_holds)
 
   path_known : Contains twos path
   path_known = name_known suffixes lawful second step path step_stands (after_member (codes "-o") (words_of_command step) path step_writes) path_dash path_ends
@@ -411,16 +360,7 @@ module _ (suffixes : List (List ℕ)) (lawful : AreSuffixes suffixes) (s : PlanS
 
   own_filter : (cs : List CommandLine) → filter opens_file (map (of_run 1) (selected is_nvcc_stem cs)) ≡ []
   own_filter [] = refl
-  own_filter (c ∷ cs) =
-      let chosen = selected is_nvcc_stem cs in
-      let rest = filter opens_file (map (of_run 1) chosen) in
-      elim (is_taken is_nvcc_stem (program_of c)) as (λ b. is_taken is_nvcc_stem (program_of c) ≡ b → filter opens_file (map (of_run 1) (cond b (c ∷ chosen) chosen)) ≡ []) [
-        | true ↦ λ e.
-            let none : opens_file (of_run 1 c) ≡ false =
-            ap (is_some_and is_file) (own_program (file_stem_of (program_of c)) e s.host_compiler (edited_by (kind_of_program (program_of c)) s.flag (words_of_command c))) in
-            ap (λ b. cond b (of_run 1 c ∷ rest) rest) none ∙ own_filter cs
-        | false ↦ λ _. own_filter cs
-      ] refl
+  own_filter (c ∷ cs) = grind (arith, own_program, (own_filter cs))
 
   -- so one command opens it
   abbrev own : List MergedCommand
@@ -491,10 +431,7 @@ module _ (suffixes : List (List ℕ)) (lawful : AreSuffixes suffixes) (s : PlanS
   )
 
   pub stand_together : StandTogether suffixes s first second cicc_line step name
-  stand_together =
-      subst (λ one. Together one (renamed suffixes second) (canonical_name suffixes ones name)) (sym (clean-run_is_a_map suffixes first fed.first_is_clean))
-      (subst (λ two. Together firsts two (canonical_name suffixes ones name)) (sym (clean-run_is_a_map suffixes second fed.second_is_clean))
-      (subst (λ n. Together firsts seconds n) (sym name_is) as_mapped))
+  stand_together = grind (arith, clean-run_is_a_map, name_is, as_mapped)
 
 pub step_shadows_stand_together : StepShadowsStandTogether
 step_shadows_stand_together suffixes lawful s first second cicc_line step name shadow fed = stand_together suffixes lawful s first second cicc_line step name shadow fed

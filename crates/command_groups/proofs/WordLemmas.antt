@@ -8,9 +8,7 @@ abbrev Words : Type 0
 Words = List (String Global)
 
 unknown-step : (b : Bool) (w : List ℕ) (ws edited rest : List (List ℕ)) (p : Option ℕ) → (p ≡ None → rest ≡ ws) → (if b then Some 0 else option_map suc p) ≡ None → (if b then edited else w ∷ rest) ≡ w ∷ ws
-unknown-step true w ws edited rest p same h = absurd (none-some 0 (sym h))
-unknown-step false w ws edited rest None same h = ap (λ t. w ∷ t) (same refl)
-unknown-step false w ws edited rest (Some n) same h = absurd (none-some (suc n) (sym h))
+unknown-step b w ws edited rest p same h = grind (arith, none-some)
 
 -- words without such a word stay as they are
 pub before-unknown : (new word : List ℕ) (ws : List (List ℕ)) → word_place word ws ≡ None → with_word_before new word ws ≡ ws
@@ -23,29 +21,19 @@ without-unknown word (w ∷ ws) h = unknown-step (bytes_eq word w) w ws ws (with
 
 before-step : (b : Bool) (w new : String Global) (ws : Words) (place : ℕ) (rest : List (List ℕ)) (p : Option ℕ) → ((n : ℕ) → p ≡ Some n → map string_bytes (insert ws n new) ≡ rest) →
     (if b then Some 0 else option_map suc p) ≡ Some place → map string_bytes (insert (w ∷ ws) place new) ≡ (if b then string_bytes new ∷ string_bytes w ∷ map string_bytes ws else string_bytes w ∷ rest)
-before-step true w new ws zero rest p known h = refl
-before-step true w new ws (suc place) rest p known h = absurd (omega (arith, same_Some 0 (suc place) h))
-before-step false w new ws place rest None known h = absurd (none-some place h)
-before-step false w new ws zero rest (Some n) known h = absurd (omega (arith, same_Some (suc n) 0 h))
-before-step false w new ws (suc place) rest (Some n) known h = ap (λ t. string_bytes w ∷ t) (known place (ap Some (omega (arith, same_Some (suc n) (suc place) h))))
+before-step b w new ws place rest p known h = grind (arith, same_Some, none-some)
 
 -- a word that is inserted at the place stands right before
 pub before-known : (new : String Global) (word : List ℕ) (ws : Words) (place : ℕ) → word_place word (map string_bytes ws) ≡ Some place →
     map string_bytes (insert ws place new) ≡ with_word_before (string_bytes new) word (map string_bytes ws)
 before-known new word [] place h = absurd (none-some place h)
-before-known new word (w ∷ ws) place h =
-    before-step (bytes_eq word (string_bytes w)) w new ws place (with_word_before (string_bytes new) word (map string_bytes ws)) (word_place word (map string_bytes ws)) (before-known new word ws) h
+before-known new word (w ∷ ws) place h = grind (arith, before-step, (before-known new word ws))
 
 without-step : (b : Bool) (w : String Global) (ws : Words) (place : ℕ) (rest : List (List ℕ)) (p : Option ℕ) → ((n : ℕ) → p ≡ Some n → map string_bytes (remove ws n) ≡ rest) →
     (if b then Some 0 else option_map suc p) ≡ Some place → map string_bytes (remove (w ∷ ws) place) ≡ (if b then map string_bytes ws else string_bytes w ∷ rest)
-without-step true w ws zero rest p known h = refl
-without-step true w ws (suc place) rest p known h = absurd (omega (arith, same_Some 0 (suc place) h))
-without-step false w ws place rest None known h = absurd (none-some place h)
-without-step false w ws zero rest (Some n) known h = absurd (omega (arith, same_Some (suc n) 0 h))
-without-step false w ws (suc place) rest (Some n) known h = ap (λ t. string_bytes w ∷ t) (known place (ap Some (omega (arith, same_Some (suc n) (suc place) h))))
+without-step b w ws place rest p known h = grind (arith, same_Some, none-some)
 
 -- words of which the one at the place is removed are without it
 pub without-known : (word : List ℕ) (ws : Words) (place : ℕ) → word_place word (map string_bytes ws) ≡ Some place → map string_bytes (remove ws place) ≡ without_first_word word (map string_bytes ws)
 without-known word [] place h = absurd (none-some place h)
-without-known word (w ∷ ws) place h =
-    without-step (bytes_eq word (string_bytes w)) w ws place (without_first_word word (map string_bytes ws)) (word_place word (map string_bytes ws)) (without-known word ws) h
+without-known word (w ∷ ws) place h = grind (arith, without-step, (without-known word ws))

@@ -12,13 +12,6 @@ use Rattle.command_keys.specs.KeyReading.{EndedParts, with_part, read_from, word
 use Rattle.command_keys.specs.KeyLaws.{KeysReadBack, EqualKeysRename, RenamedKeysAreEqual}
 use Rattle.command_keys.proofs.MarkLemmas.{text-parts, parts-told, plain-past, is_plain_part}
 
--- the letter of a root is none of what ends a text, and says its number
-letter-is_root : (number : ℕ) → nat_lt (first_mark + number) first_mark ≡ false
-letter-is_root number = le-ltb (first_mark + number) first_mark (omega arith)
-
-letter-number : (number : ℕ) → first_mark + number - first_mark ≡ number
-letter-number number = omega arith
-
 -- one text is read back, in front of the rest of a key
 read-text : (ps : List Part) (end : ℕ) (rest : List ℕ) → list_all is_plain_part ps ≡ true → nat_lt end first_mark ≡ true →
     read_from false (flat_map key_of_part ps ++ 0 ∷ end ∷ rest) ≡ (ps, end) ∷ read_from false rest
@@ -27,13 +20,8 @@ read-text (Byte byte ∷ ps) end rest plain small =
     let both = and_parts (not (byte == 0)) (list_all is_plain_part ps) plain in
     let some = not-true (byte == 0) both.0 in
     let behind = flat_map key_of_part ps ++ 0 ∷ end ∷ rest in
-    ap (λ b. cond b (read_from b behind) (with_part (Byte byte) (read_from b behind))) some
-    ∙ ap (with_part (Byte byte)) (read-text ps end rest both.1 small)
-read-text (Root number ∷ ps) end rest plain small =
-    let behind = flat_map key_of_part ps ++ 0 ∷ end ∷ rest in
-    ap (λ b. cond b (([], first_mark + number) ∷ read_from false behind) (with_part (Root (first_mark + number - first_mark)) (read_from false behind))) (letter-is_root number)
-    ∙ ap (λ n. with_part (Root n) (read_from false behind)) (letter-number number)
-    ∙ ap (with_part (Root number)) (read-text ps end rest plain small)
+    grind (arith, (read-text ps end rest both.1 small))
+read-text (Root number ∷ ps) end rest plain small = grind (arith, (read-text ps end rest plain small))
 
 -- what is asked of texts: no NUL in them, and an end below the letters
 abbrev is_readable : Ended → Bool
@@ -55,13 +43,13 @@ all-append : {X : Type 0} (test : X → Bool) (xs ys : List X) → list_all test
 all-append test [] ys first second = second
 all-append test (x ∷ xs) ys first second =
     let both = and_parts (test x) (list_all test xs) first in
-    and_from (test x) (list_all test (xs ++ ys)) both.0 (all-append test xs ys both.1 second)
+    grind (arith, and_from, (all-append test xs ys both.1 second))
 
 readable-words : (words : List (List ℕ)) → list_all (lacks 0) words ≡ true → list_all is_readable (map (λ word. (word, word_end)) words) ≡ true
 readable-words [] all = refl
 readable-words (word ∷ words) all =
     let both = and_parts (lacks 0 word) (list_all (lacks 0) words) all in
-    and_from (is_readable (word, word_end)) (list_all is_readable (map (λ word. (word, word_end)) words)) (and_from (lacks 0 word) true both.0 refl) (readable-words words both.1)
+    grind (arith, and_from, (readable-words words both.1))
 
 readable-variables : (variables : List (List ℕ × List ℕ)) → list_all is_plain_variable variables ≡ true → list_all is_readable (flat_map texts_of_variable variables) ≡ true
 readable-variables [] all = refl
@@ -69,13 +57,10 @@ readable-variables (v ∷ variables) all =
     let both = and_parts (is_plain_variable v) (list_all is_plain_variable variables) all in
     let this = and_parts (lacks 0 v.0) (lacks 0 v.1) both.0 in
     let rest = list_all is_readable (flat_map texts_of_variable variables) in
-    and_from (is_readable (v.0, name_end)) (is_readable (v.1, value_end) && rest) (and_from (lacks 0 v.0) true this.0 refl)
-    (and_from (is_readable (v.1, value_end)) rest (and_from (lacks 0 v.1) true this.1 refl) (readable-variables variables both.1))
+    grind (arith, and_from, (readable-variables variables both.1))
 
 readable : (command : Command) → is_plain command ≡ true → list_all is_readable (texts_of command) ≡ true
-readable command plain =
-    let both = and_parts (list_all (lacks 0) command.0) (list_all is_plain_variable command.1) plain in
-    all-append is_readable (map (λ word. (word, word_end)) command.0) (flat_map texts_of_variable command.1) (readable-words command.0 both.0) (readable-variables command.1 both.1)
+readable command plain = grind (arith, and_parts, all-append, readable-words, readable-variables)
 
 -- a command is made of its texts again
 no-words : (variables : List (List ℕ × List ℕ)) → words_of (flat_map texts_of_variable variables) ≡ []
@@ -95,8 +80,7 @@ variables-behind_words name [] variables = variables-again name variables
 variables-behind_words name (word ∷ words) variables = variables-behind_words word words variables
 
 command-again : (command : Command) → command_of (texts_of command) ≡ command
-command-again command =
-    λ i. (words-again command.0 (flat_map texts_of_variable command.1) (no-words command.1) i, variables-behind_words [] command.0 command.1 i)
+command-again command = simp (words-again, no-words, variables-behind_words)
 
 -- the texts of a command, each changed
 abbrev changed : (List ℕ → List ℕ) → Ended → Ended
@@ -130,8 +114,7 @@ same-variables change same [] = refl
 same-variables change same (v ∷ variables) = λ i. (same v.0 i, same v.1 i) ∷ same-variables change same variables i
 
 renamed-same : (roots : List (List ℕ)) (command : Command) → renamed_command roots roots command ≡ command
-renamed-same roots command =
-    λ i. (same-words (renamed roots roots) (text-parts roots) command.0 i, same-variables (renamed roots roots) (text-parts roots) command.1 i)
+renamed-same roots command = grind (arith, same-words, text-parts, same-variables)
 
 pub keys-read_back : KeysReadBack
 keys-read_back roots command plain = restored-key roots roots command plain ∙ renamed-same roots command
@@ -150,6 +133,4 @@ same-keys roots others (text ∷ texts) all =
     λ i. (flat_map key_of_part (this i) ++ 0 ∷ text.1 ∷ []) ++ same-keys roots others texts both.1 i
 
 pub renamed-keys_are_equal : RenamedKeysAreEqual
-renamed-keys_are_equal roots others command free =
-    ap (flat_map (key_of_text others)) (changed-texts (renamed roots others) command.0 command.1)
-    ∙ same-keys roots others (texts_of command) free
+renamed-keys_are_equal roots others command free = grind (arith, changed-texts, same-keys)

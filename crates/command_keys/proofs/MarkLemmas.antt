@@ -1,8 +1,7 @@
 -- Roots in texts: a text is that of its parts, and parts are found again where no root begins elsewhere.
-use Rattle.std.proofs.Common.{◌≡◌, ℕ, zero, suc, ◌+◌, ◌-◌, ◌<◌, ◌==◌, Bool, true, false, not, cond, ◌&&◌, List, [], ◌∷◌, ◌++◌, Option, Some, None, MatchOption, Bor, length-append, refl, ap, sym, ◌∙◌, subst, eqb-true, length, take, drop, get_or, arith, bytes_eq, sub-one}
+use Rattle.std.proofs.Common.{◌≡◌, ℕ, zero, suc, ◌+◌, ◌-◌, ◌<◌, ◌==◌, Bool, true, false, not, cond, ◌&&◌, List, [], ◌∷◌, ◌++◌, Option, Some, None, MatchOption, Bor, length-append, refl, ap, sym, ◌∙◌, subst, eqb-true, length, take, drop, get_or, arith, bytes_eq, sub-one, take-append-drop}
 use Rattle.std.specs.List.{position_from, list_all}
 use Rattle.std.proofs.lemmas.Bool.{false≢true, and_parts, and_from, false_from_ne_true}
-use Rattle.std.proofs.lemmas.List.{take-append-drop}
 use Rattle.std.proofs.lemmas.Slice.Eq.{bytes_eq-Decides}
 use Rattle.std.proofs.lemmas.Option.{none-some, same_Some}
 use Rattle.texts.specs.Path.{lacks}
@@ -12,11 +11,7 @@ use Rattle.command_keys.specs.Marks.{begins_with, root_at, root_of, part_at, len
 
 -- a text that begins with a root is the root and the rest
 begins-split : (c : ℕ) (cs root : List ℕ) → begins_with (c ∷ cs) root ≡ true → root ++ drop (length root - 1) cs ≡ c ∷ cs
-begins-split c cs [] h = absurd (false≢true h)
-begins-split c cs (r ∷ rs) h =
-    let front : r ∷ rs ≡ take (length (r ∷ rs)) (c ∷ cs) = (bytes_eq-Decides (r ∷ rs) (take (length (r ∷ rs)) (c ∷ cs))).0 h in
-    ap (λ n. (r ∷ rs) ++ drop n cs) (sub-one (suc (length rs))) ∙ ap (λ t. t ++ drop (length rs) cs) front
-    ∙ take-append-drop (length (r ∷ rs)) (c ∷ cs)
+begins-split c cs root h = grind (arith, false≢true, bytes_eq-Decides, sub-one, take-append-drop)
 
 -- the position that is found, counted from the first of the list
 record Found (text : List ℕ) (roots : List (List ℕ)) (start number : ℕ) : Type 0 where
@@ -44,14 +39,14 @@ pub root-begins : (roots : List (List ℕ)) (text : List ℕ) (number : ℕ) →
 root-begins roots text number e =
     let found = found-from text roots 0 number e in
     let same : number ≡ found.place = found.is ∙ (omega arith) in
-    subst (λ n. begins_with text (root_of roots n) ≡ true) (sym same) found.begins
+    grind arith
 
 pub root-within : (roots : List (List ℕ)) (text : List ℕ) (number : ℕ) → root_at roots text ≡ Some number → number < length roots
 root-within roots text number e =
     let found = found-from text roots 0 number e in
     let at : number ≡ 0 + found.place = found.is in
     let below : found.place < length roots = found.within in
-    omega (arith, at, below)
+    grind arith
 
 -- the text of the parts is the text
 pub text-past : (roots : List (List ℕ)) (skipped : ℕ) (text : List ℕ) → text_of roots (parts_past skipped roots text) ≡ drop skipped text
@@ -75,23 +70,15 @@ parts-behind roots [] back = refl
 parts-behind roots (c ∷ front) back = parts-behind roots front back
 
 told-byte : (byte : ℕ) (o : Option ℕ) → is_told (Byte byte) o ≡ true → o ≡ None
-told-byte byte None h = refl
-told-byte byte (Some number) h = absurd (false≢true h)
+told-byte byte o h = grind (arith, false≢true)
 
 told-root : (number : ℕ) (o : Option ℕ) → is_told (Root number) o ≡ true → o ≡ Some number
-told-root number None h = absurd (false≢true h)
-told-root number (Some other) h = ap Some (sym (eqb-true number other h))
+told-root number o h = grind (arith, false≢true, eqb-true)
 
 -- the parts of a text that begins with a root
 root-first : (roots : List (List ℕ)) (number : ℕ) (root rest : List ℕ) → root_of roots number ≡ root → begins_with (root ++ rest) root ≡ true → root_at roots (root ++ rest) ≡ Some number → parts roots (root ++ rest) ≡ Root number ∷ parts roots rest
-root-first roots number [] rest is begins e = absurd (nothing-begins rest begins) where
-  nothing-begins : (rest : List ℕ) → begins_with rest [] ≡ true → ⊥
-  nothing-begins rest h = false≢true h
-root-first roots number (r ∷ rs) rest is begins e =
-    ap (λ o. part_at o r ∷ parts_past (length_behind roots o) roots (rs ++ rest)) e
-    ∙ ap (λ root. Root number ∷ parts_past (length root - 1) roots (rs ++ rest)) is
-    ∙ ap (λ n. Root number ∷ parts_past n roots (rs ++ rest)) (sub-one (suc (length rs)))
-    ∙ ap (λ ps. Root number ∷ ps) (parts-behind roots rs rest)
+root-first roots number [] rest is begins e = grind (arith, false≢true)
+root-first roots number (r ∷ rs) rest is begins e = grind (arith, sub-one, parts-behind)
 
 -- parts are found again in their text
 pub parts-told : (roots : List (List ℕ)) (ps : List Part) → are_told roots ps ≡ true → parts roots (text_of roots ps) ≡ ps
@@ -100,15 +87,13 @@ parts-told roots (Byte byte ∷ ps) h =
     let rest = text_of roots ps in
     let both = and_parts (is_told (Byte byte) (root_at roots (byte ∷ rest))) (are_told roots ps) h in
     let none = told-byte byte (root_at roots (byte ∷ rest)) both.0 in
-    ap (λ o. part_at o byte ∷ parts_past (length_behind roots o) roots rest) none
-    ∙ ap (λ qs. Byte byte ∷ qs) (parts-told roots ps both.1)
+    grind (arith, (parts-told roots ps both.1))
 parts-told roots (Root number ∷ ps) h =
     let root = root_of roots number in
     let rest = text_of roots ps in
     let both = and_parts (is_told (Root number) (root_at roots (root ++ rest))) (are_told roots ps) h in
     let at = told-root number (root_at roots (root ++ rest)) both.0 in
-    root-first roots number root rest refl (root-begins roots (root ++ rest) number at) at
-    ∙ ap (λ qs. Root number ∷ qs) (parts-told roots ps both.1)
+    grind (arith, root-first, root-begins, (parts-told roots ps both.1))
 
 -- a text without NUL has no part that is NUL
 abbrev pub is_plain_part : Part → Bool
@@ -130,23 +115,11 @@ plain-past roots zero (c ∷ cs) h =
 pub stripped : (text root : List ℕ) (rest : Option (Bor (List ℕ))) → (length root == 0) ≡ false →
     MatchOption rest (bytes_eq (take (length root) text) root ≡ false) (λ r. (bytes_eq (take (length root) text) root ≡ true) × (r.now ≡ drop (length root) text) × (length r.now + length root ≡ length text)) →
     MatchOption rest (begins_with text root ≡ false) (λ r. (begins_with text root ≡ true) × (text ≡ root ++ r.now))
-stripped text [] rest some h = absurd (false≢true (sym some))
-stripped text (c ∷ cs) None some h =
-    let root = c ∷ cs in
-    let front = take (length root) text in
-    false_from_ne_true (begins_with text root) (λ is. false≢true (sym h ∙ (bytes_eq-Decides front root).1 (sym ((bytes_eq-Decides root front).0 is))))
-stripped text (c ∷ cs) (Some rest) some h =
-    let root = c ∷ cs in
-    let front = take (length root) text in
-    let same : front ≡ root = (bytes_eq-Decides front root).0 h.0 in (
-      (bytes_eq-Decides root front).1 (sym same),
-      sym (take-append-drop (length root) text) ∙ ap (λ t. t ++ drop (length root) text) same ∙ ap (λ t. root ++ t) (sym h.1),
-    )
+stripped text root rest some h = grind (arith, false≢true, false_from_ne_true, bytes_eq-Decides, take-append-drop)
 
 -- a text that begins with a root, and what follows it
 some-root : (text root : List ℕ) → begins_with text root ≡ true → 0 < length root
-some-root text [] h = absurd (false≢true h)
-some-root text (c ∷ cs) h = omega arith
+some-root text root h = grind (arith, false≢true)
 
 pub first-root : (roots : List (List ℕ)) (text rest : List ℕ) (number : ℕ) → root_at roots text ≡ Some number → text ≡ root_of roots number ++ rest → (parts roots text ≡ Root number ∷ parts roots rest) × (length rest < length text)
 first-root roots text rest number e is =
@@ -154,12 +127,9 @@ first-root roots text rest number e is =
     let at : root_at roots (root ++ rest) ≡ Some number = ap (root_at roots) (sym is) ∙ e in
     let begins = root-begins roots (root ++ rest) number at in
     let some : 0 < length root = some-root (root ++ rest) root begins in
-    let long : length text ≡ length root + length rest = ap length is ∙ length-append root rest in (
-      ap (parts roots) is ∙ root-first roots number root rest refl begins at,
-      omega (arith, some, long),
-    )
+    grind (arith, length-append, root-first)
 
 pub first-byte : (roots : List (List ℕ)) (text rest : List ℕ) (byte : ℕ) → root_at roots text ≡ None → text ≡ byte ∷ rest → parts roots text ≡ Byte byte ∷ parts roots rest
 first-byte roots text rest byte e is =
     let at : root_at roots (byte ∷ rest) ≡ None = ap (root_at roots) (sym is) ∙ e in
-    ap (parts roots) is ∙ ap (λ o. part_at o byte ∷ parts_past (length_behind roots o) roots rest) at
+    grind arith

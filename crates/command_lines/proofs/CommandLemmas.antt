@@ -1,10 +1,7 @@
 -- Command lines compare as what is seen of them.
-use Rattle.std.proofs.Common.{◌≡◌, ℕ, ◌&&◌, Bool, List, [], ◌∷◌, Vec, String, map, refl, ap, nat_eq, string_bytes}
-use Rattle.std.specs.declared.alloc.Global.{Global}
+use Rattle.std.proofs.Common.{◌≡◌, ℕ, ◌&&◌, Bool, List, [], ◌∷◌, Vec, String, map, refl, ap, nat_eq, string_bytes, Global, Decides, arith}
 use Rattle.std.specs.Cmp.Lexicographic.{pointwise}
 use Rattle.std.specs.Ordering.{on, eq_of_both}
-use Rattle.std.specs.Bool.{Decides}
-use Rattle.std.specs.Cmp.{unsigned_Decides}
 use Rattle.std.proofs.lemmas.Bool.Decides.{Decides-and, Decides-like}
 use Rattle.std.proofs.lemmas.Slice.Eq.{bytes_eq-Decides}
 use Rattle.texts.specs.Equality.{TellsEqual}
@@ -20,24 +17,18 @@ pub pointwise-lines : (xs ys : List (ℕ × String Global × Vec (String Global)
 pointwise-lines [] [] = refl
 pointwise-lines [] (y ∷ ys) = refl
 pointwise-lines (x ∷ xs) [] = refl
-pointwise-lines (x ∷ xs) (y ∷ ys) =
-    rw (pointwise-texts x.2.items y.2.items, pointwise-lines xs ys) refl
+pointwise-lines (x ∷ xs) (y ∷ ys) = simp (pointwise-texts, (pointwise-lines xs ys))
 
 -- the test of command lines
 abbrev same_line : CommandLine → CommandLine → Bool
 same_line = eq_of_both (eq_of_both (on (λ (c : CommandLine). c.0) nat_eq) (on (λ (c : CommandLine). c.1) (pointwise nat_eq))) (on (λ (c : CommandLine). c.2) (pointwise (pointwise nat_eq)))
 
 lines-equal : TellsEqual same_line
-lines-equal a b =
-    Decides-like ((nat_eq a.0 b.0 && pointwise nat_eq a.1 b.1) && pointwise (pointwise nat_eq) a.2 b.2) (λ e. λ i. (e.0.0 i, e.0.1 i, e.1 i)) (λ e. ((ap (λ x. x.0) e, ap (λ x. x.1) e), ap (λ x. x.2) e))
-    (Decides-and (nat_eq a.0 b.0 && pointwise nat_eq a.1 b.1) (pointwise (pointwise nat_eq) a.2 b.2)
-    (Decides-and (nat_eq a.0 b.0) (pointwise nat_eq a.1 b.1) (unsigned_Decides a.0 b.0) (bytes_eq-Decides a.1 b.1)) (lists (pointwise nat_eq) bytes_eq-Decides a.2 b.2))
+lines-equal a b = grind (arith, Decides-like, Decides-and, bytes_eq-Decides, lists)
 
 -- the test of commands, and that of dry runs
 pub commands-equal : TellsEqual (pointwise same_line)
 commands-equal = lists same_line lines-equal
 
 pub dry_runs-equal : (a b : DryRun) → Decides (pointwise same_line a.commands b.commands && same_variables a.env b.env) (a ≡ b)
-dry_runs-equal a b =
-    Decides-like (pointwise same_line a.commands b.commands && same_variables a.env b.env) (λ e. λ i. record { commands = e.0 i; env = e.1 i }) (λ e. (ap (λ x. x.commands) e, ap (λ x. x.env) e))
-    (Decides-and (pointwise same_line a.commands b.commands) (same_variables a.env b.env) (commands-equal a.commands b.commands) (variables a.env b.env))
+dry_runs-equal a b = grind (arith, Decides-like, same_variables, Decides-and, commands-equal, variables)

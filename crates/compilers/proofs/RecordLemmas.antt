@@ -1,5 +1,5 @@
 -- `==` on the records says whether they are equal.
-use Rattle.std.proofs.Common.{◌≡◌, ℕ, Bool, ◌&&◌, List, nat_eq, ap, rules}
+use Rattle.std.proofs.Common.{◌≡◌, ℕ, Bool, ◌&&◌, List, nat_eq, ap, rules, arith}
 use Rattle.std.specs.Option.{option_eq}
 use Rattle.std.specs.Bool.{Decides, beq}
 use Rattle.std.specs.Cmp.Lexicographic.{pointwise}
@@ -19,20 +19,11 @@ use Rattle.texts.proofs.EqualityLemmas.{bools, lists, pairs, same_variables, var
 
 -- files that commands make
 pub artifacts : (a b : ArtifactDescriptor) → Decides (pointwise nat_eq a.path b.path && beq a.optional b.optional) (a ≡ b)
-artifacts a b =
-    Decides-like (pointwise nat_eq a.path b.path && beq a.optional b.optional) (λ e. λ i. record { path = e.0 i; optional = e.1 i }) (λ e. (ap (λ x. x.path) e, ap (λ x. x.optional) e))
-    (Decides-and (pointwise nat_eq a.path b.path) (beq a.optional b.optional) (bytes_eq-Decides a.path b.path) (bools a.optional b.optional))
+artifacts a b = grind (arith, Decides-like, Decides-and, bytes_eq-Decides, bools)
 
 -- commands
 pub commands : (a b : SingleCompileCommand) → Decides (pointwise nat_eq a.executable b.executable && (pointwise (pointwise nat_eq) a.arguments b.arguments && (same_variables a.env_vars b.env_vars && (pointwise nat_eq a.cwd b.cwd && beq a.share_jobserver b.share_jobserver)))) (a ≡ b)
-commands a b =
-    Decides-like (pointwise nat_eq a.executable b.executable && (pointwise (pointwise nat_eq) a.arguments b.arguments && (same_variables a.env_vars b.env_vars && (pointwise nat_eq a.cwd b.cwd && beq a.share_jobserver b.share_jobserver))))
-    (λ e. λ i. record { executable = e.0 i; arguments = e.1.0 i; env_vars = e.1.1.0 i; cwd = e.1.1.1.0 i; share_jobserver = e.1.1.1.1 i })
-    (λ e. (ap (λ x. x.executable) e, (ap (λ x. x.arguments) e, (ap (λ x. x.env_vars) e, (ap (λ x. x.cwd) e, ap (λ x. x.share_jobserver) e)))))
-    (Decides-and (pointwise nat_eq a.executable b.executable) _ (bytes_eq-Decides a.executable b.executable)
-    (Decides-and (pointwise (pointwise nat_eq) a.arguments b.arguments) _ (lists (pointwise nat_eq) bytes_eq-Decides a.arguments b.arguments)
-    (Decides-and (same_variables a.env_vars b.env_vars) _ (variables a.env_vars b.env_vars)
-    (Decides-and (pointwise nat_eq a.cwd b.cwd) (beq a.share_jobserver b.share_jobserver) (bytes_eq-Decides a.cwd b.cwd) (bools a.share_jobserver b.share_jobserver)))))
+commands a b = grind (arith, Decides-like, same_variables, Decides-and, bytes_eq-Decides, lists, variables, bools)
 
 -- enums without fields
 languages : (a b : Language) → Decides (sameb language.the_type a b) (a ≡ b)

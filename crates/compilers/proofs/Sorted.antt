@@ -1,11 +1,8 @@
 -- Entries in ascending order of their keys, put into an empty map one after the other, are that map.
-use Rattle.std.proofs.Common.{◌≡◌, List, [], ◌∷◌, ◌++◌, map, refl, ap, sym, ◌∙◌, append_assoc, append-nil}
+use Rattle.std.proofs.Common.{◌≡◌, List, [], ◌∷◌, ◌++◌, map, refl, ap, sym, ◌∙◌, append_assoc, append-nil, Ordering, Less, Greater, arith}
 use Rattle.std.specs.List.{fold, AllByRecursion}
 use Rattle.std.specs.List.Sorted.{IsStrictlySortedBy}
 use Rattle.std.specs.Cmp.{IsTotalOrder}
-use Rattle.std.specs.Ordering.{ordering_reverse}
-use Rattle.std.specs.declared.cmp.Ordering.{Ordering}
-use Rattle.std.specs.declared.cmp.Ordering.TheVariants.{Less, Greater}
 use Rattle.std.specs.BTreeMap.{insert_entry}
 use Rattle.std.specs.Map.{keys_of}
 
@@ -27,9 +24,7 @@ module _ {J X : Type 0} (R : J → J → Ordering) (total : IsTotalOrder R) wher
   -- an entry above all others goes last
   insert-last : (es : List (J × X)) (k : J) (v : X) → Below k es → insert_entry R es k v ≡ es ++ (k, v) ∷ []
   insert-last [] k v h = refl
-  insert-last (e ∷ es) k v h =
-      let above : R k e.0 ≡ Greater = total.antisymm k e.0 ∙ ap ordering_reverse h.0 in
-      rw above (ap (λ t. e ∷ t) (insert-last es k v h.1))
+  insert-last (e ∷ es) k v h = grind (arith, (insert-last es k v h.1))
 
   below-push : (k : J) (es : List (J × X)) (e : J × X) → Below k es → R e.0 k ≡ Less → Below k (es ++ e ∷ [])
   below-push k [] e h l = (l, tt)

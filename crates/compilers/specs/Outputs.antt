@@ -1,10 +1,8 @@
 -- The files that a command makes, as entries in the order of their keys.
-use Rattle.std.specs.Prelude.{ℕ, List, [], Option}
-use Rattle.std.specs.List.{fold}
+use Rattle.std.specs.Prelude.{ℕ, List, [], Option, fold, bytes_eq}
 use Rattle.std.specs.Ordering.{nat_cmp}
 use Rattle.std.specs.Cmp.Lexicographic.{slice_cmp}
 use Rattle.std.specs.Map.{lookup}
-use Rattle.std.specs.Str.{bytes_eq}
 use Rattle.std.specs.BTreeMap.{insert_entry}
 use Rattle.compilers.specs.declared.outputs.ArtifactDescriptor.{ArtifactDescriptor}
 use denote.Ref.{Bor}

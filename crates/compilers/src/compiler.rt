@@ -1,7 +1,6 @@
 //! What a compiler is to the layers above.
 
-ghost use Rattle.std.specs.Prelude.{◌≡◌, [], IfOk, map, string_bytes};
-ghost use Rattle.std.specs.Option.{option_map};
+ghost use Rattle.std.specs.Prelude.{◌≡◌, [], IfOk, map, string_bytes, option_map};
 ghost use Rattle.texts.specs.Variables.{pair_of};
 ghost use Rattle.texts.specs.Fault.{UnlessMemory};
 ghost use Rattle.compilers.specs.Compiler.{reading_of};

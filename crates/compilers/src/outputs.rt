@@ -1,7 +1,6 @@
 //! The files that a command makes.
 
-ghost use Rattle.std.specs.Prelude.{◌≡◌, ◌==◌, [], ◌∷◌, map, length, IfOk, OnOk, OnErr};
-ghost use Rattle.std.specs.Option.{option_copied};
+ghost use Rattle.std.specs.Prelude.{◌≡◌, ◌==◌, [], ◌∷◌, map, length, IfOk, OnOk, OnErr, option_copied};
 
 use std::alloc::{AllocError, Global};
 use std::collections::{BTreeMap, btree_map};

@@ -1,8 +1,7 @@
 //! What the program says when it stops: the file, the line, the cause and what to do.
 
-ghost use Rattle.std.specs.Prelude.{◌≡◌, ◌++◌, IfOk, OnOk, map, string_bytes};
+ghost use Rattle.std.specs.Prelude.{◌≡◌, ◌++◌, IfOk, OnOk, map, string_bytes, option_copied, option_map};
 ghost use Rattle.std.specs.List.{starts_with};
-ghost use Rattle.std.specs.Option.{option_copied, option_map};
 ghost use Rattle.texts.specs.Fault.{message_of as fault_text};
 ghost use Rattle.texts.specs.Numeral.{numeral};
 ghost use Rattle.program_calls.specs.Calls.{plan_of};

@@ -1,7 +1,6 @@
 //! The line of two dry runs that stops the program.
 
-ghost use Rattle.std.specs.Prelude.{◌≡◌, IfOk};
-ghost use Rattle.std.specs.Option.{option_map};
+ghost use Rattle.std.specs.Prelude.{◌≡◌, IfOk, option_map};
 ghost use Rattle.std.specs.Str.Lines.{lines};
 ghost use Rattle.program_calls.specs.Calls.{plan_of};
 ghost use Rattle.complaints.specs.Places as spec;

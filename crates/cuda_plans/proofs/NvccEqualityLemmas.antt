@@ -1,7 +1,6 @@
 -- `==` on nvcc and on its commands says whether they are equal.
-use Rattle.std.proofs.Common.{◌≡◌, ◌&&◌, Bool, ap, nat_eq, rules}
+use Rattle.std.proofs.Common.{◌≡◌, ◌&&◌, Bool, ap, nat_eq, rules, Decides, arith}
 use Rattle.std.specs.Option.{option_eq}
-use Rattle.std.specs.Bool.{Decides}
 use Rattle.std.specs.Cmp.Lexicographic.{pointwise}
 use Rattle.std.proofs.lemmas.Bool.Decides.{Decides-and, Decides-like, Decides-eqb}
 use Rattle.std.proofs.lemmas.Slice.Eq.{bytes_eq-Decides}
@@ -21,12 +20,7 @@ abbrev same_compilers : Nvcc → Nvcc → Bool
 same_compilers a b = sameb host.the_type a.host_compiler b.host_compiler && (option_eq (pointwise nat_eq) a.host_compiler_version b.host_compiler_version && option_eq (pointwise nat_eq) a.version b.version)
 
 pub compilers : (a b : Nvcc) → Decides (same_compilers a b) (a ≡ b)
-compilers a b =
-    Decides-like (same_compilers a b)
-    (λ e. λ i. record { host_compiler = e.0 i; host_compiler_version = e.1.0 i; version = e.1.1 i })
-    (λ e. (ap (λ x. x.host_compiler) e, (ap (λ x. x.host_compiler_version) e, ap (λ x. x.version) e)))
-    (Decides-and (sameb host.the_type a.host_compiler b.host_compiler) _ (hosts a.host_compiler b.host_compiler)
-    (Decides-and (option_eq (pointwise nat_eq) a.host_compiler_version b.host_compiler_version) (option_eq (pointwise nat_eq) a.version b.version) (options (pointwise nat_eq) bytes_eq-Decides a.host_compiler_version b.host_compiler_version) (options (pointwise nat_eq) bytes_eq-Decides a.version b.version)))
+compilers a b = grind (arith, Decides-like, Decides-and, hosts, options, bytes_eq-Decides)
 
 -- calls of nvcc
 abbrev same_commands : NvccCompileCommand → NvccCompileCommand → Bool

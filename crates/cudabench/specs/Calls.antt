@@ -1,7 +1,5 @@
 -- The calls of the program.
-use Rattle.std.specs.Prelude.{ℕ, ◌==◌, List, [], ◌∷◌, map, string_bytes, if◌then◌else◌, Option, Some, None, codes}
-use Rattle.std.specs.Option.{option_and_then, option_map}
-use Rattle.std.specs.Str.{bytes_eq}
+use Rattle.std.specs.Prelude.{ℕ, ◌==◌, List, [], ◌∷◌, map, string_bytes, if◌then◌else◌, Option, Some, None, codes, option_and_then, option_map, bytes_eq}
 use Rattle.host_lines.specs.KeepThreads.{number_of}
 use Rattle.plan_texts.specs.declared.tool.Tool.{Tool}
 use Rattle.plan_texts.specs.Tools.{tool_of_name}

@@ -1,8 +1,6 @@
 //! The program's calls.
 
-ghost use Rattle.std.specs.Prelude.{◌≡◌, None, codes, if◌then◌else◌, map, string_bytes};
-ghost use Rattle.std.specs.Option.{option_map};
-ghost use Rattle.std.specs.Str.{bytes_eq};
+ghost use Rattle.std.specs.Prelude.{◌≡◌, None, codes, if◌then◌else◌, map, string_bytes, option_map, bytes_eq};
 ghost use Rattle.host_lines.specs.KeepThreads.{number_of};
 ghost use Rattle.cudabench.specs.Calls as spec;
 

@@ -1,7 +1,5 @@
 -- The calls of the program, and how they end.
-use Rattle.std.specs.Prelude.{◌≡◌, ℕ, List, [], ◌∷◌, if◌then◌else◌, Option, None, Result, Ok, Err, MatchOption, codes}
-use Rattle.std.specs.Option.{option_map}
-use Rattle.std.specs.Str.{bytes_eq}
+use Rattle.std.specs.Prelude.{◌≡◌, ℕ, List, [], ◌∷◌, if◌then◌else◌, Option, None, Result, Ok, Err, MatchOption, codes, option_map, bytes_eq}
 use Rattle.std.specs.Io.KnownBytes.{Keeps}
 use Rattle.programs.specs.declared.stop.Stop.{Stop}
 use Rattle.program_calls.specs.Calls.{LineOf, PlanOf, line_of, plan_of, line_call_of, plan_call_of}

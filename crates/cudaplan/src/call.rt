@@ -1,7 +1,6 @@
 //! The forms of a call.
 
-ghost use Rattle.std.specs.Prelude.{◌≡◌, map, string_bytes};
-ghost use Rattle.std.specs.Option.{option_map};
+ghost use Rattle.std.specs.Prelude.{◌≡◌, map, string_bytes, option_map};
 ghost use Rattle.cudaplan.specs.Calls as spec;
 
 use program_calls::{LineCall, PlanCall, line_call, plan_call};

@@ -14,9 +14,7 @@ use Rattle.texts.specs.Lists.{latest}
 
 -- what completes an item takes words from the line, and puts none back
 pub words-completed : (s : Said ArgData) (before : List (List ℕ)) (i : Item ArgData) (after : List (List ℕ)) → Completes s before i after → length after ≤ length before
-words-completed (item j) before i after h = rw h.1 (omega arith)
-words-completed (option e) [] i after h = rw h.1 (omega arith)
-words-completed (option e) (x ∷ rest) i after h = rw h.1 (omega arith)
+words-completed s before i after h = grind arith
 
 -- words put after those so far, where a test says so
 kept_words : (b : Bool) (so_far words rest : List (List ℕ)) → cond b (so_far ++ words) so_far ++ rest ≡ so_far ++ cond b (words ++ rest) rest
@@ -25,25 +23,19 @@ kept_words false so_far words rest = refl
 
 -- the words of a list of items with one in front, where a test says so
 flat_map-cond : {X : Type 0} (f : X → List (List ℕ)) (b : Bool) (x : X) (xs : List X) → flat_map f (cond b (x ∷ xs) xs) ≡ cond b (f x ++ flat_map f xs) (flat_map f xs)
-flat_map-cond f true x xs = refl
-flat_map-cond f false x xs = refl
+flat_map-cond f b x xs = grind arith
 
 map-cond : {X Y : Type 0} (f : X → Y) (b : Bool) (x : X) (xs : List X) → map f (cond b (x ∷ xs) xs) ≡ cond b (f x ∷ map f xs) (map f xs)
-map-cond f true x xs = refl
-map-cond f false x xs = refl
+map-cond f b x xs = grind arith
 
 module _ (cwd : List ℕ) where
   common-gathered : (is : List (Item ArgData)) (g : Gathered) → (fold (with_item cwd) g is).common ≡ g.common ++ flat_map words_of (map (λ p. p.1) (filter is_common (beside g.after_unknown is)))
   common-gathered [] g = sym (append-nil g.common)
-  common-gathered (i ∷ is) g =
-      let rest = filter is_common (beside (with_item cwd g i).after_unknown is) in
-      common-gathered is (with_item cwd g i) ∙ (kept_words (is_common (g.after_unknown, i)) g.common (words_of i) (flat_map words_of (map (λ p. p.1) rest)) ∙ ap (λ t. g.common ++ t) (sym (ap (flat_map words_of) (map-cond (λ p. p.1) (is_common (g.after_unknown, i)) (g.after_unknown, i) rest) ∙ flat_map-cond words_of (is_common (g.after_unknown, i)) i (map (λ p. p.1) rest))))
+  common-gathered (i ∷ is) g = simp (kept_words, map-cond, flat_map-cond, (common-gathered is (with_item cwd g i)))
 
   unhashed-gathered : (is : List (Item ArgData)) (g : Gathered) → (fold (with_item cwd) g is).unhashed ≡ g.unhashed ++ flat_map words_of (filter (λ i. is_unhashed_kind (kind_of i)) is)
   unhashed-gathered [] g = sym (append-nil g.unhashed)
-  unhashed-gathered (i ∷ is) g =
-      let rest = filter (λ j. is_unhashed_kind (kind_of j)) is in
-      unhashed-gathered is (with_item cwd g i) ∙ (kept_words (is_unhashed_kind (kind_of i)) g.unhashed (words_of i) (flat_map words_of rest) ∙ ap (λ t. g.unhashed ++ t) (sym (flat_map-cond words_of (is_unhashed_kind (kind_of i)) i rest)))
+  unhashed-gathered (i ∷ is) g = simp (kept_words, flat_map-cond, (unhashed-gathered is (with_item cwd g i)))
 
   files-gathered : (is : List (Item ArgData)) (g : Gathered) → (fold (with_item cwd) g is).files ≡ fold (with_files_of cwd) g.files is
   files-gathered [] g = refl
@@ -70,5 +62,4 @@ module _ (cwd : List ℕ) where
   )
 
   pub reading-gathered : (language : Language) (input : List ℕ) (is : List (Item ArgData)) → reading_of_gathered cwd language input (fold (with_item cwd) nothing_gathered is) ≡ reading_of_items cwd language input is
-  reading-gathered language input is =
-      rw (files-gathered is nothing_gathered, (files-named is).0, (files-named is).1, common-gathered is nothing_gathered, unhashed-gathered is nothing_gathered) refl
+  reading-gathered language input is = grind (arith, files-gathered, files-named, common-gathered, unhashed-gathered)

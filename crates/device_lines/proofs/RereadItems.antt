@@ -1,8 +1,6 @@
 -- What the items of a line have of the entries that its words choose, and of the line's words.
-use Rattle.std.proofs.Common.{◌≡◌, ℕ, List, [], ◌∷◌, ◌++◌, Bool, true, false, cond, not, ◌&&◌, eqb, Option, Some, None, refl, ap, subst, codes}
+use Rattle.std.proofs.Common.{◌≡◌, ℕ, List, [], ◌∷◌, ◌++◌, Bool, true, false, cond, not, ◌&&◌, eqb, Option, Some, None, refl, ap, subst, codes, is_some, option_and_then, bytes_eq, arith}
 use Rattle.std.specs.List.{AllByRecursion, fold}
-use Rattle.std.specs.Option.{is_some, option_and_then}
-use Rattle.std.specs.Str.{bytes_eq}
 use Rattle.std.proofs.lemmas.Bool.{false≢true}
 use Rattle.option_items.specs.declared.table.ArgDisposition.{ArgDisposition}
 use Rattle.option_items.specs.declared.table.ArgDisposition.TheVariants.{Separated, Concatenated, CanBeSeparated, CanBeConcatenated}
@@ -44,19 +42,12 @@ module _ (chosen : List ℕ → Option (Entry ArgData)) (R : Item ArgData → Ty
   -- what holds of what every word says holds of all items
   pub all-items : (line : List (List ℕ)) → AllByRecursion R (items chosen line)
   all-items [] = tt
-  all-items (w ∷ []) =
-      elim (said_of w (chosen w)) as (λ s. SaidHolds R s → AllByRecursion R (elim s as (λ _. List (Item ArgData)) [ item j ↦ j ∷ [] | option e ↦ last_item e ∷ [] ]))
-      [ item j ↦ λ h. (h, tt) | option e ↦ λ h. (h.1, tt) ] (said-holds w)
-  all-items (w ∷ x ∷ rest) =
-      let later = all-items (x ∷ rest) in
-      let past = all-items rest in
-      elim (said_of w (chosen w)) as (λ s. SaidHolds R s → AllByRecursion R (elim s as (λ _. List (Item ArgData)) [ item j ↦ j ∷ items chosen (x ∷ rest) | option e ↦ separate_item e x ∷ items chosen rest ]))
-      [ item j ↦ λ h. (h, later) | option e ↦ λ h. (h.0 x, past) ] (said-holds w)
+  all-items (w ∷ []) = grind (arith, said-holds)
+  all-items (w ∷ x ∷ rest) = grind (arith, said-holds, (all-items (x ∷ rest)), (all-items rest))
 
 -- a word of no option
 unmatched-test : (test : Item ArgData → Bool) → ((w : List ℕ) → test (raw w) ≡ true) → ((w : List ℕ) → test (unknown_flag w) ≡ true) → (w : List ℕ) → test (unmatched_item w) ≡ true
-unmatched-test test one other [] = one []
-unmatched-test test one other (c ∷ cs) = elim (eqb c 45) as (λ b. test (cond b (unknown_flag (c ∷ cs)) (raw (c ∷ cs))) ≡ true) [ true ↦ other (c ∷ cs) | false ↦ one (c ∷ cs) ]
+unmatched-test test one other w = grind arith
 
 -- an option whose value is always the next word, and one that may also be a flag
 abbrev pub is_separated : Option ArgDisposition → Bool
@@ -75,32 +66,18 @@ is_plain (Some (CanBeConcatenated d)) = false
 
 -- a value that is the next word is not joined
 separate-apart : (form : Option ArgDisposition) → is_joined (separate_form form) ≡ false
-separate-apart None = refl
-separate-apart (Some Separated) = refl
-separate-apart (Some (Concatenated d)) = refl
-separate-apart (Some (CanBeSeparated d)) = refl
-separate-apart (Some (CanBeConcatenated d)) = refl
+separate-apart form = grind arith
 
 -- a flag has no joined value
 flag-no_value : (rest : Option (List ℕ)) (value : List ℕ) → option_and_then (matched_rest None) rest ≡ Some (joined value) → ⊥
-flag-no_value None value h = cc
-flag-no_value (Some []) value h = cc
-flag-no_value (Some (c ∷ cs)) value h = cc
+flag-no_value rest value h = grind arith
 
 -- over options that are flags or have the next word as their value, no value is both joined and empty
 plain-joined : (form : Option ArgDisposition) (rest : Option (List ℕ)) (value : List ℕ) → is_plain form ≡ true → option_and_then (matched_rest form) rest ≡ Some (joined value) → not (is_joined (joined_form form) && bytes_eq value []) ≡ true
-plain-joined None rest value h at = absurd (flag-no_value rest value at)
-plain-joined (Some Separated) rest value h at = refl
-plain-joined (Some (Concatenated d)) rest value h at = absurd (false≢true h)
-plain-joined (Some (CanBeSeparated d)) rest value h at = absurd (false≢true h)
-plain-joined (Some (CanBeConcatenated d)) rest value h at = absurd (false≢true h)
+plain-joined form rest value h at = grind (arith, flag-no_value, false≢true)
 
 plain-last : (text : List ℕ) (kind : ArgData) (form : Option ArgDisposition) → is_plain form ≡ true → is_filled (cond (may_stand_last form) (with_value text kind [] (joined_form form)) faulty) ≡ true
-plain-last text kind None h = refl
-plain-last text kind (Some Separated) h = refl
-plain-last text kind (Some (Concatenated d)) h = absurd (false≢true h)
-plain-last text kind (Some (CanBeSeparated d)) h = absurd (false≢true h)
-plain-last text kind (Some (CanBeConcatenated d)) h = absurd (false≢true h)
+plain-last text kind form h = grind (arith, false≢true)
 
 pub plain-filled : (chosen : List ℕ → Option (Entry ArgData)) → ((w : List ℕ) (e : Entry ArgData) → chosen w ≡ Some e → is_plain e.form ≡ true) → (line : List (List ℕ)) → AllFilled (items chosen line)
 plain-filled chosen plain line = all-items chosen (λ i. is_filled i ≡ true) (unmatched-test is_filled (λ _. refl) (λ _. refl)) says line where
@@ -131,20 +108,10 @@ item_fits faulty = true
 
 -- such an entry with another way to stand, where that is apart wherever the entry's is
 fits-wider : (kind : ArgData) (text : List ℕ) (a b : Bool) → (a ≡ true → b ≡ true) → fits kind text a ≡ true → fits kind text b ≡ true
-fits-wider Output text a b wider h = wider h
-fits-wider PassThrough text a b wider h = refl
-fits-wider UnhashedFlag text a b wider h = refl
-fits-wider GenModuleIdFileFlag text a b wider h = refl
-fits-wider ModuleIdFileName text a b wider h = refl
-fits-wider UnhashedPassThrough text a b wider h = refl
-fits-wider UnhashedOutput text a b wider h = h
+fits-wider kind text a b wider h = grind arith
 
 separated-apart : (form : Option ArgDisposition) → is_separated form ≡ true → not (is_joined (joined_form form)) ≡ true
-separated-apart None h = absurd (false≢true h)
-separated-apart (Some Separated) h = refl
-separated-apart (Some (Concatenated d)) h = absurd (false≢true h)
-separated-apart (Some (CanBeSeparated d)) h = absurd (false≢true h)
-separated-apart (Some (CanBeConcatenated d)) h = absurd (false≢true h)
+separated-apart form h = grind (arith, false≢true)
 
 pub all-fit : (chosen : List ℕ → Option (Entry ArgData)) → ((w : List ℕ) (e : Entry ArgData) → chosen w ≡ Some e → entry_fits e ≡ true) → (line : List (List ℕ)) → AllByRecursion (λ i. item_fits i ≡ true) (items chosen line)
 all-fit chosen suit line = all-items chosen (λ i. item_fits i ≡ true) (unmatched-test item_fits (λ _. refl) (λ _. refl)) says line where
@@ -174,7 +141,7 @@ module _ (chosen : List ℕ → Option (Entry ArgData)) (P : List ℕ → Type 0
   first-words : (line : List (List ℕ)) (i : Item ArgData) (later : List (Item ArgData)) → items chosen line ≡ i ∷ later → AllByRecursion P line → HasGoodWords i
   first-words line i later is good whole =
       let read = words-are_those_read chosen line i later is whole in
-      all-left P (words_of i) read.0 (subst (AllByRecursion P) read.1 good)
+      grind (arith, all-left)
 
   pub items-words : (line : List (List ℕ)) → AllByRecursion P line → AllByRecursion HasGoodWords (items chosen line)
   items-words [] good = tt

@@ -1,8 +1,6 @@
 -- A line that is written back is read as the same arguments.
-use Rattle.std.proofs.Common.{◌≡◌, ℕ, List, [], ◌∷◌, ◌++◌, true, false, ◌||◌, Some, None, Ok, refl, ap, sym, ◌∙◌, subst, append_assoc, append-nil, length, codes}
+use Rattle.std.proofs.Common.{◌≡◌, ℕ, List, [], ◌∷◌, ◌++◌, true, false, ◌||◌, Some, None, Ok, refl, ap, sym, ◌∙◌, subst, append_assoc, append-nil, length, codes, IfSome, option_map, arith}
 use Rattle.std.specs.List.{AllByRecursion, filter_map, flat_map, list_any, remove, slice_index_or, filter}
-use Rattle.std.specs.Prelude.{IfSome}
-use Rattle.std.specs.Option.{option_map}
 use Rattle.std.proofs.lemmas.Grind.{flat_map-append}
 use Rattle.std.proofs.lemmas.List.Elements.{filter-append, filter_map-append}
 use Rattle.std.proofs.lemmas.List.Folds.{list_any-append}
@@ -13,7 +11,6 @@ use Rattle.compilers.specs.declared.arguments.ParsedArguments.{ParsedArguments}
 use Rattle.compilers.specs.declared.command.SingleCompileCommand.{SingleCompileCommand}
 use Rattle.compilers.specs.declared.command.Cacheable.{Cacheable}
 use Rattle.option_items.specs.declared.table.ArgDisposition.TheVariants.{Separated}
-use Rattle.compilers.specs.Arguments.{plain_arguments}
 use Rattle.texts.specs.Path.{is_absolute_path, joined}
 use Rattle.compilers.specs.Outputs.{entries_from, entry_at}
 use Rattle.option_items.specs.Table.{Entry, longest_match}
@@ -24,7 +21,6 @@ use Rattle.device_lines.specs.Cicc.{cicc_options}
 use Rattle.device_lines.specs.CudaFE.{cudafe_options}
 use Rattle.device_lines.specs.Ptxas.{ptxas_options}
 use Rattle.device_lines.specs.Reading.{is_input_word, is_unhashed_kind, common_items, unhashed_items, made_at, output_of_kind, output_of, module_id_of_kind, module_id_of, is_generating, module_id, module_id_output, module_id_file, outputs_of, reading_of_items, input_place, reading}
-use Rattle.texts.specs.Lists.{last_of}
 use Rattle.compilers.specs.declared.command.Cacheable.TheVariants.{Yes}
 use Rattle.compilers.specs.Command.{single_command, written, written_to}
 use Rattle.device_lines.specs.DeviceWords.{cicc_words, cudafe_words}
@@ -50,65 +46,26 @@ module _ (cwd : List ℕ) (is : List (Item ArgData)) (text path : List ℕ) wher
       ∙ common-again false false is tail (all-append Silent (unhashed_items is) (with_value text Output path Separated ∷ []) (all-unhashed_silent is) ((λ b. refl), tt))
 
   unhashed-same : unhashed_items again ≡ unhashed_items is
-  unhashed-same =
-      filter-append (λ i. is_unhashed_kind (kind_of i)) kept (with_value text Output path Separated ∷ [])
-      ∙ (append-nil (unhashed_items kept)
-      ∙ (filter-append (λ i. is_unhashed_kind (kind_of i)) (common_items is) (unhashed_items is)
-      ∙ (ap (λ t. t ++ unhashed_items (unhashed_items is)) (common-none_unhashed false is) ∙ unhashed-again is)))
+  unhashed-same = simp (filter-append, append-nil, common-none_unhashed, unhashed-again)
 
   ids-same : filter_map module_id_of again ≡ filter_map module_id_of is
-  ids-same =
-      filter_map-append module_id_of kept (with_value text Output path Separated ∷ [])
-      ∙ (append-nil (filter_map module_id_of kept)
-      ∙ (filter_map-append module_id_of (common_items is) (unhashed_items is)
-      ∙ (ap (λ t. filter_map module_id_of (common_items is) ++ t) (picked-no_unhashed module_id_of (λ i e. unhashed-kind (λ k. module_id_of_kind k (value_of i) ≡ None) refl refl refl (kind_of i) e) is)
-      ∙ (append-nil (filter_map module_id_of (common_items is))
-      ∙ picked-common module_id_of (λ b i e. other-kind (λ k. module_id_of_kind k (value_of i) ≡ None) refl refl refl refl refl b i e) false is))))
+  ids-same = grind (arith, filter_map-append, append-nil, picked-no_unhashed, unhashed-kind, picked-common, other-kind)
 
   generating-same : list_any is_generating again ≡ list_any is_generating is
-  generating-same =
-      list_any-append is_generating kept (with_value text Output path Separated ∷ [])
-      ∙ (or_false (list_any is_generating kept)
-      ∙ (list_any-append is_generating (common_items is) (unhashed_items is)
-      ∙ (ap (λ t. list_any is_generating (common_items is) || t) (generating-no_unhashed is)
-      ∙ (or_false (list_any is_generating (common_items is)) ∙ generating-common false is))))
+  generating-same = simp (list_any-append, or_false, generating-no_unhashed, generating-common)
 
   outputs-again : filter_map (output_of cwd) again ≡ filter_map (output_of cwd) (unhashed_items is) ++ (codes "obj", made_at false (joined cwd path)) ∷ []
-  outputs-again =
-      filter_map-append (output_of cwd) kept (with_value text Output path Separated ∷ [])
-      ∙ ap (λ t. t ++ (codes "obj", made_at false (joined cwd path)) ∷ []) (
-      filter_map-append (output_of cwd) (common_items is) (unhashed_items is)
-      ∙ ap (λ t. t ++ filter_map (output_of cwd) (unhashed_items is)) (picked-no_common (output_of cwd) (λ b i e. common-kind (λ k. output_of_kind cwd k i ≡ None) refl refl refl refl b i e) false is)
-      )
+  outputs-again = grind (arith, filter_map-append, picked-no_common, common-kind)
 
   outputs-same : (obj : ArtifactDescriptor) → AllByRecursion (λ i. item_fits i ≡ true) is → made_at false (joined cwd path) ≡ obj → entry_at (codes "obj") (outputs_of cwd is) ≡ Some obj → outputs_of cwd again ≡ outputs_of cwd is
-  outputs-same obj fit at found =
-      let before = filter_map (output_of cwd) is in
-      let after = module_id_output cwd (list_any is_generating is) (module_id is) in
-      let made : filter_map (output_of cwd) again ≡ filter (is_other (codes "obj")) before ++ (codes "obj", obj) ∷ [] = outputs-again ∙ (λ i. outputs-unhashed cwd is fit i ++ (codes "obj", at i) ∷ []) in
-      let parts : outputs_of cwd again ≡ entries_from ((filter (is_other (codes "obj")) before ++ (codes "obj", obj) ∷ []) ++ after) = λ i. entries_from (made i ++ module_id_output cwd (generating-same i) (last_of (ids-same i))) in
-      parts ∙ same-entries (codes "obj") before after obj (module_id-other cwd (list_any is_generating is) (module_id is)) found
+  outputs-same obj fit at found = grind (arith, is_other, outputs-again, outputs-unhashed, generating-same, ids-same, same-entries, module_id-other)
 
   arguments-same : (language : Language) (input : List ℕ) (obj : ArtifactDescriptor) → AllByRecursion (λ i. item_fits i ≡ true) is → made_at false (joined cwd path) ≡ obj → entry_at (codes "obj") (outputs_of cwd is) ≡ Some obj → reading_of_items cwd language input again ≡ reading_of_items cwd language input is
-  arguments-same language input obj fit at found =
-      let outputs : outputs_of cwd again ≡ outputs_of cwd is = outputs-same obj fit at found in
-      λ i. record (plain_arguments input language (outputs i)) {
-        common_args = flat_map words_of (common-same i);
-        unhashed_args = flat_map words_of (unhashed-same i);
-        extra_dist_files = module_id_file cwd (generating-same i) (last_of (ids-same i));
-        extra_hash_files = module_id_file cwd (generating-same i) (last_of (ids-same i));
-      }
+  arguments-same language input obj fit at found = grind (arith, outputs-same, common-same, unhashed-same, generating-same, ids-same)
 
 -- the empty word is no input by its end
 empty-none : (language : Language) → is_input_word language [] ≡ false
-empty-none C = refl
-empty-none Cxx = refl
-empty-none ObjectiveC = refl
-empty-none ObjectiveCxx = refl
-empty-none Cuda = refl
-empty-none CudaFE = refl
-empty-none Ptx = refl
-empty-none Cubin = refl
+empty-none language = grind arith
 
 -- what holds of all words of all items of a list holds of their words
 all-words : (P : List ℕ → Type 0) (is : List (Item ArgData)) → AllByRecursion (λ i. AllByRecursion P (words_of i)) is → AllByRecursion P (flat_map words_of is)
@@ -159,12 +116,12 @@ module _ (options : List (Entry ArgData)) (language : Language) (cwd text : List
   path-away : (line : List (List ℕ)) (obj : ArtifactDescriptor) → IsGood line → HasOutput line obj → is_input_word language obj.path ≡ false
   path-away line obj good found =
       let path = output-path line obj good found in
-      subst (λ (d : ArtifactDescriptor). is_input_word language d.path ≡ false) (sym path.2) (joined-away language cwd path.0 root path.1)
+      grind (arith, joined-away)
 
   path-settled : (line : List (List ℕ)) (obj : ArtifactDescriptor) → IsGood line → HasOutput line obj → made_at false (joined cwd obj.path) ≡ obj
   path-settled line obj good found =
       let path = output-path line obj good found in
-      subst (λ (d : ArtifactDescriptor). made_at false (joined cwd d.path) ≡ d) (sym path.2) (ap (made_at false) (joined-twice cwd path.0 root))
+      grind (arith, joined-twice)
 
   -- the written words without the input
   items-again : (line : List (List ℕ)) (input : List ℕ) (obj : ArtifactDescriptor) → IsGood line → HasOutput line obj → arguments_of (words_kept line ++ text ∷ obj.path ∷ []) input ≡ arguments_of line input

@@ -1,7 +1,5 @@
 -- The law of rereading is false without any of its premises.
-use Rattle.std.proofs.Common.{◌≡◌, ℕ, List, [], ◌∷◌, true, false, Option, Some, None, codes, refl, ap, sym, ◌∙◌, arith}
-use Rattle.std.specs.Option.{option_map}
-use Rattle.std.specs.Str.{bytes_eq}
+use Rattle.std.proofs.Common.{◌≡◌, ℕ, List, [], ◌∷◌, true, false, Option, Some, None, codes, refl, ap, sym, ◌∙◌, arith, option_map, bytes_eq}
 use Rattle.std.proofs.lemmas.Bool.{false≢true}
 use Rattle.texts.specs.declared.language.Language.TheVariants.{Ptx, CudaFE, Cubin}
 use Rattle.compilers.specs.declared.outputs.ArtifactDescriptor.{ArtifactDescriptor}
@@ -29,9 +27,7 @@ empty_value_is_needed law =
     let few : AtMostOneInputWord Cubin line = omega arith in
     let again : ptxas_reading (codes "/w") back ≡ Some first = law (codes "/w") line refl few first [] [] (single_command [] back (codes "/w") [], Yes) refl refl in
     let lost : Some None ≡ Some (Some (made_at false (codes "/w/k.cubin"))) = ap (option_map (λ p. entry_at (codes "obj") p.outputs)) again in
-    never (made_at false (codes "/w/k.cubin")) lost where
-      never : (d : ArtifactDescriptor) → Some None ≡ Some (Some d) → ⊥
-      never d e = cc
+    grind arith
 
 -- two words that are equal as optional values
 unwrapped : (a b : List ℕ) → Some a ≡ Some b → a ≡ b
@@ -43,9 +39,7 @@ output_path p = option_map (λ (d : ArtifactDescriptor). d.path) (entry_at (code
 
 -- two readings whose outputs have different paths
 paths-differ : (a b : List ℕ) → bytes_eq a b ≡ false → bytes_eq b b ≡ true → Some (Some a) ≡ Some (Some b) → ⊥
-paths-differ a b apart same e = differ a b apart same (inner a b e) where
-  inner : (a b : List ℕ) → Some (Some a) ≡ Some (Some b) → a ≡ b
-  inner a b e = cc
+paths-differ a b apart same e = grind (arith, differ)
 
 pub one_ptxas_input_is_needed : PtxasLinesRereadWithSeveralInputs → ⊥
 one_ptxas_input_is_needed law =
@@ -54,7 +48,7 @@ one_ptxas_input_is_needed law =
     let first : ParsedArguments = reading_of_items (codes "/w") Cubin (codes "a.ptx") (items (longest_match ptxas_options) (codes "-x" ∷ codes "b.ptx" ∷ codes "-o" ∷ codes "c" ∷ [])) in
     let again : ptxas_reading (codes "/w") back ≡ Some first = law (codes "/w") line refl (refl, (refl, (refl, tt))) first [] [] (single_command [] back (codes "/w") [], Yes) refl refl in
     let inputs : Some (codes "b.ptx") ≡ Some (codes "a.ptx") = ap (option_map (λ p. p.input)) again in
-    differ (codes "b.ptx") (codes "a.ptx") refl refl (unwrapped (codes "b.ptx") (codes "a.ptx") inputs)
+    grind (arith, differ, unwrapped)
 
 pub one_cicc_input_is_needed : CiccLinesRereadWithSeveralInputs → ⊥
 one_cicc_input_is_needed law =
@@ -63,7 +57,7 @@ one_cicc_input_is_needed law =
     let first : ParsedArguments = reading_of_items (codes "/w") Ptx (codes "a.cpp1.ii") (items (longest_match cicc_options) (codes "-x" ∷ codes "b.cpp1.ii" ∷ codes "-o" ∷ codes "c" ∷ [])) in
     let again : cicc_reading (codes "/w") back ≡ Some first = law (codes "/w") line refl first [] [] (single_command [] back (codes "/w") [], Yes) refl refl in
     let inputs : Some (codes "b.cpp1.ii") ≡ Some (codes "a.cpp1.ii") = ap (option_map (λ p. p.input)) again in
-    differ (codes "b.cpp1.ii") (codes "a.cpp1.ii") refl refl (unwrapped (codes "b.cpp1.ii") (codes "a.cpp1.ii") inputs)
+    grind (arith, differ, unwrapped)
 
 pub absolute_cicc_folder_is_needed : CiccLinesRereadAnywhere → ⊥
 absolute_cicc_folder_is_needed law =
@@ -73,7 +67,7 @@ absolute_cicc_folder_is_needed law =
     let few : AtMostOneInputWord Ptx line = omega arith in
     let again : cicc_reading (codes ".") back ≡ Some first = law (codes ".") line few first [] [] (single_command [] back (codes ".") [], Yes) refl refl in
     let paths : Some (Some (codes "././p")) ≡ Some (Some (codes "./p")) = ap (option_map output_path) again in
-    paths-differ (codes "././p") (codes "./p") refl refl paths
+    grind (arith, paths-differ)
 
 pub absolute_ptxas_folder_is_needed : PtxasLinesRereadAnywhere → ⊥
 absolute_ptxas_folder_is_needed law =
@@ -83,7 +77,7 @@ absolute_ptxas_folder_is_needed law =
     let few : AtMostOneInputWord Cubin line = omega arith in
     let again : ptxas_reading (codes ".") back ≡ Some first = law (codes ".") line few (refl, tt) first [] [] (single_command [] back (codes ".") [], Yes) refl refl in
     let paths : Some (Some (codes "././p")) ≡ Some (Some (codes "./p")) = ap (option_map output_path) again in
-    paths-differ (codes "././p") (codes "./p") refl refl paths
+    grind (arith, paths-differ)
 
 pub absolute_cudafe_folder_is_needed : CudaFELinesRereadAnywhere → ⊥
 absolute_cudafe_folder_is_needed law =
@@ -92,4 +86,4 @@ absolute_cudafe_folder_is_needed law =
     let first : ParsedArguments = reading_of_items (codes ".") CudaFE (codes "x") (items (longest_match cudafe_options) (codes "--module_id_file_name" ∷ codes "p" ∷ [])) in
     let again : cudafe_reading (codes ".") back ≡ Some first = law (codes ".") line first [] [] (single_command [] back (codes ".") [], Yes) refl refl in
     let paths : Some (Some (codes "././p")) ≡ Some (Some (codes "./p")) = ap (option_map output_path) again in
-    paths-differ (codes "././p") (codes "./p") refl refl paths
+    grind (arith, paths-differ)

@@ -1,11 +1,8 @@
 -- Outputs under a key: once it is recorded last, those recorded under it before don't count.
-use Rattle.std.proofs.Common.{◌≡◌, ℕ, List, [], ◌∷◌, ◌++◌, Bool, true, false, cond, not, Some, None, refl, ap, sym, ◌∙◌, subst, filter}
+use Rattle.std.proofs.Common.{◌≡◌, ℕ, List, [], ◌∷◌, ◌++◌, Bool, true, false, cond, not, Some, None, refl, ap, sym, ◌∙◌, subst, filter, bytes_eq, Ordering, Less, Equal, Greater, arith}
 use Rattle.std.specs.List.{AllByRecursion, fold}
-use Rattle.std.specs.Str.{bytes_eq}
 use Rattle.std.specs.BTreeMap.{insert_entry}
 use Rattle.std.specs.Ordering.{nat_cmp, ordering_reverse, is_eq}
-use Rattle.std.specs.declared.cmp.Ordering.{Ordering}
-use Rattle.std.specs.declared.cmp.Ordering.TheVariants.{Less, Equal, Greater}
 use Rattle.std.specs.Cmp.{IsTotalOrder}
 use Rattle.std.specs.Cmp.Lexicographic.{slice_cmp}
 use Rattle.std.proofs.lemmas.Bool.{false≢true}
@@ -27,30 +24,15 @@ module _ {K X : Type 0} (R : K → K → Ordering) (total : IsTotalOrder R) wher
   -- a later entry of the same key counts
   overwritten : (es : List (K × X)) (k : K) (v w : X) → insert_entry R (insert_entry R es k v) k w ≡ insert_entry R es k w
   overwritten [] k v w = rw (tied_itself total k) refl
-  overwritten (e ∷ es) k v w =
-      elim (R k e.0) as (λ o. R k e.0 ≡ o → insert_entry R (insert_entry R (e ∷ es) k v) k w ≡ insert_entry R (e ∷ es) k w)
-      [ Less ↦ λ h. rw (h, tied_itself total k) refl | Equal ↦ λ h. rw (h, h) refl | Greater ↦ λ h. rw (h, h) (ap (λ t. e ∷ t) (overwritten es k v w)) ] refl
+  overwritten (e ∷ es) k v w = grind (arith, tied_itself, (overwritten es k v w))
 
   -- entries of different keys may be recorded in either order
   swapped : (es : List (K × X)) (k l : K) (v w : X) → R k l ≡ Less → insert_entry R (insert_entry R es k v) l w ≡ insert_entry R (insert_entry R es l w) k v
   swapped [] k l v w h = rw (h, above R total k l h) refl
-  swapped (e ∷ es) k l v w h =
-      elim (R k e.0) as (λ o. R k e.0 ≡ o → insert_entry R (insert_entry R (e ∷ es) k v) l w ≡ insert_entry R (insert_entry R (e ∷ es) l w) k v) [
-        | Less ↦ λ a.
-            elim (R l e.0) as (λ o. R l e.0 ≡ o → insert_entry R (insert_entry R (e ∷ es) k v) l w ≡ insert_entry R (insert_entry R (e ∷ es) l w) k v)
-            [ Less ↦ λ b. rw (a, b, h, above R total k l h) refl | Equal ↦ λ b. rw (a, b, a, above R total k l h) refl | Greater ↦ λ b. rw (a, b, a, above R total k l h) refl ] refl
-        | Equal ↦ λ a.
-            let b : R l e.0 ≡ Greater = above R total e.0 l (sym (total.congr k e.0 l a) ∙ h) in
-            rw (a, b, a) refl
-        | Greater ↦ λ a.
-            let b : R l e.0 ≡ Greater = above R total e.0 l (total.trans e.0 k l (below R total k e.0 a) h) in
-            rw (a, b, a) (ap (λ t. e ∷ t) (swapped es k l v w h))
-      ] refl
+  swapped (e ∷ es) k l v w h = grind (arith, above, below, (swapped es k l v w h))
 
   apart : (es : List (K × X)) (k l : K) (v w : X) → (R k l ≡ Equal → ⊥) → insert_entry R (insert_entry R es k v) l w ≡ insert_entry R (insert_entry R es l w) k v
-  apart es k l v w other =
-      elim (R k l) as (λ o. R k l ≡ o → insert_entry R (insert_entry R es k v) l w ≡ insert_entry R (insert_entry R es l w) k v)
-      [ Less ↦ λ h. swapped es k l v w h | Equal ↦ λ h. absurd (other h) | Greater ↦ λ h. sym (swapped es l k w v (below R total k l h)) ] refl
+  apart es k l v w other = grind (arith, swapped, below)
 
 -- the order of keys
 abbrev keys : List ℕ → List ℕ → Ordering
@@ -79,12 +61,7 @@ module _ {X : Type 0} (key : List ℕ) where
   -- what stands under the key after one more entry
   found-same : (es : List (List ℕ × X)) (v : X) → entry_at key (insert_entry keys es key v) ≡ Some v
   found-same [] v = rw (same_key key) refl
-  found-same (e ∷ es) v =
-      elim (keys key e.0) as (λ o. keys key e.0 ≡ o → entry_at key (insert_entry keys (e ∷ es) key v) ≡ Some v) [
-        | Less ↦ λ h. rw (h, same_key key) refl
-        | Equal ↦ λ h. rw (h, by_order key e.0 Equal h) refl
-        | Greater ↦ λ h. rw (h, by_order key e.0 Greater h) (found-same es v)
-      ] refl
+  found-same (e ∷ es) v = grind (arith, same_key, by_order, (found-same es v))
 
   found-other : (es : List (List ℕ × X)) (k : List ℕ) (v : X) → bytes_eq key k ≡ false → entry_at key (insert_entry keys es k v) ≡ entry_at key es
   found-other [] k v other = rw other refl
@@ -100,14 +77,11 @@ module _ {X : Type 0} (key : List ℕ) where
   -- an entry of the key before entries of other keys doesn't count once the key is recorded last
   early : (es : List (List ℕ × X)) (y x : X) (fs : List (List ℕ × X)) → AllByRecursion IsOther fs → with_entry (fold with_entry (insert_entry keys es key y) fs) (key, x) ≡ with_entry (fold with_entry es fs) (key, x)
   early es y x [] h = overwritten keys nat_list_cmp_total es key y x
-  early es y x (f ∷ fs) h =
-      ap (λ t. with_entry (fold with_entry t fs) (key, x)) (apart keys nat_list_cmp_total es key f.0 y f.1 (not_key key f.0 h.0)) ∙ early (with_entry es f) y x fs h.1
+  early es y x (f ∷ fs) h = grind (arith, apart, nat_list_cmp_total, not_key, (early (with_entry es f) y x fs h.1))
 
   pub all-other : (ds : List (List ℕ × X)) → AllByRecursion IsOther (filter is_other ds)
   all-other [] = tt
-  all-other (a ∷ ds) =
-      elim (bytes_eq key a.0) as (λ t. bytes_eq key a.0 ≡ t → AllByRecursion IsOther (cond (not t) (a ∷ filter is_other ds) (filter is_other ds)))
-      [ true ↦ λ h. all-other ds | false ↦ λ h. (h, all-other ds) ] refl
+  all-other (a ∷ ds) = grind (arith, (all-other ds))
 
   others-suffice : (es ds : List (List ℕ × X)) (x : X) → with_entry (fold with_entry es ds) (key, x) ≡ with_entry (fold with_entry es (filter is_other ds)) (key, x)
   others-suffice es [] x = refl
@@ -123,15 +97,7 @@ module _ {X : Type 0} (key : List ℕ) where
   Settled es = (x : X) → entry_at key es ≡ Some x → with_entry es (key, x) ≡ es
 
   one-settled : (es : List (List ℕ × X)) (a : List ℕ × X) → Settled es → Settled (with_entry es a)
-  one-settled es a settled x at =
-      elim (bytes_eq key a.0) as (λ t. bytes_eq key a.0 ≡ t → with_entry (with_entry es a) (key, x) ≡ with_entry es a) [
-        | true ↦ λ h.
-            let same : key ≡ a.0 = equal_key key a.0 h in
-            let found : Some a.1 ≡ Some x = sym (found-same es a.1) ∙ (ap (λ k. entry_at key (insert_entry keys es k a.1)) same ∙ at) in
-            let value : a.1 ≡ x = cc in
-            subst (λ k. insert_entry keys (insert_entry keys es k a.1) key x ≡ insert_entry keys es k a.1) same (overwritten keys nat_list_cmp_total es key a.1 x ∙ ap (insert_entry keys es key) (sym value))
-        | false ↦ λ h. sym (apart keys nat_list_cmp_total es key a.0 x a.1 (not_key key a.0 h)) ∙ ap (λ t. with_entry t a) (settled x (sym (found-other es a.0 a.1 h) ∙ at))
-      ] refl
+  one-settled es a settled x at = grind (arith, equal_key, found-same, overwritten, nat_list_cmp_total, apart, not_key, found-other)
 
   all-settled : (es ds : List (List ℕ × X)) → Settled es → Settled (fold with_entry es ds)
   all-settled es [] settled = settled
@@ -156,14 +122,11 @@ module _ {X : Type 0} (key : List ℕ) where
 
   -- the value under the key of a list of entries with entries of other keys after it
   pub value-from : (P : X → Type 0) (ds ms : List (List ℕ × X)) (x : X) → AllByRecursion (λ a. bytes_eq key a.0 ≡ true → P a.1) ds → AllByRecursion IsOther ms → entry_at key (entries_from (ds ++ ms)) ≡ Some x → P x
-  value-from P ds ms x h others at =
-      let found : entry_at key (fold with_entry [] ds) ≡ Some x = sym (found-past (fold with_entry [] ds) ms others) ∙ (ap (entry_at key) (sym (fold-append with_entry [] ds ms)) ∙ at) in
-      found-all P [] ds h (λ y none. let e : None ≡ Some y = none in cc) x found
+  value-from P ds ms x h others at = grind (arith, found-past, fold-append, found-all)
 
   -- the entries of other keys, then the value under the key, and then the entries after it make the same entries
   pub same-entries : (ds ms : List (List ℕ × X)) (x : X) → AllByRecursion IsOther ms → entry_at key (entries_from (ds ++ ms)) ≡ Some x → entries_from ((filter is_other ds ++ (key, x) ∷ []) ++ ms) ≡ entries_from (ds ++ ms)
   same-entries ds ms x others at =
       let found : entry_at key (fold with_entry [] ds) ≡ Some x = sym (found-past (fold with_entry [] ds) ms others) ∙ (ap (entry_at key) (sym (fold-append with_entry [] ds ms)) ∙ at) in
       let settled : with_entry (fold with_entry [] ds) (key, x) ≡ fold with_entry [] ds = all-settled [] ds (λ y none. let e : None ≡ Some y = none in cc) x found in
-      fold-append with_entry [] (filter is_other ds ++ (key, x) ∷ []) ms
-      ∙ (ap (λ t. fold with_entry t ms) (fold-append with_entry [] (filter is_other ds) ((key, x) ∷ []) ∙ (sym (others-suffice [] ds x) ∙ settled)) ∙ sym (fold-append with_entry [] ds ms))
+      grind (arith, fold-append, others-suffice)

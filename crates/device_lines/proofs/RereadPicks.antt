@@ -1,17 +1,14 @@
 -- What is picked of the items of a line, and of those that are kept of it.
-use Rattle.std.proofs.Common.{◌≡◌, ℕ, List, [], ◌∷◌, Bool, true, false, cond, not, ◌||◌, Option, Some, None, map, refl, ap, sym, ◌∙◌, subst, filter, codes}
+use Rattle.std.proofs.Common.{◌≡◌, ℕ, List, [], ◌∷◌, Bool, true, false, cond, not, ◌||◌, Option, Some, None, map, refl, ap, sym, ◌∙◌, subst, filter, codes, bytes_eq, arith}
 use Rattle.std.specs.List.{AllByRecursion, filter_map, cons_option, list_any}
-use Rattle.std.specs.Str.{bytes_eq}
 use Rattle.std.proofs.lemmas.Bool.{false≢true}
 use Rattle.compilers.specs.declared.outputs.ArtifactDescriptor.{ArtifactDescriptor}
 use Rattle.option_items.specs.declared.table.ArgDisposition.{ArgDisposition}
-use Rattle.option_items.specs.declared.table.ArgDisposition.TheVariants.{Separated, Concatenated, CanBeSeparated, CanBeConcatenated}
 use Rattle.texts.specs.Path.{joined}
 use Rattle.option_items.specs.Table.{Entry}
 use Rattle.option_items.specs.Items.{Item, raw, unknown_flag, flag, with_value, faulty, kind_of}
 use Rattle.option_items.specs.WordsLaw.{is_joined}
 use Rattle.device_lines.specs.declared.options.ArgData.{ArgData}
-use Rattle.device_lines.specs.declared.options.ArgData.TheVariants.{Output, PassThrough, UnhashedFlag, GenModuleIdFileFlag, ModuleIdFileName, UnhashedPassThrough, UnhashedOutput}
 use Rattle.device_lines.specs.Reading.{is_unhashed_kind, is_unknown, beside, is_common, unhashed_items, made_at, output_of, is_generating_kind, is_generating, module_id_output}
 use Rattle.device_lines.proofs.RereadWords.{other-kind, unhashed-kind, common_after}
 use Rattle.device_lines.proofs.RereadOutputs.{IsOther, is_other}
@@ -22,67 +19,28 @@ use Rattle.device_lines.proofs.RereadItems.{item_fits, HasGoodWords}
 module _ {Y : Type 0} (h : Item ArgData → Option Y) where
   pub picked-common : ((b : Bool) (i : Item ArgData) → is_common (b, i) ≡ false → h i ≡ None) → (b : Bool) (is : List (Item ArgData)) → filter_map h (common_after b is) ≡ filter_map h is
   picked-common other b [] = refl
-  picked-common other b (i ∷ is) =
-      let rest = filter is_common (beside (is_unknown i) is) in
-      let later = picked-common other (is_unknown i) is in
-      elim (is_common (b, i)) as (λ t. is_common (b, i) ≡ t → filter_map h (map (λ p. p.1) (cond t ((b, i) ∷ rest) rest)) ≡ cons_option (h i) (filter_map h is))
-      [ true ↦ λ e. ap (cons_option (h i)) later | false ↦ λ e. later ∙ ap (λ o. cons_option o (filter_map h is)) (sym (other b i e)) ] refl
+  picked-common other b (i ∷ is) = grind (arith, (picked-common other (is_unknown i) is))
 
   pub picked-no_common : ((b : Bool) (i : Item ArgData) → is_common (b, i) ≡ true → h i ≡ None) → (b : Bool) (is : List (Item ArgData)) → filter_map h (common_after b is) ≡ []
   picked-no_common none b [] = refl
-  picked-no_common none b (i ∷ is) =
-      let rest = filter is_common (beside (is_unknown i) is) in
-      let later = picked-no_common none (is_unknown i) is in
-      elim (is_common (b, i)) as (λ t. is_common (b, i) ≡ t → filter_map h (map (λ p. p.1) (cond t ((b, i) ∷ rest) rest)) ≡ [])
-      [ true ↦ λ e. ap (λ o. cons_option o (filter_map h (common_after (is_unknown i) is))) (none b i e) ∙ later | false ↦ λ e. later ] refl
+  picked-no_common none b (i ∷ is) = grind (arith, common_after, (picked-no_common none (is_unknown i) is))
 
   pub picked-no_unhashed : ((i : Item ArgData) → is_unhashed_kind (kind_of i) ≡ true → h i ≡ None) → (is : List (Item ArgData)) → filter_map h (unhashed_items is) ≡ []
   picked-no_unhashed none [] = refl
-  picked-no_unhashed none (i ∷ is) =
-      let later = picked-no_unhashed none is in
-      elim (is_unhashed_kind (kind_of i)) as (λ t. is_unhashed_kind (kind_of i) ≡ t → filter_map h (cond t (i ∷ unhashed_items is) (unhashed_items is)) ≡ [])
-      [ true ↦ λ e. ap (λ o. cons_option o (filter_map h (unhashed_items is))) (none i e) ∙ later | false ↦ λ e. later ] refl
+  picked-no_unhashed none (i ∷ is) = grind (arith, (picked-no_unhashed none is))
 
 pub generating-common : (b : Bool) (is : List (Item ArgData)) → list_any is_generating (common_after b is) ≡ list_any is_generating is
 generating-common b [] = refl
-generating-common b (i ∷ is) =
-    let rest = filter is_common (beside (is_unknown i) is) in
-    let later = generating-common (is_unknown i) is in
-    elim (is_common (b, i)) as (λ t. is_common (b, i) ≡ t → list_any is_generating (map (λ p. p.1) (cond t ((b, i) ∷ rest) rest)) ≡ is_generating i || list_any is_generating is)
-    [ true ↦ λ e. ap (λ t. is_generating i || t) later | false ↦ λ e. later ∙ ap (λ t. t || list_any is_generating is) (sym (other-kind (λ k. is_generating_kind k ≡ false) refl refl refl refl refl b i e)) ] refl
+generating-common b (i ∷ is) = grind (arith, other-kind, (generating-common (is_unknown i) is))
 
 pub generating-no_unhashed : (is : List (Item ArgData)) → list_any is_generating (unhashed_items is) ≡ false
 generating-no_unhashed [] = refl
-generating-no_unhashed (i ∷ is) =
-    let later = generating-no_unhashed is in
-    elim (is_unhashed_kind (kind_of i)) as (λ t. is_unhashed_kind (kind_of i) ≡ t → list_any is_generating (cond t (i ∷ unhashed_items is) (unhashed_items is)) ≡ false)
-    [ true ↦ λ e. ap (λ t. t || list_any is_generating (unhashed_items is)) (unhashed-kind (λ k. is_generating_kind k ≡ false) refl refl refl (kind_of i) e) ∙ later | false ↦ λ e. later ] refl
+generating-no_unhashed (i ∷ is) = grind (arith, unhashed-kind, (generating-no_unhashed is))
 
 -- the outputs of unhashed items are those of all items under other keys than `obj`
 pub outputs-unhashed : (cwd : List ℕ) (is : List (Item ArgData)) → AllByRecursion (λ i. item_fits i ≡ true) is → filter_map (output_of cwd) (unhashed_items is) ≡ filter (is_other (codes "obj")) (filter_map (output_of cwd) is)
 outputs-unhashed cwd [] fit = refl
-outputs-unhashed cwd (i ∷ is) fit = one i fit.0 (unhashed_items is) (filter_map (output_of cwd) is) (outputs-unhashed cwd is fit.1) where
-  kept : (text : List ℕ) (d : ArtifactDescriptor) → not (bytes_eq (codes "obj") text) ≡ true → (xs : List (Item ArgData)) (ys : List (List ℕ × ArtifactDescriptor)) → filter_map (output_of cwd) xs ≡ filter (is_other (codes "obj")) ys → (text, d) ∷ filter_map (output_of cwd) xs ≡ filter (is_other (codes "obj")) ((text, d) ∷ ys)
-  kept text d h xs ys e = ap (λ t. (text, d) ∷ t) e ∙ ap (λ b. cond b ((text, d) ∷ filter (is_other (codes "obj")) ys) (filter (is_other (codes "obj")) ys)) (sym h)
-
-  one : (j : Item ArgData) → item_fits j ≡ true → (xs : List (Item ArgData)) (ys : List (List ℕ × ArtifactDescriptor)) → filter_map (output_of cwd) xs ≡ filter (is_other (codes "obj")) ys → filter_map (output_of cwd) (cond (is_unhashed_kind (kind_of j)) (j ∷ xs) xs) ≡ filter (is_other (codes "obj")) (cons_option (output_of cwd j) ys)
-  one (raw word) h xs ys e = e
-  one (unknown_flag word) h xs ys e = e
-  one (flag text Output) h xs ys e = e
-  one (flag text PassThrough) h xs ys e = e
-  one (flag text UnhashedFlag) h xs ys e = e
-  one (flag text GenModuleIdFileFlag) h xs ys e = e
-  one (flag text ModuleIdFileName) h xs ys e = e
-  one (flag text UnhashedPassThrough) h xs ys e = e
-  one (flag text UnhashedOutput) h xs ys e = kept text (made_at false (joined cwd [])) h xs ys e
-  one (with_value text Output value form) h xs ys e = e
-  one (with_value text PassThrough value form) h xs ys e = e
-  one (with_value text UnhashedFlag value form) h xs ys e = e
-  one (with_value text GenModuleIdFileFlag value form) h xs ys e = e
-  one (with_value text ModuleIdFileName value form) h xs ys e = e
-  one (with_value text UnhashedPassThrough value form) h xs ys e = e
-  one (with_value text UnhashedOutput value form) h xs ys e = kept text (made_at false (joined cwd value)) h xs ys e
-  one faulty h xs ys e = e
+outputs-unhashed cwd (i ∷ is) fit = grind (arith, is_other, item_fits, (outputs-unhashed cwd is fit.1))
 
 module _ (cwd : List ℕ) (P : List ℕ → Type 0) (nothing : P []) (chosen : List ℕ → Option (Entry ArgData)) where
   -- a file at the path of a word of which P holds
@@ -94,43 +52,18 @@ module _ (cwd : List ℕ) (P : List ℕ → Type 0) (nothing : P []) (chosen : L
   HasGoodOutput i = (a : List ℕ × ArtifactDescriptor) → output_of cwd i ≡ Some a → bytes_eq (codes "obj") a.0 ≡ true → AtGoodPath a.1
 
   apart-word : (text value : List ℕ) (kind : ArgData) (form : ArgDisposition) → not (is_joined form) ≡ true → HasGoodWords chosen P (with_value text kind value form) → P value
-  apart-word text value kind Separated h good = (good refl).1.0
-  apart-word text value kind (Concatenated d) h good = absurd (false≢true h)
-  apart-word text value kind (CanBeSeparated d) h good = absurd (false≢true h)
-  apart-word text value kind (CanBeConcatenated d) h good = (good refl).1.0
+  apart-word text value kind form h good = grind (arith, false≢true)
 
   other-text : (text : List ℕ) → not (bytes_eq (codes "obj") text) ≡ true → bytes_eq (codes "obj") text ≡ true → ⊥
   other-text text h e = false≢true (subst (λ b. not b ≡ true) e h)
 
   good-output : (i : Item ArgData) → item_fits i ≡ true → HasGoodWords chosen P i → HasGoodOutput i
-  good-output (raw word) h good a at is = cc
-  good-output (unknown_flag word) h good a at is = cc
-  good-output (flag text Output) h good a at is = let same : (codes "obj", made_at false (joined cwd [])) ≡ a = cc in ([], nothing, sym (ap (λ x. x.1) same))
-  good-output (flag text PassThrough) h good a at is = cc
-  good-output (flag text UnhashedFlag) h good a at is = cc
-  good-output (flag text GenModuleIdFileFlag) h good a at is = cc
-  good-output (flag text ModuleIdFileName) h good a at is = cc
-  good-output (flag text UnhashedPassThrough) h good a at is = cc
-  good-output (flag text UnhashedOutput) h good a at is = let same : (text, made_at false (joined cwd [])) ≡ a = cc in absurd (other-text text h (ap (λ x. bytes_eq (codes "obj") x.0) same ∙ is))
-  good-output (with_value text Output value form) h good a at is =
-      let same : (codes "obj", made_at false (joined cwd value)) ≡ a = cc in (value, apart-word text value Output form h good, sym (ap (λ x. x.1) same))
-  good-output (with_value text PassThrough value form) h good a at is = cc
-  good-output (with_value text UnhashedFlag value form) h good a at is = cc
-  good-output (with_value text GenModuleIdFileFlag value form) h good a at is = cc
-  good-output (with_value text ModuleIdFileName value form) h good a at is = cc
-  good-output (with_value text UnhashedPassThrough value form) h good a at is = cc
-  good-output (with_value text UnhashedOutput value form) h good a at is = let same : (text, made_at false (joined cwd value)) ≡ a = cc in absurd (other-text text h (ap (λ x. bytes_eq (codes "obj") x.0) same ∙ is))
-  good-output faulty h good a at is = cc
+  good-output i h good a at is = grind (arith, other-text, apart-word)
 
   pub good-outputs : (is : List (Item ArgData)) → AllByRecursion (λ i. item_fits i ≡ true) is → AllByRecursion (HasGoodWords chosen P) is → AllByRecursion (λ a. bytes_eq (codes "obj") a.0 ≡ true → AtGoodPath a.1) (filter_map (output_of cwd) is)
   good-outputs [] fit good = tt
-  good-outputs (i ∷ is) fit good =
-      let later = good-outputs is fit.1 good.1 in
-      elim (output_of cwd i) as (λ o. output_of cwd i ≡ o → AllByRecursion (λ a. bytes_eq (codes "obj") a.0 ≡ true → AtGoodPath a.1) (cons_option o (filter_map (output_of cwd) is)))
-      [ None ↦ λ _. later | Some a ↦ λ at. (good-output i fit.0 good.0 a at, later) ] refl
+  good-outputs (i ∷ is) fit good = grind (arith, good-output, (good-outputs is fit.1 good.1))
 
 -- the module id file isn't recorded under `obj`
 pub module_id-other : (cwd : List ℕ) (generates : Bool) (id : Option (List ℕ)) → AllByRecursion (IsOther (codes "obj")) (module_id_output cwd generates id)
-module_id-other cwd false id = tt
-module_id-other cwd true None = tt
-module_id-other cwd true (Some path) = (refl, tt)
+module_id-other cwd generates id = grind arith

@@ -1,7 +1,6 @@
 -- Where the input stands in a line, in the words left of it, and in the line that it is written back as.
-use Rattle.std.proofs.Common.{◌≡◌, ℕ, zero, suc, ◌+◌, ◌-◌, ◌≤◌, ◌<◌, List, [], ◌∷◌, ◌++◌, Bool, true, false, cond, not, ◌&&◌, ◌||◌, eqb, eqb-true, ne_eqb, Option, Some, None, refl, ap, sym, ◌∙◌, subst, append_assoc, append-nil, filter, length, drop, reverse, nat_lt, nat_le, nat_eq, arith, codes}
+use Rattle.std.proofs.Common.{◌≡◌, ℕ, zero, suc, ◌+◌, ◌-◌, ◌≤◌, ◌<◌, List, [], ◌∷◌, ◌++◌, Bool, true, false, cond, not, ◌&&◌, ◌||◌, eqb, eqb-true, ne_eqb, Option, Some, None, refl, ap, sym, ◌∙◌, subst, append_assoc, append-nil, filter, length, drop, reverse, nat_lt, nat_le, nat_eq, arith, codes, option_map}
 use Rattle.std.specs.List.{AllByRecursion, position, prefix_len, remove, slice_index_or, ends_with}
-use Rattle.std.specs.Option.{option_map}
 use Rattle.std.specs.Cmp.Lexicographic.{pointwise}
 use Rattle.std.proofs.Math.Seq.{drop-append-add, get_or-append_seam}
 use Rattle.std.proofs.lemmas.Bool.{false≢true, and_parts}
@@ -16,26 +15,7 @@ use Rattle.device_lines.specs.Reading.{is_input_word, place_from_end, place_or, 
 
 -- the first place of a list with one more element in front
 position-cons : {X : Type 0} (p : X → Bool) (x : X) (xs : List X) → position p (x ∷ xs) ≡ cond (p x) (Some 0) (option_map suc (position p xs))
-position-cons p x xs = at-test (p x) where
-  shifted : (at count : ℕ) → cond (nat_lt (1 + at) (suc count)) (Some (1 + at)) None ≡ option_map suc (cond (nat_lt at count) (Some at) None)
-  shifted at count =
-      elim (nat_lt at count) as (λ b. nat_lt at count ≡ b → cond (nat_lt (1 + at) (suc count)) (Some (1 + at)) None ≡ option_map suc (cond b (Some at) None)) [
-        | true ↦ λ h.
-            let less : at < count = (Decides-ltb at count).0 h in
-            let more : nat_lt (1 + at) (suc count) ≡ true = (Decides-ltb (1 + at) (suc count)).1 (omega arith) in
-            let next : 1 + at ≡ suc at = omega arith in
-            rw more (ap Some next)
-        | false ↦ λ h.
-            let more : nat_lt (1 + at) (suc count) ≡ false = false-not_true (nat_lt (1 + at) (suc count)) (λ e. let less : 1 + at < suc count = (Decides-ltb (1 + at) (suc count)).0 e in false≢true (sym h ∙ (Decides-ltb at count).1 (omega arith))) in
-            rw more refl
-      ] refl
-
-  first : (count : ℕ) → cond {A = Option ℕ} (nat_lt 0 (suc count)) (Some 0) None ≡ Some 0
-  first count = let some : nat_lt 0 (suc count) ≡ true = (Decides-ltb 0 (suc count)).1 (omega arith) in rw some refl
-
-  at-test : (b : Bool) → cond (nat_lt (cond {A = ℕ} (not b) (1 + prefix_len (λ y. not (p y)) xs) 0) (suc (length xs))) (Some (cond {A = ℕ} (not b) (1 + prefix_len (λ y. not (p y)) xs) 0)) None ≡ cond b (Some 0) (option_map suc (position p xs))
-  at-test true = first (length xs)
-  at-test false = shifted (prefix_len (λ y. not (p y)) xs) (length xs)
+position-cons p x xs = grind (arith, Decides-ltb, false-not_true, false≢true)
 
 module _ {X : Type 0} (p : X → Bool) where
   -- no element passes
@@ -101,21 +81,11 @@ module _ {X : Type 0} (p : X → Bool) where
 
 -- the words left of a line, where at most one of its words is by its end the input
 pub rest-none : (language : Language) (offset : ℕ) (words : List (List ℕ)) (place : ℕ) → length (filter (is_input_word language) words) ≤ 1 → input_place language offset words ≡ Some place → NonePass (is_input_word language) (remove words place)
-rest-none language offset words place few at =
-    elim (position (is_input_word language) words) as (λ o. position (is_input_word language) words ≡ o → place_or o (place_from_end offset (length words)) ≡ Some place → NonePass (is_input_word language) (remove words place)) [
-      | None ↦ λ none _. none-removed (is_input_word language) words place (none-position (is_input_word language) words none)
-      | Some first ↦ λ found is.
-          let same : first ≡ place = cc in
-          one-removed (is_input_word language) words place few (found ∙ ap Some same)
-    ] refl at
+rest-none language offset words place few at = grind (arith, none-removed, none-position, one-removed)
 
 -- the place from the end, where so many words stand before it
 from-end : (offset before count : ℕ) → 0 < offset → count ≡ before + offset → place_from_end offset count ≡ Some before
-from-end offset before count some e =
-    let positive : nat_lt 0 offset ≡ true = (Decides-ltb 0 offset).1 some in
-    let within : nat_le offset count ≡ true = grind (arith, nat_tests) in
-    let same : count - offset ≡ before = omega arith in
-    rw (positive, within) (ap Some same)
+from-end offset before count some e = grind (arith, Decides-ltb, nat_tests)
 
 -- the input of a line that is written with it as the third last word
 pub third-last : (language : Language) (words : List (List ℕ)) (input option path : List ℕ) → NonePass (is_input_word language) words → is_input_word language option ≡ false → is_input_word language path ≡ false → input_place language 3 (words ++ input ∷ option ∷ path ∷ []) ≡ Some (length words)
@@ -139,9 +109,7 @@ host-words [] = omega arith
 host-words (w ∷ words) = host-words words
 
 pub last-place : (words : List (List ℕ)) (input : List ℕ) → input_place CudaFE 1 (words ++ input ∷ []) ≡ Some (length words)
-last-place words input =
-    ap (λ o. place_or o (place_from_end 1 (length (words ++ input ∷ [])))) (position-none (is_input_word CudaFE) (words ++ input ∷ []) (none-host (words ++ input ∷ [])))
-    ∙ from-end 1 (length words) (length (words ++ input ∷ [])) (omega arith) (length-append words (input ∷ []))
+last-place words input = grind (arith, position-none, none-host, from-end, length-append)
 
 -- a line with its input cut out
 pub cut-word : {X : Type 0} (xs : List X) (y : X) (ys : List X) (d : X) → slice_index_or (xs ++ y ∷ ys) (length xs) d ≡ y
@@ -155,15 +123,10 @@ cut-rest (x ∷ xs) y ys = ap (λ t. x ∷ t) (cut-rest xs y ys)
 apart-slash : (needle front name : List ℕ) → lacks 47 needle ≡ true → pointwise nat_eq needle (front ++ 47 ∷ name) ≡ false
 apart-slash [] [] name h = refl
 apart-slash [] (x ∷ front) name h = refl
-apart-slash (c ∷ needle) [] name h =
-    let parts = and_parts (not (eqb c 47)) (lacks 47 needle) h in
-    ap (λ b. b && pointwise nat_eq needle name) (not-is 47 c parts.0)
+apart-slash (c ∷ needle) [] name h = grind (arith, and_parts, not-is)
 apart-slash (c ∷ needle) (x ∷ front) name h =
     let parts = and_parts (not (eqb c 47)) (lacks 47 needle) h in
-    ap (λ b. eqb c x && b) (apart-slash needle front name parts.1) ∙ and_false (eqb c x) where
-      and_false : (b : Bool) → (b && false) ≡ false
-      and_false true = refl
-      and_false false = refl
+    grind (arith, (apart-slash needle front name parts.1))
 
 ends-below : (needle front name : List ℕ) → lacks 47 needle ≡ true → ends_with nat_eq name needle ≡ false → ends_with nat_eq (front ++ 47 ∷ name) needle ≡ false
 ends-below needle front name bare none =
@@ -219,10 +182,7 @@ joined-away CudaFE cwd path root none = refl
 
 -- a path that was put below an absolute folder is absolute, and so stays where it is put there again
 joined-absolute : (cwd path : List ℕ) → is_absolute_path cwd ≡ true → is_absolute_path (joined cwd path) ≡ true
-joined-absolute [] path root = absurd (false≢true root)
-joined-absolute (c ∷ cs) path root =
-    elim (is_absolute_path path) as (λ b. is_absolute_path path ≡ b → is_absolute_path (cond b path (((c ∷ cs) ++ separator_after (c ∷ cs)) ++ path)) ≡ true)
-    [ true ↦ λ e. e | false ↦ λ e. root ] refl
+joined-absolute cwd path root = grind (arith, false≢true)
 
 pub joined-twice : (cwd path : List ℕ) → is_absolute_path cwd ≡ true → joined cwd (joined cwd path) ≡ joined cwd path
 joined-twice cwd path root = ap (λ b. cond b (joined cwd path) ((cwd ++ separator_after cwd) ++ joined cwd path)) (joined-absolute cwd path root)

@@ -1,6 +1,5 @@
 -- What the reader of device tools' lines has gathered, and how one more item changes it.
-use Rattle.std.specs.Prelude.{ℕ, List, [], ◌++◌, Bool, false, ◌||◌, if◌then◌else◌, Option, Some, None, is_some}
-use Rattle.std.specs.List.{fold}
+use Rattle.std.specs.Prelude.{ℕ, List, [], ◌++◌, Bool, false, ◌||◌, if◌then◌else◌, Option, Some, None, is_some, fold}
 use Rattle.compilers.specs.declared.arguments.ParsedArguments.{ParsedArguments}
 use Rattle.texts.specs.declared.language.Language.{Language}
 use Rattle.compilers.specs.declared.outputs.ArtifactDescriptor.{ArtifactDescriptor}

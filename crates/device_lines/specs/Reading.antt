@@ -1,8 +1,6 @@
 -- How the lines of device tools are read: cicc, cudafe++ and ptxas share this.
-use Rattle.std.specs.Prelude.{ℕ, ◌-◌, List, [], ◌∷◌, ◌++◌, Bool, true, false, ◌&&◌, ◌||◌, if◌then◌else◌, nat_lt}
-use Rattle.std.specs.Prelude.{nat_le, Option, Some, None, length, map, position, filter, codes, slice_index_or}
+use Rattle.std.specs.Prelude.{ℕ, ◌-◌, List, [], ◌∷◌, ◌++◌, Bool, true, false, ◌&&◌, ◌||◌, if◌then◌else◌, nat_lt, nat_le, Option, Some, None, length, map, position, filter, codes, slice_index_or, option_map, option_to_list}
 use Rattle.std.specs.List.{filter_map, flat_map, list_any, remove}
-use Rattle.std.specs.Option.{option_map, option_to_list}
 use Rattle.texts.specs.declared.language.Language.{Language}
 use Rattle.texts.specs.declared.language.Language.TheVariants.{Ptx, Cubin}
 use Rattle.compilers.specs.declared.outputs.ArtifactDescriptor.{ArtifactDescriptor}
@@ -16,9 +14,7 @@ use Rattle.compilers.specs.Compiler.{Reading, accepted, not_compilation}
 use Rattle.option_items.specs.Table.{Entry, longest_match}
 use Rattle.option_items.specs.Items.{Item, raw, unknown_flag, items, words_of, kind_of, text_of, value_of}
 use Rattle.device_lines.specs.declared.options.ArgData.{ArgData}
-use Rattle.device_lines.specs.declared.options.ArgData.TheVariants.{Output, PassThrough, UnhashedFlag}
-use Rattle.device_lines.specs.declared.options.ArgData.TheVariants.{GenModuleIdFileFlag, ModuleIdFileName}
-use Rattle.device_lines.specs.declared.options.ArgData.TheVariants.{UnhashedPassThrough, UnhashedOutput}
+use Rattle.device_lines.specs.declared.options.ArgData.TheVariants.{Output, PassThrough, UnhashedFlag, GenModuleIdFileFlag, ModuleIdFileName, UnhashedPassThrough, UnhashedOutput}
 
 -- whether a word ends like the input of the tool that writes this kind of file
 abbrev pub is_input_word : Language → List ℕ → Bool

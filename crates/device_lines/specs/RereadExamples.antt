@@ -1,7 +1,6 @@
 -- Lines that are written back and read again, worked out by hand: lines of the law, and for each tool and each of its
 -- premises a line without it that isn't read as the same.
-use Rattle.std.proofs.Common.{◌≡◌, ℕ, List, ◌++◌, Option, Some, Ok, Err, codes, refl}
-use Rattle.std.specs.Option.{option_map}
+use Rattle.std.specs.Prelude.{◌≡◌, ℕ, List, ◌++◌, Option, Some, Ok, Err, codes, refl, option_map}
 use Rattle.texts.specs.declared.language.Language.TheVariants.{Cubin}
 use Rattle.texts.specs.declared.fault.Fault.TheVariants.{MissingOutput}
 use Rattle.compilers.specs.declared.arguments.ParsedArguments.{ParsedArguments}

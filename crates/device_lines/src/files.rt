@@ -1,7 +1,6 @@
 //! The files that a line of each tool names.
 
-ghost use Rattle.std.specs.Prelude.{◌≡◌, map, IfOk, string_bytes};
-ghost use Rattle.std.specs.Option.{option_map};
+ghost use Rattle.std.specs.Prelude.{◌≡◌, map, IfOk, string_bytes, option_map};
 ghost use Rattle.device_lines.specs.Cicc.{cicc_reading};
 ghost use Rattle.device_lines.specs.CudaFE.{cudafe_reading};
 ghost use Rattle.device_lines.specs.LineFiles.{files_of};

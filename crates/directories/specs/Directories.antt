@@ -1,8 +1,7 @@
 -- Which directories have one text only. Two commands are taken to use the same file if its paths are the same text, so a plan whose directory has
 -- several texts would lack needs.
-use Rattle.std.specs.Prelude.{◌≡◌, ◌||◌, ◌&&◌, ℕ, List, Bool, true, false, not, nat_eq, codes, refl}
+use Rattle.std.specs.Prelude.{◌≡◌, ◌||◌, ◌&&◌, ℕ, List, Bool, true, false, not, nat_eq, codes, refl, bytes_eq}
 use Rattle.std.specs.List.{ends_with, starts_with}
-use Rattle.std.specs.Str.{bytes_eq}
 use Rattle.canonical_names.specs.Alike.{holds}
 
 -- whether a part inside a path is empty, `.` or `..`

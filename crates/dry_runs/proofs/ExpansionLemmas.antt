@@ -34,10 +34,7 @@ cut-once mark bs (Some x) h small =
     let found : get_or bs (position_or_len (λ b. eqb b mark) bs) 0 ≡ mark = eqb-true _ mark (passes_at_first (λ b. eqb b mark) bs 0 at.0) in
     let whole : bs ≡ before_first (λ b. eqb b mark) bs ++ (get_or bs (position_or_len (λ b. eqb b mark) bs) 0 ∷ after_first (λ b. eqb b mark) bs) = split_at_first (λ b. eqb b mark) bs 0 at.0 in
     let front : x.0.now ≡ before_first (λ b. eqb b mark) bs = at.1 in
-    let back : x.1.now ≡ after_first (λ b. eqb b mark) bs = at.2 in (
-      whole ∙ ap (λ m. before_first (λ b. eqb b mark) bs ++ (m ∷ after_first (λ b. eqb b mark) bs)) found ∙ ap (λ f. f ++ (mark ∷ after_first (λ b. eqb b mark) bs)) (sym front) ∙ ap (λ k. x.0.now ++ (mark ∷ k)) (sym back),
-      ap (lacks mark) front ∙ lacks-before mark bs,
-    )
+    grind (arith, lacks-before)
 
 -- what follows the bytes of a name
 abbrev behind_bytes : List ℕ → List ℕ
@@ -51,10 +48,7 @@ assignment-is : (text : List ℕ) → assignment text ≡ assigned (take (prefix
 assignment-is text = ap (λ n. assigned (take (prefix_len is_name_byte text) text) (drop n text)) (length-prefix_len is_name_byte text)
 
 assigned-nothing : (name rest : List ℕ) → begins_without_equals rest ≡ true → assigned name rest ≡ None
-assigned-nothing [] rest h = refl
-assigned-nothing (c ∷ name) [] h = refl
-assigned-nothing (c ∷ name) (d ∷ rest) h =
-    elim (eqb d 61) as (λ b. not b ≡ true → cond {A = Option Variable} b (Some (c ∷ name, rest)) None ≡ None) [ true ↦ λ k. absurd (false≢true k) | false ↦ λ k. refl ] h
+assigned-nothing name rest h = grind (arith, false≢true)
 
 -- a text without `=` behind its bytes of a name assigns nothing
 behind-lacking : (text : List ℕ) → lacks 61 text ≡ true → begins_without_equals (behind_bytes text) ≡ true
@@ -74,12 +68,11 @@ bytes-all : (name rest : List ℕ) → list_all is_name_byte name ≡ true → p
 bytes-all [] rest all = refl
 bytes-all (c ∷ cs) rest all =
     let parts = and_parts (is_name_byte c) (list_all is_name_byte cs) all in
-    rw (parts.0, bytes-all cs rest parts.1) (one-add (length cs))
+    grind (arith, one-add, (bytes-all cs rest parts.1))
 
 -- a text that begins with another byte assigns nothing
 pub assignment-otherwise : (text : List ℕ) → begins_name text ≡ false → assignment text ≡ None
-assignment-otherwise [] h = refl
-assignment-otherwise (c ∷ cs) h = rw h refl
+assignment-otherwise text h = grind arith
 
 pub assignment-unmarked : (text : List ℕ) → lacks 61 text ≡ true → assignment text ≡ None
 assignment-unmarked text h = assignment-is text ∙ assigned-nothing (take (prefix_len is_name_byte text) text) (behind_bytes text) (behind-lacking text h)
@@ -92,16 +85,10 @@ assignment-other text (c ∷ cs) value is h other =
     ap assignment is ∙ assignment-is whole ∙ assigned-nothing (take (prefix_len is_name_byte whole) whole) (behind_bytes whole) (behind-other (c ∷ cs) (61 ∷ value) h bytes)
 
 named : (name value : List ℕ) → not (eqb (length name) 0) ≡ true → assigned name (61 ∷ value) ≡ Some (name, value)
-named [] value some = absurd (false≢true some)
-named (c ∷ cs) value some = refl
+named name value some = grind (arith, false≢true)
 
 pub assignment-named : (text name value : List ℕ) → text ≡ name ++ 61 ∷ value → is_name name ≡ true → assignment text ≡ Some (name, value)
-assignment-named text name value is all =
-    let parts = and_parts (not (eqb (length name) 0)) (list_all is_name_byte name) all in
-    ap assignment is ∙ assignment-is (name ++ 61 ∷ value)
-    ∙ ap (λ n. assigned (take n (name ++ 61 ∷ value)) (drop n (name ++ 61 ∷ value))) (bytes-all name value parts.1)
-    ∙ ap (λ t. assigned t (drop (length name) (name ++ 61 ∷ value))) (take-append_seam name (61 ∷ value))
-    ∙ ap (assigned name) (drop-append_seam name (61 ∷ value)) ∙ named name value parts.0
+assignment-named text name value is all = grind (arith, and_parts, assignment-is, bytes-all, take-append_seam, drop-append_seam, named)
 
 -- a byte that isn't `$` begins no reference
 no_dollar : (c : ℕ) → not (eqb c 36) ≡ true → eqb 36 c ≡ false
@@ -113,7 +100,7 @@ behind-past [] rest h = refl
 behind-past (c ∷ cs) rest h =
     let parts = and_parts (not (eqb c 36)) (lacks 36 cs) h in
     let other : eqb c 36 ≡ false = not-true (eqb c 36) parts.0 in
-    rw other (behind-past cs rest parts.1)
+    grind (arith, (behind-past cs rest parts.1))
 
 pub behind-nothing : (text : List ℕ) → lacks 36 text ≡ true → behind_dollars text ≡ []
 behind-nothing text h = ap behind_dollars (sym (append-nil text)) ∙ behind-past text [] h
@@ -124,17 +111,13 @@ behind-cut text front after is h = ap behind_dollars is ∙ behind-past front (3
 -- a text refers to a variable where what follows one of its `$` says so
 pub refers-behind : (name text : List ℕ) → refers (36 ∷ name) text ≡ refers_by name (behind_dollars text)
 refers-behind name [] = refl
-refers-behind name (c ∷ cs) =
-    let flipped : eqb 36 c ≡ eqb c 36 = grind arith in
-    rw flipped
-    (elim (eqb c 36) as (λ b. (is_followed (cond b (rest_after name cs) None) || refers (36 ∷ name) cs) ≡ refers_by name (cond b (cs ∷ behind_dollars cs) (behind_dollars cs)))
-    [ true ↦ ap (λ r. is_followed (rest_after name cs) || r) (refers-behind name cs) | false ↦ refers-behind name cs ])
+refers-behind name (c ∷ cs) = grind (arith, (refers-behind name cs))
 
 pub replaced-past : (name value front rest : List ℕ) → lacks 36 front ≡ true → replaced (36 ∷ name) value (front ++ rest) ≡ front ++ replaced (36 ∷ name) value rest
 replaced-past name value [] rest h = refl
 replaced-past name value (c ∷ cs) rest h =
     let parts = and_parts (not (eqb c 36)) (lacks 36 cs) h in
-    rw (no_dollar c parts.0) (ap (λ t. c ∷ t) (replaced-past name value cs rest parts.1))
+    grind (arith, no_dollar, (replaced-past name value cs rest parts.1))
 
 pub replaced-nothing : (name value text : List ℕ) → lacks 36 text ≡ true → replaced (36 ∷ name) value text ≡ text
 replaced-nothing name value text h = ap (replaced (36 ∷ name) value) (sym (append-nil text)) ∙ replaced-past name value text [] h ∙ append-nil text
@@ -146,8 +129,7 @@ replaced-cut name value text front after is h = ap (replaced (36 ∷ name) value
 begins-with : (name text : List ℕ) → pointwise eqb name (take (length name) text) ≡ is_some (rest_after name text)
 begins-with [] text = refl
 begins-with (c ∷ cs) [] = refl
-begins-with (c ∷ cs) (d ∷ ds) =
-    elim (eqb c d) as (λ b. (b && pointwise eqb cs (take (length cs) ds)) ≡ is_some (cond b (rest_after cs ds) None)) [ true ↦ begins-with cs ds | false ↦ refl ]
+begins-with (c ∷ cs) (d ∷ ds) = grind (arith, (begins-with cs ds))
 
 -- past a name stands the rest
 passed : (name old new text rest : List ℕ) → rest_after name text ≡ Some rest → replaced_past (length name) old new text ≡ replaced_past 0 old new rest
@@ -157,11 +139,7 @@ passed (c ∷ cs) old new (d ∷ ds) rest h =
     elim (eqb c d) as (λ b. cond b (rest_after cs ds) None ≡ Some rest → replaced_past (length cs) old new ds ≡ replaced_past 0 old new rest) [ true ↦ λ k. passed cs old new ds rest k | false ↦ λ k. cc ] h
 
 pub replaced-reference : (name value after behind : List ℕ) → Some behind ≡ rest_after name after → replaced (36 ∷ name) value (36 ∷ after) ≡ value ++ replaced (36 ∷ name) value behind
-replaced-reference name value after behind h =
-    let begins : pointwise eqb name (take (length name) after) ≡ true = begins-with name after ∙ ap is_some (sym h) in
-    rw begins (ap (λ t. value ++ t) (ap (λ n. replaced_past n (36 ∷ name) value after) (sub-one (suc (length name))) ∙ passed name (36 ∷ name) value after behind (sym h)))
+replaced-reference name value after behind h = grind (arith, begins-with, sub-one, passed)
 
 pub replaced-dollar : (name value after : List ℕ) → None ≡ rest_after name after → replaced (36 ∷ name) value (36 ∷ after) ≡ 36 ∷ replaced (36 ∷ name) value after
-replaced-dollar name value after h =
-    let begins : pointwise eqb name (take (length name) after) ≡ false = begins-with name after ∙ ap is_some (sym h) in
-    rw begins refl
+replaced-dollar name value after h = grind (arith, begins-with)

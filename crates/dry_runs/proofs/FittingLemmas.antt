@@ -1,6 +1,5 @@
 -- What expanding within a limit makes, and when a text is too long.
-use Rattle.std.proofs.Common.{◌≡◌, ℕ, ◌+◌, ◌-◌, true, false, cond, List, [], ◌∷◌, ◌++◌, Option, Some, None, Bor, MatchOption, refl, ap, sym, ◌∙◌, subst, fold, length, drop, nat_le, arith, option_map}
-use Rattle.std.proofs.lemmas.List.{length-append}
+use Rattle.std.proofs.Common.{◌≡◌, ℕ, ◌+◌, ◌-◌, true, false, cond, List, [], ◌∷◌, ◌++◌, Option, Some, None, Bor, MatchOption, refl, ap, sym, ◌∙◌, subst, fold, length, drop, nat_le, arith, option_map, length-append}
 use Rattle.shell_words.specs.Shell.Splitting.{shell_words}
 use Rattle.dry_runs.specs.declared.set_variables.Reference.{Reference}
 use Rattle.dry_runs.specs.Environment.{Variable, refers, expanded}
@@ -38,37 +37,28 @@ longer m n left = grind arith
 
 -- a text whose beginning is too long is too long
 pub exceeds-from : (left : ℕ) (front rest whole : List ℕ) → front ++ rest ≡ whole → nat_le (length front) left ≡ false → fitting left whole ≡ None
-exceeds-from left front rest whole is h =
-    exceeds left whole (ap (λ t. nat_le (length t) left) (sym is) ∙ ap (λ n. nat_le n left) (length-append front rest) ∙ longer (length front) (length rest) left h)
+exceeds-from left front rest whole is h = grind (arith, exceeds, length-append, longer)
 
 no-text : (t : ℕ × List ℕ) (x y : List ℕ) → None ≡ Some t → x ≡ y
 no-text t x y h = cc
 
 -- a text that fits, by what becomes of it
 by-length : (n left : ℕ) (env : List Variable) (t : ℕ × List ℕ) (new : List ℕ) → (fold expanded_fitting (Some (n, new)) env ≡ Some t → expanded env new ≡ t.1) → fold expanded_fitting (cond {A = Option (ℕ × List ℕ)} (nat_le (length new) left) (Some (n, new)) None) env ≡ Some t → expanded env new ≡ t.1
-by-length n left env t new step =
-    elim (nat_le (length new) left)
-    as (λ b. fold expanded_fitting (cond {A = Option (ℕ × List ℕ)} b (Some (n, new)) None) env ≡ Some t → expanded env new ≡ t.1)
-    [ true ↦ step | false ↦ λ k. no-text t (expanded env new) t.1 (sym (fitting-none env) ∙ k) ]
+by-length n left env t new step = grind (arith, no-text, fitting-none)
 
 -- what is expanded within a limit is what is expanded without one
 pub fold-expanded : (left : ℕ) (env : List Variable) (text : List ℕ) (t : ℕ × List ℕ) → fold expanded_fitting (Some (left, text)) env ≡ Some t → expanded env text ≡ t.1
 fold-expanded left [] text t h = let same : (left, text) ≡ t = cc in ap (λ (s : ℕ × List ℕ). s.1) same
 fold-expanded left (v ∷ env) text t h =
     let new : List ℕ = replaced (36 ∷ v.0) v.1 text in
-    (elim (refers (36 ∷ v.0) text)
-    as (λ b. fold expanded_fitting (cond {A = Option (ℕ × List ℕ)} b (made left new) (Some (left, text))) env ≡ Some t → expanded env (cond {A = List ℕ} b new text) ≡ t.1)
-    [ true ↦ by-length (left - length new) left env t new (fold-expanded (left - length new) env new t) | false ↦ fold-expanded left env text t ]) h
+    grind (arith, by-length, (fold-expanded (left - length new) env new t), (fold-expanded left env text t))
 
 pub within-expanded : (left : ℕ) (env : List Variable) (text : List ℕ) (t : ℕ × List ℕ) → expanded_within left env text ≡ Some t → expanded env text ≡ t.1
 within-expanded left env text t = by-length left left env t text (fold-expanded left env text t)
 
 -- the words of a text that is expanded within a limit
 pub within-words : (left : ℕ) (env : List Variable) (text : List ℕ) (words : Option (List (List ℕ)) × ℕ) (within : Option (ℕ × List ℕ)) → expanded_within left env text ≡ within → Some words ≡ option_map words_left within → words.0 ≡ shell_words (expanded env text)
-within-words left env text words None is h = cc
-within-words left env text words (Some t) is h =
-    let same : words ≡ words_left t = cc in
-    ap (λ (w : Option (List (List ℕ)) × ℕ). w.0) same ∙ ap shell_words (sym (within-expanded left env text t is))
+within-words left env text words within is h = grind (arith, within-expanded)
 
 pub words-too_long : (left : ℕ) (env : List Variable) (text : List ℕ) → nat_le (length text) left ≡ false → None ≡ option_map words_left (expanded_within left env text)
 words-too_long left env text h = sym (ap (option_map words_left) (ap (λ o. fold expanded_fitting o env) (begins-not left text h) ∙ fitting-none env))
@@ -84,14 +74,10 @@ module _ (left : ℕ) (env : List Variable) (from : ℕ) (text : List ℕ) where
       (λ r. (left : ℕ) → fold expanded_fitting (Some (left, text)) (drop from env) ≡ fold expanded_fitting (made left (replaced (36 ∷ r.name.now) r.value.now text)) (drop r.next env))
 
   pub first-none : (o : Option Reference) → o ≡ None → FirstIs o → fold expanded_fitting (Some (left, text)) (drop from env) ≡ Some (left, text)
-  first-none None is h = h left
-  first-none (Some r) is h = cc
+  first-none o is h = grind arith
 
   pub first-some : (o : Option Reference) (r : Reference) → o ≡ Some r → FirstIs o → fold expanded_fitting (Some (left, text)) (drop from env) ≡ fold expanded_fitting (made left (replaced (36 ∷ r.name.now) r.value.now text)) (drop r.next env)
-  first-some None r is h = cc
-  first-some (Some q) r is h =
-      let same : q ≡ r = cc in
-      subst (λ (x : Reference). fold expanded_fitting (Some (left, text)) (drop from env) ≡ fold expanded_fitting (made left (replaced (36 ∷ x.name.now) x.value.now text)) (drop x.next env)) same (h left)
+  first-some o r is h = grind arith
 
 -- what writing a reference says, by whether it fits
 module _ (left : ℕ) (out name value after new : List ℕ) where
@@ -101,11 +87,7 @@ module _ (left : ℕ) (out name value after new : List ℕ) where
       (λ rest. new ++ replaced (36 ∷ name) value rest.now ≡ out ++ replaced (36 ∷ name) value (36 ∷ after))
 
   pub written-none : (o : Option (Bor (List ℕ))) → o ≡ None → WritesIs o → fitting left (out ++ replaced (36 ∷ name) value (36 ∷ after)) ≡ None
-  written-none None is h = h
-  written-none (Some r) is h = cc
+  written-none o is h = grind arith
 
   pub written-some : (o : Option (Bor (List ℕ))) (r : Bor (List ℕ)) → o ≡ Some r → WritesIs o → new ++ replaced (36 ∷ name) value r.now ≡ out ++ replaced (36 ∷ name) value (36 ∷ after)
-  written-some None r is h = cc
-  written-some (Some q) r is h =
-      let same : q ≡ r = cc in
-      subst (λ (x : Bor (List ℕ)). new ++ replaced (36 ∷ name) value x.now ≡ out ++ replaced (36 ∷ name) value (36 ∷ after)) same h
+  written-some o r is h = grind arith

@@ -1,10 +1,8 @@
 -- A run that is read up to its first bad line, and what the look-ups of a parsed one make of it.
-use Rattle.std.proofs.Common.{◌≡◌, ℕ, ◌+◌, true, false, cond, List, [], ◌∷◌, ◌++◌, Option, Some, None, Result, Ok, Err, refl, ap, sym, ◌∙◌, subst, append_assoc, append-nil, codes, unwrap_or, bytes_eq}
+use Rattle.std.proofs.Common.{◌≡◌, ℕ, ◌+◌, true, false, cond, List, [], ◌∷◌, ◌++◌, Option, Some, None, Result, Ok, Err, refl, ap, sym, ◌∙◌, subst, append_assoc, append-nil, codes, unwrap_or, bytes_eq, arith}
 use Rattle.std.specs.List.{filter_map, enumerate_from}
-use Rattle.std.specs.Map.{lookup}
 use Rattle.std.specs.Str.Lines.{lines}
 use Rattle.texts.specs.declared.fault.Fault.{Fault}
-use Rattle.texts.specs.declared.fault.Fault.TheVariants.{Memory}
 use Rattle.texts.specs.Variables.{first_value}
 use Rattle.texts.proofs.RestLemmas.{rest_after-append}
 use Rattle.dry_runs.specs.declared.limit.LimitedFault.{LimitedFault}
@@ -22,7 +20,6 @@ use Rattle.dry_runs.specs.Environment.{Variable}
 use Rattle.dry_runs.specs.Limit.{UnlessMemoryWithin, first_too_long, left_behind_line, answer_within, dry_run_within}
 use Rattle.dry_runs.specs.Parsed.{question_of, program_in, path_of, with_line, run_of_lines, lines_read, unless_long, lines_read_within, unless_bad, whole, limited_whole, whole_in, behind_found, found_commands, unless_missing, parsed_of, ParsesThenResolves}
 use Rattle.dry_runs.specs.Reading.{said_parsed, said_ended, with_variable, with_command, said_next, next_within, meaning_stated}
-use Rattle.dry_runs.specs.Statement.{stated}
 use Rattle.dry_runs.proofs.ReadingLemmas.{environment-next}
 use Rattle.dry_runs.proofs.StatementLemmas.{meaning-stated}
 use Rattle.dry_runs.proofs.WithinLemmas.{within-fault, within-long}
@@ -45,12 +42,7 @@ before-next s t (Runs command) run e =
 before-next s t (Bad fault) run e = cc
 
 before-bad : (s : Said) (m : Meaning) (run : ParsedRun) (fault : Fault) → said_next s m ≡ Err fault → said_before s (with_line m run) ≡ said_parsed s (Some fault)
-before-bad s Ignored run fault e = cc
-before-bad s (Assigns v) run fault e = cc
-before-bad s (Runs command) run fault e = cc
-before-bad s (Bad f) run fault e =
-    let same : f ≡ fault = cc in
-    λ i. run_with (append-nil s.commands i) (append-nil s.env i) (Some (same i))
+before-bad s m run fault e = grind (arith, append-nil)
 
 -- one line, and the lines behind it
 module _ (which : LookUp) (run : ℕ) (cwd : List ℕ) where
@@ -58,22 +50,14 @@ module _ (which : LookUp) (run : ℕ) (cwd : List ℕ) where
   run_from env number rest = run_of_lines (meanings which run cwd env (enumerate_from number (lines rest)))
 
   pub read-next : (s t : Said) (number : ℕ) (line rest behind : List ℕ) → lines rest ≡ line ∷ lines behind → said_next s (meaning which run cwd s.env (number, line)) ≡ Ok t → said_before t (run_from t.env (number + 1) behind) ≡ said_before s (run_from s.env number rest)
-  read-next s t number line rest behind cut e =
-      let m = meaning which run cwd s.env (number, line) in
-      ap (λ env. said_before t (run_from env (number + 1) behind)) (sym (environment-next which run cwd s t m e))
-      ∙ sym (before-next s t m (run_from (environment_after which run cwd s.env m) (number + 1) behind) e)
-      ∙ ap (λ ls. said_before s (run_of_lines (meanings which run cwd s.env (enumerate_from number ls)))) (sym cut)
+  read-next s t number line rest behind cut e = grind (arith, environment-next, before-next)
 
   read-bad : (s : Said) (number : ℕ) (line rest behind : List ℕ) (fault : Fault) → lines rest ≡ line ∷ lines behind → said_next s (meaning which run cwd s.env (number, line)) ≡ Err fault → said_before s (run_from s.env number rest) ≡ said_parsed s (Some fault)
-  read-bad s number line rest behind fault cut e =
-      let m = meaning which run cwd s.env (number, line) in
-      ap (λ ls. said_before s (run_of_lines (meanings which run cwd s.env (enumerate_from number ls)))) cut
-      ∙ before-bad s m (run_from (environment_after which run cwd s.env m) (number + 1) behind) fault e
+  read-bad s number line rest behind fault cut e = grind (arith, before-bad)
 
 -- a line at which the reading ends
 ended-bad : {X : Type 0} (fault : Fault) (s : Said) (part : Result X LimitedFault) (all : Result ParsedRun LimitedFault) → (part ≡ Err (limited.Fault fault) → all ≡ Ok (said_parsed s (Some fault))) → UnlessMemoryWithin {T = X} (Err (limited.Fault fault)) part → UnlessMemoryWithin (said_ended s (limited.Fault fault)) all
-ended-bad Memory s part all h told = tt
-ended-bad fault s part all h told = h told
+ended-bad fault s part all h told = grind arith
 
 pub read-ended : (which : LookUp) (run limit : ℕ) (bytes cwd : List ℕ) (s t : Said) (left number : ℕ) (line rest behind : List ℕ) → lines rest ≡ line ∷ lines behind →
     said_before s (run_from which run cwd s.env number rest) ≡ lines_read which run bytes cwd →
@@ -88,9 +72,7 @@ read-ended which run limit bytes cwd s t left number line rest behind cut all ov
     ap (λ long. unless_long run long (lines_read which run bytes cwd)) (sym over ∙ parts.1)
     ∙ ap (λ (r : ParsedRun). Ok r) (sym all ∙ read-bad which run cwd s number line rest behind fault cut parts.0 ∙ ap (λ (x : Said). said_parsed x (Some fault)) (sym same)))
     told
-read-ended which run limit bytes cwd s t left number line rest behind cut all over same (TooLong r n) told =
-    let parts = within-long which run cwd s left number line rest behind r n cut told in
-    ap (λ long. unless_long run long (lines_read which run bytes cwd)) (sym over ∙ parts.1) ∙ ap (λ (f : LimitedFault). Err f) parts.0
+read-ended which run limit bytes cwd s t left number line rest behind cut all over same (TooLong r n) told = grind (arith, within-long)
 
 -- what a run says is what its lines say, unless one is bad
 abbrev Read : Type 0
@@ -105,55 +87,41 @@ behind_one command (Ok said) = Ok (command ∷ said.0, said.1)
 behind_one command (Err fault) = Err fault
 
 bad-variable : (commands : List CommandLine) (env : List Variable) (v : Variable) (fault : Option Fault) → unless_bad commands (v ∷ env) fault ≡ with_one v (unless_bad commands env fault)
-bad-variable commands env v None = refl
-bad-variable commands env v (Some fault) = refl
+bad-variable commands env v fault = grind arith
 
 bad-command : (commands : List CommandLine) (env : List Variable) (command : CommandLine) (fault : Option Fault) → unless_bad (command ∷ commands) env fault ≡ behind_one command (unless_bad commands env fault)
-bad-command commands env command None = refl
-bad-command commands env command (Some fault) = refl
+bad-command commands env command fault = grind arith
 
 fault-ignored : (ms : List Meaning) (faults : List Fault) → run_or_fault (Ignored ∷ ms) faults ≡ run_or_fault ms faults
-fault-ignored ms [] = refl
-fault-ignored ms (fault ∷ faults) = refl
+fault-ignored ms faults = grind arith
 
 fault-variable : (v : Variable) (ms : List Meaning) (faults : List Fault) → run_or_fault (Assigns v ∷ ms) faults ≡ with_one v (run_or_fault ms faults)
-fault-variable v ms [] = refl
-fault-variable v ms (fault ∷ faults) = refl
+fault-variable v ms faults = grind arith
 
 fault-command : (command : CommandLine) (ms : List Meaning) (faults : List Fault) → run_or_fault (Runs command ∷ ms) faults ≡ behind_one command (run_or_fault ms faults)
-fault-command command ms [] = refl
-fault-command command ms (fault ∷ faults) = refl
+fault-command command ms faults = grind arith
 
 pub whole-lines : (ms : List Meaning) → whole (run_of_lines ms) ≡ run_of_meanings ms
 whole-lines [] = refl
 whole-lines (Ignored ∷ ms) = whole-lines ms ∙ sym (fault-ignored ms (filter_map fault_of ms))
-whole-lines (Assigns v ∷ ms) =
-    let run = run_of_lines ms in
-    bad-variable run.commands run.env v run.fault ∙ ap (with_one v) (whole-lines ms) ∙ sym (fault-variable v ms (filter_map fault_of ms))
-whole-lines (Runs command ∷ ms) =
-    let run = run_of_lines ms in
-    bad-command run.commands run.env command run.fault ∙ ap (behind_one command) (whole-lines ms) ∙ sym (fault-command command ms (filter_map fault_of ms))
+whole-lines (Assigns v ∷ ms) = simp (bad-variable, fault-variable, (whole-lines ms))
+whole-lines (Runs command ∷ ms) = simp (bad-command, fault-command, (whole-lines ms))
 whole-lines (Bad fault ∷ ms) = refl
 
 limited-said : (run : ℕ) (said : Read) → limited_whole said ≡ answer_within run None said
-limited-said run (Ok said) = refl
-limited-said run (Err fault) = refl
+limited-said run said = grind arith
 
 whole-long : (run : ℕ) (long : Option ℕ) (parsed : ParsedRun) (said : Read) → whole parsed ≡ said → whole_in (unless_long run long parsed) ≡ answer_within run long said
-whole-long run (Some line) parsed said h = refl
-whole-long run None parsed said h = ap limited_whole h ∙ limited-said run said
+whole-long run long parsed said h = grind (arith, limited-said)
 
 pub whole-within : (which : LookUp) (limit run : ℕ) (bytes cwd : List ℕ) → whole_in (lines_read_within which limit run bytes cwd) ≡ dry_run_within limit run bytes cwd which
-whole-within which limit run bytes cwd =
-    whole-long run (first_too_long which run cwd limit [] (numbered_lines bytes)) (lines_read which run bytes cwd) (dry_run_of run bytes cwd which) (whole-lines (meanings which run cwd [] (numbered_lines bytes)))
+whole-within which limit run bytes cwd = grind (arith, whole-long, whole-lines)
 
 -- The first `PATH` counts for all lines behind it.
 
 first-stays : (name : List ℕ) (env more : List Variable) (value : List ℕ) → first_value name env ≡ Some value → first_value name (env ++ more) ≡ Some value
 first-stays name [] more value h = cc
-first-stays name (v ∷ env) more value h =
-    (elim (bytes_eq name v.0) as (λ b. cond b (Some v.1) (lookup (bytes_eq name) env) ≡ Some value → cond b (Some v.1) (lookup (bytes_eq name) (env ++ more)) ≡ Some value)
-    [ true ↦ λ e. e | false ↦ first-stays name env more value ]) h
+first-stays name (v ∷ env) more value h = grind (arith, (first-stays name env more value))
 
 path-stays : (env more : List Variable) (path : List ℕ) → first_value (codes "PATH") env ≡ Some path → path_of (env ++ more) ≡ path
 path-stays env more path h = ap (λ o. unwrap_or o []) (first-stays (codes "PATH") env more path h)
@@ -163,12 +131,10 @@ program-asked path program = ap (λ o. unwrap_or o []) (rest_after-append path p
 
 -- looking the programs of a parsed run up, with what looking them up so far found
 missing-variable : (env : List Variable) (v : Variable) (fault : Option Fault) (found : Result (List CommandLine) Fault) → unless_missing (v ∷ env) fault found ≡ with_one v (unless_missing env fault found)
-missing-variable env v fault (Ok commands) = bad-variable commands env v fault
-missing-variable env v fault (Err missing) = refl
+missing-variable env v fault found = grind (arith, bad-variable)
 
 missing-command : (env : List Variable) (fault : Option Fault) (line : ℕ) (question program path : List ℕ) (words : List (List ℕ)) (rest : Result (List CommandLine) Fault) → unless_missing env fault (behind_found (line, question, words) program (Some path) rest) ≡ behind_one (line, path, words) (unless_missing env fault rest)
-missing-command env fault line question program path words (Ok commands) = bad-command commands env (line, path, words) fault
-missing-command env fault line question program path words (Err missing) = refl
+missing-command env fault line question program path words rest = grind (arith, bad-command)
 
 module _ (which : LookUp) (run : ℕ) (cwd : List ℕ) where
   -- a run that is parsed, and one that is read, from a line of a meaning on
@@ -197,24 +163,11 @@ module _ (which : LookUp) (run : ℕ) (cwd : List ℕ) where
   alike-found : (number : ℕ) (env : List Variable) (ls : List (ℕ × List ℕ)) (program path : List ℕ) (words : List (List ℕ)) (found : Option (List ℕ)) → looked_up path (asked_all env ls) ≡ whole (read_all env ls) →
       unless_missing (asked_all env ls).env (asked_all env ls).fault (behind_found (number, path ++ program, words) program found (found_commands which cwd path (asked_all env ls).commands))
       ≡ whole (read_from env (meaning_found which run cwd number program words found) ls)
-  alike-found number env ls program path words None same = refl
-  alike-found number env ls program path words (Some file) same =
-      let asked = asked_all env ls in
-      let read = read_all env ls in
-      missing-command asked.env asked.fault number (path ++ program) program file words (found_commands which cwd path asked.commands)
-      ∙ ap (behind_one (number, file, words)) same
-      ∙ sym (bad-command read.commands read.env (number, file, words) read.fault)
+  alike-found number env ls program path words found same = grind (arith, missing-command, bad-command)
 
   alike-path : (number : ℕ) (env : List Variable) (ls : List (ℕ × List ℕ)) (program : List ℕ) (words : List (List ℕ)) (first : Option (List ℕ)) → first_value (codes "PATH") env ≡ first → SaysAlike env ls →
       SaysAlikeFrom env (meaning_by_path question_of run [] number program words first) (meaning_by_path which run cwd number program words first) ls
-  alike-path number env ls program words None is same = refl
-  alike-path number env ls program words (Some path) is same =
-      let asked = asked_all env ls in
-      let stays : path_of (env ++ asked.env) ≡ path = path-stays env asked.env path is in
-      let c : CommandLine = (number, path ++ program, words) in
-      ap (λ p. unless_missing asked.env asked.fault (found_commands which cwd p (c ∷ asked.commands))) stays
-      ∙ ap (λ q. unless_missing asked.env asked.fault (behind_found c q (which q path cwd) (found_commands which cwd path asked.commands))) (program-asked path program)
-      ∙ alike-found number env ls program path words (which program path cwd) (ap (λ p. looked_up p asked) (sym stays) ∙ same)
+  alike-path number env ls program words first is same = grind (arith, path-stays, program-asked, alike-found)
 
   alike-stated : (number : ℕ) (env : List Variable) (ls : List (ℕ × List ℕ)) (s : Statement) → ((after : List Variable) → SaysAlike after ls) →
       SaysAlikeFrom env (meaning_stated question_of run [] number env s) (meaning_stated which run cwd number env s) ls
@@ -237,9 +190,7 @@ module _ (which : LookUp) (run : ℕ) (cwd : List ℕ) where
   says-alike ((number, line) ∷ ls) env =
       let asked = meaning-stated question_of run [] number env line in
       let read = meaning-stated which run cwd number env line in
-      subst (λ m. SaysAlikeFrom env m (meaning which run cwd env (number, line)) ls) asked
-      (subst (λ k. SaysAlikeFrom env (meaning_stated question_of run [] number env (stated env line)) k ls) read
-      (alike-stated number env ls (stated env line) (says-alike ls)))
+      grind (arith, alike-stated, (says-alike ls))
 
 pub parses-then-resolves : ParsesThenResolves
 parses-then-resolves run bytes cwd which =
@@ -258,26 +209,18 @@ module _ (run other : ℕ) where
 
   hold-path : (number : ℕ) (env : List Variable) (ls : List (ℕ × List ℕ)) (program : List ℕ) (words : List (List ℕ)) (path : Option (List ℕ)) → HoldAlikeBehind env ls →
       HoldAlikeFrom env (meaning_by_path question_of run [] number program words path) (meaning_by_path question_of other [] number program words path) ls
-  hold-path number env ls program words None same = (refl, refl)
-  hold-path number env ls program words (Some path) same = (ap (λ commands. (number, path ++ program, words) ∷ commands) same.0, same.1)
+  hold-path number env ls program words path same = grind arith
 
   hold-stated : (number : ℕ) (env : List Variable) (ls : List (ℕ × List ℕ)) (s : Statement) → ((after : List Variable) → HoldAlikeBehind after ls) →
       HoldAlikeFrom env (meaning_stated question_of run [] number env s) (meaning_stated question_of other [] number env s) ls
-  hold-stated number env ls Nothing same = same env
-  hold-stated number env ls (Sets name value) same = let behind = same (env ++ (name, value) ∷ []) in (behind.0, ap (λ e. (name, value) ∷ e) behind.1)
-  hold-stated number env ls (statements.Runs []) same = (refl, refl)
-  hold-stated number env ls (statements.Runs (program ∷ words)) same = hold-path number env ls program words (first_value (codes "PATH") env) (same env)
-  hold-stated number env ls BadShell same = (refl, refl)
-  hold-stated number env ls NotUtf8 same = (refl, refl)
+  hold-stated number env ls s same = grind (arith, hold-path)
 
   hold-alike : (ls : List (ℕ × List ℕ)) (env : List Variable) → HoldAlikeBehind env ls
   hold-alike [] env = (refl, refl)
   hold-alike ((number, line) ∷ ls) env =
       let one = meaning-stated question_of run [] number env line in
       let two = meaning-stated question_of other [] number env line in
-      subst (λ m. HoldAlikeFrom env m (meaning question_of other [] env (number, line)) ls) one
-      (subst (λ k. HoldAlikeFrom env (meaning_stated question_of run [] number env (stated env line)) k ls) two
-      (hold-stated number env ls (stated env line) (hold-alike ls)))
+      grind (arith, hold-stated, (hold-alike ls))
 
   pub parsed-alike : (bytes : List ℕ) → HoldAlike (parsed_of run bytes) (parsed_of other bytes)
   parsed-alike bytes = hold-alike (numbered_lines bytes) []

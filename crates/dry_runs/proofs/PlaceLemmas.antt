@@ -1,6 +1,5 @@
 -- Where variables stand by the beginnings of their names, and which of them a text refers to first.
-use Rattle.std.proofs.Common.{◌≡◌, ℕ, zero, suc, ◌+◌, ◌<◌, ◌≤◌, Bool, true, false, cond, eqb, eqb-true, not, ◌&&◌, ◌||◌, nat_le, List, [], ◌∷◌, ◌++◌, Option, Some, None, refl, ap, sym, ◌∙◌, subst, fold, map, length, drop, get_or, string_bytes, String, append_assoc, add-one, arith, option_map, zero-add, add-zero, one-add}
-use Rattle.std.specs.declared.alloc.Global.{Global}
+use Rattle.std.proofs.Common.{◌≡◌, ℕ, zero, suc, ◌+◌, ◌<◌, ◌≤◌, Bool, true, false, cond, eqb, eqb-true, not, ◌&&◌, ◌||◌, nat_le, List, [], ◌∷◌, ◌++◌, Option, Some, None, refl, ap, sym, ◌∙◌, subst, fold, map, length, drop, get_or, string_bytes, String, append_assoc, add-one, arith, option_map, zero-add, add-zero, one-add, Global}
 use Rattle.std.specs.List.{prefix_len, list_all, slice_get}
 use Rattle.std.specs.Str.{chars, bytes_eq, IsUtf8, IsCharBoundary}
 use Rattle.std.proofs.lemmas.Bool.{false≢true, lt-ltb, and_parts}
@@ -33,8 +32,7 @@ name-small c h = grind (arith, h)
 
 first-char : (c : ℕ) (cs : List ℕ) → c < 128 → begins_otherwise (chars (c ∷ cs)) ≡ not (is_word_char c)
 unfolding chars
-first-char c [] small = rw (lt-ltb c 128 small) refl
-first-char c (d ∷ ds) small = rw (lt-ltb c 128 small) refl
+first-char c cs small = grind (arith, lt-ltb)
 
 name-first : (c : ℕ) (cs : List ℕ) → is_name_byte c ≡ true → begins_otherwise (chars (c ∷ cs)) ≡ false
 name-first c cs h = first-char c cs (name-small c h) ∙ ap not (is_word_char-ascii c (name-small c h) ∙ name-word c h)
@@ -46,17 +44,10 @@ beginning-other : (c : ℕ) (cs : List ℕ) → is_name_byte c ≡ false → beg
 beginning-other c cs h = rw h refl
 
 nothing-begun : (after : List ℕ) → begins_otherwise (chars after) ≡ true → beginning after ≡ []
-nothing-begun [] h = refl
-nothing-begun (c ∷ cs) h =
-    elim (is_name_byte c) as (λ b. is_name_byte c ≡ b → beginning (c ∷ cs) ≡ [])
-    [ true ↦ λ e. absurd (false≢true (sym (name-first c cs e) ∙ h)) | false ↦ λ e. beginning-other c cs e ] refl
+nothing-begun after h = grind (arith, false≢true, name-first, beginning-other)
 
 one-byte-more : (c : ℕ) (xs ys : List ℕ) → beginning xs ≡ beginning ys → beginning (c ∷ xs) ≡ beginning (c ∷ ys)
-one-byte-more c xs ys h =
-    elim (is_name_byte c) as (λ b. is_name_byte c ≡ b → beginning (c ∷ xs) ≡ beginning (c ∷ ys)) [
-      | true ↦ λ e. beginning-byte c xs e ∙ ap (λ t. c ∷ t) h ∙ sym (beginning-byte c ys e)
-      | false ↦ λ e. beginning-other c xs e ∙ sym (beginning-other c ys e)
-    ] refl
+one-byte-more c xs ys h = grind (arith, beginning-byte, beginning-other)
 
 same-beginning : (name after : List ℕ) → is_followed (rest_after name after) ≡ true → beginning after ≡ beginning name
 same-beginning [] after h = nothing-begun after h
@@ -73,8 +64,7 @@ same-bytes name after h = (bytes_eq-Decides (beginning after) (beginning name)).
 
 -- a text may be cut behind the bytes of a name
 byte-inside : (c : ℕ) (cs : List ℕ) (n : ℕ) → is_name_byte c ≡ true → ((k : ℕ) → suc k ≤ prefix_len is_name_byte cs → get_or cs k 0 < 128) → suc n ≤ 1 + prefix_len is_name_byte cs → get_or (c ∷ cs) n 0 < 128
-byte-inside c cs zero e rest le = name-small c e
-byte-inside c cs (suc n) e rest le = rest n (omega (arith, le))
+byte-inside c cs n e rest le = grind (arith, name-small)
 
 byte-small : (text : List ℕ) (n : ℕ) → suc n ≤ prefix_len is_name_byte text → get_or text n 0 < 128
 byte-small [] n le = absurd (omega (arith, le))
@@ -94,38 +84,20 @@ moved-on : (n k : ℕ) → (n + 1) + k ≡ n + suc k
 moved-on n k = omega arith
 
 pub places-pushed : (place : ℕ) (env : List Variable) (v : Variable) (start : List ℕ) → places_from place (env ++ v ∷ []) start ≡ with_place (places_from place env) (beginning v.0) (place + length env) start
-places-pushed place [] v start =
-    elim (bytes_eq start (beginning v.0)) as (λ b. cond {A = List ℕ} b (place ∷ []) [] ++ [] ≡ cond {A = List ℕ} b ([] ++ (place + 0) ∷ []) [])
-    [ true ↦ ap (λ n. n ∷ []) (sym (add-zero place)) | false ↦ refl ]
-places-pushed place (w ∷ ws) v start =
-    let here : List ℕ = cond {A = List ℕ} (bytes_eq start (beginning w.0)) (place ∷ []) [] in
-    let rest : List ℕ = places_from (place + 1) ws start in
-    ap (λ t. here ++ t) (places-pushed (place + 1) ws v start) ∙ (elim (bytes_eq start (beginning v.0))
-    as (λ b. here ++ cond {A = List ℕ} b (rest ++ ((place + 1) + length ws) ∷ []) rest ≡ cond {A = List ℕ} b ((here ++ rest) ++ (place + length (w ∷ ws)) ∷ []) (here ++ rest))
-    [ true ↦ sym (append_assoc here rest (((place + 1) + length ws) ∷ [])) ∙ ap (λ n. (here ++ rest) ++ n ∷ []) (moved-on place (length ws)) | false ↦ refl ])
+places-pushed place [] v start = grind (arith, add-zero)
+places-pushed place (w ∷ ws) v start = grind (arith, moved-on, (places-pushed (place + 1) ws v start))
 
 -- the places of a list with one more pair
 pub places-more : (pairs more : List (String Global × String Global)) (pair : String Global × String Global) (places placed : Places) (n : ℕ) (name : List ℕ) → more ≡ pairs ++ pair ∷ [] → places ≡ places_from 0 (map pair_of pairs) → n ≡ length pairs → name ≡ string_bytes pair.0 → placed ≡ with_place places (beginning name) n → placed ≡ places_from 0 (map pair_of more)
-places-more pairs more pair places placed n name grown known count same noted =
-    let env : List Variable = map pair_of pairs in
-    let size : n ≡ 0 + length env = count ∙ sym (length-map pairs pair_of) ∙ sym (zero-add (length env)) in
-    noted ∙ (λ i. with_place (known i) (beginning (same i)) (size i))
-    ∙ sym (λ i start. places-pushed 0 env (pair_of pair) start i)
-    ∙ ap (places_from 0) (sym (ap (map pair_of) grown ∙ map-append pair_of pairs (pair ∷ [])))
+places-more pairs more pair places placed n name grown known count same noted = grind (arith, length-map, zero-add, places-pushed, map-append)
 
 -- whether the names are plain, with one more
 plain-pushed : (env : List Variable) (v : Variable) → are_plain (env ++ v ∷ []) ≡ (are_plain env && list_all is_name_byte v.0)
 plain-pushed [] v = and-true (list_all is_name_byte v.0)
-plain-pushed (w ∷ ws) v = ap (λ b. list_all is_name_byte w.0 && b) (plain-pushed ws v) ∙ by (list_all is_name_byte w.0) where
-  by : (b : Bool) → (b && (are_plain ws && list_all is_name_byte v.0)) ≡ ((b && are_plain ws) && list_all is_name_byte v.0)
-  by true = refl
-  by false = refl
+plain-pushed (w ∷ ws) v = grind (arith, (plain-pushed ws v))
 
 pub plain-more : (pairs more : List (String Global × String Global)) (pair : String Global × String Global) (was is : Bool) → more ≡ pairs ++ pair ∷ [] → was ≡ are_plain (map pair_of pairs) → is ≡ (was && list_all is_name_byte (string_bytes pair.0)) → is ≡ are_plain (map pair_of more)
-plain-more pairs more pair was is grown known noted =
-    noted ∙ ap (λ b. b && list_all is_name_byte (string_bytes pair.0)) known
-    ∙ sym (plain-pushed (map pair_of pairs) (pair_of pair))
-    ∙ ap are_plain (sym (ap (map pair_of) grown ∙ map-append pair_of pairs (pair ∷ [])))
+plain-more pairs more pair was is grown known noted = grind (arith, plain-pushed, map-append)
 
 -- Where a text doesn't end a name, no plain name is one that it refers to.
 
@@ -133,12 +105,7 @@ behind-byte : (c : ℕ) (cs : List ℕ) → is_name_byte c ≡ true → behind_b
 behind-byte c cs h = rw (h, one-add (prefix_len is_name_byte cs)) refl
 
 unended : (after : List ℕ) → begins_otherwise (chars (behind_beginning after)) ≡ false → begins_otherwise (chars after) ≡ false
-unended [] h = h
-unended (c ∷ cs) h =
-    elim (is_name_byte c) as (λ b. is_name_byte c ≡ b → begins_otherwise (chars (c ∷ cs)) ≡ false) [
-      | true ↦ λ e. name-first c cs e
-      | false ↦ λ e. subst (λ n. begins_otherwise (chars (drop n (c ∷ cs))) ≡ false) (ap (λ b. cond b (1 + prefix_len is_name_byte cs) 0) e) h
-    ] refl
+unended after h = grind (arith, name-first)
 
 plain-fails : (name after : List ℕ) → list_all is_name_byte name ≡ true → begins_otherwise (chars (behind_beginning after)) ≡ false → is_followed (rest_after name after) ≡ false
 plain-fails [] after plain h = unended after h
@@ -160,22 +127,15 @@ plain-at (v ∷ vs) (suc place) after plain h = plain-at vs place after (and_par
 
 none-passes : (test : ℕ → Bool) (bound : ℕ) (places : List ℕ) → ((p : ℕ) → test p ≡ false) → first_below test bound places ≡ bound
 none-passes test bound [] h = refl
-none-passes test bound (p ∷ ps) h =
-    elim (nat_le bound p) as (λ b. cond b bound (cond (test p) p (first_below test bound ps)) ≡ bound)
-    [ true ↦ refl | false ↦ ap (λ b. cond b p (first_below test bound ps)) (h p) ∙ none-passes test bound ps h ]
+none-passes test bound (p ∷ ps) h = grind (arith, (none-passes test bound ps h))
 
 -- a text that doesn't end a name refers to no variable of a plain name
 pub first-unended : (env : List Variable) (from bound : ℕ) (after : List ℕ) (places : List ℕ) → are_plain env ≡ true → begins_otherwise (chars (behind_beginning after)) ≡ false → bound ≡ first_below (follows_from from env after) bound places
-first-unended env from bound after places plain h =
-    sym (none-passes (follows_from from env after) bound places (λ p. ap (λ b. nat_le from p && b) (plain-at env p after plain h) ∙ and-false (nat_le from p)))
+first-unended env from bound after places plain h = simp (none-passes, plain-at, and-false)
 
 pub first-within : (test : ℕ → Bool) (bound : ℕ) (places : List ℕ) → first_below test bound places ≤ bound
 first-within test bound [] = omega arith
-first-within test bound (p ∷ ps) =
-    elim (nat_le bound p) as (λ b. nat_le bound p ≡ b → cond b bound (cond (test p) p (first_below test bound ps)) ≤ bound) [
-      | true ↦ λ e. omega arith
-      | false ↦ λ e. elim (test p) as (λ b. cond b p (first_below test bound ps) ≤ bound) [ true ↦ grind (arith, e) | false ↦ first-within test bound ps ]
-    ] refl
+first-within test bound (p ∷ ps) = grind (arith, (first-within test bound ps))
 
 pub first-passes : (test : ℕ → Bool) (bound : ℕ) (places : List ℕ) → first_below test bound places < bound → test (first_below test bound places) ≡ true
 first-passes test bound [] less = absurd (omega (arith, less))
@@ -194,16 +154,11 @@ module _ (env : List Variable) (from bound : ℕ) (after : List ℕ) where
 
   -- a variable of another beginning doesn't pass
   fails-other : (place : ℕ) (v : Variable) → slice_get env place ≡ Some v → bytes_eq (beginning after) (beginning v.0) ≡ false → test place ≡ false
-  fails-other place v at other =
-      ap (λ o. nat_le from place && is_some_and (λ (w : Variable). is_followed (rest_after w.0 after)) o) at
-      ∙ (elim (is_followed (rest_after v.0 after)) as (λ b. is_followed (rest_after v.0 after) ≡ b → (nat_le from place && b) ≡ false)
-      [ true ↦ λ e. absurd (false≢true (sym other ∙ same-bytes v.0 after e)) | false ↦ λ e. and-false (nat_le from place) ] refl)
+  fails-other place v at other = grind (arith, false≢true, same-bytes, and-false)
 
   -- this place doesn't pass and neither does any behind it, so none of both does
   or-later : (place i : ℕ) → place ≤ i → test place ≡ false → (place + 1 ≤ i → test i ≡ false) → test i ≡ false
-  or-later place i le here later =
-      elim (eqb place i) as (λ b. eqb place i ≡ b → test i ≡ false)
-      [ true ↦ λ e. subst (λ n. test n ≡ false) (eqb-true place i e) here | false ↦ λ e. later (grind (arith, e, le)) ] refl
+  or-later place i le here later = grind (arith, eqb-true)
 
   pub none-before : (place : ℕ) (vs : List Variable) → ((j : ℕ) → slice_get env (place + j) ≡ slice_get vs j) → bound ≤ place + length vs → (i : ℕ) → place ≤ i → i < first_below test bound (places_from place vs (beginning after)) → test i ≡ false
   none-before place [] at all i le less = absurd (omega (arith, all, le, less))
@@ -240,20 +195,10 @@ module _ (env : List Variable) (from bound : ℕ) (after : List ℕ) where
 -- A text refers to a variable if what follows its first `$` does, or the text behind that.
 
 pub refers-cut : (env : List Variable) (text front after : List ℕ) (place : ℕ) → text ≡ front ++ 36 ∷ after → lacks 36 front ≡ true → refers_at env text place ≡ (follows_at env after place || refers_at env after place)
-refers-cut env text front after place is h =
-    ap (λ found. is_some_and (λ (v : Variable). refers v.0 found) (slice_get env place)) (behind-cut text front after is h) ∙ by (slice_get env place)
-  where
-    by : (o : Option Variable) → is_some_and (λ (v : Variable). refers v.0 (after ∷ behind_dollars after)) o ≡ (is_some_and (λ (v : Variable). is_followed (rest_after v.0 after)) o || is_some_and (λ (v : Variable). refers v.0 (behind_dollars after)) o)
-    by None = refl
-    by (Some v) = refl
+refers-cut env text front after place is h = grind (arith, behind-cut)
 
 pub refers-none : (env : List Variable) (text : List ℕ) (place : ℕ) → lacks 36 text ≡ true → refers_at env text place ≡ false
-refers-none env text place h =
-    ap (λ found. is_some_and (λ (v : Variable). refers v.0 found) (slice_get env place)) (behind-nothing text h) ∙ by (slice_get env place)
-  where
-    by : (o : Option Variable) → is_some_and (λ (v : Variable). refers v.0 []) o ≡ false
-    by None = refl
-    by (Some v) = refl
+refers-none env text place h = grind (arith, behind-nothing)
 
 -- What is expanded first.
 
@@ -269,9 +214,7 @@ module _ (left : ℕ) (text : List ℕ) where
   pub first-referred : (env : List Variable) (from place : ℕ) (v : Variable) → from ≤ place → slice_get env place ≡ Some v → refers v.0 (behind_dollars text) ≡ true → ((i : ℕ) → from ≤ i → i < place → refers_at env text i ≡ false)
       → fold expanded_fitting (Some (left, text)) (drop from env) ≡ fold expanded_fitting (made left (replaced (36 ∷ v.0) v.1 text)) (drop (suc place) env)
   first-referred [] from place v le at told h = cc
-  first-referred (w ∷ env) zero zero v le at told h =
-      let same : w ≡ v = cc in
-      subst (λ (x : Variable). fold expanded_fitting (Some (left, text)) (x ∷ env) ≡ fold expanded_fitting (made left (replaced (36 ∷ v.0) v.1 text)) env) (sym same) (fitting-referred left env v.0 v.1 text told)
+  first-referred (w ∷ env) zero zero v le at told h = grind (arith, fitting-referred)
   first-referred (w ∷ env) zero (suc place) v le at told h =
       fitting-unreferred left env w.0 w.1 text (h 0 (omega arith) (omega arith))
       ∙ first-referred env 0 place v (omega arith) at told (λ i low high. h (suc i) (omega arith) (omega (arith, high)))
@@ -292,11 +235,7 @@ module _ (env : List Variable) (from : ℕ) (text rest front after : List ℕ) (
   cut i low high = so.before i low high ∙ refers-cut env rest front after i is clear
 
   one : next < place → (from ≤ next) × (refers_at env text next ≡ true)
-  one less =
-      let passes : follows_from from env after next ≡ true = subst (λ n. follows_from from env after n ≡ true) (sym found) (first-passes (follows_from from env after) place (places_from 0 env (beginning after)) (subst (λ n. n < place) found less)) in
-      let parts = and_parts (nat_le from next) (follows_at env after next) passes in
-      let low : from ≤ next = grind (arith, parts) in
-      (low, cut next low less ∙ ap (λ b. b || refers_at env after next) parts.1)
+  one less = grind (arith, first-passes, and_parts, cut)
 
   pub first-goes-on : FirstSoFar env from text after next
   first-goes-on = record {
@@ -327,35 +266,14 @@ module _ (left : ℕ) (env : List Variable) (from : ℕ) (text : List ℕ) (plac
   past i le = ap (λ o. is_some_and (λ (v : Variable). refers v.0 (behind_dollars text)) o) (slice_get_past env i le)
 
   pub first-none-there : slice_get env place ≡ None → fold expanded_fitting (Some (left, text)) (drop from env) ≡ Some (left, text)
-  first-none-there none =
-      none-referred left text env from (λ i low.
-      elim (nat_le (length env) i) as (λ b. nat_le (length env) i ≡ b → refers_at env text i ≡ false)
-      [ true ↦ λ e. past i (grind (arith, e)) | false ↦ λ e. first.none_before i low (before i (grind (arith, e))) ]
-      refl)
-    where
-      some : (i : ℕ) → i < length env → slice_get env i ≡ None → ⊥
-      some i less e = let d : Variable = ([], []) in clash (sym (slice_get-get_or env i d less) ∙ e) where
-        clash : {X : Type 0} {x : X} → Some x ≡ None → ⊥
-        clash h = cc
-
-      before : (i : ℕ) → i < length env → i < place
-      before i less =
-          elim (nat_le place i) as (λ b. nat_le place i ≡ b → i < place) [
-            | true ↦ λ e. let w = first.within in let at : place < length env = grind (arith, e, less) in absurd (some place at none)
-            | false ↦ λ e. grind (arith, e)
-          ] refl
+  first-none-there none = grind (arith, none-referred, past, slice_get-get_or)
 
   pub first-there : (v : Variable) → slice_get env place ≡ Some v → fold expanded_fitting (Some (left, text)) (drop from env) ≡ fold expanded_fitting (made left (replaced (36 ∷ v.0) v.1 text)) (drop (suc place) env)
-  first-there v at =
-      let inside : place < length env = slice_get_within env place v at in
-      let is = first.is_one inside in
-      first-referred left text env from place v is.0 at (ap (λ o. is_some_and (λ (w : Variable). refers w.0 (behind_dollars text)) o) (sym at) ∙ is.1) first.none_before
+  first-there v at = grind (arith, slice_get_within, first-referred)
 
 -- the pair at a place, as texts
 pub no-pair : (pairs : List (String Global × String Global)) (env : List Variable) (place : ℕ) → map pair_of pairs ≡ env → length pairs ≤ place → slice_get env place ≡ None
-no-pair pairs env place is le =
-    let size : length env ≡ length pairs = ap length (sym is) ∙ length-map pairs pair_of in
-    slice_get_past env place (omega (arith, size, le))
+no-pair pairs env place is le = grind (arith, length-map, slice_get_past)
 
 pub pair-there : (pairs : List (String Global × String Global)) (env : List Variable) (place : ℕ) (pair : String Global × String Global) → map pair_of pairs ≡ env → slice_get pairs place ≡ Some pair → slice_get env place ≡ Some (pair_of pair)
 pair-there pairs env place pair is at = ap (λ (e : List Variable). slice_get e place) (sym is) ∙ slice_get-map pair_of pairs place ∙ ap (option_map pair_of) at

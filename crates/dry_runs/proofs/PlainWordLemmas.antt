@@ -18,12 +18,10 @@ all-places test [] h = refl
 all-places test (b ∷ bs) h = rw (h 0 (omega arith), all-places test bs (λ i less. h (suc i) (omega (arith, less)))) refl
 
 pub turned : (some none : Bool) → some ≡ not none → none ≡ not some
-turned some true h = sym (ap not h)
-turned some false h = sym (ap not h)
+turned some none h = grind arith
 
 pub none-found : (a b c : ℕ) (text : List ℕ) (r : Option ℕ) → IsFirstByte (is_byte3 a b c) text r → is_none r ≡ list_all (λ x. not (is_byte3 a b c x)) text
-none-found a b c text None h = sym (all-places (λ x. not (is_byte3 a b c x)) text (λ i less. not_from_false _ (false_from_ne_true _ (h i (omega arith) less))))
-none-found a b c text (Some k) h = sym (list_all_at (λ x. not (is_byte3 a b c x)) text k 0 h.0.high (ap not h.1))
+none-found a b c text r h = grind (arith, all-places, not_from_false, false_from_ne_true, list_all_at)
 
 -- ---- the code's cuts
 
@@ -31,32 +29,25 @@ inside-word : (word behind : List ℕ) → lacks 32 word ≡ true → cut true (
 inside-word [] behind h = refl
 inside-word (c ∷ cs) behind h =
     let parts = and_parts (not (eqb c 32)) (lacks 32 cs) h in
-    rw (not-true (eqb c 32) parts.0, inside-word cs behind parts.1) refl
+    grind (arith, not-true, (inside-word cs behind parts.1))
 
 inside-last : (word : List ℕ) → lacks 32 word ≡ true → cut true word ≡ word ∷ []
 inside-last [] h = refl
 inside-last (c ∷ cs) h =
     let parts = and_parts (not (eqb c 32)) (lacks 32 cs) h in
-    rw (not-true (eqb c 32) parts.0, inside-last cs parts.1) refl
+    grind (arith, not-true, (inside-last cs parts.1))
 
 pub between-cut : (text word behind : List ℕ) → text ≡ word ++ 32 ∷ behind → lacks 32 word ≡ true → between text ≡ word_of word ++ between behind
-between-cut text [] behind is h = ap between is
-between-cut text (c ∷ cs) behind is h =
-    let parts = and_parts (not (eqb c 32)) (lacks 32 cs) h in
-    ap between is ∙ rw (not-true (eqb c 32) parts.0, inside-word cs behind parts.1) refl
+between-cut text word behind is h = grind (arith, and_parts, not-true, inside-word)
 
 pub between-last : (word : List ℕ) → lacks 32 word ≡ true → between word ≡ word_of word
-between-last [] h = refl
-between-last (c ∷ cs) h =
-    let parts = and_parts (not (eqb c 32)) (lacks 32 cs) h in
-    rw (not-true (eqb c 32) parts.0, inside-last cs parts.1) refl
+between-last word h = grind (arith, and_parts, not-true, inside-last)
 
 -- ---- bytes and characters
 
 -- a text without a space, put before the rest of a word
 prepended : (c : ℕ) (bs : List ℕ) (words : List (List ℕ)) → prepend (c ∷ []) (prepend bs words) ≡ prepend (c ∷ bs) words
-prepended c bs [] = refl
-prepended c bs (w ∷ words) = refl
+prepended c bs words = grind arith
 
 cut-inside : (bs rest : List ℕ) → lacks 32 bs ≡ true → cut true (bs ++ rest) ≡ prepend bs (cut true rest)
 cut-inside [] rest h = sym (prepend-nothing (cut true rest)) where
@@ -65,14 +56,12 @@ cut-inside [] rest h = sym (prepend-nothing (cut true rest)) where
   prepend-nothing (w ∷ words) = refl
 cut-inside (b ∷ bs) rest h =
     let parts = and_parts (not (eqb b 32)) (lacks 32 bs) h in
-    rw (not-true (eqb b 32) parts.0, cut-inside bs rest parts.1) (prepended b bs (cut true rest))
+    grind (arith, not-true, prepended, (cut-inside bs rest parts.1))
 
 cut-bytes : (inside : Bool) (bs rest : List ℕ) → 0 < length bs → lacks 32 bs ≡ true → cut inside (bs ++ rest) ≡ prepend bs (cut true rest)
 cut-bytes inside [] rest some h = absurd (omega (arith, some))
 cut-bytes true (b ∷ bs) rest some h = cut-inside (b ∷ bs) rest h
-cut-bytes false (b ∷ bs) rest some h =
-    let parts = and_parts (not (eqb b 32)) (lacks 32 bs) h in
-    rw (not-true (eqb b 32) parts.0, cut-inside bs rest parts.1) (prepended b bs (cut true rest))
+cut-bytes false (b ∷ bs) rest some h = grind (arith, and_parts, not-true, cut-inside, prepended)
 
 encoded-lacks : (c : ℕ) → eqb c 32 ≡ false → lacks 32 (encode_utf8 c) ≡ true
 encoded-lacks c other = lacks-places 32 (encode_utf8 c) (λ i less e. false≢true (sym other ∙ (Decides-eqb c 32).1 (inside_one c [] (encode_utf8 c) i (sym (append-nil (encode_utf8 c))) less (omega (arith, e)) ∙ e)))
@@ -81,28 +70,13 @@ encoded-some : (c : ℕ) → 0 < length (encode_utf8 c)
 encoded-some c = omega (arith, length-encode c, len_utf8_bounds c)
 
 encoded-prepend : (c : ℕ) (words : List (List ℕ)) → map encode_utf8_all (prepend (c ∷ []) words) ≡ prepend (encode_utf8 c) (map encode_utf8_all words)
-encoded-prepend c [] = refl
-encoded-prepend c (w ∷ words) = refl
+encoded-prepend c words = grind arith
 
 -- the parts of characters are those of their bytes
 cut-encoded : (inside : Bool) (cs : List ℕ) → cut inside (encode_utf8_all cs) ≡ map encode_utf8_all (cut inside cs)
 cut-encoded true [] = refl
 cut-encoded false [] = refl
-cut-encoded inside (c ∷ cs) =
-    elim (eqb c 32) as (λ b. eqb c 32 ≡ b → cut inside (encode_utf8_all (c ∷ cs)) ≡ map encode_utf8_all (cut inside (c ∷ cs))) [
-      | true ↦ λ e. subst (λ x. cut inside (encode_utf8_all (x ∷ cs)) ≡ map encode_utf8_all (cut inside (x ∷ cs))) (sym (eqb-true c 32 e)) (at-space inside (cut-encoded false cs))
-      | false ↦ λ e.
-          cut-bytes inside (encode_utf8 c) (encode_utf8_all cs) (encoded-some c) (encoded-lacks c e)
-          ∙ ap (prepend (encode_utf8 c)) (cut-encoded true cs) ∙ sym (encoded-prepend c (cut true cs))
-          ∙ ap (map encode_utf8_all) (sym (at-other inside e))
-    ] refl where
-      at-space : (inside : Bool) → cut false (encode_utf8_all cs) ≡ map encode_utf8_all (cut false cs) → cut inside (encode_utf8_all (32 ∷ cs)) ≡ map encode_utf8_all (cut inside (32 ∷ cs))
-      at-space true later = ap (λ bs. cut true (bs ++ encode_utf8_all cs)) (encode_ascii 32 (omega arith)) ∙ ap (λ ws. [] ∷ ws) later
-      at-space false later = ap (λ bs. cut false (bs ++ encode_utf8_all cs)) (encode_ascii 32 (omega arith)) ∙ later
-
-      at-other : (inside : Bool) → eqb c 32 ≡ false → cut inside (c ∷ cs) ≡ prepend (c ∷ []) (cut true cs)
-      at-other true e = rw e refl
-      at-other false e = rw e refl
+cut-encoded inside (c ∷ cs) = grind (arith, eqb-true, cut-bytes, encoded-some, encoded-lacks, encoded-prepend, encode_ascii, (cut-encoded false cs), (cut-encoded true cs))
 
 -- ---- the state machine
 
@@ -120,13 +94,7 @@ record Others (c : ℕ) : Type 0 where
   pub double : eqb c 34 ≡ false
 
 others : (c : ℕ) → plain c ≡ true → Others c
-others c h =
-    let both = and_parts (not (is_byte3 34 39 92 c)) (not (is_byte3 9 10 35 c)) h in
-    let quotes = or_parts ((eqb c 34) || (eqb c 39)) (eqb c 92) (not-true _ both.0) in
-    let two = or_parts (eqb c 34) (eqb c 39) quotes.0 in
-    let blanks = or_parts ((eqb c 9) || (eqb c 10)) (eqb c 35) (not-true _ both.1) in
-    let lines = or_parts (eqb c 9) (eqb c 10) blanks.0 in
-    record { tab = lines.0; newline = lines.1; hash = blanks.1; backslash = quotes.1; single = two.1; double = two.0 }
+others c h = grind (arith, and_parts, or_parts, not-true)
 
 -- The state inside a word is the one behind a letter, and the state between words the one behind a comment's end.
 words-plain : (inside : Bool) (cs : List ℕ) → list_all plain cs ≡ true → words_from (cond inside (reads_word 97).0 (reads_comment 10).0) cs ≡ Some (cut inside cs)
@@ -134,30 +102,18 @@ words-plain true [] h = refl
 words-plain false [] h = refl
 words-plain inside (c ∷ cs) h =
     let parts = and_parts (plain c) (list_all plain cs) h in
-    elim (eqb c 32) as (λ b. eqb c 32 ≡ b → words_from (cond inside (reads_word 97).0 (reads_comment 10).0) (c ∷ cs) ≡ Some (cut inside (c ∷ cs)))
-    [ true ↦ λ e. subst (λ x. words_from (cond inside (reads_word 97).0 (reads_comment 10).0) (x ∷ cs) ≡ Some (cut inside (x ∷ cs))) (sym (eqb-true c 32 e)) (at-space inside (words-plain false cs parts.1)) | false ↦ λ e. at-other inside e (others c parts.0) (words-plain true cs parts.1) ] refl where
-      at-space : (inside : Bool) → words_from (reads_comment 10).0 cs ≡ Some (cut false cs) → words_from (cond inside (reads_word 97).0 (reads_comment 10).0) (32 ∷ cs) ≡ Some (cut inside (32 ∷ cs))
-      at-space true later = ap (option_map (λ words. [] ∷ words)) later
-      at-space false later = ap (option_map (λ words. words)) later
-
-      at-other : (inside : Bool) → eqb c 32 ≡ false → Others c → words_from (reads_word 97).0 cs ≡ Some (cut true cs) → words_from (cond inside (reads_word 97).0 (reads_comment 10).0) (c ∷ cs) ≡ Some (cut inside (c ∷ cs))
-      at-other true e o later = rw (e, o.tab, o.newline, o.backslash, o.single, o.double) (ap (option_map (λ words. prepend (c ∷ []) words)) later)
-      at-other false e o later = rw (e, o.tab, o.newline, o.hash, o.backslash, o.single, o.double) (ap (option_map (λ words. prepend (c ∷ []) words)) later)
+    grind (arith, eqb-true, others, (words-plain false cs parts.1), (words-plain true cs parts.1))
 
 -- ---- a plain text is made of plain characters
 
 encoded-plain : (c : ℕ) (rest : List ℕ) → list_all plain (encode_utf8 c ++ rest) ≡ true → plain c ≡ true
-encoded-plain c rest h =
-    elim (plain c) as (λ b. plain c ≡ b → b ≡ true)
-    [ true ↦ λ e. refl | false ↦ λ e. absurd (false≢true (sym (ap (λ b. b && list_all plain rest) e) ∙ subst (λ bs. list_all plain (bs ++ rest) ≡ true) (encode_ascii c (special-ascii c e)) h)) ] refl where
-      special-ascii : (c : ℕ) → plain c ≡ false → c < 128
-      special-ascii c e = grind (arith, nat_tests)
+encoded-plain c rest h = grind (arith, false≢true, encode_ascii, nat_tests)
 
 chars-plain : (cs : List ℕ) → list_all plain (encode_utf8_all cs) ≡ true → list_all plain cs ≡ true
 chars-plain [] h = refl
 chars-plain (c ∷ cs) h =
     let parts = and_parts (list_all plain (encode_utf8 c)) (list_all plain (encode_utf8_all cs)) (sym (list_all-append plain (encode_utf8 c) (encode_utf8_all cs)) ∙ h) in
-    rw (encoded-plain c (encode_utf8_all cs) h, chars-plain cs parts.1) refl
+    grind (arith, encoded-plain, (chars-plain cs parts.1))
 
 both-plain : (bs : List ℕ) → is_plain bs ≡ true → list_all plain bs ≡ true
 both-plain [] h = refl
@@ -165,7 +121,7 @@ both-plain (b ∷ bs) h =
     let whole = and_parts (list_all (λ c. not (is_byte3 34 39 92 c)) (b ∷ bs)) (list_all (λ c. not (is_byte3 9 10 35 c)) (b ∷ bs)) h in
     let one = and_parts (not (is_byte3 34 39 92 b)) (list_all (λ c. not (is_byte3 34 39 92 c)) bs) whole.0 in
     let two = and_parts (not (is_byte3 9 10 35 b)) (list_all (λ c. not (is_byte3 9 10 35 c)) bs) whole.1 in
-    rw (one.0, two.0) (both-plain bs (rw (one.1, two.1) refl))
+    grind (arith, (both-plain bs (rw (one.1, two.1) refl)))
 
 pub plain-words : (text : List ℕ) → IsUtf8 text → is_plain text ≡ true → Some (between text) ≡ shell_words text
 plain-words text utf8 h =

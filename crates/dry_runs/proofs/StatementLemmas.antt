@@ -1,11 +1,7 @@
 -- What a line says, by whether it is text, and what it means.
-use Rattle.std.proofs.Common.{◌≡◌, ℕ, List, Option, Some, None, refl, true, false, cond}
-use Rattle.std.specs.Str.{is_utf8}
+use Rattle.std.proofs.Common.{◌≡◌, ℕ, List, Option, Some, None, refl, true, false, cond, arith}
 use Rattle.texts.specs.declared.fault.Fault.TheVariants as fault
-use Rattle.shell_words.specs.Shell.Splitting.{shell_words}
-use Rattle.dry_runs.specs.declared.statement.Statement.TheVariants.{NotUtf8}
 use Rattle.dry_runs.specs.DryRun.{LookUp, Bad, meaning, meaning_marked, meaning_assigned, meaning_of_words}
-use Rattle.dry_runs.specs.DryRunLines.{marked_text}
 use Rattle.dry_runs.specs.Environment.{Variable, assignment, expanded}
 use Rattle.dry_runs.specs.Reading.{meaning_stated}
 use Rattle.dry_runs.specs.Statement.{stated, stated_marked, stated_assigned, stated_by_words}
@@ -13,19 +9,13 @@ use Rattle.dry_runs.specs.Statement.{stated, stated_marked, stated_assigned, sta
 -- a line means what it says, once its program is looked up
 module _ (which : LookUp) (run : ℕ) (cwd : List ℕ) (number : ℕ) (env : List Variable) where
   by-words : (words : Option (List (List ℕ))) → meaning_stated which run cwd number env (stated_by_words words) ≡ meaning_of_words which run cwd number env words
-  by-words None = refl
-  by-words (Some words) = refl
+  by-words words = grind arith
 
   by-assigned : (text : List ℕ) (v : Option Variable) → meaning_stated which run cwd number env (stated_assigned env text v) ≡ meaning_assigned which run cwd number env text v
-  by-assigned text None = by-words (shell_words (expanded env text))
-  by-assigned text (Some v) = refl
+  by-assigned text v = grind (arith, by-words)
 
   by-marked : (text : Option (List ℕ)) → meaning_stated which run cwd number env (stated_marked env text) ≡ meaning_marked which run cwd number env text
-  by-marked None = refl
-  by-marked (Some text) = by-assigned text (assignment text)
+  by-marked text = grind (arith, by-assigned)
 
   pub meaning-stated : (line : List ℕ) → meaning_stated which run cwd number env (stated env line) ≡ meaning which run cwd env (number, line)
-  meaning-stated line =
-      elim (is_utf8 line)
-      as (λ b. meaning_stated which run cwd number env (cond b (stated_marked env (marked_text line)) NotUtf8) ≡ cond b (meaning_marked which run cwd number env (marked_text line)) (Bad (fault.NotUtf8 run number)))
-      [ true ↦ by-marked (marked_text line) | false ↦ refl ]
+  meaning-stated line = grind (arith, by-marked)

@@ -105,9 +105,7 @@ last_item-dashes e = elim (may_stand_last e.form) as (λ b. is_double_dash (cond
 
 -- an item leaves no more words than there were
 pub words-completed : (s : Said ArgData) (before : List (List ℕ)) (i : Item ArgData) (after : List (List ℕ)) → Completes s before i after → length after ≤ length before
-words-completed (item j) before i after h = rw h.1 (omega arith)
-words-completed (option e) [] i after h = rw h.1 (omega arith)
-words-completed (option e) (x ∷ rest) i after h = rw h.1 (omega arith)
+words-completed s before i after h = grind arith
 
 module _ (chosen : List ℕ → Option (Entry ArgData)) where
   -- the items of a line that an item begins
@@ -115,16 +113,13 @@ module _ (chosen : List ℕ → Option (Entry ArgData)) where
   begun i after = cond (is_double_dash i) (map raw after) (i ∷ items_to_dashes chosen after)
 
   last_begun : (s : Said ArgData) (i : Item ArgData) (after : List (List ℕ)) → Completes s [] i after → (elim s as (λ _. List (Item ArgData)) [ item j ↦ cond (is_double_dash j) [] (j ∷ []) | option e ↦ last_item e ∷ [] ]) ≡ begun i after
-  last_begun (item j) i after h = rw (h.0, h.1) refl
-  last_begun (option e) i after h = rw (h.0, h.1, last_item-dashes e) refl
+  last_begun s i after h = grind (arith, last_item-dashes)
 
   next_begun : (s : Said ArgData) (x : List ℕ) (rest : List (List ℕ)) (i : Item ArgData) (after : List (List ℕ)) → Completes s (x ∷ rest) i after → (elim s as (λ _. List (Item ArgData)) [ item j ↦ cond (is_double_dash j) (map raw (x ∷ rest)) (j ∷ items_to_dashes chosen (x ∷ rest)) | option e ↦ separate_item e x ∷ items_to_dashes chosen rest ]) ≡ begun i after
-  next_begun (item j) x rest i after h = rw (h.0, h.1) refl
-  next_begun (option e) x rest i after h = rw (h.0, h.1) refl
+  next_begun s x rest i after h = grind arith
 
   items_to_dashes-completed : (w : List ℕ) (before : List (List ℕ)) (i : Item ArgData) (after : List (List ℕ)) → Completes (said_of w (chosen w)) before i after → items_to_dashes chosen (w ∷ before) ≡ begun i after
-  items_to_dashes-completed w [] i after h = last_begun (said_of w (chosen w)) i after h
-  items_to_dashes-completed w (x ∷ rest) i after h = next_begun (said_of w (chosen w)) x rest i after h
+  items_to_dashes-completed w before i after h = grind (arith, last_begun, next_begun)
 
   has_double_dash-completed : (w : List ℕ) (before : List (List ℕ)) (i : Item ArgData) (after : List (List ℕ)) → Completes (said_of w (chosen w)) before i after → has_double_dash chosen (w ∷ before) ≡ (is_double_dash i || has_double_dash chosen after)
   has_double_dash-completed w before i after h = ap (list_any is_double_dash) (items-completed chosen w before i after h)
@@ -132,31 +127,16 @@ module _ (chosen : List ℕ → Option (Entry ArgData)) where
   module _ (cwd : List ℕ) (g : Asked) (w : List ℕ) (before : List (List ℕ)) (i : Item ArgData) (after : List (List ℕ)) (h : Completes (said_of w (chosen w)) before i after) where
     -- what a line asks for that an item begins which is no `--`
     begun_by : is_double_dash i ≡ false → gathering_after chosen cwd g (w ∷ before) ≡ unless_refused (option_or (refusal_of i) (first_refusal (items_to_dashes chosen after))) (added cwd g (has_double_dash chosen after) (i ∷ items_to_dashes chosen after))
-    begun_by other =
-        let is : items_to_dashes chosen (w ∷ before) ≡ i ∷ items_to_dashes chosen after = items_to_dashes-completed w before i after h ∙ ap (λ b. cond b (map raw after) (i ∷ items_to_dashes chosen after)) other in
-        let dashes : has_double_dash chosen (w ∷ before) ≡ has_double_dash chosen after = has_double_dash-completed w before i after h ∙ ap (λ b. b || has_double_dash chosen after) other in
-        ap (λ (js : List (Item ArgData)). unless_refused (first_refusal js) (added cwd g (has_double_dash chosen (w ∷ before)) js)) is
-        ∙ ap (λ b. unless_refused (first_refusal (i ∷ items_to_dashes chosen after)) (added cwd g b (i ∷ items_to_dashes chosen after))) dashes
+    begun_by other = grind (arith, items_to_dashes-completed, has_double_dash-completed)
 
     -- an item that doesn't refuse is taken
     pub after_item : is_double_dash i ≡ false → refusal_of i ≡ None → gathering_after chosen cwd g (w ∷ before) ≡ gathering_after chosen cwd (with_item cwd g i) after
-    after_item other none =
-        begun_by other
-        ∙ ap (λ r. unless_refused (option_or r (first_refusal (items_to_dashes chosen after))) (added cwd g (has_double_dash chosen after) (i ∷ items_to_dashes chosen after))) none
-        ∙ ap (unless_refused (first_refusal (items_to_dashes chosen after))) (sym (item-added cwd g (has_double_dash chosen after) i (items_to_dashes chosen after)))
+    after_item other none = grind (arith, begun_by, item-added)
 
     -- an item that refuses decides
     pub after_refusal : (text : List ℕ) → is_double_dash i ≡ false → refusal_of i ≡ Some text → gathering_after chosen cwd g (w ∷ before) ≡ Err text
-    after_refusal text other some =
-        begun_by other
-        ∙ ap (λ r. unless_refused (option_or r (first_refusal (items_to_dashes chosen after))) (added cwd g (has_double_dash chosen after) (i ∷ items_to_dashes chosen after))) some
+    after_refusal text other some = grind (arith, begun_by)
 
     -- after `--` each word is an input
     pub after_dashes : is_double_dash i ≡ true → gathering_after chosen cwd g (w ∷ before) ≡ Ok (record g { inputs = g.inputs ++ after; double_dash_input = true })
-    after_dashes dashes =
-        let is : items_to_dashes chosen (w ∷ before) ≡ map raw after = items_to_dashes-completed w before i after h ∙ ap (λ b. cond b (map raw after) (i ∷ items_to_dashes chosen after)) dashes in
-        let stands : has_double_dash chosen (w ∷ before) ≡ true = has_double_dash-completed w before i after h ∙ ap (λ b. b || has_double_dash chosen after) dashes in
-        ap (λ (js : List (Item ArgData)). unless_refused (first_refusal js) (added cwd g (has_double_dash chosen (w ∷ before)) js)) is
-        ∙ ap (λ b. unless_refused (first_refusal (map raw after)) (added cwd g b (map raw after))) stands
-        ∙ ap (λ r. unless_refused r (added cwd g true (map raw after))) (first_refusal-raw after)
-        ∙ ap Ok (added-raw cwd g after)
+    after_dashes dashes = grind (arith, items_to_dashes-completed, has_double_dash-completed, first_refusal-raw, added-raw)

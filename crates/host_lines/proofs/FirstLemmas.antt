@@ -1,8 +1,6 @@
 -- The words that stand first, gathered one by one.
-use Rattle.std.proofs.Common.{◌≡◌, ◌∙◌, ℕ, List, [], ◌∷◌, ◌++◌, Bool, true, false, ◌||◌, not, cond, Some, Bor, map, filter, refl, sym, ap, subst, append_assoc}
+use Rattle.std.proofs.Common.{◌≡◌, ◌∙◌, ℕ, List, [], ◌∷◌, ◌++◌, Bool, true, false, ◌||◌, not, cond, Some, Bor, map, filter, refl, sym, ap, subst, append_assoc, if◌then◌else◌, bytes_eq, arith}
 use Rattle.std.specs.List.{list_any}
-use Rattle.std.specs.Prelude.{if◌then◌else◌}
-use Rattle.std.specs.Str.{bytes_eq}
 use Rattle.std.proofs.lemmas.List.Folds.{list_any-append}
 use Rattle.std.proofs.lemmas.Slice.Eq.{bytes_eq-Decides}
 use Rattle.std.proofs.lemmas.Bool.{false≢true}
@@ -19,13 +17,7 @@ stands-map f word [] = refl
 stands-map f word (x ∷ xs) = ap (λ t. bytes_eq word (f x) || t) (stands-map f word xs)
 
 either_way : (a b : List ℕ) → bytes_eq a b ≡ bytes_eq b a
-either_way a b =
-    elim (bytes_eq a b) as (λ t. bytes_eq a b ≡ t → t ≡ bytes_eq b a) [
-      | true ↦ λ e. sym ((bytes_eq-Decides b a).1 (sym ((bytes_eq-Decides a b).0 e)))
-      | false ↦ λ e.
-          elim (bytes_eq b a) as (λ t. bytes_eq b a ≡ t → false ≡ t)
-          [ true ↦ λ f. elim (false≢true (sym e ∙ (bytes_eq-Decides a b).1 (sym ((bytes_eq-Decides b a).0 f)))) [ ] | false ↦ λ f. refl ] refl
-    ] refl
+either_way a b = grind (arith, bytes_eq-Decides, false≢true)
 
 -- the words that don't stand among those seen
 abbrev pub unseen : List (List ℕ) → List (List ℕ) → List (List ℕ)
@@ -40,35 +32,23 @@ unseen_at_first [] = refl
 unseen_at_first (word ∷ words) = ap (λ t. word ∷ t) (unseen_at_first words)
 
 filter_cond : {X : Type 0} (p : X → Bool) (b : Bool) (x : X) (ys : List X) → filter p (cond b (x ∷ ys) ys) ≡ cond b (cond (p x) (x ∷ filter p ys) (filter p ys)) (filter p ys)
-filter_cond p true x ys = refl
-filter_cond p false x ys = refl
+filter_cond p b x ys = grind arith
 
 more_step : (a b : Bool) (x : List ℕ) (us vs : List (List ℕ)) → us ≡ vs → cond (not (a || (b || false))) (x ∷ us) us ≡ cond (not b) (cond (not a) (x ∷ vs) vs) vs
-more_step true true x us vs e = e
-more_step true false x us vs e = e
-more_step false true x us vs e = e
-more_step false false x us vs e = ap (λ t. x ∷ t) e
+more_step a b x us vs e = grind arith
 
 -- one more word seen
 unseen_after : (seen : List (List ℕ)) (word : List ℕ) (words : List (List ℕ)) → unseen (seen ++ word ∷ []) words ≡ unseen seen (others word words)
 unseen_after seen word [] = refl
-unseen_after seen word (x ∷ xs) =
-    ap (λ (t : Bool). cond (not t) (x ∷ unseen (seen ++ word ∷ []) xs) (unseen (seen ++ word ∷ []) xs)) (list_any-append (bytes_eq x) seen (word ∷ []) ∙ ap (λ b. stands seen x || (b || false)) (either_way x word))
-    ∙ more_step (stands seen x) (bytes_eq word x) x (unseen (seen ++ word ∷ []) xs) (unseen seen (others word xs)) (unseen_after seen word xs)
-    ∙ sym (filter_cond (λ w. not (stands seen w)) (not (bytes_eq word x)) x (others word xs))
+unseen_after seen word (x ∷ xs) = grind (arith, list_any-append, either_way, more_step, filter_cond, (unseen_after seen word xs))
 
 same_step : (a b : Bool) → (b ≡ true → a ≡ true) → (x : List ℕ) (us vs : List (List ℕ)) → vs ≡ us → cond (not b) (cond (not a) (x ∷ vs) vs) vs ≡ cond (not a) (x ∷ us) us
-same_step true true h x us vs e = e
-same_step true false h x us vs e = e
-same_step false true h x us vs e = elim (false≢true (h refl)) [ ]
-same_step false false h x us vs e = ap (λ t. x ∷ t) e
+same_step a b h x us vs e = grind (arith, false≢true)
 
 -- a word that was seen before
 unseen_again : (seen : List (List ℕ)) (word : List ℕ) → stands seen word ≡ true → (words : List (List ℕ)) → unseen seen (others word words) ≡ unseen seen words
 unseen_again seen word h [] = refl
-unseen_again seen word h (x ∷ xs) =
-    filter_cond (λ w. not (stands seen w)) (not (bytes_eq word x)) x (others word xs)
-    ∙ same_step (stands seen x) (bytes_eq word x) (λ e. subst (λ t. stands seen t ≡ true) ((bytes_eq-Decides word x).0 e) h) x (unseen seen xs) (unseen seen (others word xs)) (unseen_again seen word h xs)
+unseen_again seen word h (x ∷ xs) = grind (arith, filter_cond, same_step, bytes_eq-Decides, (unseen_again seen word h xs))
 
 pub new_word : (seen : List (List ℕ)) (word : List ℕ) (words : List (List ℕ)) → stands seen word ≡ false → (seen ++ word ∷ []) ++ unseen (seen ++ word ∷ []) (first_appearances words) ≡ seen ++ unseen seen (first_appearances (word ∷ words))
 new_word seen word words e =
@@ -77,26 +57,18 @@ new_word seen word words e =
     ∙ ap (λ (b : Bool). seen ++ cond (not b) (word ∷ unseen seen (others word (first_appearances words))) (unseen seen (others word (first_appearances words)))) (sym e)
 
 pub seen_word : (seen : List (List ℕ)) (word : List ℕ) (words : List (List ℕ)) → stands seen word ≡ true → seen ++ unseen seen (first_appearances words) ≡ seen ++ unseen seen (first_appearances (word ∷ words))
-seen_word seen word words e =
-    ap (λ t. seen ++ t) (sym (unseen_again seen word e (first_appearances words)))
-    ∙ ap (λ (b : Bool). seen ++ cond (not b) (word ∷ unseen seen (others word (first_appearances words))) (unseen seen (others word (first_appearances words)))) (sym e)
+seen_word seen word words e = grind (arith, unseen_again)
 
 -- a test by what its contrary is
 pub not_true : (b : Bool) → not b ≡ true → b ≡ false
-not_true true e = elim (false≢true e) [ ]
-not_true false e = refl
+not_true b e = grind (arith, false≢true)
 
 pub not_false : (b : Bool) → not b ≡ false → b ≡ true
-not_false true e = refl
-not_false false e = elim (false≢true (sym e)) [ ]
+not_false b e = grind (arith, false≢true)
 
 -- one more word, seen before or not
 pub next_word : (seen : List (List ℕ)) (word : List ℕ) (words : List (List ℕ)) → with_name seen (Some word) ++ unseen (with_name seen (Some word)) (first_appearances words) ≡ seen ++ unseen seen (first_appearances (word ∷ words))
-next_word seen word words =
-    elim (stands seen word) as (λ b. stands seen word ≡ b → (if b then seen else seen ++ word ∷ []) ++ unseen (if b then seen else seen ++ word ∷ []) (first_appearances words) ≡ seen ++ unseen seen (first_appearances (word ∷ words))) [
-      | true ↦ λ e. seen_word seen word words e
-      | false ↦ λ e. new_word seen word words e
-    ] refl
+next_word seen word words = grind (arith, seen_word, new_word)
 
 -- Keys seen, which are the words so far. One more word is a new key (`added`), or not.
 module _ (keys after : List (Bor (List ℕ))) (key : Bor (List ℕ)) (first : List (List ℕ)) (added : Bool) where
@@ -108,12 +80,8 @@ module _ (keys after : List (Bor (List ℕ))) (key : Bor (List ℕ)) (first : Li
 
   pub known_key : map (λ (k : Bor (List ℕ)). k.now) keys ≡ first → after ≡ cond found keys (keys ++ key ∷ []) → added ≡ not found → added ≡ false →
       (map (λ (k : Bor (List ℕ)). k.now) after ≡ first) × (first ≡ with_name first (Some key.now))
-  known_key h a e f =
-      let present : found ≡ true = not_false found (sym e ∙ f) in
-      (ap (map (λ (k : Bor (List ℕ)). k.now)) (a ∙ ap (λ b. cond b keys (keys ++ key ∷ [])) present) ∙ h, sym (ap (λ (b : Bool). if b then first else first ++ key.now ∷ []) (sym (alike h) ∙ present)))
+  known_key h a e f = grind (arith, not_false, alike)
 
   pub new_key : map (λ (k : Bor (List ℕ)). k.now) keys ≡ first → after ≡ cond found keys (keys ++ key ∷ []) → added ≡ not found → added ≡ true →
       (map (λ (k : Bor (List ℕ)). k.now) after ≡ first ++ key.now ∷ []) × (first ++ key.now ∷ [] ≡ with_name first (Some key.now))
-  new_key h a e t =
-      let absent : found ≡ false = not_true found (sym e ∙ t) in
-      (ap (map (λ (k : Bor (List ℕ)). k.now)) (a ∙ ap (λ b. cond b keys (keys ++ key ∷ [])) absent) ∙ (map-append (λ (k : Bor (List ℕ)). k.now) keys (key ∷ []) ∙ ap (λ t. t ++ key.now ∷ []) h), sym (ap (λ (b : Bool). if b then first else first ++ key.now ∷ []) (sym (alike h) ∙ absent)))
+  new_key h a e t = grind (arith, not_true, map-append, alike)

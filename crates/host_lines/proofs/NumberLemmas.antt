@@ -3,7 +3,6 @@ use Rattle.std.proofs.Common.{◌≡◌, ◌∙◌, ℕ, ◌<◌, ◌^◌, ◌==
 use Rattle.std.specs.Result.{OkIff, result_ok}
 use Rattle.std.specs.Str.{all_ascii_digits}
 use Rattle.std.specs.Str.Parse.{ParsesUnsigned}
-use Rattle.std.specs.Cmp.Derive.{both_true}
 use Rattle.std.proofs.lemmas.Bool.{cond-true, eqb-false, false≢true}
 use Rattle.std.proofs.lemmas.Str.Parse.{IsNumeralModel, numerals_by_fold, parse_plain, parse_plus}
 use Rattle.host_lines.specs.KeepThreads.{digits_after, is_number, number_of}
@@ -12,19 +11,11 @@ numerals : IsNumeralModel (λ ds. all_ascii_digits ds ≡ true) (digits_after 0)
 numerals = numerals_by_fold _ (search rules) digits_after (search rules)
 
 both : (a b : Bool) → (a && b) ≡ true → (a ≡ true) × (b ≡ true)
-both true b e = (refl, e)
-both false b e = absurd (false≢true e)
+both a b e = grind (arith, false≢true)
 
 -- the digits after the sign
 digits_parsed : {E : Type 0} (ds : List ℕ) (r : Result ℕ E) → OkIff r ((all_ascii_digits ds ≡ true) × (0 < length ds) × (digits_after 0 ds < 2 ^ 64)) (digits_after 0 ds) → result_ok r ≡ cond (is_number ds) (Some (digits_after 0 ds)) None
-digits_parsed [] (Ok x) h = absurd (omega (arith, h.0.1))
-digits_parsed [] (Err e) h = refl
-digits_parsed (c ∷ cs) (Ok x) h = ap Some h.1 ∙ sym (cond-true (is_number (c ∷ cs)) _ _ (both_true h.0.0 (lt-ltb (digits_after 0 (c ∷ cs)) (2 ^ 64) h.0.2)))
-digits_parsed (c ∷ cs) (Err e) h =
-    elim (is_number (c ∷ cs))
-    as (λ b. is_number (c ∷ cs) ≡ b → None ≡ cond b (Some (digits_after 0 (c ∷ cs))) None)
-    [ true ↦ λ yes. let parts = both (all_ascii_digits (c ∷ cs)) (nat_lt (digits_after 0 (c ∷ cs)) (2 ^ 64)) yes in absurd (h (parts.0, omega arith, ltb-true (digits_after 0 (c ∷ cs)) (2 ^ 64) parts.1)) | false ↦ λ no. refl ]
-    refl
+digits_parsed ds r h = grind (arith, cond-true, lt-ltb, both, ltb-true)
 
 -- the number that `parse` gives, if it gives one
 pub number_parsed : {E : Type 0} (bs : List ℕ) (r : Result ℕ E) → ParsesUnsigned 64 10 bs r → result_ok r ≡ number_of bs

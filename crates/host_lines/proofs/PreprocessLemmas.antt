@@ -6,10 +6,8 @@ use Rattle.host_lines.specs.Preprocess.{with_words, preprocess_commands}
 
 -- there are two where words for the dependencies are
 pub two-commands : (common : SingleCompileCommand) (dependency code : List (List ℕ)) → (length dependency == 0) ≡ false → with_words common dependency ∷ with_words common code ∷ [] ≡ preprocess_commands common dependency code
-two-commands common [] code h = absurd (false≢true (sym h))
-two-commands common (word ∷ words) code h = refl
+two-commands common dependency code h = grind (arith, false≢true)
 
 -- there is one where none are
 pub one-command : (common : SingleCompileCommand) (dependency code : List (List ℕ)) → (length dependency == 0) ≡ true → with_words common code ∷ [] ≡ preprocess_commands common dependency code
-one-command common [] code h = refl
-one-command common (word ∷ words) code h = absurd (omega (arith, eqb-true (length (word ∷ words)) 0 h))
+one-command common dependency code h = grind (arith, eqb-true)

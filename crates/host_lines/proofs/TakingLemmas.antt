@@ -1,5 +1,5 @@
 -- What a loop over the words gathers is what the filters say.
-use Rattle.std.proofs.Common.{◌≡◌, ◌∙◌, ℕ, List, [], ◌∷◌, ◌++◌, Bool, true, false, ◌||◌, cond, Option, Some, None, filter, refl, sym, append_assoc, append-nil}
+use Rattle.std.proofs.Common.{◌≡◌, ◌∙◌, ℕ, List, [], ◌∷◌, ◌++◌, Bool, true, false, ◌||◌, cond, Option, Some, None, filter, refl, sym, append_assoc, append-nil, arith}
 use Rattle.std.specs.List.{filter_map, cons_option, list_any, fold}
 use Rattle.host_lines.specs.declared.nvcc.taking.KeepWords.{KeepWords}
 use Rattle.host_lines.specs.declared.nvcc.taking.ThreadWords.{ThreadWords}
@@ -14,20 +14,16 @@ kept_word false so_far p rest = refl
 
 -- the last of the items, one of which is put in front where a test says so
 last_kept : (b : Bool) (before : Option (List ℕ)) (p : Bool × List ℕ) (rest : List (Bool × List ℕ)) → fold (λ _ x. Some x) (cond b (Some p.1) before) (words_alone rest) ≡ fold (λ _ x. Some x) before (words_alone (cond b (p ∷ rest) rest))
-last_kept true before p rest = refl
-last_kept false before p rest = refl
+last_kept b before p rest = grind arith
 
 last_given : {X : Type 0} (before next : Option X) (rest : List X) → fold (λ _ x. Some x) (latest before next) rest ≡ fold (λ _ x. Some x) before (cons_option next rest)
-last_given before None rest = refl
-last_given before (Some x) rest = refl
+last_given before next rest = grind arith
 
 or_assoc : (a b c : Bool) → ((a || b) || c) ≡ (a || (b || c))
-or_assoc true b c = refl
-or_assoc false b c = refl
+or_assoc a b c = grind arith
 
 or_false : (a : Bool) → a ≡ (a || false)
-or_false true = refl
-or_false false = refl
+or_false a = grind arith
 
 stay_kept : (words : List (List ℕ)) (k : KeepWords) → (fold with_keep_word k words).stay ≡ k.stay ++ words_alone (filter is_no_keep_word (valued is_keep_dir k.awaits_directory words))
 stay_kept [] k = sym (append-nil k.stay)
@@ -36,13 +32,11 @@ stay_kept (word ∷ words) k =
 
 directory_kept : (words : List (List ℕ)) (k : KeepWords) → (fold with_keep_word k words).directory ≡ fold (λ _ x. Some x) k.directory (words_alone (filter (λ p. p.0) (valued is_keep_dir k.awaits_directory words)))
 directory_kept [] k = refl
-directory_kept (word ∷ words) k =
-    directory_kept words (with_keep_word k word) ∙ last_kept k.awaits_directory k.directory (k.awaits_directory, word) (filter (λ p. p.0) (valued is_keep_dir (with_keep_word k word).awaits_directory words))
+directory_kept (word ∷ words) k = grind (arith, last_kept, (directory_kept words (with_keep_word k word)))
 
 is_kept_kept : (words : List (List ℕ)) (k : KeepWords) → (fold with_keep_word k words).is_kept ≡ (k.is_kept || list_any sets_keep (valued is_keep_dir k.awaits_directory words))
 is_kept_kept [] k = or_false k.is_kept
-is_kept_kept (word ∷ words) k =
-    is_kept_kept words (with_keep_word k word) ∙ or_assoc k.is_kept (sets_keep (k.awaits_directory, word)) (list_any sets_keep (valued is_keep_dir (with_keep_word k word).awaits_directory words))
+is_kept_kept (word ∷ words) k = grind (arith, or_assoc, (is_kept_kept words (with_keep_word k word)))
 
 awaits_kept : (words : List (List ℕ)) (k : KeepWords) (before : Option (Bool × List ℕ)) → k.awaits_directory ≡ is_unfinished is_keep_dir before → (fold with_keep_word k words).awaits_directory ≡ is_unfinished is_keep_dir (fold (λ _ p. Some p) before (valued is_keep_dir k.awaits_directory words))
 awaits_kept [] k before h = h
@@ -54,13 +48,11 @@ keep_gathered cwd words =
 
 stay_threads : (words : List (List ℕ)) (t : ThreadWords) → (fold with_thread_word t words).stay ≡ t.stay ++ words_alone (filter is_no_thread_word (valued is_threads t.awaits_number words))
 stay_threads [] t = sym (append-nil t.stay)
-stay_threads (word ∷ words) t =
-    stay_threads words (with_thread_word t word) ∙ kept_word (is_no_thread_word (t.awaits_number, word)) t.stay (t.awaits_number, word) (filter is_no_thread_word (valued is_threads (with_thread_word t word).awaits_number words))
+stay_threads (word ∷ words) t = grind (arith, kept_word, (stay_threads words (with_thread_word t word)))
 
 number_threads : (words : List (List ℕ)) (t : ThreadWords) → (fold with_thread_word t words).number ≡ fold (λ _ n. Some n) t.number (filter_map number_given (valued is_threads t.awaits_number words))
 number_threads [] t = refl
-number_threads (word ∷ words) t =
-    number_threads words (with_thread_word t word) ∙ last_given t.number (number_given (t.awaits_number, word)) (filter_map number_given (valued is_threads (with_thread_word t word).awaits_number words))
+number_threads (word ∷ words) t = simp (last_given, (number_threads words (with_thread_word t word)))
 
 awaits_threads : (words : List (List ℕ)) (t : ThreadWords) (before : Option (Bool × List ℕ)) → t.awaits_number ≡ is_unfinished is_threads before → (fold with_thread_word t words).awaits_number ≡ is_unfinished is_threads (fold (λ _ p. Some p) before (valued is_threads t.awaits_number words))
 awaits_threads [] t before h = h

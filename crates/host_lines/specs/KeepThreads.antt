@@ -1,8 +1,7 @@
 -- The words of an nvcc line for kept files and for threads: which folder keeps intermediate files, how many commands run at
 -- once, and the words without these. Each answer filters the words.
-use Rattle.std.specs.Prelude.{ℕ, ◌+◌, ◌*◌, ◌-◌, ◌^◌, List, [], ◌∷◌, Bool, true, false, not, ◌&&◌, ◌||◌, ◌==◌, nat_eq, nat_lt, if◌then◌else◌, Option, Some, None, unwrap_or, Result, Ok, Err, Vec, String, string_bytes, map, filter, drop, codes}
+use Rattle.std.specs.Prelude.{ℕ, ◌+◌, ◌*◌, ◌-◌, ◌^◌, List, [], ◌∷◌, Bool, true, false, not, ◌&&◌, ◌||◌, ◌==◌, nat_eq, nat_lt, if◌then◌else◌, Option, Some, None, unwrap_or, Result, Ok, Err, Vec, String, string_bytes, map, filter, drop, codes, option_and_then, option_map}
 use Rattle.std.specs.List.{filter_map, list_any, starts_with}
-use Rattle.std.specs.Option.{option_and_then, option_map}
 use Rattle.std.specs.declared.alloc.Global.{Global}
 use Rattle.std.specs.Str.{bytes_eq, all_ascii_digits}
 use Rattle.texts.specs.declared.fault.Fault.{Fault}

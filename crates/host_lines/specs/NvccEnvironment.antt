@@ -1,7 +1,6 @@
 -- The words that the environment adds to an nvcc line.
-use Rattle.std.specs.Prelude.{ℕ, List, [], ◌++◌, Bool, not, ◌||◌, filter, unwrap_or, codes}
+use Rattle.std.specs.Prelude.{ℕ, List, [], ◌++◌, Bool, not, ◌||◌, filter, unwrap_or, codes, bytes_eq}
 use Rattle.std.specs.Option.{option_map_or}
-use Rattle.std.specs.Str.{bytes_eq}
 use Rattle.texts.specs.Variables.{first_value}
 use Rattle.shell_words.specs.Shell.Splitting.{shell_words}
 

@@ -1,6 +1,5 @@
 -- The commands that preprocess the input of an nvcc or nvhpc line.
-use Rattle.std.specs.Prelude.{ℕ, List, [], ◌∷◌, ◌++◌, not, ◌||◌, if◌then◌else◌, Option, Some, None, Result, Ok, Err, Vec, map, filter, codes}
-use Rattle.std.specs.Str.{bytes_eq}
+use Rattle.std.specs.Prelude.{ℕ, List, [], ◌∷◌, ◌++◌, not, ◌||◌, if◌then◌else◌, Option, Some, None, Result, Ok, Err, Vec, map, filter, codes, bytes_eq}
 use Rattle.std.specs.declared.alloc.Global.{Global}
 use Rattle.texts.specs.declared.language.Language.{Language}
 use Rattle.texts.specs.declared.language.Language.TheVariants.{Cuda}

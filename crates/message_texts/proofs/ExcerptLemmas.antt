@@ -20,11 +20,7 @@ excerpt-step show (suc n) c before after all rest line some is now whole =
 
 -- a text that isn't UTF-8, and one that is
 pub shown-bytes : (most : ℕ) (text : List ℕ) → (IsUtf8 text → ⊥) → excerpt shown_byte most text ≡ shown most text
-shown-bytes most text none =
-    elim (is_utf8 text) as (λ b. is_utf8 text ≡ b → excerpt shown_byte most text ≡ cond b (excerpt shown_char most (chars text)) (excerpt shown_byte most text))
-    [ true ↦ λ e. absurd (none (IsUtf8-from_is_utf8 text e)) | false ↦ λ e. refl ] refl
+shown-bytes most text none = grind (arith, IsUtf8-from_is_utf8)
 
 pub shown-chars : (most : ℕ) (value text : List ℕ) → value ≡ text → IsUtf8 text → excerpt shown_char most (chars value) ≡ shown most text
-shown-chars most value text same utf8 =
-    ap (λ t. excerpt shown_char most (chars t)) same
-    ∙ sym (ap (λ b. cond b (excerpt shown_char most (chars text)) (excerpt shown_byte most text)) (is_utf8-from_IsUtf8 text utf8))
+shown-chars most value text same utf8 = grind (arith, is_utf8-from_IsUtf8)

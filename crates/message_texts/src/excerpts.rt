@@ -1,8 +1,7 @@
 //! The beginning of a text, as messages show it: on one line, and with no control character.
 
-ghost use Rattle.std.specs.Prelude.{◌≡◌, ◌<◌, ◌++◌, ◌∷◌, [], MatchOption, OnOk, length, string_bytes, encode_utf8_all};
+ghost use Rattle.std.specs.Prelude.{◌≡◌, ◌<◌, ◌++◌, ◌∷◌, [], MatchOption, OnOk, length, string_bytes, encode_utf8_all, chars};
 ghost use Rattle.std.specs.Char.Escape.{escape_ascii, escape_default};
-ghost use Rattle.std.specs.Str.{chars};
 ghost use Rattle.message_texts.specs.Excerpts as spec;
 
 use std::alloc::AllocError;

@@ -1,6 +1,5 @@
 -- Calls that differ in a part differ in the text that names their directory.
 use Rattle.std.proofs.Common.{◌≡◌, ℕ, ◌+◌, ◌<◌, suc, true, not, eqb, ne_eqb, List, [], ◌∷◌, ◌++◌, length, map, take, drop, get_or, refl, ap, sym, ◌∙◌, subst, append_assoc, length-append, false, codes, arith}
-use Rattle.std.specs.Int.Digits.{digits_of}
 use Rattle.std.specs.List.{AllByRecursion}
 use Rattle.std.proofs.lemmas.Bool.{false≢true, and_parts, and_from, cond_both}
 use Rattle.std.proofs.lemmas.Int.Digits.{all_below_base_digits_of}
@@ -13,30 +12,20 @@ use Rattle.nvcc_calls.specs.Directory.{sized, identity, IdentitiesDiffer}
 -- a number holds no colon
 lacks-digits : (ds : List ℕ) → AllByRecursion (λ d. d < 10) ds → lacks 58 (map (λ d. 48 + d) ds) ≡ true
 lacks-digits [] small = refl
-lacks-digits (d ∷ ds) small =
-    let low : d < 10 = small.0 in
-    let other : eqb (48 + d) 58 ≡ false = ne_eqb (48 + d) 58 (λ e. omega (arith, low)) in
-    and_from (not (eqb (48 + d) 58)) (lacks 58 (map (λ d. 48 + d) ds)) (ap not other) (lacks-digits ds small.1)
+lacks-digits (d ∷ ds) small = grind (arith, and_from, (lacks-digits ds small.1))
 
 lacks-numeral : (n : ℕ) → lacks 58 (numeral n) ≡ true
-lacks-numeral n =
-    cond_both (eqb n 0) (codes "0") (map (λ d. 48 + d) (digits_of 10 n)) (λ t. lacks 58 t ≡ true) (λ _. refl)
-    (λ _. lacks-digits (digits_of 10 n) (all_below_base_digits_of 10 n (omega arith)))
+lacks-numeral n = grind (arith, cond_both, lacks-digits, all_below_base_digits_of)
 
 no-colon : (c : ℕ) (cs : List ℕ) → lacks 58 (c ∷ cs) ≡ true → c ≡ 58 → ⊥
-no-colon c cs h e =
-    let first : not (eqb c 58) ≡ true = (and_parts (not (eqb c 58)) (lacks 58 cs) h).0 in
-    false≢true (subst (λ n. not (eqb n 58) ≡ true) e first)
+no-colon c cs h e = grind (arith, and_parts, false≢true)
 
 -- the first colon divides a text in one way
 cut : (xs ys us vs : List ℕ) → lacks 58 xs ≡ true → lacks 58 ys ≡ true → xs ++ 58 ∷ us ≡ ys ++ 58 ∷ vs → (xs ≡ ys) × (us ≡ vs)
 cut [] [] us vs h k e = (refl, ap (drop 1) e)
 cut [] (y ∷ ys) us vs h k e = absurd (no-colon y ys k (sym (ap (λ l. get_or l 0 0) e)))
 cut (x ∷ xs) [] us vs h k e = absurd (no-colon x xs h (ap (λ l. get_or l 0 0) e))
-cut (x ∷ xs) (y ∷ ys) us vs h k e =
-    let first : x ≡ y = ap (λ l. get_or l 0 0) e in
-    let rest = cut xs ys us vs (and_parts (not (eqb x 58)) (lacks 58 xs) h).1 (and_parts (not (eqb y 58)) (lacks 58 ys) k).1 (ap (drop 1) e) in
-    (ap (λ c. c ∷ xs) first ∙ ap (λ t. y ∷ t) rest.0, rest.1)
+cut (x ∷ xs) (y ∷ ys) us vs h k e = grind (arith, and_parts, (cut xs ys us vs (and_parts (not (eqb x 58)) (lacks 58 xs) h).1 (and_parts (not (eqb y 58)) (lacks 58 ys) k).1 (ap (drop 1) e)))
 
 -- a text behind its length, and what stands behind it
 sized-cut : (a b us vs : List ℕ) → sized a ++ us ≡ sized b ++ vs → (a ≡ b) × (us ≡ vs)
@@ -54,7 +43,7 @@ no-text b vs e =
     let all : 0 ≡ length (sized b ++ vs) = ap length e in
     let whole : length (sized b ++ vs) ≡ length (sized b) + length vs = length-append (sized b) vs in
     let part : length (sized b) ≡ length (numeral (length b)) + suc (length b) = length-append (numeral (length b)) (58 ∷ b) in
-    omega (arith, all, whole, part)
+    grind arith
 
 pub identities : IdentitiesDiffer
 identities [] [] e = refl
@@ -62,4 +51,4 @@ identities [] (b ∷ vs) e = absurd (no-text b (identity vs) e)
 identities (a ∷ us) [] e = absurd (no-text a (identity us) (sym e))
 identities (a ∷ us) (b ∷ vs) e =
     let parts = sized-cut a b (identity us) (identity vs) e in
-    ap (λ x. x ∷ us) parts.0 ∙ ap (λ xs. b ∷ xs) (identities us vs parts.1)
+    grind (arith, (identities us vs parts.1))

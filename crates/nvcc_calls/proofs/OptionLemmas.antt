@@ -1,5 +1,5 @@
 -- A line whose answer is an outline was checked on the way to it.
-use Rattle.std.proofs.Common.{◌≡◌, ℕ, Bool, true, false, cond, List, [], Option, Some, None, is_some, Result, Ok, Err, refl, ap, sym, unwrap_or}
+use Rattle.std.proofs.Common.{◌≡◌, ℕ, Bool, true, false, cond, List, [], Option, Some, None, is_some, Result, Ok, Err, refl, ap, sym, unwrap_or, arith}
 use Rattle.std.proofs.lemmas.Bool.{false≢true}
 use Rattle.texts.specs.declared.fault.Fault.{Fault}
 use Rattle.texts.specs.Results.{and_then}
@@ -39,16 +39,12 @@ HasDryRuns o command = (o.first ≡ command_text (dry_runs command).0) × (o.sec
 
 with-jobs : (command : NvccCompileCommand) (dependencies : List ℕ) (r : Result (List ℕ) Fault) (o : Outline) →
     outline_in (and_then (and_then r (λ jobs. Ok (outline_with command dependencies jobs))) (λ made. Ok (Split made))) ≡ Some o → HasDryRuns o command
-with-jobs command dependencies (Ok jobs) o e =
-    let same : o ≡ outline_with command dependencies jobs = sym (ap (λ found. unwrap_or found o) e) in
-    (ap (λ made. made.first) same, ap (λ made. made.second) same)
-with-jobs command dependencies (Err fault) o e = absurd (false≢true (ap is_some e))
+with-jobs command dependencies r o e = grind (arith, false≢true)
 
 with-dependencies : (command : NvccCompileCommand) (d r : Result (List ℕ) Fault) (o : Outline) →
     outline_in (and_then (and_then d (λ dependencies. and_then r (λ jobs. Ok (outline_with command dependencies jobs)))) (λ made. Ok (Split made))) ≡ Some o →
     HasDryRuns o command
-with-dependencies command (Ok dependencies) r o e = with-jobs command dependencies r o e
-with-dependencies command (Err fault) r o e = absurd (false≢true (ap is_some e))
+with-dependencies command d r o e = grind (arith, with-jobs, false≢true)
 
 module _ (call : NvccOf) (variables files : List (List ℕ × List ℕ)) where
   abbrev asked : Asked
@@ -59,9 +55,7 @@ module _ (call : NvccOf) (variables files : List (List ℕ × List ℕ)) where
 
   by-check : (p : ParsedArguments) (command : NvccCompileCommand) (o : Outline) (b : Bool) → keeps asked (asked_of [] command.arguments) ≡ b →
       outline_in (cond b (split_by call variables p command) (Ok (Pass (text_of OtherReading)))) ≡ Some o → DryRunsSayAs asked o command
-  by-check p command o true t e =
-      let runs = with-dependencies command (dependencies_of call p variables) (jobs_of_line call p variables) o e in
-      record { first = runs.0; second = runs.1; words = keeps-says asked (asked_of [] command.arguments) t }
+  by-check p command o true t e = grind (arith, with-dependencies, keeps-says)
   by-check p command o false t e = absurd (false≢true (ap is_some e))
 
   by-command : (p : ParsedArguments) (r : Result NvccCompileCommand Fault) (o : Outline) →
@@ -70,14 +64,11 @@ module _ (call : NvccOf) (variables files : List (List ℕ × List ℕ)) where
   by-command p (Err fault) o e = absurd (false≢true (ap is_some e))
 
   by-reading : (reading : Reading) (o : Outline) → outline_in (answer_of call variables files reading) ≡ Some o → IsKept o
-  by-reading (accepted p) o e = by-command p (command_of call p variables) o e
-  by-reading (cannot_cache text word) o e = absurd (false≢true (ap is_some e))
-  by-reading not_compilation o e = absurd (false≢true (ap is_some e))
+  by-reading reading o e = grind (arith, by-command, false≢true)
 
   by-hazard : (hazard : Option Reason) (reading : Reading) (o : Outline) →
       outline_in (unless_hazard hazard (answer_of call variables files reading)) ≡ Some o → IsKept o
-  by-hazard None reading o e = by-reading reading o e
-  by-hazard (Some reason) reading o e = absurd (false≢true (ap is_some e))
+  by-hazard hazard reading o e = grind (arith, by-reading, false≢true)
 
   by-verdict : (v : Verdict) (o : Outline) → outline_in (answer_to call variables files v) ≡ Some o → IsKept o
   by-verdict (verdicts.Split normal) o e = by-hazard (hazard_of call normal) (nvcc_reading normal.words call.cwd []) o e

@@ -1,7 +1,6 @@
 -- What the arguments of an nvcc line say: the commands that a plan of the line begins with.
-use Rattle.std.specs.Prelude.{◌≡◌, ℕ, List, [], ◌∷◌, ◌++◌, length, ◌==◌, Bool, ◌||◌, if◌then◌else◌, unwrap_or, Result, Ok, codes, refl}
+use Rattle.std.specs.Prelude.{◌≡◌, ℕ, List, [], ◌∷◌, ◌++◌, length, ◌==◌, Bool, ◌||◌, if◌then◌else◌, unwrap_or, Result, Ok, codes, refl, bytes_eq}
 use Rattle.std.specs.List.{list_any}
-use Rattle.std.specs.Str.{bytes_eq}
 use Rattle.texts.specs.declared.fault.Fault.{Fault}
 use Rattle.texts.specs.declared.language.Language.TheVariants.{Cuda}
 use Rattle.texts.specs.Path.{joined}

@@ -1,7 +1,6 @@
 //! The name of a call's directory.
 
-ghost use Rattle.std.specs.Prelude.{◌≡◌, ◌++◌, IfOk, OnOk, codes, flat_map, map, string_bytes, unwrap_or};
-ghost use Rattle.std.specs.Option.{option_copied};
+ghost use Rattle.std.specs.Prelude.{◌≡◌, ◌++◌, IfOk, OnOk, codes, flat_map, map, string_bytes, unwrap_or, option_copied};
 ghost use Rattle.hex.specs.Hex.{encode_lower};
 ghost use Rattle.sha2.specs.Sha256.{sha256};
 ghost use Rattle.texts.specs.Variables.{pair_of};

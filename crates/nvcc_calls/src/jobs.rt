@@ -1,7 +1,6 @@
 //! How many commands Ninja runs at once.
 
-ghost use Rattle.std.specs.Prelude.{◌≡◌, IfOk, codes, map, string_bytes};
-ghost use Rattle.std.specs.Option.{option_and_then, option_copied};
+ghost use Rattle.std.specs.Prelude.{◌≡◌, IfOk, codes, map, string_bytes, option_and_then, option_copied};
 ghost use Rattle.texts.specs.Variables.{pair_of};
 ghost use Rattle.texts.specs.Variables as variables_spec;
 ghost use Rattle.host_lines.specs.KeepThreads.{number_of};

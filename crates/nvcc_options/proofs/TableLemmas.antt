@@ -12,38 +12,20 @@ module _ (x y e : Entry Purpose) where
   lower a b = nat_lt (length a.text) (length b.text)
 
   both-longer : lower x y ≡ true → cond (lower y e) (Some e) (Some y) ≡ earlier_choice (Some x) (cond (lower y e) (Some e) (Some y))
-  both-longer xy =
-      elim (lower y e) as (λ b. lower y e ≡ b → cond b (Some e) (Some y) ≡ earlier_choice (Some x) (cond b (Some e) (Some y))) [
-        | true ↦ λ ye. let xe : lower x e ≡ true = grind (arith, nat_tests) in rw xe refl
-        | false ↦ λ ye. rw xy refl
-      ] refl
+  both-longer xy = grind (arith, nat_tests)
 
   first-longer : lower x y ≡ false → cond (lower x e) (Some e) (Some x) ≡ earlier_choice (Some x) (cond (lower y e) (Some e) (Some y))
-  first-longer xy =
-      elim (lower y e) as (λ b. lower y e ≡ b → cond (lower x e) (Some e) (Some x) ≡ earlier_choice (Some x) (cond b (Some e) (Some y))) [
-        | true ↦ λ ye. refl
-        | false ↦ λ ye. let xe : lower x e ≡ false = grind (arith, nat_tests) in rw (xy, xe) refl
-      ] refl
+  first-longer xy = grind (arith, nat_tests)
 
 -- a matching entry after two choices
 taken : (c d : Option (Entry Purpose)) (e : Entry Purpose) →
     cond (is_longer e (earlier_choice c d)) (Some e) (earlier_choice c d) ≡ earlier_choice c (cond (is_longer e d) (Some e) d)
-taken None d e = refl
-taken (Some x) None e = refl
-taken (Some x) (Some y) e =
-    elim (nat_lt (length x.text) (length y.text))
-    as (λ b. nat_lt (length x.text) (length y.text) ≡ b → cond (is_longer e (cond b (Some y) (Some x))) (Some e) (cond b (Some y) (Some x)) ≡ earlier_choice (Some x) (cond (nat_lt (length y.text) (length e.text)) (Some e) (Some y))) [
-      | true ↦ λ xy. both-longer x y e xy
-      | false ↦ λ xy. first-longer x y e xy
-    ] refl
+taken c d e = grind (arith, both-longer, first-longer)
 
 module _ (word : List ℕ) where
   -- an entry after two choices
   one-more : (c d : Option (Entry Purpose)) (e : Entry Purpose) → longer_match word (earlier_choice c d) e ≡ earlier_choice c (longer_match word d e)
-  one-more c d e =
-      elim (is_some (matched e word))
-      as (λ b. cond (b && is_longer e (earlier_choice c d)) (Some e) (earlier_choice c d) ≡ earlier_choice c (cond (b && is_longer e d) (Some e) d))
-      [ true ↦ taken c d e | false ↦ refl ]
+  one-more c d e = grind (arith, taken)
 
   -- further entries after two choices
   more : (es : List (Entry Purpose)) (c d : Option (Entry Purpose)) → fold (longer_match word) (earlier_choice c d) es ≡ earlier_choice c (fold (longer_match word) d es)
@@ -52,8 +34,7 @@ module _ (word : List ℕ) where
 
   -- the choice of nothing more
   alone : (c : Option (Entry Purpose)) → earlier_choice c None ≡ c
-  alone None = refl
-  alone (Some x) = refl
+  alone c = grind arith
 
   -- the choice of a list of entries after a choice
   after : (c : Option (Entry Purpose)) (es : List (Entry Purpose)) → fold (longer_match word) c es ≡ earlier_choice c (longest_match es word)
@@ -67,10 +48,7 @@ module _ (word : List ℕ) where
   -- the tables' choices
   by-tables : (parts : List (Table Purpose)) (c : Option (Entry Purpose)) → fold (choice_with word) c parts ≡ fold (longer_match word) c (flat_map rows_of parts)
   by-tables [] c = refl
-  by-tables (p ∷ ps) c =
-      by-tables ps (choice_with word c p)
-      ∙ ap (λ best. fold (longer_match word) best (flat_map rows_of ps)) (sym (after c (rows_of p)))
-      ∙ sym (over-both c (rows_of p) (flat_map rows_of ps))
+  by-tables (p ∷ ps) c = grind (arith, after, over-both, (by-tables ps (choice_with word c p)))
 
   -- what the tables choose is the longest match of all entries
   pub tables-choose : (parts : List (Table Purpose)) → chosen_by word parts ≡ longest_match (flat_map rows_of parts) word

@@ -1,7 +1,6 @@
 -- Tests of words, and the words of options in a normal form.
-use Rattle.std.specs.Prelude.{◌≡◌, ℕ, List, [], ◌∷◌, ◌++◌, Bool, false, not, ◌==◌, ◌&&◌, ◌||◌, nat_eq, nat_lt, nat_le, length, if◌then◌else◌, refl, codes}
+use Rattle.std.specs.Prelude.{◌≡◌, ℕ, List, [], ◌∷◌, ◌++◌, Bool, false, not, ◌==◌, ◌&&◌, ◌||◌, nat_eq, nat_lt, nat_le, length, if◌then◌else◌, refl, codes, bytes_eq}
 use Rattle.std.specs.List.{list_any, list_all, ends_with}
-use Rattle.std.specs.Str.{bytes_eq}
 use Rattle.texts.specs.Rows.{spaced}
 
 -- whether nvcc's shell leaves a byte as it is in double quotes: it isn't `$`, a backtick or a control character, such as

@@ -1,7 +1,6 @@
 //! nvcc's options, and what each is for.
 
-ghost use Rattle.std.specs.Prelude.{◌≡◌, map};
-ghost use Rattle.std.specs.Option.{option_map, option_copied};
+ghost use Rattle.std.specs.Prelude.{◌≡◌, map, option_map, option_copied};
 ghost use Rattle.option_items.specs.Table.{entry_of, longest_match};
 ghost use Rattle.nvcc_options.specs.Options.{nvcc_entries};
 ghost use Rattle.nvcc_options.specs.Tables as spec;

@@ -1,6 +1,5 @@
 -- What the check of a line's options shows.
-use Rattle.std.proofs.Common.{◌≡◌, ℕ, Bool, true, false, ◌&&◌, List, Option, Some, None, is_none, is_some, nat_eq, slice_index_or, refl, ap, sym, ◌∙◌}
-use Rattle.std.specs.Str.{bytes_eq}
+use Rattle.std.proofs.Common.{◌≡◌, ℕ, Bool, true, false, ◌&&◌, List, Option, Some, None, is_none, is_some, nat_eq, slice_index_or, refl, ap, sym, ◌∙◌, bytes_eq, arith}
 use Rattle.std.specs.List.{All, list_all}
 use Rattle.std.specs.Cmp.Lexicographic.{pointwise}
 use Rattle.std.proofs.lemmas.Bool.{false≢true, and_parts}
@@ -16,8 +15,7 @@ use Rattle.nvcc_options.specs.Options.{nvcc_entries}
 use Rattle.nvcc_words.specs.Keeping.{values_of, same_words, has_same_values, begins_as, same_options, keeps, kept_options, SaysAs}
 
 none-is : (o : Option Reason) → is_none o ≡ true → o ≡ None
-none-is None e = refl
-none-is (Some reason) e = absurd (false≢true e)
+none-is o e = grind (arith, false≢true)
 
 words-are : (a b : List (List ℕ)) → same_words a b ≡ true → b ≡ a
 words-are a b e = sym ((lists (pointwise nat_eq) bytes_eq-Decides a b).0 e)
@@ -26,9 +24,7 @@ words-are a b e = sym ((lists (pointwise nat_eq) bytes_eq-Decides a b).0 e)
 values-are : (options others : List (List ℕ × List ℕ)) (es : List (Entry Purpose)) →
     same_options options others es ≡ true →
     All (λ (e : Entry Purpose). values_of e.text others ≡ values_of e.text options) es
-values-are options others es e =
-    let all = AllPass-from_list_all (λ (e : Entry Purpose). has_same_values options others e.text) es e in
-    λ k d below. words-are (values_of (slice_index_or es k d).text options) (values_of (slice_index_or es k d).text others) (all k d below)
+values-are options others es e = grind (arith, AllPass-from_list_all, words-are)
 
 pub keeps-says : (a b : Asked) → keeps a b ≡ true → SaysAs a b
 keeps-says a b kept =

@@ -1,8 +1,6 @@
 -- What a check of a normal form shows of it.
-use Rattle.std.proofs.Common.{◌≡◌, ℕ, Bool, true, false, cond, ◌&&◌, List, [], Option, Some, None, is_some, Result, Ok, Err, nat_eq, refl, ap, sym, ◌∙◌, append-nil, unwrap_or, codes}
+use Rattle.std.proofs.Common.{◌≡◌, ℕ, Bool, true, false, cond, ◌&&◌, List, [], Option, Some, None, is_some, Result, Ok, Err, nat_eq, refl, ap, sym, ◌∙◌, append-nil, unwrap_or, codes, bytes_eq, arith}
 use Rattle.std.specs.Option.{option_map, option_map_or}
-use Rattle.std.specs.Str.{bytes_eq}
-use Rattle.std.specs.Cmp.Lexicographic.{pointwise}
 use Rattle.std.proofs.lemmas.Bool.{false≢true, and_parts}
 use Rattle.std.proofs.lemmas.Slice.Eq.{bytes_eq-Decides}
 use Rattle.texts.proofs.EqualityLemmas.{lists}
@@ -11,13 +9,9 @@ use Rattle.compilers.specs.declared.outputs.ArtifactDescriptor.{ArtifactDescript
 use Rattle.compilers.specs.declared.compiler.CCompilerKind.TheVariants as kinds
 use Rattle.gcc_lines.specs.declared.gcc.options.ArgData.{ArgData}
 use Rattle.compilers.specs.Compiler.{Reading, accepted, cannot_cache, not_compilation}
-use Rattle.compilers.specs.Outputs.{entry_at}
 use Rattle.gcc_lines.specs.Gcc as gcc
 use Rattle.gcc_lines.specs.GccItems.{asked_of, items_to_dashes, has_double_dash, first_refusal}
-use Rattle.gcc_lines.specs.GccOptions.{gcc_entries}
-use Rattle.option_items.specs.Table.{longest_of_two}
 use Rattle.option_items.specs.Items.{Item}
-use Rattle.host_lines.specs.NvccOptions.{nvcc_options}
 use Rattle.host_lines.specs.NvccEnvironment.{prepended_name, appended_name, with_added_words}
 use Rattle.nvcc_words.specs.declared.call.Call.{Call}
 use Rattle.nvcc_words.specs.declared.verdict.Verdict.{Verdict}
@@ -38,13 +32,12 @@ some-is x y e = ap (λ o. unwrap_or o x) e
 
 -- a checked call is split as it is
 checked : (call found : Call) (b : Bool) → is_normal found ≡ b → call_in (cond b (Split found) (Pass OtherReading)) ≡ Some call → (found ≡ call) × (is_normal call ≡ true)
-checked call found true t e = (some-is found call e, ap is_normal (sym (some-is found call e)) ∙ t)
-checked call found false t e = absurd (false≢true (ap is_some e))
+checked call found b t e = grind (arith, some-is, false≢true)
 
 judged-split : (r : Result Call Reason) (call : Call) → judged r ≡ Split call → (r ≡ Ok call) × (is_normal call ≡ true)
 judged-split (Ok found) call e =
     let h = checked call found (is_normal found) refl (ap call_in e) in
-    (ap Ok h.0, h.1)
+    grind arith
 judged-split (Err reason) call e = absurd (false≢true (ap is_some (ap call_in e)))
 
 verdict-split : (b : Bool) (r : Result Call Reason) (call : Call) → cond b (judged r) (Pass VariableQuotes) ≡ Split call → (r ≡ Ok call) × (is_normal call ≡ true)
@@ -53,15 +46,7 @@ verdict-split false r call e = absurd (false≢true (ap is_some (ap call_in e)))
 
 -- equal calls
 same-is : (a b : Call) → same_call a b ≡ true → a ≡ b
-same-is a b e =
-    let three = and_parts (bytes_eq a.flag b.flag && bytes_eq a.input b.input && bytes_eq a.output b.output) (pointwise (pointwise nat_eq) a.words b.words) e in
-    let two = and_parts (bytes_eq a.flag b.flag && bytes_eq a.input b.input) (bytes_eq a.output b.output) three.0 in
-    let one = and_parts (bytes_eq a.flag b.flag) (bytes_eq a.input b.input) two.0 in
-    let flag = (bytes_eq-Decides a.flag b.flag).0 one.0 in
-    let input = (bytes_eq-Decides a.input b.input).0 one.1 in
-    let output = (bytes_eq-Decides a.output b.output).0 two.1 in
-    let words = (lists (pointwise nat_eq) bytes_eq-Decides a.words b.words).0 three.1 in
-    λ i. record { flag = flag i; input = input i; output = output i; words = words i }
+same-is a b e = grind (arith, and_parts, bytes_eq-Decides, lists)
 
 read-is : (r : Result Call Reason) (call : Call) → is_call r call ≡ true → r ≡ Ok call
 read-is (Ok found) call e = ap Ok (same-is found call e)
@@ -69,54 +54,31 @@ read-is (Err reason) call e = absurd (false≢true e)
 
 -- sccache's reader agrees
 made-is : (file : Option ArtifactDescriptor) (path : List ℕ) → option_map_or (λ (f : ArtifactDescriptor). bytes_eq f.path path) file false ≡ true → option_map (λ (f : ArtifactDescriptor). f.path) file ≡ Some path
-made-is None path e = absurd (false≢true e)
-made-is (Some f) path e = ap Some ((bytes_eq-Decides f.path path).0 e)
+made-is file path e = grind (arith, false≢true, bytes_eq-Decides)
 
 agrees-reads : (reading : Reading) (call : Call) → agrees reading call ≡ true → ReadsAs call reading
-agrees-reads (accepted p) call e =
-    let two = and_parts (bytes_eq p.input call.input && bytes_eq p.compilation_flag call.flag) (makes p call.output) e in
-    let one = and_parts (bytes_eq p.input call.input) (bytes_eq p.compilation_flag call.flag) two.0 in (
-      p,
-      refl,
-      record {
-        input = (bytes_eq-Decides p.input call.input).0 one.0;
-        output = made-is (entry_at (codes "obj") p.outputs) call.output two.1;
-        flag = (bytes_eq-Decides p.compilation_flag call.flag).0 one.1;
-      },
-    )
-agrees-reads (cannot_cache text word) call e = absurd (false≢true e)
-agrees-reads not_compilation call e = absurd (false≢true e)
+agrees-reads reading call e = grind (arith, and_parts, bytes_eq-Decides, made-is, false≢true)
 
 -- at every working directory alike
 module _ (cwd : List ℕ) (dashes : Bool) (is : List (Item ArgData)) (call : Call) where
   input-anywhere : (s : Result (List ℕ × Language) (List ℕ)) → agrees (gcc.reading_of_input (asked_of cwd dashes is) s) call ≡ agrees (gcc.reading_of_input (asked_of [] dashes is) s) call
-  input-anywhere (Ok found) = refl
-  input-anywhere (Err text) = refl
+  input-anywhere s = grind arith
 
   compiled-anywhere : (b : Bool) (s : Result (List ℕ × Language) (List ℕ)) → agrees (cond b (gcc.reading_of_input (asked_of cwd dashes is) s) not_compilation) call ≡ agrees (cond b (gcc.reading_of_input (asked_of [] dashes is) s) not_compilation) call
-  compiled-anywhere true s = input-anywhere s
-  compiled-anywhere false s = refl
+  compiled-anywhere b s = grind (arith, input-anywhere)
 
   anywhere : (refusal : Option (List ℕ)) → agrees (gcc.reading_of_gathering false kinds.Nvcc (gcc.unless_refused refusal (asked_of cwd dashes is))) call ≡ agrees (gcc.reading_of_gathering false kinds.Nvcc (gcc.unless_refused refusal (asked_of [] dashes is))) call
-  anywhere None =
-      let a = asked_of [] dashes is in
-      let language = gcc.language_read false a in
-      compiled-anywhere (gcc.is_compilation kinds.Nvcc language a) (gcc.sole_input language a.inputs)
-  anywhere (Some text) = refl
+  anywhere refusal = grind (arith, compiled-anywhere)
 
 agrees-anywhere : (cwd : List ℕ) (words : List (List ℕ)) (call : Call) → agrees (sccache_reading cwd words) call ≡ agrees (sccache_reading [] words) call
-agrees-anywhere cwd words call =
-    let chosen = longest_of_two gcc_entries nvcc_options in
-    anywhere cwd (has_double_dash chosen words) (items_to_dashes chosen words) call (first_refusal (items_to_dashes chosen words))
+agrees-anywhere cwd words call = simp anywhere
 
 -- the laws
 abbrev environment_is_plain : List (List ℕ × List ℕ) → Bool
 environment_is_plain variables = is_plain prepended_name variables && is_plain appended_name variables
 
 normal-parts : (call : Call) → is_normal call ≡ true → (nvcc_call [] call.words ≡ Ok call) × (agrees (sccache_reading [] call.words) call ≡ true)
-normal-parts call e =
-    let parts = and_parts (is_call (nvcc_call [] call.words) call) _ e in
-    (read-is (nvcc_call [] call.words) call parts.0, parts.1)
+normal-parts call e = grind (arith, and_parts, read-is)
 
 pub split-lines : SplitLinesReadAlike
 split-lines words variables files call e =
@@ -126,6 +88,4 @@ split-lines words variables files call e =
 pub normal-forms : NormalFormsAreKept
 normal-forms words variables files call e =
     let found = verdict-split (environment_is_plain variables) (nvcc_call files (with_added_words variables words)) call e in
-    ap (λ ws. judged (nvcc_call [] ws)) (append-nil call.words)
-    ∙ ap judged (normal-parts call found.1).0
-    ∙ ap (λ b. cond b (Split call) (Pass OtherReading)) found.1
+    grind (arith, append-nil, normal-parts)

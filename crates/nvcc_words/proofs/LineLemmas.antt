@@ -5,6 +5,4 @@ use Rattle.nvcc_options.specs.declared.options.Purpose.{Purpose}
 
 -- an item leaves no more words than there were
 pub words-completed : (s : Said Purpose) (before : List (List ℕ)) (i : Item Purpose) (after : List (List ℕ)) → Completes s before i after → length after ≤ length before
-words-completed (item j) before i after h = rw h.1 (omega arith)
-words-completed (option e) [] i after h = rw h.1 (omega arith)
-words-completed (option e) (x ∷ rest) i after h = rw h.1 (omega arith)
+words-completed s before i after h = grind arith

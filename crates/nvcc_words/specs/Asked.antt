@@ -1,8 +1,7 @@
 -- What a line asks nvcc for, item by item, as nvcc reads it.
-use Rattle.std.specs.Prelude.{◌≡◌, ℕ, List, [], ◌∷◌, ◌++◌, Bool, not, ◌&&◌, ◌==◌, length, is_some, if◌then◌else◌, Option, Some, None, fold, refl, codes}
+use Rattle.std.specs.Prelude.{◌≡◌, ℕ, List, [], ◌∷◌, ◌++◌, Bool, not, ◌&&◌, ◌==◌, length, is_some, if◌then◌else◌, Option, Some, None, fold, refl, codes, bytes_eq}
 use Rattle.std.specs.Option.{option_or}
 use Rattle.std.specs.List.{list_all}
-use Rattle.std.specs.Str.{bytes_eq}
 use Rattle.gcc_lines.specs.GccOptions.{gcc_entries}
 use Rattle.host_lines.specs.NvccOptions.{nvcc_options}
 use Rattle.option_items.specs.Table.{Entry, longest_match, longest_of_two}

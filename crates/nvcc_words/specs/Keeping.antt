@@ -1,7 +1,6 @@
 -- Whether a line keeps the options of another.
-use Rattle.std.specs.Prelude.{◌≡◌, ℕ, List, [], ◌∷◌, Bool, true, false, ◌&&◌, nat_eq, filter, map, None, is_none, refl, codes}
+use Rattle.std.specs.Prelude.{◌≡◌, ℕ, List, [], ◌∷◌, Bool, true, false, ◌&&◌, nat_eq, filter, map, None, is_none, refl, codes, bytes_eq}
 use Rattle.std.specs.List.{All, list_all}
-use Rattle.std.specs.Str.{bytes_eq}
 use Rattle.std.specs.Cmp.Lexicographic.{pointwise}
 use Rattle.texts.specs.Rows.{spaced}
 use Rattle.host_lines.specs.NvccEnvironment.{with_added_words}

@@ -1,8 +1,6 @@
 -- The verdict on a line: its normal form, if sccache's reader reads that as nvcc does, or why the call goes to nvcc.
-use Rattle.std.specs.Prelude.{ℕ, List, [], Bool, true, false, ◌&&◌, if◌then◌else◌, Result, Ok, Err, codes}
+use Rattle.std.specs.Prelude.{ℕ, List, [], Bool, true, false, ◌&&◌, if◌then◌else◌, Result, Ok, Err, codes, nat_eq, bytes_eq}
 use Rattle.std.specs.Option.{option_map_or}
-use Rattle.std.specs.Str.{bytes_eq}
-use Rattle.std.specs.Prelude.{nat_eq}
 use Rattle.std.specs.Cmp.Lexicographic.{pointwise}
 use Rattle.texts.specs.Variables.{first_value}
 use Rattle.compilers.specs.declared.arguments.ParsedArguments.{ParsedArguments}

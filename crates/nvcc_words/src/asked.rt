@@ -1,8 +1,6 @@
 //! What a line asks nvcc for, item by item.
 
-ghost use Rattle.std.specs.Prelude.{◌≡◌, ◌++◌, ◌∷◌, [], OnOk, IfOk, codes, map, string_bytes};
-ghost use Rattle.std.specs.Str.{bytes_eq};
-ghost use Rattle.std.specs.Option.{option_copied};
+ghost use Rattle.std.specs.Prelude.{◌≡◌, ◌++◌, ◌∷◌, [], OnOk, IfOk, codes, map, string_bytes, bytes_eq, option_copied};
 ghost use Rattle.option_items.specs.Views.{item_seen, item_viewed};
 ghost use Rattle.texts.specs.Variables.{pair_of};
 ghost use Rattle.nvcc_words.specs.Asked as spec;

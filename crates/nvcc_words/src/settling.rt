@@ -1,7 +1,6 @@
 //! Why a line's call is left to nvcc, and nvcc's reading of it if it isn't.
 
-ghost use Rattle.std.specs.Prelude.{◌≡◌, map, IfOk, OnOk, string_bytes};
-ghost use Rattle.std.specs.Str.{bytes_eq};
+ghost use Rattle.std.specs.Prelude.{◌≡◌, map, IfOk, OnOk, string_bytes, bytes_eq};
 ghost use Rattle.std.specs.List.{list_all};
 ghost use Rattle.nvcc_words.specs.Asked.{reason_unless};
 ghost use Rattle.nvcc_words.specs.NormalForm as spec;

@@ -1,13 +1,9 @@
 -- The words that an item is written as are read as that item again.
-use Rattle.std.proofs.Common.{◌≡◌, ◌≢◌, ℕ, true, false, cond, not, ◌&&◌, eqb, eqb-true, List, [], ◌∷◌, ◌++◌, map, Option, Some, None, refl, ap, sym, ◌∙◌, subst, nat_lt, append_assoc, append-nil}
+use Rattle.std.proofs.Common.{◌≡◌, ◌≢◌, ℕ, true, false, cond, not, ◌&&◌, eqb, eqb-true, List, [], ◌∷◌, ◌++◌, map, Option, Some, None, refl, ap, sym, ◌∙◌, subst, nat_lt, append_assoc, append-nil, option_map, option_and_then, bytes_eq, encode_utf8, arith}
 use Rattle.std.specs.List.{AllByRecursion, flat_map}
-use Rattle.std.specs.Option.{option_map, option_and_then}
-use Rattle.std.specs.Str.{bytes_eq}
-use Rattle.std.specs.Prelude.{encode_utf8}
 use Rattle.std.proofs.lemmas.Bool.{false≢true, and_parts, ltb-true}
 use Rattle.std.proofs.lemmas.Str.{encode_ascii}
 use Rattle.option_items.specs.declared.table.ArgDisposition.{ArgDisposition}
-use Rattle.option_items.specs.declared.table.ArgDisposition.TheVariants.{Separated, Concatenated, CanBeSeparated, CanBeConcatenated}
 use Rattle.option_items.specs.Table.{Entry, Matched, lone, joined, awaiting, value_after, matched_rest, matched}
 use Rattle.texts.specs.Lists.{rest_after}
 use Rattle.option_items.specs.Items.{Item, raw, unknown_flag, flag, with_value, faulty, Said, item, option, items, said_by, said_of, unmatched_item, last_item, separate_item, joined_form, separate_form, may_stand_last, Completes, delimiter_before, value_words, words_of}
@@ -24,42 +20,18 @@ rest_after-some (c ∷ cs) (d ∷ ds) rest h =
 
 -- a value that isn't empty, with what stands before it, is what followed the option's text
 value_after-some : (delimiter : Option ℕ) (rest value : List ℕ) → value_after delimiter rest ≡ Some value → value ≢ [] → delimiter_before value delimiter ++ value ≡ rest
-value_after-some None rest value h some = cc
-value_after-some (Some d) [] value h some =
-    elim (nat_lt d 128) as (λ b. cond b (Some []) None ≡ Some value → delimiter_before value (Some d) ++ value ≡ [])
-    [ true ↦ λ k. absurd (some (cc)) | false ↦ λ k. cc ] h
-value_after-some (Some d) (c ∷ cs) [] h some = absurd (some refl)
-value_after-some (Some d) (c ∷ cs) (v ∷ vs) h some =
-    elim (nat_lt d 128 && eqb c d) as (λ b. (nat_lt d 128 && eqb c d) ≡ b → cond b (Some cs) None ≡ Some (v ∷ vs) → encode_utf8 d ++ (v ∷ vs) ≡ c ∷ cs) [
-      | true ↦ λ e k.
-          let parts = and_parts (nat_lt d 128) (eqb c d) e in
-          let one : encode_utf8 d ≡ d ∷ [] = encode_ascii d (ltb-true d 128 parts.0) in
-          let same : c ≡ d = eqb-true c d parts.1 in
-          let tail : cs ≡ v ∷ vs = cc in
-          rw (one, tail, same) refl
-      | false ↦ λ e k. cc
-    ] refl h
+value_after-some delimiter rest value h some = grind (arith, and_parts, encode_ascii, ltb-true, eqb-true)
 
 -- nothing follows the text of a flag, or of an option that awaits its value
 mapped-not : {A B : Type 0} (f : A → B) (o : Option A) (b : B) → ((a : A) → f a ≢ b) → option_map f o ≢ Some b
-mapped-not f None b never h = cc
-mapped-not f (Some a) b never h = never a (cc)
+mapped-not f o b never h = grind arith
 
 rest-unjoined : (form : Option ArgDisposition) (rest : List ℕ) (m : Matched) → ((value : List ℕ) → joined value ≢ m) → matched_rest form rest ≡ Some m → rest ≡ []
-rest-unjoined None [] m never h = refl
-rest-unjoined None (c ∷ cs) m never h = cc
-rest-unjoined (Some Separated) [] m never h = refl
-rest-unjoined (Some Separated) (c ∷ cs) m never h = cc
-rest-unjoined (Some (Concatenated d)) rest m never h = absurd (mapped-not joined (value_after d rest) m never h)
-rest-unjoined (Some (CanBeSeparated d)) [] m never h = refl
-rest-unjoined (Some (CanBeSeparated d)) (c ∷ cs) m never h = absurd (mapped-not joined (value_after d (c ∷ cs)) m never h)
-rest-unjoined (Some (CanBeConcatenated d)) [] m never h = refl
-rest-unjoined (Some (CanBeConcatenated d)) (c ∷ cs) m never h = absurd (mapped-not joined (value_after d (c ∷ cs)) m never h)
+rest-unjoined form rest m never h = grind (arith, mapped-not)
 
 -- an option with a value that was joined to it is written as its text and what followed
 mapped-joined : (o : Option (List ℕ)) (value : List ℕ) → option_map joined o ≡ Some (joined value) → o ≡ Some value
-mapped-joined None value h = cc
-mapped-joined (Some v) value h = cc
+mapped-joined o value h = grind arith
 
 one_word : (text rest value : List ℕ) (delimiter : Option ℕ) → value_after delimiter rest ≡ Some value → not (bytes_eq value []) ≡ true → ((text ++ delimiter_before value delimiter) ++ value) ∷ [] ≡ (text ++ rest) ∷ []
 one_word text rest value delimiter h whole =
@@ -67,15 +39,7 @@ one_word text rest value delimiter h whole =
     ap (λ word. word ∷ []) (append_assoc text (delimiter_before value delimiter) value ∙ ap (λ t. text ++ t) (value_after-some delimiter rest value h some))
 
 rest-joined : (form : Option ArgDisposition) (text rest value : List ℕ) → matched_rest form rest ≡ Some (joined value) → not (is_joined (joined_form form) && bytes_eq value []) ≡ true → value_words text value (joined_form form) ≡ (text ++ rest) ∷ []
-rest-joined None text [] value h whole = cc
-rest-joined None text (c ∷ cs) value h whole = cc
-rest-joined (Some Separated) text [] value h whole = cc
-rest-joined (Some Separated) text (c ∷ cs) value h whole = cc
-rest-joined (Some (Concatenated d)) text rest value h whole = one_word text rest value d (mapped-joined (value_after d rest) value h) whole
-rest-joined (Some (CanBeSeparated d)) text [] value h whole = absurd (mapped-not (λ _. awaiting) (value_after d []) (joined value) (λ a e. cc) h)
-rest-joined (Some (CanBeSeparated d)) text (c ∷ cs) value h whole = one_word text (c ∷ cs) value d (mapped-joined (value_after d (c ∷ cs)) value h) whole
-rest-joined (Some (CanBeConcatenated d)) text [] value h whole = absurd (mapped-not (λ _. awaiting) (value_after d []) (joined value) (λ a e. cc) h)
-rest-joined (Some (CanBeConcatenated d)) text (c ∷ cs) value h whole = one_word text (c ∷ cs) value d (mapped-joined (value_after d (c ∷ cs)) value h) whole
+rest-joined form text rest value h whole = grind (arith, one_word, mapped-joined, mapped-not)
 
 -- the text of an entry is the word if nothing follows it
 text-alone : (text rest word : List ℕ) → word ≡ text ++ rest → rest ≡ [] → text ≡ word
@@ -83,35 +47,25 @@ text-alone text rest word e none = sym (append-nil text) ∙ ap (λ t. text ++ t
 
 -- a word that is no option is written as itself
 unmatched-words : (T : Type 0) (word : List ℕ) → words_of (unmatched_item {T = T} word) ≡ word ∷ []
-unmatched-words T [] = refl
-unmatched-words T (c ∷ cs) =
-    elim (eqb c 45) as (λ b. words_of {T = T} (cond b (unknown_flag (c ∷ cs)) (raw (c ∷ cs))) ≡ (c ∷ cs) ∷ []) [ true ↦ refl | false ↦ refl ]
+unmatched-words T word = grind arith
 
 module _ {T : Type 0} where
   -- a word that an entry matches is the entry's text and what follows
   matched-rest : (e : Entry T) (word : List ℕ) (m : Matched) → matched e word ≡ Some m → (rest : List ℕ) × (word ≡ e.text ++ rest) × (matched_rest e.form rest ≡ Some m)
-  matched-rest e word m h =
-      elim (rest_after e.text word)
-      as (λ o. rest_after e.text word ≡ o → option_and_then (matched_rest e.form) o ≡ Some m → (rest : List ℕ) × (word ≡ e.text ++ rest) × (matched_rest e.form rest ≡ Some m))
-      [ None ↦ λ at k. cc | Some rest ↦ λ at k. (rest, rest_after-some e.text word rest at, k) ] refl h
+  matched-rest e word m h = grind (arith, rest_after-some)
 
   -- an item that a word says by itself is written as that word
   said_by-words : (e : Entry T) (word : List ℕ) (m : Option Matched) (j : Item T) → matched e word ≡ m → said_by e word m ≡ item j → is_whole j ≡ true → words_of j ≡ word ∷ []
-  said_by-words e word None j at said whole =
-      let is : j ≡ unmatched_item word = cc in ap words_of is ∙ unmatched-words T word
+  said_by-words e word None j at said whole = grind (arith, unmatched-words)
   said_by-words e word (Some lone) j at said whole =
       let is : j ≡ flag e.text e.kind = cc in
       let parts = matched-rest e word lone at in
       ap words_of is ∙ ap (λ t. t ∷ []) (text-alone e.text parts.0 word parts.1 (rest-unjoined e.form parts.0 lone (λ value e. cc) parts.2))
-  said_by-words e word (Some (joined value)) j at said whole =
-      let is : j ≡ with_value e.text e.kind value (joined_form e.form) = cc in
-      let parts = matched-rest e word (joined value) at in
-      ap words_of is ∙ rest-joined e.form e.text parts.0 value parts.2 (subst (λ i. is_whole i ≡ true) is whole) ∙ ap (λ t. t ∷ []) (sym parts.1)
+  said_by-words e word (Some (joined value)) j at said whole = grind (arith, matched-rest, rest-joined)
   said_by-words e word (Some awaiting) j at said whole = cc
 
   said-words : (word : List ℕ) (choice : Option (Entry T)) (j : Item T) → said_of word choice ≡ item j → is_whole j ≡ true → words_of j ≡ word ∷ []
-  said-words word None j said whole = let is : j ≡ unmatched_item word = cc in ap words_of is ∙ unmatched-words T word
-  said-words word (Some e) j said whole = said_by-words e word (matched e word) j refl said whole
+  said-words word choice j said whole = grind (arith, unmatched-words, said_by-words)
 
   -- an option that awaits its value is the word
   said_by-option : (e f : Entry T) (word : List ℕ) (m : Option Matched) → matched e word ≡ m → said_by e word m ≡ option f → f.text ≡ word
@@ -124,49 +78,31 @@ module _ {T : Type 0} where
       ap (λ (g : Entry T). g.text) same ∙ text-alone e.text parts.0 word parts.1 (rest-unjoined e.form parts.0 awaiting (λ value e. cc) parts.2)
 
   said-option : (word : List ℕ) (choice : Option (Entry T)) (f : Entry T) → said_of word choice ≡ option f → f.text ≡ word
-  said-option word None f said = cc
-  said-option word (Some e) f said = said_by-option e f word (matched e word) refl said
+  said-option word choice f said = grind (arith, said_by-option)
 
   -- an option that stands last is never whole
   last-not_whole : (e : Entry T) → is_whole (last_item e) ≡ true → ⊥
-  last-not_whole e whole = not_whole e.form e.text e.kind whole where
-    not_whole : (form : Option ArgDisposition) (text : List ℕ) (kind : T) → is_whole (cond (may_stand_last form) (with_value text kind [] (joined_form form)) faulty) ≡ true → ⊥
-    not_whole None text kind h = false≢true h
-    not_whole (Some Separated) text kind h = false≢true h
-    not_whole (Some (Concatenated d)) text kind h = false≢true h
-    not_whole (Some (CanBeSeparated None)) text kind h = false≢true h
-    not_whole (Some (CanBeSeparated (Some d))) text kind h = false≢true h
-    not_whole (Some (CanBeConcatenated None)) text kind h = false≢true h
-    not_whole (Some (CanBeConcatenated (Some d))) text kind h = false≢true h
+  last-not_whole e whole = grind (arith, false≢true)
 
   -- an option with the next word as its value is written as both
   separate-words : (e : Entry T) (x : List ℕ) → words_of (separate_item e x) ≡ e.text ∷ x ∷ []
-  separate-words e x = two e.form where
-    two : (form : Option ArgDisposition) → value_words e.text x (separate_form form) ≡ e.text ∷ x ∷ []
-    two None = refl
-    two (Some Separated) = refl
-    two (Some (Concatenated d)) = refl
-    two (Some (CanBeSeparated d)) = refl
-    two (Some (CanBeConcatenated d)) = refl
+  separate-words e x = grind arith
 
 module _ {T : Type 0} (chosen : List ℕ → Option (Entry T)) where
   -- the first item of a line is what its first word says, completed
   last-completes : (s : Said T) (i : Item T) (later : List (Item T)) → (elim s as (λ _. List (Item T)) [ item j ↦ j ∷ [] | option e ↦ last_item e ∷ [] ]) ≡ i ∷ later → (after : List (List ℕ)) × Completes s [] i after × (later ≡ items chosen after)
-  last-completes (item j) i later h = let is : i ≡ j = cc in let none : later ≡ [] = cc in ([], (is, refl), none)
-  last-completes (option e) i later h = let is : i ≡ last_item e = cc in let none : later ≡ [] = cc in ([], (is, refl), none)
+  last-completes s i later h = grind arith
 
   next-completes : (s : Said T) (x : List ℕ) (rest : List (List ℕ)) (i : Item T) (later : List (Item T)) → (elim s as (λ _. List (Item T)) [ item j ↦ j ∷ items chosen (x ∷ rest) | option e ↦ separate_item e x ∷ items chosen rest ]) ≡ i ∷ later → (after : List (List ℕ)) × Completes s (x ∷ rest) i after × (later ≡ items chosen after)
   next-completes (item j) x rest i later h = let is : i ≡ j = cc in let same : later ≡ items chosen (x ∷ rest) = cc in (x ∷ rest, (is, refl), same)
   next-completes (option e) x rest i later h = let is : i ≡ separate_item e x = cc in let same : later ≡ items chosen rest = cc in (rest, (is, refl), same)
 
   first-completes : (w : List ℕ) (before : List (List ℕ)) (i : Item T) (later : List (Item T)) → items chosen (w ∷ before) ≡ i ∷ later → (after : List (List ℕ)) × Completes (said_of w (chosen w)) before i after × (later ≡ items chosen after)
-  first-completes w [] i later h = last-completes (said_of w (chosen w)) i later h
-  first-completes w (x ∷ rest) i later h = next-completes (said_of w (chosen w)) x rest i later h
+  first-completes w before i later h = grind (arith, last-completes, next-completes)
 
   -- the words of a whole item: the word that begins it, and those that complete it
   completing-words : (w : List ℕ) (s : Said T) (before : List (List ℕ)) (i : Item T) (after : List (List ℕ)) → said_of w (chosen w) ≡ s → Completes s before i after → is_whole i ≡ true → (tail : List (List ℕ)) × (words_of i ≡ w ∷ tail) × (before ≡ tail ++ after) × ((rest : List (List ℕ)) → Completes s (tail ++ rest) i rest)
-  completing-words w (item j) before i after said h whole =
-      ([], ap words_of h.0 ∙ said-words w (chosen w) j said (subst (λ k. is_whole k ≡ true) h.0 whole), sym h.1, λ rest. (h.0, refl))
+  completing-words w (item j) before i after said h whole = grind (arith, said-words)
   completing-words w (option e) [] i after said h whole = absurd (last-not_whole e (subst (λ k. is_whole k ≡ true) h.0 whole))
   completing-words w (option e) (x ∷ rest) i after said h whole =
       let text : e.text ≡ w = said-option w (chosen w) e said in
@@ -175,12 +111,7 @@ module _ {T : Type 0} (chosen : List ℕ → Option (Entry T)) where
   first-words : (w : List ℕ) (before : List (List ℕ)) (i : Item T) (later : List (Item T)) → items chosen (w ∷ before) ≡ i ∷ later → is_whole i ≡ true → (after : List (List ℕ)) × (w ∷ before ≡ words_of i ++ after) × (later ≡ items chosen after) × ((rest : List (List ℕ)) → items chosen (words_of i ++ rest) ≡ i ∷ items chosen rest)
   first-words w before i later h whole =
       let read = first-completes w before i later h in
-      let own = completing-words w (said_of w (chosen w)) before i read.0 refl read.1 whole in (
-        read.0,
-        ap (λ t. w ∷ t) own.2 ∙ ap (λ ws. ws ++ read.0) (sym own.1),
-        read.2,
-        λ rest. ap (λ ws. items chosen (ws ++ rest)) own.1 ∙ items-completed chosen w (own.0 ++ rest) i rest (own.3 rest),
-      )
+      grind (arith, completing-words, items-completed)
 
   pub words-are_those_read : WordsAreThoseRead chosen
   words-are_those_read [] i later h whole = cc
@@ -219,16 +150,8 @@ module _ {T : Type 0} (chosen : List ℕ → Option (Entry T)) where
   -- a line is its parts
   pub lines-are_their_parts : LinesAreTheirParts chosen
   lines-are_their_parts [] = (refl, refl)
-  lines-are_their_parts (w ∷ []) =
-      elim (said_of w (chosen w))
-      as (λ s. (map (λ p. p.0) (elim s as (λ _. List (Item T × List (List ℕ))) [ item j ↦ (j, w ∷ []) ∷ [] | option e ↦ (last_item e, w ∷ []) ∷ [] ]) ≡ (elim s as (λ _. List (Item T)) [ item j ↦ j ∷ [] | option e ↦ last_item e ∷ [] ])) × (flat_map (λ p. p.1) (elim s as (λ _. List (Item T × List (List ℕ))) [ item j ↦ (j, w ∷ []) ∷ [] | option e ↦ (last_item e, w ∷ []) ∷ [] ]) ≡ w ∷ []))
-      [ item j ↦ (refl, refl) | option e ↦ (refl, refl) ]
-  lines-are_their_parts (w ∷ x ∷ rest) =
-      let later = lines-are_their_parts (x ∷ rest) in
-      let past = lines-are_their_parts rest in
-      elim (said_of w (chosen w))
-      as (λ s. (map (λ p. p.0) (elim s as (λ _. List (Item T × List (List ℕ))) [ item j ↦ (j, w ∷ []) ∷ parts chosen (x ∷ rest) | option e ↦ (separate_item e x, w ∷ x ∷ []) ∷ parts chosen rest ]) ≡ (elim s as (λ _. List (Item T)) [ item j ↦ j ∷ items chosen (x ∷ rest) | option e ↦ separate_item e x ∷ items chosen rest ])) × (flat_map (λ p. p.1) (elim s as (λ _. List (Item T × List (List ℕ))) [ item j ↦ (j, w ∷ []) ∷ parts chosen (x ∷ rest) | option e ↦ (separate_item e x, w ∷ x ∷ []) ∷ parts chosen rest ]) ≡ w ∷ x ∷ rest))
-      [ item j ↦ (ap (λ is. j ∷ is) later.0, ap (λ ws. w ∷ ws) later.1) | option e ↦ (ap (λ is. separate_item e x ∷ is) past.0, ap (λ ws. w ∷ x ∷ ws) past.1) ]
+  lines-are_their_parts (w ∷ []) = grind arith
+  lines-are_their_parts (w ∷ x ∷ rest) = grind (arith, (lines-are_their_parts (x ∷ rest)), (lines-are_their_parts rest))
 
   -- the words of a whole item are its part
   last-is_no_part : (e : Entry T) (part : List (List ℕ)) → is_whole (last_item e) ≡ true → words_of (last_item e) ≡ part
@@ -236,36 +159,18 @@ module _ {T : Type 0} (chosen : List ℕ → Option (Entry T)) where
 
   pub whole_items-are_their_parts : WholeItemsAreTheirParts chosen
   whole_items-are_their_parts [] = tt
-  whole_items-are_their_parts (w ∷ []) =
-      elim (said_of w (chosen w))
-      as (λ s. said_of w (chosen w) ≡ s → AllByRecursion (λ p. is_whole p.0 ≡ true → words_of p.0 ≡ p.1) (elim s as (λ _. List (Item T × List (List ℕ))) [ item j ↦ (j, w ∷ []) ∷ [] | option e ↦ (last_item e, w ∷ []) ∷ [] ]))
-      [ item j ↦ λ said. (said-words w (chosen w) j said, tt) | option e ↦ λ said. (last-is_no_part e (w ∷ []), tt) ] refl
-  whole_items-are_their_parts (w ∷ x ∷ rest) =
-      let later = whole_items-are_their_parts (x ∷ rest) in
-      let past = whole_items-are_their_parts rest in
-      elim (said_of w (chosen w))
-      as (λ s. said_of w (chosen w) ≡ s → AllByRecursion (λ p. is_whole p.0 ≡ true → words_of p.0 ≡ p.1) (elim s as (λ _. List (Item T × List (List ℕ))) [ item j ↦ (j, w ∷ []) ∷ parts chosen (x ∷ rest) | option e ↦ (separate_item e x, w ∷ x ∷ []) ∷ parts chosen rest ])) [
-        | item j ↦ λ said. (said-words w (chosen w) j said, later)
-        | option e ↦ λ said. (λ whole. separate-words e x ∙ ap (λ t. t ∷ x ∷ []) (said-option w (chosen w) e said), past)
-      ] refl
+  whole_items-are_their_parts (w ∷ []) = grind (arith, said-words, last-is_no_part)
+  whole_items-are_their_parts (w ∷ x ∷ rest) = grind (arith, said-words, separate-words, said-option, (whole_items-are_their_parts (x ∷ rest)), (whole_items-are_their_parts rest))
 
   -- a line is the words of its items
   no-items : (line : List (List ℕ)) → items chosen line ≡ [] → line ≡ []
-  no-items [] h = refl
-  no-items (w ∷ []) h = absurd (some (said_of w (chosen w)) h) where
-    some : (s : Said T) → (elim s as (λ _. List (Item T)) [ item j ↦ j ∷ [] | option e ↦ last_item e ∷ [] ]) ≡ [] → ⊥
-    some (item j) h = cc
-    some (option e) h = cc
-  no-items (w ∷ x ∷ rest) h = absurd (some (said_of w (chosen w)) h) where
-    some : (s : Said T) → (elim s as (λ _. List (Item T)) [ item j ↦ j ∷ items chosen (x ∷ rest) | option e ↦ separate_item e x ∷ items chosen rest ]) ≡ [] → ⊥
-    some (item j) h = cc
-    some (option e) h = cc
+  no-items line h = grind arith
 
   words-of_items : (is : List (Item T)) (line : List (List ℕ)) → items chosen line ≡ is → AllWhole is → flat_map words_of is ≡ line
   words-of_items [] line h whole = sym (no-items line h)
   words-of_items (i ∷ is) line h whole =
       let read = words-are_those_read line i is h whole.0 in
-      ap (λ ws. words_of i ++ ws) (words-of_items is read.0 (sym read.2) whole.1) ∙ sym read.1
+      grind (arith, (words-of_items is read.0 (sym read.2) whole.1))
 
   pub whole-lines_are_kept : WholeLinesAreKept chosen
   whole-lines_are_kept line whole = words-of_items (items chosen line) line refl whole

@@ -1,6 +1,5 @@
 -- The items of a command line, and the words that an item is written as.
-use Rattle.std.specs.Prelude.{◌≡◌, ℕ, List, [], ◌∷◌, ◌++◌, Bool, true, false, ◌==◌, if◌then◌else◌, Option, Some, None}
-use Rattle.std.specs.Prelude.{Result, Ok, Err, IfSome, IfNone, string_bytes, encode_utf8}
+use Rattle.std.specs.Prelude.{◌≡◌, ℕ, List, [], ◌∷◌, ◌++◌, Bool, true, false, ◌==◌, if◌then◌else◌, Option, Some, None, Result, Ok, Err, IfSome, IfNone, string_bytes, encode_utf8}
 use Rattle.option_items.specs.declared.table.ArgDisposition.{ArgDisposition}
 use Rattle.option_items.specs.declared.table.ArgDisposition.TheVariants.{Separated, Concatenated, CanBeSeparated, CanBeConcatenated}
 use Rattle.option_items.specs.declared.items.Argument.{Argument}

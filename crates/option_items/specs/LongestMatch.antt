@@ -1,8 +1,6 @@
 -- The entry that a list chooses is a longest match, and so is the longer one of two tables' choices.
-use Rattle.std.proofs.Common.{◌≡◌, ℕ, ◌≤◌, true, false, cond, ◌&&◌, List, [], ◌∷◌, ◌++◌, Option, Some, None, length}
+use Rattle.std.specs.Prelude.{◌≡◌, ℕ, ◌≤◌, true, false, cond, ◌&&◌, List, [], ◌∷◌, ◌++◌, Option, Some, None, length, All, fold, is_some, IsSome}
 use Rattle.std.proofs.Common.{refl, sym, subst, arith, append_assoc, nat_lt, append-nil}
-use Rattle.std.specs.List.{All, fold}
-use Rattle.std.specs.Option.{is_some, IsSome}
 use Rattle.std.proofs.lemmas.List.Elements.{All-nil, All-push, All-weaker, All-append, Contains-push, Contains-append_left, Contains-append_right}
 use Rattle.std.proofs.lemmas.Bool.{false≢true}
 use Rattle.std.proofs.lemmas.Bool.Decides.{nat_tests}

@@ -1,7 +1,5 @@
 -- Option tables: how an entry matches a word, and which entry of a table a word chooses.
-use Rattle.std.specs.Prelude.{◌≡◌, ℕ, ◌≤◌, List, [], ◌∷◌, Bool, true, ◌==◌, ◌&&◌, nat_lt, if◌then◌else◌, Option, Some}
-use Rattle.std.specs.Prelude.{None, is_some, length, fold, IsSome, MatchOption, All, Contains}
-use Rattle.std.specs.Option.{option_map, option_and_then}
+use Rattle.std.specs.Prelude.{◌≡◌, ℕ, ◌≤◌, List, [], ◌∷◌, Bool, true, ◌==◌, ◌&&◌, nat_lt, if◌then◌else◌, Option, Some, None, is_some, length, fold, IsSome, MatchOption, All, Contains, option_map, option_and_then}
 use Rattle.texts.specs.Lists.{rest_after}
 use Rattle.option_items.specs.declared.table.ArgDisposition.{ArgDisposition}
 use Rattle.option_items.specs.declared.table.ArgDisposition.TheVariants.{Separated, Concatenated, CanBeSeparated, CanBeConcatenated}

@@ -1,8 +1,6 @@
 //! The items of a command line, read word by word over an option table.
 
-ghost use Rattle.std.specs.Prelude.{◌≡◌, ◌∷◌, [], ◌++◌, ◌<◌, length, map, Some, MatchOption, IfOk, OnOk, OnErr, string_bytes};
-ghost use Rattle.std.specs.Option.{option_map, option_copied};
-ghost use Rattle.std.specs.List.{remove};
+ghost use Rattle.std.specs.Prelude.{◌≡◌, ◌∷◌, [], ◌++◌, ◌<◌, length, map, Some, MatchOption, IfOk, OnOk, OnErr, string_bytes, option_map, option_copied, remove};
 ghost use Rattle.option_items.specs.Table.{entry_of};
 ghost use Rattle.option_items.specs.Items.{item_of, item_read};
 ghost use Rattle.option_items.specs.Views.{item_seen};

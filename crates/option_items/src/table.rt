@@ -1,7 +1,6 @@
 //! Option tables, and which entry of a table a word chooses.
 
-ghost use Rattle.std.specs.Prelude.{◌≡◌, ◌++◌, ℕ, List, Option, map, Some, None, false};
-ghost use Rattle.std.specs.Option.{option_map, option_copied};
+ghost use Rattle.std.specs.Prelude.{◌≡◌, ◌++◌, ℕ, List, Option, map, Some, None, false, option_map, option_copied};
 ghost use Rattle.option_items.specs.Table.{Entry, entry_of};
 ghost use Rattle.option_items.specs.Table as spec;
 ghost use Rattle.texts.specs.Lists.{rest_after};

@@ -1,7 +1,6 @@
 //! Items that borrow their texts from the words of their line. Reading them allocates nothing.
 
-ghost use Rattle.std.specs.Prelude.{◌≡◌, ◌++◌, map, IfOk, OnOk, OnErr};
-ghost use Rattle.std.specs.Option.{option_map, option_copied};
+ghost use Rattle.std.specs.Prelude.{◌≡◌, ◌++◌, map, IfOk, OnOk, OnErr, option_map, option_copied};
 ghost use Rattle.option_items.specs.Table.{entry_of};
 ghost use Rattle.option_items.specs.Items.{item_of};
 ghost use Rattle.option_items.specs.Items as spec;

@@ -1,7 +1,6 @@
 -- What the program writes for a plan.
-use Rattle.std.specs.Prelude.{ℕ, List, length, ◌==◌, Bool, true, false, not, if◌then◌else◌, codes, Option, Some, None, Result, Ok, Err}
+use Rattle.std.specs.Prelude.{ℕ, List, length, ◌==◌, Bool, true, false, not, if◌then◌else◌, codes, Option, Some, None, Result, Ok, Err, bytes_eq}
 use Rattle.std.specs.List.{list_all}
-use Rattle.std.specs.Str.{bytes_eq}
 use Rattle.texts.specs.declared.fault.Fault.{Fault}
 use Rattle.dry_runs.specs.declared.parsed_runs.ParsedRuns.{ParsedRuns}
 use Rattle.dry_runs.specs.DryRun.{LookUp}

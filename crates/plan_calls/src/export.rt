@@ -1,8 +1,7 @@
 //! The engine that plans two dry runs and writes the plan for another tool.
 
-ghost use Rattle.std.specs.Prelude.{◌≡◌, ◌==◌, List, ℕ, length, map, vec_items, Result, Err};
+ghost use Rattle.std.specs.Prelude.{◌≡◌, ◌==◌, List, ℕ, length, map, vec_items, Result, Err, option_copied};
 ghost use Rattle.std.specs.List.{list_all};
-ghost use Rattle.std.specs.Option.{option_copied};
 ghost use Rattle.texts.specs.Fault.{UnlessMemory};
 ghost use Rattle.dry_runs.specs.Parsed.{AreParsed, both_parsed};
 ghost use Rattle.plan_scripts.specs.declared.refusal.Refusal.{Refusal};

@@ -1,12 +1,8 @@
 -- A value is cut at its first `$`.
-use Rattle.std.proofs.Common.{ℕ, eqb, ◌<◌, ◌+◌, List, [], ◌∷◌, ◌++◌, ◌≡◌, not, cond, true, refl, sym, ap, subst, ◌∙◌, arith, encode_utf8_all, length, get_or, Option, Some, None, MatchOption}
-use Rattle.std.specs.Borrow.{Bor}
-use Rattle.std.specs.List.{flat_map}
-use Rattle.std.specs.Str.{IsUtf8, chars}
+use Rattle.std.proofs.Common.{ℕ, eqb, ◌<◌, ◌+◌, List, [], ◌∷◌, ◌++◌, ◌≡◌, not, cond, true, refl, sym, ap, subst, ◌∙◌, arith, encode_utf8_all, length, get_or, Option, Some, None, MatchOption, Bor, flat_map, IsUtf8, chars, length-append}
 use Rattle.std.proofs.Math.Seq.{get_or-append_seam, take-append_seam}
 use Rattle.std.proofs.lemmas.Bool.{and_parts}
 use Rattle.std.proofs.lemmas.Grind.{flat_map-append}
-use Rattle.std.proofs.lemmas.List.{length-append}
 use Rattle.std.proofs.lemmas.Str.{IsCharBoundary-before_ascii, IsUtf8-take, chars-append, encodes-append, encodes-chars}
 use Rattle.std.proofs.lemmas.Str.Pattern.{IsSplitOnceResult, split_parts}
 use Rattle.texts.specs.Path.{lacks}
@@ -21,17 +17,16 @@ front-utf8 front behind is =
     let text = front ++ 36 ∷ behind in
     let within : length front < length text = omega (arith, length-append front (36 ∷ behind)) in
     let ascii : get_or text (length front) 0 < 128 = subst (λ c. c < 128) (sym (get_or-append_seam front 36 behind 0)) (omega arith) in
-    subst IsUtf8 (take-append_seam front (36 ∷ behind)) (IsUtf8-take text (length front) is (IsCharBoundary-before_ascii text (length front) within ascii))
+    grind (arith, take-append_seam, IsUtf8-take, IsCharBoundary-before_ascii)
 
 plain-chars : (cs : List ℕ) → lacks 36 cs ≡ true → flat_map escaped_char cs ≡ cs
 plain-chars [] h = refl
 plain-chars (c ∷ cs) h =
     let parts = and_parts (not (eqb c 36)) (lacks 36 cs) h in
-    ap (λ b. cond b (36 ∷ 36 ∷ []) (c ∷ []) ++ flat_map escaped_char cs) (not-is 36 c parts.0) ∙ ap (λ t. c ∷ t) (plain-chars cs parts.1)
+    grind (arith, not-is, (plain-chars cs parts.1))
 
 plain-text : (text : List ℕ) → IsUtf8 text → lacks 36 text ≡ true → flat_map escaped_char (chars text) ≡ chars text
-plain-text text is h =
-    plain-chars (chars text) (lacks-encoded 36 (chars text) (omega arith) (subst (λ t. lacks 36 t ≡ true) (sym (encodes-chars text is)) h))
+plain-text text is h = grind (arith, plain-chars, lacks-encoded, encodes-chars)
 
 escaped-plain : (text : List ℕ) → IsUtf8 text → lacks 36 text ≡ true → escaped text ≡ text
 escaped-plain text is h = ap encode_utf8_all (plain-text text is h) ∙ encodes-chars text is
@@ -52,4 +47,4 @@ dollar-cut text None is h = escaped-plain text is (lacks-places 36 text (split_p
 dollar-cut text (Some x) is h =
     let parts = split_parts 36 text (Some x) h (omega arith) in
     let front = front-utf8 x.0.now x.1.now (subst IsUtf8 parts.0 is) in
-    ap escaped parts.0 ∙ escaped-cut x.0.now x.1.now front (lacks-places 36 x.0.now parts.1)
+    grind (arith, escaped-cut, lacks-places)

@@ -1,8 +1,6 @@
 -- What is written for Ninja is read as the edges of the plan.
-use Rattle.std.proofs.Common.{ℕ, suc, ◌<◌, ◌+◌, List, [], ◌∷◌, ◌++◌, ◌≡◌, refl, sym, ap, ◌∙◌, subst, append_assoc, append-nil, map, length, drop, Bool, true, false, not, ◌&&◌, ◌==◌, eqb, eqb-true, eq-eqb, ne_eqb, Option, Some, None, Result, Ok, Err, codes, encode_utf8_all, arith}
+use Rattle.std.proofs.Common.{ℕ, suc, ◌<◌, ◌+◌, List, [], ◌∷◌, ◌++◌, ◌≡◌, refl, sym, ap, ◌∙◌, subst, append_assoc, append-nil, map, length, drop, Bool, true, false, not, ◌&&◌, ◌==◌, eqb, eqb-true, eq-eqb, ne_eqb, Option, Some, None, Result, Ok, Err, codes, encode_utf8_all, arith, IsUtf8, chars}
 use Rattle.std.specs.List.{AllByRecursion, flat_map, list_all}
-use Rattle.std.specs.Str.{IsUtf8, chars}
-use Rattle.std.specs.Int.Digits.{digits_of}
 use Rattle.std.proofs.lemmas.List.{get_or_at, get_or-drop, drop-drop, length_push, length-append}
 use Rattle.std.proofs.lemmas.Bool.{false≢true, and_parts, and_from, not-true, cond_both, eqb-false}
 use Rattle.std.proofs.lemmas.Int.Digits.{all_below_base_digits_of}
@@ -13,15 +11,12 @@ use Rattle.compilers.specs.declared.command.Cacheable.TheVariants.{Yes, No}
 use Rattle.texts.specs.Numeral.{numeral}
 use Rattle.texts.specs.Path.{lacks}
 use Rattle.texts.proofs.PathLemmas.{lacks-places, lacks-append}
-use Rattle.shell_words.specs.Shell.{backslash, single_quote}
 use Rattle.shell_words.specs.Shell.Quoting.{is_plain, quoted_char, quoted_word, further, quoted, written}
 use Rattle.plans.specs.declared.plan.NvccGeneratedSubcommand.{NvccGeneratedSubcommand}
 use Rattle.plans.specs.declared.plan.Dropped.{Dropped}
 use Rattle.plans.specs.declared.plan.Reason.{Reason}
-use Rattle.plans.specs.declared.plan.Reason.TheVariants.{NotCuda, NoCiccGroup, NoPtxasGroup, Superseded}
 use Rattle.plans.specs.declared.plan.Plan.{Plan}
 use Rattle.plan_scripts.specs.declared.refusal.Refusal.{Refusal}
-use Rattle.plan_scripts.specs.declared.refusal.Refusal.TheVariants.{Unheld}
 use Rattle.plan_scripts.specs.declared.format.Format.TheVariants.{Ninja}
 use Rattle.plan_scripts.specs.CommandText.{assignment, env_words, command_text}
 use Rattle.plan_scripts.specs.Judging.{holds, holds_text, holds_variables, holds_command, judged_command, judged_group, judged_groups, and_then}
@@ -44,7 +39,7 @@ lacks-parts byte [] back h = (refl, h)
 lacks-parts byte (c ∷ front) back h =
     let parts = and_parts (not (eqb c byte)) (lacks byte (front ++ back)) h in
     let rest = lacks-parts byte front back parts.1 in
-    (and_from (not (eqb c byte)) (lacks byte front) parts.0 rest.0, rest.1)
+    grind (arith, and_from)
 
 -- a byte below 128 stands in no other character's bytes
 lacks-encode : (byte c : ℕ) → byte < 128 → eqb c byte ≡ false → lacks byte (encode c) ≡ true
@@ -56,22 +51,17 @@ lacks-encodes : (byte : ℕ) (cs : List ℕ) → byte < 128 → lacks byte cs �
 lacks-encodes byte [] ascii h = refl
 lacks-encodes byte (c ∷ cs) ascii h =
     let parts = and_parts (not (eqb c byte)) (lacks byte cs) h in
-    lacks-append byte (encode c) (encode_utf8_all cs) (lacks-encode byte c ascii (not-true (eqb c byte) parts.0)) (lacks-encodes byte cs ascii parts.1)
+    grind (arith, lacks-append, lacks-encode, not-true, (lacks-encodes byte cs ascii parts.1))
 
 -- the character whose bytes lack a byte below 128 is another one
 other-char : (byte c : ℕ) (b : Bool) → eqb c byte ≡ b → byte < 128 → lacks byte (encode c) ≡ true → not b ≡ true
-other-char byte c false is ascii h = refl
-other-char byte c true is ascii h =
-    let same : c ≡ byte = eqb-true c byte is in
-    let bytes : encode c ≡ byte ∷ [] = ap encode same ∙ encode_ascii byte ascii in
-    let bad : not (eqb byte byte) && true ≡ true = subst (λ t. lacks byte t ≡ true) bytes h in
-    absurd (false≢true (ap (λ b. not b && true) (sym (eq-eqb byte byte refl)) ∙ bad))
+other-char byte c b is ascii h = grind (arith, eqb-true, encode_ascii, false≢true, eq-eqb)
 
 pub lacks-encoded : (byte : ℕ) (cs : List ℕ) → byte < 128 → lacks byte (encode_utf8_all cs) ≡ true → lacks byte cs ≡ true
 lacks-encoded byte [] ascii h = refl
 lacks-encoded byte (c ∷ cs) ascii h =
     let parts = lacks-parts byte (encode c) (encode_utf8_all cs) h in
-    and_from (not (eqb c byte)) (lacks byte cs) (other-char byte c (eqb c byte) refl ascii parts.0) (lacks-encoded byte cs ascii parts.1)
+    grind (arith, and_from, other-char, (lacks-encoded byte cs ascii parts.1))
 
 lacks-chars : (text : List ℕ) → IsUtf8 text → lacks 10 text ≡ true → lacks 10 (chars text) ≡ true
 lacks-chars text is h = lacks-encoded 10 (chars text) (omega arith) (subst (λ t. lacks 10 t ≡ true) (sym (encodes-chars text is)) h)
@@ -80,7 +70,7 @@ lacks-flat : (f : ℕ → List ℕ) (cs : List ℕ) → ((c : ℕ) → eqb c 10 
 lacks-flat f [] each h = refl
 lacks-flat f (c ∷ cs) each h =
     let parts = and_parts (not (eqb c 10)) (lacks 10 cs) h in
-    lacks-append 10 (f c) (flat_map f cs) (each c (not-true (eqb c 10) parts.0)) (lacks-flat f cs each parts.1)
+    grind (arith, lacks-append, not-true, (lacks-flat f cs each parts.1))
 
 lacks-one : (c : ℕ) → eqb c 10 ≡ false → lacks 10 (c ∷ []) ≡ true
 lacks-one c other = and_from (not (eqb c 10)) true (ap not other) refl
@@ -95,22 +85,14 @@ pub line-append : (front back : List ℕ) → IsLine front → IsLine back → I
 line-append front back h k = (IsUtf8-append front back h.0 k.0, lacks-append 10 front back h.1 k.1)
 
 lacks-word : (word : List ℕ) → lacks 10 word ≡ true → lacks 10 (quoted_word word) ≡ true
-lacks-word word h =
-    cond_both (is_plain word) word (single_quote ∷ (flat_map quoted_char word ++ single_quote ∷ [])) (λ t. lacks 10 t ≡ true) (λ _. h)
-    (λ _. lacks-append 10 (flat_map quoted_char word) (single_quote ∷ [])
-    (lacks-flat quoted_char word
-    (λ c other. cond_both (c == single_quote) (single_quote ∷ backslash ∷ single_quote ∷ single_quote ∷ []) (c ∷ []) (λ t. lacks 10 t ≡ true) (λ _. refl) (λ _. lacks-one c other)) h)
-    refl)
+lacks-word word h = grind (arith, cond_both, lacks-append, lacks-flat, lacks-one)
 
 lacks-further : (words : List (List ℕ)) → AllByRecursion IsLine words → lacks 10 (further (map chars words)) ≡ true
 lacks-further [] are = refl
-lacks-further (word ∷ words) are =
-    lacks-append 10 (32 ∷ quoted_word (chars word)) (further (map chars words)) (lacks-word (chars word) (lacks-chars word are.0.0 are.0.1)) (lacks-further words are.1)
+lacks-further (word ∷ words) are = grind (arith, lacks-append, lacks-word, lacks-chars, (lacks-further words are.1))
 
 lacks-quoted : (words : List (List ℕ)) → AllByRecursion IsLine words → lacks 10 (quoted (map chars words)) ≡ true
-lacks-quoted [] are = refl
-lacks-quoted (word ∷ words) are =
-    lacks-append 10 (quoted_word (chars word)) (further (map chars words)) (lacks-word (chars word) (lacks-chars word are.0.0 are.0.1)) (lacks-further words are.1)
+lacks-quoted words are = grind (arith, lacks-append, lacks-word, lacks-chars, lacks-further)
 
 all-utf8 : (words : List (List ℕ)) → AllByRecursion IsLine words → AllByRecursion IsUtf8 words
 all-utf8 [] are = tt
@@ -120,22 +102,16 @@ pub line-written : (words : List (List ℕ)) → AllByRecursion IsLine words →
 line-written words are = (written_utf8 words (all-utf8 words are), lacks-encodes 10 (quoted (map chars words)) (omega arith) (lacks-quoted words are))
 
 pub line-escaped : (text : List ℕ) → IsLine text → lacks 10 (escaped text) ≡ true
-line-escaped text is =
-    lacks-encodes 10 (flat_map escaped_char (chars text)) (omega arith)
-    (lacks-flat escaped_char (chars text)
-    (λ c other. cond_both (c == 36) (36 ∷ 36 ∷ []) (c ∷ []) (λ t. lacks 10 t ≡ true) (λ _. refl) (λ _. lacks-one c other)) (lacks-chars text is.0 is.1))
+line-escaped text is = grind (arith, lacks-encodes, lacks-flat, cond_both, lacks-one, lacks-chars)
 
 -- ---- numbers and stamps
 
 lacks-digits : (byte : ℕ) (ds : List ℕ) → ((d : ℕ) → d < 10 → eqb (48 + d) byte ≡ false) → AllByRecursion (λ d. d < 10) ds → lacks byte (map (λ d. 48 + d) ds) ≡ true
 lacks-digits byte [] other small = refl
-lacks-digits byte (d ∷ ds) other small =
-    and_from (not (eqb (48 + d) byte)) (lacks byte (map (λ d. 48 + d) ds)) (ap not (other d small.0)) (lacks-digits byte ds other small.1)
+lacks-digits byte (d ∷ ds) other small = grind (arith, and_from, (lacks-digits byte ds other small.1))
 
 lacks-numeral : (byte n : ℕ) → ((d : ℕ) → d < 10 → eqb (48 + d) byte ≡ false) → lacks byte (codes "0") ≡ true → lacks byte (numeral n) ≡ true
-lacks-numeral byte n other nothing =
-    cond_both (eqb n 0) (codes "0") (map (λ d. 48 + d) (digits_of 10 n)) (λ t. lacks byte t ≡ true) (λ _. nothing)
-    (λ _. lacks-digits byte (digits_of 10 n) other (all_below_base_digits_of 10 n (omega arith)))
+lacks-numeral byte n other nothing = grind (arith, cond_both, lacks-digits, all_below_base_digits_of)
 
 line-numeral : (n : ℕ) → IsLine (numeral n)
 line-numeral n = (utf8-numeral n, lacks-numeral 10 n (λ d small. ne_eqb (48 + d) 10 (λ e. omega arith)) refl)
@@ -145,10 +121,7 @@ abbrev stamp_text : ℕ → ℕ → List ℕ
 stamp_text group place = codes "${tmp}/" ++ stamp group place
 
 lacks-stamp : (byte group place : ℕ) → ((d : ℕ) → d < 10 → eqb (48 + d) byte ≡ false) → lacks byte (codes "0") ≡ true → lacks byte (codes "${tmp}/zigrunk.") ≡ true → lacks byte (codes ".") ≡ true → lacks byte (stamp_text group place) ≡ true
-lacks-stamp byte group place other nothing front dot =
-    lacks-append byte (codes "${tmp}/zigrunk.") (numeral group ++ (codes "." ++ numeral place)) front
-    (lacks-append byte (numeral group) (codes "." ++ numeral place) (lacks-numeral byte group other nothing)
-    (lacks-append byte (codes ".") (numeral place) dot (lacks-numeral byte place other nothing)))
+lacks-stamp byte group place other nothing front dot = grind (arith, lacks-append, lacks-numeral)
 
 pub stamp-no_newline : (group place : ℕ) → lacks 10 (stamp_text group place) ≡ true
 stamp-no_newline group place = lacks-stamp 10 group place (λ d small. ne_eqb (48 + d) 10 (λ e. omega arith)) refl refl refl
@@ -181,13 +154,13 @@ held-text (c ∷ cs) h =
     let parts = and_parts (holds Ninja c) (list_all (holds Ninja) cs) h in
     let one = and_parts (not (eqb c 0)) (not (eqb c 10) && not (eqb c 13)) parts.0 in
     let two = and_parts (not (eqb c 10)) (not (eqb c 13)) one.1 in
-    and_from (not (eqb c 10)) (lacks 10 cs) two.0 (held-text cs parts.1)
+    grind (arith, and_from, (held-text cs parts.1))
 
 held-words : (words : List (List ℕ)) → AllByRecursion IsUtf8 words → list_all (holds_text Ninja) words ≡ true → AllByRecursion IsLine words
 held-words [] are h = tt
 held-words (word ∷ words) are h =
     let parts = and_parts (holds_text Ninja word) (list_all (holds_text Ninja) words) h in
-    ((are.0, held-text word parts.0), held-words words are.1 parts.1)
+    grind (arith, held-text, (held-words words are.1 parts.1))
 
 held-variables : (variables : List (List ℕ × List ℕ)) → AllByRecursion (λ p. IsUtf8 p.0 × IsUtf8 p.1) variables → holds_variables Ninja variables ≡ true → AllByRecursion IsLine (map assignment variables)
 unfolding lib.Utf8.encode
@@ -229,7 +202,7 @@ parts-onto : (byte : ℕ) (front text first : List ℕ) (parts : List (List ℕ)
 parts-onto byte [] text first parts h e = e
 parts-onto byte (c ∷ front) text first parts h e =
     let both = and_parts (not (eqb c byte)) (lacks byte front) h in
-    rw (not-true (eqb c byte) both.0, parts-onto byte front text first parts both.1 e) refl
+    grind (arith, not-true, (parts-onto byte front text first parts both.1 e))
 
 pub parts-past : (byte : ℕ) (part rest : List ℕ) → lacks byte part ≡ true → parts_at byte (part ++ byte ∷ rest) ≡ part ∷ parts_at byte rest
 parts-past byte part rest h =
@@ -320,27 +293,14 @@ edge-lines output needs text rest =
 
 head-read : (tmp output needs : List ℕ) (paths : List (List ℕ)) → lacks 58 output ≡ true → IsNeeds tmp needs paths →
     head_behind tmp (behind (codes "build ") (build_line output needs)) ≡ Some (path_of tmp output, paths)
-head-read tmp output needs paths plain are =
-    let behind_colon = codes " run" ++ needs in
-    let no_colon : lacks 58 behind_colon ≡ true = lacks-append 58 (codes " run") needs refl are.colon in
-    ap (head_parts tmp) (parts-past 58 output behind_colon plain ∙ ap (λ ps. output ∷ ps) (parts-end 58 behind_colon no_colon))
-    ∙ ap (λ ps. Some (path_of tmp output, ps)) are.read
+head-read tmp output needs paths plain are = grind (arith, lacks-append, parts-past, parts-end)
 
 -- an edge, before further lines
 pub any-edge-read : (tmp output needs text rest : List ℕ) (paths : List (List ℕ)) (es : List Edge) →
     lacks 10 output ≡ true → lacks 58 output ≡ true → IsNeeds tmp needs paths → IsLine text → edges_from tmp None (parts_at 10 rest) ≡ Some es →
     edges_from tmp None (parts_at 10 ((codes "build " ++ (output ++ (codes ": run" ++ (needs ++ edge_line text)))) ++ rest))
     ≡ Some (record { output = path_of tmp output; needs = paths; command = text } ∷ es)
-any-edge-read tmp output needs text rest paths es newline colon are line found =
-    let no_newline : lacks 10 (build_line output needs) ≡ true = lacks-append 10 output (codes ": run" ++ needs) newline (lacks-append 10 (codes ": run") needs refl are.newline) in
-    let head : List ℕ × List (List ℕ) = (path_of tmp output, paths) in
-    ap (λ t. edges_from tmp None (parts_at 10 t)) (edge-lines output needs text rest)
-    ∙ ap (edges_from tmp None)
-    (parts-past 10 (build_line output needs) (value_line text ++ 10 ∷ rest) no_newline
-    ∙ ap (λ ls. build_line output needs ∷ ls) (parts-past 10 (value_line text) rest (lacks-append 10 (codes "  line = ") (escaped text) refl (line-escaped text line))))
-    ∙ ap (λ o. edges_from tmp o (value_line text ∷ parts_at 10 rest)) (head-read tmp output needs paths colon are)
-    ∙ ap (λ o. with_edge head o (edges_from tmp None (parts_at 10 rest))) (value_reads_back text line.0)
-    ∙ ap (with_edge head (Some text)) found
+any-edge-read tmp output needs text rest paths es newline colon are line found = grind (arith, lacks-append, edge-lines, parts-past, line-escaped, head-read, value_reads_back)
 
 -- the edge of a command by its place
 abbrev edge_of : List ℕ → List (ℕ × ℕ) → ℕ → ℕ → Bool → List ℕ → NvccGeneratedSubcommand → Edge
@@ -358,15 +318,10 @@ edge-read tmp places group place wait numbers c rest es is are h found =
     (stamp-no_newline group place) (stamp-no_colon group place) (needs-awaited tmp wait places numbers) (line-edge tmp group place c is are h) found
 
 pub held-command : (c : NvccGeneratedSubcommand) (b : Bool) → holds_command Ninja c ≡ b → judged_command Ninja c ≡ Ok tt → holds_command Ninja c ≡ true
-held-command c true e h = e
-held-command c false e h =
-    let bad : judged_command Ninja c ≡ Err Unheld = rw e refl in
-    let both : Err Unheld ≡ Ok tt = sym bad ∙ h in
-    absurd cc
+held-command c b e h = grind arith
 
 pub then-both : (one next : Result (Unit {0}) Refusal) → and_then one next ≡ Ok tt → (one ≡ Ok tt) × (next ≡ Ok tt)
-then-both (Ok tt) next h = (refl, h)
-then-both (Err refusal) next h = absurd cc
+then-both one next h = grind arith
 
 -- the edges of a group's commands, and of groups, by their places
 abbrev group_edges_of : List ℕ → List (ℕ × ℕ) → Option (ℕ × ℕ) → ℕ → ℕ → List (List ℕ) → List NvccGeneratedSubcommand → List Edge
@@ -409,8 +364,7 @@ groups-read tmp places last group needs (commands ∷ groups) rest es is are h f
 -- an edge of a command whose place and needs are those of its number
 edge-numbered : (tmp : List ℕ) (places : List (ℕ × ℕ)) (last : Option (ℕ × ℕ)) (needs : List (List ℕ)) (group place n : ℕ) (numbers : List ℕ) (c : NvccGeneratedSubcommand) →
     place_at places n ≡ (group, place) → numbers ≡ needs_at needs n → edge_of tmp places group place (waits last group place) numbers c ≡ edge_at tmp places last needs n c
-edge-numbered tmp places last needs group place n numbers c at same =
-    ap (λ ns. edge_of tmp places group place (waits last group place) ns c) same ∙ ap (λ p. edge_of tmp places p.0 p.1 (waits last p.0 p.1) (needs_at needs n) c) (sym at)
+edge-numbered tmp places last needs group place n numbers c at same = grind arith
 
 group-numbered : (tmp : List ℕ) (places : List (ℕ × ℕ)) (last : Option (ℕ × ℕ)) (needs : List (List ℕ)) (group place n : ℕ) (commands : List NvccGeneratedSubcommand) (front more : List (ℕ × ℕ)) →
     places ≡ front ++ (places_in group place commands ++ more) → length front ≡ n + place →
@@ -422,19 +376,12 @@ group-numbered tmp places last needs group place n (c ∷ commands) front more a
     let next : places ≡ (front ++ (group, place) ∷ []) ++ later = are ∙ sym (append_assoc front ((group, place) ∷ []) later) in
     let longer : length (front ++ (group, place) ∷ []) ≡ n + (place + 1) = length_push front (group, place) ∙ omega (arith, long) in
     let step : n + (place + 1) ≡ n + place + 1 = omega arith in
-    cc (
-      edge-numbered tmp places last needs group place (n + place) (needs_at (drop n needs) place) c at (get_or-drop n needs place []),
-      group-numbered tmp places last needs group (place + 1) n commands (front ++ (group, place) ∷ []) more next longer
-          ∙ ap (λ m. edges_at tmp places last needs m commands) step,
-    )
+    grind (arith, edge-numbered, get_or-drop, (group-numbered tmp places last needs group (place + 1) n commands (front ++ (group, place) ∷ []) more next longer))
 
 edges-append : (tmp : List ℕ) (places : List (ℕ × ℕ)) (last : Option (ℕ × ℕ)) (needs : List (List ℕ)) (n : ℕ) (xs ys : List NvccGeneratedSubcommand) →
     edges_at tmp places last needs n (xs ++ ys) ≡ edges_at tmp places last needs n xs ++ edges_at tmp places last needs (n + length xs) ys
 edges-append tmp places last needs n [] ys = ap (λ m. edges_at tmp places last needs m ys) (omega arith)
-edges-append tmp places last needs n (x ∷ xs) ys =
-    let step : n + 1 + length xs ≡ n + length (x ∷ xs) = omega arith in
-    ap (λ es. edge_at tmp places last needs n x ∷ es)
-    (edges-append tmp places last needs (n + 1) xs ys ∙ ap (λ m. edges_at tmp places last needs (n + 1) xs ++ edges_at tmp places last needs m ys) step)
+edges-append tmp places last needs n (x ∷ xs) ys = grind (arith, (edges-append tmp places last needs (n + 1) xs ys))
 
 length-places : (group place : ℕ) (commands : List NvccGeneratedSubcommand) → length (places_in group place commands) ≡ length commands
 length-places group place [] = refl
@@ -462,10 +409,7 @@ all-numbered tmp places last needs group n (commands ∷ groups) front are long 
 -- ---- comments
 
 lacks-reason : (reason : Reason) → lacks 10 (reason_name reason) ≡ true
-lacks-reason NotCuda = refl
-lacks-reason NoCiccGroup = refl
-lacks-reason NoPtxasGroup = refl
-lacks-reason Superseded = refl
+lacks-reason reason = grind arith
 
 -- a comment without its end
 abbrev comment_line : Dropped → List ℕ
@@ -512,27 +456,14 @@ plan-reads tmp last plan is groups dropped judged held =
 
 graph-reads : (tmp : List ℕ) (plan : Plan) → IsLine tmp → AllByRecursion (AllByRecursion IsOfTexts) plan.groups → AllByRecursion IsDroppedText plan.dropped →
     judged_groups Ninja plan.groups ≡ Ok tt → list_all holds_dropped plan.dropped ≡ true → edges_of (graph tmp plan) ≡ Some (plan_edges tmp plan)
-graph-reads tmp plan is groups dropped judged held =
-    let rest = group_edges tmp (plan_places plan) None 0 (plan_needs plan) plan.groups ++ flat_map comment plan.dropped in
-    ap edges_of_lines (head-lines tmp rest is)
-    ∙ ap (λ o. edges_in o (codes "builddir = ${tmp}" ∷ codes "rule run" ∷ codes "  command = ${line} || { code=$$?; echo $$code > ${out}.status; exit $$code; }" ∷ parts_at 10 rest)) (value_reads_back tmp is.0)
-    ∙ plan-reads tmp None plan is groups dropped judged held
+graph-reads tmp plan is groups dropped judged held = grind (arith, head-lines, value_reads_back, plan-reads)
 
 pub held-rest : (tmp : List ℕ) (dropped : List Dropped) (b : Bool) → (holds_text Ninja tmp && list_all holds_dropped dropped) ≡ b → judged_rest tmp dropped ≡ Ok tt → (holds_text Ninja tmp && list_all holds_dropped dropped) ≡ true
-held-rest tmp dropped true e h = e
-held-rest tmp dropped false e h =
-    let bad : judged_rest tmp dropped ≡ Err Unheld = rw e refl in
-    let both : Err Unheld ≡ Ok tt = sym bad ∙ h in
-    absurd cc
+held-rest tmp dropped b e h = grind arith
 
 pub unrefused : (verdict : Result (Unit {0}) Refusal) (made text : List ℕ) → unless_refused verdict made ≡ Ok text → (verdict ≡ Ok tt) × (made ≡ text)
-unrefused (Ok tt) made text h = (refl, cc)
-unrefused (Err refusal) made text h = absurd cc
+unrefused verdict made text h = grind arith
 
 pub graph_reads_back : (tmp : List ℕ) (plan : Plan) (text : List ℕ) → IsUtf8 tmp → AllByRecursion (AllByRecursion IsOfTexts) plan.groups → AllByRecursion IsDroppedText plan.dropped →
     ninja_answer tmp plan ≡ Ok text → edges_of text ≡ Some (plan_edges tmp plan)
-graph_reads_back tmp plan text is groups dropped h =
-    let answer = unrefused (and_then (judged_rest tmp plan.dropped) (judged_groups Ninja plan.groups)) (graph tmp plan) text h in
-    let judged = then-both (judged_rest tmp plan.dropped) (judged_groups Ninja plan.groups) answer.0 in
-    let held = and_parts (holds_text Ninja tmp) (list_all holds_dropped plan.dropped) (held-rest tmp plan.dropped (holds_text Ninja tmp && list_all holds_dropped plan.dropped) refl judged.0) in
-    ap edges_of (sym answer.1) ∙ graph-reads tmp plan (is, held-text tmp held.0) groups dropped judged.1 held.1
+graph_reads_back tmp plan text is groups dropped h = grind (arith, unrefused, then-both, and_parts, held-rest, graph-reads, held-text)

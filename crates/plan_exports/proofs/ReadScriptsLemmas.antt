@@ -1,7 +1,6 @@
 -- What Ninja does with a file that runs each command by a script is that for each command of the plan.
-use Rattle.std.proofs.Common.{ℕ, List, [], ◌∷◌, ◌++◌, ◌≡◌, refl, sym, ap, ◌∙◌, append_assoc, append-nil, map, Bool, true, false, ◌&&◌, Option, Some, None, Ok, Err, codes}
+use Rattle.std.proofs.Common.{ℕ, List, [], ◌∷◌, ◌++◌, ◌≡◌, refl, sym, ap, ◌∙◌, append_assoc, append-nil, map, Bool, true, false, ◌&&◌, Option, Some, None, Ok, Err, codes, IsUtf8, arith}
 use Rattle.std.specs.List.{AllByRecursion, flat_map, list_all}
-use Rattle.std.specs.Str.{IsUtf8}
 use Rattle.std.proofs.lemmas.Bool.{and_parts, cond_both}
 use Rattle.texts.specs.Path.{lacks}
 use Rattle.texts.proofs.PathLemmas.{lacks-append}
@@ -9,7 +8,6 @@ use Rattle.shell_words.specs.Shell.Quoting.{written}
 use Rattle.plans.specs.declared.plan.NvccGeneratedSubcommand.{NvccGeneratedSubcommand}
 use Rattle.plans.specs.declared.plan.Plan.{Plan}
 use Rattle.command_files.specs.PlanNeeds.{plan_needs, preprocesses}
-use Rattle.plan_scripts.specs.declared.refusal.Refusal.TheVariants.{Unheld}
 use Rattle.plan_scripts.specs.declared.format.Format.TheVariants.{Ninja}
 use Rattle.plan_scripts.specs.Judging.{holds_text, holds_variables, holds_command, judged_command, judged_group, judged_groups, and_then}
 use Rattle.plan_exports.specs.Graph.{escaped, plan_places, depended, group_edges, comment, holds_dropped, judged_rest}
@@ -27,27 +25,22 @@ LacksEnd None = Unit {0}
 LacksEnd (Some text) = lacks 10 text ≡ true
 
 held-program : (c : NvccGeneratedSubcommand) → holds_command Ninja c ≡ true → lacks 10 c.exe ≡ true
-held-program c h =
-    let first = and_parts (holds_text Ninja c.cwd) (holds_variables Ninja c.env_vars && (holds_text Ninja c.exe && list_all (holds_text Ninja) c.args)) h in
-    let second = and_parts (holds_variables Ninja c.env_vars) (holds_text Ninja c.exe && list_all (holds_text Ninja) c.args) first.1 in
-    held-text c.exe (and_parts (holds_text Ninja c.exe) (list_all (holds_text Ninja) c.args) second.1).0
+held-program c h = grind (arith, and_parts, held-text)
 
 program-line : (commands : List NvccGeneratedSubcommand) → judged_group Ninja commands ≡ Ok tt → LacksEnd (program_in commands)
 program-line [] h = tt
 program-line (c ∷ commands) h =
     let judged = then-both (judged_command Ninja c) (judged_group Ninja commands) h in
-    cond_both (preprocesses c.args) (Some c.exe) (program_in commands) LacksEnd
-    (λ _. held-program c (held-command c (holds_command Ninja c) refl judged.0)) (λ _. program-line commands judged.1)
+    grind (arith, cond_both, held-program, held-command, (program-line commands judged.1))
 
 or-line : (first : Option (List ℕ)) (other : List ℕ) → LacksEnd first → lacks 10 other ≡ true → lacks 10 (or_text first other) ≡ true
-or-line None other h k = k
-or-line (Some text) other h k = h
+or-line first other h k = grind arith
 
 first-program-line : (groups : List (List NvccGeneratedSubcommand)) → judged_groups Ninja groups ≡ Ok tt → lacks 10 (first_program groups) ≡ true
 first-program-line [] h = refl
 first-program-line (commands ∷ groups) h =
     let judged = then-both (judged_group Ninja commands) (judged_groups Ninja groups) h in
-    or-line (program_in commands) (first_program groups) (program-line commands judged.0) (first-program-line groups judged.1)
+    grind (arith, or-line, program-line, (first-program-line groups judged.1))
 
 -- ---- the first lines
 
@@ -94,31 +87,14 @@ the_rule slot = record {
 rule-read : (tmp slot stamps program : List ℕ) (lines : List (List ℕ)) → IsUtf8 slot →
     rule_of ((codes "tmp = " ++ tmp) ∷ (codes "# stamps" ++ stamps) ∷ (codes "# preprocessor " ++ program) ∷ (codes "slot = " ++ escaped slot) ∷ rule_lines lines)
     ≡ Some (the_rule slot)
-rule-read tmp slot stamps program lines is =
-    ap
-    (λ o. rule_with o (Some (codes "${slot} ${out}")) (Some (codes "${out}.sh")) (Some (codes "${line} || { code=$$?; echo $$code > ${out}.status; exit $$code; }")))
-    (value_reads_back slot is)
+rule-read tmp slot stamps program lines is = simp value_reads_back
 
 run-read : (slot : List ℕ) (edge : Edge) → run_by (the_rule slot) edge ≡ Some (run_of (without_blanks slot) edge)
-run-read slot edge =
-    let path = ninja_word edge.output in
-    ap
-    (λ word.
-    Some
-    (record {
-      output = edge.output;
-      needs = edge.needs;
-      script = edge.output ++ codes ".sh";
-      content = edge.command ++ (codes " || { code=$?; echo $code > " ++ (path ++ codes ".status; exit $code; }"));
-      command = without_blanks slot ++ (codes " " ++ word);
-    }))
-    (append-nil path)
+run-read slot edge = simp append-nil
 
 runs-read : (slot : List ℕ) (edges : List Edge) → runs_by (the_rule slot) edges ≡ Some (map (run_of (without_blanks slot)) edges)
 runs-read slot [] = refl
-runs-read slot (edge ∷ edges) =
-    ap (λ run. before_runs run (runs_by (the_rule slot) edges)) (run-read slot edge)
-    ∙ ap (before_runs (Some (run_of (without_blanks slot) edge))) (runs-read slot edges)
+runs-read slot (edge ∷ edges) = grind (arith, run-read, (runs-read slot edges))
 
 -- ---- the edges
 
@@ -174,20 +150,9 @@ file-read tmp slot dependencies plan is words groups dropped judged held =
     ∙ runs-read slot edges
 
 held-slot : (slot : List ℕ) (b : Bool) → holds_text Ninja slot ≡ b → judged_slot slot ≡ Ok tt → holds_text Ninja slot ≡ true
-held-slot slot true e h = e
-held-slot slot false e h =
-    let bad : judged_slot slot ≡ Err Unheld = rw e refl in
-    let both : Err Unheld ≡ Ok tt = sym bad ∙ h in
-    absurd cc
+held-slot slot b e h = grind arith
 
 pub scripts_run : (tmp slot : List ℕ) (dependencies : Bool) (plan : Plan) (text : List ℕ) →
     IsUtf8 tmp → IsUtf8 slot → AllByRecursion (AllByRecursion IsOfTexts) plan.groups → AllByRecursion IsDroppedText plan.dropped →
     scripts_answer tmp slot dependencies plan ≡ Ok text → runs_of text ≡ Some (map (run_of (without_blanks slot)) (script_edges tmp dependencies plan))
-scripts_run tmp slot dependencies plan text is words groups dropped h =
-    let rest = and_then (judged_rest tmp plan.dropped) (judged_groups Ninja plan.groups) in
-    let answer = unrefused (and_then (judged_slot slot) rest) (script_graph tmp slot dependencies plan) text h in
-    let first = then-both (judged_slot slot) rest answer.0 in
-    let judged = then-both (judged_rest tmp plan.dropped) (judged_groups Ninja plan.groups) first.1 in
-    let slot_held = held-slot slot (holds_text Ninja slot) refl first.0 in
-    let held = and_parts (holds_text Ninja tmp) (list_all holds_dropped plan.dropped) (held-rest tmp plan.dropped (holds_text Ninja tmp && list_all holds_dropped plan.dropped) refl judged.0) in
-    ap runs_of (sym answer.1) ∙ file-read tmp slot dependencies plan (is, held-text tmp held.0) (words, held-text slot slot_held) groups dropped judged.1 held.1
+scripts_run tmp slot dependencies plan text is words groups dropped h = grind (arith, unrefused, then-both, held-slot, and_parts, held-rest, file-read, held-text)

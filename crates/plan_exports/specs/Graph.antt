@@ -1,7 +1,6 @@
 -- A plan as a Ninja file.
-use Rattle.std.specs.Prelude.{ℕ, Bool, true, false, ◌+◌, List, [], ◌∷◌, ◌++◌, length, drop, get_or, ◌==◌, ◌&&◌, if◌then◌else◌, Option, Some, None, codes, encode_utf8_all, Result, Ok, Err}
+use Rattle.std.specs.Prelude.{ℕ, Bool, true, false, ◌+◌, List, [], ◌∷◌, ◌++◌, length, drop, get_or, ◌==◌, ◌&&◌, if◌then◌else◌, Option, Some, None, codes, encode_utf8_all, Result, Ok, Err, chars}
 use Rattle.std.specs.List.{flat_map, list_all}
-use Rattle.std.specs.Str.{chars}
 use Rattle.compilers.specs.declared.command.Cacheable.{Cacheable}
 use Rattle.compilers.specs.declared.command.Cacheable.TheVariants.{Yes, No}
 use Rattle.texts.specs.Numeral.{numeral}

@@ -1,7 +1,6 @@
 -- What a POSIX shell reads in what an edge of a Ninja file runs.
-use Rattle.std.specs.Prelude.{◌≡◌, ℕ, List, [], ◌∷◌, ◌++◌, Some, codes}
+use Rattle.std.specs.Prelude.{◌≡◌, ℕ, List, [], ◌∷◌, ◌++◌, Some, codes, IsUtf8, chars}
 use Rattle.std.specs.List.{AllByRecursion}
-use Rattle.std.specs.Str.{IsUtf8, chars}
 use Rattle.shell_words.specs.Posix.{Word, Operator}
 use Rattle.plans.specs.declared.plan.NvccGeneratedSubcommand.{NvccGeneratedSubcommand}
 use Rattle.plan_scripts.specs.CommandText.{command_text}

@@ -1,7 +1,6 @@
 -- What Ninja reads in a written file: its edges.
-use Rattle.std.specs.Prelude.{◌≡◌, ℕ, ◌+◌, List, [], ◌∷◌, ◌++◌, map, drop, ◌==◌, Bool, true, false, if◌then◌else◌, Option, Some, None, Ok, codes, refl}
+use Rattle.std.specs.Prelude.{◌≡◌, ℕ, ◌+◌, List, [], ◌∷◌, ◌++◌, map, drop, ◌==◌, Bool, true, false, if◌then◌else◌, Option, Some, None, Ok, codes, refl, option_map}
 use Rattle.std.specs.List.{AllByRecursion, flat_map}
-use Rattle.std.specs.Option.{option_map}
 use Rattle.std.specs.Str.{IsUtf8, chars}
 use Rattle.plans.specs.declared.plan.NvccGeneratedSubcommand.{NvccGeneratedSubcommand}
 use Rattle.plans.specs.declared.plan.Dropped.{Dropped}

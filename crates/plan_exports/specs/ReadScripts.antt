@@ -1,8 +1,7 @@
 -- What Ninja does with a file that runs each command by a script: the scripts that it writes, and the commands that run them.
-use Rattle.std.specs.Prelude.{◌≡◌, ℕ, Bool, true, false, List, [], ◌∷◌, ◌++◌, map, ◌==◌, ◌||◌, if◌then◌else◌, Option, Some, None, Ok, codes, refl}
+use Rattle.std.specs.Prelude.{◌≡◌, ℕ, Bool, true, false, List, [], ◌∷◌, ◌++◌, map, ◌==◌, ◌||◌, if◌then◌else◌, Option, Some, None, Ok, codes, refl, option_map}
 use Rattle.std.specs.Char.{is_ascii_alphanumeric}
 use Rattle.std.specs.List.{AllByRecursion, flat_map, list_all}
-use Rattle.std.specs.Option.{option_map}
 use Rattle.std.specs.Str.{IsUtf8, bytes_eq, chars}
 use Rattle.shell_words.specs.Shell.Quoting.{quoted_char}
 use Rattle.plans.specs.declared.plan.Plan.{Plan}

@@ -1,7 +1,5 @@
 -- Ninja reads a written value of a variable as the original text.
-use Rattle.std.specs.Prelude.{◌≡◌, ℕ, List, [], ◌∷◌, ◌==◌, Bool, true, false, if◌then◌else◌, Option, Some, None, codes, encode_utf8_all, refl}
-use Rattle.std.specs.Option.{option_map}
-use Rattle.std.specs.Str.{IsUtf8, chars}
+use Rattle.std.specs.Prelude.{◌≡◌, ℕ, List, [], ◌∷◌, ◌==◌, Bool, true, false, if◌then◌else◌, Option, Some, None, codes, encode_utf8_all, refl, option_map, IsUtf8, chars}
 use Rattle.plan_exports.specs.Graph.{escaped}
 
 -- The characters of a value's rest, given whether a `$` comes right before it. Only a second `$` may follow a `$` here. Ninja

@@ -1,8 +1,6 @@
 //! A plan as a Ninja file that runs each command by a script of its own.
 
-ghost use Rattle.std.specs.Prelude.{◌≡◌, [], ◌∷◌, ◌++◌, IfOk, OnOk, map, string_bytes, vec_items};
-ghost use Rattle.std.specs.Option.{option_copied};
-ghost use Rattle.command_files.specs.PlanNeeds.{preprocesses};
+ghost use Rattle.std.specs.Prelude.{◌≡◌, [], ◌∷◌, ◌++◌, IfOk, OnOk, map, string_bytes, vec_items, option_copied};
 ghost use Rattle.shell_words.specs.Shell.Quoting.{written};
 ghost use Rattle.plan_scripts.specs.Answers.{Answers};
 ghost use Rattle.plan_exports.specs.Scripts as spec;
@@ -10,22 +8,11 @@ ghost use Rattle.plan_exports.specs.Scripts as spec;
 use crate::ninja::{
     judge_rest, places_of, push_comments, push_edge_line, push_plan, push_stamp_below, push_value,
 };
+use command_files::preprocesses;
 use plan_scripts::{Format, Refusal, holds_text, judge_groups};
 use plans::{NvccGeneratedSubcommand, Plan};
 use shell_words::push_quoted;
 use std::alloc::{AllocError, Global};
-
-// Whether words ask a host compiler to preprocess only.
-fn preprocesses(words: &[String]) -> bool
-    ensures { result ≡ preprocesses (map string_bytes words.now) }
-{
-    for word in words {
-        if "-E" == word.as_str() {
-            return true;
-        }
-    }
-    false
-}
 
 // Adds the places of a group's commands that preprocess.
 fn push_preprocessors(

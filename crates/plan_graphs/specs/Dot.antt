@@ -1,7 +1,5 @@
 -- A plan as a graph that Graphviz draws.
-use Rattle.std.specs.Prelude.{ℕ, ◌+◌, ◌-◌, List, [], ◌∷◌, ◌++◌, length, ◌==◌, if◌then◌else◌, unwrap_or, codes, encode_utf8_all}
-use Rattle.std.specs.List.{flat_map}
-use Rattle.std.specs.Str.{chars}
+use Rattle.std.specs.Prelude.{ℕ, ◌+◌, ◌-◌, List, [], ◌∷◌, ◌++◌, length, ◌==◌, if◌then◌else◌, unwrap_or, codes, encode_utf8_all, flat_map, chars}
 use Rattle.texts.specs.Numeral.{numeral}
 use Rattle.texts.specs.Path.{file_name_of}
 use Rattle.plans.specs.declared.plan.NvccGeneratedSubcommand.{NvccGeneratedSubcommand}

@@ -1,7 +1,6 @@
 //! A plan as a graph that Graphviz draws.
 
-ghost use Rattle.std.specs.Prelude.{◌≡◌, ◌+◌, ◌++◌, ◌∷◌, [], IfOk, OnOk, encode_utf8_all, length, map, string_bytes, vec_items};
-ghost use Rattle.std.specs.List.{flat_map};
+ghost use Rattle.std.specs.Prelude.{◌≡◌, ◌+◌, ◌++◌, ◌∷◌, [], IfOk, OnOk, encode_utf8_all, length, map, string_bytes, vec_items, flat_map};
 ghost use Rattle.plan_graphs.specs.Dot as spec;
 ghost use Rattle.command_files.specs.Numbered.{of_group, of_groups};
 

@@ -1,7 +1,5 @@
 -- A database has no float and nests no deeper than a text that is read may.
-use Rattle.std.proofs.Common.{◌≡◌, ℕ, ◌+◌, ◌≤◌, List, [], ◌∷◌, ◌++◌, ◌||◌, map, length, Bool, true, false, cond, Some, refl, sym, subst, arith}
-use Rattle.std.specs.Prelude.{◌==◌}
-use Rattle.std.specs.List.{flat_map}
+use Rattle.std.proofs.Common.{◌≡◌, ℕ, ◌+◌, ◌≤◌, List, [], ◌∷◌, ◌++◌, ◌||◌, map, length, Bool, true, false, cond, Some, refl, sym, subst, arith, ◌==◌, flat_map}
 use Rattle.plans.specs.declared.plan.NvccGeneratedSubcommand.{NvccGeneratedSubcommand}
 use Rattle.plans.specs.declared.plan.Plan.{Plan}
 use Rattle.command_files.specs.declared.files.CommandFiles.{CommandFiles}
@@ -85,4 +83,4 @@ pub database_reads_back : (plan : Plan) (d : Data) (text : List ℕ) → d ≡ d
 database_reads_back plan d text same written =
     let of_plan : depth (database plan) ≤ max_depth → read text ≡ Some (database plan) = subst (λ d. depth d ≤ max_depth → read text ≡ Some d) same written in
     let within : items_depth (items_of (records_from (length plan.groups) 0 plan.groups)) ≤ 2 = (database_plain plan).within in
-    of_plan (omega (arith, within))
+    grind arith

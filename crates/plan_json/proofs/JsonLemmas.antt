@@ -38,8 +38,7 @@ group_within known id group (c ∷ commands) rest h =
 
 groups_within : (known : Known) (id group : ℕ) (groups : List (List NvccGeneratedSubcommand)) → items_depth (items_of (of_groups (command_at known) id group groups)) ≤ 3
 groups_within known id group [] = omega arith
-groups_within known id group (commands ∷ groups) =
-    group_within known id group commands (of_groups (command_at known) (id + length commands) (group + 1) groups) (groups_within known (id + length commands) (group + 1) groups)
+groups_within known id group (commands ∷ groups) = grind (arith, group_within, (groups_within known (id + length commands) (group + 1) groups))
 
 dropped_within : (d : Dropped) → depth (dropped_data d) ≤ 3
 dropped_within d = omega (arith, items_within 0 string (λ x. omega arith) d.args)
@@ -55,40 +54,25 @@ variables_float_free : (variables : List (List ℕ × List ℕ)) → has_float (
 variables_float_free variables = items_float_free variable_data (λ x. refl) variables
 
 command_float_free : (id group : ℕ) (origin : Origin) (needs : List ℕ) (files : CommandFiles) (c : NvccGeneratedSubcommand) → has_float (command_data id group origin needs files c) ≡ false
-command_float_free id group origin needs files c =
-    neither (texts_float_free c.args)
-    (neither (variables_float_free c.env_vars)
-    (neither (texts_float_free files.may_write)
-    (neither (counts_float_free needs)
-    (neither (texts_float_free files.reads)
-    (neither (texts_float_free files.writes) refl)))))
+command_float_free id group origin needs files c = simp (neither, texts_float_free, variables_float_free, counts_float_free)
 
 group_float_free : (known : Known) (id group : ℕ) (commands : List NvccGeneratedSubcommand) (rest : List Data) → items_have_float (items_of rest) ≡ false → items_have_float (items_of (of_group (command_at known) id group commands ++ rest)) ≡ false
 group_float_free known id group [] rest h = h
-group_float_free known id group (c ∷ commands) rest h =
-    neither (command_float_free id group (origin_at known.origins id) (needs_at known.needs id) (files_of_words c.exe c.args c.cwd) c)
-    (group_float_free known (id + 1) group commands rest h)
+group_float_free known id group (c ∷ commands) rest h = simp (neither, command_float_free, (group_float_free known (id + 1) group commands rest h))
 
 groups_float_free : (known : Known) (id group : ℕ) (groups : List (List NvccGeneratedSubcommand)) → items_have_float (items_of (of_groups (command_at known) id group groups)) ≡ false
 groups_float_free known id group [] = refl
-groups_float_free known id group (commands ∷ groups) =
-    group_float_free known id group commands (of_groups (command_at known) (id + length commands) (group + 1) groups) (groups_float_free known (id + length commands) (group + 1) groups)
+groups_float_free known id group (commands ∷ groups) = simp (group_float_free, (groups_float_free known (id + length commands) (group + 1) groups))
 
 dropped_float_free : (d : Dropped) → has_float (dropped_data d) ≡ false
 dropped_float_free d = neither (texts_float_free d.args) refl
 
 pub plan_float_free : (d : Described) → has_float (data_of d) ≡ false
-plan_float_free d =
-    neither (groups_float_free (known_of d.planned) 0 0 d.planned.plan.groups)
-    (neither (items_float_free dropped_data dropped_float_free d.planned.plan.dropped) refl)
+plan_float_free d = simp (neither, groups_float_free, items_float_free, dropped_float_free)
 
 -- what is written of a value with a plan's data
 pub exact_text : (plan : Described) (d : Data) (text : List ℕ) → d ≡ data_of plan → (has_float d ≡ false → text ≡ compact_text d) → text ≡ compact_text (data_of plan)
-exact_text plan d text same written =
-    let of_plan : has_float (data_of plan) ≡ false → text ≡ compact_text (data_of plan) = subst (λ d. has_float d ≡ false → text ≡ compact_text d) same written in
-    of_plan (plan_float_free plan)
+exact_text plan d text same written = grind (arith, plan_float_free)
 
 pub text_reads_back : (plan : Described) (d : Data) (text : List ℕ) → d ≡ data_of plan → (depth d ≤ max_depth → read text ≡ Some d) → read text ≡ Some (data_of plan)
-text_reads_back plan d text same written =
-    let of_plan : depth (data_of plan) ≤ max_depth → read text ≡ Some (data_of plan) = subst (λ d. depth d ≤ max_depth → read text ≡ Some d) same written in
-    of_plan (plan_within plan)
+text_reads_back plan d text same written = grind (arith, plan_within)

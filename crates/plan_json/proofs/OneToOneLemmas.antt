@@ -1,8 +1,6 @@
 -- A plan is read back from its data.
-use Rattle.std.proofs.Common.{◌≡◌, ℕ, suc, zero, ◌+◌, ◌-◌, ◌<◌, ◌^◌, ◌==◌, List, [], ◌∷◌, ◌++◌, map, length, drop, Bool, true, false, cond, refl, sym, ap, ◌∙◌, arith, eq-eqb, ne_eqb, codes, add-one}
-use Rattle.std.specs.Prelude.{filter, if◌then◌else◌}
+use Rattle.std.proofs.Common.{◌≡◌, ℕ, suc, zero, ◌+◌, ◌-◌, ◌<◌, ◌^◌, ◌==◌, List, [], ◌∷◌, ◌++◌, map, length, drop, Bool, true, false, cond, refl, sym, ap, ◌∙◌, arith, eq-eqb, ne_eqb, codes, add-one, filter, if◌then◌else◌, bytes_eq}
 use Rattle.std.specs.List.{AllByRecursion, flat_map}
-use Rattle.std.specs.Str.{bytes_eq}
 use Rattle.compilers.specs.declared.command.Cacheable.{Cacheable}
 use Rattle.compilers.specs.declared.command.Cacheable.TheVariants.{Yes, No}
 use Rattle.plans.specs.declared.origins.Origin.{Origin}
@@ -112,8 +110,7 @@ variables_are [] = refl
 variables_are (p ∷ variables) = ap (λ t. p ∷ t) (variables_are variables)
 
 cacheable_is : (c : Cacheable) → cacheable_of (is_cacheable c) ≡ c
-cacheable_is Yes = refl
-cacheable_is No = refl
+cacheable_is c = grind arith
 
 command_is : (known : Known) (id group : ℕ) (c : NvccGeneratedSubcommand) → command_in (command_at known id group c) ≡ c
 command_is known id group c = λ i. record { exe = c.exe; args = texts_are c.args i; cwd = c.cwd; env_vars = variables_are c.env_vars i; cacheable = cacheable_is c.cacheable i }
@@ -134,24 +131,16 @@ module _ (known : Known) where
 
   skipped : (id group other : ℕ) (commands : List NvccGeneratedSubcommand) (rest : List Data) → group < other → filter (is_of group) (of_group (command_at known) id other commands ++ rest) ≡ filter (is_of group) rest
   skipped id group other [] rest h = refl
-  skipped id group other (c ∷ commands) rest h =
-      let left = filter (is_of group) (of_group (command_at known) (id + 1) other commands ++ rest) in
-      ap (λ b. cond b (command_at known id other c ∷ left) left) (ne_eqb other group (λ e. omega (arith, h, e)))
-      ∙ skipped (id + 1) group other commands rest h
+  skipped id group other (c ∷ commands) rest h = grind (arith, (skipped (id + 1) group other commands rest h))
 
   none_later : (id group other : ℕ) (groups : List (List NvccGeneratedSubcommand)) → group < other → filter (is_of group) (of_groups (command_at known) id other groups) ≡ []
   none_later id group other [] h = refl
-  none_later id group other (commands ∷ groups) h =
-      skipped id group other commands (of_groups (command_at known) (id + length commands) (other + 1) groups) h
-      ∙ none_later (id + length commands) group (other + 1) groups (omega (arith, h))
+  none_later id group other (commands ∷ groups) h = simp (skipped, (none_later (id + length commands) group (other + 1) groups (omega (arith, h))))
 
   first_are : (id next group : ℕ) (commands : List NvccGeneratedSubcommand) (groups : List (List NvccGeneratedSubcommand)) →
       filter (is_of group) (of_group (command_at known) id group commands ++ of_groups (command_at known) next (group + 1) groups) ≡ of_group (command_at known) id group commands
   first_are id next group [] groups = none_later next group (group + 1) groups (omega arith)
-  first_are id next group (c ∷ commands) groups =
-      let left = filter (is_of group) (of_group (command_at known) (id + 1) group commands ++ of_groups (command_at known) next (group + 1) groups) in
-      ap (λ b. cond b (command_at known id group c ∷ left) left) (eq-eqb group group refl)
-      ∙ ap (λ t. command_at known id group c ∷ t) (first_are (id + 1) next group commands groups)
+  first_are id next group (c ∷ commands) groups = simp (eq-eqb, (first_are (id + 1) next group commands groups))
 
   dropped_first : {X : Type 0} (xs ys : List X) → drop (length xs) (xs ++ ys) ≡ ys
   dropped_first [] ys = refl
@@ -159,12 +148,7 @@ module _ (known : Known) where
 
   groups_are : (id group : ℕ) (groups : List (List NvccGeneratedSubcommand)) → groups_in (length groups) group (of_groups (command_at known) id group groups) ≡ groups
   groups_are id group [] = refl
-  groups_are id group (commands ∷ groups) =
-      let first = of_group (command_at known) id group commands in
-      let rest = of_groups (command_at known) (id + length commands) (group + 1) groups in
-      ap (λ ds. map command_in ds ∷ groups_in (length groups) (group + 1) (drop (length ds) (first ++ rest))) (first_are id (id + length commands) group commands groups)
-      ∙ (λ i. commands_are id group commands i ∷ groups_in (length groups) (group + 1) (dropped_first first rest i))
-      ∙ ap (λ gs. commands ∷ gs) (groups_are (id + length commands) (group + 1) groups)
+  groups_are id group (commands ∷ groups) = grind (arith, first_are, commands_are, dropped_first, (groups_are (id + length commands) (group + 1) groups))
 
 -- ---- origins
 
@@ -204,16 +188,11 @@ module _ (known : Known) (all : AllByRecursion Fits known.origins) where
       ∙ ap (λ n. origin_at known.origins id ∷ (origins_from known.origins (length commands) n ++ map origin_in rest)) (add-one id)
 
   joined_origins : (n m id : ℕ) → origins_from known.origins n id ++ origins_from known.origins m (id + n) ≡ origins_from known.origins (n + m) id
-  joined_origins zero m id =
-      let nothing_more : m ≡ 0 + m = omega arith in
-      let at_once : id + 0 ≡ id = omega arith in
-      λ i. origins_from known.origins (nothing_more i) (at_once i)
+  joined_origins zero m id = grind arith
   joined_origins (suc n) m id =
       let further : id + suc n ≡ suc id + n = omega arith in
       let more : suc (n + m) ≡ suc n + m = omega arith in
-      ap (λ k. origin_at known.origins id ∷ (origins_from known.origins n (suc id) ++ origins_from known.origins m k)) further
-      ∙ ap (λ t. origin_at known.origins id ∷ t) (joined_origins n m (suc id))
-      ∙ ap (λ k. origins_from known.origins k id) more
+      grind (arith, (joined_origins n m (suc id)))
 
   origins_are : (id group : ℕ) (groups : List (List NvccGeneratedSubcommand)) →
       map origin_in (of_groups (command_at known) id group groups) ≡ origins_from known.origins (length (flat_map (λ g. g) groups)) id
@@ -237,10 +216,7 @@ reason_of name =
     if bytes_eq name (codes "NoPtxasGroup") then NoPtxasGroup else Superseded
 
 reason_is : (reason : Reason) → reason_of (reason_name reason) ≡ reason
-reason_is NotCuda = refl
-reason_is NoCiccGroup = refl
-reason_is NoPtxasGroup = refl
-reason_is Superseded = refl
+reason_is reason = grind arith
 
 abbrev dropped_in : Data → Dropped
 dropped_in d = record {
@@ -269,18 +245,7 @@ described_in d = record {
 }
 
 described_is : (d : Described) → IsDescribed d → described_in (data_of d) ≡ d
-described_is d is =
-    let known = known_of d.planned in
-    let listed = list_is (of_groups (command_at known) 0 0 d.planned.plan.groups) in
-    let groups = ap (groups_in (length d.planned.plan.groups) 0) listed ∙ groups_are known 0 0 d.planned.plan.groups in
-    let origins = ap (map origin_in) listed ∙ origins_are known is.lines 0 0 d.planned.plan.groups
-    ∙ ap (λ n. origins_from d.planned.origins n 0) (sym is.origins) ∙ all_origins d.planned.origins in
-    λ i. record {
-      cwd = d.cwd;
-      tmp = d.tmp;
-      flag = d.flag;
-      planned = record { plan = record { groups = groups i; dropped = dropped_are d.planned.plan.dropped is.dropped i }; origins = origins i };
-    }
+described_is d is = grind (arith, list_is, groups_are, origins_are, all_origins, dropped_are)
 
 pub data_is_one_to_one : (one other : Described) → IsDescribed one → IsDescribed other → data_of one ≡ data_of other → one ≡ other
 data_is_one_to_one one other is are same = sym (described_is one is) ∙ ap described_in same ∙ described_is other are

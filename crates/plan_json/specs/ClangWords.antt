@@ -1,8 +1,6 @@
 -- What clang's tools read in place of a step in which nvcc's host compiler preprocesses CUDA.
-use Rattle.std.specs.Prelude.{ℕ, List, [], ◌∷◌, ◌++◌, Bool, false, ◌||◌, ◌==◌, nat_eq, codes, if◌then◌else◌, Option, Some, None, reverse, refl}
+use Rattle.std.specs.Prelude.{ℕ, List, [], ◌∷◌, ◌++◌, Bool, false, ◌||◌, ◌==◌, nat_eq, codes, if◌then◌else◌, Option, Some, None, reverse, refl, is_some, bytes_eq}
 use Rattle.std.specs.List.{list_any, starts_with}
-use Rattle.std.specs.Option.{is_some}
-use Rattle.std.specs.Str.{bytes_eq}
 use Rattle.texts.specs.Lists.{rest_after}
 use Rattle.texts.specs.Rows.{Gives, spaced}
 

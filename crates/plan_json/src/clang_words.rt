@@ -1,7 +1,6 @@
 //! What clang's tools read in place of a step in which nvcc's host compiler preprocesses CUDA.
 
-ghost use Rattle.std.specs.Prelude.{◌≡◌, ◌∷◌, [], ◌++◌, false, IfOk, OnOk, map, codes, string_bytes};
-ghost use Rattle.std.specs.Option.{option_copied};
+ghost use Rattle.std.specs.Prelude.{◌≡◌, ◌∷◌, [], ◌++◌, false, IfOk, OnOk, map, codes, string_bytes, option_copied};
 ghost use Rattle.plan_json.specs.ClangWords as spec;
 
 use std::alloc::{AllocError, Global};

@@ -1,7 +1,6 @@
 //! The commands of a plan that compile its source, as a compilation database.
 
-ghost use Rattle.std.specs.Prelude.{◌≡◌, ◌+◌, ◌++◌, ◌∷◌, ◌==◌, [], if◌then◌else◌, IfOk, OnOk, Some, length, map, string_bytes, vec_items};
-ghost use Rattle.std.specs.List.{flat_map};
+ghost use Rattle.std.specs.Prelude.{◌≡◌, ◌+◌, ◌++◌, ◌∷◌, ◌==◌, [], if◌then◌else◌, IfOk, OnOk, Some, length, map, string_bytes, vec_items, flat_map};
 ghost use Rattle.serde_json.specs.Data.{array};
 ghost use Rattle.serde_json.specs.Read.{read};
 ghost use Rattle.serde_json.specs.View.{items_of, view};

@@ -1,9 +1,7 @@
 -- Rules wait as commands need each other, and name the files that commands hand on.
-use Rattle.std.proofs.Common.{◌≡◌, ℕ, zero, suc, ◌+◌, ◌<◌, List, [], ◌∷◌, ◌++◌, Bool, true, false, cond, not, ◌&&◌, ◌==◌, nat_lt, nat_eq, Option, Some, None, map, length, get_or, refl, sym, ap, subst, ◌∙◌, arith, codes}
+use Rattle.std.proofs.Common.{◌≡◌, ℕ, zero, suc, ◌+◌, ◌<◌, List, [], ◌∷◌, ◌++◌, Bool, true, false, cond, not, ◌&&◌, ◌==◌, nat_lt, nat_eq, Option, Some, None, map, length, get_or, refl, sym, ap, subst, ◌∙◌, arith, codes, option_and_then, bytes_eq}
 use Rattle.std.specs.Bool.{one_answer}
 use Rattle.std.specs.List.{flat_map, starts_with}
-use Rattle.std.specs.Option.{option_and_then}
-use Rattle.std.specs.Str.{bytes_eq}
 use Rattle.std.proofs.lemmas.Bool.{false≢true, and_parts, eqb-true, eq-eqb, ltb-true, lt-ltb}
 use Rattle.std.proofs.lemmas.List.{length-append, append_cancel_left}
 use Rattle.std.proofs.lemmas.List.Folds.{list_any-append}
@@ -158,12 +156,7 @@ stamps_it (m ∷ numbers) n e =
 
 -- who writes a file that a rule names
 made_by : (known : Known) (n : ℕ) (path : List ℕ) → is_named Made known n path ≡ true → known.writers path ≡ n ∷ []
-made_by known n path e = by (known.writers path) e
-  where
-    by : (ws : List ℕ) → by_one Made known n path ws ≡ true → ws ≡ n ∷ []
-    by [] k = absurd (false≢true k)
-    by (w ∷ []) k = ap (λ v. v ∷ []) (eqb-true w n k)
-    by (w ∷ other ∷ ws) k = absurd (false≢true k)
+made_by known n path e = grind (arith, false≢true, eqb-true)
 
 record PassedBy (known : Known) (n : ℕ) (path : List ℕ) : Type 0 where
   maker : ℕ
@@ -172,61 +165,36 @@ record PassedBy (known : Known) (n : ℕ) (path : List ℕ) : Type 0 where
   writes : is_among (files_at known.files maker).writes path ≡ true
 
 passed_by : (known : Known) (n : ℕ) (path : List ℕ) → is_named Passed known n path ≡ true → PassedBy known n path
-passed_by known n path e = by (known.writers path) refl e
-  where
-    by : (ws : List ℕ) → known.writers path ≡ ws → by_one Passed known n path ws ≡ true → PassedBy known n path
-    by [] is k = absurd (false≢true k)
-    by (w ∷ []) is k =
-        let parts = and_parts (nat_lt w n) (is_among (files_at known.files w).writes path) k in
-        record { maker = w; alone = is; before = ltb-true w n parts.0; writes = parts.1 }
-    by (w ∷ other ∷ ws) is k = absurd (false≢true k)
+passed_by known n path e = grind (arith, false≢true, and_parts, ltb-true)
 
 is_made : (known : Known) (n : ℕ) (path : List ℕ) → known.writers path ≡ n ∷ [] → is_named Made known n path ≡ true
 is_made known n path is = ap (by_one Made known n path) is ∙ eq-eqb n n refl
 
 is_passed : (known : Known) (m n : ℕ) (path : List ℕ) → known.writers path ≡ m ∷ [] → m < n → is_among (files_at known.files m).writes path ≡ true → is_named Passed known n path ≡ true
-is_passed known m n path is before writes =
-    ap (by_one Passed known n path) is ∙ in_both (nat_lt m n) (is_among (files_at known.files m).writes path) (lt-ltb m n before) writes
+is_passed known m n path is before writes = grind (arith, in_both, lt-ltb)
 
 -- ---- targets and sources
 
 -- a target is the stamp, or a file that the command makes
 target_is : {P : Type 0} (known : Known) (n : ℕ) (name : List ℕ) → is_among (targets known n) name ≡ true →
     (name ≡ stamp n → P) → (Named Made known n (files_at known.files n).writes name → P) → P
-target_is known n name e stamped made =
-    let names = names_of Made known n (files_at known.files n).writes in
-    in_either (bytes_eq name (stamp n)) (is_among names name)
-    (λ k. stamped (same_bytes name (stamp n) k))
-    (λ k. made (named_by Made known n (files_at known.files n).writes name k)) e
+target_is known n name e stamped made = grind (arith, in_either, same_bytes, named_by)
 
 -- a source is the stamp of a needed command, or a file that is passed to the command
 source_is : {P : Type 0} (known : Known) (n : ℕ) (name : List ℕ) → is_among (sources known n) name ≡ true →
     (Stamped (needs_at known.needs n) name → P) → (Named Passed known n (files_at known.files n).reads name → P) → P
-source_is known n name e stamped passed =
-    let stamps = map stamp (needs_at known.needs n) in
-    let names = names_of Passed known n (files_at known.files n).reads in
-    in_either (is_among stamps name) (is_among names name)
-    (λ k. stamped (stamped_by (needs_at known.needs n) name k))
-    (λ k. passed (named_by Passed known n (files_at known.files n).reads name k))
-    (sym (list_any-append (bytes_eq name) stamps names) ∙ e)
+source_is known n name e stamped passed = grind (arith, in_either, stamped_by, named_by, list_any-append)
 
 own_stamp : (known : Known) (n : ℕ) → is_among (targets known n) (stamp n) ≡ true
-own_stamp known n =
-    in_first (bytes_eq (stamp n) (stamp n)) (is_among (names_of Made known n (files_at known.files n).writes) (stamp n)) (own_bytes (stamp n) (stamp n) refl)
+own_stamp known n = simp (in_first, own_bytes)
 
 makes : (known : Known) (n : ℕ) (path name : List ℕ) → is_among (files_at known.files n).writes path ≡ true → is_named Made known n path ≡ true → name_in known.tmp path ≡ Some name →
     is_among (targets known n) name ≡ true
-makes known n path name writes named is =
-    in_second (bytes_eq name (stamp n)) (is_among (names_of Made known n (files_at known.files n).writes) name)
-    (names_it Made known n (files_at known.files n).writes path name writes named is)
+makes known n path name writes named is = grind (arith, in_second, names_it)
 
 gets : (known : Known) (n : ℕ) (path name : List ℕ) → is_among (files_at known.files n).reads path ≡ true → is_named Passed known n path ≡ true → name_in known.tmp path ≡ Some name →
     is_among (sources known n) name ≡ true
-gets known n path name reads named is =
-    let stamps = map stamp (needs_at known.needs n) in
-    let names = names_of Passed known n (files_at known.files n).reads in
-    list_any-append (bytes_eq name) stamps names
-    ∙ in_second (is_among stamps name) (is_among names name) (names_it Passed known n (files_at known.files n).reads path name reads named is)
+gets known n path name reads named is = grind (arith, list_any-append, in_second, names_it)
 
 shared : (some others : List (List ℕ)) → share some others ≡ true → (name : List ℕ) × ((is_among some name ≡ true) × (is_among others name ≡ true))
 shared [] others e = absurd (false≢true e)
@@ -256,17 +224,7 @@ files_are (s ∷ steps) (suc n) = files_are steps n
 -- a command needs an earlier one that writes a file which it reads
 needs_writer : (plan : Plan) (m n : ℕ) (path : List ℕ) → m < n → n < length (plan_steps plan) → is_among (files_of plan m).writes path ≡ true → is_among (files_of plan n).reads path ≡ true →
     is_in (needs_at (plan_needs plan) n) m ≡ true
-needs_writer plan m n path before within writes reads =
-    let steps = plan_steps plan in
-    let earlier = get_or steps m nothing_step in
-    let later = get_or steps n nothing_step in
-    let some = earlier.files.writes ++ earlier.files.may_write in
-    let written : is_among some path ≡ true =
-    list_any-append (bytes_eq path) earlier.files.writes earlier.files.may_write
-    ∙ in_first (is_among earlier.files.writes path) (is_among earlier.files.may_write path) (subst (λ f. is_among f.writes path ≡ true) (files_are steps m) writes) in
-    let read : is_among later.files.reads path ≡ true = subst (λ f. is_among f.reads path ≡ true) (files_are steps n) reads in
-    needs_each step_needs nothing_step steps m n before within
-    (in_first _ _ (in_first (share some later.files.reads) _ (shares some later.files.reads path written read)))
+needs_writer plan m n path before within writes reads = grind (arith, nothing_step, list_any-append, in_first, files_are, needs_each, shares)
 
 -- ---- rules by their numbers
 
@@ -280,10 +238,7 @@ group_numbered known n group (c ∷ commands) = ap (λ rs. rule_at known n c ∷
 
 numbered_append : (known : Known) (n : ℕ) (some others : List NvccGeneratedSubcommand) → numbered known n (some ++ others) ≡ numbered known n some ++ numbered known (n + length some) others
 numbered_append known n [] others = ap (λ k. numbered known k others) (omega arith)
-numbered_append known n (c ∷ some) others =
-    let step : n + 1 + length some ≡ n + length (c ∷ some) = omega arith in
-    ap (λ rs. rule_at known n c ∷ rs)
-    (numbered_append known (n + 1) some others ∙ ap (λ k. numbered known (n + 1) some ++ numbered known k others) step)
+numbered_append known n (c ∷ some) others = grind (arith, (numbered_append known (n + 1) some others))
 
 groups_numbered : (known : Known) (n group : ℕ) (groups : List (List NvccGeneratedSubcommand)) → of_groups (rule_in known) n group groups ≡ numbered known n (flat_map (λ commands. commands) groups)
 groups_numbered known n group [] = refl
@@ -301,12 +256,7 @@ length_mapped f (x ∷ xs) = ap suc (length_mapped f xs)
 
 length_steps : (count group : ℕ) (groups : List (List NvccGeneratedSubcommand)) → length (steps_from count group groups) ≡ length (flat_map (λ commands. commands) groups)
 length_steps count group [] = refl
-length_steps count group (commands ∷ groups) =
-    let here = map (step_of count group) commands in
-    let rest = steps_from count (group + 1) groups in
-    let others = flat_map (λ cs. cs) groups in
-    let ih : length rest ≡ length others = length_steps count (group + 1) groups in
-    omega (arith, length-append here rest, length-append commands others, length_mapped (step_of count group) commands, ih)
+length_steps count group (commands ∷ groups) = simp (length-append, length_mapped, (length_steps count (group + 1) groups))
 
 record At (known : Known) (n : ℕ) (r : Rule) : Type 0 where
   command : NvccGeneratedSubcommand
@@ -315,16 +265,10 @@ record At (known : Known) (n : ℕ) (r : Rule) : Type 0 where
 numbered_at : (known : Known) (n i : ℕ) (commands : List NvccGeneratedSubcommand) → i < length commands → At known (n + i) (get_or (numbered known n commands) i no_rule)
 numbered_at known n i [] h = absurd (omega arith)
 numbered_at known n zero (c ∷ commands) h = record { command = c; is = ap (λ k. rule_at known k c) (omega arith) }
-numbered_at known n (suc i) (c ∷ commands) h =
-    let found = numbered_at known (n + 1) i commands (omega arith) in
-    let step : n + 1 + i ≡ n + suc i = omega arith in
-    record { command = found.command; is = found.is ∙ ap (λ k. rule_at known k found.command) step }
+numbered_at known n (suc i) (c ∷ commands) h = grind (arith, (numbered_at known (n + 1) i commands (omega arith)))
 
 pub rules_counted : (tmp : List ℕ) (plan : Plan) → length (rules tmp plan) ≡ length (plan_steps plan)
-rules_counted tmp plan =
-    ap length (groups_numbered (known_of tmp plan) 0 0 plan.groups)
-    ∙ length_numbered (known_of tmp plan) 0 (flat_map (λ cs. cs) plan.groups)
-    ∙ sym (length_steps (length plan.groups) 0 plan.groups)
+rules_counted tmp plan = simp (groups_numbered, length_numbered, length_steps)
 
 rule_found : (tmp : List ℕ) (plan : Plan) (n : ℕ) → n < length (plan_steps plan) → At (known_of tmp plan) n (rule_numbered tmp plan n)
 rule_found tmp plan n h =
@@ -333,10 +277,7 @@ rule_found tmp plan n h =
     let size : length (plan_steps plan) ≡ length commands = length_steps (length plan.groups) 0 plan.groups in
     let here : 0 + n ≡ n = omega arith in
     let found = numbered_at known 0 n commands (omega arith) in
-    record {
-      command = found.command;
-      is = ap (λ rs. get_or rs n no_rule) (groups_numbered known 0 0 plan.groups) ∙ found.is ∙ ap (λ k. rule_at known k found.command) here;
-    }
+    grind (arith, groups_numbered)
 
 targets_are : (tmp : List ℕ) (plan : Plan) (n : ℕ) → n < length (plan_steps plan) → (rule_numbered tmp plan n).targets ≡ targets (known_of tmp plan) n
 targets_are tmp plan n h = ap (λ r. r.targets) (rule_found tmp plan n h).is
@@ -453,8 +394,7 @@ no_paths [] e = refl
 no_paths (p ∷ paths) e = let none : length (p ∷ paths) ≡ 0 = eqb-true (length (p ∷ paths)) 0 e in absurd (omega arith)
 
 not_false : (b : Bool) → not b ≡ false → b ≡ true
-not_false true e = refl
-not_false false e = absurd (false≢true (sym e))
+not_false b e = grind (arith, false≢true)
 
 pub others_have_files : (tmp : List ℕ) (plan : Plan) (n : ℕ) → n < length (plan_steps plan) → (rule_numbered tmp plan n).is_local ≡ false → HasItsFiles tmp plan n
 others_have_files tmp plan n within e =

@@ -1,7 +1,6 @@
 -- A POSIX shell reads what a rule runs as the command and then `touch`.
-use Rattle.std.proofs.Common.{ℕ, List, [], ◌∷◌, ◌++◌, ◌≡◌, refl, ap, map, Bool, Some, true, false, codes}
+use Rattle.std.proofs.Common.{ℕ, List, [], ◌∷◌, ◌++◌, ◌≡◌, refl, ap, map, Bool, Some, true, false, codes, IsUtf8, chars, arith}
 use Rattle.std.specs.List.{AllByRecursion}
-use Rattle.std.specs.Str.{IsUtf8, chars}
 use Rattle.std.proofs.lemmas.Str.{IsUtf8-append}
 use Rattle.texts.specs.Numeral.{numeral}
 use Rattle.shell_words.specs.Posix.{is_apart}
@@ -41,6 +40,5 @@ unfolding lib.Utf8.encode
 touch_apart n = ap is_apart (plain_chars (codes " && touch ") (written (stamp n ∷ [])) refl refl)
 
 pub lines_read_back : (moves : Bool) (n : ℕ) (c : NvccGeneratedSubcommand) → IsOfTexts c → shell_tokens (line moves n c) ≡ Some (command_tokens moves c ++ touch_tokens n)
-lines_read_back true n c are =
-    written_then (codes "env") (map assignment c.env_vars ++ c.exe ∷ c.args) (touch_bytes n) (touch_tokens n) (utf8_words c are) (touch_apart n) (touch_reads (stamp n) (utf8_stamp n))
+lines_read_back true n c are = grind (arith, written_then, utf8_words, touch_apart, touch_reads, utf8_stamp)
 lines_read_back false n c are = text_then [] c (touch_bytes n) (touch_tokens n) tt are (touch_reads (stamp n) (utf8_stamp n))

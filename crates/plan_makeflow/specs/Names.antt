@@ -1,8 +1,7 @@
 -- The files that Makeflow hands from one machine to another: those right in the temporary directory, under plain names.
-use Rattle.std.specs.Prelude.{ℕ, List, [], ◌∷◌, ◌++◌, Bool, false, ◌==◌, ◌&&◌, ◌||◌, nat_eq, if◌then◌else◌, Option, Some, None, codes, refl}
+use Rattle.std.specs.Prelude.{ℕ, List, [], ◌∷◌, ◌++◌, Bool, false, ◌==◌, ◌&&◌, ◌||◌, nat_eq, if◌then◌else◌, Option, Some, None, codes, refl, option_and_then}
 use Rattle.std.specs.Char.{is_ascii_alphanumeric}
 use Rattle.std.specs.List.{list_all, starts_with}
-use Rattle.std.specs.Option.{option_and_then}
 use Rattle.texts.specs.Lists.{rest_after}
 use Rattle.texts.specs.Numeral.{numeral}
 use Rattle.texts.specs.Rows.{Gives}

@@ -1,6 +1,5 @@
 -- What a POSIX shell reads in what a rule runs. Its grammar (`Posix` of `shell_words`) has no reading for a text on which a shell would act.
-use Rattle.std.specs.Prelude.{◌≡◌, ℕ, List, [], ◌∷◌, ◌++◌, Bool, true, false, Some, codes}
-use Rattle.std.specs.Str.{chars}
+use Rattle.std.specs.Prelude.{◌≡◌, ℕ, List, [], ◌∷◌, ◌++◌, Bool, true, false, Some, codes, chars}
 use Rattle.shell_words.specs.Posix.{Token, Word, Operator}
 use Rattle.plans.specs.declared.plan.NvccGeneratedSubcommand.{NvccGeneratedSubcommand}
 use Rattle.plan_scripts.specs.ReadBack.{IsOfTexts, shell_tokens, word_tokens}

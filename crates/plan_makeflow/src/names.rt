@@ -1,8 +1,7 @@
 //! The names by which rules name files.
 
-ghost use Rattle.std.specs.Prelude.{◌≡◌, ◌++◌, IfOk, OnOk, map, string_bytes};
+ghost use Rattle.std.specs.Prelude.{◌≡◌, ◌++◌, IfOk, OnOk, map, string_bytes, option_copied};
 ghost use Rattle.std.specs.List.{list_all};
-ghost use Rattle.std.specs.Option.{option_copied};
 ghost use Rattle.texts.specs.Lists.{rest_after};
 ghost use Rattle.command_files.specs.Files.{is_among};
 ghost use Rattle.plan_makeflow.specs.Names as spec;

@@ -1,8 +1,7 @@
 -- A group's account, command by command.
-use Rattle.std.proofs.Common.{◌≡◌, ℕ, ◌+◌, List, [], ◌∷◌, ◌++◌, Bool, true, false, not, ◌&&◌, ltb, refl, ap, sym, ◌∙◌, map, subst, append_assoc, MatchBool, Result, Ok, Err, ℤ, pos, negsuc, zero, suc, ◌↔◌, arith, fold, IsTrue, IfOk, IsErr, MatchResult}
+use Rattle.std.proofs.Common.{◌≡◌, ℕ, ◌+◌, List, [], ◌∷◌, ◌++◌, Bool, true, false, not, ◌&&◌, ltb, refl, ap, sym, ◌∙◌, map, subst, append_assoc, MatchBool, Result, Ok, Err, ℤ, pos, negsuc, zero, suc, ◌↔◌, arith, fold, IsTrue, IfOk, IsErr, MatchResult, ne_eqb}
 use Rattle.std.proofs.lemmas.List.{append-nil, map-append}
 use Rattle.std.proofs.lemmas.List.Sums.{fold-append}
-use Rattle.std.proofs.lemmas.Bool.{ne_eqb}
 use Rattle.std.specs.declared.alloc.AllocError.{AllocError}
 use Rattle.plans.specs.declared.plan.NvccGeneratedSubcommand.{NvccGeneratedSubcommand}
 use Rattle.texts.specs.declared.status.Output.{Output}
@@ -22,16 +21,11 @@ push-next xs x ys = append_assoc xs (x ∷ []) ys
 
 -- one entry is an account of a group's command that may stop anywhere
 pub one-entry : (e : AccountEntry) (group index : ℕ) (c : NvccGeneratedSubcommand) (cs : List NvccGeneratedSubcommand) → step_of e ≡ step_at group index c → OfGroup false group index (e ∷ []) (c ∷ cs)
-one-entry e group index c cs at = (at, held (fails e))
-  where
-    held : (failed : Bool) → MatchBool failed (no_entries ≡ []) (Unit {0})
-    held true = refl
-    held false = tt
+one-entry e group index c cs at = grind arith
 
 -- the answer's output was made, or memory was refused for it
 pub command-answered : (r : Result Output AllocError) (before after : List AccountEntry) (e : AccountEntry) (group index : ℕ) (c : NvccGeneratedSubcommand) → after ≡ before ++ e ∷ [] → step_of e ≡ step_at group index c → IfOk r (λ output. output ≡ output_of_entry e) → MatchResult r (λ output. (e : AccountEntry) × (after ≡ before ++ e ∷ []) × (step_of e ≡ step_at group index c) × (output ≡ output_of_entry e)) (λ _. Gains before after (λ account. OfGroup false group index account (c ∷ [])))
-command-answered (Ok output) before after e group index c gained at said = (e, gained, at, said)
-command-answered (Err error) before after e group index c gained at said = (e ∷ [], gained, one-entry e group index c [] at)
+command-answered r before after e group index c gained at said = grind (arith, one-entry)
 
 -- A group, so far.
 
@@ -44,8 +38,7 @@ pub record GroupSoFar (before after : List AccountEntry) (group index : ℕ) (re
 
 -- the joined output with one more
 joined-next : (output joined more : Output) (account : List AccountEntry) (e : AccountEntry) → joined ≡ fold aggregated output (map output_of_entry account) → more ≡ output_of_entry e → aggregated joined more ≡ fold aggregated output (map output_of_entry (account ++ e ∷ []))
-joined-next output joined more account e was is =
-    (λ i. aggregated (was i) (is i)) ∙ sym (ap (fold aggregated output) (map-append output_of_entry account (e ∷ [])) ∙ fold-append aggregated output (map output_of_entry account) (output_of_entry e ∷ []))
+joined-next output joined more account e was is = grind (arith, map-append, fold-append)
 
 gained-next : (before middle after account : List AccountEntry) (e : AccountEntry) → middle ≡ before ++ account → after ≡ middle ++ e ∷ [] → after ≡ before ++ (account ++ e ∷ [])
 gained-next before middle after account e was is = is ∙ ap (λ l. l ++ e ∷ []) was ∙ append_assoc before account (e ∷ [])
@@ -87,11 +80,7 @@ group-ends before after group index commands output joined s =
 more-left : (group index : ℕ) (account : List AccountEntry) (c : NvccGeneratedSubcommand) (rest : List NvccGeneratedSubcommand) → OfGroup false group index account (c ∷ []) → OfGroup false group index account (c ∷ rest)
 more-left group index [] c rest h = tt
 more-left group index (e ∷ []) c rest h = one-entry e group index c rest h.0
-more-left group index (e ∷ f ∷ es) c rest h = absurd (none (fails e) h.1)
-  where
-    none : (failed : Bool) → MatchBool failed (f ∷ es ≡ []) ⊥ → ⊥
-    none true e = cc
-    none false e = e
+more-left group index (e ∷ f ∷ es) c rest h = grind arith
 
 -- memory was refused
 pub group-cut : (before middle after : List AccountEntry) (group index : ℕ) (c : NvccGeneratedSubcommand) (rest commands : List NvccGeneratedSubcommand) (output joined : Output)
@@ -113,13 +102,7 @@ group-cut_joining before middle after group index c rest commands output joined 
 -- What the code tests.
 
 pub success-is : (b : Bool) (z : ℤ) → (IsTrue b ↔ (z ≡ pos 0)) → b ≡ is_success z
-success-is true z h = sym (ap is_success (h.0 refl))
-success-is false (pos zero) h = absurd (no-truth (h.1 refl))
-  where
-    no-truth : IsTrue false → ⊥
-    no-truth e = cc
-success-is false (pos (suc n)) h = sym (ne_eqb (suc n) 0 (λ e. absurd (omega (arith, e))))
-success-is false (negsuc n) h = refl
+success-is b z h = grind (arith, ne_eqb)
 
 -- what the code tests of a group's chunk and of the last one is what is said of them
 pub held-test : (last next : ℕ) (success held : Bool) (status : ℤ) → (IsTrue success ↔ (status ≡ pos 0)) → held ≡ (ltb last next && not success) → (ltb last next && not (is_success status)) ≡ held
@@ -127,5 +110,4 @@ held-test last next success held status h test = ap (λ b. ltb last next && not 
 
 -- a refusal that was passed on
 pub refused : {T E : Type 0} (r : Result T E) (P : T → Type 0) (Q : Type 0) → IsErr r → Q → MatchResult r P (λ _. Q)
-refused (Ok x) P Q h q = cc
-refused (Err e) P Q h q = q
+refused r P Q h q = grind arith

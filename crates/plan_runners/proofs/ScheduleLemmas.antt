@@ -1,7 +1,6 @@
 -- Which commands of a plan are due, group by group.
-use Rattle.std.proofs.Common.{◌≡◌, ℕ, ◌+◌, ◌-◌, ◌/◌, ◌<◌, ◌≤◌, List, [], ◌∷◌, ◌++◌, Bool, true, false, not, ◌&&◌, ◌||◌, cond, eqb, ltb, leb, refl, ap, sym, ◌∙◌, map, filter, subst, append_assoc, MatchBool, Ok, Err, arith}
+use Rattle.std.proofs.Common.{◌≡◌, ℕ, ◌+◌, ◌-◌, ◌/◌, ◌<◌, ◌≤◌, List, [], ◌∷◌, ◌++◌, Bool, true, false, not, ◌&&◌, ◌||◌, cond, eqb, ltb, leb, refl, ap, sym, ◌∙◌, map, filter, subst, append_assoc, MatchBool, Ok, Err, arith, div-le_self, div-mul-le_self}
 use Rattle.std.specs.List.{list_any, fold}
-use Rattle.std.proofs.Math.Nat.{div-le_self, div-mul-le_self}
 use Rattle.std.proofs.lemmas.Nat.{le-div}
 use Rattle.std.proofs.lemmas.Bool.{ltb-true, le-ltb, lt-ltb, eqb-true, eq-eqb, ne_eqb, leb-true, leb-false, eqb-false, ltb-false, and_right, or_parts}
 use Rattle.std.proofs.lemmas.List.{append-nil, map-append}
@@ -61,11 +60,7 @@ OfGroupFrom group index account = Each (λ e. (e.place.group ≡ group) × (inde
 of_group : (to_end : Bool) (group index : ℕ) (account : List AccountEntry) (commands : List NvccGeneratedSubcommand) → OfGroup to_end group index account commands → OfGroupFrom group index account
 of_group to_end group index [] commands h = tt
 of_group to_end group index (e ∷ es) [] h = absurd h
-of_group to_end group index (e ∷ es) (c ∷ cs) h = ((ap (λ s. s.place.group) h.0, omega (arith, ap (λ s. s.place.index) h.0)), behind (fails e) h.1 (of_group to_end group (index + 1) es cs))
-  where
-    behind : (failed : Bool) → MatchBool failed (es ≡ []) (OfGroup to_end group (index + 1) es cs) → (OfGroup to_end group (index + 1) es cs → OfGroupFrom group (index + 1) es) → OfGroupFrom group index es
-    behind true none again = subst (OfGroupFrom group index) (sym none) tt
-    behind false more again = each-map (λ x. (x.place.group ≡ group) × (index + 1 ≤ x.place.index)) (λ x. (x.place.group ≡ group) × (index ≤ x.place.index)) es (λ x p. (p.0, omega (arith, p.1))) (again more)
+of_group to_end group index (e ∷ es) (c ∷ cs) h = grind (arith, each-map, (of_group to_end group (index + 1) es cs))
 
 -- Tests.
 
@@ -74,8 +69,7 @@ quiet : (a b c f : Bool) → (a && b) ≡ false → c ≡ false → (((a && b) |
 quiet a b c f own other = (λ i. (own i || other i) && f)
 
 quiet_if_failed : (a b c f : Bool) → a ≡ false → (f ≡ true → c ≡ false) → (((a && b) || c) && f) ≡ false
-quiet_if_failed a b c true other h = quiet a b c true (ap (λ x. x && b) other) (h refl)
-quiet_if_failed a b c false other h = and_right ((a && b) || c) false refl
+quiet_if_failed a b c f other h = grind (arith, quiet, and_right)
 
 loud : (a b c f : Bool) → a ≡ true → b ≡ true → f ≡ true → (((a && b) || c) && f) ≡ true
 loud a b c f p q r = λ i. ((p i && q i) || c) && r i
@@ -85,24 +79,15 @@ loud_by_chunk x c f p q = (λ i. (x || p i) && q i) ∙ and-true (x || true) ∙
 
 -- a step isn't stopped by an entry at its own place or behind it, in its group
 not-behind : (chunk : ℕ → ℕ) (group index : ℕ) (e : AccountEntry) → e.place.group ≡ group → index ≤ e.place.index → stops chunk (at group index) e ≡ false
-not-behind chunk group index e same behind =
-    quiet (eqb e.place.group group) (ltb e.place.index index) (ltb (chunk e.place.group) (chunk group)) (fails e)
-    (and_right (eqb e.place.group group) (ltb e.place.index index) (le-ltb e.place.index index behind))
-    (le-ltb (chunk e.place.group) (chunk group) (omega (arith, ap chunk same)))
+not-behind chunk group index e same behind = grind (arith, quiet, and_right, le-ltb)
 
 -- nor by one of a later group
 not-later : (chunk : ℕ → ℕ) → ((a b : ℕ) → a ≤ b → chunk a ≤ chunk b) → (p : Place) (e : AccountEntry) → p.group < e.place.group → stops chunk p e ≡ false
-not-later chunk rises p e later =
-    quiet (eqb e.place.group p.group) (ltb e.place.index p.index) (ltb (chunk e.place.group) (chunk p.group)) (fails e)
-    (ap (λ b. b && ltb e.place.index p.index) (ne_eqb e.place.group p.group (λ same. omega (arith, same, later))))
-    (le-ltb (chunk e.place.group) (chunk p.group) (rises p.group e.place.group (omega arith)))
+not-later chunk rises p e later = grind (arith, quiet, ne_eqb, le-ltb)
 
 -- nor by one of an earlier group whose chunk isn't earlier, if it fails
 not-earlier : (chunk : ℕ → ℕ) (group index : ℕ) (e : AccountEntry) → e.place.group < group → (fails e ≡ true → chunk group ≤ chunk e.place.group) → stops chunk (at group index) e ≡ false
-not-earlier chunk group index e earlier held =
-    quiet_if_failed (eqb e.place.group group) (ltb e.place.index index) (ltb (chunk e.place.group) (chunk group)) (fails e)
-    (ne_eqb e.place.group group (λ same. omega (arith, same, earlier)))
-    (λ failed. le-ltb (chunk e.place.group) (chunk group) (held failed))
+not-earlier chunk group index e earlier held = grind (arith, quiet_if_failed, ne_eqb, le-ltb)
 
 any-here : {X : Type 0} (p : X → Bool) (xs : List X) (x : X) (ys : List X) → p x ≡ true → list_any p (xs ++ x ∷ ys) ≡ true
 any-here p [] x ys h = ap (λ b. b || list_any p ys) h
@@ -120,8 +105,7 @@ NoStepLeft true left = left ≡ []
 NoStepLeft false left = Unit {0}
 
 no-step_left : (to_end : Bool) → NoStepLeft to_end []
-no-step_left true = refl
-no-step_left false = tt
+no-step_left to_end = grind arith
 
 -- of the commands of a group from a number on those of an account are due, and behind them what is left
 abbrev pub GroupDue : Bool → (ℕ → ℕ) → List AccountEntry → List AccountEntry → List Step → Type 0
@@ -173,20 +157,14 @@ group-due chunk to_end group index before (e ∷ es) (c ∷ cs) harmless run =
 -- The status of joined outputs.
 
 both-succeed : (first : Bool) (a b : Output) → is_success a.status ≡ first → is_success (cond first b.status a.status) ≡ (first && is_success b.status)
-both-succeed true a b h = refl
-both-succeed false a b h = h
+both-succeed first a b h = grind arith
 
 no-failure : (first second rest : Bool) → ((first && second) && not rest) ≡ (first && not (not second || rest))
-no-failure true true rest = refl
-no-failure true false rest = refl
-no-failure false second rest = refl
+no-failure first second rest = grind arith
 
 joined-status : (a : Output) (account : List AccountEntry) → is_success (fold aggregated a (map output_of_entry account)).status ≡ (is_success a.status && not (list_any fails account))
 joined-status a [] = sym (and-true (is_success a.status))
-joined-status a (e ∷ es) =
-    joined-status (aggregated a (output_of_entry e)) es
-    ∙ ap (λ b. b && not (list_any fails es)) (both-succeed (is_success a.status) a (output_of_entry e) refl)
-    ∙ no-failure (is_success a.status) (is_success (output_of_entry e).status) (list_any fails es)
+joined-status a (e ∷ es) = simp (both-succeed, no-failure, (joined-status (aggregated a (output_of_entry e)) es))
 
 pub account-status : (account : List AccountEntry) → is_success (output_of_account account).status ≡ not (list_any fails account)
 account-status account = joined-status empty_success account
@@ -248,10 +226,7 @@ own-steps group index (c ∷ cs) = (refl, own-steps group (index + 1) cs)
 
 steps-from : (group : ℕ) (groups : List (List NvccGeneratedSubcommand)) → Each (λ s. group ≤ s.place.group) (steps_from group groups)
 steps-from group [] = tt
-steps-from group (g ∷ gs) =
-    each-append (λ s. group ≤ s.place.group) (steps_of_group group 0 g) (steps_from (group + 1) gs)
-    (each-map (λ s. s.place.group ≡ group) (λ s. group ≤ s.place.group) (steps_of_group group 0 g) (λ s e. omega (arith, e)) (own-steps group 0 g))
-    (each-map (λ s. group + 1 ≤ s.place.group) (λ s. group ≤ s.place.group) (steps_from (group + 1) gs) (λ s le. omega (arith, le)) (steps-from (group + 1) gs))
+steps-from group (g ∷ gs) = grind (arith, each-append, each-map, own-steps, (steps-from (group + 1) gs))
 
 -- whether the next group waits for the success of what ran
 abbrev pub Free : ℕ → ℕ → Output → Type 0
@@ -259,11 +234,7 @@ Free last next joined = (ltb last next && not (is_success joined.status)) ≡ fa
 
 none-fail : (account : List AccountEntry) → list_any fails account ≡ false → Each (λ e. fails e ≡ true → ⊥) account
 none-fail [] h = tt
-none-fail (e ∷ es) h = (λ failed. absurd (true-or (fails e) (list_any fails es) failed h), none-fail es (or_parts (fails e) (list_any fails es) h).1)
-  where
-    true-or : (a b : Bool) → a ≡ true → (a || b) ≡ false → ⊥
-    true-or true b p q = cc
-    true-or false b p q = cc
+none-fail (e ∷ es) h = grind (arith, or_parts, (none-fail es (or_parts (fails e) (list_any fails es) h).1))
 
 -- if the next group runs, what failed is of no earlier chunk
 held-back : (chunk : ℕ → ℕ) (account : List AccountEntry) (last next : ℕ) (joined : Output) → joined ≡ output_of_account account → Free last next joined → Each (λ e. fails e ≡ true → last ≤ chunk e.place.group) account → Each (λ e. fails e ≡ true → next ≤ chunk e.place.group) account
@@ -324,8 +295,7 @@ PlanCut chunk all account = (rest : List Step) × (filter (is_due chunk account)
 
 -- the last group ran
 pub plan-ends : (chunk : ℕ → ℕ) (before after : List AccountEntry) (all : List Step) (group last : ℕ) (joined : Output) → PlanSoFar chunk before after all group [] last joined → Gains before after (PlanEnds chunk all joined)
-plan-ends chunk before after all group last joined s =
-    (s.account, s.gained, (ap (filter (is_due chunk s.account)) (s.parts ∙ append-nil s.passed) ∙ s.due, s.outputs))
+plan-ends chunk before after all group last joined s = grind (arith, append-nil)
 
 -- memory was refused in a group
 pub plan-cut : (chunk : ℕ → ℕ) → Rises chunk → (before middle after : List AccountEntry) (all : List Step) (group : ℕ) (commands : List NvccGeneratedSubcommand) (groups : List (List NvccGeneratedSubcommand)) (last next : ℕ) (joined : Output)
@@ -349,11 +319,7 @@ plan-cut chunk rises before middle after all group commands groups last next joi
 -- a failed entry of an earlier chunk stops a step
 stopped-by_chunk : (chunk : ℕ → ℕ) (p : Place) (last : ℕ) (account : List AccountEntry) → last < chunk p.group → Each (λ e. chunk e.place.group ≤ last) account → list_any fails account ≡ true → list_any (stops chunk p) account ≡ true
 stopped-by_chunk chunk p last [] later within failed = cc
-stopped-by_chunk chunk p last (e ∷ es) later within failed = by-failure (fails e) refl failed (stopped-by_chunk chunk p last es later within.1)
-  where
-    by-failure : (f : Bool) → fails e ≡ f → (f || list_any fails es) ≡ true → (list_any fails es ≡ true → list_any (stops chunk p) es ≡ true) → list_any (stops chunk p) (e ∷ es) ≡ true
-    by-failure true bad h again = ap (λ b. b || list_any (stops chunk p) es) (loud_by_chunk (eqb e.place.group p.group && ltb e.place.index p.index) (ltb (chunk e.place.group) (chunk p.group)) (fails e) (lt-ltb (chunk e.place.group) (chunk p.group) (omega (arith, within.0, later))) bad)
-    by-failure false good h again = ap (λ b. stops chunk p e || b) (again h) ∙ or-true (stops chunk p e)
+stopped-by_chunk chunk p last (e ∷ es) later within failed = grind (arith, loud_by_chunk, lt-ltb, or-true, (stopped-by_chunk chunk p last es later within.1))
 
 -- the groups from the next one on wait for a success that didn't come
 pub plan-stops : (chunk : ℕ → ℕ) → Rises chunk → (before after : List AccountEntry) (all : List Step) (group : ℕ) (groups : List (List NvccGeneratedSubcommand)) (last next : ℕ) (joined : Output)
@@ -393,14 +359,12 @@ rise devices size a b some le false false false false p q r s = omega arith
 
 -- a later group is of no earlier chunk
 pub chunks-rise : (devices parallel : ℕ) → Rises (chunk_of devices parallel)
-chunks-rise devices parallel a b le =
-    rise devices (chunk_size devices parallel) a b (omega arith) le (eqb a 0) (leb a devices) (eqb b 0) (leb b devices) refl refl refl refl
+chunks-rise devices parallel a b le = grind (arith, rise)
 
 -- The outcome of an account.
 
 failed-if : (account : List AccountEntry) (output : Output) (success : Bool) → output ≡ output_of_account account → is_success output.status ≡ success → list_any fails account ≡ not success
-failed-if account output success is h =
-    sym (not-not (list_any fails account)) ∙ ap not (sym (account-status account) ∙ ap (λ o. is_success o.status) (sym is) ∙ h)
+failed-if account output success is h = grind (arith, not-not, account-status)
 
 pub outcome-ok : (account : List AccountEntry) (output : Output) → output ≡ output_of_account account → is_success output.status ≡ true → outcome_of account ≡ Ok output
 outcome-ok account output is h = λ i. cond (failed-if account output true is h i) (Err (Process (sym is i))) (Ok (sym is i))
@@ -410,15 +374,4 @@ outcome-err account output is h = λ i. cond (failed-if account output false is 
 
 -- a group that is held back begins a later chunk, and something before it failed
 pub held-true : (last next : ℕ) (success : Bool) → (ltb last next && not success) ≡ true → (last < next) × (success ≡ false)
-held-true last next success h = by-test (ltb last next) success refl h
-  where
-    by-test : (later success : Bool) → ltb last next ≡ later → (later && not success) ≡ true → (last < next) × (success ≡ false)
-    by-test true false e h = (ltb-true last next e, refl)
-    by-test true true e h = absurd (no h)
-      where
-        no : false ≡ true → ⊥
-        no e = cc
-    by-test false success e h = absurd (no h)
-      where
-        no : false ≡ true → ⊥
-        no e = cc
+held-true last next success h = grind (arith, ltb-true)

@@ -1,8 +1,7 @@
 -- Numerals are UTF-8, and tell numbers apart.
-use Rattle.std.proofs.Common.{◌≡◌, ◌≢◌, ℕ, ◌+◌, ◌-◌, ◌<◌, Bool, true, false, cond, eqb, eqb-true, List, [], ◌∷◌, map, refl, ap, sym, ◌∙◌, subst, get_or, codes, arith}
+use Rattle.std.proofs.Common.{◌≡◌, ◌≢◌, ℕ, ◌+◌, ◌-◌, ◌<◌, Bool, true, false, cond, eqb, eqb-true, List, [], ◌∷◌, map, refl, ap, sym, ◌∙◌, subst, get_or, codes, arith, IsUtf8, IsAscii}
 use Rattle.std.specs.Int.Digits.{digits_of}
 use Rattle.std.specs.List.{AllByRecursion}
-use Rattle.std.specs.Str.{IsUtf8, IsAscii}
 use Rattle.std.proofs.lemmas.Bool.{cond_both, eqb-false}
 use Rattle.std.proofs.lemmas.Int.Digits.{all_below_base_digits_of, same_from_digits_of, first_digits_of}
 use Rattle.std.proofs.lemmas.Str.{IsUtf8-from_ascii}
@@ -15,15 +14,11 @@ ascii-digits (d ∷ ds) small = let low : d < 10 = small.0 in IsAscii-cons (48 +
 
 pub utf8-numeral : (n : ℕ) → IsUtf8 (numeral n)
 unfolding lib.Utf8.encode
-utf8-numeral n =
-    cond_both (eqb n 0) (codes "0") (map (λ d. 48 + d) (digits_of 10 n)) (λ t. IsUtf8 t) (λ _. (codes "0", (refl, refl)))
-    (λ _. IsUtf8-from_ascii (map (λ d. 48 + d) (digits_of 10 n)) (ascii-digits (digits_of 10 n) (all_below_base_digits_of 10 n (omega arith))))
+utf8-numeral n = grind (arith, cond_both, IsUtf8-from_ascii, ascii-digits, all_below_base_digits_of)
 
 unshift : (ds : List ℕ) → map (λ d. d - 48) (map (λ d. 48 + d) ds) ≡ ds
 unshift [] = refl
-unshift (d ∷ ds) =
-    let one : (48 + d) - 48 ≡ d = omega arith in
-    ap (λ x. x ∷ map (λ d. d - 48) (map (λ d. 48 + d) ds)) one ∙ ap (λ t. d ∷ t) (unshift ds)
+unshift (d ∷ ds) = grind (arith, (unshift ds))
 
 shift-cancel : (xs ys : List ℕ) → map (λ d. 48 + d) xs ≡ map (λ d. 48 + d) ys → xs ≡ ys
 shift-cancel xs ys e = sym (unshift xs) ∙ ap (map (λ d. d - 48)) e ∙ unshift ys
@@ -33,16 +28,13 @@ no-zero_digit : (n : ℕ) → 0 < n → codes "0" ≡ map (λ d. 48 + d) (digits
 no-zero_digit n pos e =
     let zero_digit : digits_of 10 n ≡ 0 ∷ [] = sym (unshift (digits_of 10 n)) ∙ sym (ap (map (λ d. d - 48)) e) in
     let bad : 0 < get_or (0 ∷ []) 0 0 = subst (λ ds. 0 < get_or ds 0 0) zero_digit (first_digits_of 10 n (omega arith) pos) in
-    omega (arith, bad)
+    grind arith
 
 positive : (n : ℕ) → eqb n 0 ≡ false → 0 < n
 positive n h = let some : n ≢ 0 = eqb-false n 0 h in omega (arith, some)
 
 numeral-cases : (m n : ℕ) (a b : Bool) → eqb m 0 ≡ a → eqb n 0 ≡ b → cond a (codes "0") (map (λ d. 48 + d) (digits_of 10 m)) ≡ cond b (codes "0") (map (λ d. 48 + d) (digits_of 10 n)) → m ≡ n
-numeral-cases m n true true em en e = eqb-true m 0 em ∙ sym (eqb-true n 0 en)
-numeral-cases m n true false em en e = absurd (no-zero_digit n (positive n en) e)
-numeral-cases m n false true em en e = absurd (no-zero_digit m (positive m em) (sym e))
-numeral-cases m n false false em en e = same_from_digits_of 10 m n (omega arith) (shift-cancel (digits_of 10 m) (digits_of 10 n) e)
+numeral-cases m n a b em en e = grind (arith, eqb-true, no-zero_digit, positive, same_from_digits_of, shift-cancel)
 
 pub numeral-same : (m n : ℕ) → numeral m ≡ numeral n → m ≡ n
 numeral-same m n e = numeral-cases m n (eqb m 0) (eqb n 0) refl refl e

@@ -1,8 +1,6 @@
 -- A POSIX shell reads a command's text, and a script, as the commands.
-use Rattle.std.proofs.Common.{ℕ, List, [], ◌∷◌, ◌++◌, ◌≡◌, refl, sym, ap, ◌∙◌, append_assoc, append-nil, map, Some, true, false, Option, codes}
+use Rattle.std.proofs.Common.{ℕ, List, [], ◌∷◌, ◌++◌, ◌≡◌, refl, sym, ap, ◌∙◌, append_assoc, append-nil, map, Some, true, false, Option, codes, option_map, option_and_then, IsUtf8, chars, arith}
 use Rattle.std.specs.List.{AllByRecursion, flat_map}
-use Rattle.std.specs.Option.{option_map, option_and_then}
-use Rattle.std.specs.Str.{IsUtf8, chars}
 use Rattle.std.proofs.lemmas.Str.{chars-nil}
 use Rattle.shell_words.specs.Posix.{Token, Word, Operator, Place, Between, After, Inside, Step, step, prepend, with_step, tokens_from, tokens, is_apart}
 use Rattle.shell_words.specs.Shell.Quoting.{written}
@@ -17,15 +15,11 @@ use Rattle.plan_scripts.proofs.TextLemmas.{written_chars, plain_chars, assignmen
 -- ---- characters
 
 prepend-nothing : (ts : List Token) → prepend [] ts ≡ ts
-prepend-nothing [] = refl
-prepend-nothing (Word word ∷ ts) = refl
-prepend-nothing (Operator operator ∷ ts) = refl
+prepend-nothing ts = grind arith
 
 -- a character that adds something, one that adds nothing, and one that ends a token
 reading : (place : Place) (c : ℕ) (cs : List ℕ) (s : Step) (ts : List Token) → step place c ≡ Some s → tokens_from s.0 cs ≡ Some ts → tokens_from place (c ∷ cs) ≡ Some (with_step s ts)
-reading place c cs s ts read found =
-    ap (λ (o : Option Step). option_and_then (λ s. option_map (with_step s) (tokens_from s.0 cs)) o) read
-    ∙ ap (λ (o : Option (List Token)). option_map (with_step s) o) found
+reading place c cs s ts read found = grind arith
 
 skipping : (place : Place) (c : ℕ) (cs : List ℕ) (next : Place) (ts : List Token) → step place c ≡ Some (next, [], []) → tokens_from next cs ≡ Some ts → tokens_from place (c ∷ cs) ≡ Some ts
 skipping place c cs next ts read found = reading place c cs (next, [], []) ts read found ∙ ap Some (prepend-nothing ts)
@@ -37,46 +31,25 @@ adding : (place : Place) (c : ℕ) (cs : List ℕ) (next : Place) (word : List �
 adding place c cs next word ts read found = reading place c cs (next, [], c ∷ []) (Word word ∷ ts) read found
 
 reads_open : (rest : List ℕ) (ts : List Token) → tokens rest ≡ Some ts → tokens (codes "( cd " ++ rest) ≡ Some (Operator (codes "(") ∷ Word (codes "cd") ∷ ts)
-reads_open rest ts found =
-    skipping Between 40 (codes " cd " ++ rest) (After 40) (Operator (codes "(") ∷ Word (codes "cd") ∷ ts) refl
-    (ending (After 40) 32 (codes "cd " ++ rest) Between (Operator (codes "(")) (Word (codes "cd") ∷ ts) refl
-    (adding Between 99 (codes "d " ++ rest) (Inside false) (codes "d") ts refl
-    (adding (Inside false) 100 (codes " " ++ rest) (Inside false) [] ts refl (ending (Inside false) 32 rest Between (Word []) ts refl found))))
+reads_open rest ts found = grind (arith, skipping, ending, adding)
 
 reads_blank : (rest : List ℕ) (ts : List Token) → tokens rest ≡ Some ts → tokens (codes " " ++ rest) ≡ Some ts
 reads_blank rest ts found = skipping Between 32 rest Between ts refl found
 
 reads_and : (rest : List ℕ) (ts : List Token) → tokens rest ≡ Some ts → tokens (codes " && " ++ rest) ≡ Some (Operator (codes "&&") ∷ ts)
-reads_and rest ts found =
-    reads_blank (codes "&& " ++ rest) (Operator (codes "&&") ∷ ts)
-    (skipping Between 38 (codes "& " ++ rest) (After 38) (Operator (codes "&&") ∷ ts) refl
-    (ending (After 38) 38 (codes " " ++ rest) Between (Operator (codes "&&")) ts refl (reads_blank rest ts found)))
+reads_and rest ts found = grind (arith, reads_blank, skipping, ending)
 
 reads_close : (rest : List ℕ) (ts : List Token) → tokens rest ≡ Some ts → tokens (codes " )" ++ rest) ≡ Some (Operator (codes ")") ∷ ts)
 reads_close rest ts found = reads_blank (codes ")" ++ rest) (Operator (codes ")") ∷ ts) (ending Between 41 rest Between (Operator (codes ")")) ts refl found)
 
 reads_touch : (rest : List ℕ) (ts : List Token) → tokens rest ≡ Some ts → tokens (codes " && touch " ++ rest) ≡ Some (Operator (codes "&&") ∷ Word (codes "touch") ∷ ts)
-reads_touch rest ts found =
-    reads_and (codes "touch " ++ rest) (Word (codes "touch") ∷ ts)
-    (adding Between 116 (codes "ouch " ++ rest) (Inside false) (codes "ouch") ts refl
-    (adding (Inside false) 111 (codes "uch " ++ rest) (Inside false) (codes "uch") ts refl
-    (adding (Inside false) 117 (codes "ch " ++ rest) (Inside false) (codes "ch") ts refl
-    (adding (Inside false) 99 (codes "h " ++ rest) (Inside false) (codes "h") ts refl
-    (adding (Inside false) 104 (codes " " ++ rest) (Inside false) [] ts refl (ending (Inside false) 32 rest Between (Word []) ts refl found))))))
+reads_touch rest ts found = grind (arith, reads_and, adding, ending)
 
 reads_newline : (rest : List ℕ) (ts : List Token) → tokens rest ≡ Some ts → tokens (codes "\n" ++ rest) ≡ Some (Operator (codes "\n") ∷ ts)
 reads_newline rest ts found = ending Between 10 rest Between (Operator (codes "\n")) ts refl found
 
 reads_set : (rest : List ℕ) (ts : List Token) → tokens rest ≡ Some ts → tokens (codes "set -e\n" ++ rest) ≡ Some (Word (codes "set") ∷ Word (codes "-e") ∷ Operator (codes "\n") ∷ ts)
-reads_set rest ts found =
-    let behind_set : List Token = Word (codes "-e") ∷ Operator (codes "\n") ∷ ts in
-    adding Between 115 (codes "et -e\n" ++ rest) (Inside false) (codes "et") behind_set refl
-    (adding (Inside false) 101 (codes "t -e\n" ++ rest) (Inside false) (codes "t") behind_set refl
-    (adding (Inside false) 116 (codes " -e\n" ++ rest) (Inside false) [] behind_set refl
-    (ending (Inside false) 32 (codes "-e\n" ++ rest) Between (Word []) behind_set refl
-    (adding Between 45 (codes "e\n" ++ rest) (Inside true) (codes "e") (Operator (codes "\n") ∷ ts) refl
-    (adding (Inside true) 101 (codes "\n" ++ rest) (Inside true) [] (Operator (codes "\n") ∷ ts) refl
-    (reading (Inside true) 10 rest (Between, Word [] ∷ Operator (codes "\n") ∷ [], []) ts refl found ∙ ap (λ us. Some (Word [] ∷ Operator (codes "\n") ∷ us)) (prepend-nothing ts)))))))
+reads_set rest ts found = grind (arith, adding, ending, reading, prepend-nothing)
 
 -- ---- bytes
 
@@ -128,7 +101,7 @@ run_then : (c : NvccGeneratedSubcommand) (tail : List ℕ) (ts : List Token) →
 unfolding lib.Utf8.encode
 run_then c tail ts are found =
     let close = plain_chars (codes " )") tail refl refl in
-    written_then c.exe c.args (codes " )" ++ tail) (Operator (codes ")") ∷ ts) (are.exe, are.args) (ap is_apart close) (ap tokens close ∙ reads_close (chars tail) ts found)
+    grind (arith, written_then, reads_close)
 
 env_then : (runner : List (List ℕ)) (c : NvccGeneratedSubcommand) (tail : List ℕ) (ts : List Token) → AllByRecursion IsUtf8 runner → IsOfTexts c → shell_tokens tail ≡ Some ts →
     shell_tokens (env_bytes runner c tail) ≡ Some (word_tokens (env_words c) ++ (word_tokens runner ++ (word_tokens (c.exe ∷ c.args) ++ Operator (codes ")") ∷ ts)))

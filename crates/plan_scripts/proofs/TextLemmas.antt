@@ -1,11 +1,9 @@
 -- The characters of texts that are written of UTF-8.
-use Rattle.std.proofs.Common.{ℕ, List, [], ◌∷◌, ◌++◌, ◌≡◌, refl, sym, ap, ◌∙◌, append_assoc, map, true, ◌==◌, ◌&&◌, encode_utf8_all}
+use Rattle.std.proofs.Common.{ℕ, List, [], ◌∷◌, ◌++◌, ◌≡◌, refl, sym, ap, ◌∙◌, append_assoc, map, true, ◌==◌, ◌&&◌, encode_utf8_all, IsUtf8, chars, arith}
 use Rattle.std.specs.List.{AllByRecursion, flat_map}
-use Rattle.std.specs.Str.{IsUtf8, chars}
 use Rattle.std.proofs.Math.Utf8.{scalars}
 use Rattle.std.proofs.lemmas.Bool.{cond_both, and_parts}
 use Rattle.std.proofs.lemmas.Str.{chars-append, chars-encodes, scalars-chars, IsUtf8-append}
-use Rattle.shell_words.specs.Shell.{backslash, single_quote}
 use Rattle.shell_words.specs.Shell.Quoting.{is_plain, quoted_char, quoted_word, further, quoted, written}
 use Rattle.plan_scripts.specs.CommandText.{assignment}
 
@@ -13,32 +11,26 @@ pub scalars_append : (xs ys : List ℕ) → scalars xs ≡ true → scalars ys �
 scalars_append [] ys first second = second
 scalars_append (c ∷ xs) ys first second =
     let parts = and_parts _ (scalars xs) first in
-    ap (λ b. b && scalars (xs ++ ys)) parts.0 ∙ scalars_append xs ys parts.1 second
+    grind (arith, scalars, (scalars_append xs ys parts.1 second))
 
 scalars_char : (c : ℕ) → scalars (c ∷ []) ≡ true → scalars (quoted_char c) ≡ true
-scalars_char c is =
-    cond_both (c == single_quote) (single_quote ∷ backslash ∷ single_quote ∷ single_quote ∷ []) (c ∷ []) (λ text. scalars text ≡ true) (λ e. refl) (λ e. is)
+scalars_char c is = grind (arith, cond_both, scalars)
 
 scalars_quoted : (word : List ℕ) → scalars word ≡ true → scalars (flat_map quoted_char word) ≡ true
 scalars_quoted [] are = refl
 scalars_quoted (c ∷ word) are =
     let parts = and_parts _ (scalars word) are in
-    scalars_append (quoted_char c) (flat_map quoted_char word) (scalars_char c (ap (λ b. b && true) parts.0)) (scalars_quoted word parts.1)
+    grind (arith, scalars_append, scalars_char, (scalars_quoted word parts.1))
 
 scalars_word : (word : List ℕ) → scalars word ≡ true → scalars (quoted_word word) ≡ true
-scalars_word word are =
-    cond_both (is_plain word) word (single_quote ∷ (flat_map quoted_char word ++ single_quote ∷ [])) (λ text. scalars text ≡ true)
-    (λ e. are) (λ e. scalars_append (flat_map quoted_char word) (single_quote ∷ []) (scalars_quoted word are) refl)
+scalars_word word are = grind (arith, cond_both, scalars, scalars_append, scalars_quoted)
 
 scalars_further : (words : List (List ℕ)) → AllByRecursion IsUtf8 words → scalars (further (map chars words)) ≡ true
 scalars_further [] are = refl
-scalars_further (word ∷ words) are =
-    scalars_append (quoted_word (chars word)) (further (map chars words)) (scalars_word (chars word) (scalars-chars word are.0)) (scalars_further words are.1)
+scalars_further (word ∷ words) are = grind (arith, scalars_append, scalars_word, scalars-chars, (scalars_further words are.1))
 
 scalars_words : (words : List (List ℕ)) → AllByRecursion IsUtf8 words → scalars (quoted (map chars words)) ≡ true
-scalars_words [] are = refl
-scalars_words (word ∷ words) are =
-    scalars_append (quoted_word (chars word)) (further (map chars words)) (scalars_word (chars word) (scalars-chars word are.0)) (scalars_further words are.1)
+scalars_words words are = grind (arith, scalars_append, scalars_word, scalars-chars, scalars_further)
 
 -- what is written of UTF-8 is UTF-8
 pub written_utf8 : (words : List (List ℕ)) → AllByRecursion IsUtf8 words → IsUtf8 (written words)
@@ -46,8 +38,7 @@ written_utf8 words are = (quoted (map chars words), (scalars_words words are, re
 
 -- the characters of words that are written before a text
 pub written_chars : (words : List (List ℕ)) (rest : List ℕ) → AllByRecursion IsUtf8 words → chars (written words ++ rest) ≡ quoted (map chars words) ++ chars rest
-written_chars words rest are =
-    chars-append (written words) rest (written_utf8 words are) ∙ ap (λ t. t ++ chars rest) (chars-encodes (quoted (map chars words)) (scalars_words words are))
+written_chars words rest are = simp (chars-append, written_utf8, chars-encodes, scalars_words)
 
 -- the characters of a text of ASCII
 plain_text : (cs : List ℕ) → scalars cs ≡ true → encode_utf8_all cs ≡ cs → chars cs ≡ cs
@@ -55,8 +46,7 @@ plain_text cs are same = ap chars (sym same) ∙ chars-encodes cs are
 
 -- the characters of a text of ASCII before a text
 pub plain_chars : (cs rest : List ℕ) → scalars cs ≡ true → encode_utf8_all cs ≡ cs → chars (cs ++ rest) ≡ cs ++ chars rest
-plain_chars cs rest are same =
-    chars-append cs rest (cs, (are, same)) ∙ ap (λ t. t ++ chars rest) (plain_text cs are same)
+plain_chars cs rest are same = grind (arith, chars-append, plain_text)
 
 -- assignments of UTF-8 are UTF-8
 pub assignments_utf8 : (variables : List (List ℕ × List ℕ)) → AllByRecursion (λ p. IsUtf8 p.0 × IsUtf8 p.1) variables → AllByRecursion IsUtf8 (map assignment variables)

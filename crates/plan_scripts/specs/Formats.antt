@@ -1,6 +1,5 @@
 -- The formats of plans, by their names.
-use Rattle.std.specs.Prelude.{ℕ, List, if◌then◌else◌, Option, Some, None, codes}
-use Rattle.std.specs.Str.{bytes_eq}
+use Rattle.std.specs.Prelude.{ℕ, List, if◌then◌else◌, Option, Some, None, codes, bytes_eq}
 use Rattle.plan_scripts.specs.declared.format.Format.{Format}
 use Rattle.plan_scripts.specs.declared.format.Format.TheVariants.{Shell, Ninja, Json, Dot, Compdb, Makeflow, Text}
 

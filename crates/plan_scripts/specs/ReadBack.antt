@@ -1,8 +1,7 @@
 -- What a POSIX shell reads in a command's text, and in a script. Its grammar (`Posix` of `shell_words`) has no reading for a text on
 -- which a shell would act.
-use Rattle.std.specs.Prelude.{◌≡◌, ℕ, List, [], ◌∷◌, ◌++◌, map, Option, Some, codes}
+use Rattle.std.specs.Prelude.{◌≡◌, ℕ, List, [], ◌∷◌, ◌++◌, map, Option, Some, codes, IsUtf8, chars}
 use Rattle.std.specs.List.{AllByRecursion, flat_map}
-use Rattle.std.specs.Str.{IsUtf8, chars}
 use Rattle.shell_words.specs.Posix.{Token, Word, Operator, tokens}
 use Rattle.shell_words.specs.Shell.Quoting.{written}
 use Rattle.plans.specs.declared.plan.NvccGeneratedSubcommand.{NvccGeneratedSubcommand}

@@ -1,6 +1,5 @@
 -- The tools by their names.
-use Rattle.std.specs.Prelude.{ℕ, List, if◌then◌else◌, Option, Some, None, codes}
-use Rattle.std.specs.Str.{bytes_eq}
+use Rattle.std.specs.Prelude.{ℕ, List, if◌then◌else◌, Option, Some, None, codes, bytes_eq}
 use Rattle.plan_texts.specs.declared.tool.Tool.{Tool}
 use Rattle.plan_texts.specs.declared.tool.Tool.TheVariants.{Cicc, Ptxas, CudaFe}
 

@@ -1,6 +1,5 @@
 -- Groups, as lists of lists.
-use Rattle.std.proofs.Common.{◌≡◌, Bool, ◌&&◌, List, [], ◌∷◌, map, refl, ap, Global}
-use Rattle.std.specs.Prelude.{Vec, vec_items}
+use Rattle.std.proofs.Common.{◌≡◌, Bool, ◌&&◌, List, [], ◌∷◌, map, refl, ap, Global, Vec, vec_items}
 use Rattle.std.specs.Cmp.Lexicographic.{pointwise}
 
 -- groups compare as the lists of their commands

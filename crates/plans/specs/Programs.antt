@@ -1,6 +1,5 @@
 -- The programs of commands, by the stems of their paths.
-use Rattle.std.specs.Prelude.{ℕ, List, if◌then◌else◌, Option, Some, None, codes}
-use Rattle.std.specs.Str.{bytes_eq}
+use Rattle.std.specs.Prelude.{ℕ, List, if◌then◌else◌, Option, Some, None, codes, bytes_eq}
 use Rattle.texts.specs.Path.{file_stem_of}
 use Rattle.plans.specs.declared.program.Program.{Program}
 use Rattle.plans.specs.declared.program.Program.TheVariants.{Cicc, Cudafe, Ptxas, Fatbinary, Nvlink, Other}

@@ -1,6 +1,5 @@
 -- The calls that programs take, as words.
-use Rattle.std.specs.Prelude.{ℕ, List, [], ◌∷◌, Option, Some, None, map, string_bytes}
-use Rattle.std.specs.Option.{option_map}
+use Rattle.std.specs.Prelude.{ℕ, List, [], ◌∷◌, Option, Some, None, map, string_bytes, option_map}
 use Rattle.plan_texts.specs.declared.tool.Tool.{Tool}
 use Rattle.plan_texts.specs.Tools.{tool_of_name}
 use Rattle.program_calls.specs.declared.call.LineCall.{LineCall}

@@ -1,7 +1,6 @@
 //! The calls that programs take, as words.
 
-ghost use Rattle.std.specs.Prelude.{◌≡◌, map, string_bytes};
-ghost use Rattle.std.specs.Option.{option_map};
+ghost use Rattle.std.specs.Prelude.{◌≡◌, map, string_bytes, option_map};
 ghost use Rattle.program_calls.specs.Calls as spec;
 
 use plan_texts::Tool;

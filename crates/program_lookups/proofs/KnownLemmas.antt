@@ -1,8 +1,6 @@
 -- Lists of look-ups, each once.
-use Rattle.std.proofs.Common.{◌≡◌, List, [], ◌∷◌, ◌++◌, ◌||◌, ◌&&◌, Bool, true, false, cond, refl, ap, sym, ◌∙◌, subst}
-use Rattle.std.specs.Bool.{Decides}
+use Rattle.std.proofs.Common.{◌≡◌, List, [], ◌∷◌, ◌++◌, ◌||◌, ◌&&◌, Bool, true, false, cond, refl, ap, sym, ◌∙◌, subst, Decides, bytes_eq, arith}
 use Rattle.std.specs.List.{list_any, AllByRecursion}
-use Rattle.std.specs.Str.{bytes_eq}
 use Rattle.std.proofs.lemmas.Bool.{false≢true}
 use Rattle.std.proofs.lemmas.Bool.Decides.{Decides-and, Decides-like}
 use Rattle.std.proofs.lemmas.Slice.Eq.{bytes_eq-Decides}
@@ -11,18 +9,13 @@ use Rattle.program_lookups.specs.Lookup.{same_lookup, with_lookup, with_lookups}
 use Rattle.program_lookups.specs.Laws.{AreOnce}
 
 pub same-decides : (a b : Lookup) → Decides (same_lookup a b) (a ≡ b)
-same-decides a b =
-    Decides-like (same_lookup a b) (λ e. λ i. record { program = e.0.0 i; path = e.0.1 i; folder = e.1 i }) (λ e. ((ap (λ x. x.program) e, ap (λ x. x.path) e), ap (λ x. x.folder) e))
-    (Decides-and (bytes_eq a.program b.program && bytes_eq a.path b.path) (bytes_eq a.folder b.folder)
-    (Decides-and (bytes_eq a.program b.program) (bytes_eq a.path b.path) (bytes_eq-Decides a.program b.program) (bytes_eq-Decides a.path b.path)) (bytes_eq-Decides a.folder b.folder))
+same-decides a b = grind (arith, Decides-like, Decides-and, bytes_eq-Decides)
 
 or-true : (b : Bool) → (b || true) ≡ true
-or-true true = refl
-or-true false = refl
+or-true b = grind arith
 
 or-false : (a b : Bool) → (a || b) ≡ false → (a ≡ false) × (b ≡ false)
-or-false true b h = absurd (false≢true (sym h))
-or-false false b h = (refl, h)
+or-false a b h = grind (arith, false≢true)
 
 -- whether a list has a look-up
 abbrev pub has : List Lookup → Lookup → Bool
@@ -43,19 +36,12 @@ module _ (P : Lookup → Type 0) where
   all-front (k ∷ known) l all = let rest = all-front known l all.1 in ((all.0, rest.0), rest.1)
 
   all-one : (known : List Lookup) (l : Lookup) → AllByRecursion P (with_lookup known l) → AllByRecursion P known × P l
-  all-one known l all =
-      elim (has known l) as (λ b. has known l ≡ b → AllByRecursion P (cond b known (known ++ l ∷ [])) → AllByRecursion P known × P l) [
-        | true ↦ λ e more. (more, all-has l known e more)
-        | false ↦ λ e more. all-front known l more
-      ] refl all
+  all-one known l all = grind (arith, all-has, all-front)
 
   -- what holds of each of the look-ups that are listed once holds of all that were put there
   pub all-listed : (known lookups : List Lookup) → AllByRecursion P (with_lookups known lookups) → AllByRecursion P known × AllByRecursion P lookups
   all-listed known [] all = (all, tt)
-  all-listed known (l ∷ lookups) all =
-      let rest = all-listed (with_lookup known l) lookups all in
-      let one = all-one known l rest.0 in
-      (one.0, (one.1, rest.1))
+  all-listed known (l ∷ lookups) all = grind (arith, all-one, (all-listed (with_lookup known l) lookups all))
 
 -- a list has each of its look-ups
 module _ {P Q : Lookup → Type 0} (f : (l : Lookup) → P l → Q l) where
@@ -65,10 +51,7 @@ module _ {P Q : Lookup → Type 0} (f : (l : Lookup) → P l → Q l) where
 
 pub has-each : (lookups : List Lookup) → AllByRecursion (λ l. has lookups l ≡ true) lookups
 has-each [] = tt
-has-each (l ∷ lookups) = (
-  ap (λ b. b || has lookups l) ((same-decides l l).1 refl),
-  all-map (λ other h. ap (λ b. same_lookup l other || b) h ∙ or-true (same_lookup l other)) lookups (has-each lookups),
-)
+has-each (l ∷ lookups) = grind (arith, same-decides, all-map, or-true, (has-each lookups))
 
 -- a list that has no look-up twice has none twice with one more that it lacks
 none-more : (l : Lookup) (known : List Lookup) (x : Lookup) → list_any (same_lookup l) known ≡ false → same_lookup l x ≡ false → list_any (same_lookup l) (known ++ x ∷ []) ≡ false
@@ -80,9 +63,7 @@ once-more [] x once h = (refl, tt)
 once-more (k ∷ known) x once h = let parts = or-false (same_lookup k x) (has known x) h in (none-more k known x once.0 parts.0, once-more known x once.1 parts.1)
 
 once-one : (known : List Lookup) (x : Lookup) → AreOnce known → AreOnce (with_lookup known x)
-once-one known x once =
-    elim (has known x) as (λ b. has known x ≡ b → AreOnce (cond b known (known ++ x ∷ [])))
-    [ true ↦ λ e. once | false ↦ λ e. once-more known x once e ] refl
+once-one known x once = grind (arith, once-more)
 
 pub once-listed : (known lookups : List Lookup) → AreOnce known → AreOnce (with_lookups known lookups)
 once-listed known [] once = once

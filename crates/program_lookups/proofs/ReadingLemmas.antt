@@ -1,8 +1,7 @@
 -- Reading a dry run by two look-ups that answer alike what it asks for.
-use Rattle.std.proofs.Common.{◌≡◌, ℕ, List, [], ◌∷◌, map, ◌||◌, true, false, cond, refl, ap, sym, ◌∙◌, subst}
+use Rattle.std.proofs.Common.{◌≡◌, ℕ, List, [], ◌∷◌, map, ◌||◌, true, false, cond, refl, ap, sym, ◌∙◌, subst, arith}
 use Rattle.command_lines.specs.CommandLines.{CommandLine}
 use Rattle.dry_runs.specs.DryRun.{LookUp, dry_run_of}
-use Rattle.dry_runs.specs.declared.parsed.ParsedRun.{ParsedRun}
 use Rattle.dry_runs.specs.Parsed.{answer_to, behind_found, found_commands, parsed_of, path_of, program_in, resolved, unless_missing}
 use Rattle.dry_runs.proofs.ParsedLemmas.{parses-then-resolves, parsed-alike}
 use Rattle.program_lookups.specs.declared.lookup.Lookup.{Lookup}
@@ -15,15 +14,11 @@ use Rattle.program_lookups.proofs.KnownLemmas.{same-decides, has, all-listed, al
 module _ (f g : LookUp) (folder : List ℕ) where
   found-alike : (path : List ℕ) (commands : List CommandLine) → Agree f g (map (lookup_in path folder) commands) → found_commands f folder path commands ≡ found_commands g folder path commands
   found-alike path [] agree = refl
-  found-alike path (c ∷ cs) agree =
-      ap (λ found. behind_found c (program_in path c.1) found (found_commands f folder path cs)) agree.0
-      ∙ ap (behind_found c (program_in path c.1) (answer_to g folder path c.1)) (found-alike path cs agree.1)
+  found-alike path (c ∷ cs) agree = grind (arith, (found-alike path cs agree.1))
 
   -- the look-ups of a run don't depend on its number
   asked-alike : (run other : ℕ) (bytes : List ℕ) → lookups_in folder (parsed_of run bytes) ≡ lookups_in folder (parsed_of other bytes)
-  asked-alike run other bytes =
-      let same = parsed-alike run other bytes in
-      λ i. map (lookup_in (path_of (same.1 i)) folder) (same.0 i)
+  asked-alike run other bytes = grind (arith, parsed-alike)
 
   said-alike : (run other : ℕ) (bytes : List ℕ) → Agree f g (lookups_in folder (parsed_of other bytes)) → dry_run_of run bytes folder f ≡ dry_run_of run bytes folder g
   said-alike run other bytes agree =

@@ -1,7 +1,6 @@
 -- What a snapshot that was taken by a test holds.
-use Rattle.std.proofs.Common.{◌≡◌, inl, inr, ℕ, List, [], ◌∷◌, ◌++◌, append-nil, ◌||◌, Bool, true, false, cond, Option, Some, None, Result, Ok, Err, Bor, IfOk, refl, ap, sym, ◌∙◌, subst}
+use Rattle.std.proofs.Common.{◌≡◌, inl, inr, ℕ, List, [], ◌∷◌, ◌++◌, append-nil, ◌||◌, Bool, true, false, cond, Option, Some, None, Result, Ok, Err, Bor, IfOk, refl, ap, sym, ◌∙◌, subst, bytes_eq, arith}
 use Rattle.std.specs.List.{list_any, find}
-use Rattle.std.specs.Str.{bytes_eq}
 use Rattle.std.proofs.lemmas.Slice.Eq.{bytes_eq-Decides}
 use Rattle.std.specs.declared.alloc.AllocError.{AllocError}
 use Rattle.program_lookups.specs.declared.lookup.Lookup.{Lookup}
@@ -10,14 +9,12 @@ use Rattle.program_lookups.specs.Candidates.{found_on}
 use Rattle.program_lookups.specs.Snapshot.{taken, tried_by, Says, IsFirstThat, IsTaken, is_among, IsSnapshotOf, AnswersAs}
 
 or-true : (b : Bool) → (b || true) ≡ true
-or-true true = refl
-or-true false = refl
+or-true b = grind arith
 
 module _ (post : Bor (List ℕ) → Bool → Type 0) where
   -- the first path of which a test says yes is one of the paths
   among-more : (path : List ℕ) (paths : List (List ℕ)) (found : Option (List ℕ)) → is_among paths found ≡ true → is_among (path ∷ paths) found ≡ true
-  among-more path paths None h = refl
-  among-more path paths (Some q) h = ap (λ b. bytes_eq q path || b) h ∙ or-true (bytes_eq q path)
+  among-more path paths found h = grind (arith, or-true)
 
   first-among : (paths : List (List ℕ)) (found : Option (List ℕ)) → IsFirstThat post paths found → is_among paths found ≡ true
   first-among [] found h = ap (is_among []) h
@@ -54,8 +51,7 @@ module _ (post : Bor (List ℕ) → Bool → Type 0) where
         λ i. record { lookup = h.0.0 i; found = found i } ∷ taken-exact lookups entries h.1 i
 
     exact-result : (lookups : List Lookup) (r : Result (List Entry) AllocError) → IfOk r (IsTaken post lookups) → IfOk r (λ entries. entries ≡ taken (found_on test) lookups)
-    exact-result lookups (Ok entries) h = taken-exact lookups entries h
-    exact-result lookups (Err e) h = tt
+    exact-result lookups r h = grind (arith, taken-exact)
 
     pub exact-both : (asked lookups : List Lookup) (r : Result (List Entry) AllocError) → asked ≡ lookups → IfOk r (IsTaken post asked) → IfOk r (λ entries. entries ≡ taken (found_on test) lookups)
     exact-both asked lookups r same h = exact-result lookups r (subst (λ ls. IfOk r (IsTaken post ls)) same h)

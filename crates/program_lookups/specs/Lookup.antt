@@ -1,7 +1,6 @@
 -- Look-ups of programs, as records of texts.
-use Rattle.std.specs.Prelude.{ℕ, List, [], ◌∷◌, ◌++◌, Bool, ◌&&◌, if◌then◌else◌, fold}
+use Rattle.std.specs.Prelude.{ℕ, List, [], ◌∷◌, ◌++◌, Bool, ◌&&◌, if◌then◌else◌, fold, bytes_eq}
 use Rattle.std.specs.List.{list_any}
-use Rattle.std.specs.Str.{bytes_eq}
 use Rattle.program_lookups.specs.declared.lookup.Lookup.{Lookup}
 
 -- the look-up of a program by the value of `PATH` and the working directory

@@ -1,8 +1,7 @@
 -- Look-ups with what they found.
-use Rattle.std.specs.Prelude.{◌≡◌, ◌⊎◌, ℕ, List, [], ◌∷◌, Bool, true, false, Option, Some, None, map, if◌then◌else◌}
+use Rattle.std.specs.Prelude.{◌≡◌, ◌⊎◌, ℕ, List, [], ◌∷◌, Bool, true, false, Option, Some, None, map, if◌then◌else◌, IsUtf8, bytes_eq}
 use Rattle.std.specs.Borrow.{Bor}
 use Rattle.std.specs.List.{AllZip, list_any}
-use Rattle.std.specs.Str.{IsUtf8, bytes_eq}
 use Rattle.dry_runs.specs.DryRun.{LookUp}
 use Rattle.program_lookups.specs.declared.lookup.Lookup.{Lookup}
 use Rattle.program_lookups.specs.declared.snapshot.Entry.{Entry}

@@ -1,7 +1,6 @@
 //! Look-ups with what they found.
 
-ghost use Rattle.std.specs.Prelude.{◌≡◌, IfOk};
-ghost use Rattle.std.specs.Option.{option_map};
+ghost use Rattle.std.specs.Prelude.{◌≡◌, IfOk, option_map};
 ghost use Rattle.program_lookups.specs.Snapshot.{answer_in};
 
 use crate::lookup::Lookup;

@@ -1,7 +1,6 @@
 -- What is wrong with a list of suffixes.
-use Rattle.std.specs.Prelude.{◌≡◌, ℕ, List, [], ◌∷◌, ◌++◌, Bool, Option, Some, None, nat_eq, if◌then◌else◌, refl, codes}
+use Rattle.std.specs.Prelude.{◌≡◌, ℕ, List, [], ◌∷◌, ◌++◌, Bool, Option, Some, None, nat_eq, if◌then◌else◌, refl, codes, bytes_eq}
 use Rattle.std.specs.List.{ends_with}
-use Rattle.std.specs.Str.{bytes_eq}
 use Rattle.canonical_names.specs.Generated.{standard_suffixes}
 use Rattle.canonical_names.specs.SuffixRule.{is_suffix}
 use Rattle.message_texts.specs.Excerpts.{shown}

@@ -1,7 +1,6 @@
 //! The plan of two dry runs, with the standard suffixes and further ones.
 
-ghost use Rattle.std.specs.Prelude.{◌≡◌, map, string_bytes};
-ghost use Rattle.std.specs.Option.{option_copied};
+ghost use Rattle.std.specs.Prelude.{◌≡◌, map, string_bytes, option_copied};
 ghost use Rattle.texts.specs.Fault.{UnlessMemory};
 ghost use Rattle.texts.specs.Variables.{pair_of};
 ghost use Rattle.canonical_names.specs.FurtherSuffixes.{all_suffixes as suffixes_of};

@@ -1,7 +1,6 @@
 //! What is wrong with the suffixes of a call.
 
-ghost use Rattle.std.specs.Prelude.{◌≡◌, ◌++◌, OnOk, map, string_bytes};
-ghost use Rattle.std.specs.Option.{option_copied, option_map};
+ghost use Rattle.std.specs.Prelude.{◌≡◌, ◌++◌, OnOk, map, string_bytes, option_copied, option_map};
 ghost use Rattle.programs.specs.SuffixFault as spec;
 
 use canonical_names::{all_texts, is_suffix};

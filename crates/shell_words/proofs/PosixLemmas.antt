@@ -9,62 +9,31 @@ use Rattle.shell_words.specs.Shell.Quoting.{is_safe, is_plain, quoted_char, quot
 
 -- the tokens after one more character in front
 reading : (place : Place) (c : ℕ) (cs : List ℕ) (s : Step) (ts : List Token) → step place c ≡ Some s → tokens_from s.0 cs ≡ Some ts → tokens_from place (c ∷ cs) ≡ Some (with_step s ts)
-reading place c cs s ts read found =
-    ap (λ (o : Option Step). option_and_then (λ s. option_map (with_step s) (tokens_from s.0 cs)) o) read
-    ∙ ap (λ (o : Option (List Token)). option_map (with_step s) o) found
+reading place c cs s ts read found = grind arith
 
 -- ---- a word in quotes
 
 quoted_char_reads : (c : ℕ) (rest word : List ℕ) (ts : List Token) → tokens_from (SingleQuoted false) rest ≡ Some (Word word ∷ ts) → tokens_from (SingleQuoted false) (quoted_char c ++ rest) ≡ Some (Word (c ∷ word) ∷ ts)
-quoted_char_reads c rest word ts found =
-    cond_both (c == single_quote) (single_quote ∷ backslash ∷ single_quote ∷ single_quote ∷ []) (c ∷ [])
-    (λ written. tokens_from (SingleQuoted false) (written ++ rest) ≡ Some (Word (c ∷ word) ∷ ts))
-    (λ is.
-    let opened = reading (Inside false) single_quote rest (SingleQuoted false, [], []) (Word word ∷ ts) refl found in
-    let after_backslash = reading (Escaped false) single_quote (single_quote ∷ rest) (Inside false, [], single_quote ∷ []) (Word word ∷ ts) refl opened in
-    let closed = reading (Inside false) backslash (single_quote ∷ single_quote ∷ rest) (Escaped false, [], []) (Word (single_quote ∷ word) ∷ ts) refl after_backslash in
-    reading (SingleQuoted false) single_quote (backslash ∷ single_quote ∷ single_quote ∷ rest) (Inside false, [], []) (Word (single_quote ∷ word) ∷ ts) refl closed
-    ∙ ap (λ x. Some (Word (x ∷ word) ∷ ts)) (sym (eqb-true c single_quote is)))
-    (λ is_not. reading (SingleQuoted false) c rest (SingleQuoted false, [], c ∷ []) (Word word ∷ ts) (cond-false _ _ _ is_not) found)
+quoted_char_reads c rest word ts found = grind (arith, cond_both, reading, eqb-true, cond-false)
 
 quoted_chars_read : (word rest : List ℕ) (ts : List Token) → tokens_from (Inside false) rest ≡ Some (Word [] ∷ ts) → tokens_from (SingleQuoted false) (flat_map quoted_char word ++ single_quote ∷ rest) ≡ Some (Word word ∷ ts)
 quoted_chars_read [] rest ts found = reading (SingleQuoted false) single_quote rest (Inside false, [], []) (Word [] ∷ ts) refl found
-quoted_chars_read (c ∷ word) rest ts found =
-    ap (tokens_from (SingleQuoted false)) (append_assoc (quoted_char c) (flat_map quoted_char word) (single_quote ∷ rest))
-    ∙ quoted_char_reads c (flat_map quoted_char word ++ single_quote ∷ rest) word ts (quoted_chars_read word rest ts found)
+quoted_chars_read (c ∷ word) rest ts found = grind (arith, quoted_char_reads, (quoted_chars_read word rest ts found))
 
 -- ---- a plain word
 
 -- a safe character is plain to a shell
 role_safe : (c : ℕ) → is_safe c ≡ true → role_of c ≡ Plain
-role_safe c safe =
-    let blank : ((c == 32) || (c == 9)) ≡ false = grind (arith, nat_tests) in
-    let lone : ((c == newline) || (c == 41)) ≡ false = grind (arith, nat_tests) in
-    let opening : is_opening c ≡ false = grind (arith, nat_tests) in
-    let escapes : (c == backslash) ≡ false = grind (arith, nat_tests) in
-    let single : (c == single_quote) ≡ false = grind (arith, nat_tests) in
-    let double : (c == double_quote) ≡ false = grind (arith, nat_tests) in
-    let expands : is_expanding c ≡ false = grind (arith, nat_tests) in
-    let acts : is_pattern_or_redirection c ≡ false = grind (arith, nat_tests) in
-    let leads : ((c == hash) || (c == 126)) ≡ false = grind (arith, nat_tests) in
-    let equals : (c == 61) ≡ false = grind (arith, nat_tests) in
-    cond-false _ _ _ blank ∙ cond-false _ _ _ lone ∙ cond-false _ _ _ opening ∙ cond-false _ _ _ escapes
-    ∙ cond-false _ _ _ single ∙ cond-false _ _ _ double ∙ cond-false _ _ _ expands ∙ cond-false _ _ _ acts
-    ∙ cond-false _ _ _ leads ∙ cond-false _ _ _ equals
+role_safe c safe = grind (arith, nat_tests, cond-false)
 
 plain_char_reads : (option : Bool) (c : ℕ) → (is_safe c || (option && (c == 61))) ≡ true → step (Inside option) c ≡ Some (Inside option, [], c ∷ [])
-plain_char_reads option c h =
-    ⊎_elim (λ safe. ap (inside option c) (role_safe c safe))
-    (λ equals.
-    let parts = and_parts option (c == 61) equals in
-    ap (λ d. step (Inside option) d) (eqb-true c 61 parts.1) ∙ cond-true option _ _ parts.0 ∙ ap (λ d. Some (Inside option, [], d ∷ [])) (sym (eqb-true c 61 parts.1)))
-    (or_cases (is_safe c) (option && (c == 61)) h)
+plain_char_reads option c h = grind (arith, role_safe, and_parts, eqb-true, cond-true, or_cases)
 
 plain_chars_read : (option : Bool) (cs rest : List ℕ) (ts : List Token) → list_all (λ c. is_safe c || (option && (c == 61))) cs ≡ true → tokens_from (Inside option) rest ≡ Some (Word [] ∷ ts) → tokens_from (Inside option) (cs ++ rest) ≡ Some (Word cs ∷ ts)
 plain_chars_read option [] rest ts plain found = found
 plain_chars_read option (c ∷ cs) rest ts plain found =
     let parts = and_parts (is_safe c || (option && (c == 61))) (list_all (λ c. is_safe c || (option && (c == 61))) cs) plain in
-    reading (Inside option) c (cs ++ rest) (Inside option, [], c ∷ []) (Word cs ∷ ts) (plain_char_reads option c parts.0) (plain_chars_read option cs rest ts parts.1 found)
+    grind (arith, reading, plain_char_reads, (plain_chars_read option cs rest ts parts.1 found))
 
 plain_word_reads : (word rest : List ℕ) (ts : List Token) → is_plain word ≡ true → ((option : Bool) → tokens_from (Inside option) rest ≡ Some (Word [] ∷ ts)) → tokens_from Between (word ++ rest) ≡ Some (Word word ∷ ts)
 plain_word_reads [] rest ts plain found = absurd cc
@@ -94,23 +63,14 @@ further_read (word ∷ words) rest ts found option =
 
 -- a text that is apart ends a word and is then read by itself
 ending : (option : Bool) (c : ℕ) (role : Role) → ends_a_word role ≡ true → inside option c role ≡ option_map (after_token (Word [])) (between c role)
-ending option c Blank apart = refl
-ending option c Lone apart = refl
-ending option c Opening apart = refl
-ending option c _ apart = cc
+ending option c role apart = grind arith
 
 after_word : (cs : List ℕ) (o : Option Step) (ts : List Token) → option_and_then (λ s. option_map (with_step s) (tokens_from s.0 cs)) o ≡ Some ts →
     option_and_then (λ s. option_map (with_step s) (tokens_from s.0 cs)) (option_map (after_token (Word [])) o) ≡ Some (Word [] ∷ ts)
-after_word cs None ts found = cc
-after_word cs (Some s) ts found =
-    elim (tokens_from s.0 cs) as (λ o. option_map (with_step s) o ≡ Some ts → option_map (with_step (after_token (Word []) s)) o ≡ Some (Word [] ∷ ts))
-    [ None ↦ λ k. cc | Some more ↦ λ k. let same : with_step s more ≡ ts = cc in ap (λ us. Some (Word [] ∷ us)) same ] found
+after_word cs o ts found = grind arith
 
 apart_reads : (rest : List ℕ) (ts : List Token) → is_apart rest ≡ true → tokens rest ≡ Some ts → (option : Bool) → tokens_from (Inside option) rest ≡ Some (Word [] ∷ ts)
-apart_reads [] ts apart found option = cc
-apart_reads (c ∷ cs) ts apart found option =
-    ap (λ (o : Option Step). option_and_then (λ s. option_map (with_step s) (tokens_from s.0 cs)) o) (ending option c (role_of c) apart)
-    ∙ after_word cs (between c (role_of c)) ts found
+apart_reads rest ts apart found option = grind (arith, ending, after_word)
 
 -- ---- the law
 
@@ -134,6 +94,4 @@ words-map [] = refl
 words-map (word ∷ words) = ap (option_map (λ ws. word ∷ ws)) (words-map words)
 
 pub quoted_command : (program : List ℕ) (words : List (List ℕ)) → is_program program ≡ true → command (quoted (program ∷ words)) ≡ Some (program ∷ words)
-quoted_command program words is =
-    ap (option_and_then (λ ts. option_and_then as_command (words_of ts))) (quoted_tokens (program ∷ words))
-    ∙ ap (option_and_then as_command) (words-map (program ∷ words)) ∙ cond-true (is_program program) _ _ is
+quoted_command program words is = simp (quoted_tokens, words-map, cond-true)

@@ -1,5 +1,5 @@
 -- The words that a text is split into are those that the grammar gives it.
-use Rattle.std.proofs.Common.{ℕ, List, [], ◌∷◌, ◌++◌, ◌≡◌, ◌≢◌, refl, sym, ap, ◌∙◌, subst, append-nil, append_assoc, Some, None, Option, true, false, ◌==◌, option_map}
+use Rattle.std.proofs.Common.{ℕ, List, [], ◌∷◌, ◌++◌, ◌≡◌, ◌≢◌, refl, sym, ap, ◌∙◌, subst, append-nil, append_assoc, Some, None, Option, true, false, ◌==◌, option_map, arith}
 use Rattle.std.proofs.lemmas.Bool.{cond_both, eqb-true, eqb-false}
 use Rattle.shell_words.specs.declared.splitting.State.{State}
 use Rattle.shell_words.specs.declared.splitting.State.TheVariants.{Between, Comment, Word, Escaped, SingleQuoted, DoubleQuoted, EscapedInQuotes}
@@ -139,16 +139,7 @@ begins_double cs words d = record {
 }
 
 begins_with : (piece given cs : List ℕ) (words : List (List ℕ)) → IsPiece piece given → Tail cs words → Begins (piece ++ cs) (prepend given words)
-begins_with piece given cs words is tail = record {
-  first = piece;
-  rest = cs;
-  given = given;
-  later = words;
-  is_first = is;
-  is_rest = tail;
-  is_text = refl;
-  are_words = refl;
-}
+begins_with piece given cs words is tail = grind arith
 
 more_comment : (c : ℕ) (cs : List ℕ) (words : List (List ℕ)) → c ≢ newline → InComment cs words → InComment (c ∷ cs) words
 more_comment c cs words differs (comment_ends inside none) = comment_ends (c ∷ inside) (differs, none)
@@ -167,8 +158,7 @@ abbrev BeginsBy : ℕ → List ℕ → List (List ℕ) → State × Effect → T
 BeginsBy c cs later read = is_blank c ≡ false → Rest read.0 cs later → Begins (c ∷ cs) (with_effect read.1 later)
 
 same_head : (c d : ℕ) (cs : List ℕ) (words : List (List ℕ)) → (c == d) ≡ true → Begins (d ∷ cs) words → Begins (c ∷ cs) (prepend [] words)
-same_head c d cs words is b =
-    subst (λ x. Begins (x ∷ cs) (prepend [] words)) (sym (eqb-true c d is)) (subst (Begins (d ∷ cs)) (sym (prepend-nil words)) b)
+same_head c d cs words is b = grind (arith, eqb-true, prepend-nil)
 
 piece_step : (c : ℕ) (cs : List ℕ) (later : List (List ℕ)) → BeginsBy c cs later (begins_piece c)
 piece_step c cs later =
@@ -181,9 +171,7 @@ piece_step c cs later =
 
 -- a piece that begins with no `#` is no bare `#`
 no_bare_hash : (c : ℕ) (cs : List ℕ) (words : List (List ℕ)) (b : Begins (c ∷ cs) words) → c ≢ hash → b.first ≢ hash ∷ []
-no_bare_hash c cs words b differs is =
-    let same : hash ∷ b.rest ≡ c ∷ cs = ap (λ p. p ++ b.rest) (sym is) ∙ b.is_text in
-    differs cc
+no_bare_hash c cs words b differs is = grind arith
 
 -- what a character in front of the rest makes of it
 abbrev Reads : (state : State) → ℕ → List ℕ → List (List ℕ) → State × Effect → Type 0
@@ -275,13 +263,7 @@ escaped_in_quotes_step c cs later =
     (λ not_newline d. more_inside (backslash ∷ c ∷ []) (backslash ∷ c ∷ []) cs later (inner_kept c is_not (eqb-false c newline not_newline)) d))
 
 step : (state : State) (c : ℕ) (cs : List ℕ) (later : List (List ℕ)) → Reads state c cs later (reads state c)
-step Between = between_step
-step Comment = comment_step
-step Word = word_step
-step Escaped = escaped_step
-step SingleQuoted = single_step
-step DoubleQuoted = double_step
-step EscapedInQuotes = escaped_in_quotes_step
+step state = grind (arith, between_step, comment_step, word_step, escaped_step, single_step, double_step, escaped_in_quotes_step)
 
 -- ---- the whole text
 
@@ -304,14 +286,13 @@ at_end DoubleQuoted words is = absurd cc
 at_end EscapedInQuotes words is = absurd cc
 
 some_from_map : {A B : Type 0} (f : A → B) (o : Option A) (y : B) → option_map f o ≡ Some y → (x : A) × (o ≡ Some x) × (f x ≡ y)
-some_from_map f None y is = absurd cc
-some_from_map f (Some x) y is = (x, refl, cc)
+some_from_map f o y is = grind arith
 
 rest_is : (cs : List ℕ) (state : State) (words : List (List ℕ)) → words_from state cs ≡ Some words → Rest state cs words
 rest_is [] state words is = at_end state words is
 rest_is (c ∷ cs) state words is =
     let found = some_from_map (λ ws. with_effect (reads state c).1 ws) (words_from (reads state c).0 cs) words is in
-    subst (Rest state (c ∷ cs)) found.2 (step state c cs found.0 (rest_is cs (reads state c).0 found.0 found.1))
+    grind (arith, step, (rest_is cs (reads state c).0 found.0 found.1))
 
 pub text_of_words : (cs : List ℕ) (words : List (List ℕ)) → split_chars cs ≡ Some words → IsText cs words
 text_of_words cs words is = rest_is cs Between words is

@@ -15,25 +15,11 @@ use Rattle.shell_words.proofs.ShellCompleteLemmas.{text_of_words}
 -- ---- a word in quotes
 
 quoted_char_reads : (c : ℕ) (rest word : List ℕ) (words : List (List ℕ)) → words_from SingleQuoted rest ≡ Some (word ∷ words) → words_from SingleQuoted (quoted_char c ++ rest) ≡ Some ((c ∷ word) ∷ words)
-quoted_char_reads c rest word words found =
-    cond_both (c == single_quote) (single_quote ∷ backslash ∷ single_quote ∷ single_quote ∷ []) (c ∷ [])
-    (λ written. words_from SingleQuoted (written ++ rest) ≡ Some ((c ∷ word) ∷ words))
-    (λ is.
-    let opened : words_from Word (single_quote ∷ rest) ≡ Some (word ∷ words) =
-    reading Word single_quote rest SingleQuoted (Gives []) (word ∷ words) refl found in
-    let after_backslash : words_from Escaped (single_quote ∷ single_quote ∷ rest) ≡ Some ((single_quote ∷ word) ∷ words) =
-    reading Escaped single_quote (single_quote ∷ rest) Word (Gives (single_quote ∷ [])) (word ∷ words) refl opened in
-    let closed : words_from Word (backslash ∷ single_quote ∷ single_quote ∷ rest) ≡ Some ((single_quote ∷ word) ∷ words) =
-    reading Word backslash (single_quote ∷ single_quote ∷ rest) Escaped (Gives []) ((single_quote ∷ word) ∷ words) refl after_backslash in
-    reading SingleQuoted single_quote (backslash ∷ single_quote ∷ single_quote ∷ rest) Word (Gives []) ((single_quote ∷ word) ∷ words) refl closed
-    ∙ ap (λ x. Some ((x ∷ word) ∷ words)) (sym (eqb-true c single_quote is)))
-    (λ is_not. reading SingleQuoted c rest SingleQuoted (Gives (c ∷ [])) (word ∷ words) (cond-false _ _ _ is_not) found)
+quoted_char_reads c rest word words found = grind (arith, cond_both, reading, eqb-true, cond-false)
 
 quoted_chars_read : (word rest : List ℕ) (words : List (List ℕ)) → words_from Word rest ≡ Some ([] ∷ words) → words_from SingleQuoted (flat_map quoted_char word ++ single_quote ∷ rest) ≡ Some (word ∷ words)
 quoted_chars_read [] rest words found = reading SingleQuoted single_quote rest Word (Gives []) ([] ∷ words) refl found
-quoted_chars_read (c ∷ word) rest words found =
-    ap (words_from SingleQuoted) (append_assoc (quoted_char c) (flat_map quoted_char word) (single_quote ∷ rest))
-    ∙ quoted_char_reads c (flat_map quoted_char word ++ single_quote ∷ rest) word words (quoted_chars_read word rest words found)
+quoted_chars_read (c ∷ word) rest words found = grind (arith, quoted_char_reads, (quoted_chars_read word rest words found))
 
 -- ---- a plain word
 
@@ -46,36 +32,20 @@ record IsBare (c : ℕ) : Type 0 where
   not_backslash : c ≢ backslash
 
 bare_from_safe : (c : ℕ) → is_safe c ≡ true → IsBare c
-bare_from_safe c safe = record {
-  not_blank = grind (arith, nat_tests);
-  not_hash = grind (arith, nat_tests);
-  not_single = λ is. grind (arith, nat_tests);
-  not_double = λ is. grind (arith, nat_tests);
-  not_backslash = λ is. grind (arith, nat_tests);
-}
+bare_from_safe c safe = grind (arith, nat_tests)
 
 bare_equals : (c : ℕ) → c ≡ 61 → IsBare c
-bare_equals c is = record {
-  not_blank = grind (arith, nat_tests);
-  not_hash = grind (arith, nat_tests);
-  not_single = λ e. omega arith;
-  not_double = λ e. omega arith;
-  not_backslash = λ e. omega arith;
-}
+bare_equals c is = grind (arith, nat_tests)
 
 bare_from_rest : (c : ℕ) (option : Bool) → (is_safe c || (option && (c == 61))) ≡ true → IsBare c
-bare_from_rest c option h =
-    ⊎_elim (λ safe. bare_from_safe c safe) (λ equals. bare_equals c (eqb-true c 61 (and_parts option (c == 61) equals).1))
-    (or_cases (is_safe c) (option && (c == 61)) h)
+bare_from_rest c option h = grind (arith, bare_from_safe, bare_equals, eqb-true, and_parts, or_cases)
 
 plain_chars_read : (option : Bool) (cs rest : List ℕ) (words : List (List ℕ)) → list_all (λ c. is_safe c || (option && (c == 61))) cs ≡ true → words_from Word rest ≡ Some ([] ∷ words) → words_from Word (cs ++ rest) ≡ Some (cs ∷ words)
 plain_chars_read option [] rest words plain found = found
 plain_chars_read option (c ∷ cs) rest words plain found =
     let parts = and_parts (is_safe c || (option && (c == 61))) (list_all (λ c. is_safe c || (option && (c == 61))) cs) plain in
     let is = bare_from_rest c option parts.0 in
-    reading Word c (cs ++ rest) Word (Gives (c ∷ [])) (cs ∷ words)
-    (cond-false _ _ _ is.not_blank ∙ begins_bare c is.not_single is.not_double is.not_backslash)
-    (plain_chars_read option cs rest words parts.1 found)
+    grind (arith, reading, cond-false, begins_bare, (plain_chars_read option cs rest words parts.1 found))
 
 plain_word_reads : (word rest : List ℕ) (words : List (List ℕ)) → is_plain word ≡ true → words_from Word rest ≡ Some ([] ∷ words) → words_from Between (word ++ rest) ≡ Some (word ∷ words)
 plain_word_reads [] rest words plain found = absurd cc
@@ -164,8 +134,7 @@ words_push old now new first rest before after =
 
 -- what a write left, if it succeeded
 pub ok_written : {E : Type 0} (r : Result (Unit {0}) E) (old more new want : List ℕ) → new ≡ cond (is_ok r) (old ++ more) old → old ++ more ≡ want → OnOk r (new ≡ want)
-ok_written (Ok _) old more new want is same = is ∙ same
-ok_written (Err _) old more new want is same = tt
+ok_written r old more new want is same = grind arith
 
 same_bytes : {Z : Type 0} (words : List (String Z)) → map string_bytes words ≡ map encode_utf8_all (map chars (map string_bytes words))
 same_bytes [] = refl
@@ -175,8 +144,7 @@ quoted_chars : {Z : Type 0} (words : List (String Z)) (t : String Z) → string_
 quoted_chars words t is = sym (chars_from_encodes (quoted (map chars (map string_bytes words))) (string_bytes t) (IsUtf8-string_bytes t) (sym is))
 
 pub quoted_has_words : {Z : Type 0} (words : List (String Z)) (t : String Z) → string_bytes t ≡ encode_utf8_all (quoted (map chars (map string_bytes words))) → HasWords (string_bytes t) (map string_bytes words)
-quoted_has_words words t is =
-    (map chars (map string_bytes words), subst (λ cs. IsText cs (map chars (map string_bytes words))) (sym (quoted_chars words t is)) (quoted_text (map chars (map string_bytes words))), same_bytes words)
+quoted_has_words words t is = grind (arith, quoted_chars, quoted_text, same_bytes)
 
 pub quoted_value : {Z : Type 0} (words : List (String Z)) (t : String Z) → string_bytes t ≡ encode_utf8_all (quoted (map chars (map string_bytes words))) → split_chars (chars (string_bytes t)) ≡ Some (map chars (map string_bytes words))
 quoted_value words t is = ap split_chars (quoted_chars words t is) ∙ quoted_reads (map chars (map string_bytes words))

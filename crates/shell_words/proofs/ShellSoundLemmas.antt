@@ -1,5 +1,5 @@
 -- A text of the grammar is split into the words that the grammar gives it.
-use Rattle.std.proofs.Common.{ℕ, List, [], ◌∷◌, ◌++◌, ◌≡◌, ◌≢◌, refl, sym, ap, ◌∙◌, append-nil, append_assoc, Some, ne_eqb, option_map}
+use Rattle.std.proofs.Common.{ℕ, List, [], ◌∷◌, ◌++◌, ◌≡◌, ◌≢◌, refl, sym, ap, ◌∙◌, append-nil, append_assoc, Some, ne_eqb, option_map, arith}
 use Rattle.std.proofs.lemmas.Bool.{cond-true, cond-false}
 use Rattle.shell_words.specs.declared.splitting.State.{State}
 use Rattle.shell_words.specs.declared.splitting.State.TheVariants.{Between, Comment, Word, Escaped, SingleQuoted, DoubleQuoted, EscapedInQuotes}
@@ -8,21 +8,16 @@ use Rattle.shell_words.specs.Shell.Splitting.{Effect, Skips, Gives, EndsWord, be
 
 -- the words after one more character in front
 pub reading : (state : State) (c : ℕ) (cs : List ℕ) (next : State) (effect : Effect) (words : List (List ℕ)) → reads state c ≡ (next, effect) → words_from next cs ≡ Some words → words_from state (c ∷ cs) ≡ Some (with_effect effect words)
-reading state c cs next effect words read found =
-    ap (λ (r : State × Effect). option_map (λ ws. with_effect r.1 ws) (words_from r.0 cs)) read
-    ∙ ap (λ o. option_map (λ ws. with_effect effect ws) o) found
+reading state c cs next effect words read found = grind arith
 
 pub begins_bare : (c : ℕ) → c ≢ single_quote → c ≢ double_quote → c ≢ backslash → begins_piece c ≡ (Word, Gives (c ∷ []))
-begins_bare c not_single not_double not_backslash =
-    cond-false _ _ _ (ne_eqb c backslash not_backslash) ∙ cond-false _ _ _ (ne_eqb c single_quote not_single)
-    ∙ cond-false _ _ _ (ne_eqb c double_quote not_double)
+begins_bare c not_single not_double not_backslash = grind (arith, cond-false)
 
 -- ---- gaps and comments
 
 comment_passes : (cs rest : List ℕ) (words : List (List ℕ)) → HasNone newline cs → words_from Between rest ≡ Some words → words_from Comment (cs ++ newline ∷ rest) ≡ Some words
 comment_passes [] rest words none found = reading Comment newline rest Between Skips words refl found
-comment_passes (c ∷ cs) rest words none found =
-    reading Comment c (cs ++ newline ∷ rest) Comment Skips words (cond-false _ _ _ (ne_eqb c newline none.0)) (comment_passes cs rest words none.1 found)
+comment_passes (c ∷ cs) rest words none found = grind (arith, reading, cond-false, (comment_passes cs rest words none.1 found))
 
 comment_ends : (cs : List ℕ) → HasNone newline cs → words_from Comment cs ≡ Some []
 comment_ends [] none = refl
@@ -38,22 +33,10 @@ gap_passes gap rest words (comment cs none) found =
 
 single_passes : (cs rest given : List ℕ) (words : List (List ℕ)) → HasNone single_quote cs → words_from Word rest ≡ Some (given ∷ words) → words_from SingleQuoted (cs ++ single_quote ∷ rest) ≡ Some ((cs ++ given) ∷ words)
 single_passes [] rest given words none found = reading SingleQuoted single_quote rest Word (Gives []) _ refl found
-single_passes (c ∷ cs) rest given words none found =
-    reading SingleQuoted c (cs ++ single_quote ∷ rest) SingleQuoted (Gives (c ∷ [])) _ (cond-false _ _ _ (ne_eqb c single_quote none.0)) (single_passes cs rest given words none.1 found)
+single_passes (c ∷ cs) rest given words none found = grind (arith, reading, cond-false, (single_passes cs rest given words none.1 found))
 
 inner_passes : (piece gives rest given : List ℕ) (words : List (List ℕ)) → IsInnerPiece piece gives → words_from DoubleQuoted rest ≡ Some (given ∷ words) → words_from DoubleQuoted (piece ++ rest) ≡ Some ((gives ++ given) ∷ words)
-inner_passes piece gives rest given words (inner_bare c not_quote not_backslash) found =
-    reading DoubleQuoted c rest DoubleQuoted (Gives (c ∷ [])) _
-    (cond-false _ _ _ (ne_eqb c double_quote not_quote) ∙ cond-false _ _ _ (ne_eqb c backslash not_backslash)) found
-inner_passes piece gives rest given words (inner_escaped c is) found =
-    reading DoubleQuoted backslash (c ∷ rest) EscapedInQuotes (Gives []) _ refl
-    (reading EscapedInQuotes c rest DoubleQuoted (Gives (c ∷ [])) _ (cond-true _ _ _ is) found)
-inner_passes piece gives rest given words inner_joined found =
-    reading DoubleQuoted backslash (newline ∷ rest) EscapedInQuotes (Gives []) _ refl
-    (reading EscapedInQuotes newline rest DoubleQuoted (Gives []) _ refl found)
-inner_passes piece gives rest given words (inner_kept c is_not not_newline) found =
-    reading DoubleQuoted backslash (c ∷ rest) EscapedInQuotes (Gives []) _ refl
-    (reading EscapedInQuotes c rest DoubleQuoted (Gives (backslash ∷ c ∷ [])) _ (cond-false _ _ _ is_not ∙ cond-false _ _ _ (ne_eqb c newline not_newline)) found)
+inner_passes piece gives rest given words kind found = grind (arith, reading, cond-false, cond-true)
 
 inside_passes : (cs gives rest given : List ℕ) (words : List (List ℕ)) → IsInside cs gives → words_from DoubleQuoted rest ≡ Some (given ∷ words) → words_from DoubleQuoted (cs ++ rest) ≡ Some ((gives ++ given) ∷ words)
 inside_passes cs gives rest given words inside_end found = found
@@ -63,13 +46,9 @@ inside_passes cs gives rest given words (inside_more piece more gives_first give
     ∙ ap (λ w. Some (w ∷ words)) (sym (append_assoc gives_first gives_more given))
 
 piece_passes : (piece gives rest given : List ℕ) (words : List (List ℕ)) → IsPiece piece gives → words_from Word rest ≡ Some (given ∷ words) → words_from Word (piece ++ rest) ≡ Some ((gives ++ given) ∷ words)
-piece_passes piece gives rest given words (bare c not_blank not_single not_double not_backslash) found =
-    reading Word c rest Word (Gives (c ∷ [])) _ (cond-false _ _ _ not_blank ∙ begins_bare c not_single not_double not_backslash) found
-piece_passes piece gives rest given words (escaped c not_newline) found =
-    reading Word backslash (c ∷ rest) Escaped (Gives []) _ refl
-    (reading Escaped c rest Word (Gives (c ∷ [])) _ (cond-false _ _ _ (ne_eqb c newline not_newline)) found)
-piece_passes piece gives rest given words joined found =
-    reading Word backslash (newline ∷ rest) Escaped (Gives []) _ refl (reading Escaped newline rest Word (Gives []) _ refl found)
+piece_passes piece gives rest given words (bare c not_blank not_single not_double not_backslash) found = grind (arith, reading, cond-false, begins_bare)
+piece_passes piece gives rest given words (escaped c not_newline) found = grind (arith, reading, cond-false)
+piece_passes piece gives rest given words joined found = grind (arith, reading)
 piece_passes piece gives rest given words (single_quoted cs none) found =
     reading Word single_quote ((cs ++ single_quote ∷ []) ++ rest) SingleQuoted (Gives []) _ refl
     (ap (words_from SingleQuoted) (append_assoc cs (single_quote ∷ []) rest) ∙ single_passes cs rest given words none found)
@@ -86,15 +65,7 @@ pieces_pass pieces gives rest words (pieces_more piece more gives_first gives_mo
 
 -- a word's first piece is read between words as it is in a word
 first_piece : (piece gives rest : List ℕ) → IsPiece piece gives → piece ≢ hash ∷ [] → words_from Between (piece ++ rest) ≡ words_from Word (piece ++ rest)
-first_piece piece gives rest (bare c not_blank not_single not_double not_backslash) no_hash =
-    let between : reads_between c ≡ begins_piece c =
-    cond-false _ _ _ not_blank ∙ cond-false _ _ _ (ne_eqb c hash (λ is. no_hash (ap (λ x. x ∷ []) is))) in
-    let inside : reads_word c ≡ begins_piece c = cond-false _ _ _ not_blank in
-    ap (λ (r : State × Effect). option_map (λ ws. with_effect r.1 ws) (words_from r.0 rest)) (between ∙ sym inside)
-first_piece piece gives rest (escaped c not_newline) no_hash = refl
-first_piece piece gives rest joined no_hash = refl
-first_piece piece gives rest (single_quoted cs none) no_hash = refl
-first_piece piece gives rest (double_quoted cs inner inside) no_hash = refl
+first_piece piece gives rest kind no_hash = grind (arith, cond-false)
 
 word_passes : (cs gives rest : List ℕ) (words : List (List ℕ)) → IsWord cs gives → words_from Word rest ≡ Some ([] ∷ words) → words_from Between (cs ++ rest) ≡ Some (gives ∷ words)
 word_passes cs gives rest words (word piece more gives_first gives_more first no_hash others) found =

@@ -1,33 +1,17 @@
 -- A span, whose characters are given as they stand, is read at once.
-use Rattle.std.proofs.Common.{ℕ, List, [], ◌∷◌, ◌++◌, ◌≡◌, refl, sym, ap, ◌∙◌, subst, Bool, true, false, not, ◌||◌, ◌==◌, ◌<◌, ◌+◌, arith, length, take, drop, get_or, cond, nat_lt, suc, length-append, append-nil, append_assoc, encode_utf8, encode_utf8_all, inl, inr, chars, IsUtf8, IsCharBoundary}
+use Rattle.std.proofs.Common.{ℕ, List, [], ◌∷◌, ◌++◌, ◌≡◌, refl, sym, ap, ◌∙◌, subst, Bool, true, false, not, ◌||◌, ◌==◌, ◌<◌, ◌+◌, arith, length, take, drop, get_or, cond, nat_lt, suc, length-append, append-nil, append_assoc, encode_utf8, encode_utf8_all, inl, inr, chars, IsUtf8, IsCharBoundary, take-append-drop}
 use Rattle.std.specs.List.{fold, position_or_len, AllByRecursion}
 use Rattle.std.proofs.lemmas.Bool.{cond-false, or_parts, ltb-true, ltb-false, eqb-true, cases_eq, false≢true}
-use Rattle.std.proofs.lemmas.List.{take-append-drop}
 use Rattle.std.proofs.lemmas.Bool.Decides.{nat_tests}
 use Rattle.std.proofs.lemmas.List.Sums.{fold-append, prefix_len-le-length, passes_at_first}
 use Rattle.std.proofs.lemmas.Str.{encode_ascii, length-encode, len_utf8_bounds, chars_past_char, chars-nil, encodes-append, encodes-chars, chars-append, IsUtf8-take, IsCharBoundary-end, IsCharBoundary-before_ascii, char_from_byte}
 use Rattle.shell_words.specs.declared.splitting.State.{State}
-use Rattle.shell_words.specs.declared.splitting.State.TheVariants.{Between, Comment, Word, Escaped, SingleQuoted, DoubleQuoted, EscapedInQuotes}
-use Rattle.shell_words.specs.Shell.{backslash, single_quote, double_quote, is_blank}
 use Rattle.shell_words.specs.Shell.Splitting.{Effect, Gives, reads, Splitting, applied, after, with_bytes, ends_span}
 
 -- ---- characters
 
 span_reads : (state : State) (c : ℕ) → ends_span state c ≡ false → reads state c ≡ (state, Gives (c ∷ []))
-span_reads Word c goes =
-    let quotes = or_parts (is_blank c || (c == single_quote) || (c == double_quote)) (c == backslash) goes in
-    let single = or_parts (is_blank c || (c == single_quote)) (c == double_quote) quotes.0 in
-    let blank = or_parts (is_blank c) (c == single_quote) single.0 in
-    cond-false (is_blank c) _ _ blank.0 ∙ cond-false (c == backslash) _ _ quotes.1
-    ∙ cond-false (c == single_quote) _ _ blank.1 ∙ cond-false (c == double_quote) _ _ single.1
-span_reads SingleQuoted c goes = cond-false _ _ _ goes
-span_reads DoubleQuoted c goes =
-    let parts = or_parts (c == double_quote) (c == backslash) goes in
-    cond-false (c == double_quote) _ _ parts.0 ∙ cond-false (c == backslash) _ _ parts.1
-span_reads Between c goes = absurd cc
-span_reads Comment c goes = absurd cc
-span_reads Escaped c goes = absurd cc
-span_reads EscapedInQuotes c goes = absurd cc
+span_reads state c goes = grind (arith, or_parts, cond-false)
 
 span_given : (s : Splitting) (cs : List ℕ) → AllByRecursion (λ c. ends_span s.state c ≡ false) cs → fold after s cs ≡ with_bytes s (encode_utf8_all cs)
 span_given s [] go = ap (λ w. record s { word = w }) (sym (append-nil s.word))
@@ -50,13 +34,10 @@ none_before : (test : ℕ → Bool) (bs : List ℕ) → AllByRecursion (λ b. te
 none_before test [] = tt
 none_before test (b ∷ bs) =
     let one : suc (position_or_len test bs) ≡ 1 + position_or_len test bs = omega arith in
-    elim (test b) as (λ found. test b ≡ found → AllByRecursion (λ x. test x ≡ false) (take (cond (not found) (1 + position_or_len test bs) 0) (b ∷ bs)))
-    [ true ↦ λ _. tt | false ↦ λ is. subst (λ k. AllByRecursion (λ x. test x ≡ false) (take k (b ∷ bs))) one (is, none_before test bs) ] refl
+    grind (arith, (none_before test bs))
 
 char_goes : (test : ℕ → Bool) → IsAsciiTest test → (c : ℕ) (rest : List ℕ) → AllByRecursion (λ b. test b ≡ false) (encode_utf8 c ++ rest) → test c ≡ false
-char_goes test ascii c rest go =
-    elim (test c) as (λ found. test c ≡ found → found ≡ false)
-    [ true ↦ λ is. sym is ∙ (subst (λ bs. AllByRecursion (λ b. test b ≡ false) (bs ++ rest)) (encode_ascii c (ascii c is)) go).0 | false ↦ λ _. refl ] refl
+char_goes test ascii c rest go = grind (arith, encode_ascii)
 
 chars_go : (test : ℕ → Bool) → IsAsciiTest test → (cs : List ℕ) → AllByRecursion (λ b. test b ≡ false) (encode_utf8_all cs) → AllByRecursion (λ c. test c ≡ false) cs
 chars_go test ascii [] go = tt
@@ -65,19 +46,11 @@ chars_go test ascii (c ∷ cs) go =
 
 -- the place where a span ends
 boundary : (test : ℕ → Bool) → IsAsciiTest test → (bs : List ℕ) → IsCharBoundary bs (position_or_len test bs)
-boundary test ascii bs =
-    elim (nat_lt (position_or_len test bs) (length bs)) as (λ b. nat_lt (position_or_len test bs) (length bs) ≡ b → IsCharBoundary bs (position_or_len test bs)) [
-      | true ↦ λ is. let less = ltb-true (position_or_len test bs) (length bs) is in
-          IsCharBoundary-before_ascii bs (position_or_len test bs) less (ascii _ (passes_at_first test bs 0 less))
-      | false ↦ λ is. subst (IsCharBoundary bs) (omega (arith, ltb-false (position_or_len test bs) (length bs) is, prefix_len-le-length (λ b. not (test b)) bs)) (IsCharBoundary-end bs)
-    ] refl
+boundary test ascii bs = grind (arith, ltb-true, IsCharBoundary-before_ascii, passes_at_first, ltb-false, prefix_len-le-length, IsCharBoundary-end)
 
 -- only in these states is there a span
 ascii_test : (state : State) (c : ℕ) → ends_span state c ≡ false → IsAsciiTest (ends_span state)
-ascii_test Word c goes = λ b is. grind (arith, nat_tests)
-ascii_test SingleQuoted c goes = λ b is. grind (arith, nat_tests)
-ascii_test DoubleQuoted c goes = λ b is. grind (arith, nat_tests)
-ascii_test _ c goes = absurd cc
+ascii_test state c goes = grind (arith, nat_tests)
 
 pub span_boundary : (state : State) (c : ℕ) → ends_span state c ≡ false → (bs : List ℕ) (n : ℕ) → n ≡ position_or_len (ends_span state) bs → IsCharBoundary bs n
 span_boundary state c goes bs n is = subst (IsCharBoundary bs) (sym is) (boundary (ends_span state) (ascii_test state c goes) bs)
@@ -124,8 +97,7 @@ some_read began old c text behind front rest n same goes utf8 begins len is_fron
 -- ---- one character and the rest
 
 pub past_char : (text rest : List ℕ) (c : ℕ) → IsUtf8 text → text ≡ encode_utf8 c ++ rest → (chars text ≡ c ∷ chars rest) × (length rest < length text)
-past_char text rest c utf8 is =
-    (chars_past_char text rest c utf8 is, subst (λ t. length rest < length t) (sym is) (omega (arith, length-append (encode_utf8 c) rest, len_utf8_bounds c, length-encode c)))
+past_char text rest c utf8 is = grind (arith, chars_past_char, length-append, len_utf8_bounds, length-encode)
 
 pub no_char : (text : List ℕ) → IsUtf8 text → chars text ≡ [] → length text ≡ 0
 no_char text utf8 none = ap length (sym (encodes-chars text utf8) ∙ ap encode_utf8_all none)

@@ -1,8 +1,7 @@
 -- What a splitter holds after a text gives the words of that text.
-use Rattle.std.proofs.Common.{ℕ, List, [], ◌∷◌, ◌++◌, ◌≡◌, refl, sym, ap, ◌∙◌, map, append-nil, append_assoc, Some, None, Option, encode_utf8_all, option_map, fold}
+use Rattle.std.proofs.Common.{ℕ, List, [], ◌∷◌, ◌++◌, ◌≡◌, refl, sym, ap, ◌∙◌, map, append-nil, append_assoc, Some, None, Option, encode_utf8_all, option_map, fold, arith}
 use Rattle.std.proofs.lemmas.Str.{encodes-append}
 use Rattle.shell_words.specs.declared.splitting.State.{State}
-use Rattle.shell_words.specs.declared.splitting.State.TheVariants.{Between, Comment, Word}
 use Rattle.shell_words.specs.Shell.Splitting.{Effect, Skips, Gives, EndsWord, reads, prepend, with_effect, words_at_end, words_from, split_chars, Splitting, start, applied, after, ended, finished}
 
 -- the words that a splitter gives, where these are the words of the rest of the text
@@ -10,18 +9,13 @@ abbrev joined : List (List ℕ) → List ℕ → List (List ℕ) → List (List 
 joined words word later = words ++ prepend word (map encode_utf8_all later)
 
 pub prepend-nil : (words : List (List ℕ)) → prepend [] words ≡ words
-prepend-nil [] = refl
-prepend-nil (word ∷ words) = refl
+prepend-nil words = grind arith
 
 map_twice : {A B C : Type 0} (f : A → C) (g : B → C) (h : A → B) → ((x : A) → f x ≡ g (h x)) → (o : Option A) → option_map f o ≡ option_map g (option_map h o)
-map_twice f g h same None = refl
-map_twice f g h same (Some x) = ap Some (same x)
+map_twice f g h same o = grind arith
 
 joined_end : (state : State) (words : List (List ℕ)) (word : List ℕ) → ended state words word ≡ option_map (joined words word) (words_at_end state)
-joined_end Between words word = ap Some (sym (append-nil words))
-joined_end Comment words word = ap Some (sym (append-nil words))
-joined_end Word words word = ap (λ w. Some (words ++ w ∷ [])) (sym (append-nil word))
-joined_end _ words word = refl
+joined_end state words word = grind (arith, append-nil)
 
 joined_gives : (words : List (List ℕ)) (word given : List ℕ) (later : List (List ℕ)) → joined words (word ++ encode_utf8_all given) later ≡ joined words word (prepend given later)
 joined_gives words word given [] = refl

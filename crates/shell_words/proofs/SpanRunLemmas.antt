@@ -13,14 +13,10 @@ abbrev marked : (ℕ → Bool) → ℕ → ℕ
 marked test b = cond (test b) 255 0
 
 either_mark : (a b : Bool) → bit_or (cond a 255 0) (cond b 255 0) ≡ cond (a || b) 255 0
-either_mark true true = refl
-either_mark true false = refl
-either_mark false true = refl
-either_mark false false = refl
+either_mark a b = grind arith
 
 top_mark : (a : Bool) → top 7 (cond a 255 0) ≡ a
-top_mark true = refl
-top_mark false = refl
+top_mark a = grind arith
 
 pub equal_marks : (b : ℕ) (v : List ℕ) → length v ≡ 16 → zip2 (λ x y. cond (eqb x y) 255 0) v (replicate 16 b) ≡ map (marked (λ x. x == b)) v
 equal_marks b v long = zip2_splat _ v 16 b long
@@ -33,7 +29,7 @@ pub first_mark : (p : ℕ → Bool) (v : List ℕ) {z : List ℕ} (n : ℕ) → 
 first_mark p v {z} n long is count =
     let tops : map (top 7) z ≡ map p v = ap (map (top 7)) is ∙ map-map (top 7) (marked p) v ∙ ap (λ f. map f v) (λ i x. top_mark (p x) i) in
     let bits : mask_l (map (top 7) z) % 2 ^ 64 ≡ mask_l (map p v) = ap (λ l. mask_l l % 2 ^ 64) tops ∙ mask_l-mod (map p v) 64 (omega (arith, length-map v p, long)) in
-    count ∙ ap (λ m. cond (eqb m 0) 16 (count_trailing_zeros 64 m)) bits ∙ first_set_mask_l p v 16 long (omega arith)
+    grind (arith, first_set_mask_l)
 
 -- ---- the bytes before and behind them
 
@@ -50,10 +46,7 @@ goes_past p (x ∷ xs) ys all =
     [ true ↦ λ l. absurd (omega arith) | false ↦ λ l. omega (arith, goes_past p xs ys (omega (arith, l))) ] all
 
 pub run_ends : (p : ℕ → Bool) (xs : List ℕ) (at run : ℕ) → at + 16 ≤ length xs → run ≡ position_or_len p (take 16 (drop at xs)) → run < 16 → position_or_len p (drop at xs) ≡ run
-run_ends p xs at run room is less =
-    let long : length (take 16 (drop at xs)) ≡ 16 = length-chunk at 16 xs room in
-    ap (position_or_len p) (sym (take-append-drop 16 (drop at xs)))
-    ∙ ends_in p (take 16 (drop at xs)) (drop 16 (drop at xs)) (omega (arith, long, is)) ∙ sym is
+run_ends p xs at run room is less = grind (arith, length-chunk, take-append-drop, ends_in)
 
 pub run_goes_on : (p : ℕ → Bool) (xs : List ℕ) (at run : ℕ) → at + 16 ≤ length xs → run ≡ position_or_len p (take 16 (drop at xs)) → 16 ≤ run → position_or_len p (drop at xs) ≡ 16 + position_or_len p (drop (at + 16) xs)
 run_goes_on p xs at run room is past =

@@ -1,7 +1,6 @@
 -- A runner that starts nothing records all commands of a plan.
-use Rattle.std.proofs.Common.{◌≡◌, ℕ, List, [], ◌∷◌, Bool, true, false, not, ◌&&◌, ◌||◌, cond, refl, ap, sym, ◌∙◌, map, filter, subst, Result, Ok, Err}
+use Rattle.std.proofs.Common.{◌≡◌, ℕ, List, [], ◌∷◌, Bool, true, false, not, ◌&&◌, ◌||◌, cond, refl, ap, sym, ◌∙◌, map, filter, subst, Result, Ok, Err, IsErrAnd}
 use Rattle.std.specs.List.{list_any}
-use Rattle.std.specs.Result.{IsErrAnd}
 use Rattle.cuda_plans.specs.declared.fault.Fault.{Fault}
 use Rattle.cuda_plans.specs.declared.fault.Fault.TheVariants.{Memory, Process}
 use Rattle.cuda_plans.specs.declared.plan.NvccGeneratedSubcommand.{NvccGeneratedSubcommand}

@@ -1,6 +1,5 @@
 -- Words and their characters.
-use Rattle.std.proofs.Common.{◌≡◌, [], ◌∷◌, List, map, string_bytes, encode_utf8_all, String, refl}
-use Rattle.std.specs.Str.{chars}
+use Rattle.std.proofs.Common.{◌≡◌, [], ◌∷◌, List, map, string_bytes, encode_utf8_all, String, refl, chars}
 use Rattle.std.proofs.lemmas.Str.{encodes-chars, IsUtf8-string_bytes}
 
 -- words are the characters that they hold, encoded again

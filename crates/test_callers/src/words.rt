@@ -1,7 +1,6 @@
 //! Splitting and quoting shell words.
 
-ghost use Rattle.std.specs.Prelude.{◌≡◌, [], ◌∷◌, Some, codes, map, IfOk, string_bytes};
-ghost use Rattle.std.specs.Option.{option_map};
+ghost use Rattle.std.specs.Prelude.{◌≡◌, [], ◌∷◌, Some, codes, map, IfOk, string_bytes, option_map};
 ghost use Rattle.cuda_plans.specs.declared.language.Language.TheVariants.{Ptx};
 ghost use Rattle.cuda_plans.specs.Rows.{spaced};
 ghost use Rattle.cuda_plans.specs.Cicc.{cicc_options};

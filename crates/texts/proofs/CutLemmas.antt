@@ -1,7 +1,6 @@
 -- The parts of a text that is cut at each of its characters of one kind.
-use Rattle.std.proofs.Common.{◌≡◌, ℕ, List, [], ◌∷◌, Option, Some, None, Bor, MatchOption, refl, ap, ◌∙◌, ◌<◌, length, false, eqb, get_or}
+use Rattle.std.proofs.Common.{◌≡◌, ℕ, List, [], ◌∷◌, Option, Some, None, Bor, MatchOption, refl, ap, ◌∙◌, ◌<◌, length, false, eqb, get_or, ne_eqb, arith}
 use Rattle.std.specs.List.{All, slice_split}
-use Rattle.std.proofs.lemmas.Bool.{ne_eqb}
 use Rattle.std.proofs.lemmas.Bool.Decides.{Decides-eqb}
 use Rattle.std.proofs.lemmas.Grind.{get_or_default_zero}
 use Rattle.std.proofs.lemmas.List.Splits.{slice_split_none, slice_split_at}
@@ -18,4 +17,4 @@ parts-cut_once c text None low h =
     slice_split_none (λ b. eqb b c) text (all-other c text (split_parts c text none h low))
 parts-cut_once c text (Some x) low h =
     let cut = split_parts c text (Some x) h low in
-    ap (slice_split (λ b. eqb b c)) cut.0 ∙ slice_split_at (λ b. eqb b c) x.0.now c x.1.now (all-other c x.0.now cut.1) ((Decides-eqb c c).1 refl)
+    grind (arith, slice_split_at, all-other, Decides-eqb)

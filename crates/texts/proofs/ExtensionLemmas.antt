@@ -1,6 +1,5 @@
 -- A text split at the last place of a character.
-use Rattle.std.proofs.Common.{◌≡◌, ◌≢◌, ℕ, ◌<◌, true, false, eqb, List, [], ◌∷◌, ◌++◌, Option, Some, None, MatchOption, Bor, refl, ap, sym, ◌∙◌, suc, drop, take, length, get_or, arith, take-append-drop}
-use Rattle.std.specs.Option.{option_map}
+use Rattle.std.proofs.Common.{◌≡◌, ◌≢◌, ℕ, ◌<◌, true, false, eqb, List, [], ◌∷◌, ◌++◌, Option, Some, None, MatchOption, Bor, refl, ap, sym, ◌∙◌, suc, drop, take, length, get_or, arith, take-append-drop, option_map}
 use Rattle.std.specs.Str.Pattern.{RFindsChar, SplitsAroundMatch}
 use Rattle.std.proofs.lemmas.Bool.Decides.{Decides-eqb}
 use Rattle.std.proofs.lemmas.Str.Pattern.{NoCharPasses-char, drop_at_char}
@@ -16,13 +15,11 @@ split_at_last-lacks mark [] h = refl
 split_at_last-lacks mark (c ∷ cs) h =
     let rest : split_at_last mark cs ≡ None = split_at_last-lacks mark cs (λ i l e. h (suc i) (omega arith) e) in
     let other : eqb c mark ≡ false = elim (eqb c mark) as (λ b. eqb c mark ≡ b → b ≡ false) [ true ↦ λ e. absurd (h 0 (omega arith) ((Decides-eqb c mark).0 e)) | false ↦ λ _. refl ] refl in
-    rw (rest, other) refl
+    grind arith
 
 -- a text is split where the byte stands and what follows lacks it
 split_at_last-at : (mark : ℕ) (before after : List ℕ) → Lacks mark after → split_at_last mark (before ++ mark ∷ after) ≡ Some (before, after)
-split_at_last-at mark [] after h =
-    let same : eqb mark mark ≡ true = (Decides-eqb mark mark).1 refl in
-    rw (split_at_last-lacks mark after h, same) refl
+split_at_last-at mark [] after h = grind (arith, Decides-eqb, split_at_last-lacks)
 split_at_last-at mark (c ∷ cs) after h = rw (split_at_last-at mark cs after h) refl
 
 -- what splitting a text at the last place of an ASCII character answers
@@ -31,4 +28,4 @@ split_at_last-split mark s None h low = sym (split_at_last-lacks mark s (λ i l.
 split_at_last-split mark s (Some x) h low =
     let after : Lacks mark (drop h.1 s) = λ i l. NoCharPasses-char mark (drop h.1 s) i h.2.0 low l in
     let whole : s ≡ take h.0 s ++ mark ∷ drop h.1 s = sym (take-append-drop h.0 s) ∙ ap (λ l. take h.0 s ++ l) (drop_at_char mark s h.0 h.1 h.2.1 low) in
-    rw (h.3, h.4) (sym (ap (split_at_last mark) whole ∙ split_at_last-at mark (take h.0 s) (drop h.1 s) after))
+    grind (arith, split_at_last-at)

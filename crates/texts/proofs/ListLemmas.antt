@@ -1,10 +1,8 @@
 -- Facts about lists that the records rest on.
-use Rattle.std.proofs.Common.{subst, Result, Ok, Err, OnErr, ◌⊎◌, ⊎_elim, Vec, vec_len, ◌≡◌, ℕ, Bool, ◌&&◌, List, [], ◌∷◌, ◌++◌, map, refl, ap, ◌∙◌, String, string_bytes, Global, nat_eq}
+use Rattle.std.proofs.Common.{subst, Result, Ok, Err, OnErr, ◌⊎◌, ⊎_elim, Vec, vec_len, ◌≡◌, ℕ, Bool, ◌&&◌, List, [], ◌∷◌, ◌++◌, map, refl, ap, ◌∙◌, String, string_bytes, Global, nat_eq, Ordering, Less, Equal, Greater, arith}
 use Rattle.std.specs.Cmp.Lexicographic.{pointwise}
 use Rattle.std.specs.List.{AllZip, AppendsClones}
 use Rattle.std.specs.Ordering.{on, eq_of_both, match_ordering}
-use Rattle.std.specs.declared.cmp.Ordering.{Ordering}
-use Rattle.std.specs.declared.cmp.Ordering.TheVariants.{Less, Equal, Greater}
 use Rattle.std.specs.BTreeMap.{insert_entry}
 use Rattle.std.specs.Map.{lookup}
 use Rattle.std.proofs.lemmas.List.{map-append}
@@ -28,10 +26,7 @@ pointwise-pairs xs ys = pointwise-map (eq_of_both (on (λ (p : List ℕ × List 
 -- an entry put into a map whose keys are seen through a function
 pub map-insert_entry : {K J X : Type 0} (f : K → J) (R : J → J → Ordering) (es : List (K × X)) (k : K) (v : X) → map (λ e. (f e.0, e.1)) (insert_entry (λ a b. R (f a) (f b)) es k v) ≡ insert_entry R (map (λ e. (f e.0, e.1)) es) (f k) v
 map-insert_entry f R [] k v = refl
-map-insert_entry f R (e ∷ es) k v =
-    elim (R (f k) (f e.0))
-    as (λ o. map (λ e'. (f e'.0, e'.1)) (match_ordering o ((k, v) ∷ e ∷ es) ((e.0, v) ∷ es) (e ∷ insert_entry (λ a b. R (f a) (f b)) es k v)) ≡ match_ordering o ((f k, v) ∷ (f e.0, e.1) ∷ map (λ e'. (f e'.0, e'.1)) es) ((f e.0, v) ∷ map (λ e'. (f e'.0, e'.1)) es) ((f e.0, e.1) ∷ insert_entry R (map (λ e'. (f e'.0, e'.1)) es) (f k) v))
-    [ Less ↦ refl | Equal ↦ refl | Greater ↦ ap (λ t. (f e.0, e.1) ∷ t) (map-insert_entry f R es k v) ]
+map-insert_entry f R (e ∷ es) k v = grind (arith, (map-insert_entry f R es k v))
 
 -- a look-up in a map whose keys are seen through a function
 pub lookup-map : {K J X : Type 0} (f : K → J) (p : K → Bool) (q : J → Bool) → ((k : K) → p k ≡ q (f k)) → (es : List (K × X)) → lookup p es ≡ lookup q (map (λ e. (f e.0, e.1)) es)
@@ -61,8 +56,7 @@ same-or-cloned-pairs old new h = ⊎_elim (λ e. ap (λ v. map pair_of v.items) 
 
 -- what holds anyway holds on an error
 pub on-error : {T E P : Type 0} (r : Result T E) → P → OnErr r P
-on-error (Ok x) p = tt
-on-error (Err e) p = p
+on-error r p = grind arith
 
 -- what holds on an error holds of one
 pub of-error : {T E P : Type 0} {r : Result T E} {e : E} → r ≡ Err e → OnErr r P → P

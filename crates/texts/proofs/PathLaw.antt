@@ -1,6 +1,5 @@
 -- A name that is put into a folder has that folder and that file name.
 use Rattle.std.proofs.Common.{◌≡◌, ◌≢◌, ℕ, Bool, true, false, cond, not, ◌&&◌, ◌||◌, eqb, eqb-true, ne_eqb, List, [], ◌∷◌, ◌++◌, Some, refl, ap, sym, ◌∙◌, subst, length, reverse, nat_eq, arith, append_assoc, append-nil}
-use Rattle.std.specs.List.{ends_with}
 use Rattle.std.proofs.lemmas.List.{reverse-append, reverse-reverse, append_cancel_left, length-reverse}
 use Rattle.std.proofs.lemmas.Bool.{false≢true, and_parts}
 use Rattle.texts.specs.Extension.{last_part}
@@ -9,8 +8,7 @@ use Rattle.texts.proofs.PathLemmas.{reverse-push, reverse-cons, forwards, ends_s
 
 -- a bare name isn't absolute
 bare-relative : (f : List ℕ) → is_bare f ≡ true → is_absolute_path f ≡ false
-bare-relative [] h = refl
-bare-relative (c ∷ cs) h = not-is 47 c (and_parts (not (eqb c 47)) (lacks 47 cs) h).0
+bare-relative f h = grind (arith, not-is, and_parts)
 
 joined-relative : (base f : List ℕ) → is_absolute_path f ≡ false → joined base f ≡ (base ++ separator_after base) ++ f
 joined-relative base f h = rw h refl
@@ -20,10 +18,7 @@ joined-backwards base f bare = ap reverse (joined-relative base f (bare-relative
 
 -- what stands between a folder and a name, by the folder's last character
 separator-cond : (base before : List ℕ) (c : ℕ) → reverse base ≡ c ∷ before → separator_after base ≡ cond (eqb c 47) [] (47 ∷ [])
-separator-cond base before c e =
-    let some : eqb (length base) 0 ≡ false = ne_eqb (length base) 0 (λ none. let long : length (c ∷ before) ≡ 0 = sym (ap length e) ∙ length-reverse base ∙ none in omega arith) in
-    let last : ends_with nat_eq base (47 ∷ []) ≡ eqb c 47 = ends_slash base ∙ ap is_absolute_path e in
-    ap (λ b. cond (b || ends_with nat_eq base (47 ∷ [])) [] (47 ∷ [])) some ∙ ap (λ b. cond b [] (47 ∷ [])) last
+separator-cond base before c e = grind (arith, length-reverse, ends_slash)
 
 -- a folder with what stands before a name, backwards: nothing, or a `/` and the rest
 module _ (P : List ℕ → Type 0) where
@@ -66,13 +61,7 @@ folder-again folder stays =
       root (d ∷ before) e idle = absurd (false≢true (sym idle))
 
 pub joined-keeps_folder : JoinedKeepsFolder
-joined-keeps_folder name f bare =
-    let folder = folder_of name in
-    let back : reverse folder ≡ trimmed (is_idle true) (through_last_byte 47 (reverse name)) = reverse-reverse (trimmed (is_idle true) (through_last_byte 47 (reverse name))) in
-    let again = folder-again folder (λ c before e. trimmed-head (is_idle true) (through_last_byte 47 (reverse name)) before c (sym back ∙ e)) in
-    ap (λ t. reverse (trimmed (is_idle true) (through_last_byte 47 t))) (joined-backwards folder f bare)
-    ∙ ap (λ t. reverse (trimmed (is_idle true) t)) (through_last_byte-past 47 (reverse f) (reverse (folder ++ separator_after folder)) (lacks-reverse 47 f bare))
-    ∙ ap reverse again ∙ reverse-reverse folder
+joined-keeps_folder name f bare = grind (arith, reverse-reverse, folder-again, trimmed-head, joined-backwards, through_last_byte-past, lacks-reverse)
 
 -- a proper name isn't empty, and isn't `.`
 proper-some : (f : List ℕ) → proper_name f ≡ Some f → f ≢ []
@@ -85,10 +74,8 @@ proper-no_dot f proper dot = let k : proper_name (46 ∷ []) ≡ Some f = ap pro
 no_dot-before : (f back : List ℕ) (c : ℕ) (before : List ℕ) → proper_name f ≡ Some f → reverse f ≡ c ∷ before → lacks 47 before ≡ true → (eqb c 46 && is_absolute_path (before ++ back)) ≡ false
 no_dot-before f back c [] proper e bare =
     let other : eqb c 46 ≡ false = ne_eqb c 46 (λ is. proper-no_dot f proper (forwards f [] c e ∙ ap (λ d. d ∷ []) is)) in
-    rw other refl
-no_dot-before f back c (d ∷ before) proper e bare =
-    let other : eqb d 47 ≡ false = not-is 47 d (and_parts (not (eqb d 47)) (lacks 47 before) bare).0 in
-    elim (eqb c 46) as (λ b. (b && eqb d 47) ≡ false) [ true ↦ other | false ↦ refl ]
+    grind arith
+no_dot-before f back c (d ∷ before) proper e bare = grind (arith, not-is, and_parts)
 
 name-kept : (f back : List ℕ) → is_bare f ≡ true → proper_name f ≡ Some f → trimmed (is_idle false) (reverse f ++ back) ≡ reverse f ++ back
 name-kept f back bare proper =
@@ -112,10 +99,7 @@ joined-has_name base f bare proper =
     let back = reverse (base ++ separator_after base) in
     let slash : (before : List ℕ) → last_part (reverse (47 ∷ before) ++ f) ≡ f = λ before. ap last_part (ap (λ t. t ++ f) (reverse-cons before 47) ∙ append_assoc (reverse before) (47 ∷ []) f) ∙ last-after (reverse before) f bare in
     let seam : last_part (reverse back ++ f) ≡ f = at-separator (λ t. last_part (reverse t ++ f) ≡ f) base (λ _. last-bare f bare) (λ before _. slash before) (λ c before _ _. slash (c ∷ before)) in
-    ap (λ t. proper_name (last_part (reverse (trimmed (is_idle false) t)))) (joined-backwards base f bare)
-    ∙ ap (λ t. proper_name (last_part (reverse t))) (name-kept f back bare proper)
-    ∙ ap (λ t. proper_name (last_part t)) (reverse-append (reverse f) back ∙ ap (λ t. reverse back ++ t) (reverse-reverse f))
-    ∙ ap proper_name seam ∙ proper
+    grind (arith, joined-backwards, name-kept, reverse-append, reverse-reverse)
 
 -- a folder is a beginning of its name
 through_last_byte-part : (byte : ℕ) (text : List ℕ) → (front : List ℕ) × (text ≡ front ++ through_last_byte byte text)
@@ -139,10 +123,9 @@ folder-begins name =
 
 -- joined names
 pub joined-cancels : JoinedCancels
-joined-cancels base f g frel grel same =
-    append_cancel_left (base ++ separator_after base) f g (sym (joined-relative base f frel) ∙ same ∙ joined-relative base g grel)
+joined-cancels base f g frel grel same = grind (arith, append_cancel_left, joined-relative)
 
 pub folders-cancel : FoldersCancel
 folders-cancel m n f g fbare gbare same =
     let folders : folder_of m ≡ folder_of n = sym (joined-keeps_folder m f fbare) ∙ ap folder_of same ∙ joined-keeps_folder n g gbare in
-    (folders, joined-cancels (folder_of m) f g (bare-relative f fbare) (bare-relative g gbare) (same ∙ ap (λ t. joined t g) (sym folders)))
+    grind (arith, joined-cancels, bare-relative)

@@ -1,10 +1,8 @@
 -- Facts about the ends of texts, which are read backwards.
 use Rattle.std.proofs.Common.{◌≡◌, ◌≢◌, ℕ, ◌<◌, ◌-◌, suc, Bool, true, false, cond, not, ◌&&◌, ◌||◌, eqb, eq-eqb, eqb-true, ne_eqb, List, [], ◌∷◌, ◌++◌, Option, Some, None, MatchOption, Bor, refl, ap, sym, ◌∙◌, subst, drop, take, get_or, length, reverse, nat_eq, arith, append_assoc, append-nil}
 use Rattle.std.specs.List.{ends_with, list_any}
-use Rattle.std.specs.Str.Pattern.{RFindsChar, SplitsAroundMatch}
 use Rattle.std.specs.Cmp.Lexicographic.{pointwise}
 use Rattle.std.proofs.lemmas.List.{reverse-append, reverse-reverse, length-append, take-append-drop}
-use Rattle.std.proofs.lemmas.Str.Pattern.{NoCharPasses-char, drop_at_char}
 use Rattle.std.proofs.lemmas.Grind.{reverse_onto}
 use Rattle.std.proofs.lemmas.Bool.{false≢true, and_parts}
 use Rattle.std.proofs.Math.Seq.{drop-append_seam}
@@ -13,8 +11,7 @@ use Rattle.texts.specs.Path.{is_absolute_path, lacks, through_last_byte, trimmed
 
 -- a test that isn't true is false
 pub false-not_true : (b : Bool) → (b ≡ true → ⊥) → b ≡ false
-false-not_true true h = absurd (h refl)
-false-not_true false h = refl
+false-not_true b h = grind arith
 
 -- a text by whether its length is nothing
 pub empty-length : (text : List ℕ) → eqb (length text) 0 ≡ true → text ≡ []
@@ -39,9 +36,7 @@ reverse-parted front back c = reverse-append front (c ∷ back) ∙ ap (λ t. t 
 
 -- a text ends in `/` where it begins with it backwards
 last_slash : (c : ℕ) → pointwise nat_eq (47 ∷ []) (c ∷ []) ≡ eqb c 47
-last_slash c =
-    elim (eqb c 47) as (λ b. eqb c 47 ≡ b → pointwise nat_eq (47 ∷ []) (c ∷ []) ≡ b)
-    [ true ↦ λ e. rw (eqb-true c 47 e) refl | false ↦ λ e. rw (ne_eqb 47 c (λ is. false≢true (sym e ∙ eq-eqb c 47 (sym is)))) refl ] refl
+last_slash c = grind (arith, eqb-true, false≢true, eq-eqb)
 
 ends_slash_before : (before : List ℕ) → ends_with nat_eq (reverse before) (47 ∷ []) ≡ is_absolute_path before
 ends_slash_before [] = refl
@@ -49,35 +44,25 @@ ends_slash_before (c ∷ before) =
     let push = reverse-cons before c in
     let count : length (reverse before ++ c ∷ []) - 1 ≡ length (reverse before) = omega (arith, length-append (reverse before) (c ∷ [])) in
     let last : drop (length (reverse before ++ c ∷ []) - 1) (reverse before ++ c ∷ []) ≡ c ∷ [] = ap (λ n. drop n (reverse before ++ c ∷ [])) count ∙ drop-append_seam (reverse before) (c ∷ []) in
-    ap (λ t. ends_with nat_eq t (47 ∷ [])) push ∙ ap (λ t. pointwise nat_eq (47 ∷ []) t) last ∙ last_slash c
+    grind (arith, last_slash)
 
 pub ends_slash : (text : List ℕ) → ends_with nat_eq text (47 ∷ []) ≡ is_absolute_path (reverse text)
 ends_slash text = ap (λ t. ends_with nat_eq t (47 ∷ [])) (sym (reverse-reverse text)) ∙ ends_slash_before (reverse text)
 
 -- a `/` at the end goes, unless it is the root that is kept
 trimmed-slash_before : (keeps_root : Bool) (before : List ℕ) → (keeps_root ≡ true → before ≢ []) → trimmed (is_idle keeps_root) (47 ∷ before) ≡ trimmed (is_idle keeps_root) before
-trimmed-slash_before true [] some = absurd (some refl refl)
-trimmed-slash_before false [] some = refl
-trimmed-slash_before keeps_root (d ∷ before) some = refl
-
-pub trimmed-slash : (keeps_root : Bool) (text front : List ℕ) → text ≡ front ++ 47 ∷ [] → (keeps_root ≡ true → front ≢ []) → trimmed (is_idle keeps_root) (reverse text) ≡ trimmed (is_idle keeps_root) (reverse front)
-trimmed-slash keeps_root text front e some =
-    ap (λ t. trimmed (is_idle keeps_root) t) (ap reverse e ∙ reverse-push front 47) ∙ trimmed-slash_before keeps_root (reverse front) (λ kept none. some kept (sym (reverse-reverse front) ∙ ap reverse none))
+trimmed-slash_before keeps_root before some = grind arith
 
 -- a `.` right after a `/` goes
 trimmed-dot_before : (keeps_root : Bool) (before : List ℕ) → is_absolute_path before ≡ true → trimmed (is_idle keeps_root) (46 ∷ before) ≡ trimmed (is_idle keeps_root) before
-trimmed-dot_before keeps_root [] e = absurd (false≢true e)
-trimmed-dot_before keeps_root (d ∷ before) e = rw e refl
+trimmed-dot_before keeps_root before e = grind (arith, false≢true)
 
 pub trimmed-dot : (keeps_root : Bool) (text front : List ℕ) → text ≡ front ++ 46 ∷ [] → is_absolute_path (reverse front) ≡ true → trimmed (is_idle keeps_root) (reverse text) ≡ trimmed (is_idle keeps_root) (reverse front)
-trimmed-dot keeps_root text front e slash =
-    ap (λ t. trimmed (is_idle keeps_root) t) (ap reverse e ∙ reverse-push front 46) ∙ trimmed-dot_before keeps_root (reverse front) slash
+trimmed-dot keeps_root text front e slash = grind (arith, reverse-push, trimmed-dot_before)
 
 -- a text that ends in neither stays
 pub trimmed-stays_before : (keeps_root : Bool) (c : ℕ) (before : List ℕ) → eqb c 47 ≡ false → (eqb c 46 && is_absolute_path before) ≡ false → trimmed (is_idle keeps_root) (c ∷ before) ≡ c ∷ before
-trimmed-stays_before true c [] slash dot = refl
-trimmed-stays_before false c [] slash dot = rw slash refl
-trimmed-stays_before keeps_root c (d ∷ before) slash dot = rw (slash, dot) refl
+trimmed-stays_before keeps_root c before slash dot = grind arith
 
 pub trimmed-stays : (keeps_root : Bool) (text : List ℕ) → ((front : List ℕ) → text ≢ front ++ 47 ∷ []) → ((front : List ℕ) → text ≡ front ++ 46 ∷ [] → is_absolute_path (reverse front) ≡ true → ⊥) → trimmed (is_idle keeps_root) (reverse text) ≡ reverse text
 trimmed-stays keeps_root text no_slash no_dot =
@@ -91,30 +76,26 @@ trimmed-stays keeps_root text no_slash no_dot =
           trimmed-stays_before keeps_root c before slash dot
     ] refl
 
--- the root that is kept
-pub trimmed-root : (text : List ℕ) → text ≡ 47 ∷ [] → trimmed (is_idle true) (reverse text) ≡ reverse text
-trimmed-root text e = rw e refl
-
 -- a text with no such byte, as a test and by places
 pub lacks-places : (byte : ℕ) (text : List ℕ) → ((i : ℕ) → i < length text → get_or text i 0 ≢ byte) → lacks byte text ≡ true
 lacks-places byte [] h = refl
 lacks-places byte (c ∷ cs) h =
     let here : eqb c byte ≡ false = ne_eqb c byte (h 0 (omega arith)) in
     let later : lacks byte cs ≡ true = lacks-places byte cs (λ i l. h (suc i) (omega arith)) in
-    rw (here, later) refl
+    grind arith
 
 pub lacks-append : (byte : ℕ) (front back : List ℕ) → lacks byte front ≡ true → lacks byte back ≡ true → lacks byte (front ++ back) ≡ true
 lacks-append byte [] back h k = k
 lacks-append byte (c ∷ front) back h k =
     let parts = and_parts (not (eqb c byte)) (lacks byte front) h in
-    rw (parts.0, lacks-append byte front back parts.1 k) refl
+    grind (arith, (lacks-append byte front back parts.1 k))
 
 pub lacks-reverse : (byte : ℕ) (text : List ℕ) → lacks byte text ≡ true → lacks byte (reverse text) ≡ true
 lacks-reverse byte [] h = refl
 lacks-reverse byte (c ∷ cs) h =
     let parts = and_parts (not (eqb c byte)) (lacks byte cs) h in
     let one : lacks byte (c ∷ []) ≡ true = rw parts.0 refl in
-    subst (λ t. lacks byte t ≡ true) (sym (reverse-cons cs c)) (lacks-append byte (reverse cs) (c ∷ []) (lacks-reverse byte cs parts.1) one)
+    grind (arith, reverse-cons, lacks-append, (lacks-reverse byte cs parts.1))
 
 -- the parts of a text, backwards, by its last such byte
 pub not-is : (byte c : ℕ) → not (eqb c byte) ≡ true → eqb c byte ≡ false
@@ -140,13 +121,7 @@ Parts byte text r = MatchOption r (lacks byte text ≡ true) (λ p. (text ≡ p.
 
 split-parts : (byte : ℕ) (text : List ℕ) → Parts byte text (split_at_last byte text)
 split-parts byte [] = refl
-split-parts byte (c ∷ cs) =
-    elim (split_at_last byte cs) as (λ r. Parts byte cs r → Parts byte (c ∷ cs) (onto_front c r cs byte)) [
-      | Some p ↦ λ h. (ap (λ t. c ∷ t) h.0, h.1)
-      | None ↦ λ h.
-          elim (eqb c byte) as (λ b. eqb c byte ≡ b → Parts byte (c ∷ cs) (cond b (Some ([], cs)) None))
-          [ true ↦ λ e. (ap (λ d. d ∷ cs) (eqb-true c byte e), h) | false ↦ λ e. rw (e, h) refl ] refl
-    ] (split-parts byte cs)
+split-parts byte (c ∷ cs) = grind (arith, eqb-true, (split-parts byte cs))
 
 pub unsplit-lacks : (byte : ℕ) (text : List ℕ) → None ≡ split_at_last byte text → lacks byte text ≡ true
 unsplit-lacks byte text e = subst (Parts byte text) (sym e) (split-parts byte text)
@@ -160,8 +135,7 @@ folder-lacking name h =
     ap (λ t. reverse (trimmed (is_idle true) (through_last_byte 47 t))) (sym (append-nil (reverse name))) ∙ ap (λ t. reverse (trimmed (is_idle true) t)) (through_last_byte-past 47 (reverse name) [] (lacks-reverse 47 name h))
 
 folder-parted : (name front back : List ℕ) → name ≡ front ++ 47 ∷ back → lacks 47 back ≡ true → folder_of name ≡ reverse (trimmed (is_idle true) (47 ∷ reverse front))
-folder-parted name front back e h =
-    ap (λ t. reverse (trimmed (is_idle true) (through_last_byte 47 t))) (ap reverse e ∙ reverse-parted front back 47) ∙ ap (λ t. reverse (trimmed (is_idle true) t)) (through_last_byte-past 47 (reverse back) (47 ∷ reverse front) (lacks-reverse 47 back h))
+folder-parted name front back e h = grind (arith, reverse-parted, through_last_byte-past, lacks-reverse)
 
 pub folder-root : (name front back : List ℕ) → name ≡ front ++ 47 ∷ back → lacks 47 back ≡ true → front ≡ [] → folder_of name ≡ 47 ∷ []
 folder-root name front back e h none = folder-parted name front back e h ∙ ap (λ f. reverse (trimmed (is_idle true) (47 ∷ reverse f))) none
@@ -170,18 +144,9 @@ pub folder-below : (name front back : List ℕ) → name ≡ front ++ 47 ∷ bac
 folder-below name front back e h some =
     folder-parted name front back e h ∙ ap reverse (trimmed-slash_before true (reverse front) (λ _ none. some (sym (reverse-reverse front) ∙ ap reverse none)))
 
--- what parting a text at its last such character answers
-pub parted-char : (byte : ℕ) (text : List ℕ) (r : Option (Bor (List ℕ) × Bor (List ℕ))) → MatchOption r (RFindsChar byte text None) (λ x. SplitsAroundMatch (RFindsChar byte) text x.0.now x.1.now) → byte < 128 → MatchOption r (lacks byte text ≡ true) (λ x. (text ≡ x.0.now ++ byte ∷ x.1.now) × (lacks byte x.1.now ≡ true))
-parted-char byte text None h ascii = lacks-places byte text (λ i l e. NoCharPasses-char byte text i h ascii l e)
-parted-char byte text (Some x) h ascii =
-    let back : drop h.0 text ≡ byte ∷ drop h.1 text = drop_at_char byte text h.0 h.1 h.2.1 ascii in
-    let bare : lacks byte (drop h.1 text) ≡ true = lacks-places byte (drop h.1 text) (λ i l e. NoCharPasses-char byte (drop h.1 text) i h.2.0 ascii l e) in
-    (sym (take-append-drop h.0 text) ∙ ap (λ t. take h.0 text ++ t) back ∙ rw (h.3, h.4) refl, rw h.4 bare)
-
 -- a text lacks a byte if a search for it finds none
 not-or : (a b : Bool) → not (a || b) ≡ (not a && not b)
-not-or true b = refl
-not-or false b = refl
+not-or a b = grind arith
 
 pub lacks-by_search : (byte : ℕ) (text : List ℕ) → not (list_any (λ c. eqb c byte) text) ≡ lacks byte text
 lacks-by_search byte [] = refl

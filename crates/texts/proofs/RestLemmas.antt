@@ -1,6 +1,5 @@
 -- Facts about what follows a text in a word that begins with it.
-use Rattle.std.proofs.Common.{◌≡◌, ◌≢◌, ℕ, true, false, cond, eqb, List, [], ◌∷◌, ◌++◌, Option, Some, None, MatchOption, Bor, refl, ap, sym, ◌∙◌, drop}
-use Rattle.std.specs.Option.{option_copied}
+use Rattle.std.proofs.Common.{◌≡◌, ◌≢◌, ℕ, true, false, cond, eqb, List, [], ◌∷◌, ◌++◌, Option, Some, None, MatchOption, Bor, refl, ap, sym, ◌∙◌, drop, option_copied, arith}
 use Rattle.std.specs.Str.Pattern.{FindsTextPrefix, StripsPrefix}
 use Rattle.std.proofs.lemmas.Bool.Decides.{Decides-eqb}
 use Rattle.texts.specs.Lists.{rest_after}
@@ -20,5 +19,4 @@ rest_after-none (c ∷ cs) (d ∷ ds) h =
 
 -- what stripping a text from a word answers
 pub rest_after-stripped : (p s : List ℕ) (r : Option (Bor (List ℕ))) → MatchOption r (FindsTextPrefix p s None) (λ x. StripsPrefix (FindsTextPrefix p) s x.now) → option_copied r ≡ rest_after p s
-rest_after-stripped p s None h = rw (rest_after-none p s h) refl
-rest_after-stripped p s (Some x) h = sym (ap (rest_after p) h.1.1 ∙ rest_after-append p (drop h.0 s) ∙ ap Some (sym h.2))
+rest_after-stripped p s r h = grind (arith, rest_after-none, rest_after-append)

@@ -1,8 +1,7 @@
 -- What `==` says, and how texts and lists of words are compared.
-use Rattle.std.specs.Prelude.{◌≡◌, ℕ, List, Bool, IsTrue, ◌↔◌}
+use Rattle.std.specs.Prelude.{◌≡◌, ℕ, List, Bool, IsTrue, ◌↔◌, bytes_eq}
 use Rattle.std.specs.Cmp.{IsPartialEquivalence, partial_equiv_from_equiv}
 use Rattle.std.specs.Cmp.Lexicographic.{pointwise, lists_per, nat_list_eq_equiv}
-use Rattle.std.specs.Str.{bytes_eq}
 
 -- a test of two values says whether they are equal
 abbrev pub TellsEqual : {A : Type 0} → (A → A → Bool) → Type 0

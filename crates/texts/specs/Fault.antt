@@ -1,6 +1,5 @@
 -- The texts of the faults.
-use Rattle.std.specs.Prelude.{◌≡◌, ℕ, List, ◌++◌, codes, Result, Ok, Err}
-use Rattle.std.specs.Fmt.{decimal}
+use Rattle.std.specs.Prelude.{◌≡◌, ℕ, List, ◌++◌, codes, Result, Ok, Err, decimal}
 use Rattle.texts.specs.declared.fault.Fault.{Fault}
 use Rattle.texts.specs.declared.fault.Fault.TheVariants.{NotUtf8, BadShell, EmptyCommand, NoPath, NotFound, MissingOutput, NoFileName, KeepDirValue, ThreadsValue, NoPreprocess, Process, Runner, Read, Memory, BadSuffixes}
 use Rattle.texts.specs.Language.{language_text}

@@ -1,7 +1,6 @@
 -- Words on lists and options that several definitions share.
-use Rattle.std.specs.Prelude.{ℕ, List, [], ◌∷◌, ◌++◌, ◌==◌, Bool, false, if◌then◌else◌, Option, Some, None, fold}
+use Rattle.std.specs.Prelude.{ℕ, List, [], ◌∷◌, ◌++◌, ◌==◌, Bool, false, if◌then◌else◌, Option, Some, None, fold, bytes_eq}
 use Rattle.std.specs.List.{list_any}
-use Rattle.std.specs.Str.{bytes_eq}
 
 -- the last of a list
 abbrev pub last_of : {X : Type 0} → List X → Option X

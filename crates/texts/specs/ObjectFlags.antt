@@ -1,7 +1,6 @@
 -- The compilation flags that ask nvcc for an object file.
-use Rattle.std.specs.Prelude.{ℕ, List, [], ◌∷◌, Bool, codes}
+use Rattle.std.specs.Prelude.{ℕ, List, [], ◌∷◌, Bool, codes, bytes_eq}
 use Rattle.std.specs.List.{list_any}
-use Rattle.std.specs.Str.{bytes_eq}
 
 -- the compilation flags under which nvcc makes an object of each file
 abbrev pub object_flags : List (List ℕ)

@@ -1,8 +1,6 @@
 -- Texts that are paths, as lists of bytes. The byte 47 is `/`, and 46 is `.`.
-use Rattle.std.specs.Prelude.{◌≡◌, ℕ, List, [], ◌∷◌, ◌++◌, Bool, true, false, not, ◌==◌, ◌&&◌, ◌||◌, nat_eq, length, reverse, if◌then◌else◌, Option, Some, None, refl, codes}
+use Rattle.std.specs.Prelude.{◌≡◌, ℕ, List, [], ◌∷◌, ◌++◌, Bool, true, false, not, ◌==◌, ◌&&◌, ◌||◌, nat_eq, length, reverse, if◌then◌else◌, Option, Some, None, refl, codes, option_map, bytes_eq}
 use Rattle.std.specs.List.{ends_with}
-use Rattle.std.specs.Option.{option_map}
-use Rattle.std.specs.Str.{bytes_eq}
 use Rattle.texts.specs.Extension.{last_part, stem_of}
 use Rattle.texts.specs.Rows.{Gives}
 

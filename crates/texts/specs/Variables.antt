@@ -1,7 +1,6 @@
 -- Environment variables, as pairs of texts.
-use Rattle.std.specs.Prelude.{ℕ, List, Option, String, string_bytes}
+use Rattle.std.specs.Prelude.{ℕ, List, Option, String, string_bytes, bytes_eq}
 use Rattle.std.specs.Map.{lookup}
-use Rattle.std.specs.Str.{bytes_eq}
 use Rattle.std.specs.declared.alloc.Global.{Global}
 
 -- the texts of a name and its value

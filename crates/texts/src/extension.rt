@@ -1,7 +1,6 @@
 //! The extension of a path text.
 
-ghost use Rattle.std.specs.Prelude.{◌≡◌, ◌<◌, IfOk, string_bytes};
-ghost use Rattle.std.specs.Option.{option_map, option_copied};
+ghost use Rattle.std.specs.Prelude.{◌≡◌, ◌<◌, IfOk, string_bytes, option_map, option_copied};
 ghost use Rattle.texts.specs.Extension as spec;
 
 use std::alloc::{AllocError, Global};

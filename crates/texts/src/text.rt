@@ -1,10 +1,9 @@
 //! Texts, and the texts that are paths.
 
-ghost use Rattle.std.specs.Prelude.{◌≡◌, ◌==◌, ◌↔◌, ◌<◌, length, reverse, IsTrue, IfOk, MatchOption, string_bytes};
-ghost use Rattle.std.specs.Option.{option_copied};
+ghost use Rattle.std.specs.Prelude.{◌≡◌, ◌==◌, ◌↔◌, ◌<◌, length, reverse, IsTrue, IfOk, MatchOption, string_bytes, option_copied};
 ghost use Rattle.std.specs.Str.Iter.{chars_rest};
 ghost use Rattle.texts.specs.Path as spec;
-ghost use Rattle.texts.specs.Path.{is_absolute_path, separator_after, joined, trimmed_backwards, folder_of, proper_name, file_name_of, file_stem_of};
+ghost use Rattle.texts.specs.Path.{is_absolute_path, separator_after, joined, trimmed_backwards, folder_of, proper_name, file_name_of, file_stem_of, JoinedKeepsFolder, JoinedHasName, FolderBegins, JoinedCancels, FoldersCancel};
 
 use crate::extension::{last, split_last, stem};
 use std::alloc::{AllocError, Global};
@@ -247,8 +246,6 @@ pub fn file_stem(path: &str) -> Option<&str>
 {
     Some(stem(file_name(path)?))
 }
-
-ghost use Rattle.texts.specs.Path.{JoinedKeepsFolder, JoinedHasName, FolderBegins, JoinedCancels, FoldersCancel};
 
 /// A law of path texts.
 ///

@@ -1,8 +1,7 @@
 //! The environment that a command runs in.
 
-ghost use Rattle.std.specs.Prelude.{◌≡◌, ◌∷◌, [], ◌++◌, ◌==◌, map, length, IfOk, OnOk, OnErr, string_bytes};
+ghost use Rattle.std.specs.Prelude.{◌≡◌, ◌∷◌, [], ◌++◌, ◌==◌, map, length, IfOk, OnOk, OnErr, string_bytes, option_copied};
 ghost use Rattle.std.specs.Arc.{arc_value};
-ghost use Rattle.std.specs.Option.{option_copied};
 ghost use Rattle.std.specs.Slice.Iter.{iter_rest};
 ghost use Rattle.texts.specs.Variables as spec;
 ghost use Rattle.texts.specs.Variables.{pair_of};

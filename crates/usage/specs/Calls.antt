@@ -1,14 +1,10 @@
 -- The calls of zigrunk.
-use Rattle.std.specs.Prelude.{ℕ, List, [], ◌∷◌, Bool, true, false, ◌||◌, if◌then◌else◌, Option, Some, None, is_some, codes}
-use Rattle.std.specs.Option.{option_map, option_and_then, option_copied}
-use Rattle.std.specs.Str.{bytes_eq}
+use Rattle.std.specs.Prelude.{ℕ, List, [], ◌∷◌, Bool, true, false, ◌||◌, if◌then◌else◌, Option, Some, None, is_some, codes, option_map, option_and_then, option_copied, bytes_eq}
 use Rattle.host_lines.specs.KeepThreads.{number_of}
 use Rattle.plan_scripts.specs.Formats.{format_of_name}
 use Rattle.plan_scripts.specs.declared.format.Format.{Format}
 use Rattle.plan_scripts.specs.declared.format.Format.TheVariants.{Ninja}
-use Rattle.program_calls.specs.Calls.{NvccOf, nvcc_of, nvcc_call_of}
-use Rattle.program_calls.specs.Calls.{DirectoryOf, directory_of, directory_call_of}
-use Rattle.program_calls.specs.Calls.{LineOf, PlanOf, line_of, plan_of, line_call_of, plan_call_of}
+use Rattle.program_calls.specs.Calls.{NvccOf, nvcc_of, nvcc_call_of, DirectoryOf, directory_of, directory_call_of, LineOf, PlanOf, line_of, plan_of, line_call_of, plan_call_of}
 use Rattle.usage.specs.Settings.{past, begins_option, options_taken, slot_taken, dependencies_taken}
 use Rattle.usage.specs.declared.settings.Settings.{Settings}
 use Rattle.usage.specs.declared.call.Call.{Call}

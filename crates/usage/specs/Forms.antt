@@ -1,6 +1,5 @@
 -- The forms of the program's calls: by which words each goes on.
-use Rattle.std.specs.Prelude.{ℕ, List, [], ◌∷◌, if◌then◌else◌, Option, Some, None, codes}
-use Rattle.std.specs.Str.{bytes_eq}
+use Rattle.std.specs.Prelude.{ℕ, List, [], ◌∷◌, if◌then◌else◌, Option, Some, None, codes, bytes_eq}
 use Rattle.plan_scripts.specs.Formats.{format_of_name}
 use Rattle.plan_scripts.specs.declared.format.Format.{Format}
 use Rattle.plan_scripts.specs.declared.format.Format.TheVariants as formats

@@ -1,7 +1,6 @@
 -- What the program says of words that are no call: what is wrong with them, and the form of the call.
-use Rattle.std.specs.Prelude.{◌≡◌, ◌⊎◌, ℕ, List, [], ◌∷◌, ◌++◌, Bool, true, false, if◌then◌else◌, Option, Some, None, is_some, refl, codes}
+use Rattle.std.specs.Prelude.{◌≡◌, ◌⊎◌, ℕ, List, [], ◌∷◌, ◌++◌, Bool, true, false, if◌then◌else◌, Option, Some, None, is_some, refl, codes, bytes_eq}
 use Rattle.std.specs.Io.KnownBytes.{Appends}
-use Rattle.std.specs.Str.{bytes_eq}
 use Rattle.host_lines.specs.KeepThreads.{number_of}
 use Rattle.message_texts.specs.Excerpts.{shown}
 use Rattle.usage.specs.Forms.{form_of, words_of, lacking}

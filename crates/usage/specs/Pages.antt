@@ -1,6 +1,5 @@
 -- The texts that the program shows of itself.
-use Rattle.std.specs.Prelude.{ℕ, List, [], ◌∷◌, ◌++◌, codes}
-use Rattle.std.specs.List.{flat_map}
+use Rattle.std.specs.Prelude.{ℕ, List, [], ◌∷◌, ◌++◌, codes, flat_map}
 
 -- lines
 abbrev pub lines_of : List (List ℕ) → List ℕ

@@ -1,7 +1,6 @@
 -- The options of a call that writes a plan for another tool.
-use Rattle.std.specs.Prelude.{ℕ, List, [], ◌∷◌, Bool, true, false, ◌&&◌, if◌then◌else◌, Option, Some, None, nat_eq, codes}
+use Rattle.std.specs.Prelude.{ℕ, List, [], ◌∷◌, Bool, true, false, ◌&&◌, if◌then◌else◌, Option, Some, None, nat_eq, codes, bytes_eq}
 use Rattle.std.specs.List.{starts_with}
-use Rattle.std.specs.Str.{bytes_eq}
 use Rattle.host_lines.specs.KeepThreads.{number_of}
 use Rattle.usage.specs.declared.settings.Settings.{Settings}
 

@@ -1,7 +1,6 @@
 //! The forms of a call.
 
-ghost use Rattle.std.specs.Prelude.{◌≡◌, map, string_bytes};
-ghost use Rattle.std.specs.Option.{option_map, option_copied};
+ghost use Rattle.std.specs.Prelude.{◌≡◌, map, string_bytes, option_map, option_copied};
 ghost use Rattle.usage.specs.Calls as spec;
 
 use crate::settings::{

@@ -1,7 +1,6 @@
 //! The forms of the program's calls: by which words each goes on.
 
-ghost use Rattle.std.specs.Prelude.{◌≡◌, map, string_bytes};
-ghost use Rattle.std.specs.Option.{option_copied};
+ghost use Rattle.std.specs.Prelude.{◌≡◌, map, string_bytes, option_copied};
 ghost use Rattle.usage.specs.Forms as spec;
 
 use plan_scripts::Format;

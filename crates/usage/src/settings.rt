@@ -1,7 +1,6 @@
 //! The options of a call that writes a plan for another tool.
 
-ghost use Rattle.std.specs.Prelude.{◌≡◌, map, string_bytes};
-ghost use Rattle.std.specs.Option.{option_copied};
+ghost use Rattle.std.specs.Prelude.{◌≡◌, map, string_bytes, option_copied};
 ghost use Rattle.host_lines.specs.KeepThreads.{number_of};
 ghost use Rattle.usage.specs.Settings as spec;
 

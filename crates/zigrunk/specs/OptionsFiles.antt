@@ -1,6 +1,5 @@
 -- The options files that an nvcc line names.
-use Rattle.std.specs.Prelude.{ℕ, List, Option, Some}
-use Rattle.std.specs.List.{All}
+use Rattle.std.specs.Prelude.{ℕ, List, Option, Some, All}
 use Rattle.texts.specs.Path.{joined}
 
 -- given files by name and text, whether each text is one that its file may hold, in the working directory

@@ -1,7 +1,6 @@
 //! Running the commands of an nvcc call.
 
-ghost use Rattle.std.specs.Prelude.{◌≡◌};
-ghost use Rattle.std.specs.Option.{option_copied};
+ghost use Rattle.std.specs.Prelude.{◌≡◌, option_copied};
 ghost use Rattle.texts.specs.Fault.{UnlessMemory};
 ghost use Rattle.cuda_plans.specs.NvccPlan.{planned};
 ghost use Rattle.plan_runners.specs.Schedule.{Gains, ExecutesAs};

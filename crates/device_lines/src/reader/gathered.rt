@@ -1,7 +1,6 @@
 //! What the reader of device tools' lines gathers, item by item.
 
-ghost use Rattle.std.specs.Prelude.{◌≡◌, true, false, IfOk, OnOk};
-ghost use Rattle.std.specs.List.{fold};
+ghost use Rattle.std.specs.Prelude.{◌≡◌, true, false, IfOk, OnOk, fold};
 ghost use Rattle.option_items.specs.Items.{items};
 ghost use Rattle.option_items.specs.Views.{item_seen, item_viewed};
 ghost use Rattle.compilers.specs.Arguments.{plain_arguments};

@@ -1,8 +1,6 @@
 //! The files that a device tool's line names, without the arguments that a cache needs.
 
-ghost use Rattle.std.specs.Prelude.{◌≡◌, ◌<◌, ◌∷◌, [], map, length, IfOk, string_bytes, slice_index_or};
-ghost use Rattle.std.specs.List.{fold, remove};
-ghost use Rattle.std.specs.Option.{option_map};
+ghost use Rattle.std.specs.Prelude.{◌≡◌, ◌<◌, ◌∷◌, [], map, length, IfOk, string_bytes, slice_index_or, fold, remove, option_map};
 ghost use Rattle.texts.specs.Path.{joined};
 ghost use Rattle.option_items.specs.Items.{items};
 ghost use Rattle.device_lines.specs.Gathered.{no_files, with_files_of, all_outputs};

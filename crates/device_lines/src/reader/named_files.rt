@@ -1,7 +1,6 @@
 //! The files that the items of a device tool's line name.
 
-ghost use Rattle.std.specs.Prelude.{◌≡◌, ◌∷◌, [], true, false, None, IfOk, OnOk, string_bytes};
-ghost use Rattle.std.specs.List.{fold};
+ghost use Rattle.std.specs.Prelude.{◌≡◌, ◌∷◌, [], true, false, None, IfOk, OnOk, string_bytes, fold};
 ghost use Rattle.option_items.specs.Items.{items};
 ghost use Rattle.option_items.specs.Views.{item_seen, item_viewed};
 ghost use Rattle.compilers.specs.Outputs.{with_entry};

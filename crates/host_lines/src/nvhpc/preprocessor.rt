@@ -1,7 +1,6 @@
 //! The commands that preprocess the input of an nvhpc line.
 
-ghost use Rattle.std.specs.Prelude.{◌≡◌, ◌∷◌, [], map, codes, IfOk, string_bytes};
-ghost use Rattle.std.specs.Option.{option_copied};
+ghost use Rattle.std.specs.Prelude.{◌≡◌, ◌∷◌, [], map, codes, IfOk, string_bytes, option_copied};
 ghost use Rattle.texts.specs.Variables.{pair_of};
 ghost use Rattle.texts.specs.Fault.{UnlessMemory};
 ghost use Rattle.host_lines.specs.Preprocess as spec;

@@ -1,5 +1,4 @@
-use Rattle.std.proofs.Common.{◌≡◌, drop}
-use Rattle.std.specs.List.{flat_map}
+use Rattle.std.proofs.Common.{◌≡◌, drop, flat_map}
 use Rattle.c_plans.specs.Asking.{texts_of}
 use Rattle.c_texts.specs.Outcomes as spec
 use Rattle.c_plans.proofs.asking.push_lookups.Given as goal

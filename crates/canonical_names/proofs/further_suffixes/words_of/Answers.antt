@@ -1,6 +1,5 @@
-use Rattle.std.proofs.Common.{◌≡◌, ℕ, suc, ◌+◌, ◌<◌, List, [], ◌++◌, length, take, ap, sym, ◌∙◌, arith, slice_get, option_to_list}
+use Rattle.std.proofs.Common.{◌≡◌, ℕ, suc, ◌+◌, ◌<◌, List, [], ◌++◌, length, take, ap, sym, ◌∙◌, arith, slice_get, option_to_list, take-suc}
 use Rattle.std.proofs.lemmas.Option.{slice_get-get_or}
-use Rattle.std.proofs.Math.Seq.{take-suc}
 use Rattle.canonical_names.proofs.further_suffixes.words_of.Goals as goal
 
 -- the first elements of a list and the one behind them are one more of its first elements

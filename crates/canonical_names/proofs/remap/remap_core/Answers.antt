@@ -1,5 +1,4 @@
-use Rattle.std.proofs.Common.{◌≡◌, ℕ, List, ◌∙◌, ap, sym, Option, Some, Result, Ok, Err, OnOk, String, string_bytes, option_map}
-use Rattle.std.specs.declared.alloc.Global.{Global}
+use Rattle.std.proofs.Common.{◌≡◌, ℕ, List, ◌∙◌, ap, sym, Option, Some, Result, Ok, Err, OnOk, String, string_bytes, option_map, Global}
 use Rattle.std.proofs.lemmas.Result.{IfOk-weaker, on_ok_weaker}
 use Rattle.texts.specs.Lists.{with_name}
 use Rattle.canonical_names.specs.Counted.{class_of_core}

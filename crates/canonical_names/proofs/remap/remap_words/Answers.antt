@@ -1,5 +1,4 @@
-use Rattle.std.proofs.Common.{◌≡◌, ℕ, List, [], ◌∷◌, ◌++◌, ◌∙◌, ap, sym, subst, map, refl, Option, Some, None, String, string_bytes, option_map, unwrap_or}
-use Rattle.std.specs.declared.alloc.Global.{Global}
+use Rattle.std.proofs.Common.{◌≡◌, ℕ, List, [], ◌∷◌, ◌++◌, ◌∙◌, ap, sym, subst, map, refl, Option, Some, None, String, string_bytes, option_map, unwrap_or, Global}
 use Rattle.std.proofs.lemmas.List.{map-append}
 use Rattle.canonical_names.specs.Renaming.{seen_after, seen_after_word, renamed_word, renamed_words}
 use Rattle.canonical_names.proofs.RemapLemmas.{words-step}

@@ -1,5 +1,4 @@
-use Rattle.std.proofs.Common.{◌≡◌, ℕ, suc, ◌+◌, List, ◌∷◌, ◌++◌, ◌∙◌, ap, sym, map, drop, drop-cons, add-one, append_assoc, String, Vec, string_bytes, filter_map}
-use Rattle.std.specs.declared.alloc.Global.{Global}
+use Rattle.std.proofs.Common.{◌≡◌, ℕ, suc, ◌+◌, List, ◌∷◌, ◌++◌, ◌∙◌, ap, sym, map, drop, drop-cons, add-one, append_assoc, String, Vec, string_bytes, filter_map, Global}
 use Rattle.command_lines.specs.CommandLines.{line_seen}
 use Rattle.canonical_names.specs.Generated.{generated_name}
 use Rattle.canonical_names.specs.Shadow.{appearances}

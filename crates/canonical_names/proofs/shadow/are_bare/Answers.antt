@@ -1,9 +1,8 @@
-use Rattle.std.proofs.Common.{◌≡◌, ◌∙◌, sym, rules}
+use Rattle.std.proofs.Common.{◌≡◌, ◌∙◌, sym, rules, tests}
 use Rattle.std.specs.List.{list_all}
 use Rattle.std.proofs.lemmas.List.Folds.{list_all-map}
 use Rattle.std.proofs.lemmas.Iterator.{YieldsList-from_slice}
 use Rattle.std.proofs.lemmas.Iterator.Search.{all_from_yields_List}
-use borrow.Author.Tests.{tests}
 use Rattle.texts.specs.Path.{is_bare}
 use Rattle.canonical_names.specs.Shown.{name_shown}
 use Rattle.canonical_names.proofs.shadow.are_bare.Goals as goal

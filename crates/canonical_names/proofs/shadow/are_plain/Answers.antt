@@ -1,9 +1,8 @@
-use Rattle.std.proofs.Common.{◌≡◌, ◌∙◌, sym, rules, codes}
+use Rattle.std.proofs.Common.{◌≡◌, ◌∙◌, sym, rules, codes, tests}
 use Rattle.std.specs.List.{list_all}
 use Rattle.std.proofs.lemmas.List.Folds.{list_all-map}
 use Rattle.std.proofs.lemmas.Iterator.{YieldsList-from_slice}
 use Rattle.std.proofs.lemmas.Iterator.Search.{all_from_yields_List}
-use borrow.Author.Tests.{tests}
 use Rattle.texts.specs.Lists.{word_after}
 use Rattle.command_lines.specs.CommandLines.{line_seen, words_of_command}
 use Rattle.canonical_names.specs.Shadow.{is_plain_output}

@@ -1,5 +1,4 @@
-use Rattle.std.proofs.Common.{◌≡◌, ℕ, suc, ◌+◌, List, [], ◌∷◌, ◌++◌, ◌∙◌, ap, sym, map, drop, drop-cons, add-one, append_assoc, append-nil, Option, Some, None, Vec, Bor, string_bytes, option_copied}
-use Rattle.std.specs.declared.alloc.Global.{Global}
+use Rattle.std.proofs.Common.{◌≡◌, ℕ, suc, ◌+◌, List, [], ◌∷◌, ◌++◌, ◌∙◌, ap, sym, map, drop, drop-cons, add-one, append_assoc, append-nil, Option, Some, None, Vec, Bor, string_bytes, option_copied, Global}
 use Rattle.std.specs.List.{filter_map, cons_option}
 use Rattle.std.proofs.lemmas.List.{map-append}
 use Rattle.canonical_names.specs.Generated.{generated_name}

@@ -1,8 +1,7 @@
-use Rattle.std.proofs.Common.{◌≡◌, ◌∙◌, sym, rules, string_bytes, bytes_eq}
+use Rattle.std.proofs.Common.{◌≡◌, ◌∙◌, sym, rules, string_bytes, bytes_eq, tests}
 use Rattle.std.specs.List.{list_any}
 use Rattle.std.proofs.lemmas.Iterator.{YieldsList-from_slice}
 use Rattle.std.proofs.lemmas.Iterator.Search.{any_from_yields_List}
-use borrow.Author.Tests.{tests}
 use Rattle.canonical_names.proofs.SuffixLemmas.{list_any-map}
 use Rattle.canonical_names.proofs.suffixes.holds.Goals as goal
 

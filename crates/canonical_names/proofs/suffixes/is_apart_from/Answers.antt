@@ -1,9 +1,8 @@
-use Rattle.std.proofs.Common.{◌≡◌, ◌∙◌, sym, rules, string_bytes}
+use Rattle.std.proofs.Common.{◌≡◌, ◌∙◌, sym, rules, string_bytes, tests}
 use Rattle.std.specs.List.{list_all}
 use Rattle.std.proofs.lemmas.List.Folds.{list_all-map}
 use Rattle.std.proofs.lemmas.Iterator.{YieldsList-from_slice}
 use Rattle.std.proofs.lemmas.Iterator.Search.{all_from_yields_List}
-use borrow.Author.Tests.{tests}
 use Rattle.canonical_names.specs.SuffixRule.{is_apart}
 use Rattle.canonical_names.proofs.suffixes.is_apart_from.Goals as goal
 

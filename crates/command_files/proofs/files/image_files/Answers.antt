@@ -1,5 +1,4 @@
-use Rattle.std.proofs.Common.{◌≡◌, ◌∙◌, ap, sym, map, string_bytes}
-use Rattle.std.specs.Option.{option_copied}
+use Rattle.std.proofs.Common.{◌≡◌, ◌∙◌, ap, sym, map, string_bytes, option_copied}
 use Rattle.command_files.specs.CommandFiles.{paths_by, image_file}
 use Rattle.command_files.proofs.PartLemmas.{paths-next}
 use Rattle.command_files.proofs.files.image_files.Goals as goal

@@ -1,5 +1,4 @@
-use Rattle.std.proofs.Common.{◌≡◌, None, map, string_bytes, drop}
-use Rattle.std.specs.Option.{option_copied}
+use Rattle.std.proofs.Common.{◌≡◌, None, map, string_bytes, drop, option_copied}
 use Rattle.command_files.specs.CommandFiles.{word_before}
 use Rattle.command_files.proofs.files.word_before.Given as goal
 

@@ -1,6 +1,4 @@
-use Rattle.std.proofs.Common.{◌≡◌, List, map, string_bytes, subst}
-use Rattle.std.specs.Option.{option_map}
-use Rattle.std.specs.Result.{IfOk}
+use Rattle.std.proofs.Common.{◌≡◌, List, map, string_bytes, subst, option_map, IfOk}
 use Rattle.texts.specs.declared.language.Language.TheVariants as languages
 use Rattle.option_items.specs.Table.{Entry, longest_match}
 use Rattle.device_lines.specs.declared.options.ArgData.{ArgData}

@@ -1,6 +1,4 @@
-use Rattle.std.proofs.Common.{◌≡◌, [], ◌∙◌, ap, subst, map, string_bytes, slice_index_or}
-use Rattle.std.specs.List.{fold, remove}
-use Rattle.std.specs.Result.{IfOk}
+use Rattle.std.proofs.Common.{◌≡◌, [], ◌∙◌, ap, subst, map, string_bytes, slice_index_or, fold, remove, IfOk}
 use Rattle.compilers.specs.Compiler.{accepted, reading_of}
 use Rattle.option_items.specs.Items.{items}
 use Rattle.device_lines.proofs.ReadingLemmas.{reading-gathered}

@@ -1,7 +1,6 @@
-use Rattle.std.proofs.Common.{◌≡◌, ◌++◌, length, string_bytes}
+use Rattle.std.proofs.Common.{◌≡◌, ◌++◌, length, string_bytes, chars}
 use denote.Text.{Utf8}
 use denote.Shadow.{shadow}
-use Rattle.std.specs.Str.{chars}
 use Rattle.message_texts.specs.Excerpts.{excerpt, shown_char}
 use Rattle.message_texts.proofs.excerpts.push_chars.Given as goal
 

@@ -1,5 +1,4 @@
-use Rattle.std.proofs.Common.{◌≡◌, drop, fold}
-use Rattle.std.specs.Option.{option_map, option_copied}
+use Rattle.std.proofs.Common.{◌≡◌, drop, fold, option_map, option_copied}
 use Rattle.option_items.specs.Table.{entry_of}
 use Rattle.nvcc_options.specs.Tables.{choice_with, chosen_by}
 use Rattle.nvcc_options.proofs.options.choose.Given as goal

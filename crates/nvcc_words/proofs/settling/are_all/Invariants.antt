@@ -1,6 +1,5 @@
-use Rattle.std.proofs.Common.{◌≡◌, map, string_bytes, drop}
+use Rattle.std.proofs.Common.{◌≡◌, map, string_bytes, drop, bytes_eq}
 use Rattle.std.specs.List.{list_all}
-use Rattle.std.specs.Str.{bytes_eq}
 use Rattle.nvcc_words.proofs.settling.are_all.Given as goal
 
 abbrev pub invariant-loop-other : goal.invariant-loop-other

@@ -1,5 +1,4 @@
-use Rattle.std.proofs.Common.{◌≡◌, List, [], false, map, string_bytes, subst}
-use Rattle.std.specs.Result.{IfOk}
+use Rattle.std.proofs.Common.{◌≡◌, List, [], false, map, string_bytes, subst, IfOk}
 use Rattle.compilers.specs.declared.compiler.CCompilerKind.TheVariants as kinds
 use Rattle.gcc_lines.specs.declared.gcc.options.ArgData.{ArgData}
 use Rattle.compilers.specs.Compiler.{reading_of}

@@ -1,5 +1,4 @@
-use Rattle.std.proofs.Common.{◌≡◌, length, map, vec_items, drop}
-use Rattle.std.specs.Prelude.{◌==◌}
+use Rattle.std.proofs.Common.{◌≡◌, length, map, vec_items, drop, ◌==◌}
 use Rattle.std.specs.List.{list_all}
 use Rattle.plan_calls.proofs.export.are_empty.Given as goal
 

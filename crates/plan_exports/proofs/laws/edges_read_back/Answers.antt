@@ -1,5 +1,4 @@
-use Rattle.std.proofs.Common.{[], ◌∷◌, codes}
-use Rattle.std.specs.Str.{chars}
+use Rattle.std.proofs.Common.{[], ◌∷◌, codes, chars}
 use Rattle.shell_words.specs.Posix.{Word, Operator}
 use Rattle.plan_scripts.proofs.ReadBackLemmas.{text_then, touch_reads}
 use Rattle.plan_exports.specs.Graph.{stamp_path, touch}

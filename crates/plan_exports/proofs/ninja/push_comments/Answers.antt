@@ -1,5 +1,4 @@
-use Rattle.std.proofs.Common.{◌+◌, ◌++◌, string_bytes, drop, sym, ap, ◌∙◌}
-use Rattle.std.specs.List.{flat_map}
+use Rattle.std.proofs.Common.{◌+◌, ◌++◌, string_bytes, drop, sym, ap, ◌∙◌, flat_map}
 use Rattle.plan_exports.specs.Graph.{comment}
 use Rattle.command_files.proofs.Pushing.{pushed, next-left}
 use Rattle.plan_exports.proofs.ninja.push_comments.Goals as goal

@@ -1,5 +1,4 @@
-use Rattle.std.proofs.Common.{◌≡◌, ◌++◌, string_bytes, drop}
-use Rattle.std.specs.List.{flat_map}
+use Rattle.std.proofs.Common.{◌≡◌, ◌++◌, string_bytes, drop, flat_map}
 use Rattle.plan_exports.specs.Graph.{comment}
 use Rattle.plan_exports.proofs.ninja.push_comments.Given as goal
 

@@ -1,5 +1,4 @@
-use Rattle.std.proofs.Common.{◌≡◌, ◌++◌, string_bytes, map, drop}
-use Rattle.std.specs.List.{flat_map}
+use Rattle.std.proofs.Common.{◌≡◌, ◌++◌, string_bytes, map, drop, flat_map}
 use Rattle.plan_graphs.specs.Dot.{further_line}
 use Rattle.plan_graphs.proofs.dot.push_all_further.Given as goal
 

@@ -1,5 +1,4 @@
-use Rattle.std.proofs.Common.{◌≡◌, ◌+◌, ◌++◌, string_bytes, vec_items, map, drop, sym, ap, ◌∙◌}
-use Rattle.std.specs.List.{flat_map}
+use Rattle.std.proofs.Common.{◌≡◌, ◌+◌, ◌++◌, string_bytes, vec_items, map, drop, sym, ap, ◌∙◌, flat_map}
 use Rattle.plan_graphs.specs.Dot.{edge, edges_from}
 use Rattle.command_files.proofs.Pushing.{pushed, next-left}
 use Rattle.plan_graphs.proofs.dot.push_edges.Goals as goal

@@ -1,5 +1,4 @@
-use Rattle.std.proofs.Common.{◌≡◌, ◌++◌, string_bytes, drop}
-use Rattle.std.specs.List.{flat_map}
+use Rattle.std.proofs.Common.{◌≡◌, ◌++◌, string_bytes, drop, flat_map}
 use Rattle.plan_graphs.specs.Dot.{edge}
 use Rattle.plan_graphs.proofs.dot.push_edges_of.Given as goal
 

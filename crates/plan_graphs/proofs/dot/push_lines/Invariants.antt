@@ -1,5 +1,4 @@
-use Rattle.std.proofs.Common.{◌≡◌, ◌++◌, string_bytes, map, drop}
-use Rattle.std.specs.List.{flat_map}
+use Rattle.std.proofs.Common.{◌≡◌, ◌++◌, string_bytes, map, drop, flat_map}
 use Rattle.plan_graphs.proofs.dot.push_lines.Given as goal
 
 abbrev pub invariant-loop-line : goal.invariant-loop-line

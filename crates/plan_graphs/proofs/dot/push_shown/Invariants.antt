@@ -1,5 +1,4 @@
-use Rattle.std.proofs.Common.{string_bytes, ◌≡◌, ◌++◌, encode_utf8_all}
-use Rattle.std.specs.List.{flat_map}
+use Rattle.std.proofs.Common.{string_bytes, ◌≡◌, ◌++◌, encode_utf8_all, flat_map}
 use Rattle.plan_graphs.specs.Dot.{shown_char}
 use Rattle.plan_graphs.proofs.dot.push_shown.Given as goal
 

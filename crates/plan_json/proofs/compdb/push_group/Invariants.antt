@@ -1,5 +1,4 @@
-use Rattle.std.proofs.Common.{◌≡◌, ◌++◌, map, drop}
-use Rattle.std.specs.List.{flat_map}
+use Rattle.std.proofs.Common.{◌≡◌, ◌++◌, map, drop, flat_map}
 use Rattle.serde_json.specs.View.{view}
 use Rattle.plan_json.specs.Compdb.{records_of}
 use Rattle.plan_json.proofs.compdb.push_group.Given as goal

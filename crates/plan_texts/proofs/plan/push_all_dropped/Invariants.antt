@@ -1,5 +1,4 @@
-use Rattle.std.proofs.Common.{◌≡◌, ◌++◌, string_bytes, drop}
-use Rattle.std.specs.List.{flat_map}
+use Rattle.std.proofs.Common.{◌≡◌, ◌++◌, string_bytes, drop, flat_map}
 use Rattle.plan_texts.specs.ShownPlan.{show_dropped}
 use Rattle.plan_texts.proofs.plan.push_all_dropped.Given as goal
 

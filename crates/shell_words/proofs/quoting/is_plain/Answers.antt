@@ -1,10 +1,9 @@
 -- The first character, and then the others.
-use Rattle.std.proofs.Common.{◌≡◌, ◌∙◌, ◌∷◌, ◌++◌, ◌||◌, ◌&&◌, ◌==◌, ap, sym, refl, rules, encode_utf8, chars}
+use Rattle.std.proofs.Common.{◌≡◌, ◌∙◌, ◌∷◌, ◌++◌, ◌||◌, ◌&&◌, ◌==◌, ap, sym, refl, rules, encode_utf8, chars, tests}
 use Rattle.std.specs.List.{list_all}
 use Rattle.std.proofs.lemmas.Iterator.{YieldsList-from_chars}
 use Rattle.std.proofs.lemmas.Iterator.Search.{all_from_yields_List}
 use Rattle.std.proofs.lemmas.Str.{chars_past_char, IsUtf8-past_char}
-use borrow.Author.Tests.{tests}
 use Rattle.shell_words.specs.Shell.Quoting.{is_safe, is_plain}
 use Rattle.shell_words.proofs.quoting.is_plain.Goals as goal
 

@@ -1,6 +1,5 @@
 -- The words of the text are computed.
-use Rattle.std.proofs.Common.{◌≡◌, ◌∙◌, [], ◌∷◌, map, Some, codes, encode_utf8_all, refl}
-use Rattle.std.specs.Option.{option_map}
+use Rattle.std.proofs.Common.{◌≡◌, ◌∙◌, [], ◌∷◌, map, Some, codes, encode_utf8_all, refl, option_map}
 use Rattle.std.specs.Str.{chars, is_utf8}
 use Rattle.std.proofs.lemmas.Result.{IfOk-weaker}
 use Rattle.cuda_plans.specs.Shell.Splitting.{split_chars}

@@ -1,7 +1,5 @@
 -- Quoted words are split into themselves.
-use Rattle.std.proofs.Common.{◌∙◌, ap, sym, map, Some, encode_utf8_all}
-use Rattle.std.specs.Option.{option_map}
-use Rattle.std.specs.Str.{chars}
+use Rattle.std.proofs.Common.{◌∙◌, ap, sym, map, Some, encode_utf8_all, option_map, chars}
 use Rattle.std.proofs.lemmas.Result.{IfOk-weaker}
 use Rattle.cuda_plans.specs.Shell.Splitting.{split_chars}
 use Rattle.test_callers.proofs.WordLemmas.{same_bytes}

@@ -1,5 +1,4 @@
-use Rattle.std.proofs.Common.{◌≡◌, string_bytes, subst}
-use Rattle.std.specs.Result.{IfOk}
+use Rattle.std.proofs.Common.{◌≡◌, string_bytes, subst, IfOk}
 use Rattle.texts.proofs.NumeralLemmas.{decimal-numeral}
 use Rattle.texts.proofs.decimal.number_text.Goals as goal
 

@@ -1,6 +1,5 @@
-use Rattle.std.proofs.Common.{◌∷◌, [], ◌++◌, ◌∙◌, ap, map}
+use Rattle.std.proofs.Common.{◌∷◌, [], ◌++◌, ◌∙◌, ap, map, is_ok}
 use Rattle.std.specs.Arc.{arc_value}
-use Rattle.std.specs.Result.{is_ok}
 use Rattle.std.proofs.lemmas.List.{map-append}
 use Rattle.texts.specs.Variables.{pair_of}
 use Rattle.texts.proofs.ListLemmas.{same-or-cloned-pairs, on-error, of-error}

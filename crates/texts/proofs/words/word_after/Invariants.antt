@@ -1,5 +1,4 @@
-use Rattle.std.proofs.Common.{◌≡◌, map, string_bytes, drop}
-use Rattle.std.specs.Prelude.{if◌then◌else◌}
+use Rattle.std.proofs.Common.{◌≡◌, map, string_bytes, drop, if◌then◌else◌}
 use Rattle.texts.specs.Lists.{first_word, word_after}
 use Rattle.texts.proofs.words.word_after.Given as goal
 

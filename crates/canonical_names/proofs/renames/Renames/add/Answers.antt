@@ -1,5 +1,4 @@
-use Rattle.std.proofs.Common.{◌≡◌, ◌<◌, ◌^◌, [], ℕ, List, ap, sym, ◌∙◌, arith, string_bytes, slice_get, unwrap_or}
-use denote.Ref.{Bor}
+use Rattle.std.proofs.Common.{◌≡◌, ◌<◌, ◌^◌, [], ℕ, List, ap, sym, ◌∙◌, arith, string_bytes, slice_get, unwrap_or, Bor}
 use Rattle.canonical_names.specs.Renaming.{canonical_name}
 use Rattle.canonical_names.proofs.CountedLemmas.{counted-name, text-or}
 use Rattle.canonical_names.proofs.renames.Renames.add.Goals as goal

@@ -1,5 +1,4 @@
-use Rattle.std.proofs.Common.{◌≡◌, ◌++◌, ◌∷◌, [], ℕ, List, map, ap, ◌∙◌, subst, sym, false, true, cond, Bool, string_bytes, String, Some, None, if◌then◌else◌, option_copied, IfOk, OnOk, bytes_eq}
-use Rattle.std.specs.declared.alloc.Global.{Global}
+use Rattle.std.proofs.Common.{◌≡◌, ◌++◌, ◌∷◌, [], ℕ, List, map, ap, ◌∙◌, subst, sym, false, true, cond, Bool, string_bytes, String, Some, None, if◌then◌else◌, option_copied, IfOk, OnOk, bytes_eq, Global}
 use Rattle.std.specs.List.{list_any}
 use Rattle.std.specs.Map.{lookup}
 use Rattle.std.proofs.lemmas.Result.{IfOk-weaker}

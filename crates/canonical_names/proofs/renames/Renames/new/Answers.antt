@@ -1,5 +1,4 @@
-use Rattle.std.proofs.Common.{◌≡◌, List, map, length, replicate, ap, ◌∙◌, subst, sym, true, String}
-use Rattle.std.specs.declared.alloc.Global.{Global}
+use Rattle.std.proofs.Common.{◌≡◌, List, map, length, replicate, ap, ◌∙◌, subst, sym, true, String, Global}
 use Rattle.texts.specs.Variables.{pair_of}
 use Rattle.canonical_names.specs.Counted.{old_names, IsCounted}
 use Rattle.canonical_names.specs.SuffixRule.{are_suffixes}

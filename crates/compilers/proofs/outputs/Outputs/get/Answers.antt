@@ -1,6 +1,5 @@
-use Rattle.std.proofs.Common.{◌∙◌, ap}
+use Rattle.std.proofs.Common.{◌∙◌, ap, bytes_eq}
 use Rattle.std.proofs.lemmas.Map.Text.{is_eq-slice_cmp}
-use Rattle.std.specs.Str.{bytes_eq}
 use Rattle.compilers.specs.Outputs.{entry_at}
 use Rattle.texts.proofs.ListLemmas.{lookup-map}
 use Rattle.compilers.proofs.outputs.Outputs.get.Goals as goal

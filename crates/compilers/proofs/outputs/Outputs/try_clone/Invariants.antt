@@ -1,5 +1,4 @@
-use Rattle.std.proofs.Common.{◌≡◌, map}
-use Rattle.std.specs.List.{fold}
+use Rattle.std.proofs.Common.{◌≡◌, map, fold}
 use Rattle.compilers.specs.Outputs.{with_entry}
 use Rattle.compilers.proofs.outputs.Outputs.try_clone.Given as goal
 

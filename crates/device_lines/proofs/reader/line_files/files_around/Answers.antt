@@ -1,6 +1,4 @@
-use Rattle.std.proofs.Common.{◌≡◌, [], ◌∷◌, ◌∙◌, subst, map, string_bytes, slice_index_or}
-use Rattle.std.specs.List.{remove}
-use Rattle.std.specs.Result.{IfOk}
+use Rattle.std.proofs.Common.{◌≡◌, [], ◌∷◌, ◌∙◌, subst, map, string_bytes, slice_index_or, remove, IfOk}
 use Rattle.texts.specs.Path.{joined}
 use Rattle.option_items.specs.Items.{items}
 use Rattle.device_lines.specs.Gathered.{all_outputs}

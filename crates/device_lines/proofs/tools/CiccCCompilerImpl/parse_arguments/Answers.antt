@@ -1,5 +1,4 @@
-use Rattle.std.proofs.Common.{◌≡◌, List, map, string_bytes, subst}
-use Rattle.std.specs.Result.{IfOk}
+use Rattle.std.proofs.Common.{◌≡◌, List, map, string_bytes, subst, IfOk}
 use Rattle.texts.specs.declared.language.Language.TheVariants as languages
 use Rattle.compilers.specs.Compiler.{reading_of}
 use Rattle.option_items.specs.Table.{Entry}

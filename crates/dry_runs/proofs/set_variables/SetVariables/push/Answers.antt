@@ -1,5 +1,4 @@
-use Rattle.std.proofs.Common.{String, ◌∙◌, [], ◌∷◌, ◌++◌, ◌&&◌, ap, length}
-use Rattle.std.specs.declared.alloc.Global.{Global}
+use Rattle.std.proofs.Common.{String, ◌∙◌, [], ◌∷◌, ◌++◌, ◌&&◌, ap, length, Global}
 use Rattle.std.specs.List.{list_all}
 use Rattle.dry_runs.specs.Environment.{is_name_byte}
 use Rattle.dry_runs.specs.PlacesView.{places_seen}

@@ -1,5 +1,4 @@
-use Rattle.std.proofs.Common.{◌≡◌, ℕ, List, subst}
-use Rattle.std.specs.Prelude.{OnOk}
+use Rattle.std.proofs.Common.{◌≡◌, ℕ, List, subst, OnOk}
 use Rattle.host_lines.proofs.FirstLemmas.{known_key, new_key}
 use Rattle.host_lines.proofs.nvcc.preprocessor.push_unseen.Goals as goal
 

@@ -1,5 +1,4 @@
-use Rattle.std.proofs.Common.{◌∙◌, ap, sym, subst, map, string_bytes, arith}
-use Rattle.std.specs.List.{fold}
+use Rattle.std.proofs.Common.{◌∙◌, ap, sym, subst, map, string_bytes, arith, fold}
 use Rattle.std.proofs.lemmas.List.{at_drop_all}
 use Rattle.texts.specs.Fault.{UnlessMemory}
 use Rattle.host_lines.specs.Taken.{with_thread_word, threads_of_gathered}

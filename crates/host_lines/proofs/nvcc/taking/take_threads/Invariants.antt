@@ -1,5 +1,4 @@
-use Rattle.std.proofs.Common.{◌≡◌, map, string_bytes, drop}
-use Rattle.std.specs.List.{fold}
+use Rattle.std.proofs.Common.{◌≡◌, map, string_bytes, drop, fold}
 use Rattle.host_lines.specs.Taken.{no_threads, with_thread_word}
 use Rattle.host_lines.proofs.nvcc.taking.take_threads.Given as goal
 

@@ -1,5 +1,4 @@
-use Rattle.std.proofs.Common.{◌≡◌, ◌&&◌, ◌∙◌, ap, sym, map, subst, Bool, List, ℕ}
-use Rattle.std.specs.Result.{IfOk}
+use Rattle.std.proofs.Common.{◌≡◌, ◌&&◌, ◌∙◌, ap, sym, map, subst, Bool, List, ℕ, IfOk}
 use Rattle.texts.specs.Variables.{pair_of}
 use Rattle.option_items.specs.Table.{Entry}
 use Rattle.nvcc_options.specs.declared.options.Purpose.{Purpose}

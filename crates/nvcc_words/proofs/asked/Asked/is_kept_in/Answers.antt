@@ -1,5 +1,4 @@
-use Rattle.std.proofs.Common.{◌≡◌, subst}
-use Rattle.std.specs.Result.{IfOk}
+use Rattle.std.proofs.Common.{◌≡◌, subst, IfOk}
 use Rattle.nvcc_words.specs.declared.asked.Asked.{Asked}
 use Rattle.nvcc_words.specs.Keeping.{keeps}
 use Rattle.nvcc_words.proofs.asked.Asked.is_kept_in.Goals as goal

@@ -1,5 +1,4 @@
-use Rattle.std.proofs.Common.{◌∙◌, ap, sym, subst, arith, length, fold, map, Option}
-use Rattle.std.specs.Option.{option_map, option_copied}
+use Rattle.std.proofs.Common.{◌∙◌, ap, sym, subst, arith, length, fold, map, Option, option_map, option_copied}
 use Rattle.option_items.specs.Table.{Entry, entry_of, longest_match}
 use Rattle.option_items.specs.Items.{Completes, said_of}
 use Rattle.option_items.specs.Views.{item_viewed}

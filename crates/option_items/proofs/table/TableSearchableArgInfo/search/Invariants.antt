@@ -1,6 +1,4 @@
-use Rattle.std.proofs.Common.{◌≡◌, drop, map}
-use Rattle.std.specs.List.{fold}
-use Rattle.std.specs.Option.{option_map, option_copied}
+use Rattle.std.proofs.Common.{◌≡◌, drop, map, fold, option_map, option_copied}
 use Rattle.option_items.specs.Table.{entry_of, longer_match, longest_match}
 use Rattle.option_items.proofs.table.TableSearchableArgInfo.search.Given as goal
 

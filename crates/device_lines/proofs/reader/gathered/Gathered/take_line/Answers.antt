@@ -1,6 +1,4 @@
-use Rattle.std.proofs.Common.{Option, arith, length, ap, subst, sym, ◌∙◌}
-use Rattle.std.specs.List.{fold}
-use Rattle.std.specs.Option.{option_map, option_copied}
+use Rattle.std.proofs.Common.{Option, arith, length, ap, subst, sym, ◌∙◌, fold, option_map, option_copied}
 use Rattle.option_items.specs.Table.{Entry, entry_of}
 use Rattle.option_items.specs.Items.{Completes, items, said_of}
 use Rattle.option_items.specs.Views.{item_viewed}
