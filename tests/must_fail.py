@@ -12,7 +12,8 @@ body can't make another function's proof fail.
 - Most functions have no written answers: `search` proves each goal. `rattle check --start` searches for the goals of these functions
   alone, and writes a hole for each that it doesn't prove. That takes half the time of a check, which proves again all that they call.
 - A check tries the others, tables too, and the few functions that `--start` can't start. It names functions that call a wrong one, and
-  that doesn't count as a rejection.
+  that doesn't count as a rejection. So that it proves none of the functions that they call, it gets the other functions without their
+  bodies, and with a hole for a proof. A wrong body that isn't rejected so is tried again with all of the crate.
 - A second edit of a function takes another run. An edit of a definition is tried alone.
 
 An edit has lines 'file:', 'old:' and 'new:', and a line 'refused:' with the function whose goals have to stay open, by its path
@@ -123,6 +124,73 @@ def wrong_bodies(crate: str) -> List[WrongBody]:
     return [WrongBody(crate, f"{folder}/{it}") for it in sorted(os.listdir(folder)) if it.endswith(".edit")]
 
 
+def module_of(path: str) -> str:
+    """Returns the path in the crate of the module in a source file."""
+    inside = path.removeprefix("src/").removesuffix(".rt")
+    return "" if inside in ("lib", "main") else f"{inside.replace('/', '::')}::"
+
+
+def modules_of_types(texts: Texts) -> Dict[str, str]:
+    """Returns the modules of a crate's structs and enums, by their names."""
+    declared = re.compile(r"^(?:pub(?:\(\w+\))? )?(?:struct|enum) (\w+)", re.M)
+    return {it: module_of(path) for path, text in texts.items() if path.startswith("src/") for it in declared.findall(text)}
+
+
+def body_of(lines: List[str], at: int, indent: str) -> Optional[Tuple[int, int]]:
+    """Returns the lines of the braces around the body of the function whose head is at a line, as `rt fmt` lays it out, or None if the
+    function has no body, or one without lines."""
+    for first in range(at, len(lines)):
+        line = lines[first]
+        if line == f"{indent}{{" or line.endswith(" {") and (first == at or line.startswith(f"{indent})")):
+            return first, lines.index(f"{indent}}}", first)
+        if line in ("", f"{indent}{{}}") or line.endswith(";"):
+            return None
+    return None
+
+
+def without_bodies(path: str, text: str, types: Dict[str, str], tested: List[str]) -> Tuple[str, List[str]]:
+    """Returns a source file's text without the bodies of its functions, but for the tested ones, and these functions' paths in the crate.
+    Functions of traits, and those that another crate's type has, keep theirs."""
+    lines, found, left = text.split("\n"), [], []  # type: List[str], List[str], List[str]
+    owner: Optional[str] = module_of(path)
+    at = 0
+    while at < len(lines):
+        line = lines[at]
+        inherent = re.match(r"impl(?:<.*>)? (\w+)(?:<.*>)? \{$", line)
+        if inherent and inherent[1] in types:
+            owner = f"{types[inherent[1]]}{inherent[1]}::"
+        elif re.match(r"(pub(\(\w+\))? )?(impl|trait)\b", line):
+            owner = None
+        elif line == "}":
+            owner = module_of(path)
+        head = re.match(r"( *)(?:pub(?:\(\w+\))? )?fn (\w+)\b", line)
+        body = body_of(lines, at, head[1]) if head and owner is not None and f"{owner}{head[2]}" not in tested else None
+        if head and body:
+            found.append(f"{owner}{head[2]}")
+            first, last = body
+            left += [*lines[at:first], lines[first], f"{head[1]}    loop {{}}", lines[last]]
+            at = last
+        else:
+            left.append(line)
+        at += 1
+    return "\n".join(left), found
+
+
+def with_holes(crate: str, texts: Texts, tested: List[str]) -> Texts:
+    """Returns a crate's texts in which functions other than these have no bodies, and holes for proofs: their contracts are all that
+    others need of them."""
+    types, holed = modules_of_types(texts), dict(texts)
+    for path in [it for it in texts if it.startswith("src/")]:
+        holed[path], found = without_bodies(path, texts[path], types, tested)
+        for function in found:
+            folder, name = f"proofs/{function.replace('::', '/')}", function.split("::")[-1]
+            for file in ("Answers", "Invariants"):
+                holed.pop(f"{folder}/{file}.antt", None)
+            stated = f"use Rattle.{crate}.proofs.{function.replace('::', '.')}.Statement as stated\n"
+            holed[f"{folder}/Proof.antt"] = f"{stated}\npub {name}_spec : {{M : Type 1}} → stated.statement M\n{name}_spec = ?\n"
+    return holed
+
+
 def is_searched(body: WrongBody, texts: Texts) -> bool:
     """Returns whether a wrong body is in a function that has no written answers, so that `search` alone proves each of its goals."""
     folder = f"proofs/{body.function.replace('::', '/')}"
@@ -208,8 +276,9 @@ class Attempt:
     def __init__(self, crate: Any, bodies: List[WrongBody], texts: Texts, edited: Optional[Texts]):
         self.crate, self.bodies, self.texts, self.edited = crate, bodies, texts, edited
 
-    def write(self, room: str) -> None:
-        for path, text in (self.edited or {}).items():
+    @staticmethod
+    def write(room: str, texts: Texts) -> None:
+        for path, text in texts.items():
             os.makedirs(os.path.dirname(f"{room}/{path}"), exist_ok=True)
             with open(f"{room}/{path}", "w", encoding="utf-8") as it:
                 it.write(text)
@@ -218,27 +287,39 @@ class Attempt:
         """Has `rattle check --start` search for the goals of these wrong bodies. It can't start a function in a file with a `ghost use .. as`
         of a module that a library re-exports."""
         with tempfile.TemporaryDirectory(prefix="must-fail-") as room:
-            self.write(room)
+            self.write(room, self.edited or {})
             lines = said_of(room, self.crate, [word for it in self.bodies for word in ("--start", it.function)], [])
             return [judged_by_search(room, self.crate.name, it, lines) for it in self.bodies]
 
-    def checked(self, bodies: List[WrongBody]) -> List[Verdict]:
-        """Checks the functions of these wrong bodies, with all wrong bodies of this run in the crate."""
-        functions = [it.function for it in bodies]
+    def checked(self, bodies: List[WrongBody], texts: Texts, words: List[str]) -> List[Verdict]:
+        """Checks the functions of these wrong bodies, with all of these in a crate of these texts."""
+        functions, edited = [it.function for it in bodies], texts  # type: List[str], Optional[Texts]
+        for it in bodies:
+            edited = it.edited(edited) if edited else None
+        if not edited:
+            return [(False, "BAD EDIT: it edits more than its function") for _ in bodies]
         with tempfile.TemporaryDirectory(prefix="must-fail-") as room:
-            self.write(room)
-            lines = said_of(room, self.crate, [word for it in functions for word in ("--only", it)], functions)
-            return [judged(self.crate.name, it, self.texts, lines) for it in bodies]
+            self.write(room, edited)
+            lines = said_of(room, self.crate, [*words, *[word for it in functions for word in ("--only", it)]], functions)
+            return [judged(self.crate.name, it, texts, lines) for it in bodies]
+
+    def checked_twice(self, bodies: List[WrongBody]) -> List[Verdict]:
+        """Checks the functions of these wrong bodies without those that they call, and then with these if that doesn't reject one."""
+        holed = with_holes(self.crate.name, self.texts, [it.function for it in bodies])
+        found = self.checked(bodies, holed, ["--allow-holes"])
+        left = [it for it, (is_refused, _) in zip(bodies, found) if not is_refused]
+        again = iter(self.checked(left, self.texts, []) if left else [])
+        return [verdict if verdict[0] else next(again) for verdict in found]
 
     def verdicts(self) -> List[Verdict]:
         """Tries them. Returns for each whether it is rejected, and the message to print."""
         if not self.edited:
             return [(False, "BAD EDIT: an 'old:' text isn't in its file exactly once") for _ in self.bodies]
         if not is_searched(self.bodies[0], self.texts):
-            return self.checked(self.bodies)
+            return self.checked_twice(self.bodies)
         found = self.searched()
         left = [it for it, verdict in zip(self.bodies, found) if verdict is None]
-        by_check = iter(self.checked(left) if left else [])
+        by_check = iter(self.checked_twice(left) if left else [])
         return [verdict or next(by_check) for verdict in found]
 
     def judge(self, say: Callable[[str], None]) -> Tuple[int, int]:

@@ -1,6 +1,6 @@
 //! Lines of tools: what they say, and the words that they are written back as.
 
-ghost use Rattle.std.specs.Prelude.{◌≡◌, [], IfOk, map, string_bytes};
+ghost use Rattle.std.specs.Prelude.{◌≡◌, [], IfOk, Ok, map, string_bytes};
 ghost use Rattle.texts.specs.Fault.{UnlessMemory};
 ghost use Rattle.compilers.specs.Compiler.{reading_of};
 ghost use Rattle.c_lines.specs.LineCalls.{line_seen};
@@ -27,12 +27,12 @@ use texts::fault::Fault;
 use texts::text::Text;
 
 // What a compiler reads a line as.
-fn read_with<C: CCompilerImpl>(
+fn read_with<C: CCompilerImpl + Drop>(
     alloc: Global,
-    compiler: &C,
+    compiler: C,
     line: &Line<'_>,
 ) -> Result<CompilerArguments<ParsedArguments>, AllocError>
-    ensures { IfOk result (λ r. reading_of r ≡ C.reading compiler.now line.now.words line.now.cwd.now line.now.variables) }
+    ensures { IfOk result (λ r. reading_of r ≡ C.reading compiler line.now.words line.now.cwd.now line.now.variables) }
 {
     let variables = line.variables.as_slice();
     compiler.parse_arguments(alloc, line.words.as_slice(), line.cwd, variables)
@@ -57,12 +57,12 @@ pub(crate) fn read_by(
     ensures { IfOk result (λ r. reading_of r ≡ spec.read_by tool (line_seen line.now)) }
 {
     match tool {
-        LineTool::Cicc => read_with(alloc, &Cicc { version: None }, line),
-        LineTool::Ptxas => read_with(alloc, &Ptxas { version: None }, line),
-        LineTool::CudaFe => read_with(alloc, &CudaFE { version: None }, line),
-        LineTool::Nvcc => read_with(alloc, &Nvcc::gcc(), line),
-        LineTool::Nvc => read_with(alloc, &nvhpc(false), line),
-        LineTool::Nvcxx => read_with(alloc, &nvhpc(true), line),
+        LineTool::Cicc => read_with(alloc, Cicc { version: None }, line),
+        LineTool::Ptxas => read_with(alloc, Ptxas { version: None }, line),
+        LineTool::CudaFe => read_with(alloc, CudaFE { version: None }, line),
+        LineTool::Nvcc => read_with(alloc, Nvcc::gcc(), line),
+        LineTool::Nvc => read_with(alloc, nvhpc(false), line),
+        LineTool::Nvcxx => read_with(alloc, nvhpc(true), line),
     }
 }
 
@@ -124,8 +124,15 @@ fn json_of_reading(
 fn json_by(alloc: Global, tool: LineTool, line: &Line<'_>) -> Result<Outcome, AllocError>
     ensures { IfOk result (λ outcome. outcome ≡ spec.json_by tool (line_seen line.now)) }
 {
-    let reading = read_by(alloc, tool, line)?;
-    json_of_reading(alloc, &reading)
+    match read_by(alloc, tool, line) {
+        Ok(reading) => {
+            let outcome = json_of_reading(alloc, &reading);
+            // Dropped by a call: see "Explicit drops" in docs/ARCHITECTURE.md.
+            drop(reading);
+            outcome
+        }
+        Err(fault) => Err(fault),
+    }
 }
 
 // The places of a line: its own path of the input, and no directory.
@@ -139,12 +146,18 @@ fn places_of(alloc: Global, parsed: &ParsedArguments) -> Result<Places, AllocErr
 }
 
 // A list of words.
-fn listed(alloc: Global, words: &[String]) -> Result<Outcome, AllocError>
-    ensures { IfOk result (λ outcome. outcome ≡ of_texts (map string_bytes words.now)) }
+fn listed(alloc: Global, words: &[String]) -> Result<Outcome, Fault>
+    ensures { UnlessMemory result (Ok (of_texts (map string_bytes words.now))) }
 {
     let mut outcome = Outcome::new(alloc);
-    outcome.push_all(words)?;
-    Ok(outcome)
+    match outcome.push_all(words) {
+        Ok(()) => Ok(outcome),
+        Err(_) => {
+            // Dropped by a call: see "Explicit drops" in docs/ARCHITECTURE.md.
+            drop(outcome);
+            Err(Fault::Memory)
+        }
+    }
 }
 
 // The words that a compiler writes arguments back as.
@@ -161,10 +174,34 @@ where
 {
     let places = places_of(alloc, parsed)?;
     let variables = line.variables.as_slice();
-    let (command, _) = compiler.generate_compile_commands(
+    let written = compiler.generate_compile_commands(
         alloc, "", parsed, line.cwd, variables, &places,
-    )?;
-    Ok(listed(alloc, command.get_arguments())?)
+    );
+    // Dropped by a call: see "Explicit drops" in docs/ARCHITECTURE.md.
+    drop(places);
+    match written {
+        Ok(written) => {
+            let words = listed(alloc, written.0.get_arguments());
+            drop(written);
+            words
+        }
+        Err(fault) => Err(fault),
+    }
+}
+
+// The words that a compiler writes arguments back as, given the compiler.
+fn words_of<C: CCompilerImpl + Drop>(
+    alloc: Global,
+    compiler: C,
+    line: &Line<'_>,
+    parsed: &ParsedArguments,
+) -> Result<Outcome, Fault>
+where
+    C::Command: Drop,
+    ensures { UnlessMemory result (spec.words_told C.Command.arguments
+        (C.writing compiler [] parsed.now line.now.cwd.now line.now.variables (spec.places_of parsed.now))) }
+{
+    words_with(alloc, &compiler, line, parsed)
 }
 
 // The words that a tool writes arguments back as.
@@ -177,12 +214,12 @@ fn words_by(
     ensures { UnlessMemory result (spec.words_by tool (line_seen line.now) parsed.now) }
 {
     match tool {
-        LineTool::Cicc => words_with(alloc, &Cicc { version: None }, line, parsed),
-        LineTool::Ptxas => words_with(alloc, &Ptxas { version: None }, line, parsed),
-        LineTool::CudaFe => words_with(alloc, &CudaFE { version: None }, line, parsed),
-        LineTool::Nvcc => words_with(alloc, &Nvcc::gcc(), line, parsed),
-        LineTool::Nvc => words_with(alloc, &nvhpc(false), line, parsed),
-        LineTool::Nvcxx => words_with(alloc, &nvhpc(true), line, parsed),
+        LineTool::Cicc => words_of(alloc, Cicc { version: None }, line, parsed),
+        LineTool::Ptxas => words_of(alloc, Ptxas { version: None }, line, parsed),
+        LineTool::CudaFe => words_of(alloc, CudaFE { version: None }, line, parsed),
+        LineTool::Nvcc => words_of(alloc, Nvcc::gcc(), line, parsed),
+        LineTool::Nvc => words_of(alloc, nvhpc(false), line, parsed),
+        LineTool::Nvcxx => words_of(alloc, nvhpc(true), line, parsed),
     }
 }
 
@@ -219,17 +256,30 @@ fn words_of_reading(
 fn rewritten_by(alloc: Global, tool: LineTool, line: &Line<'_>) -> Result<Outcome, AllocError>
     ensures { IfOk result (λ outcome. outcome ≡ spec.rewritten_by tool (line_seen line.now)) }
 {
-    let reading = read_by(alloc, tool, line)?;
-    words_of_reading(alloc, tool, line, &reading)
+    match read_by(alloc, tool, line) {
+        Ok(reading) => {
+            let outcome = words_of_reading(alloc, tool, line, &reading);
+            // Dropped by a call: see "Explicit drops" in docs/ARCHITECTURE.md.
+            drop(reading);
+            outcome
+        }
+        Err(fault) => Err(fault),
+    }
 }
 
 // The JSON of a call's line.
 fn json_outcome(alloc: Global, call: &LineCall<'_>) -> Result<Outcome, AllocError>
     ensures { IfOk result (λ outcome. outcome ≡ spec.json_outcome call.now) }
 {
-    match line_in(alloc, call)? {
-        Ok(found) => json_by(alloc, found.tool, &found.line),
-        Err(status) => refused(alloc, status),
+    match line_in(alloc, call) {
+        Ok(Ok(found)) => {
+            let outcome = json_by(alloc, found.tool, &found.line);
+            // Dropped by a call: see "Explicit drops" in docs/ARCHITECTURE.md.
+            drop(found);
+            outcome
+        }
+        Ok(Err(status)) => refused(alloc, status),
+        Err(fault) => Err(fault),
     }
 }
 
@@ -237,9 +287,15 @@ fn json_outcome(alloc: Global, call: &LineCall<'_>) -> Result<Outcome, AllocErro
 fn words_outcome(alloc: Global, call: &LineCall<'_>) -> Result<Outcome, AllocError>
     ensures { IfOk result (λ outcome. outcome ≡ spec.words_outcome call.now) }
 {
-    match line_in(alloc, call)? {
-        Ok(found) => rewritten_by(alloc, found.tool, &found.line),
-        Err(status) => refused(alloc, status),
+    match line_in(alloc, call) {
+        Ok(Ok(found)) => {
+            let outcome = rewritten_by(alloc, found.tool, &found.line);
+            // Dropped by a call: see "Explicit drops" in docs/ARCHITECTURE.md.
+            drop(found);
+            outcome
+        }
+        Ok(Err(status)) => refused(alloc, status),
+        Err(fault) => Err(fault),
     }
 }
 

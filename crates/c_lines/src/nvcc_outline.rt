@@ -1,11 +1,11 @@
 //! Lines of nvcc: what to run for a plan of one.
 
-ghost use Rattle.std.specs.Prelude.{◌≡◌, IfOk, Result, option_map};
+ghost use Rattle.std.specs.Prelude.{◌≡◌, Err, IfOk, OnOk, Result, option_map};
 ghost use Rattle.texts.specs.declared.fault.Fault.{Fault};
 ghost use Rattle.texts.specs.Fault.{UnlessMemory};
 ghost use Rattle.nvcc_calls.specs.declared.answer.Answer.{Answer};
 ghost use Rattle.c_lines.specs.LineCalls.{line_seen};
-ghost use Rattle.c_texts.specs.Outcomes.{GivesList, of_texts};
+ghost use Rattle.c_texts.specs.Outcomes.{GivesList, of_texts, with_texts};
 ghost use Rattle.c_lines.specs.NvccOutline as spec;
 
 use crate::line_call::{Line, line_of};
@@ -53,18 +53,31 @@ fn tools_of<'a>(tmp: &InputText<'a>, nvcc: &InputText<'a>) -> Option<Tools<'a>>
     })
 }
 
+// Adds the texts of what an nvcc line says.
+fn push_texts(texts: &mut Outcome, outline: &Outline) -> Result<(), AllocError>
+    ensures { OnOk result (texts.new ≡ with_texts texts.old (spec.texts_of outline.now)) }
+{
+    texts.push(outline.dependencies.as_str())?;
+    texts.push(outline.first.as_str())?;
+    texts.push(outline.second.as_str())?;
+    texts.push(outline.flag.as_str())?;
+    texts.push(outline.jobs.as_str())?;
+    texts.push(outline.keep_dir.as_str())
+}
+
 // What an nvcc line says, as a list.
 fn listed(alloc: Global, outline: &Outline) -> Result<Outcome, AllocError>
     ensures { IfOk result (λ outcome. outcome ≡ of_texts (spec.texts_of outline.now)) }
 {
     let mut outcome = Outcome::new(alloc);
-    outcome.push(outline.dependencies.as_str())?;
-    outcome.push(outline.first.as_str())?;
-    outcome.push(outline.second.as_str())?;
-    outcome.push(outline.flag.as_str())?;
-    outcome.push(outline.jobs.as_str())?;
-    outcome.push(outline.keep_dir.as_str())?;
-    Ok(outcome)
+    match push_texts(&mut outcome, outline) {
+        Ok(()) => Ok(outcome),
+        Err(fault) => {
+            // Dropped by a call: see "Explicit drops" in docs/ARCHITECTURE.md.
+            drop(outcome);
+            Err(fault)
+        }
+    }
 }
 
 // The refusal of a line that goes to nvcc.
@@ -85,14 +98,32 @@ fn outcome_of(alloc: Global, answer: &Answer) -> Result<Outcome, AllocError>
     }
 }
 
+// The outcome of a fault.
+fn told_fault(alloc: Global, fault: &Fault) -> Result<Outcome, AllocError>
+    ensures { (expected : Result Answer Fault) → UnlessMemory (Err fault.now) expected → IfOk result (λ outcome. outcome ≡ spec.told expected) }
+{
+    match fault {
+        Fault::Memory => Err(AllocError),
+        _ => failed(alloc, fault),
+    }
+}
+
 // The outcome of an answer, or of a fault.
 fn told(alloc: Global, answer: Result<Answer, Fault>) -> Result<Outcome, AllocError>
     ensures { (expected : Result Answer Fault) → UnlessMemory answer expected → IfOk result (λ outcome. outcome ≡ spec.told expected) }
 {
     match answer {
-        Ok(answer) => outcome_of(alloc, &answer),
-        Err(Fault::Memory) => Err(AllocError),
-        Err(fault) => failed(alloc, &fault),
+        Ok(answer) => {
+            let outcome = outcome_of(alloc, &answer);
+            // Dropped by a call: see "Explicit drops" in docs/ARCHITECTURE.md.
+            drop(answer);
+            outcome
+        }
+        Err(fault) => {
+            let outcome = told_fault(alloc, &fault);
+            drop(fault);
+            outcome
+        }
     }
 }
 
@@ -119,10 +150,16 @@ fn valid_outcome(alloc: Global, call: &NvccLineCall<'_>) -> Result<Outcome, Allo
     let Some(tools) = tools_of(&call.tmp, &call.nvcc) else {
         return refused(alloc, Status::NotUtf8);
     };
-    let Some(line) = line_of(alloc, &call.cwd, call.words, call.variables)? else {
-        return refused(alloc, Status::NotUtf8);
-    };
-    outcome_at(alloc, tools, &line)
+    match line_of(alloc, &call.cwd, call.words, call.variables) {
+        Ok(Some(line)) => {
+            let outcome = outcome_at(alloc, tools, &line);
+            // Dropped by a call: see "Explicit drops" in docs/ARCHITECTURE.md.
+            drop(line);
+            outcome
+        }
+        Ok(None) => refused(alloc, Status::NotUtf8),
+        Err(fault) => Err(fault),
+    }
 }
 
 // What the line of a call says.

@@ -39,20 +39,33 @@ fn recorded(
 fn recorded_by(alloc: Global, tool: LineTool, line: &Line<'_>) -> Result<RecordedLine, AllocError>
     ensures { IfOk result (λ recorded. recorded ≡ spec.recorded (spec.parsed_of (read_by tool (line_seen line.now)))) }
 {
-    let reading = read_by(alloc, tool, line)?;
-    recorded(alloc, &reading)
+    match read_by(alloc, tool, line) {
+        Ok(reading) => {
+            let records = recorded(alloc, &reading);
+            // Dropped by a call: see "Explicit drops" in docs/ARCHITECTURE.md.
+            drop(reading);
+            records
+        }
+        Err(fault) => Err(fault),
+    }
 }
 
 // The records of a call's line.
 fn records_outcome(alloc: Global, call: &LineCall<'_>) -> Result<RecordedLine, AllocError>
     ensures { IfOk result (λ recorded. recorded ≡ spec.line_records call.now) }
 {
-    match line_in(alloc, call)? {
-        Ok(found) => recorded_by(alloc, found.tool, &found.line),
-        Err(status) => {
+    match line_in(alloc, call) {
+        Ok(Ok(found)) => {
+            let records = recorded_by(alloc, found.tool, &found.line);
+            // Dropped by a call: see "Explicit drops" in docs/ARCHITECTURE.md.
+            drop(found);
+            records
+        }
+        Ok(Err(status)) => {
             let refusal = refused(alloc, status)?;
             Ok(RecordedLine::of_outcome(alloc, refusal))
         }
+        Err(fault) => Err(fault),
     }
 }
 

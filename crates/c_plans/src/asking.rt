@@ -42,20 +42,31 @@ fn lookups_by(alloc: Global, runs: &ParsedRuns, cwd: &str) -> Result<Outcome, Al
 fn lookups_told(
     alloc: Global,
     limit: usize,
-    runs: Result<ParsedRuns, LimitedFault>,
+    runs: &Result<ParsedRuns, LimitedFault>,
     cwd: &str,
 ) -> Result<Outcome, AllocError>
-    ensures { (expected : Result ParsedRuns LimitedFault) → UnlessMemoryWithin runs expected
+    ensures { (expected : Result ParsedRuns LimitedFault) → UnlessMemoryWithin runs.now expected
         → IfOk result (λ outcome. outcome ≡ spec.lookups_told limit expected cwd.now) }
 {
     match runs {
-        Ok(runs) => lookups_by(alloc, &runs, cwd),
+        Ok(runs) => lookups_by(alloc, runs, cwd),
         Err(LimitedFault::Fault(Fault::Memory)) => Err(AllocError),
-        Err(fault) => failed_within(alloc, limit, &fault),
+        Err(fault) => failed_within(alloc, limit, fault),
     }
 }
 
-// The look-ups of two dry runs within a limit.
+// The look-ups of two dry runs.
+fn lookups_from(alloc: Global, dry1: &[u8], dry2: &[u8], cwd: &str) -> Result<Outcome, AllocError>
+    ensures { IfOk result (λ outcome. outcome ≡ spec.lookups_from dry1.now dry2.now cwd.now) }
+{
+    let runs = parse_dry_runs(alloc, dry1, dry2)?;
+    let outcome = lookups_by(alloc, &runs, cwd);
+    // Dropped by a call: see "Explicit drops" in docs/ARCHITECTURE.md.
+    drop(runs);
+    outcome
+}
+
+// The same within a limit.
 fn lookups_fitting(
     alloc: Global,
     dry1: &[u8],
@@ -66,10 +77,13 @@ fn lookups_fitting(
     ensures { IfOk result (λ outcome. outcome ≡ spec.lookups_within limit dry1.now dry2.now cwd.now) }
 {
     if limit == 0 {
-        return lookups_by(alloc, &parse_dry_runs(alloc, dry1, dry2)?, cwd);
+        return lookups_from(alloc, dry1, dry2, cwd);
     }
     let runs = parse_within(alloc, dry1, dry2, cwd, limit);
-    lookups_told(alloc, limit, runs, cwd)
+    let outcome = lookups_told(alloc, limit, &runs, cwd);
+    // Dropped by a call: see "Explicit drops" in docs/ARCHITECTURE.md.
+    drop(runs);
+    outcome
 }
 
 // The same, unless the working directory is odd.

@@ -257,6 +257,26 @@ fn push_dropped(
     Ok(())
 }
 
+// Fills empty records with a plan. `room` is for texts that the caller adds.
+fn push_plan(
+    recorded: &mut Recorded,
+    planned: &PlanWithOrigins,
+    room: Room,
+) -> Result<(), AllocError>
+    requires { recorded.now ≡ spec.without_records (of_texts []) }
+    ensures { OnOk result (recorded.new ≡ spec.records_of planned.now) }
+{
+    let groups = planned.plan.groups.as_slice();
+    let origins = planned.origins.as_slice();
+    let variables = shared_of(groups);
+    let room = room_with(room, variables, &planned.plan);
+    recorded.reserve(room, groups.len(), origins.len())?;
+    let texts = recorded.share(variables)?;
+    push_groups(recorded, origins, Shared { variables, texts }, groups)?;
+    push_dropped(recorded, groups.len(), planned.plan.dropped.as_slice())?;
+    Ok(())
+}
+
 /// A plan as records. `room` is for texts that the caller adds.
 pub fn records_of(
     alloc: Global,
@@ -265,14 +285,13 @@ pub fn records_of(
 ) -> Result<Recorded, AllocError>
     ensures { IfOk result (λ recorded. recorded ≡ spec.records_of planned.now) }
 {
-    let groups = planned.plan.groups.as_slice();
-    let origins = planned.origins.as_slice();
     let mut recorded = Recorded::of_outcome(alloc, Outcome::new(alloc));
-    let variables = shared_of(groups);
-    let room = room_with(room, variables, &planned.plan);
-    recorded.reserve(room, groups.len(), origins.len())?;
-    let texts = recorded.share(variables)?;
-    push_groups(&mut recorded, origins, Shared { variables, texts }, groups)?;
-    push_dropped(&mut recorded, groups.len(), planned.plan.dropped.as_slice())?;
-    Ok(recorded)
+    match push_plan(&mut recorded, planned, room) {
+        Ok(()) => Ok(recorded),
+        Err(fault) => {
+            // Dropped by a call: see "Explicit drops" in docs/ARCHITECTURE.md.
+            drop(recorded);
+            Err(fault)
+        }
+    }
 }

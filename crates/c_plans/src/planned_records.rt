@@ -6,7 +6,7 @@ ghost use Rattle.dry_runs.specs.Limit.{UnlessMemoryWithin};
 ghost use Rattle.plans.specs.declared.origins.PlanWithOrigins.{PlanWithOrigins};
 ghost use Rattle.c_texts.specs.Outcomes as outcomes;
 ghost use Rattle.c_plans.specs.Limits.{UnlessMemoryIsWithin, failed_within};
-ghost use Rattle.c_plans.specs.OddDirectories.{odd_seen, refused_directory};
+ghost use Rattle.c_plans.specs.OddDirectories.{odd_directory as odd_of, odd_seen, refused_directory};
 ghost use Rattle.c_plans.specs.PlanCalls.{texts_seen};
 ghost use Rattle.c_plans.specs.PlanRecords as spec;
 ghost use Rattle.c_plans.specs.Records as records;
@@ -47,15 +47,15 @@ fn failed_records(alloc: Global, limit: usize, fault: &LimitedFault) -> Result<R
 fn recorded(
     alloc: Global,
     limit: usize,
-    plan: Result<PlanWithOrigins, LimitedFault>,
+    plan: &Result<PlanWithOrigins, LimitedFault>,
 ) -> Result<Recorded, AllocError>
-    ensures { (expected : Result PlanWithOrigins LimitedFault) → UnlessMemoryWithin plan expected
+    ensures { (expected : Result PlanWithOrigins LimitedFault) → UnlessMemoryWithin plan.now expected
         → IfOk result (λ recorded. recorded ≡ spec.recorded limit expected) }
 {
     match plan {
-        Ok(plan) => records_of(alloc, &plan, Room::none()),
+        Ok(plan) => records_of(alloc, plan, Room::none()),
         Err(LimitedFault::Fault(Fault::Memory)) => Err(AllocError),
-        Err(fault) => failed_records(alloc, limit, &fault),
+        Err(fault) => failed_records(alloc, limit, fault),
     }
 }
 
@@ -78,7 +78,27 @@ fn records_by(
     ensures { IfOk result (λ recorded. recorded ≡ spec.records_by call.now host (texts_seen texts.entry) tables.now) }
 {
     let plan = planned(alloc, call, host, texts, tables);
-    recorded(alloc, call.limit, plan)
+    let recorded = recorded(alloc, call.limit, &plan);
+    // Dropped by a call: see "Explicit drops" in docs/ARCHITECTURE.md.
+    drop(plan);
+    recorded
+}
+
+// The same, unless a directory is odd.
+fn records_at(
+    alloc: Global,
+    call: &PlanCall<'_>,
+    host: NvccHostCompiler,
+    texts: Texts<'_>,
+    tables: &Tables,
+) -> Result<Recorded, AllocError>
+    ensures { IfOk result (λ recorded. recorded ≡ spec.unless_odd (odd_of (texts_seen texts.entry))
+        (spec.records_by call.now host (texts_seen texts.entry) tables.now)) }
+{
+    match odd_directory(texts) {
+        Some(odd) => refused_records_of(alloc, odd),
+        None => records_by(alloc, call, host, texts, tables),
+    }
 }
 
 // A call with numbers that have a meaning.
@@ -95,10 +115,10 @@ fn records_with(
     let Some(tables) = tables_of(alloc, texts.cwd, call)? else {
         return refused_records(alloc, Status::NotUtf8);
     };
-    match odd_directory(texts) {
-        Some(odd) => refused_records_of(alloc, odd),
-        None => records_by(alloc, call, host, texts, &tables),
-    }
+    let recorded = records_at(alloc, call, host, texts, &tables);
+    // Dropped by a call: see "Explicit drops" in docs/ARCHITECTURE.md.
+    drop(tables);
+    recorded
 }
 
 // A call.

@@ -7,6 +7,8 @@ ghost use Rattle.dry_runs.specs.declared.limit.LimitedFault.{LimitedFault};
 ghost use Rattle.dry_runs.specs.Limit.{UnlessMemoryWithin};
 ghost use Rattle.plans.specs.declared.origins.PlanWithOrigins.{PlanWithOrigins};
 ghost use Rattle.c_texts.specs.Outcomes.{GivesText};
+ghost use Rattle.c_plans.specs.Limits.{within_limit, without_limit};
+ghost use Rattle.c_plans.specs.OddDirectories.{odd_directory as odd_of, unless_odd};
 ghost use Rattle.c_plans.specs.PlanCalls.{texts_seen};
 ghost use Rattle.c_plans.specs.Planning as spec;
 
@@ -36,6 +38,36 @@ fn suffixes_of(alloc: Global, further: &[String]) -> Result<Suffixes, Fault>
     }
 }
 
+// The plan of a call with such suffixes, or why there is none.
+fn planned_with(
+    alloc: Global,
+    call: &PlanCall<'_>,
+    host: NvccHostCompiler,
+    texts: Texts<'_>,
+    tables: &Tables,
+    suffixes: &Suffixes,
+) -> Result<PlanWithOrigins, LimitedFault>
+    ensures { UnlessMemoryWithin result (within_limit call.now.limit
+        (without_limit (spec.planned_whole call.now host (texts_seen texts.entry) tables.now suffixes.now))
+        (spec.planned_within call.now host (texts_seen texts.entry) tables.now suffixes.now)) }
+{
+    let (dry1, dry2, which) = (call.dry1.bytes, call.dry2.bytes, &tables.found);
+    let nvcc_call = CallToPlan {
+        cwd: texts.cwd,
+        tmp: texts.tmp,
+        compilation_flag: texts.flag,
+        keep_dir: if_flag(call.keeps, texts.keep_dir),
+        env_vars: tables.variables.as_slice(),
+        host_compiler: host,
+        suffixes,
+    };
+    if call.limit != 0 {
+        return plan_with_origins_within(alloc, dry1, dry2, &nvcc_call, which, call.limit);
+    }
+    let planned = plan_with_origins(alloc, dry1, dry2, &nvcc_call, which)?;
+    Ok(planned)
+}
+
 /// The plan of a call, or why there is none.
 pub fn planned(
     alloc: Global,
@@ -47,21 +79,10 @@ pub fn planned(
     ensures { UnlessMemoryWithin result (spec.planned call.now host (texts_seen texts.entry) tables.now) }
 {
     let suffixes = suffixes_of(alloc, tables.suffixes.as_slice())?;
-    let (dry1, dry2, which) = (call.dry1.bytes, call.dry2.bytes, &tables.found);
-    let nvcc_call = CallToPlan {
-        cwd: texts.cwd,
-        tmp: texts.tmp,
-        compilation_flag: texts.flag,
-        keep_dir: if_flag(call.keeps, texts.keep_dir),
-        env_vars: tables.variables.as_slice(),
-        host_compiler: host,
-        suffixes: &suffixes,
-    };
-    if call.limit != 0 {
-        return plan_with_origins_within(alloc, dry1, dry2, &nvcc_call, which, call.limit);
-    }
-    let planned = plan_with_origins(alloc, dry1, dry2, &nvcc_call, which)?;
-    Ok(planned)
+    let planned = planned_with(alloc, call, host, texts, tables, &suffixes);
+    // Dropped by a call: see "Explicit drops" in docs/ARCHITECTURE.md.
+    drop(suffixes);
+    planned
 }
 
 // A plan in a form, or the fault of a plan that there isn't within a limit.
@@ -70,15 +91,15 @@ fn told(
     limit: usize,
     form: Format,
     texts: Texts<'_>,
-    plan: Result<PlanWithOrigins, LimitedFault>,
+    plan: &Result<PlanWithOrigins, LimitedFault>,
 ) -> Result<Outcome, AllocError>
-    ensures { (expected : Result PlanWithOrigins LimitedFault) → UnlessMemoryWithin plan expected
+    ensures { (expected : Result PlanWithOrigins LimitedFault) → UnlessMemoryWithin plan.now expected
         → IfOk result (λ outcome. outcome ≡ spec.told limit form (texts_seen texts.entry) expected) }
 {
     match plan {
-        Ok(plan) => outcome_in(alloc, form, texts.cwd, texts.tmp, texts.flag, &plan),
+        Ok(plan) => outcome_in(alloc, form, texts.cwd, texts.tmp, texts.flag, plan),
         Err(LimitedFault::Fault(Fault::Memory)) => Err(AllocError),
-        Err(fault) => failed_within(alloc, limit, &fault),
+        Err(fault) => failed_within(alloc, limit, fault),
     }
 }
 
@@ -94,7 +115,28 @@ fn outcome_by(
     ensures { IfOk result (λ outcome. outcome ≡ spec.outcome_by call.now form host (texts_seen texts.entry) tables.now) }
 {
     let plan = planned(alloc, call, host, texts, tables);
-    told(alloc, call.limit, form, texts, plan)
+    let outcome = told(alloc, call.limit, form, texts, &plan);
+    // Dropped by a call: see "Explicit drops" in docs/ARCHITECTURE.md.
+    drop(plan);
+    outcome
+}
+
+// The same, unless a directory is odd.
+fn outcome_at(
+    alloc: Global,
+    call: &PlanCall<'_>,
+    form: Format,
+    host: NvccHostCompiler,
+    texts: Texts<'_>,
+    tables: &Tables,
+) -> Result<Outcome, AllocError>
+    ensures { IfOk result (λ outcome. outcome ≡ unless_odd (odd_of (texts_seen texts.entry))
+        (spec.outcome_by call.now form host (texts_seen texts.entry) tables.now)) }
+{
+    match odd_directory(texts) {
+        Some(odd) => refused_directory(alloc, odd),
+        None => outcome_by(alloc, call, form, host, texts, tables),
+    }
 }
 
 // A call with numbers that have a meaning.
@@ -112,10 +154,10 @@ fn valid_outcome(
     let Some(tables) = tables_of(alloc, texts.cwd, call)? else {
         return refused(alloc, Status::NotUtf8);
     };
-    match odd_directory(texts) {
-        Some(odd) => refused_directory(alloc, odd),
-        None => outcome_by(alloc, call, form, host, texts, &tables),
-    }
+    let outcome = outcome_at(alloc, call, form, host, texts, &tables);
+    // Dropped by a call: see "Explicit drops" in docs/ARCHITECTURE.md.
+    drop(tables);
+    outcome
 }
 
 // A call, and the number of a form.

@@ -68,8 +68,10 @@ fn bad_line_of(
     ensures { IfOk result (λ line. line ≡ bad_line (answer_in given.entry.found.now) given.entry.cwd.now (parsed_of run dry_run.now)) }
 {
     let parsed = parse_dry_run(alloc, dry_run, run)?;
-    let line = parsed.bad_line(alloc, given.cwd, given.found)?;
-    Ok(line)
+    let line = parsed.bad_line(alloc, given.cwd, given.found);
+    // Dropped by a call: see "Explicit drops" in docs/ARCHITECTURE.md.
+    drop(parsed);
+    line
 }
 
 // The first bad line of the first dry run, or of the second if the first has none.

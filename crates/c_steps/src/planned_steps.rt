@@ -5,7 +5,8 @@ ghost use Rattle.dry_runs.specs.declared.limit.LimitedFault.{LimitedFault};
 ghost use Rattle.dry_runs.specs.Limit.{UnlessMemoryWithin};
 ghost use Rattle.plans.specs.declared.origins.PlanWithOrigins.{PlanWithOrigins};
 ghost use Rattle.c_plans.specs.PlanCalls.{texts_seen};
-ghost use Rattle.c_steps.specs.Fitness.{misfit_seen};
+ghost use Rattle.c_texts.specs.Memory.{bytes_of};
+ghost use Rattle.c_steps.specs.Fitness.{misfit_of_call as misfit_expected, misfit_seen};
 ghost use Rattle.c_steps.specs.Places.{given_seen};
 ghost use Rattle.c_steps.specs.PlanSteps as spec;
 ghost use Rattle.c_steps.specs.StepBuffers.{GivesSteps};
@@ -75,15 +76,15 @@ fn stepped(
     alloc: Global,
     limit: usize,
     given: Given<'_>,
-    plan: Result<PlanWithOrigins, LimitedFault>,
+    plan: &Result<PlanWithOrigins, LimitedFault>,
 ) -> Result<Stepped, AllocError>
-    ensures { (expected : Result PlanWithOrigins LimitedFault) → UnlessMemoryWithin plan expected
+    ensures { (expected : Result PlanWithOrigins LimitedFault) → UnlessMemoryWithin plan.now expected
         → IfOk result (λ stepped. stepped ≡ spec.stepped limit (given_seen given.entry) expected) }
 {
     match plan {
-        Ok(plan) => steps_unless_empty(alloc, &plan),
+        Ok(plan) => steps_unless_empty(alloc, plan),
         Err(LimitedFault::Fault(Fault::Memory)) => Err(AllocError),
-        Err(fault) => failed_steps(alloc, limit, given, &fault),
+        Err(fault) => failed_steps(alloc, limit, given, fault),
     }
 }
 
@@ -104,7 +105,28 @@ fn steps_by(
         found: &tables.found,
     };
     let plan = planned(alloc, call, host, texts, tables);
-    stepped(alloc, call.limit, given, plan)
+    let stepped = stepped(alloc, call.limit, given, &plan);
+    // Dropped by a call: see "Explicit drops" in docs/ARCHITECTURE.md.
+    drop(plan);
+    stepped
+}
+
+// The same, unless the texts don't fit.
+fn steps_if_fit(
+    alloc: Global,
+    call: &PlanCall<'_>,
+    host: NvccHostCompiler,
+    texts: Texts<'_>,
+    tables: &Tables,
+) -> Result<Stepped, AllocError>
+    ensures { IfOk result (λ stepped. stepped ≡ spec.unless_unfit
+        (misfit_expected (bytes_of call.now.dry1) (bytes_of call.now.dry2) (texts_seen texts.entry))
+        (spec.steps_by call.now host (texts_seen texts.entry) tables.now)) }
+{
+    match misfit_of_call(call.dry1.bytes, call.dry2.bytes, texts) {
+        Some(misfit) => unfit(alloc, misfit),
+        None => steps_by(alloc, call, host, texts, tables),
+    }
 }
 
 // A call whose numbers have a meaning.
@@ -121,10 +143,10 @@ fn steps_with(
     let Some(tables) = tables_of(alloc, texts.cwd, call)? else {
         return refused_in(alloc, Status::NotUtf8, table_field(call));
     };
-    match misfit_of_call(call.dry1.bytes, call.dry2.bytes, texts) {
-        Some(misfit) => unfit(alloc, misfit),
-        None => steps_by(alloc, call, host, texts, &tables),
-    }
+    let stepped = steps_if_fit(alloc, call, host, texts, &tables);
+    // Dropped by a call: see "Explicit drops" in docs/ARCHITECTURE.md.
+    drop(tables);
+    stepped
 }
 
 // A call.

@@ -134,6 +134,28 @@ fn put<T: Copy>(all: bool, items: &[T], memory: &mut [T])
     }
 }
 
+// Whether all parts of an answer fit into memory of the caller.
+fn all_fit(
+    stepped: &Stepped,
+    groups: &[GroupRecord],
+    commands: &[CommandRecord],
+    steps: &[StepRecord],
+    numbers: &[usize],
+    ranges: &[Range],
+    out: &[u8],
+) -> bool
+    ensures { result ≡ buffers.all_fit stepped.now
+        (record { groups = groups.now; commands = commands.now; steps = steps.now; numbers = numbers.now; ranges = ranges.now; bytes = out.now }) }
+{
+    let recorded = &stepped.recorded;
+    recorded.groups.len() <= groups.len()
+        && recorded.commands.len() <= commands.len()
+        && stepped.steps.len() <= steps.len()
+        && stepped.numbers.len() <= numbers.len()
+        && recorded.outcome.ranges().len() <= ranges.len()
+        && recorded.outcome.text().len() <= out.len()
+}
+
 // Writes all parts of an answer into memory of the caller, if all fit.
 fn tell_steps(
     stepped: &Stepped,
@@ -151,12 +173,7 @@ fn tell_steps(
     let recorded = &stepped.recorded;
     let places = recorded.outcome.ranges();
     let text = recorded.outcome.text().as_bytes();
-    let all = recorded.groups.len() <= groups.len()
-        && recorded.commands.len() <= commands.len()
-        && stepped.steps.len() <= steps.len()
-        && stepped.numbers.len() <= numbers.len()
-        && places.len() <= ranges.len()
-        && text.len() <= out.len();
+    let all = all_fit(stepped, groups, commands, steps, numbers, ranges, out);
     put(all, recorded.groups.as_slice(), groups);
     put(all, recorded.commands.as_slice(), commands);
     put(all, stepped.steps.as_slice(), steps);

@@ -116,6 +116,21 @@ fn room_of(files: &[CommandFiles]) -> Room
     room
 }
 
+// Adds the commands of a plan.
+fn push_plan(
+    alloc: Global,
+    stepped: &mut Stepped,
+    known: Known<'_>,
+    planned: &PlanWithOrigins,
+) -> Result<(), AllocError>
+    ensures { OnOk result (stepped.new
+        ≡ spec.with_extras stepped.old
+        (spec.extras_from (spec.known_seen known.entry) (length stepped.old.steps) (spec.commands_of planned.now.plan.groups))) }
+{
+    stepped.reserve(known.files.len())?;
+    push_groups(alloc, stepped, known, planned.plan.groups.as_slice())
+}
+
 // A plan as records, with what is known of its commands.
 fn with_steps(
     alloc: Global,
@@ -127,9 +142,14 @@ fn with_steps(
 {
     let recorded = records_of(alloc, planned, room_of(known.files))?;
     let mut stepped = Stepped::of_recorded(alloc, recorded);
-    stepped.reserve(known.files.len())?;
-    push_groups(alloc, &mut stepped, known, planned.plan.groups.as_slice())?;
-    Ok(stepped)
+    match push_plan(alloc, &mut stepped, known, planned) {
+        Ok(()) => Ok(stepped),
+        Err(fault) => {
+            // Dropped by a call: see "Explicit drops" in docs/ARCHITECTURE.md.
+            drop(stepped);
+            Err(fault)
+        }
+    }
 }
 
 /// A plan as records, with what each command reads, writes and needs.

@@ -15,6 +15,7 @@ use Rattle.canonical_names.specs.CanonicalNames.{AreSuffixes, core_by_all, word_
 use Rattle.canonical_names.proofs.CanonicalLemmas.{head-member, tail-member, find-found, find-only, two-ends, ends-split}
 use Rattle.canonical_names.proofs.RankLemmas.{add, bytes_eq-itself, fold-append, words-names, run-names, fold-front}
 use Rattle.canonical_names.proofs.CleanLemmas.{clean-run_is_a_map}
+use Rattle.texts.specs.Path.{joined, folder_of}
 
 -- what is told of a word, and of a command
 abbrev pub ToldWord : Type 0
@@ -78,7 +79,10 @@ module _ (suffixes : List (List ℕ)) (lawful : AreSuffixes suffixes) (names : L
       ∙ ap (λ b. bytes_eq x n || b) (any-mapped x part hx (λ m h. within m (tail-member n part m h)))
 
   pub add-mapped : (seen : List (List ℕ)) (x : List ℕ) → Contains names x → ((n : List ℕ) → Contains seen n → Contains names n) → add (map f seen) (f x) ≡ map f (add seen x)
-  add-mapped seen x hx within = grind (arith, any-mapped, map-append)
+  add-mapped seen x hx within =
+      ap (λ b. cond b (map f seen) (map f seen ++ f x ∷ [])) (any-mapped x seen hx within)
+      ∙ elim (list_any (bytes_eq x) seen) as (λ b. cond b (map f seen) (map f seen ++ f x ∷ []) ≡ map f (cond b seen (seen ++ x ∷ [])))
+      [ true ↦ refl | false ↦ sym (map-append f seen (x ∷ [])) ]
 
   -- names that were added so far are names of the run
   pub within-all : (seen xs : List (List ℕ)) → names ≡ fold add seen xs → (n : List ℕ) → Contains seen n → Contains names n
@@ -135,7 +139,8 @@ module _ (suffixes names : List (List ℕ)) where
 -- a run by what is told of it through a renaming
 module _ (suffixes : List (List ℕ)) (lawful : AreSuffixes suffixes) (names : List (List ℕ)) (f : List ℕ → List ℕ) (renaming : IsRenaming suffixes names f) where
   class-member : (word class : List ℕ) (b : Bool) → cond b None (class_of_name suffixes (core_of word)) ≡ Some class → Contains suffixes class
-  class-member word class b e = grind (arith, find-found)
+  class-member word class true e = cc
+  class-member word class false e = (find-found (ends_with nat_eq (core_of word)) suffixes class e).0
 
   core-agrees : (seen xs : List (List ℕ)) (word : List ℕ) (o : Option (List ℕ)) → class_of suffixes word ≡ o → names ≡ fold add (with_name seen (option_map (λ (_ : List ℕ). core_of word) o)) xs →
       core_by_all (map f names) (core_through f (core_of word) o) o ≡ core_by_all names (core_of word) o
@@ -144,7 +149,8 @@ module _ (suffixes : List (List ℕ)) (lawful : AreSuffixes suffixes) (names : L
       let core = core_of word in
       let hc = class-member word class (begins_with_dash core) e in
       let hn : Contains names core = within-all suffixes lawful names f renaming (add seen core) xs all core (added-member seen core) in
-      grind (arith, rank-mapped)
+      ap (λ d. joined d (canonical_file (rank class (map f names) (f core)) class)) (renaming.keeps_folder core hn)
+      ∙ ap (λ k. joined (folder_of core) (canonical_file k class)) (rank-mapped suffixes lawful names f renaming class core hc hn names (λ m h. h))
 
   words-agree : (seen words xs : List (List ℕ)) → names ≡ fold add (seen_after suffixes seen words) xs → map (word_of_told (map f names)) (map (word_through suffixes f) words) ≡ map (word_by_all suffixes names) words
   words-agree seen [] xs all = refl

@@ -100,7 +100,8 @@ module _ (suffixes : List (List ℕ)) (lawful : AreSuffixes suffixes) (names : L
 
   -- the new core of a word stays
   class-member : (word class : List ℕ) (b : Bool) → cond b None (class_of_name suffixes (core_of word)) ≡ Some class → Contains suffixes class
-  class-member word class b e = grind (arith, find-found)
+  class-member word class true e = cc
+  class-member word class false e = (find-found (ends_with nat_eq (core_of word)) suffixes class e).0
 
   core-stays : (seen xs : List (List ℕ)) (word : List ℕ) (o : Option (List ℕ)) → class_of suffixes word ≡ o → names ≡ fold add (with_name seen (option_map (λ (_ : List ℕ). core_of word) o)) xs →
       renamed_core suffixes (map f seen) (core_through f (core_of word) o) o ≡ core_by_all names (core_of word) o

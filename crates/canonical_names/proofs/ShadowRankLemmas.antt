@@ -58,7 +58,12 @@ add-out x h seen = grind (arith, push-out)
 
 fold-filtered : (xs seen : List (List ℕ)) → filter is_cicc_word (fold add seen xs) ≡ fold add (filter is_cicc_word seen) (filter is_cicc_word xs)
 fold-filtered [] seen = refl
-fold-filtered (x ∷ xs) seen = grind (arith, add, add-in, add-out, (fold-filtered xs (add seen x)))
+fold-filtered (x ∷ xs) seen =
+    fold-filtered xs (add seen x)
+    ∙ elim (is_cicc_word x) as (λ b. is_cicc_word x ≡ b → fold add (filter is_cicc_word (add seen x)) (filter is_cicc_word xs) ≡ fold add (filter is_cicc_word seen) (cond b (x ∷ filter is_cicc_word xs) (filter is_cicc_word xs))) [
+      | true ↦ λ e. ap (λ s. fold add s (filter is_cicc_word xs)) (add-in x e seen)
+      | false ↦ λ e. ap (λ s. fold add s (filter is_cicc_word xs)) (add-out x e seen)
+    ] refl
 
 rank-of_steps : (suffixes : List (List ℕ)) (commands : List CommandLine) (name : List ℕ) → is_cicc_word name ≡ true → rank (codes ".cpp1.ii") (names_of_run suffixes commands) name ≡ rank (codes ".cpp1.ii") (fold add [] (step_names suffixes commands)) name
 rank-of_steps suffixes commands name h = grind (arith, run-names, rank-filtered, add, fold-filtered)
@@ -66,7 +71,9 @@ rank-of_steps suffixes commands name h = grind (arith, run-names, rank-filtered,
 -- what holds of some names holds of the different ones among them
 all-filtered : (xs : List (List ℕ)) → list_all is_cicc_word (filter is_cicc_word xs) ≡ true
 all-filtered [] = refl
-all-filtered (x ∷ xs) = grind (arith, and_from, (all-filtered xs))
+all-filtered (x ∷ xs) =
+    elim (is_cicc_word x) as (λ b. is_cicc_word x ≡ b → list_all is_cicc_word (cond b (x ∷ filter is_cicc_word xs) (filter is_cicc_word xs)) ≡ true)
+    [ true ↦ λ e. and_from (is_cicc_word x) (list_all is_cicc_word (filter is_cicc_word xs)) e (all-filtered xs) | false ↦ λ _. all-filtered xs ] refl
 
 all-add : (test : List ℕ → Bool) (seen : List (List ℕ)) (x : List ℕ) → list_all test seen ≡ true → test x ≡ true → list_all test (add seen x) ≡ true
 all-add test seen x h k = grind (arith, all-append, and_from)

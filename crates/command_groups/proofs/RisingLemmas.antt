@@ -45,7 +45,9 @@ module _ (which : LookUp) (run : ℕ) (cwd : List ℕ) where
 
   above : (m n : ℕ) (env : List Variable) (xs : List (List ℕ)) → m < n → list_all (nat_lt m) (lines_of (meanings which run cwd env (enumerate_from n xs))) ≡ true
   above m n env [] h = refl
-  above m n env (x ∷ xs) h = grind (arith, above_with, of_line, (above m (n + 1) (environment_after which run cwd env (meaning which run cwd env (n, x))) xs (omega arith)))
+  above m n env (x ∷ xs) h =
+      above_with m n h (meaning which run cwd env (n, x)) (meanings which run cwd (environment_after which run cwd env (meaning which run cwd env (n, x))) (enumerate_from (n + 1) xs)) (of_line env (n, x))
+      (above m (n + 1) (environment_after which run cwd env (meaning which run cwd env (n, x))) xs (omega arith))
 
   rises_with : (n : ℕ) (first : Meaning) (rest : List Meaning) → LineIs n first → list_all (nat_lt n) (lines_of rest) ≡ true → Rises (lines_of rest) → Rises (lines_of (first ∷ rest))
   rises_with n first rest l h k = grind arith

@@ -360,7 +360,16 @@ module _ (suffixes : List (List ℕ)) (lawful : AreSuffixes suffixes) (s : PlanS
 
   own_filter : (cs : List CommandLine) → filter opens_file (map (of_run 1) (selected is_nvcc_stem cs)) ≡ []
   own_filter [] = refl
-  own_filter (c ∷ cs) = grind (arith, own_program, (own_filter cs))
+  own_filter (c ∷ cs) =
+      let chosen = selected is_nvcc_stem cs in
+      let rest = filter opens_file (map (of_run 1) chosen) in
+      elim (is_taken is_nvcc_stem (program_of c)) as (λ b. is_taken is_nvcc_stem (program_of c) ≡ b → filter opens_file (map (of_run 1) (cond b (c ∷ chosen) chosen)) ≡ []) [
+        | true ↦ λ e.
+            let none : opens_file (of_run 1 c) ≡ false =
+            ap (is_some_and is_file) (own_program (file_stem_of (program_of c)) e s.host_compiler (edited_by (kind_of_program (program_of c)) s.flag (words_of_command c))) in
+            ap (λ b. cond b (of_run 1 c ∷ rest) rest) none ∙ own_filter cs
+        | false ↦ λ _. own_filter cs
+      ] refl
 
   -- so one command opens it
   abbrev own : List MergedCommand

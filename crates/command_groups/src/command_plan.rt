@@ -53,6 +53,9 @@ pub fn plan_of_commands(
         labelled,
         ..
     } = grouping;
-    let planned = plan_by_labels(alloc, setting, &opened, labelled)?;
+    let planned = plan_by_labels(alloc, setting, &opened, labelled);
+    // Dropped by a call: see "Explicit drops" in docs/ARCHITECTURE.md.
+    drop(opened);
+    let planned = planned?;
     Ok(planned)
 }

@@ -176,8 +176,21 @@ pub fn plan_of_parsed<W: Which>(
         (call_seen call.now) (W.answer which.now) runs) }
 {
     let ParsedRuns { first, second } = runs;
-    let first = resolve(alloc, first, call.cwd, which)?;
-    let second = resolve(alloc, second, call.cwd, which)?;
+    let first = match resolve(alloc, first, call.cwd, which) {
+        Ok(first) => first,
+        Err(fault) => {
+            // Dropped by a call: see "Explicit drops" in docs/ARCHITECTURE.md.
+            drop(second);
+            return Err(fault);
+        }
+    };
+    let second = match resolve(alloc, second, call.cwd, which) {
+        Ok(second) => second,
+        Err(fault) => {
+            drop(first);
+            return Err(fault);
+        }
+    };
     let planned = plan_of_dry_runs(alloc, call, first, second)?;
     Ok(planned)
 }

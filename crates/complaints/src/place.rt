@@ -63,11 +63,15 @@ fn place_in<'a, L: Which>(
     ensures { IfOk result (λ place. option_map spec.place_seen place ≡ spec.place_in (L.answer which.now) cwd.now run file.now dry_run.now) }
 {
     let parsed = parse_dry_run(alloc, dry_run, run)?;
-    let Some(number) = parsed.bad_line(alloc, cwd, which)? else {
-        return Ok(None);
-    };
-    let path = Text::copy_of(alloc, parsed.path())?;
-    Ok(Some(place_at(file, dry_run, number, path)))
+    let number = parsed.bad_line(alloc, cwd, which);
+    let path = Text::copy_of(alloc, parsed.path());
+    // Dropped by a call: see "Explicit drops" in docs/ARCHITECTURE.md.
+    drop(parsed);
+    let path = path?;
+    match number? {
+        None => Ok(None),
+        Some(number) => Ok(Some(place_at(file, dry_run, number, path))),
+    }
 }
 
 /// The first bad line of the first run of a call, or that of the second if the first run has none.

@@ -19,7 +19,11 @@ use Rattle.device_lines.proofs.RereadItems.{item_fits, HasGoodWords}
 module _ {Y : Type 0} (h : Item ArgData → Option Y) where
   pub picked-common : ((b : Bool) (i : Item ArgData) → is_common (b, i) ≡ false → h i ≡ None) → (b : Bool) (is : List (Item ArgData)) → filter_map h (common_after b is) ≡ filter_map h is
   picked-common other b [] = refl
-  picked-common other b (i ∷ is) = grind (arith, (picked-common other (is_unknown i) is))
+  picked-common other b (i ∷ is) =
+      let rest = filter is_common (beside (is_unknown i) is) in
+      let later = picked-common other (is_unknown i) is in
+      elim (is_common (b, i)) as (λ t. is_common (b, i) ≡ t → filter_map h (map (λ p. p.1) (cond t ((b, i) ∷ rest) rest)) ≡ cons_option (h i) (filter_map h is))
+      [ true ↦ λ e. ap (cons_option (h i)) later | false ↦ λ e. later ∙ ap (λ o. cons_option o (filter_map h is)) (sym (other b i e)) ] refl
 
   pub picked-no_common : ((b : Bool) (i : Item ArgData) → is_common (b, i) ≡ true → h i ≡ None) → (b : Bool) (is : List (Item ArgData)) → filter_map h (common_after b is) ≡ []
   picked-no_common none b [] = refl
@@ -31,11 +35,18 @@ module _ {Y : Type 0} (h : Item ArgData → Option Y) where
 
 pub generating-common : (b : Bool) (is : List (Item ArgData)) → list_any is_generating (common_after b is) ≡ list_any is_generating is
 generating-common b [] = refl
-generating-common b (i ∷ is) = grind (arith, other-kind, (generating-common (is_unknown i) is))
+generating-common b (i ∷ is) =
+    let rest = filter is_common (beside (is_unknown i) is) in
+    let later = generating-common (is_unknown i) is in
+    elim (is_common (b, i)) as (λ t. is_common (b, i) ≡ t → list_any is_generating (map (λ p. p.1) (cond t ((b, i) ∷ rest) rest)) ≡ is_generating i || list_any is_generating is)
+    [ true ↦ λ e. ap (λ t. is_generating i || t) later | false ↦ λ e. later ∙ ap (λ t. t || list_any is_generating is) (sym (other-kind (λ k. is_generating_kind k ≡ false) refl refl refl refl refl b i e)) ] refl
 
 pub generating-no_unhashed : (is : List (Item ArgData)) → list_any is_generating (unhashed_items is) ≡ false
 generating-no_unhashed [] = refl
-generating-no_unhashed (i ∷ is) = grind (arith, unhashed-kind, (generating-no_unhashed is))
+generating-no_unhashed (i ∷ is) =
+    let later = generating-no_unhashed is in
+    elim (is_unhashed_kind (kind_of i)) as (λ t. is_unhashed_kind (kind_of i) ≡ t → list_any is_generating (cond t (i ∷ unhashed_items is) (unhashed_items is)) ≡ false)
+    [ true ↦ λ e. ap (λ t. t || list_any is_generating (unhashed_items is)) (unhashed-kind (λ k. is_generating_kind k ≡ false) refl refl refl (kind_of i) e) ∙ later | false ↦ λ e. later ] refl
 
 -- the outputs of unhashed items are those of all items under other keys than `obj`
 pub outputs-unhashed : (cwd : List ℕ) (is : List (Item ArgData)) → AllByRecursion (λ i. item_fits i ≡ true) is → filter_map (output_of cwd) (unhashed_items is) ≡ filter (is_other (codes "obj")) (filter_map (output_of cwd) is)

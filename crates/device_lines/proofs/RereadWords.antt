@@ -59,7 +59,14 @@ common-again b c (i ∷ is) tail none =
     let unknown = is_unknown i in
     let kept = filter is_common (beside unknown is) in
     let again = filter is_common (beside unknown (common_after unknown is ++ tail)) in
-    grind (arith, common-wider, not_common-known, or_false, (common-again false unknown is tail none), (common-again (b || c) false is tail none))
+    elim (is_common (c, i))
+    as (λ t. is_common (c, i) ≡ t → common_after (b || c) (map (λ p. p.1) (cond t ((c, i) ∷ kept) kept) ++ tail) ≡ map (λ p. p.1) (cond t ((c, i) ∷ kept) kept)) [
+      | true ↦ λ e. ap (λ t. map (λ p. p.1) (cond t ((b || c, i) ∷ again) again)) (common-wider b c i e) ∙ ap (λ t. i ∷ t) (common-again false unknown is tail none)
+      | false ↦ λ e.
+          let known = not_common-known c i e in
+          let later = subst (λ d. common_after d (common_after false is ++ tail) ≡ common_after false is) (or_false (b || c)) (common-again (b || c) false is tail none) in
+          subst (λ u. common_after (b || c) (common_after u is ++ tail) ≡ common_after u is) (sym known) later
+    ] refl
 
 -- an unhashed item isn't common
 unhashed-silent : (i : Item ArgData) → is_unhashed_kind (kind_of i) ≡ true → Silent i

@@ -3,6 +3,7 @@ use Rattle.std.proofs.Common.{◌≡◌, ℕ, ◌+◌, true, false, cond, List, 
 use Rattle.std.specs.List.{filter_map, enumerate_from}
 use Rattle.std.specs.Str.Lines.{lines}
 use Rattle.texts.specs.declared.fault.Fault.{Fault}
+use Rattle.texts.specs.Fault.{UnlessMemory}
 use Rattle.texts.specs.Variables.{first_value}
 use Rattle.texts.proofs.RestLemmas.{rest_after-append}
 use Rattle.dry_runs.specs.declared.limit.LimitedFault.{LimitedFault}
@@ -19,7 +20,7 @@ use Rattle.dry_runs.specs.DryRunLines.{numbered_lines}
 use Rattle.dry_runs.specs.Environment.{Variable}
 use Rattle.dry_runs.specs.Limit.{UnlessMemoryWithin, first_too_long, left_behind_line, answer_within, dry_run_within}
 use Rattle.dry_runs.specs.Parsed.{question_of, program_in, path_of, with_line, run_of_lines, lines_read, unless_long, lines_read_within, unless_bad, whole, limited_whole, whole_in, behind_found, found_commands, unless_missing, parsed_of, ParsesThenResolves}
-use Rattle.dry_runs.specs.Reading.{said_parsed, said_ended, with_variable, with_command, said_next, next_within, meaning_stated}
+use Rattle.dry_runs.specs.Reading.{found_or_fault, said_parsed, said_ended, with_variable, with_command, said_next, next_within, meaning_stated}
 use Rattle.dry_runs.proofs.ReadingLemmas.{environment-next}
 use Rattle.dry_runs.proofs.StatementLemmas.{meaning-stated}
 use Rattle.dry_runs.proofs.WithinLemmas.{within-fault, within-long}
@@ -229,3 +230,9 @@ module _ (run other : ℕ) where
 abbrev pub found_behind : List CommandLine → Result (List CommandLine) Fault → Result (List CommandLine) Fault
 found_behind found (Ok rest) = Ok (found ++ rest)
 found_behind found (Err fault) = Err fault
+
+-- one more command that is found
+pub found-next : (found : List CommandLine) (command : CommandLine) (program path : List ℕ) (answer : Option (List ℕ)) (rest : Result (List CommandLine) Fault) → UnlessMemory (Ok path) (found_or_fault program answer) →
+    found_behind (found ++ (command.0, path, command.2) ∷ []) rest ≡ found_behind found (behind_found command program answer rest)
+found-next found command program path answer (Ok rest) told = grind (arith, append_assoc)
+found-next found command program path answer (Err fault) told = grind arith

@@ -37,6 +37,14 @@ fn push_common(
     words.push_str(alloc, parsed_args.input.as_str())
 }
 
+// Copies of two texts.
+fn two_copies(alloc: Global, first: &str, second: &str) -> Result<(Text, Text), AllocError>
+    ensures { IfOk result (λ copies. copies ≡ (first.now, second.now)) }
+{
+    let first = Text::copy_of(alloc, first)?;
+    Ok((first, Text::copy_of(alloc, second)?))
+}
+
 /// What both commands have.
 pub fn common_command(
     alloc: Global,
@@ -48,8 +56,14 @@ pub fn common_command(
 ) -> Result<SingleCompileCommand, AllocError>
     ensures { IfOk result (λ c. c ≡ spec.common_command executable.now parsed_args.now name.now cwd.now env_vars) }
 {
-    let executable = Text::copy_of(alloc, executable)?;
-    let cwd = Text::copy_of(alloc, cwd)?;
+    let (executable, cwd) = match two_copies(alloc, executable, cwd) {
+        Ok(copies) => copies,
+        Err(error) => {
+            // Dropped by a call: see "Explicit drops" in docs/ARCHITECTURE.md.
+            drop(env_vars);
+            return Err(error);
+        }
+    };
     let mut command = SingleCompileCommand {
         executable,
         arguments: Words::new(alloc),
@@ -57,8 +71,13 @@ pub fn common_command(
         cwd,
         share_jobserver: false,
     };
-    push_common(alloc, &mut command.arguments, parsed_args, name)?;
-    Ok(command)
+    match push_common(alloc, &mut command.arguments, parsed_args, name) {
+        Ok(()) => Ok(command),
+        Err(error) => {
+            drop(command);
+            Err(error)
+        }
+    }
 }
 
 // A command with more words at its end.

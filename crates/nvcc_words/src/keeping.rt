@@ -102,7 +102,10 @@ impl Asked {
         ensures { IfOk result (λ b. b ≡ spec.keeps self.now (asked_of [] (map string_bytes written.now))) }
     {
         let other = Asked::of(alloc, written, &[])?;
-        self.is_kept_by(alloc, &other)
+        let is_kept = self.is_kept_by(alloc, &other);
+        // Dropped by a call: see "Explicit drops" in docs/ARCHITECTURE.md.
+        drop(other);
+        is_kept
     }
 }
 
@@ -120,6 +123,11 @@ pub fn keeps_options(
         (map pair_of files.now) (map string_bytes written.now)) }
 {
     let line = whole_line(alloc, words, variables)?;
-    let asked = Asked::of(alloc, line.as_slice(), files)?;
-    asked.is_kept_in(alloc, written)
+    let asked = Asked::of(alloc, line.as_slice(), files);
+    // Dropped by a call: see "Explicit drops" in docs/ARCHITECTURE.md.
+    drop(line);
+    let asked = asked?;
+    let is_kept = asked.is_kept_in(alloc, written);
+    drop(asked);
+    is_kept
 }

@@ -150,8 +150,13 @@ pub fn file_names(
     ensures { IfOk result (λ names. names ≡ spec.file_names (map string_bytes words.now) (map pair_of variables.now)) }
 {
     let line = whole_line(alloc, words, variables)?;
-    let Asked { files, .. } = Asked::of(alloc, line.as_slice(), &[])?;
-    Ok(files)
+    let asked = Asked::of(alloc, line.as_slice(), &[]);
+    // Dropped by a call: see "Explicit drops" in docs/ARCHITECTURE.md.
+    drop(line);
+    let asked = asked?;
+    let names = asked.files.try_clone(alloc);
+    drop(asked);
+    names
 }
 
 /// The verdict on the words of an nvcc line, without the compiler's name, in an environment, given the names and texts of options

@@ -1,6 +1,6 @@
 //! The engine that plans two dry runs and writes the plan for another tool.
 
-ghost use Rattle.std.specs.Prelude.{◌≡◌, ◌==◌, List, ℕ, length, map, vec_items, Result, Err, option_copied};
+ghost use Rattle.std.specs.Prelude.{◌≡◌, ◌==◌, List, ℕ, length, map, vec_items, Result, Ok, Err, option_copied};
 ghost use Rattle.std.specs.List.{list_all};
 ghost use Rattle.texts.specs.Fault.{UnlessMemory};
 ghost use Rattle.dry_runs.specs.Parsed.{AreParsed, both_parsed};
@@ -11,9 +11,10 @@ ghost use Rattle.programs.specs.declared.stop.Stop.TheVariants as stops;
 ghost use Rattle.programs.specs.Delivery.{Answers, Delivers, text_of};
 ghost use Rattle.program_calls.specs.Calls.{plan_of as plan_seen};
 ghost use Rattle.usage.specs.Calls.{export_of};
+ghost use Rattle.programs.specs.PlanText.{program_setting};
 ghost use Rattle.plan_calls.specs.Exports as spec;
 
-use canonical_names::all_suffixes;
+use canonical_names::{Suffixes, all_suffixes};
 use command_groups::{CallToPlan, plan_of_parsed};
 use compilers::compiler::NvccHostCompiler;
 use directories::is_plain;
@@ -124,6 +125,31 @@ fn keep_dir_of<'a>(keeps: bool, tmp: &'a str) -> Option<&'a str>
     if keeps { Some(tmp) } else { None }
 }
 
+// The plan of a call, given its two dry runs and the suffixes of generated files.
+fn plan_named<L: Which>(
+    alloc: Global,
+    call: &ExportCall<'_>,
+    runs: ParsedRuns,
+    which: &L,
+    suffixes: &Suffixes,
+) -> Result<PlanWithOrigins, Fault>
+    requires { AreParsed runs }
+    ensures { UnlessMemory result (spec.planned_with (spec.keep_dir_of call.now.keeps call.now.plan.tmp.now)
+        (program_setting call.now.plan.cwd.now call.now.plan.tmp.now call.now.plan.flag.now) (L.answer which.now) runs (Ok suffixes.now)) }
+{
+    let plan = &call.plan;
+    let nvcc_call = CallToPlan {
+        cwd: plan.cwd,
+        tmp: plan.tmp,
+        compilation_flag: plan.flag,
+        keep_dir: keep_dir_of(call.keeps, plan.tmp),
+        env_vars: &[],
+        host_compiler: NvccHostCompiler::Gcc,
+        suffixes,
+    };
+    plan_of_parsed(alloc, runs, &nvcc_call, which)
+}
+
 // The plan of a call, given its two dry runs.
 fn plan_of<L: Which>(
     alloc: Global,
@@ -134,18 +160,14 @@ fn plan_of<L: Which>(
     requires { AreParsed runs }
     ensures { UnlessMemory result (spec.plan_of_runs (export_of call.now) (L.answer which.now) runs) }
 {
-    let plan = &call.plan;
-    let suffixes = all_suffixes(alloc, plan.suffixes)?;
-    let nvcc_call = CallToPlan {
-        cwd: plan.cwd,
-        tmp: plan.tmp,
-        compilation_flag: plan.flag,
-        keep_dir: keep_dir_of(call.keeps, plan.tmp),
-        env_vars: &[],
-        host_compiler: NvccHostCompiler::Gcc,
-        suffixes: &suffixes,
-    };
-    plan_of_parsed(alloc, runs, &nvcc_call, which)
+    match all_suffixes(alloc, call.plan.suffixes) {
+        Ok(suffixes) => plan_named(alloc, call, runs, which, &suffixes),
+        Err(fault) => {
+            // Dropped by a call: see "Explicit drops" in docs/ARCHITECTURE.md.
+            drop(runs);
+            Err(fault)
+        }
+    }
 }
 
 // Why a call's directories can't be those of a plan, if they can't.
@@ -188,7 +210,9 @@ fn planned_text<L: Which>(
         (spec.plan_of_runs (export_of call.now) (L.answer which.now) runs)) }
 {
     let planned = plan_of(alloc, call, runs, which)?;
-    judged_in(alloc, call, &planned)
+    let text = judged_in(alloc, call, &planned);
+    drop(planned);
+    text
 }
 
 // The text of a call's plan.
@@ -204,7 +228,11 @@ fn export_text<L: Which>(
     ensures { Answers (text_of result) (spec.exported (export_of call.now) (L.answer which.now) dry1.now dry2.now) }
 {
     match unfit(&call.plan, dry1, dry2) {
-        Some(why) => refused(alloc, why),
+        Some(why) => {
+            // Dropped by a call: see "Explicit drops" in docs/ARCHITECTURE.md.
+            drop(runs);
+            refused(alloc, why)
+        }
         None => planned_text(alloc, call, runs, which),
     }
 }

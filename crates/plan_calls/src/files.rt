@@ -132,7 +132,14 @@ fn export_parsed<R: Files + AllocGlobal, W: Write, E: Write>(
     ensures { Delivers result out_of_memory (W.contents out.old) (W.contents out.new)
         ⊎ spec.ExportsFitting (forms.export_of call.now) dry1.now dry2.now result (W.contents out.old) (W.contents out.new) }
 {
-    let programs = programs_for(rt, &runs, call.plan.cwd, err)?;
+    let programs = match programs_for(rt, &runs, call.plan.cwd, err) {
+        Ok(programs) => programs,
+        Err(error) => {
+            // Dropped by a call: see "Explicit drops" in docs/ARCHITECTURE.md.
+            drop(runs);
+            return Err(error.into());
+        }
+    };
     let answer = write_export(rt.alloc(), call, dry1, dry2, runs, &programs, out);
     complain_of_plan_answer(rt.alloc(), &programs, &call.plan, dry1, dry2, answer, err)
 }
@@ -225,7 +232,11 @@ fn show_bytes<W: Write, E: Write>(
     ensures { spec.ShowsBytes limit (plan_of call.now) dry1.now dry2.now result (W.contents out.old) (W.contents out.new) }
 {
     match parse_dry_runs_within(alloc, dry1, dry2, limit) {
-        Ok(_) => show_fitting(alloc, call, dry1, dry2, out, err),
+        Ok(runs) => {
+            // Dropped by a call: see "Explicit drops" in docs/ARCHITECTURE.md.
+            drop(runs);
+            show_fitting(alloc, call, dry1, dry2, out, err)
+        }
         Err(fault) => stop_unparsed(alloc, call, dry1, dry2, limit, fault, out, err),
     }
 }

@@ -138,10 +138,13 @@ fn node_line(
 ) -> Result<String, AllocError>
     ensures { IfOk result (λ line. string_bytes line ≡ spec.node_line count number group command.now) }
 {
-    let files = files_of(alloc, command)?;
     let mut line = String::new(alloc);
     push_box(alloc, &mut line, count, group)?;
-    push_node(alloc, &mut line, number, command.exe.as_str(), &files)?;
+    let files = files_of(alloc, command)?;
+    let pushed = push_node(alloc, &mut line, number, command.exe.as_str(), &files);
+    // Dropped by a call: see "Explicit drops" in docs/ARCHITECTURE.md.
+    drop(files);
+    pushed?;
     Ok(line)
 }
 

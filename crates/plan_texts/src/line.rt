@@ -63,10 +63,14 @@ where
         (λ p. C.writing compiler.now [] p cwd.now [] spec.no_places)
         (C.reading compiler.now (map string_bytes words.now) cwd.now [])) }
 {
-    match compiler.parse_arguments(alloc, words, cwd, &[])? {
-        CompilerArguments::Ok(parsed) => arguments_text(alloc, compiler, cwd, &parsed),
+    let reading = compiler.parse_arguments(alloc, words, cwd, &[])?;
+    let text = match &reading {
+        CompilerArguments::Ok(parsed) => arguments_text(alloc, compiler, cwd, parsed),
         _ => Ok(None),
-    }
+    };
+    // Dropped by a call: see "Explicit drops" in docs/ARCHITECTURE.md.
+    drop(reading);
+    text
 }
 
 /// Reads the words of a tool's line at the working directory `cwd`, writes them back, and gives the written words, each

@@ -57,7 +57,10 @@ pub fn asked_lookups(alloc: Global, dry_run: &[u8], folder: &str) -> Result<Vec<
 {
     let run = parse_dry_run(alloc, dry_run, 1)?;
     let mut lookups = Vec::new(alloc);
-    add_asked(alloc, &mut lookups, &run, folder)?;
+    let added = add_asked(alloc, &mut lookups, &run, folder);
+    // Dropped by a call: see "Explicit drops" in docs/ARCHITECTURE.md.
+    drop(run);
+    added?;
     Ok(lookups)
 }
 
@@ -74,5 +77,8 @@ pub fn asked_lookups_of_both(
     ensures { IfOk result (λ lookups. lookups.items ≡ asked_of_both dry1.now dry2.now folder.now) }
 {
     let runs = parse_dry_runs(alloc, dry1, dry2)?;
-    lookups_of_runs(alloc, &runs, folder)
+    let lookups = lookups_of_runs(alloc, &runs, folder);
+    // Dropped by a call: see "Explicit drops" in docs/ARCHITECTURE.md.
+    drop(runs);
+    lookups
 }

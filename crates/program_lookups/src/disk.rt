@@ -144,5 +144,8 @@ pub fn snapshot_of<R: Files + AllocGlobal>(
     ensures { IfOk result (λ snapshot. spec.IsSnapshotOf (asked_of_both dry1.now dry2.now folder.now) snapshot) }
 {
     let runs = parse_dry_runs(rt.alloc(), dry1, dry2)?;
-    snapshot_for(rt, &runs, folder)
+    let snapshot = snapshot_for(rt, &runs, folder);
+    // Dropped by a call: see "Explicit drops" in docs/ARCHITECTURE.md.
+    drop(runs);
+    snapshot
 }

@@ -1,6 +1,7 @@
 //! A limit for the paths that look-ups try.
 
 ghost use Rattle.std.specs.Prelude.{◌≡◌, ◌+◌, length, map, IfOk, Ok};
+ghost use Rattle.texts.specs.Results.{and_then};
 ghost use Rattle.dry_runs.specs.Limit.{UnlessMemoryWithin, left_behind};
 ghost use Rattle.dry_runs.specs.Parsed.{both_parsed};
 ghost use Rattle.program_lookups.specs.Candidates.{candidates_of, in_part as path_in_part, parts_of};
@@ -83,6 +84,24 @@ fn over_in(
     Ok(None)
 }
 
+// Refuses two runs if the look-ups of one exceed the limit.
+fn check_runs(
+    alloc: Global,
+    runs: &ParsedRuns,
+    folder: &str,
+    limit: usize,
+) -> Result<(), LimitedFault>
+    ensures { UnlessMemoryWithin (and_then result (λ _. Ok runs.now)) (spec.fitting_runs limit folder.now (Ok runs.now)) }
+{
+    if let Some(line) = over_in(alloc, &runs.first, folder, limit)? {
+        return Err(LimitedFault::TooLong { run: 1, line });
+    }
+    if let Some(line) = over_in(alloc, &runs.second, folder, limit)? {
+        return Err(LimitedFault::TooLong { run: 2, line });
+    }
+    Ok(())
+}
+
 // Two runs, unless the look-ups of one exceed the limit.
 fn fitting_runs(
     alloc: Global,
@@ -93,13 +112,14 @@ fn fitting_runs(
     ensures answer { UnlessMemoryWithin result (spec.fitting_runs limit folder.now (Ok runs)) }
     ensures same { IfOk result (λ fitting. fitting ≡ runs) }
 {
-    if let Some(line) = over_in(alloc, &runs.first, folder, limit)? {
-        return Err(LimitedFault::TooLong { run: 1, line });
+    match check_runs(alloc, &runs, folder, limit) {
+        Ok(()) => Ok(runs),
+        Err(fault) => {
+            // Dropped by a call: see "Explicit drops" in docs/ARCHITECTURE.md.
+            drop(runs);
+            Err(fault)
+        }
     }
-    if let Some(line) = over_in(alloc, &runs.second, folder, limit)? {
-        return Err(LimitedFault::TooLong { run: 2, line });
-    }
-    Ok(runs)
 }
 
 /// Parses two dry runs as `dry_runs::parse_dry_runs_within`, and counts the paths that looking up their programs from the working

@@ -21,7 +21,12 @@ fn answer_text(alloc: Global, answer: Result<Answer, Fault>) -> Result<String, S
     ensures { (expected : Result Answer Fault) → UnlessMemory answer expected → Answers (text_of result) (spec.answer_text expected) }
 {
     match answer? {
-        Answer::Split(outline) => Ok(shell_text(alloc, &outline)?),
+        Answer::Split(outline) => {
+            let text = shell_text(alloc, &outline);
+            // Dropped by a call: see "Explicit drops" in docs/ARCHITECTURE.md.
+            drop(outline);
+            Ok(text?)
+        }
         Answer::Pass(why) => Err(Stop::ToNvcc(why)),
     }
 }

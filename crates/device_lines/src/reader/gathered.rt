@@ -29,7 +29,7 @@ pub struct Gathered<'a> {
 }
 
 impl<'a> Gathered<'a> {
-    ghost use Rattle.device_lines.specs.Gathered.{nothing_gathered, with_item, is_option, reading_of_gathered};
+    ghost use Rattle.device_lines.specs.Gathered.{nothing_gathered, with_item, is_option, all_outputs, reading_of_gathered};
 
     /// Nothing yet, with room for `count` common words.
     pub fn with_capacity(alloc: Global, count: usize) -> Result<Gathered<'a>, AllocError>
@@ -127,6 +127,45 @@ impl<'a> Gathered<'a> {
         Ok((first, second))
     }
 
+    // A copy of the input, and the module id file, if the tool reads it, in two lists.
+    fn input_and_files(
+        &self,
+        alloc: Global,
+        cwd: &str,
+        input: &str,
+    ) -> Result<(Text, (Words, Words)), AllocError>
+        ensures input { IfOk result (λ r. r.0 ≡ input.now) }
+        ensures first { IfOk result (λ r. r.1.0 ≡ spec.module_id_file cwd.now self.now.files.makes_module_id self.now.files.module_id) }
+        ensures second { IfOk result (λ r. r.1.1 ≡ spec.module_id_file cwd.now self.now.files.makes_module_id self.now.files.module_id) }
+    {
+        let files = self.module_id_files(alloc, cwd)?;
+        match Text::copy_of(alloc, input) {
+            Ok(input) => Ok((input, files)),
+            Err(error) => {
+                // Dropped by a call: see "Explicit drops" in docs/ARCHITECTURE.md.
+                drop(files);
+                Err(error)
+            }
+        }
+    }
+
+    // Counts the module id file among what the tool writes, if it makes it. Answers a copy of the input, and the module id
+    // file, if the tool reads it, in two lists.
+    fn finish(
+        &mut self,
+        alloc: Global,
+        cwd: &str,
+        input: &str,
+    ) -> Result<(Text, (Words, Words)), AllocError>
+        ensures now { OnOk result (self.new ≡ record self.old { files = record self.old.files { outputs = all_outputs cwd.now self.old.files } }) }
+        ensures input { IfOk result (λ r. r.0 ≡ input.now) }
+        ensures first { IfOk result (λ r. r.1.0 ≡ spec.module_id_file cwd.now self.old.files.makes_module_id self.old.files.module_id) }
+        ensures second { IfOk result (λ r. r.1.1 ≡ spec.module_id_file cwd.now self.old.files.makes_module_id self.old.files.module_id) }
+    {
+        self.files.record_module_id(alloc, cwd)?;
+        self.input_and_files(alloc, cwd, input)
+    }
+
     // The arguments from what was gathered, with the module id file in two lists.
     fn into_arguments(
         self,
@@ -161,10 +200,16 @@ impl<'a> Gathered<'a> {
         ensures { IfOk result (λ r. reading_of r ≡ accepted (reading_of_gathered cwd.now language input.now self.entry)) }
     {
         let mut gathered = self;
-        gathered.files.record_module_id(alloc, cwd)?;
-        let files = gathered.module_id_files(alloc, cwd)?;
-        let input = Text::copy_of(alloc, input)?;
-        let arguments = gathered.into_arguments(alloc, language, input, files);
-        Ok(CompilerArguments::Ok(arguments))
+        match gathered.finish(alloc, cwd, input) {
+            Ok((input, files)) => {
+                let arguments = gathered.into_arguments(alloc, language, input, files);
+                Ok(CompilerArguments::Ok(arguments))
+            }
+            Err(error) => {
+                // Dropped by a call: see "Explicit drops" in docs/ARCHITECTURE.md.
+                drop(gathered);
+                Err(error)
+            }
+        }
     }
 }

@@ -1,6 +1,6 @@
 //! The files that a device tool's line names, without the arguments that a cache needs.
 
-ghost use Rattle.std.specs.Prelude.{◌≡◌, ◌<◌, ◌∷◌, [], map, length, IfOk, string_bytes, slice_index_or, fold, remove, option_map};
+ghost use Rattle.std.specs.Prelude.{◌≡◌, ◌<◌, ◌∷◌, ◌++◌, [], map, length, IfOk, OnOk, string_bytes, slice_index_or, fold, remove, option_map};
 ghost use Rattle.texts.specs.Path.{joined};
 ghost use Rattle.option_items.specs.Items.{items};
 ghost use Rattle.device_lines.specs.Gathered.{no_files, with_files_of, all_outputs};
@@ -44,7 +44,44 @@ fn named_around<'a, S: SearchableArgInfo<ArgData>>(
     Ok(files)
 }
 
-// The same, with the input.
+// Appends the files that the tool reads: the input, and the module id file, if the tool reads it.
+fn push_reads(
+    alloc: Global,
+    reads: &mut Words,
+    cwd: &str,
+    input: &str,
+    files: &NamedFiles<'_>,
+) -> Result<(), AllocError>
+    ensures { OnOk result (reads.new ≡ reads.old
+        ++ joined cwd.now input.now ∷ spec.module_id_file cwd.now files.now.makes_module_id files.now.module_id) }
+{
+    reads.push(join(alloc, cwd, input)?)?;
+    reads.append(files.module_id_file(alloc, cwd)?)?;
+    Ok(())
+}
+
+// The files that the tool reads.
+fn reads_of(
+    alloc: Global,
+    cwd: &str,
+    input: &str,
+    files: &NamedFiles<'_>,
+) -> Result<Words, AllocError>
+    ensures { IfOk result (λ reads. reads
+        ≡ joined cwd.now input.now ∷ spec.module_id_file cwd.now files.now.makes_module_id files.now.module_id) }
+{
+    let mut reads = Words::with_capacity(alloc, 2)?;
+    match push_reads(alloc, &mut reads, cwd, input, files) {
+        Ok(()) => Ok(reads),
+        Err(error) => {
+            // Dropped by a call: see "Explicit drops" in docs/ARCHITECTURE.md.
+            drop(reads);
+            Err(error)
+        }
+    }
+}
+
+// The files of a line but the input, with the input.
 fn line_files(
     alloc: Global,
     cwd: &str,
@@ -57,14 +94,25 @@ fn line_files(
     }) }
 {
     let mut files = files;
-    let mut reads = Words::with_capacity(alloc, 2)?;
-    reads.push(join(alloc, cwd, input)?)?;
-    reads.append(files.module_id_file(alloc, cwd)?)?;
-    files.record_module_id(alloc, cwd)?;
-    Ok(LineFiles {
-        reads,
-        outputs: files.outputs,
-    })
+    let reads = match reads_of(alloc, cwd, input, &files) {
+        Ok(reads) => reads,
+        Err(error) => {
+            // Dropped by a call: see "Explicit drops" in docs/ARCHITECTURE.md.
+            drop(files);
+            return Err(error);
+        }
+    };
+    match files.record_module_id(alloc, cwd) {
+        Ok(()) => Ok(LineFiles {
+            reads,
+            outputs: files.outputs,
+        }),
+        Err(error) => {
+            drop(reads);
+            drop(files);
+            Err(error)
+        }
+    }
 }
 
 // The files of a line whose input is at `place`.

@@ -53,8 +53,10 @@ pub fn preprocess(
     let env_vars = without_flags(alloc, env_vars)?;
     let common = common_command(alloc, executable, parsed_args, name, cwd, env_vars)?;
     let dependency = parsed_args.dependency_args.as_slice();
-    let commands = nvcc_commands(alloc, host_compiler, &common, dependency)?;
-    Ok(commands)
+    let commands = nvcc_commands(alloc, host_compiler, &common, dependency);
+    // Dropped by a call: see "Explicit drops" in docs/ARCHITECTURE.md.
+    drop(common);
+    Ok(commands?)
 }
 
 // The commands, from what both have and the line's dependency words.

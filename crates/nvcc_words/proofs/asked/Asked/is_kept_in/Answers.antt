@@ -4,4 +4,4 @@ use Rattle.nvcc_words.specs.Keeping.{keeps}
 use Rattle.nvcc_words.proofs.asked.Asked.is_kept_in.Goals as goal
 
 pub returns : goal.returns
-returns c = subst (λ (o : Asked). IfOk c.is_kept_by.result (λ b. b ≡ keeps c.args.self.now o)) c.in_ok-other.ensures c.is_kept_by.ensures
+returns c = subst (λ (o : Asked). IfOk c.is_kept_by-is_kept.result (λ b. b ≡ keeps c.args.self.now o)) c.in_ok-other.ensures c.is_kept_by-is_kept.ensures

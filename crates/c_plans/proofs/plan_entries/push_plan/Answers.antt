@@ -4,14 +4,14 @@ use Rattle.c_texts.specs.Outcomes.{of_texts, with_texts}
 use Rattle.c_plans.specs.Records.{Recorded, Shared, Variables, shared_first, shared_of, variable_texts, without_records}
 use Rattle.c_plans.proofs.RecordLemmas.{records-are}
 use Rattle.c_texts.proofs.TextLemmas.{mapped-length}
-use Rattle.c_plans.proofs.plan_entries.records_of.Goals as goal
+use Rattle.c_plans.proofs.plan_entries.push_plan.Goals as goal
 
 pub returns : goal.returns
 returns c =
     let groups = c.as_slice-groups.result.now in
     let variables : Variables = map pair_of c.shared_of-variables.result.now in
     let shared : Shared = record { variables = variables; texts = c.in_ok-texts.texts } in
-    let empty : c.reserve.new.self ≡ without_records (of_texts []) = c.reserve.ensures ∙ c.of_outcome-recorded.ensures ∙ ap without_records c.new.ensures in
+    let empty : c.reserve.new.self ≡ without_records (of_texts []) = c.reserve.ensures ∙ c.requires in
     let seen : shared ≡ shared_first variables =
     λ i. record {
       variables = variables;

@@ -1,0 +1,31 @@
+use Rattle.std.proofs.Common.{◌≡◌, ℕ, List, ◌++◌, string_bytes, Result, Ok, Err, OnOk, is_ok, if◌then◌else◌, sym, ap, ◌∙◌}
+use Rattle.complaints.specs.Messages.{cause}
+use Rattle.complaints.proofs.message.push_cause.Goals as goal
+
+on-ok : {X E : Type 0} (r : Result X E) (new long short : List ℕ) → new ≡ (if is_ok r then long else short) → OnOk r (new ≡ long)
+on-ok (Ok x) new long short e = e
+on-ok (Err x) new long short e = tt
+
+pub returns-in-NotUtf8 : goal.returns-in-NotUtf8
+returns-in-NotUtf8 c =
+    on-ok c.push_str.result (string_bytes c.push_str.new.self) (string_bytes c.args.text.now ++ cause c.args.fault.now c.args.path.now) (string_bytes c.args.text.now)
+    (c.push_str.ensures.bytes
+    ∙ ap (λ f. if is_ok c.push_str.result then string_bytes c.args.text.now ++ cause f c.args.path.now else string_bytes c.args.text.now) (sym c.in-NotUtf8.is))
+
+pub returns-in-BadShell : goal.returns-in-BadShell
+returns-in-BadShell c =
+    on-ok c.push_str-in-BadShell.result (string_bytes c.push_str-in-BadShell.new.self) (string_bytes c.args.text.now ++ cause c.args.fault.now c.args.path.now) (string_bytes c.args.text.now)
+    (c.push_str-in-BadShell.ensures.bytes
+    ∙ ap (λ f. if is_ok c.push_str-in-BadShell.result then string_bytes c.args.text.now ++ cause f c.args.path.now else string_bytes c.args.text.now) (sym c.in-BadShell.is))
+
+pub returns-in-EmptyCommand : goal.returns-in-EmptyCommand
+returns-in-EmptyCommand c =
+    on-ok c.push_str-in-EmptyCommand.result (string_bytes c.push_str-in-EmptyCommand.new.self) (string_bytes c.args.text.now ++ cause c.args.fault.now c.args.path.now) (string_bytes c.args.text.now)
+    (c.push_str-in-EmptyCommand.ensures.bytes
+    ∙ ap (λ f. if is_ok c.push_str-in-EmptyCommand.result then string_bytes c.args.text.now ++ cause f c.args.path.now else string_bytes c.args.text.now) (sym c.in-EmptyCommand.is))
+
+pub returns-in-NoPath : goal.returns-in-NoPath
+returns-in-NoPath c =
+    on-ok c.push_str-in-NoPath.result (string_bytes c.push_str-in-NoPath.new.self) (string_bytes c.args.text.now ++ cause c.args.fault.now c.args.path.now) (string_bytes c.args.text.now)
+    (c.push_str-in-NoPath.ensures.bytes
+    ∙ ap (λ f. if is_ok c.push_str-in-NoPath.result then string_bytes c.args.text.now ++ cause f c.args.path.now else string_bytes c.args.text.now) (sym c.in-NoPath.is))
