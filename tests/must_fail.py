@@ -12,8 +12,9 @@ body can't make another function's proof fail.
 - Most functions have no written answers: `search` proves each goal. `rattle check --start` searches for the goals of these functions
   alone, and writes a hole for each that it doesn't prove. That takes half the time of a check, which proves again all that they call.
 - A check tries the others, tables too, and the few functions that `--start` can't start. It names functions that call a wrong one, and
-  that doesn't count as a rejection. So that it proves none of the functions that they call, it gets the other functions without their
-  bodies, and with a hole for a proof. A wrong body that isn't rejected so is tried again with all of the crate.
+  that doesn't count as a rejection.
+- So that nothing of the functions that they call is read or proved again, both get the other functions without their bodies, and with a
+  hole for a proof. A wrong body that isn't rejected so is tried again with all of the crate.
 - A second edit of a function takes another run. An edit of a definition is tried alone.
 
 An edit has lines 'file:', 'old:' and 'new:', and a line 'refused:' with the function whose goals have to stay open, by its path
@@ -283,33 +284,52 @@ class Attempt:
             with open(f"{room}/{path}", "w", encoding="utf-8") as it:
                 it.write(text)
 
-    def searched(self) -> List[Optional[Verdict]]:
-        """Has `rattle check --start` search for the goals of these wrong bodies. It can't start a function in a file with a `ghost use .. as`
-        of a module that a library re-exports."""
+    @staticmethod
+    def with_all(bodies: List[WrongBody], texts: Texts) -> Optional[Texts]:
+        """Returns these texts with these wrong bodies, or None if they lack what one replaces."""
+        edited: Optional[Texts] = texts
+        for it in bodies:
+            edited = it.edited(edited) if edited else None
+        return edited
+
+    def searched(self, bodies: List[WrongBody], texts: Texts) -> List[Optional[Verdict]]:
+        """Has `rattle check --start` search for the goals of these wrong bodies, with all of these in a crate of these texts. It can't start
+        a function in a file with a `ghost use .. as` of a module that a library re-exports."""
+        edited = self.with_all(bodies, texts)
+        if edited is None:
+            return [None for _ in bodies]
         with tempfile.TemporaryDirectory(prefix="must-fail-") as room:
-            self.write(room, self.edited or {})
-            lines = said_of(room, self.crate, [word for it in self.bodies for word in ("--start", it.function)], [])
-            return [judged_by_search(room, self.crate.name, it, lines) for it in self.bodies]
+            self.write(room, edited)
+            lines = said_of(room, self.crate, [word for it in bodies for word in ("--start", it.function)], [])
+            return [judged_by_search(room, self.crate.name, it, lines) for it in bodies]
 
     def checked(self, bodies: List[WrongBody], texts: Texts, words: List[str]) -> List[Verdict]:
         """Checks the functions of these wrong bodies, with all of these in a crate of these texts."""
-        functions, edited = [it.function for it in bodies], texts  # type: List[str], Optional[Texts]
-        for it in bodies:
-            edited = it.edited(edited) if edited else None
-        if not edited:
+        functions, edited = [it.function for it in bodies], self.with_all(bodies, texts)
+        if edited is None:
             return [(False, "BAD EDIT: it edits more than its function") for _ in bodies]
         with tempfile.TemporaryDirectory(prefix="must-fail-") as room:
             self.write(room, edited)
             lines = said_of(room, self.crate, [*words, *[word for it in functions for word in ("--only", it)]], functions)
             return [judged(self.crate.name, it, texts, lines) for it in bodies]
 
+    def holed(self, bodies: List[WrongBody]) -> Texts:
+        """Returns the crate's texts without what other functions than these wrong bodies' have."""
+        return with_holes(self.crate.name, self.texts, [it.function for it in bodies])
+
     def checked_twice(self, bodies: List[WrongBody]) -> List[Verdict]:
-        """Checks the functions of these wrong bodies without those that they call, and then with these if that doesn't reject one."""
-        holed = with_holes(self.crate.name, self.texts, [it.function for it in bodies])
-        found = self.checked(bodies, holed, ["--allow-holes"])
+        """Checks the functions of these wrong bodies without the others, and then with these if that doesn't reject one."""
+        found = self.checked(bodies, self.holed(bodies), ["--allow-holes"])
         left = [it for it, (is_refused, _) in zip(bodies, found) if not is_refused]
         again = iter(self.checked(left, self.texts, []) if left else [])
         return [verdict if verdict[0] else next(again) for verdict in found]
+
+    def searched_twice(self, bodies: List[WrongBody]) -> List[Optional[Verdict]]:
+        """The same by search, for those that can be started."""
+        found = self.searched(bodies, self.holed(bodies))
+        left = [it for it, verdict in zip(bodies, found) if verdict and not verdict[0]]
+        again = iter(self.searched(left, self.texts) if left else [])
+        return [next(again) if verdict and not verdict[0] else verdict for verdict in found]
 
     def verdicts(self) -> List[Verdict]:
         """Tries them. Returns for each whether it is rejected, and the message to print."""
@@ -317,7 +337,7 @@ class Attempt:
             return [(False, "BAD EDIT: an 'old:' text isn't in its file exactly once") for _ in self.bodies]
         if not is_searched(self.bodies[0], self.texts):
             return self.checked_twice(self.bodies)
-        found = self.searched()
+        found = self.searched_twice(self.bodies)
         left = [it for it, verdict in zip(self.bodies, found) if verdict is None]
         by_check = iter(self.checked_twice(left) if left else [])
         return [verdict or next(by_check) for verdict in found]
