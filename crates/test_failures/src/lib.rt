@@ -1,9 +1,11 @@
-//! Tests that a line of a file of cases can't express: readers, writers, runners and look-ups that fail, `Debug` output, and
-//! calls that allocate and succeed if there is memory. The cases are in `test_lines` and `test_plans`.
+//! Tests that a line of a file of cases can't express: readers, writers, runners and look-ups that fail, `Debug` output, the
+//! callers of docs/CALLING.md, and calls that allocate and succeed if there is memory. The cases are in `test_lines` and `test_plans`.
 #![tactic(auto)]
 
 #[cfg(test)]
 mod c_records;
+#[cfg(test)]
+mod callers;
 #[cfg(test)]
 mod debug;
 #[cfg(test)]

@@ -1,11 +1,5 @@
-//! One call of each caller, and its result as lines.
-//!
-//! Dropped by a call: see "Explicit drops" in docs/ARCHITECTURE.md.
+//! One call of each caller of `test_callers`, and its result as lines.
 
-use crate::cache::{Digests, Entry, cicc_entry};
-use crate::nvcc_line::dry_run_commands;
-use crate::runs::{Started, commands_to_start};
-use crate::words::{known_flags, requoted};
 use cuda_plans::arguments::{CompilerArguments, ParsedArguments};
 use cuda_plans::command::{CompileCommandImpl, SingleCompileCommand};
 use cuda_plans::compiler::{CCompilerImpl, Places};
@@ -15,6 +9,10 @@ use cuda_plans::nvcc::{Nvcc, NvccCompileCommand, NvccHostCompiler};
 use cuda_plans::shell;
 use cuda_plans::text::Text;
 use std::alloc::{AllocError, Global};
+use test_callers::cache::{Digests, Entry, cicc_entry};
+use test_callers::nvcc_line::dry_run_commands;
+use test_callers::runs::{Started, commands_to_start};
+use test_callers::words::{known_flags, known_line, requoted};
 
 // Takes a file's path as its digest.
 struct Paths;
@@ -63,14 +61,15 @@ fn push_entry(alloc: Global, text: &mut String, entry: &Option<Entry>) -> Result
 
 // Calls `cicc_entry` with a line.
 fn push_line_entry(alloc: Global, text: &mut String, line: &[String]) -> Result<(), Fault> {
-    let entry = cicc_entry(alloc, &Paths, "/bin/cicc", line, "/w")?;
-    let pushed = push_entry(alloc, text, &entry);
-    drop(entry);
-    pushed
+    push_entry(
+        alloc,
+        text,
+        &cicc_entry(alloc, &Paths, "/bin/cicc", line, "/w")?,
+    )
 }
 
-/// Calls `cicc_entry` with a line, and with one that is no compilation.
-pub fn call_cicc_entry(alloc: Global, text: &mut String) -> Result<(), Fault> {
+// Calls `cicc_entry` with a line, and with one that is no compilation.
+fn call_cicc_entry(alloc: Global, text: &mut String) -> Result<(), Fault> {
     let line = words(
         alloc,
         "--device-c --module_id_file_name k.id k.cpp1.ii --stub_file_name k.c -o k.ptx",
@@ -111,9 +110,7 @@ fn push_line_runs(
     places: &Places,
 ) -> Result<(), Fault> {
     let runs = dry_run_commands(alloc, nvcc, "/bin/nvcc", line, "/w", &[], places)?;
-    let pushed = push_runs(alloc, text, &runs);
-    drop(runs);
-    pushed
+    push_runs(alloc, text, &runs)
 }
 
 // Appends a command to start: its place, program and words.
@@ -146,9 +143,7 @@ fn push_reading(
         return Ok(text.push_str("no call\n")?);
     };
     let (call, _) = nvcc.generate_compile_commands(alloc, "/bin/nvcc", parsed, "/w", &[], places)?;
-    let pushed = push_call(alloc, text, &call);
-    drop(call);
-    pushed
+    push_call(alloc, text, &call)
 }
 
 // Calls `commands_to_start` with the call of a line.
@@ -160,9 +155,7 @@ fn push_line_started(
     places: &Places,
 ) -> Result<(), Fault> {
     let reading = nvcc.parse_arguments(alloc, line, "/w", &[])?;
-    let pushed = push_reading(alloc, text, nvcc, &reading, places);
-    drop(reading);
-    pushed
+    push_reading(alloc, text, nvcc, &reading, places)
 }
 
 // The places of a call at `/w`.
@@ -173,8 +166,8 @@ fn places(alloc: Global) -> Result<Places, AllocError> {
     })
 }
 
-/// Calls `dry_run_commands` and `commands_to_start` with a line.
-pub fn call_with_nvcc_line(alloc: Global, text: &mut String) -> Result<(), Fault> {
+// Calls `dry_run_commands` and `commands_to_start` with a line.
+fn call_with_nvcc_line(alloc: Global, text: &mut String) -> Result<(), Fault> {
     let line = words(alloc, "-c k.cu -o k.o")?;
     let places = places(alloc)?;
     let nvcc = nvcc();
@@ -195,11 +188,40 @@ fn push_found(
     }
 }
 
-/// Calls `requoted` with words that need quotes, and `known_flags`.
-pub fn call_requoted(alloc: Global, text: &mut String) -> Result<(), Fault> {
+// Calls `requoted` with words that need quotes, and `known_flags`.
+fn call_requoted(alloc: Global, text: &mut String) -> Result<(), Fault> {
     let line = words(alloc, "'' 'a b' \"it's\" '#'")?;
     let found = requoted(alloc, line.as_slice())?;
     push_found(alloc, text, "requoted", &found)?;
     push_found(alloc, text, "known flags", &known_flags(alloc)?)?;
     Ok(())
+}
+
+// What the calls have to say.
+const SAID: &str = r"words: --device-c --module_id_file_name k.id
+digests: /w/k.id
+files: /w/k.c /w/k.ptx
+/bin/cicc: --device-c --module_id_file_name k.id --stub_file_name k.c k.cpp1.ii -o /w/k.ptx
+no compilation
+first dry run: -x cu -o k.o -c /w/k.cu --dryrun --keep
+second dry run: -x cu -o k.o -c /w/k.cu --keep-dir /t --dryrun --keep
+1.0 /b/gcc: -D__NVCC__ -c k.cpp -o k.o
+requoted: '' 'a b' 'it'\''s' '#'
+known flags: -O2 '-DNAME=a b'
+";
+
+// Makes all calls and appends their results to a text.
+fn call_each(alloc: Global, text: &mut String) -> Result<(), Fault> {
+    call_cicc_entry(alloc, text)?;
+    call_with_nvcc_line(alloc, text)?;
+    call_requoted(alloc, text)?;
+    known_line();
+    Ok(())
+}
+
+#[test]
+fn callers_say_what_calling_promises(rt: HostRuntime) {
+    let mut text = String::new(rt.alloc());
+    assert!(rt; call_each(rt.alloc(), &mut text).is_ok());
+    assert!(rt; text.as_str() == SAID);
 }
