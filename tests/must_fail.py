@@ -5,17 +5,14 @@ Usage: tests/must_fail.py [CRATE..]                   all crates, or those named
        tests/must_fail.py --gate FOLDER LOG           beside an `rt ci` that runs in FOLDER and writes to LOG; there is a file
                                                       LOG.status once it has ended
 
-`rt must-fail` tries the same files one after the other, each in a check of the whole crate. This script tries all of a crate in two
-runs. The result is the same: a function is proved against the contracts of what it calls, never against their bodies, so a wrong
+`rt must-fail` tries the same files one after the other, each in a check of the whole crate. This script tries all of a crate in one
+check. The result is the same: a function is proved against the contracts of what it calls, never against their bodies, so a wrong
 body can't make another function's proof fail.
 
-- Most functions have no written answers: `search` proves each goal. `rattle check --start` searches for the goals of these functions
-  alone, and writes a hole for each that it doesn't prove. That takes half the time of a check, which proves again all that they call.
-- A check tries the others, tables too, and the few functions that `--start` can't start. It names functions that call a wrong one, and
-  that doesn't count as a rejection.
-- So that nothing of the functions that they call is read or proved again, both get the other functions without their bodies, and with a
-  hole for a proof. A wrong body that isn't rejected so is tried again with all of the crate.
-- A second edit of a function takes another run. An edit of a definition is tried alone.
+- So that nothing of the other functions is read or proved again, these have no bodies there, and a hole for a proof. A wrong body that
+  isn't rejected so is tried again with all of the crate.
+- The check names functions that call a wrong one, and that doesn't count as a rejection.
+- A second edit of a function takes another check. An edit of a definition is tried alone.
 
 An edit has lines 'file:', 'old:' and 'new:', and a line 'refused:' with the function whose goals have to stay open, by its path
 in the crate. An edit fails if another function rejects it, if it can't be read, or if it is rejected only because a proof names
@@ -192,22 +189,16 @@ def with_holes(crate: str, texts: Texts, tested: List[str]) -> Texts:
     return holed
 
 
-def is_searched(body: WrongBody, texts: Texts) -> bool:
-    """Returns whether a wrong body is in a function that has no written answers, so that `search` alone proves each of its goals."""
-    folder = f"proofs/{body.function.replace('::', '/')}"
-    return bool(body.bodies(texts)) and not {f"{folder}/Answers.antt", f"{folder}/Proof.antt"} & set(texts)
-
-
 def tried_together(left: List[WrongBody], texts: Texts) -> Tuple[List[WrongBody], Optional[Texts]]:
-    """Returns those of these wrong bodies that one run can try, and the crate's texts with them. All are searched, or none is. If the
-    first can't be tried, returns it alone, and None."""
+    """Returns those of these wrong bodies that one check can try, and the crate's texts with them. If the first can't be tried, returns
+    it alone, and None."""
     if left[0].edited(texts) is None:
         return [left[0]], None
     together: List[WrongBody] = []
-    edited, searched = texts, is_searched(left[0], texts)
+    edited = texts
     for it in left:
         with_it = it.edited(edited)
-        if with_it is None or it.function in [other.function for other in together] or is_searched(it, texts) != searched:
+        if with_it is None or it.function in [other.function for other in together]:
             continue
         if it.bodies(texts) or it.is_of_table():
             together, edited = [*together, it], with_it
@@ -229,23 +220,6 @@ def said_of(room: str, crate: Any, words: List[str], functions: List[str]) -> Li
                 check.kill()
                 break
     return lines
-
-
-def judged_by_search(room: str, crate: str, body: WrongBody, lines: List[str]) -> Optional[Verdict]:
-    """Returns whether `search` leaves a goal of a wrong body's function open, and the message to print, or None if the function can't
-    be started."""
-    wrote = f"{room}/proofs/{body.function.replace('::', '/')}/Answers.antt"
-    if os.path.isfile(wrote):
-        with open(wrote, encoding="utf-8") as it:
-            holes = re.findall(r"^(\S+)(?: \S+)* = \?$", it.read(), re.M)
-        if holes:
-            return True, f"refused by {body.function}: {', '.join(f'`{it}`' for it in holes)}"
-    told = next((it for it in lines if f"`{crate}::{body.function}`" in it), "")
-    if "rattle has no file to start" in told:
-        return None
-    if "nothing is left to choose or to answer" in told:
-        return False, f"NOT REFUSED by {body.function}: `search` proves each goal"
-    return False, f"BAD EDIT: no proof of {body.function} was tried: {told or ' / '.join(lines[:3])[:400]}"
 
 
 def judged(crate: str, body: WrongBody, texts: Texts, lines: List[str]) -> Verdict:
@@ -292,17 +266,6 @@ class Attempt:
             edited = it.edited(edited) if edited else None
         return edited
 
-    def searched(self, bodies: List[WrongBody], texts: Texts) -> List[Optional[Verdict]]:
-        """Has `rattle check --start` search for the goals of these wrong bodies, with all of these in a crate of these texts. It can't start
-        a function in a file with a `ghost use .. as` of a module that a library re-exports."""
-        edited = self.with_all(bodies, texts)
-        if edited is None:
-            return [None for _ in bodies]
-        with tempfile.TemporaryDirectory(prefix="must-fail-") as room:
-            self.write(room, edited)
-            lines = said_of(room, self.crate, [word for it in bodies for word in ("--start", it.function)], [])
-            return [judged_by_search(room, self.crate.name, it, lines) for it in bodies]
-
     def checked(self, bodies: List[WrongBody], texts: Texts, words: List[str]) -> List[Verdict]:
         """Checks the functions of these wrong bodies, with all of these in a crate of these texts."""
         functions, edited = [it.function for it in bodies], self.with_all(bodies, texts)
@@ -324,23 +287,11 @@ class Attempt:
         again = iter(self.checked(left, self.texts, []) if left else [])
         return [verdict if verdict[0] else next(again) for verdict in found]
 
-    def searched_twice(self, bodies: List[WrongBody]) -> List[Optional[Verdict]]:
-        """The same by search, for those that can be started."""
-        found = self.searched(bodies, self.holed(bodies))
-        left = [it for it, verdict in zip(bodies, found) if verdict and not verdict[0]]
-        again = iter(self.searched(left, self.texts) if left else [])
-        return [next(again) if verdict and not verdict[0] else verdict for verdict in found]
-
     def verdicts(self) -> List[Verdict]:
         """Tries them. Returns for each whether it is rejected, and the message to print."""
         if not self.edited:
             return [(False, "BAD EDIT: an 'old:' text isn't in its file exactly once") for _ in self.bodies]
-        if not is_searched(self.bodies[0], self.texts):
-            return self.checked_twice(self.bodies)
-        found = self.searched_twice(self.bodies)
-        left = [it for it, verdict in zip(self.bodies, found) if verdict is None]
-        by_check = iter(self.checked_twice(left) if left else [])
-        return [verdict or next(by_check) for verdict in found]
+        return self.checked_twice(self.bodies)
 
     def judge(self, say: Callable[[str], None]) -> Tuple[int, int]:
         """Tries them. Returns how many are rejected and how many aren't."""
