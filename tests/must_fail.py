@@ -2,6 +2,8 @@
 """Tries the wrong bodies, crates/NAME/must-fail/*.edit: the prover has to reject each.
 
 Usage: tests/must_fail.py [CRATE..]                   all crates, or those named; proves first the libraries below that aren't kept
+       tests/must_fail.py --right [CRATE..]           the control: the same functions with their right bodies, none of which may count as
+                                                      rejected
        tests/must_fail.py --gate FOLDER LOG           beside an `rt ci` that runs in FOLDER and writes to LOG; there is a file
                                                       LOG.status once it has ended
 
@@ -106,6 +108,13 @@ class WrongBody:
         return self.function.endswith("::table") and all(path.startswith("src/") for path, _, _ in self.pairs)
 
 
+class RightBody(WrongBody):
+    """The function of a wrong body with the body that it has."""
+
+    def edited(self, texts: Texts) -> Optional[Texts]:
+        return texts
+
+
 def texts_of(folder: str) -> Texts:
     """Returns the texts of a crate's sources, definitions and proofs, by their paths below the crate."""
     texts: Texts = {}
@@ -117,9 +126,9 @@ def texts_of(folder: str) -> Texts:
     return texts
 
 
-def wrong_bodies(crate: str) -> List[WrongBody]:
+def wrong_bodies(crate: str, kind: Callable[[str, str], WrongBody] = WrongBody) -> List[WrongBody]:
     folder = f"{TOP}/crates/{crate}/must-fail"
-    return [WrongBody(crate, f"{folder}/{it}") for it in sorted(os.listdir(folder)) if it.endswith(".edit")]
+    return [kind(crate, f"{folder}/{it}") for it in sorted(os.listdir(folder)) if it.endswith(".edit")]
 
 
 def module_of(path: str) -> str:
@@ -291,6 +300,9 @@ class Attempt:
         """Tries them. Returns for each whether it is rejected, and the message to print."""
         if not self.edited:
             return [(False, "BAD EDIT: an 'old:' text isn't in its file exactly once") for _ in self.bodies]
+        if isinstance(self.bodies[0], RightBody):
+            found = self.checked(self.bodies, self.holed(self.bodies), ["--allow-holes"])
+            return [(why.startswith("NOT REFUSED"), f"with its right body: {why}") for _, why in found]
         return self.checked_twice(self.bodies)
 
     def judge(self, say: Callable[[str], None]) -> Tuple[int, int]:
@@ -406,7 +418,8 @@ class Queue:
 
 def main(words: List[str]) -> int:
     folder, log = (words[1], words[2]) if words[:1] == ["--gate"] and len(words) == 3 else (TOP, "")
-    named = [] if log else words
+    right = words[:1] == ["--right"]
+    named = [] if log else words[right:]
     with_edits = [it for it in os.listdir(f"{TOP}/crates") if os.path.isdir(f"{TOP}/crates/{it}/must-fail")]
     crates = [it for it in rtlib.crates_below(os.path.realpath(folder)) if it.name in (named or with_edits)]
     if not crates or set(named) - set(with_edits):
@@ -427,17 +440,17 @@ def main(words: List[str]) -> int:
         print("a library below can't be proved", file=sys.stderr)
         return 2
     record = Record(RECORD)
-    bodies = chosen(crates, record) if log else {it.name: wrong_bodies(it.name) for it in crates}
+    bodies = chosen(crates, record) if log else {it.name: wrong_bodies(it.name, RightBody if right else WrongBody) for it in crates}
     queue = Queue([attempt for it in crates if bodies.get(it.name) for attempt in attempts_of(it, bodies[it.name])], log, say)
     with ThreadPoolExecutor(jobs) as lanes:
         for it in [lanes.submit(queue.work, bool(log) and it >= (jobs + 2) // 2) for it in range(jobs)]:
             it.result()
     # in the gate, only a file elsewhere: what is tested stays as it is
-    record.file = os.environ.get("RECORD") or ("" if log else RECORD)
+    record.file = os.environ.get("RECORD") or ("" if log or right else RECORD)
     if record.file:
         record.write([it for it in crates if it.name not in queue.doubtful and len(bodies.get(it.name, [])) == len(wrong_bodies(it.name))])
     used = resource.getrusage(resource.RUSAGE_CHILDREN)
-    print(f"wrong bodies took {(used.ru_utime + used.ru_stime) / 60:.1f} minutes of processor")
+    print(f"{'right' if right else 'wrong'} bodies took {(used.ru_utime + used.ru_stime) / 60:.1f} minutes of processor")
     print(f"{queue.refused} passed, {queue.failed} failed")
     return 1 if queue.failed or not queue.refused else 0
 
