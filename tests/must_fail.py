@@ -14,7 +14,8 @@ body can't make another function's proof fail.
 - So that nothing of the other functions is read or proved again, these have no bodies there, and a hole for a proof. A wrong body that
   isn't rejected so is tried again with all of the crate.
 - The check names functions that call a wrong one, and that doesn't count as a rejection.
-- A second edit of a function takes another check. An edit of a definition is tried alone.
+- A second edit of a function is tried as a function of its own beside it, with another name. If it's a method, or if it has written
+  answers, it takes another check. An edit of a definition is tried alone.
 
 An edit has lines 'file:', 'old:' and 'new:', and a line 'refused:' with the function whose goals have to stay open, by its path
 in the crate. An edit fails if another function rejects it, if it can't be read, or if it is rejected only because a proof names
@@ -106,6 +107,34 @@ class WrongBody:
         """Returns whether it edits the entries of an option table. Only the function that answers the table sees them: other functions
         know them by its contract."""
         return self.function.endswith("::table") and all(path.startswith("src/") for path, _, _ in self.pairs)
+
+
+class Beside(WrongBody):
+    """A wrong body of a function outside `impl` blocks that has no written answers, as a function beside the right one."""
+
+    def __init__(self, body: WrongBody, texts: Texts, number: int):
+        self.name, self.pairs, self.body = body.name, body.pairs, body
+        name = body.function.split("::")[-1]
+        self.function = f"{body.function}_{number}"
+        (self.path, first, last), *_ = body.bodies(texts) or []
+        lines = (body.edited(texts) or texts)[self.path].split("\n")
+        self.text = "\n".join(lines[first - 1:last]).replace(f"fn {name}", f"fn {name}_{number}", 1)
+
+    def edited(self, texts: Texts) -> Optional[Texts]:
+        return {**texts, self.path: f"{texts[self.path]}\n{self.text}\n"}
+
+    def bodies(self, texts: Texts) -> Optional[List[Place]]:
+        return self.body.bodies(texts)
+
+    @staticmethod
+    def fits(body: WrongBody, texts: Texts) -> bool:
+        """Returns whether a wrong body can be tried so."""
+        places, folder = body.bodies(texts), f"proofs/{body.function.replace('::', '/')}/"
+        name = body.function.split("::")[-1]
+        return bool(places) and len(set(places or [])) == 1 and not any(it.startswith(folder) for it in texts) and all(
+            body.function == f"{module_of(path)}{name}" and re.match(r"(pub(\(\w+\))? )?fn ", texts[path].split("\n")[first - 1])
+            for path, first, _ in places or []
+        )
 
 
 class RightBody(WrongBody):
@@ -206,6 +235,10 @@ def tried_together(left: List[WrongBody], texts: Texts) -> Tuple[List[WrongBody]
     together: List[WrongBody] = []
     edited = texts
     for it in left:
+        same = [other.function for other in together].count(it.function)
+        same += sum(isinstance(other, Beside) and other.body.function == it.function for other in together)
+        if same and not isinstance(it, RightBody) and Beside.fits(it, texts):
+            it = Beside(it, texts, same + 1)
         with_it = it.edited(edited)
         if with_it is None or it.function in [other.function for other in together]:
             continue
@@ -320,7 +353,8 @@ def attempts_of(crate: Any, left: List[WrongBody]) -> List[Attempt]:
     while left:
         together, edited = tried_together(left, texts)
         attempts.append(Attempt(crate, together, texts, edited))
-        left = [it for it in left if it not in together]
+        tried = [it.body if isinstance(it, Beside) else it for it in together]
+        left = [it for it in left if it not in tried]
     return attempts
 
 
