@@ -26,17 +26,19 @@ fn run<R: Env + Files + AllocGlobal, W: Write, E: Write>(
 ) -> Result<u8, Stop> {
     let (process, files) = (Process::new(rt), Input::new(rt, stdin));
     let words = call_words(rt.alloc(), &process)?;
-    Ok(match call_variables(rt.alloc(), &process)? {
-        Some(variables) => run_program(
-            rt,
-            &files,
-            words.as_slice(),
-            variables.as_slice(),
-            out,
-            err,
-        ),
-        None => run_program(rt, &files, &[], &[], out, err),
-    })
+    let status = match call_variables(rt.alloc(), &process) {
+        Ok(Some(variables)) => {
+            let pairs = variables.as_slice();
+            let status = run_program(rt, &files, words.as_slice(), pairs, out, err);
+            // Dropped by a call: see "Explicit drops" in docs/ARCHITECTURE.md.
+            drop(variables);
+            Ok(status)
+        }
+        Ok(None) => Ok(run_program(rt, &files, &[], &[], out, err)),
+        Err(stop) => Err(stop),
+    };
+    drop(words);
+    status
 }
 
 fn main(rt: HostRuntime) -> ExitCode {

@@ -49,10 +49,29 @@ fn push_file<R: Files + AllocGlobal, S: Sources>(
     ensures { spec.AreHeld (S.holds sources.now) cwd.now files.old → OnOk result (spec.AreHeld (S.holds sources.now) cwd.now files.new) }
 {
     let path = join(rt.alloc(), cwd, name)?;
-    match text_of(rt, sources, path.as_str())? {
+    let text = text_of(rt, sources, path.as_str());
+    // Dropped by a call: see "Explicit drops" in docs/ARCHITECTURE.md.
+    drop(path);
+    match text? {
         Some(text) => files.push(String::from_str(rt.alloc(), name)?, text),
         None => Ok(()),
     }
+}
+
+// Adds the files of these names with their texts, but those that have none.
+fn push_files<R: Files + AllocGlobal, S: Sources>(
+    rt: &R,
+    sources: &S,
+    cwd: &str,
+    names: &[String],
+    files: &mut Variables,
+) -> Result<(), AllocError>
+    ensures { spec.AreHeld (S.holds sources.now) cwd.now files.old → OnOk result (spec.AreHeld (S.holds sources.now) cwd.now files.new) }
+{
+    for name in names {
+        push_file(rt, sources, cwd, name.as_str(), files)?;
+    }
+    Ok(())
 }
 
 /// The options files that the line of a call names in an environment, by name and text. One is left out if it isn't there, isn't a
@@ -65,9 +84,16 @@ pub fn options_files<R: Files + AllocGlobal, S: Sources>(
 ) -> Result<Variables, AllocError>
     ensures { IfOk result (λ files. spec.AreHeld (S.holds sources.now) (nvcc_of call.now).cwd files) }
 {
+    let names = file_names(rt.alloc(), call.words, variables)?;
     let mut files = Variables::new(rt.alloc());
-    for name in &file_names(rt.alloc(), call.words, variables)? {
-        push_file(rt, sources, call.cwd, name.as_str(), &mut files)?;
+    let pushed = push_files(rt, sources, call.cwd, names.as_slice(), &mut files);
+    // Dropped by a call: see "Explicit drops" in docs/ARCHITECTURE.md.
+    drop(names);
+    match pushed {
+        Ok(()) => Ok(files),
+        Err(fault) => {
+            drop(files);
+            Err(fault)
+        }
     }
-    Ok(files)
 }

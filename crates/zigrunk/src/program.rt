@@ -54,7 +54,10 @@ fn read_line<R: Files + AllocGlobal, S: Sources, W: Write>(
     ensures { spec.ReadsLine (S.holds sources.now) (nvcc_of call.now) (map pair_of variables.now) result (W.contents out.old) (W.contents out.new) }
 {
     let files = options_files(rt, sources, call, variables)?;
-    write_nvcc_text(rt.alloc(), call, variables, files.as_slice(), out)
+    let written = write_nvcc_text(rt.alloc(), call, variables, files.as_slice(), out);
+    // Dropped by a call: see "Explicit drops" in docs/ARCHITECTURE.md.
+    drop(files);
+    written
 }
 
 // Runs the engine that a call asks for. If it stops, it first says why.
@@ -70,27 +73,16 @@ fn serve<R: Files + AllocGlobal, S: Sources, W: Write, E: Write>(
     ensures { spec.Serves (S.holds sources.now) limit (forms.seen call.now) (map pair_of variables.now) result (W.contents out.old) (W.contents out.new) }
 {
     let alloc = rt.alloc();
-    match call {
-        Call::Export(export) => export_files(rt, sources, export, limit, out, err),
-        Call::Plan(plan) => show_files(alloc, sources, plan, limit, out, err),
-        Call::Nvcc(line) => complain_of_answer(
-            alloc,
-            read_line(rt, sources, line, variables, out),
-            err,
-        ),
-        Call::Directory(call) => complain_of_answer(
-            alloc,
-            show_directory(alloc, call, variables, out),
-            err,
-        ),
-        Call::Line(line) => complain_of_answer(
-            alloc,
-            write_line(alloc, line.tool, line.cwd, line.words, out),
-            err,
-        ),
-        Call::Help => complain_of_answer(alloc, show(alloc, help(), out), err),
-        Call::Version => complain_of_answer(alloc, show(alloc, version(), out), err),
-    }
+    let answer = match call {
+        Call::Export(export) => return export_files(rt, sources, export, limit, out, err),
+        Call::Plan(plan) => return show_files(alloc, sources, plan, limit, out, err),
+        Call::Nvcc(line) => read_line(rt, sources, line, variables, out),
+        Call::Directory(call) => show_directory(alloc, call, variables, out),
+        Call::Line(line) => write_line(alloc, line.tool, line.cwd, line.words, out),
+        Call::Help => show(alloc, help(), out),
+        Call::Version => show(alloc, version(), out),
+    };
+    complain_of_answer(alloc, answer, err)
 }
 
 // The exit status of a call that reads an nvcc line, if it stops.
@@ -141,5 +133,8 @@ pub fn run_program<R: Files + AllocGlobal, S: Sources, W: Write, E: Write>(
         return 2;
     };
     let answer = serve(rt, sources, limit, &call, variables, out, err);
-    ended(&call, &answer)
+    let status = ended(&call, &answer);
+    // Dropped by a call: see "Explicit drops" in docs/ARCHITECTURE.md.
+    drop(answer);
+    status
 }
