@@ -1,6 +1,6 @@
 //! What a line asks nvcc for, item by item.
 
-ghost use Rattle.std.specs.Prelude.{◌≡◌, ◌++◌, ◌∷◌, [], OnOk, IfOk, codes, map, string_bytes, bytes_eq, option_copied};
+ghost use Rattle.std.specs.Prelude.{◌≡◌, ◌++◌, ◌∷◌, [], OnOk, IfOk, codes, map, string_bytes, bytes_eq, Some, option_copied};
 ghost use Rattle.option_items.specs.Views.{item_seen, item_viewed};
 ghost use Rattle.texts.specs.Variables.{pair_of};
 ghost use Rattle.nvcc_words.specs.Asked as spec;
@@ -279,6 +279,14 @@ fn unknown_refusal(word: &str) -> Option<Reason>
     reason_unless(is_forwardable(word), Reason::UnknownOption)
 }
 
+// Puts a copy of a value in place of an earlier one.
+fn put(last: &mut Option<Text>, alloc: Global, value: &str) -> Result<(), AllocError>
+    ensures { OnOk result (last.new ≡ Some value.now) }
+{
+    *last = Some(Text::copy_of(alloc, value)?);
+    Ok(())
+}
+
 impl Asked {
     ghost use Rattle.std.specs.Prelude.{None};
 
@@ -334,19 +342,16 @@ impl Asked {
         ensures { OnOk result (self.new ≡ spec.with_value_note value.now purpose self.old) }
     {
         match purpose {
-            Purpose::Output => self.output = Some(Text::copy_of(alloc, value)?),
-            Purpose::OutputDirectory => self.directory = Some(Text::copy_of(alloc, value)?),
-            Purpose::Language => self.language = Some(Text::copy_of(alloc, value)?),
-            Purpose::Threads => self.threads = Some(Text::copy_of(alloc, value)?),
-            Purpose::KeepDirectory => self.keep_directory = Some(Text::copy_of(alloc, value)?),
-            Purpose::DependencyFile => self.dependency_file = Some(Text::copy_of(alloc, value)?),
-            Purpose::DependencyTarget => {
-                self.dependency_target = Some(Text::copy_of(alloc, value)?)
-            }
-            Purpose::File => self.files.push_str(alloc, value)?,
-            _ => {}
+            Purpose::Output => put(&mut self.output, alloc, value),
+            Purpose::OutputDirectory => put(&mut self.directory, alloc, value),
+            Purpose::Language => put(&mut self.language, alloc, value),
+            Purpose::Threads => put(&mut self.threads, alloc, value),
+            Purpose::KeepDirectory => put(&mut self.keep_directory, alloc, value),
+            Purpose::DependencyFile => put(&mut self.dependency_file, alloc, value),
+            Purpose::DependencyTarget => put(&mut self.dependency_target, alloc, value),
+            Purpose::File => self.files.push_str(alloc, value),
+            _ => Ok(()),
         }
-        Ok(())
     }
 
     // Takes a flag.

@@ -119,13 +119,18 @@ fn judge(alloc: Global, read: Result<Call, Reason>) -> Result<Verdict, AllocErro
     ensures { IfOk result (λ v. v ≡ spec.judged read) }
 {
     match read {
-        Ok(call) => {
-            if is_normal(alloc, &call)? {
-                Ok(Verdict::Split(call))
-            } else {
+        Ok(call) => match is_normal(alloc, &call) {
+            Ok(true) => Ok(Verdict::Split(call)),
+            Ok(false) => {
+                // Dropped by a call: see "Explicit drops" in docs/ARCHITECTURE.md.
+                drop(call);
                 Ok(Verdict::Pass(Reason::OtherReading))
             }
-        }
+            Err(refused) => {
+                drop(call);
+                Err(refused)
+            }
+        },
         Err(reason) => Ok(Verdict::Pass(reason)),
     }
 }
