@@ -22,8 +22,8 @@ pub fn call_of<'a>(words: &'a [String]) -> Option<Call<'a>>
         return None;
     };
     match verb.as_str() {
-        "line" => Some(Call::Line(line_call(rest)?)),
-        "plan" => Some(Call::Plan(plan_call(rest)?)),
+        "line" => line_call(rest).map(Call::Line),
+        "plan" => plan_call(rest).map(Call::Plan),
         _ => None,
     }
 }

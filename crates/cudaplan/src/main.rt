@@ -16,6 +16,6 @@ fn main(rt: HostRuntime) -> ExitCode {
             let disk = Disk::new(&rt);
             run_program(rt.alloc(), &disk, words.as_slice(), &mut out, &mut err)
         }
-        Err(stop) => stopped(&stop, &mut err),
+        Err(stop) => stopped(stop, &mut err),
     })
 }

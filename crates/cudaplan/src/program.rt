@@ -26,16 +26,16 @@ fn serve<S: Sources, W: Write>(
 }
 
 /// Writes the line that says why the program stops to `err`, and gives the exit status, 1.
-pub fn stopped<E: Write>(stop: &Stop, err: &mut E) -> u8
+pub fn stopped<E: Write>(stop: Stop, err: &mut E) -> u8
     ensures { result ≡ 1 }
 {
-    let _ = complain("cudaplan", stop, err);
+    let _ = complain("cudaplan", &stop, err);
     1
 }
 
 // The exit status of an engine's answer. If the engine stopped, it first says why.
-fn ended<E: Write>(answer: &Result<(), Stop>, err: &mut E) -> u8
-    ensures { result ≡ spec.status_of answer.now }
+fn ended<E: Write>(answer: Result<(), Stop>, err: &mut E) -> u8
+    ensures { result ≡ spec.status_of answer }
 {
     match answer {
         Ok(()) => 0,
@@ -59,5 +59,5 @@ pub fn run_program<S: Sources, W: Write, E: Write>(
         return 2;
     };
     let answer = serve(alloc, sources, &call, out);
-    ended(&answer, err)
+    ended(answer, err)
 }

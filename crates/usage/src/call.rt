@@ -109,10 +109,10 @@ fn plain_call<'a>(name: &str, words: &'a [String]) -> Option<Call<'a>>
     ensures { option_map spec.seen result ≡ spec.plain_call name.now (map string_bytes words.now) }
 {
     match name {
-        "calls" => Some(Call::Nvcc(nvcc_call(words)?)),
-        "directory" => Some(Call::Directory(directory_call(words)?)),
-        "line" => Some(Call::Line(line_call(words)?)),
-        "plan" => Some(Call::Plan(plan_call(words)?)),
+        "calls" => nvcc_call(words).map(Call::Nvcc),
+        "directory" => directory_call(words).map(Call::Directory),
+        "line" => line_call(words).map(Call::Line),
+        "plan" => plan_call(words).map(Call::Plan),
         "--help" | "-h" => alone(Call::Help, words),
         "--version" => alone(Call::Version, words),
         _ => None,
