@@ -40,8 +40,10 @@ impl Nvhpc {
         };
         let env_vars = Variables::copy_of(alloc, env_vars)?;
         let common = common_command(alloc, executable, parsed_args, name, cwd, env_vars)?;
-        let commands = nvhpc_commands(alloc, &common, parsed_args.dependency_args.as_slice())?;
-        Ok(commands)
+        let commands = nvhpc_commands(alloc, &common, parsed_args.dependency_args.as_slice());
+        // Dropped by a call: see "Explicit drops" in docs/ARCHITECTURE.md.
+        drop(common);
+        Ok(commands?)
     }
 }
 
