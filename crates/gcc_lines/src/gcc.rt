@@ -79,13 +79,18 @@ fn gather<S: SearchableArgInfo<ArgData>>(
             return Ok(Err("argument parse"));
         };
         if is_dashes(&item) {
+            // Dropped by a call: see "Explicit drops" in docs/ARCHITECTURE.md.
+            drop(item);
             gathered.take_inputs(alloc, line)?;
             return Ok(Ok(()));
         }
-        if let Some(text) = refusal(&item) {
-            return Ok(Err(text));
+        match refusal(&item) {
+            None => gathered.take(alloc, cwd, item)?,
+            Some(text) => {
+                drop(item);
+                return Ok(Err(text));
+            }
         }
-        gathered.take(alloc, cwd, item)?;
     }
     Ok(Ok(()))
 }

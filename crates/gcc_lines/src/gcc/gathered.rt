@@ -1,6 +1,6 @@
 //! What the items of a gcc line ask for.
 
-ghost use Rattle.std.specs.Prelude.{◌≡◌, [], ◌∷◌, ◌++◌, true, false, IfOk, OnOk};
+ghost use Rattle.std.specs.Prelude.{◌≡◌, [], ◌∷◌, ◌++◌, true, false, OnOk, Some};
 ghost use Rattle.option_items.specs.Items.{item_of, words_of, text_of};
 ghost use Rattle.gcc_lines.specs.GccItems as spec;
 
@@ -49,13 +49,27 @@ fn written(item: &Argument<ArgData>) -> NormalizedDisposition
     }
 }
 
-// Two words.
-fn two_words(alloc: Global, first: &str, second: &str) -> Result<Words, AllocError>
-    ensures { IfOk result (λ w. w ≡ first.now ∷ second.now ∷ []) }
+// Puts a copy of a text in place of an earlier one.
+fn put(last: &mut Option<Text>, alloc: Global, text: &str) -> Result<(), AllocError>
+    ensures { OnOk result (last.new ≡ Some text.now) }
+{
+    *last = Some(Text::copy_of(alloc, text)?);
+    Ok(())
+}
+
+// Puts two words in place of earlier ones.
+fn put_pair(
+    last: &mut Option<Words>,
+    alloc: Global,
+    first: &str,
+    second: &str,
+) -> Result<(), AllocError>
+    ensures { OnOk result (last.new ≡ Some (first.now ∷ second.now ∷ [])) }
 {
     let mut words = Words::new(alloc);
     words.push_pair(alloc, first, second)?;
-    Ok(words)
+    *last = Some(words);
+    Ok(())
 }
 
 impl Gathered {
@@ -128,16 +142,21 @@ impl Gathered {
         ensures { OnOk result (asked_by self.new ≡ with_note cwd.now (asked_by self.old) text.now value.now kind) }
     {
         match kind {
-            ArgData::ExtraHashFile => self.extra_hash_files.push(join(alloc, cwd, value)?)?,
-            ArgData::NeedDepTarget => self.target_needed = true,
-            ArgData::DepArgumentPath => self.dependency_file = Some(Text::copy_of(alloc, value)?),
-            ArgData::DepTarget => self.target = Some(two_words(alloc, text, value)?),
-            ArgData::DoCompilation => self.compilation_flag = Some(Text::copy_of(alloc, text)?),
-            ArgData::Output => self.obj = Some(Text::copy_of(alloc, value)?),
-            ArgData::Language => self.language = language_from_gcc_arg(value).or(self.language),
-            _ => {}
+            ArgData::ExtraHashFile => self.extra_hash_files.push(join(alloc, cwd, value)?),
+            ArgData::NeedDepTarget => {
+                self.target_needed = true;
+                Ok(())
+            }
+            ArgData::DepArgumentPath => put(&mut self.dependency_file, alloc, value),
+            ArgData::DepTarget => put_pair(&mut self.target, alloc, text, value),
+            ArgData::DoCompilation => put(&mut self.compilation_flag, alloc, text),
+            ArgData::Output => put(&mut self.obj, alloc, value),
+            ArgData::Language => {
+                self.language = language_from_gcc_arg(value).or(self.language);
+                Ok(())
+            }
+            _ => Ok(()),
         }
-        Ok(())
     }
 
     // Puts an option's words last in the list that they go to.

@@ -35,5 +35,5 @@ loop-word-preserved g c =
     let asked = subst (λ (r : Result (Argument ArgData) ArgParseError). Completes (said_of c.in-Some.word.now (option_map entry_of (option_copied c.search-row.result))) c.next_word.new.self (item_read r) c.read_item.new.line) c.in-Ok.is c.in_ok-item.ensures.item in
     let read = subst (λ (e : Option (Entry ArgData)). Completes (said_of c.in-Some.word.now e) c.next_word.new.self (item_of c.in-Ok.item) c.read_item.new.line) c.search-row.ensures asked in
     c.loop-word.invariant ∙ ap (gathering_after chosen c.args.cwd.now (asked_by c.loop-word.gathered)) c.in-Some.ensures
-    ∙ after_item chosen c.args.cwd.now (asked_by c.loop-word.gathered) c.in-Some.word.now c.next_word.new.self (item_of c.in-Ok.item) c.read_item.new.line read (sym c.is_dashes.ensures ∙ c.if-is_dashes.false) (sym c.in_default-refusal.ensures)
-    ∙ ap (λ h. gathering_after chosen c.args.cwd.now h c.read_item.new.line) (sym c.in_ok-take.ensures)
+    ∙ after_item chosen c.args.cwd.now (asked_by c.loop-word.gathered) c.in-Some.word.now c.next_word.new.self (item_of c.in-Ok.item) c.read_item.new.line read (sym c.is_dashes.ensures ∙ c.if-is_dashes.false) (sym c.in-None.ensures)
+    ∙ ap (λ h. gathering_after chosen c.args.cwd.now h c.read_item.new.line) (sym c.in_ok-take-in-None.ensures)
