@@ -1,0 +1,17 @@
+use Rattle.std.proofs.Common.{◌≡◌, ◌++◌, ◌∙◌, List, ℕ, Result, Ok, Err, OnOk, is_ok, if◌then◌else◌, ap, sym, arith, map, string_bytes, length}
+use Rattle.std.proofs.lemmas.List.{nil_from_length}
+use Rattle.usage.specs.Misuse.{command_misuse}
+use Rattle.usage.proofs.misuse.push_command.Goals as goal
+
+-- what a text that was added is, if it was added
+on-ok : {X E : Type 0} (r : Result X E) (new long short : List ℕ) → new ≡ (if is_ok r then long else short) → OnOk r (new ≡ long)
+on-ok (Ok x) new long short is = is
+on-ok (Err x) new long short is = tt
+
+pub returns-in-empty : goal.returns-in-empty
+returns-in-empty c =
+    let words = c.args.words.now in
+    let text = string_bytes c.args.text.now in
+    let none : length words ≡ 0 = let few = c.in-empty.len_below in omega (arith, few) in
+    on-ok c.push_str.result (string_bytes c.push_str.new.self) (text ++ command_misuse (map string_bytes words)) text
+    (c.push_str.ensures.bytes ∙ ap (λ ws. if is_ok c.push_str.result then text ++ command_misuse (map string_bytes ws) else text) (sym (nil_from_length words none)))
