@@ -108,17 +108,10 @@ impl ParsedRun {
             env,
             fault,
         } = self;
-        match found_commands(alloc, commands, path_of(&env), cwd, which) {
-            Ok(commands) => match fault {
-                None => Ok(DryRun { commands, env }),
-                Some(fault) => Err(fault),
-            },
-            Err(missing) => {
-                // Dropped by calls: see "Explicit drops" in docs/ARCHITECTURE.md.
-                drop(env);
-                drop(fault);
-                Err(missing)
-            }
+        let commands = found_commands(alloc, commands, path_of(&env), cwd, which)?;
+        match fault {
+            None => Ok(DryRun { commands, env }),
+            Some(fault) => Err(fault),
         }
     }
 

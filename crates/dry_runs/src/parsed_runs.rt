@@ -25,14 +25,8 @@ pub fn parse_dry_runs(alloc: Global, dry1: &[u8], dry2: &[u8]) -> Result<ParsedR
     ensures { IfOk result (λ runs. runs ≡ spec.both_parsed dry1.now dry2.now) }
 {
     let first = parse_dry_run(alloc, dry1, 1)?;
-    match parse_dry_run(alloc, dry2, 2) {
-        Ok(second) => Ok(ParsedRuns { first, second }),
-        Err(refused) => {
-            // Dropped by a call: see "Explicit drops" in docs/ARCHITECTURE.md.
-            drop(first);
-            Err(refused)
-        }
-    }
+    let second = parse_dry_run(alloc, dry2, 2)?;
+    Ok(ParsedRuns { first, second })
 }
 
 /// Parses the two dry runs of a call, each as `parse_dry_run_within` does, with the whole limit.
@@ -48,11 +42,6 @@ pub fn parse_dry_runs_within(
     ensures whole { IfOk result (λ runs. runs ≡ spec.both_parsed dry1.now dry2.now) }
 {
     let first = parse_dry_run_within(alloc, dry1, 1, limit)?;
-    match parse_dry_run_within(alloc, dry2, 2, limit) {
-        Ok(second) => Ok(ParsedRuns { first, second }),
-        Err(fault) => {
-            drop(first);
-            Err(fault)
-        }
-    }
+    let second = parse_dry_run_within(alloc, dry2, 2, limit)?;
+    Ok(ParsedRuns { first, second })
 }
