@@ -80,15 +80,8 @@ fn answer_to_accepted(
 ) -> Result<Answer, Fault>
     ensures { UnlessMemory result (spec.answer_to_accepted (nvcc_of call.now) (map pair_of variables.now) (map pair_of files.now) parsed.now) }
 {
-    match command(alloc, call, parsed, variables) {
-        Ok(command) => {
-            let answer = answer_by(alloc, call, parsed, variables, files, &command);
-            // Dropped by a call: see "Explicit drops" in docs/ARCHITECTURE.md.
-            drop(command);
-            answer
-        }
-        Err(fault) => Err(fault),
-    }
+    let command = command(alloc, call, parsed, variables)?;
+    answer_by(alloc, call, parsed, variables, files, &command)
 }
 
 // The answer to a normal form, by what sccache's reader made of it.
@@ -118,16 +111,11 @@ fn answer_to(
     ensures { UnlessMemory result (spec.answer_of (nvcc_of call.now) (map pair_of variables.now) (map pair_of files.now)
         (nvcc_reading (map string_bytes words.now) (nvcc_of call.now).cwd [])) }
 {
-    let reading = Nvcc::gcc().parse_arguments(alloc, words, call.cwd, &[]);
-    match reading {
-        Ok(reading) => {
-            let answer = answer_of(alloc, call, &reading, variables, files);
-            // Dropped by a call: see "Explicit drops" in docs/ARCHITECTURE.md.
-            drop(reading);
-            answer
-        }
-        Err(fault) => Err(Fault::from(fault)),
-    }
+    let reading = Nvcc::gcc().parse_arguments(alloc, words, call.cwd, &[])?;
+    let answer = answer_of(alloc, call, &reading, variables, files);
+    // Dropped by a call: see "Explicit drops" in docs/ARCHITECTURE.md.
+    drop(reading);
+    answer
 }
 
 // The answer to a line with a normal form.

@@ -65,16 +65,8 @@ fn dependencies(
     if parsed.dependency_args.is_empty() {
         return Ok(nothing(alloc));
     }
-    let commands = Nvcc::gcc().preprocess(alloc, call.nvcc, parsed, call.cwd, variables);
-    match commands {
-        Ok(commands) => {
-            let text = first_text(alloc, commands.as_slice());
-            // Dropped by a call: see "Explicit drops" in docs/ARCHITECTURE.md.
-            drop(commands);
-            Ok(text?)
-        }
-        Err(fault) => Err(fault),
-    }
+    let commands = Nvcc::gcc().preprocess(alloc, call.nvcc, parsed, call.cwd, variables)?;
+    Ok(first_text(alloc, commands.as_slice())?)
 }
 
 // The number of threads that a line asks for, or 0 if it has no thread words.
@@ -156,15 +148,10 @@ pub fn command(
     ensures { UnlessMemory result (spec.command_of (nvcc_of call.now) parsed.now (map pair_of variables.now)) }
 {
     let places = places(alloc, call, parsed)?;
-    let written = Nvcc::gcc().generate_compile_commands(
+    let (command, _) = Nvcc::gcc().generate_compile_commands(
         alloc, call.nvcc, parsed, call.cwd, variables, &places,
-    );
-    // Dropped by a call: see "Explicit drops" in docs/ARCHITECTURE.md.
-    drop(places);
-    match written {
-        Ok((command, _)) => Ok(command),
-        Err(fault) => Err(fault),
-    }
+    )?;
+    Ok(command)
 }
 
 // A directory's path, or empty if there is none.
@@ -192,15 +179,8 @@ fn two_texts(
 fn dry_run_texts(alloc: Global, command: &NvccCompileCommand) -> Result<(Text, Text), AllocError>
     ensures { IfOk result (λ texts. texts ≡ (spec.command_text (dry_runs command.now).0, spec.command_text (dry_runs command.now).1)) }
 {
-    match command.dryrun_commands(alloc) {
-        Ok(commands) => {
-            let texts = two_texts(alloc, &commands);
-            // Dropped by a call: see "Explicit drops" in docs/ARCHITECTURE.md.
-            drop(commands);
-            texts
-        }
-        Err(fault) => Err(fault),
-    }
+    let commands = command.dryrun_commands(alloc)?;
+    two_texts(alloc, &commands)
 }
 
 // A command's compilation flag, and the directory that keeps generated files.
