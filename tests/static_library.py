@@ -33,7 +33,7 @@ def build(crate: Any, words: List[str], checked: str, backend: str, archive: str
     """Builds the archive by one of the compilers, of what was checked, which stands in place of the flags of a check."""
     for flag in ("--logic-built", "--jobs"):
         at = words.index(flag)
-        words = [*words[:at], *words[at + 2 :]]
+        words = [*words[:at], *words[at + 2:]]
     call = [*rtlib.guarded(), rtlib.RATTLE, "build", *words, "--crate-checked", checked, "--toolchain", f"{rtlib.KIT}/toolchain"]
     call += ["--backend", backend, "-o", archive]
     ran = subprocess.run(call, cwd=crate.folder, stdin=subprocess.DEVNULL, stdout=subprocess.PIPE, stderr=subprocess.STDOUT, text=True)
