@@ -64,6 +64,8 @@ Verdict = Tuple[bool, str]
 class WrongBody:
     """An edit: the function that the prover has to reject, and the texts to replace, each with its file."""
 
+    is_right = False
+
     def __init__(self, crate: str, file: str):
         self.name, self.function = f"{crate}/{os.path.basename(file)}", ""
         self.pairs: List[Tuple[str, str, str]] = []
@@ -113,7 +115,7 @@ class Beside(WrongBody):
     """A wrong body of a function outside `impl` blocks that has no written answers, as a function beside the right one."""
 
     def __init__(self, body: WrongBody, texts: Texts, number: int):
-        self.name, self.pairs, self.body = body.name, body.pairs, body
+        self.name, self.pairs, self.body, self.is_right = body.name, body.pairs, body, body.is_right
         name = body.function.split("::")[-1]
         self.function = f"{body.function}_{number}"
         (self.path, first, last), *_ = body.bodies(texts) or []
@@ -139,6 +141,8 @@ class Beside(WrongBody):
 
 class RightBody(WrongBody):
     """The function of a wrong body with the body that it has."""
+
+    is_right = True
 
     def edited(self, texts: Texts) -> Optional[Texts]:
         return texts
@@ -237,7 +241,7 @@ def tried_together(left: List[WrongBody], texts: Texts) -> Tuple[List[WrongBody]
     for it in left:
         same = [other.function for other in together].count(it.function)
         same += sum(isinstance(other, Beside) and other.body.function == it.function for other in together)
-        if same and not isinstance(it, RightBody) and Beside.fits(it, texts):
+        if same and Beside.fits(it, texts):
             it = Beside(it, texts, same + 1)
         with_it = it.edited(edited)
         if with_it is None or it.function in [other.function for other in together]:
@@ -333,7 +337,7 @@ class Attempt:
         """Tries them. Returns for each whether it is rejected, and the message to print."""
         if not self.edited:
             return [(False, "BAD EDIT: an 'old:' text isn't in its file exactly once") for _ in self.bodies]
-        if isinstance(self.bodies[0], RightBody):
+        if self.bodies[0].is_right:
             found = self.checked(self.bodies, self.holed(self.bodies), ["--allow-holes"])
             return [(why.startswith("NOT REFUSED"), f"with its right body: {why}") for _, why in found]
         return self.checked_twice(self.bodies)
