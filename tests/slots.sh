@@ -345,7 +345,7 @@ end
 
 begin 'a call alone below a make whose jobserver it cannot use' 0.3
 graph 1
-make -j3 > said 2>&1
+ZIGRUNK_SLOTS=3 make -j3 > said 2>&1
 at_most 3 3
 end
 
@@ -368,7 +368,7 @@ mkfifo "$room/jobs" "$room/other"
 exec 5<> "$room/jobs" 6<> "$room/other" 7>&5
 for server in fifo:"$room/missing" 5,6 5,77; do
     : > "$LOG"
-    MAKEFLAGS=" -j2 --jobserver-auth=$server" ninja -j2 > said 2>&1
+    MAKEFLAGS=" -j2 --jobserver-auth=$server" ZIGRUNK_SLOTS=3 ninja -j2 > said 2>&1
     same "status with $server" "$? $(grep -c '^-' "$LOG")" '0 8'
     at_most 2 2
     rm ./*.o
@@ -376,7 +376,7 @@ done
 exec 9>&5
 for server in 9,5 5,9 9,9; do
     : > "$LOG"
-    MAKEFLAGS=" -j3 --jobserver-auth=$server" "$script" -c 1.cu -o 1.o > said 2>&1
+    MAKEFLAGS=" -j3 --jobserver-auth=$server" ZIGRUNK_SLOTS=3 "$script" -c 1.cu -o 1.o > said 2>&1
     same "status with $server" "$? $(grep -c '^-' "$LOG")" '0 4'
     at_most 3 3
 done
