@@ -368,7 +368,7 @@ mkfifo "$room/jobs" "$room/other"
 exec 5<> "$room/jobs" 6<> "$room/other" 7>&5
 for server in fifo:"$room/missing" 5,6 5,77; do
     : > "$LOG"
-    MAKEFLAGS=" -j2 --jobserver-auth=$server" ZIGRUNK_SLOTS=3 ninja -j2 > said 2>&1
+    MAKEFLAGS=" -j2 --jobserver-auth=$server" ninja -j2 > said 2>&1
     same "status with $server" "$? $(grep -c '^-' "$LOG")" '0 8'
     at_most 2 2
     rm ./*.o
