@@ -221,7 +221,7 @@ plans() {
 cases() {
     local plain=(ZIGRUNK_EXPLAIN=1 NVCC_STATUS=5)
     # what runs a command, whose script names the helper
-    local front='slot = run() { [ ! -p "$1.answer" ] || { code=""; { printf "%s\n" "$1" >&8 && read -r code; } <> "$1.answer"; exit "${code:-1}"; }; exec perl' back='"$1"; }; run'
+    local front='slot = run() { [ ! -p "$1.answer" ] || { code=""; exec 7<> "$1.answer" 6< "$1.answer" 7>&-; printf "%s\n" "$1" >&8 && read -r code <&6; exit "${code:-1}"; }; exec perl' back='"$1"; }; run'
     local split="$room/tmp/zigrunk-$user/zigrunk-name"
 
     begin 'a call that is split'

@@ -579,10 +579,10 @@ end
 
 begin 'a server of commands and its signals'
 ignored="sed -n 's/^SigIgn:.*\\(..\\)...\$/\\1/p' /proc/self/status"
-commands ignored="$ignored" one='sleep 0.3' two='sleep 0.3'
+commands ignored="$ignored" one='sleep 0.3' two='sleep 0.3' three=:
 same 'that a command ignores neither PIPE nor CHLD' "$(serving 'ask ignored'; cat "$room/call/ignored.out")" $'ignored 0\n00'
 same 'that Ninja ignores neither' "$(serving "$ignored")" 00
-same 'a pipe that is closed early' "$(serving 'ask one & sleep 0.1; kill -PIPE "$PPID"; ask two; kill -PIPE "$PPID"; wait; ask one' | sort)" $'one 0\none 0\ntwo 0'
+same 'a pipe that is closed early' "$(serving 'ask one & sleep 0.1; kill -PIPE "$PPID"; ask two; kill -PIPE "$PPID"; wait; ask three' | sort)" $'one 0\nthree 0\ntwo 0'
 same 'a child of another' "$(serving 'for _ in 1 2 3 4 5; do kill -CHLD "$PPID"; done; ask one')" 'one 0'
 end
 
