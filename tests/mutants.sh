@@ -775,6 +775,9 @@ new:
 a command whose shell was killed goes on
 old:     kill 'TERM', keys %running;
 new: 
+no pipe is kept open for the shells
+old: { push @pipes, $answers }
+new: { close $answers }
 nobody answers for a process that was killed
 old: answer(delete $running{$ended}, 1) if
 new: delete $running{$ended} if
