@@ -279,14 +279,6 @@ fn unknown_refusal(word: &str) -> Option<Reason>
     reason_unless(is_forwardable(word), Reason::UnknownOption)
 }
 
-// Puts a copy of a value in place of an earlier one.
-fn put(last: &mut Option<Text>, alloc: Global, value: &str) -> Result<(), AllocError>
-    ensures { OnOk result (last.new ≡ Some value.now) }
-{
-    *last = Some(Text::copy_of(alloc, value)?);
-    Ok(())
-}
-
 impl Asked {
     ghost use Rattle.std.specs.Prelude.{None};
 
@@ -342,13 +334,13 @@ impl Asked {
         ensures { OnOk result (self.new ≡ spec.with_value_note value.now purpose self.old) }
     {
         match purpose {
-            Purpose::Output => put(&mut self.output, alloc, value),
-            Purpose::OutputDirectory => put(&mut self.directory, alloc, value),
-            Purpose::Language => put(&mut self.language, alloc, value),
-            Purpose::Threads => put(&mut self.threads, alloc, value),
-            Purpose::KeepDirectory => put(&mut self.keep_directory, alloc, value),
-            Purpose::DependencyFile => put(&mut self.dependency_file, alloc, value),
-            Purpose::DependencyTarget => put(&mut self.dependency_target, alloc, value),
+            Purpose::Output => Text::put_copy(&mut self.output, alloc, value),
+            Purpose::OutputDirectory => Text::put_copy(&mut self.directory, alloc, value),
+            Purpose::Language => Text::put_copy(&mut self.language, alloc, value),
+            Purpose::Threads => Text::put_copy(&mut self.threads, alloc, value),
+            Purpose::KeepDirectory => Text::put_copy(&mut self.keep_directory, alloc, value),
+            Purpose::DependencyFile => Text::put_copy(&mut self.dependency_file, alloc, value),
+            Purpose::DependencyTarget => Text::put_copy(&mut self.dependency_target, alloc, value),
             Purpose::File => self.files.push_str(alloc, value),
             _ => Ok(()),
         }

@@ -1,6 +1,6 @@
 //! Texts, and the texts that are paths.
 
-ghost use Rattle.std.specs.Prelude.{◌≡◌, ◌==◌, ◌↔◌, ◌<◌, length, reverse, IsTrue, IfOk, MatchOption, string_bytes, option_copied};
+ghost use Rattle.std.specs.Prelude.{◌≡◌, ◌==◌, ◌↔◌, ◌<◌, length, reverse, IsTrue, IfOk, OnOk, OnErr, Some, MatchOption, string_bytes, option_copied};
 ghost use Rattle.std.specs.Str.Iter.{chars_rest};
 ghost use Rattle.texts.specs.Path as spec;
 ghost use Rattle.texts.specs.Path.{is_absolute_path, separator_after, joined, trimmed_backwards, folder_of, proper_name, file_name_of, file_stem_of, JoinedKeepsFolder, JoinedHasName, FolderBegins, JoinedCancels, FoldersCancel};
@@ -102,11 +102,18 @@ impl Text {
             Some(text) => Ok(Some(text.try_clone(alloc)?)),
         }
     }
+
+    /// Puts a copy of `text` in place of an earlier text. On an error that one stays.
+    pub fn put_copy(earlier: &mut Option<Text>, alloc: Global, text: &str) -> Result<(), AllocError>
+        ensures ok { OnOk result (earlier.new ≡ Some text.now) }
+        ensures err { OnErr result (earlier.new ≡ earlier.old) }
+    {
+        *earlier = Some(Text::copy_of(alloc, text)?);
+        Ok(())
+    }
 }
 
 impl fmt::Display for Text {
-    ghost use Rattle.std.specs.Prelude.{Some};
-
     ghost output = { λ t. Some t };
 
     fn fmt<W: fmt::Write>(&self, f: &mut fmt::Formatter<W>) -> fmt::Result {

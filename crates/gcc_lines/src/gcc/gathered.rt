@@ -49,14 +49,6 @@ fn written(item: &Argument<ArgData>) -> NormalizedDisposition
     }
 }
 
-// Puts a copy of a text in place of an earlier one.
-fn put(last: &mut Option<Text>, alloc: Global, text: &str) -> Result<(), AllocError>
-    ensures { OnOk result (last.new ≡ Some text.now) }
-{
-    *last = Some(Text::copy_of(alloc, text)?);
-    Ok(())
-}
-
 // Puts two words in place of earlier ones.
 fn put_pair(
     last: &mut Option<Words>,
@@ -147,10 +139,10 @@ impl Gathered {
                 self.target_needed = true;
                 Ok(())
             }
-            ArgData::DepArgumentPath => put(&mut self.dependency_file, alloc, value),
+            ArgData::DepArgumentPath => Text::put_copy(&mut self.dependency_file, alloc, value),
             ArgData::DepTarget => put_pair(&mut self.target, alloc, text, value),
-            ArgData::DoCompilation => put(&mut self.compilation_flag, alloc, text),
-            ArgData::Output => put(&mut self.obj, alloc, value),
+            ArgData::DoCompilation => Text::put_copy(&mut self.compilation_flag, alloc, text),
+            ArgData::Output => Text::put_copy(&mut self.obj, alloc, value),
             ArgData::Language => {
                 self.language = language_from_gcc_arg(value).or(self.language);
                 Ok(())
