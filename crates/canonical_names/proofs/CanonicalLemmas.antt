@@ -1,18 +1,18 @@
--- Canonical names: their files are bare and end in their class, ranks tell the names of a class apart, and so do numerals.
-use Rattle.std.proofs.Common.{◌≡◌, ◌⊎◌, ℕ, ◌+◌, ◌-◌, ◌<◌, ◌≤◌, ◌++◌, ◌||◌, Bool, true, false, not, cond, eqb, ne_eqb, eqb-true, append_assoc, List, [], ◌∷◌, Option, Some, None, inl, inr, map, refl, ap, sym, ◌∙◌, subst, nat_eq, length, take, drop, get_or, fold, codes, arith, option_map, bytes_eq}
+-- Canonical names: their files are bare and end in their class, and ranks tell the names of a class apart.
+use Rattle.std.proofs.Common.{◌≡◌, ◌⊎◌, ℕ, ◌+◌, ◌-◌, ◌≤◌, ◌++◌, ◌||◌, Bool, true, false, not, cond, eqb, ne_eqb, append_assoc, List, [], ◌∷◌, Option, Some, None, inl, inr, map, refl, ap, sym, ◌∙◌, subst, nat_eq, length, take, drop, fold, codes, arith, option_map, bytes_eq}
 use Rattle.std.specs.List.{Contains, All, ends_with, find, list_any, list_all}
 use Rattle.std.specs.Int.Digits.{digits_of}
 use Rattle.std.proofs.lemmas.Bool.{false≢true, and_parts, and_from, cond_both, cases_lt}
 use Rattle.std.proofs.lemmas.List.{length-append, take-append-drop, append_cancel_left, append_cancel_right}
 use Rattle.std.proofs.lemmas.List.Elements.{All-nil, All-push, All-contains, Contains-append_left, Contains-append_right, Contains-append_cases, Contains-push, Contains-push_cases}
 use Rattle.std.proofs.lemmas.List.Sums.{AllPass-from_list_all}
-use Rattle.std.proofs.lemmas.Int.Digits.{same_from_digits_of, first_digits_of}
 use Rattle.std.proofs.lemmas.Slice.Eq.{bytes_eq-Decides}
 use Rattle.std.proofs.Math.Seq.{drop-append_seam, drop-append-add}
 use Rattle.texts.specs.Path.{folder_of, is_bare, lacks, separator_after}
 use Rattle.texts.proofs.PathLaw.{joined-keeps_folder, folders-cancel}
 use Rattle.command_lines.specs.CommandLines.{CommandLine, words_of_command}
 use Rattle.texts.specs.Numeral.{numeral}
+use Rattle.texts.proofs.NumeralLemmas.{numeral-same}
 use Rattle.texts.specs.Lists.{with_name}
 use Rattle.canonical_names.specs.Generated.{standard_suffixes, class_of_name, core_of, begins_with_dash, generated_name}
 use Rattle.canonical_names.specs.Renaming.{canonical_file, canonical_in, canonical_or, canonical_name, rank, seen_after_word, seen_after, names_of_run}
@@ -41,30 +41,6 @@ pub ends-append : (front s : List ℕ) → ends_with nat_eq (front ++ s) s ≡ t
 ends-append front s =
     let places : length (front ++ s) - length s ≡ length front = omega (arith, length-append front s) in
     grind (arith, drop-append_seam, bytes_eq-itself)
-
--- numerals
-unshift : (ds : List ℕ) → map (λ d. d - 48) (map (λ d. 48 + d) ds) ≡ ds
-unshift [] = refl
-unshift (d ∷ ds) = grind (arith, (unshift ds))
-
-shift-cancel : (xs ys : List ℕ) → map (λ d. 48 + d) xs ≡ map (λ d. 48 + d) ys → xs ≡ ys
-shift-cancel xs ys e = sym (unshift xs) ∙ ap (map (λ d. d - 48)) e ∙ unshift ys
-
-positive : (n : ℕ) → eqb n 0 ≡ false → 0 < n
-positive n = grind arith
-
--- no other number is written as nothing is
-no-zero_digit : (n : ℕ) → 0 < n → codes "0" ≡ map (λ d. 48 + d) (digits_of 10 n) → ⊥
-no-zero_digit n pos e =
-    let zero_digit : digits_of 10 n ≡ 0 ∷ [] = sym (unshift (digits_of 10 n)) ∙ sym (ap (map (λ d. d - 48)) e) in
-    let bad : 0 < get_or (0 ∷ []) 0 0 = subst (λ ds. 0 < get_or ds 0 0) zero_digit (first_digits_of 10 n (omega arith) pos) in
-    grind arith
-
-numeral-cases : (m n : ℕ) (a b : Bool) → eqb m 0 ≡ a → eqb n 0 ≡ b → cond a (codes "0") (map (λ d. 48 + d) (digits_of 10 m)) ≡ cond b (codes "0") (map (λ d. 48 + d) (digits_of 10 n)) → m ≡ n
-numeral-cases m n a b em en e = grind (arith, eqb-true, no-zero_digit, positive, same_from_digits_of, shift-cancel)
-
-pub numeral-same : (m n : ℕ) → numeral m ≡ numeral n → m ≡ n
-numeral-same m n e = numeral-cases m n (eqb m 0) (eqb n 0) refl refl e
 
 -- canonical files are bare
 lacks-append : (byte : ℕ) (front back : List ℕ) → lacks byte front ≡ true → lacks byte back ≡ true → lacks byte (front ++ back) ≡ true

@@ -7,6 +7,7 @@ use Rattle.std.proofs.lemmas.Option.{same_Some}
 use Rattle.texts.specs.DeviceFiles.{is_cicc_word}
 use Rattle.texts.specs.Numeral.{numeral}
 use Rattle.texts.specs.Path.{joined, is_bare, proper_name, folder_of, separator_after, file_name_of}
+use Rattle.texts.proofs.NumeralLemmas.{numeral-same}
 use Rattle.texts.proofs.PathLaw.{joined-has_name}
 use Rattle.texts.proofs.PathLemmas.{folder-lacking}
 use Rattle.canonical_names.specs.CanonicalNames.{AreSuffixes, core_by_all, word_by_all}
@@ -15,7 +16,7 @@ use Rattle.canonical_names.specs.Renaming.{canonical_file, canonical_in, rank}
 use Rattle.canonical_names.specs.Shadow.{is_cicc_file, is_plain_output}
 use Rattle.canonical_names.specs.StepShadow.{PlainOutputsStayApart}
 use Rattle.canonical_names.proofs.AgainLemmas.{Unmarked, mark-turned, long-unmarked, one-unmarked, two-unmarked, dash-unmarked, dash-canonical, not-dash}
-use Rattle.canonical_names.proofs.CanonicalLemmas.{ends-split, ends-append, two-ends, find-found, find-only, file-bare, numeral-same, canonical-front, canonical-split}
+use Rattle.canonical_names.proofs.CanonicalLemmas.{ends-split, ends-append, two-ends, find-found, find-only, file-bare, canonical-front, canonical-split}
 use Rattle.canonical_names.proofs.FileLemmas.{proper-behind, cicc-front, cicc-file, any-front, dash-file}
 use Rattle.canonical_names.proofs.ReplaceLemmas.{starts-split}
 

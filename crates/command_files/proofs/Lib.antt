@@ -5,5 +5,4 @@ pub mod OrderNeedLemmas
 pub mod OverlapLemmas
 pub mod PartLemmas
 pub mod PlanOrderLemmas
-pub mod Pushing
 pub mod TouchedLemmas

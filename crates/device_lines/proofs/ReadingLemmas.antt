@@ -1,20 +1,16 @@
 -- What a loop over the items gathers is what the reading's filters say.
-use Rattle.std.proofs.Common.{◌≡◌, ◌≤◌, arith, length, ℕ, List, [], ◌∷◌, ◌++◌, Bool, true, false, cond, ◌||◌, Some, None, map, refl, ap, sym, ◌∙◌, append_assoc, append-nil, filter}
+use Rattle.std.proofs.Common.{◌≡◌, arith, ℕ, List, [], ◌∷◌, ◌++◌, Bool, true, false, cond, ◌||◌, Some, None, map, refl, ap, sym, ◌∙◌, append_assoc, append-nil, filter}
 use Rattle.std.specs.List.{filter_map, cons_option, flat_map, list_any, fold}
 use Rattle.std.proofs.lemmas.List.Sums.{fold-append}
 use Rattle.texts.specs.declared.language.Language.{Language}
 use Rattle.compilers.specs.Outputs.{with_entry}
-use Rattle.option_items.specs.Items.{Item, Said, item, option, Completes, words_of, kind_of}
+use Rattle.option_items.specs.Items.{Item, words_of, kind_of}
 use Rattle.device_lines.specs.declared.options.ArgData.{ArgData}
 use Rattle.device_lines.specs.declared.reader.gathered.Gathered.{Gathered}
 use Rattle.device_lines.specs.declared.reader.named_files.NamedFiles.{NamedFiles}
 use Rattle.device_lines.specs.Reading.{is_common, beside, is_unhashed_kind, output_of, outputs_of, module_id, module_id_of, module_id_file, is_generating, reading_of_items}
 use Rattle.device_lines.specs.Gathered.{no_files, nothing_gathered, with_files_of, with_item, with_output, all_outputs, reading_of_gathered}
 use Rattle.texts.specs.Lists.{latest}
-
--- what completes an item takes words from the line, and puts none back
-pub words-completed : (s : Said ArgData) (before : List (List ℕ)) (i : Item ArgData) (after : List (List ℕ)) → Completes s before i after → length after ≤ length before
-words-completed s before i after h = grind arith
 
 -- words put after those so far, where a test says so
 kept_words : (b : Bool) (so_far words rest : List (List ℕ)) → cond b (so_far ++ words) so_far ++ rest ≡ so_far ++ cond b (words ++ rest) rest

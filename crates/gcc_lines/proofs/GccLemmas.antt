@@ -1,5 +1,5 @@
 -- A gcc command line read item by item.
-use Rattle.std.proofs.Common.{◌≡◌, ℕ, Bool, true, false, cond, ◌||◌, List, [], ◌∷◌, ◌++◌, map, fold, Option, Some, None, Result, Ok, Err, ◌≤◌, length, arith, refl, ap, sym, ◌∙◌, append_assoc, append-nil}
+use Rattle.std.proofs.Common.{◌≡◌, ℕ, Bool, true, false, cond, ◌||◌, List, [], ◌∷◌, ◌++◌, map, fold, Option, Some, None, Result, Ok, Err, arith, refl, ap, sym, ◌∙◌, append_assoc, append-nil}
 use Rattle.std.specs.List.{list_any}
 use Rattle.std.specs.Option.{option_or}
 use Rattle.std.proofs.Math.Bool.{or-false, or-true}
@@ -102,10 +102,6 @@ added-raw cwd g (w ∷ line) =
 -- an option is no `--`
 last_item-dashes : (e : Entry ArgData) → is_double_dash (last_item e) ≡ false
 last_item-dashes e = elim (may_stand_last e.form) as (λ b. is_double_dash (cond b (with_value e.text e.kind [] (joined_form e.form)) faulty) ≡ false) [ true ↦ refl | false ↦ refl ]
-
--- an item leaves no more words than there were
-pub words-completed : (s : Said ArgData) (before : List (List ℕ)) (i : Item ArgData) (after : List (List ℕ)) → Completes s before i after → length after ≤ length before
-words-completed s before i after h = grind arith
 
 module _ (chosen : List ℕ → Option (Entry ArgData)) where
   -- the items of a line that an item begins

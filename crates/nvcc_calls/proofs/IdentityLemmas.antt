@@ -6,7 +6,7 @@ use Rattle.std.proofs.lemmas.Int.Digits.{all_below_base_digits_of}
 use Rattle.std.proofs.Math.Seq.{take-append_seam, drop-append_seam}
 use Rattle.texts.specs.Path.{lacks}
 use Rattle.texts.specs.Numeral.{numeral}
-use Rattle.canonical_names.proofs.CanonicalLemmas.{numeral-same}
+use Rattle.texts.proofs.NumeralLemmas.{numeral-same}
 use Rattle.nvcc_calls.specs.Directory.{sized, identity, IdentitiesDiffer}
 
 -- a number holds no colon

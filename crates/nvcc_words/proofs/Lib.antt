@@ -1,3 +1,2 @@
 pub mod KeepingLemmas
 pub mod LawLemmas
-pub mod LineLemmas

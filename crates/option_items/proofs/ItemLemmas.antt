@@ -1,7 +1,11 @@
 -- A line read item by item.
-use Rattle.std.proofs.Common.{◌≡◌, ℕ, List, [], ◌∷◌, Option, refl, arith}
+use Rattle.std.proofs.Common.{◌≡◌, ℕ, ◌≤◌, List, [], ◌∷◌, Option, length, refl, arith}
 use Rattle.option_items.specs.Table.{Entry}
 use Rattle.option_items.specs.Items.{Item, Said, item, option, items, said_of, last_item, separate_item, Completes}
+
+-- an item leaves no more words than there were
+pub words-completed : {T : Type 0} (s : Said T) (before : List (List ℕ)) (i : Item T) (after : List (List ℕ)) → Completes s before i after → length after ≤ length before
+words-completed s before i after h = grind arith
 
 module _ {T : Type 0} (chosen : List ℕ → Option (Entry T)) where
   -- the last word of a line

@@ -28,7 +28,7 @@ use Rattle.plan_scripts.specs.ReadBack.{IsOfTexts}
 use Rattle.plan_exports.specs.ReadGraph.{parts_at, behind, Edge, path_of, head_parts, head_behind, with_edge, edges_from, edges_in, edges_of_lines, edges_of, path_at, place_path, awaited_paths, edge_at, edges_at, plan_commands, plan_edges, IsDroppedText}
 use Rattle.command_files.specs.Order.{needs_at}
 use Rattle.command_files.specs.PlanNeeds.{plan_needs}
-use Rattle.plan_scripts.proofs.NumeralLemmas.{utf8-numeral}
+use Rattle.texts.proofs.NumeralLemmas.{utf8-numeral}
 use Rattle.plan_scripts.proofs.TextLemmas.{written_utf8}
 use Rattle.plan_exports.proofs.ValueLemmas.{value_reads_back}
 

@@ -8,7 +8,7 @@ use Rattle.std.proofs.lemmas.List.Folds.{list_any-append}
 use Rattle.std.proofs.lemmas.Slice.Eq.{bytes_eq-Decides}
 use Rattle.texts.specs.Lists.{rest_after}
 use Rattle.texts.specs.Numeral.{numeral}
-use Rattle.plan_scripts.proofs.NumeralLemmas.{numeral-same}
+use Rattle.texts.proofs.NumeralLemmas.{numeral-same}
 use Rattle.plans.specs.declared.plan.NvccGeneratedSubcommand.{NvccGeneratedSubcommand}
 use Rattle.plans.specs.declared.plan.Plan.{Plan}
 use Rattle.command_files.specs.declared.steps.Role.TheVariants as roles

@@ -8,7 +8,7 @@ use Rattle.shell_words.specs.Shell.Quoting.{written}
 use Rattle.plans.specs.declared.plan.NvccGeneratedSubcommand.{NvccGeneratedSubcommand}
 use Rattle.plan_scripts.specs.CommandText.{assignment}
 use Rattle.plan_scripts.specs.ReadBack.{IsOfTexts, shell_tokens}
-use Rattle.plan_scripts.proofs.NumeralLemmas.{utf8-numeral}
+use Rattle.texts.proofs.NumeralLemmas.{utf8-numeral}
 use Rattle.plan_scripts.proofs.TextLemmas.{plain_chars, assignments_utf8}
 use Rattle.plan_scripts.proofs.ReadBackLemmas.{written_then, text_then, touch_reads}
 use Rattle.plan_makeflow.specs.CommandText.{run_words}

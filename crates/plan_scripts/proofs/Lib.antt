@@ -1,3 +1,2 @@
-pub mod NumeralLemmas
 pub mod ReadBackLemmas
 pub mod TextLemmas

@@ -1,10 +1,10 @@
 -- A POSIX shell reads a command's text, and a script, as the commands.
-use Rattle.std.proofs.Common.{ℕ, List, [], ◌∷◌, ◌++◌, ◌≡◌, refl, sym, ap, ◌∙◌, append_assoc, append-nil, map, Some, true, false, Option, codes, option_map, option_and_then, IsUtf8, chars, arith}
+use Rattle.std.proofs.Common.{ℕ, List, [], ◌∷◌, ◌++◌, ◌≡◌, refl, sym, ap, ◌∙◌, append_assoc, append-nil, map, Some, true, false, codes, IsUtf8, chars, arith}
 use Rattle.std.specs.List.{AllByRecursion, flat_map}
 use Rattle.std.proofs.lemmas.Str.{chars-nil}
-use Rattle.shell_words.specs.Posix.{Token, Word, Operator, Place, Between, After, Inside, Step, step, prepend, with_step, tokens_from, tokens, is_apart}
+use Rattle.shell_words.specs.Posix.{Token, Word, Operator, Place, Between, After, Inside, step, prepend, tokens_from, tokens, is_apart}
 use Rattle.shell_words.specs.Shell.Quoting.{written}
-use Rattle.shell_words.proofs.PosixLemmas.{quoted_before}
+use Rattle.shell_words.proofs.PosixLemmas.{reading, quoted_before}
 use Rattle.plans.specs.declared.plan.NvccGeneratedSubcommand.{NvccGeneratedSubcommand}
 use Rattle.plans.specs.declared.plan.Plan.{Plan}
 use Rattle.plan_scripts.specs.CommandText.{assignment, env_words, command_text}
@@ -17,10 +17,7 @@ use Rattle.plan_scripts.proofs.TextLemmas.{written_chars, plain_chars, assignmen
 prepend-nothing : (ts : List Token) → prepend [] ts ≡ ts
 prepend-nothing ts = grind arith
 
--- a character that adds something, one that adds nothing, and one that ends a token
-reading : (place : Place) (c : ℕ) (cs : List ℕ) (s : Step) (ts : List Token) → step place c ≡ Some s → tokens_from s.0 cs ≡ Some ts → tokens_from place (c ∷ cs) ≡ Some (with_step s ts)
-reading place c cs s ts read found = grind arith
-
+-- a character that adds nothing, one that ends a token, and one that stands in a word
 skipping : (place : Place) (c : ℕ) (cs : List ℕ) (next : Place) (ts : List Token) → step place c ≡ Some (next, [], []) → tokens_from next cs ≡ Some ts → tokens_from place (c ∷ cs) ≡ Some ts
 skipping place c cs next ts read found = reading place c cs (next, [], []) ts read found ∙ ap Some (prepend-nothing ts)
 

@@ -1,5 +1,5 @@
 -- The characters of texts that are written of UTF-8.
-use Rattle.std.proofs.Common.{ℕ, List, [], ◌∷◌, ◌++◌, ◌≡◌, refl, sym, ap, ◌∙◌, append_assoc, map, true, ◌==◌, ◌&&◌, encode_utf8_all, IsUtf8, chars, arith}
+use Rattle.std.proofs.Common.{ℕ, List, [], ◌∷◌, ◌++◌, ◌≡◌, refl, sym, ap, ◌∙◌, map, true, ◌==◌, ◌&&◌, encode_utf8_all, IsUtf8, chars, arith}
 use Rattle.std.specs.List.{AllByRecursion, flat_map}
 use Rattle.std.proofs.Math.Utf8.{scalars}
 use Rattle.std.proofs.lemmas.Bool.{cond_both, and_parts}
@@ -54,7 +54,3 @@ unfolding lib.Utf8.encode
 assignments_utf8 [] are = tt
 assignments_utf8 (p ∷ variables) are =
     (IsUtf8-append p.0 (61 ∷ p.1) are.0.0 (IsUtf8-append (61 ∷ []) p.1 (61 ∷ [], (refl, refl)) are.0.1), assignments_utf8 variables are.1)
-
--- what stands behind a pushed part stands behind that part and the text before it
-pub pushed : (before part after rest : List ℕ) → after ≡ before ++ part → after ++ rest ≡ before ++ (part ++ rest)
-pushed before part after rest e = ap (λ t. t ++ rest) e ∙ append_assoc before part rest

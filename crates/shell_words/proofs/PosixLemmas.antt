@@ -8,7 +8,7 @@ use Rattle.shell_words.specs.Posix.{Token, Word, Role, Blank, Lone, Opening, Pla
 use Rattle.shell_words.specs.Shell.Quoting.{is_safe, is_plain, quoted_char, quoted_word, further, quoted}
 
 -- the tokens after one more character in front
-reading : (place : Place) (c : ℕ) (cs : List ℕ) (s : Step) (ts : List Token) → step place c ≡ Some s → tokens_from s.0 cs ≡ Some ts → tokens_from place (c ∷ cs) ≡ Some (with_step s ts)
+pub reading : (place : Place) (c : ℕ) (cs : List ℕ) (s : Step) (ts : List Token) → step place c ≡ Some s → tokens_from s.0 cs ≡ Some ts → tokens_from place (c ∷ cs) ≡ Some (with_step s ts)
 reading place c cs s ts read found = grind arith
 
 -- ---- a word in quotes

@@ -5,4 +5,5 @@ pub mod ListLemmas
 pub mod NumeralLemmas
 pub mod PathLaw
 pub mod PathLemmas
+pub mod PushedLemmas
 pub mod RestLemmas

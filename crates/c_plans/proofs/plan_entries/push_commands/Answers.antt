@@ -1,6 +1,6 @@
 use Rattle.std.proofs.Common.{ℕ, ◌+◌, List, ◌∷◌, [], length, drop, sym, ap, ◌∙◌, length-append}
 use Rattle.command_files.specs.Numbered.{of_group}
-use Rattle.command_files.proofs.Pushing.{next-left}
+use Rattle.texts.proofs.PushedLemmas.{next-left}
 use Rattle.c_plans.specs.Records.{Entry, command_entry, shared_seen, record_at, with_entry, with_entries}
 use Rattle.c_plans.proofs.RecordLemmas.{entry-then}
 use Rattle.c_plans.proofs.plan_entries.push_commands.Goals as goal

@@ -1,5 +1,5 @@
 use Rattle.std.proofs.Common.{◌+◌, List, drop, map, sym, ap, ◌∙◌}
-use Rattle.command_files.proofs.Pushing.{next-left}
+use Rattle.texts.proofs.PushedLemmas.{next-left}
 use Rattle.c_plans.specs.Records.{Entry, dropped_entry, with_entry, with_entries}
 use Rattle.c_plans.proofs.RecordLemmas.{entry-then}
 use Rattle.c_plans.proofs.plan_entries.push_dropped.Goals as goal

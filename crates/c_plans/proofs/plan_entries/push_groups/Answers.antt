@@ -1,7 +1,7 @@
 use Rattle.std.proofs.Common.{◌+◌, List, ◌∷◌, length, drop, map, sym, ap, ◌∙◌, vec_items}
 use Rattle.plans.specs.declared.plan.NvccGeneratedSubcommand.{NvccGeneratedSubcommand}
 use Rattle.command_files.specs.Numbered.{of_groups}
-use Rattle.command_files.proofs.Pushing.{next-left}
+use Rattle.texts.proofs.PushedLemmas.{next-left}
 use Rattle.c_plans.specs.Records.{command_entry, shared_seen, groups_at, with_groups}
 use Rattle.c_plans.proofs.RecordLemmas.{groups-step}
 use Rattle.c_plans.proofs.plan_entries.push_groups.Goals as goal

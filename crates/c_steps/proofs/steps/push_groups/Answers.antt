@@ -1,6 +1,6 @@
 use Rattle.std.proofs.Common.{◌+◌, List, ◌∷◌, drop, length, map, vec_items, sym, ap, ◌∙◌}
 use Rattle.plans.specs.declared.plan.NvccGeneratedSubcommand.{NvccGeneratedSubcommand}
-use Rattle.command_files.proofs.Pushing.{next-left}
+use Rattle.texts.proofs.PushedLemmas.{next-left}
 use Rattle.c_steps.specs.Steps.{commands_of, extras_from, known_seen, with_extras}
 use Rattle.c_steps.proofs.StepLemmas.{group-then}
 use Rattle.c_steps.proofs.steps.push_groups.Goals as goal

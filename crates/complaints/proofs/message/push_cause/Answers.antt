@@ -1,10 +1,7 @@
-use Rattle.std.proofs.Common.{◌≡◌, ℕ, List, ◌++◌, string_bytes, Result, Ok, Err, OnOk, is_ok, if◌then◌else◌, sym, ap, ◌∙◌}
+use Rattle.std.proofs.Common.{◌++◌, string_bytes, is_ok, if◌then◌else◌, sym, ap, ◌∙◌}
+use Rattle.texts.proofs.PushedLemmas.{on-ok}
 use Rattle.complaints.specs.Messages.{cause}
 use Rattle.complaints.proofs.message.push_cause.Goals as goal
-
-on-ok : {X E : Type 0} (r : Result X E) (new long short : List ℕ) → new ≡ (if is_ok r then long else short) → OnOk r (new ≡ long)
-on-ok (Ok x) new long short e = e
-on-ok (Err x) new long short e = tt
 
 pub returns-in-NotUtf8 : goal.returns-in-NotUtf8
 returns-in-NotUtf8 c =

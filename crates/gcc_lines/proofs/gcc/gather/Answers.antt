@@ -4,8 +4,9 @@ use Rattle.option_items.specs.declared.items.Argument.{Argument}
 use Rattle.option_items.specs.declared.items.ArgParseError.{ArgParseError}
 use Rattle.option_items.specs.Table.{Entry, entry_of}
 use Rattle.option_items.specs.Items.{Completes, said_of, item_of, item_read}
+use Rattle.option_items.proofs.ItemLemmas.{words-completed}
 use Rattle.gcc_lines.specs.GccSteps.{asked_by}
-use Rattle.gcc_lines.proofs.GccLemmas.{gathering_after, words-completed, after_item, after_refusal, after_dashes}
+use Rattle.gcc_lines.proofs.GccLemmas.{gathering_after, after_item, after_refusal, after_dashes}
 use Rattle.gcc_lines.proofs.gcc.gather.Goals as goal
 
 pub returns-then-is_dashes : goal.returns-then-is_dashes

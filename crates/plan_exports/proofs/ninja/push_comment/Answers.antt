@@ -1,7 +1,7 @@
 use Rattle.std.proofs.Common.{◌≡◌, OnOk, string_bytes, subst, codes}
 use Rattle.texts.specs.Numeral.{numeral}
 use Rattle.plan_exports.specs.Graph.{comment_words}
-use Rattle.command_files.proofs.Pushing.{pushed-parts}
+use Rattle.texts.proofs.PushedLemmas.{pushed-parts}
 use Rattle.plan_exports.proofs.ninja.push_comment.Goals as goal
 
 pub returns : goal.returns

@@ -1,6 +1,6 @@
 use Rattle.std.proofs.Common.{◌+◌, ◌++◌, string_bytes, drop, sym, ap, ◌∙◌, flat_map}
 use Rattle.plan_exports.specs.Graph.{comment}
-use Rattle.command_files.proofs.Pushing.{pushed, next-left}
+use Rattle.texts.proofs.PushedLemmas.{pushed, next-left}
 use Rattle.plan_exports.proofs.ninja.push_comments.Goals as goal
 
 pub loop-command-preserved : goal.loop-command-preserved

@@ -1,6 +1,6 @@
 use Rattle.std.proofs.Common.{◌≡◌, OnOk, string_bytes, subst, codes}
 use Rattle.plan_exports.specs.Graph.{stamp_below, edge_line}
-use Rattle.command_files.proofs.Pushing.{pushed-parts}
+use Rattle.texts.proofs.PushedLemmas.{pushed-parts}
 use Rattle.plan_exports.proofs.ninja.push_edge_text.Goals as goal
 
 pub returns : goal.returns

@@ -1,7 +1,7 @@
 use Rattle.std.proofs.Common.{◌≡◌, ◌+◌, ◌++◌, string_bytes, vec_items, map, drop, sym, ap, ◌∙◌}
 use Rattle.command_files.specs.Order.{needs_at}
 use Rattle.plan_exports.specs.Graph.{edge, waits, awaited, edges_from}
-use Rattle.command_files.proofs.Pushing.{pushed, next-left}
+use Rattle.texts.proofs.PushedLemmas.{pushed, next-left}
 use Rattle.plan_exports.proofs.ninja.push_edges.Goals as goal
 
 pub loop-place-preserved : goal.loop-place-preserved

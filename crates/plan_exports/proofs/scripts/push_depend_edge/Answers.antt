@@ -1,7 +1,7 @@
 use Rattle.std.proofs.Common.{◌≡◌, ◌++◌, OnOk, string_bytes, subst, ap, ◌∙◌, codes}
 use Rattle.plan_exports.specs.Graph.{edge_line}
 use Rattle.plan_exports.specs.Scripts.{stamps_of, depend_command}
-use Rattle.command_files.proofs.Pushing.{pushed}
+use Rattle.texts.proofs.PushedLemmas.{pushed}
 use Rattle.plan_exports.proofs.scripts.push_depend_edge.Goals as goal
 
 pub returns : goal.returns

@@ -1,7 +1,7 @@
 use Rattle.std.proofs.Common.{◌≡◌, [], ◌∷◌, ◌++◌, OnOk, string_bytes, subst, codes}
 use Rattle.shell_words.specs.Shell.Quoting.{written}
 use Rattle.plan_exports.specs.Graph.{depended}
-use Rattle.command_files.proofs.Pushing.{pushed}
+use Rattle.texts.proofs.PushedLemmas.{pushed}
 use Rattle.plan_exports.proofs.scripts.push_touch.Goals as goal
 
 pub returns : goal.returns

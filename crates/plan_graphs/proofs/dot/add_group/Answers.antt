@@ -1,7 +1,7 @@
 use Rattle.std.proofs.Common.{◌+◌, ◌++◌, [], ◌∷◌, drop, length, sym, ap, ◌∙◌, arith}
 use Rattle.plan_graphs.specs.Dot.{node_line}
 use Rattle.command_files.specs.Numbered.{of_group}
-use Rattle.command_files.proofs.Pushing.{pushed-items, next-left}
+use Rattle.texts.proofs.PushedLemmas.{pushed-items, next-left}
 use Rattle.plan_graphs.proofs.dot.add_group.Goals as goal
 
 pub loop-command-preserved : goal.loop-command-preserved

@@ -1,6 +1,6 @@
 use Rattle.std.proofs.Common.{◌+◌, ◌++◌, string_bytes, drop, sym, ap, ◌∙◌}
 use Rattle.plan_graphs.specs.Dot.{dropped_line, dropped_from}
-use Rattle.command_files.proofs.Pushing.{pushed, next-left}
+use Rattle.texts.proofs.PushedLemmas.{pushed, next-left}
 use Rattle.plan_graphs.proofs.dot.push_all_dropped.Goals as goal
 
 pub loop-place-preserved : goal.loop-place-preserved

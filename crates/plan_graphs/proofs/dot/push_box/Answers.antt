@@ -1,7 +1,7 @@
 use Rattle.std.proofs.Common.{◌≡◌, OnOk, string_bytes, subst, codes}
 use Rattle.texts.specs.Numeral.{numeral}
 use Rattle.plan_graphs.specs.Dot.{title}
-use Rattle.command_files.proofs.Pushing.{pushed-parts, on-ok}
+use Rattle.texts.proofs.PushedLemmas.{pushed-parts, on-ok}
 use Rattle.plan_graphs.proofs.dot.push_box.Goals as goal
 
 pub returns : goal.returns

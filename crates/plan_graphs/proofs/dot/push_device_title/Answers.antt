@@ -1,7 +1,7 @@
 use Rattle.std.proofs.Common.{◌≡◌, ◌++◌, OnOk, string_bytes, subst, codes}
 use Rattle.texts.specs.Numeral.{numeral}
 use Rattle.plan_graphs.specs.Dot.{device_title}
-use Rattle.command_files.proofs.Pushing.{pushed}
+use Rattle.texts.proofs.PushedLemmas.{pushed}
 use Rattle.plan_graphs.proofs.dot.push_device_title.Goals as goal
 
 pub returns : goal.returns

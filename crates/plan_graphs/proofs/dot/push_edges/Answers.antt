@@ -1,6 +1,6 @@
 use Rattle.std.proofs.Common.{◌≡◌, ◌+◌, ◌++◌, string_bytes, vec_items, map, drop, sym, ap, ◌∙◌, flat_map}
 use Rattle.plan_graphs.specs.Dot.{edge, edges_from}
-use Rattle.command_files.proofs.Pushing.{pushed, next-left}
+use Rattle.texts.proofs.PushedLemmas.{pushed, next-left}
 use Rattle.plan_graphs.proofs.dot.push_edges.Goals as goal
 
 pub loop-number-preserved : goal.loop-number-preserved

@@ -2,7 +2,7 @@ use Rattle.std.proofs.Common.{◌+◌, ◌++◌, [], ◌∷◌, append-nil, map,
 use Rattle.serde_json.specs.Data.{array}
 use Rattle.serde_json.specs.View.{items_of, view}
 use Rattle.serde_json.proofs.Views.{view-Array}
-use Rattle.command_files.proofs.Pushing.{pushed-items, next-left}
+use Rattle.texts.proofs.PushedLemmas.{pushed-items, next-left}
 use Rattle.plan_json.specs.Json.{dropped_data}
 use Rattle.plan_json.proofs.json.all_dropped_value.Goals as goal
 

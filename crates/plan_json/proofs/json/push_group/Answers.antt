@@ -2,7 +2,7 @@ use Rattle.std.proofs.Common.{◌≡◌, ◌+◌, ◌++◌, [], ◌∷◌, map, 
 use Rattle.serde_json.specs.View.{view}
 use Rattle.plan_json.specs.Json.{Known, command_at}
 use Rattle.command_files.specs.Numbered.{of_group}
-use Rattle.command_files.proofs.Pushing.{pushed-items, one-longer, next-left}
+use Rattle.texts.proofs.PushedLemmas.{pushed-items, one-longer, next-left}
 use Rattle.plan_json.proofs.json.push_group.Goals as goal
 
 pub loop-command-preserved : goal.loop-command-preserved

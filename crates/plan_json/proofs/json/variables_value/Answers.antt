@@ -3,7 +3,7 @@ use Rattle.serde_json.specs.Data.{array}
 use Rattle.serde_json.specs.View.{items_of, view}
 use Rattle.serde_json.proofs.Views.{view-Array}
 use Rattle.texts.specs.Variables.{pair_of}
-use Rattle.command_files.proofs.Pushing.{pushed-items, next-left}
+use Rattle.texts.proofs.PushedLemmas.{pushed-items, next-left}
 use Rattle.plan_json.specs.Json.{variable_data}
 use Rattle.plan_json.proofs.json.variables_value.Goals as goal
 

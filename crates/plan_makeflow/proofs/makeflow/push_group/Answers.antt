@@ -1,7 +1,7 @@
 use Rattle.std.proofs.Common.{◌≡◌, ◌+◌, ◌++◌, [], ◌∷◌, map, drop, length, sym, ap, ◌∙◌, arith}
 use Rattle.serde_json.specs.View.{view}
 use Rattle.command_files.specs.Numbered.{of_group}
-use Rattle.command_files.proofs.Pushing.{pushed-items, one-longer, next-left}
+use Rattle.texts.proofs.PushedLemmas.{pushed-items, one-longer, next-left}
 use Rattle.plan_makeflow.specs.Makeflow.{rule_data}
 use Rattle.plan_makeflow.specs.Rules.{Known, seen, rule_at, rule_in}
 use Rattle.plan_makeflow.proofs.makeflow.push_group.Goals as goal

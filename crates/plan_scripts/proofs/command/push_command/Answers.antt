@@ -1,7 +1,7 @@
 use Rattle.std.proofs.Common.{◌≡◌, [], ◌∷◌, ◌++◌, OnOk, string_bytes, subst, ap, ◌∙◌, codes}
 use Rattle.shell_words.specs.Shell.Quoting.{written}
 use Rattle.plan_scripts.specs.CommandText.{env_words, command_text}
-use Rattle.plan_scripts.proofs.TextLemmas.{pushed}
+use Rattle.texts.proofs.PushedLemmas.{pushed}
 use Rattle.plan_scripts.proofs.command.push_command.Goals as goal
 
 pub returns : goal.returns

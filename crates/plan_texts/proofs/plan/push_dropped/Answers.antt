@@ -2,7 +2,7 @@ use Rattle.std.proofs.Common.{◌≡◌, [], ◌∷◌, ◌++◌, OnOk, map, str
 use Rattle.texts.specs.Numeral.{numeral}
 use Rattle.plans.specs.Reasons.{reason_name}
 use Rattle.plan_texts.specs.ShownPlan.{show_words}
-use Rattle.plan_texts.proofs.Pushing.{pushed}
+use Rattle.texts.proofs.PushedLemmas.{pushed}
 use Rattle.plan_texts.proofs.plan.push_dropped.Goals as goal
 
 pub returns : goal.returns

@@ -1,12 +1,8 @@
-use Rattle.std.proofs.Common.{◌≡◌, ◌++◌, ◌∙◌, List, ℕ, Result, Ok, Err, OnOk, is_ok, if◌then◌else◌, ap, sym, arith, map, string_bytes, length}
+use Rattle.std.proofs.Common.{◌≡◌, ◌++◌, ◌∙◌, is_ok, if◌then◌else◌, ap, sym, arith, map, string_bytes, length}
 use Rattle.std.proofs.lemmas.List.{nil_from_length}
+use Rattle.texts.proofs.PushedLemmas.{on-ok}
 use Rattle.usage.specs.Misuse.{form_of_words}
 use Rattle.usage.proofs.misuse.push_form_of.Goals as goal
-
--- what a text that was added is, if it was added
-on-ok : {X E : Type 0} (r : Result X E) (new long short : List ℕ) → new ≡ (if is_ok r then long else short) → OnOk r (new ≡ long)
-on-ok (Ok x) new long short is = is
-on-ok (Err x) new long short is = tt
 
 pub returns-in-empty : goal.returns-in-empty
 returns-in-empty c =

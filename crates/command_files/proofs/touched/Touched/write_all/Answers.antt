@@ -1,6 +1,6 @@
 use Rattle.std.proofs.Common.{◌+◌, ◌∷◌, ◌++◌, map, string_bytes, drop, ap, sym, ◌∙◌, append_assoc}
 use Rattle.command_files.specs.Touched.{readers_seen, writers_seen, with_number, with_numbers, below, touching_either}
-use Rattle.command_files.proofs.Pushing.{next-left}
+use Rattle.texts.proofs.PushedLemmas.{next-left}
 use Rattle.command_files.proofs.TouchedLemmas.{touching_noted}
 use Rattle.command_files.proofs.touched.Touched.write_all.Goals as goal
 

@@ -2,11 +2,10 @@ use Rattle.std.proofs.Common.{◌∙◌, ap, sym, subst, arith, length, fold, ma
 use Rattle.option_items.specs.Table.{Entry, entry_of, longest_match}
 use Rattle.option_items.specs.Items.{Completes, said_of}
 use Rattle.option_items.specs.Views.{item_viewed}
-use Rattle.option_items.proofs.ItemLemmas.{items-completed}
+use Rattle.option_items.proofs.ItemLemmas.{items-completed, words-completed}
 use Rattle.texts.specs.Variables.{pair_of}
 use Rattle.nvcc_options.specs.declared.options.Purpose.{Purpose}
 use Rattle.nvcc_words.specs.Asked.{with_line_item, nvcc_entry, line_asked_after}
-use Rattle.nvcc_words.proofs.LineLemmas.{words-completed}
 use Rattle.nvcc_words.proofs.asked.Asked.take_line.Goals as goal
 
 pub loop-word-smaller : goal.loop-word-smaller

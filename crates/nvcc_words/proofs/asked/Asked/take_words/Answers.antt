@@ -2,10 +2,9 @@ use Rattle.std.proofs.Common.{◌∙◌, ap, sym, subst, arith, length, fold, Op
 use Rattle.option_items.specs.Table.{Entry, entry_of, longest_match}
 use Rattle.option_items.specs.Items.{Completes, said_of}
 use Rattle.option_items.specs.Views.{item_viewed}
-use Rattle.option_items.proofs.ItemLemmas.{items-completed}
+use Rattle.option_items.proofs.ItemLemmas.{items-completed, words-completed}
 use Rattle.nvcc_options.specs.declared.options.Purpose.{Purpose}
 use Rattle.nvcc_words.specs.Asked.{with_item, nvcc_entry, asked_after}
-use Rattle.nvcc_words.proofs.LineLemmas.{words-completed}
 use Rattle.nvcc_words.proofs.asked.Asked.take_words.Goals as goal
 
 pub loop-word-smaller : goal.loop-word-smaller

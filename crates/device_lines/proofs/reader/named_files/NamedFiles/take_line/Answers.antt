@@ -2,10 +2,9 @@ use Rattle.std.proofs.Common.{Option, arith, length, ap, subst, sym, ◌∙◌, 
 use Rattle.option_items.specs.Table.{Entry, entry_of}
 use Rattle.option_items.specs.Items.{Completes, items, said_of}
 use Rattle.option_items.specs.Views.{item_viewed}
-use Rattle.option_items.proofs.ItemLemmas.{items-completed}
+use Rattle.option_items.proofs.ItemLemmas.{items-completed, words-completed}
 use Rattle.device_lines.specs.declared.options.ArgData.{ArgData}
 use Rattle.device_lines.specs.Gathered.{with_files_of}
-use Rattle.device_lines.proofs.ReadingLemmas.{words-completed}
 use Rattle.device_lines.proofs.reader.named_files.NamedFiles.take_line.Goals as goal
 
 pub loop-word-smaller : goal.loop-word-smaller
