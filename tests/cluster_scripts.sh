@@ -181,7 +181,8 @@ machines() {
 
     begin 'a machine that comes back'
     printf '%s\n' user@one user@two > nodes
-    runs ssh/parallel.sh SSH_DOES="[ -e '$room/back' ] || $down" PARALLEL_DOES="touch '$room/back'; sleep 5; cp \"\$2\" \"\$LOG.live\"" nodes list
+    runs ssh/parallel.sh SSH_DOES="[ -e '$room/back' ] || $down" \
+        PARALLEL_DOES="touch '$room/back'; tries=0; until grep -q user@two \"\$2\" || [ \$((tries += 1)) -gt 600 ]; do sleep 0.1; done; cp \"\$2\" \"\$LOG.live\"" nodes list
     same 'status and messages' "$status $(sed 's/ssh -o.* user/ssh user/' "$room/err")" $'0 parallel.sh: left out: user@two\nparallel.sh: back: user@two'
     same 'machines with calls' "$(sed 's/ -o [^ ]*//g' "$room/log.live")" $'ssh user@one\nssh user@two'
     end_case

@@ -204,7 +204,7 @@ same 'another one' "$(launched fatbinary)" 'fatbinary -c'
 same 'none' "$(launched none)" ''
 end
 
-begin 'a call alone' 0.4
+begin 'a call alone' 1
 graph 1
 begun=$SECONDS
 ZIGRUNK_SLOTS=3 "$script" -c 1.cu -o 1.o > said 2>&1
@@ -324,13 +324,13 @@ same commands "$(grep -c '^+' "$LOG")" 48
 at_most 3 2
 end
 
-begin 'a call alone with the jobserver of make' 0.4
+begin 'a call alone with the jobserver of make' 1
 graph 1 +
 ZIGRUNK_SLOTS=0 make -j3 > said 2>&1
 at_most 3 3
 end
 
-begin 'a jobserver that is a named pipe' 0.3
+begin 'a jobserver that is a named pipe' 1
 graph 2
 mkfifo "$room/jobs"
 exec 5<> "$room/jobs"
@@ -343,7 +343,7 @@ same 'tokens' "$(dd bs=9 count=1 iflag=nonblock if="$room/jobs" 2> /dev/null)" +
 exec 5>&-
 end
 
-begin 'a call alone below a make whose jobserver it cannot use' 0.3
+begin 'a call alone below a make whose jobserver it cannot use' 1
 graph 1
 ZIGRUNK_SLOTS=3 make -j3 > said 2>&1
 at_most 3 3
