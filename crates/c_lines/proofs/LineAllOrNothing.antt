@@ -1,10 +1,10 @@
 -- Records of a line are written as a whole, or not at all.
-use Rattle.std.proofs.Common.{◌≡◌, ◌++◌, ◌&&◌, Bool, true, false, List, length, take, drop, inl, inr, refl, sym, ap, subst, ◌∙◌, arith}
+use Rattle.std.proofs.Common.{◌≡◌, ◌++◌, ◌&&◌, Bool, true, false, List, length, drop, sym, ap, subst, ◌∙◌, arith}
 use Rattle.std.proofs.Math.Seq.{drop-append_seam, take-append_seam}
-use Rattle.std.proofs.lemmas.Bool.{le-leb, lt-leb}
-use Rattle.c_texts.specs.Memory.{filled, fits}
+use Rattle.std.proofs.lemmas.Bool.{le-leb}
+use Rattle.c_texts.specs.Memory.{filled}
 use Rattle.c_lines.specs.LineRecords.{RecordedLine, Buffers, all_fit, answer_of}
-use Rattle.c_lines.specs.LineRecordLaws.{IsLargeEnough, IsTooSmall, Starts, AnswersAreTheSame, AnswersAreWritten, NothingIsWritten}
+use Rattle.c_lines.specs.LineRecordLaws.{IsLargeEnough, Starts, AnswersAreTheSame, AnswersAreWritten, NothingIsWritten}
 
 -- what the memory holds, given whether all fits
 abbrev filled-if : RecordedLine → Buffers → Bool → Buffers
@@ -24,9 +24,6 @@ unfit a = grind arith
 all-fit : (recorded : RecordedLine) (room : Buffers) → IsLargeEnough (answer_of recorded) room → all_fit recorded room ≡ true
 all-fit recorded room enough = grind (arith, le-leb)
 
-none-fits : (recorded : RecordedLine) (room : Buffers) → IsTooSmall (answer_of recorded) room → all_fit recorded room ≡ false
-none-fits recorded room h = grind (arith, lt-leb, unfit)
-
 pub answers-are-the-same : AnswersAreTheSame
 answers-are-the-same recorded answer other before after before' after' tells tells' = tells.0 ∙ sym tells'.0
 
@@ -40,4 +37,4 @@ answers-are-written recorded answer before after tells large =
     )
 
 pub nothing-is-written : NothingIsWritten
-nothing-is-written recorded answer before after tells small = grind (arith, none-fits)
+nothing-is-written recorded answer before after tells small = grind arith

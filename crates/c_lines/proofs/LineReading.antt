@@ -1,22 +1,14 @@
 -- The arguments of a line are read back from its records.
-use Rattle.std.proofs.Common.{◌≡◌, ◌++◌, ◌+◌, ◌∷◌, [], ℕ, List, Bool, Option, Some, None, map, length, take, drop, get_or, refl, sym, ap, ◌∙◌, arith, flat_map, drop-drop, get_or-drop}
+use Rattle.std.proofs.Common.{◌≡◌, ◌++◌, ◌+◌, ◌∷◌, [], ℕ, List, Bool, Option, map, length, take, drop, get_or, refl, sym, ap, ◌∙◌, arith, flat_map, drop-drop, get_or-drop}
 use Rattle.std.proofs.Math.Seq.{drop-append_seam, take-append_seam}
-use Rattle.compilers.specs.declared.arguments.ColorMode.{ColorMode}
 use Rattle.compilers.specs.declared.arguments.ParsedArguments.{ParsedArguments}
 use Rattle.compilers.specs.declared.outputs.ArtifactDescriptor.{ArtifactDescriptor}
-use Rattle.texts.specs.declared.language.Language.{Language}
 use Rattle.c_texts.proofs.RangeLemmas.{cut_behind}
-use Rattle.c_lines.specs.LineRecords.{language_number, color_number, choice_number, optional_texts, output_texts, texts_of, behind, line_at, outputs_at}
+use Rattle.c_lines.specs.LineRecords.{choice_number, optional_texts, output_texts, texts_of, behind, line_at, outputs_at}
 use Rattle.c_lines.specs.LineRecordLaws.{RecordsReadBack, RecordsAreOneToOne}
-use Rattle.c_lines.specs.LineRecordsRead.{language_of, color_of, choice_of, optional_of, output_of, arguments_of, arguments_in}
+use Rattle.c_lines.specs.LineRecordsRead.{choice_of, optional_of, output_of, arguments_of, arguments_in}
 
 -- ---- numbers
-
-language-is : (language : Language) → language_of (language_number language) ≡ language
-language-is language = grind arith
-
-color-is : (mode : ColorMode) → color_of (color_number mode) ≡ mode
-color-is mode = grind arith
 
 choice-is : (is : Bool) → choice_of (choice_number is) ≡ is
 choice-is is = grind arith
@@ -34,30 +26,22 @@ module _ (all : List (List ℕ)) where
   past : (n : ℕ) (words rest : List (List ℕ)) → drop n all ≡ words ++ rest → drop (n + length words) all ≡ rest
   past n words rest at = sym (drop-drop (length words) n all) ∙ ap (drop (length words)) at ∙ drop-append_seam words rest
 
-  -- a text that may be missing
-  optional-here : (n : ℕ) (text : Option (List ℕ)) (rest : List (List ℕ)) → drop n all ≡ optional_texts text ++ rest →
-      optional_of (take (length (optional_texts text)) (drop n all)) ≡ text
-  optional-here n text rest at = ap optional_of (here n (optional_texts text) rest at) ∙ optional-is text
-
   outputs-are : (n : ℕ) (outputs : List (List ℕ × ArtifactDescriptor)) → drop n all ≡ flat_map output_texts outputs →
       map (output_of all) (outputs_at n outputs) ≡ outputs
   outputs-are n [] at = refl
   outputs-are n (output ∷ outputs) at =
-      let same : n ≡ n + 0 = omega arith in
-      let key : get_or all n [] ≡ output.0 = ap (λ k. get_or all k []) same ∙ sym (get_or-drop n all 0 []) ∙ ap (λ t. get_or t 0 []) at in
+      let key : get_or all n [] ≡ output.0 = ap (λ k. get_or all k []) (omega arith) ∙ sym (get_or-drop n all 0 []) ∙ ap (λ t. get_or t 0 []) at in
       let path : get_or all (n + 1) [] ≡ output.1.path = sym (get_or-drop n all 1 []) ∙ ap (λ t. get_or t 1 []) at in
-      let rest : drop (n + 2) all ≡ flat_map output_texts outputs = sym (drop-drop 2 n all) ∙ ap (drop 2) at in
-      λ i. (key i, record { path = path i; optional = choice-is output.1.optional i }) ∷ outputs-are (n + 2) outputs rest i
+      λ i. (key i, record { path = path i; optional = choice-is output.1.optional i }) ∷ outputs-are (n + 2) outputs (sym (drop-drop 2 n all) ∙ ap (drop 2) at) i
 
 -- ---- lines
 
 arguments-are : (p : ParsedArguments) → arguments_of (texts_of p) (line_at 0 p) (outputs_at (behind (line_at 0 p).too_hard_for_preprocessor_cache_mode) p.outputs) ≡ p
-arguments-are p = grind (arith, past, outputs-are, choice-is, language-is, optional-here, here, color-is)
+arguments-are p = grind (arith, past, outputs-are, choice-is, here)
 
 pub records-read-back : RecordsReadBack
 records-read-back p =
-    let line = line_at 0 p in
-    ap (λ texts. arguments_of texts line (outputs_at (behind line.too_hard_for_preprocessor_cache_mode) p.outputs)) (cut_behind [] (texts_of p)) ∙ arguments-are p
+    ap (λ texts. arguments_of texts (line_at 0 p) (outputs_at (behind (line_at 0 p).too_hard_for_preprocessor_cache_mode) p.outputs)) (cut_behind [] (texts_of p)) ∙ arguments-are p
 
 pub records-are-one-to-one : RecordsAreOneToOne
 records-are-one-to-one one other same = sym (records-read-back one) ∙ ap arguments_in same ∙ records-read-back other

@@ -1,9 +1,9 @@
 -- Records are written as a whole, or not at all.
-use Rattle.std.proofs.Common.{◌≡◌, ◌⊎◌, ◌<◌, ◌++◌, ◌&&◌, Bool, true, false, List, length, take, drop, inl, inr, refl, sym, ap, subst, ◌∙◌, arith}
+use Rattle.std.proofs.Common.{◌≡◌, ◌⊎◌, ◌<◌, ◌&&◌, Bool, true, false, List, length, sym, ap, ◌∙◌, arith}
 use Rattle.std.proofs.Math.Seq.{drop-append_seam, take-append_seam}
-use Rattle.std.proofs.lemmas.Bool.{le-leb, lt-leb}
+use Rattle.std.proofs.lemmas.Bool.{le-leb}
 use Rattle.c_plans.specs.declared.record.RecordsAnswer.{RecordsAnswer}
-use Rattle.c_texts.specs.Memory.{filled, fits}
+use Rattle.c_texts.specs.Memory.{filled}
 use Rattle.c_plans.specs.Records.{Recorded, Buffers, all_fit, sizes_of}
 use Rattle.c_plans.specs.RecordLaws.{IsLargeEnough, IsWritten, SizesAreTheAnswers, AnswersAreWritten, NothingIsWritten}
 
@@ -40,9 +40,5 @@ IsTooSmall answer before =
     ((length before.groups < answer.groups) ⊎ (length before.commands < answer.commands))
     ⊎ ((length before.ranges < answer.ranges) ⊎ (length before.bytes < answer.length))
 
-too-small : (recorded : Recorded) (before : Buffers) → IsTooSmall (sizes_of recorded) before →
-    all_fit recorded before.groups before.commands before.ranges before.bytes ≡ false
-too-small recorded before h = grind (arith, lt-leb, and-false)
-
 pub nothing-is-written : NothingIsWritten
-nothing-is-written recorded answer before after tells small = grind (arith, too-small, kept)
+nothing-is-written recorded answer before after tells small = grind (arith, kept)

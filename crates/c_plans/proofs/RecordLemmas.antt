@@ -66,9 +66,7 @@ commands-then recorded xs = simp (length-append, records-length)
 -- groups and their commands, and others behind them
 pub groups-then : (recorded : Recorded) (here there : List GroupRecord) (xs ys : List Entry) →
     with_groups (with_groups recorded here xs) there ys ≡ with_groups recorded (here ++ there) (xs ++ ys)
-groups-then recorded here there xs ys =
-    let groups : (recorded.1.0 ++ here) ++ there ≡ recorded.1.0 ++ (here ++ there) = append_assoc recorded.1.0 here there in
-    grind (arith, entries-then)
+groups-then recorded here there xs ys = grind (arith, append_assoc, entries-then)
 
 -- a group has as many commands as before
 pub group-length : {X : Type 0} (described : ℕ → ℕ → NvccGeneratedSubcommand → X) (number group : ℕ) (commands : List NvccGeneratedSubcommand) →
@@ -83,11 +81,9 @@ pub command-texts : (t0 t1 t2 t3 t4 : Outcome) (e : Entry) →
     t1 ≡ with_texts t0 (e.program ∷ []) → t2 ≡ with_texts t1 (e.cwd ∷ []) → t3 ≡ with_texts t2 e.arguments → t4 ≡ with_texts t3 (own_texts e.shared e.variables) →
     t4 ≡ with_texts t0 (texts_of e)
 command-texts t0 t1 t2 t3 t4 e first second third fourth =
-    let words = e.arguments in
     let pairs = own_texts e.shared e.variables in
     let both : t2 ≡ with_texts t0 (e.program ∷ e.cwd ∷ []) = second ∙ ap (λ t. with_texts t (e.cwd ∷ [])) first ∙ texts-then t0 (e.program ∷ []) (e.cwd ∷ []) in
-    let three : t3 ≡ with_texts t0 (e.program ∷ e.cwd ∷ words) = third ∙ ap (λ t. with_texts t words) both ∙ texts-then t0 (e.program ∷ e.cwd ∷ []) words in
-    fourth ∙ ap (λ t. with_texts t pairs) three ∙ texts-then t0 (e.program ∷ e.cwd ∷ words) pairs
+    fourth ∙ ap (λ t. with_texts t pairs) (third ∙ ap (λ t. with_texts t e.arguments) both ∙ texts-then t0 (e.program ∷ e.cwd ∷ []) e.arguments) ∙ texts-then t0 (e.program ∷ e.cwd ∷ e.arguments) pairs
 
 -- a command's record, by how many texts there are before each part
 pub command-record : (t0 t1 t2 t3 : Outcome) (e : Entry) →
@@ -107,9 +103,7 @@ command-record t0 t1 t2 t3 e first second third =
     let n = length t0.1.0 in
     let one : length t1.1.0 ≡ n + 1 = ap (λ (t : Outcome). length t.1.0) first ∙ count-then t0 (e.program ∷ []) in
     let counted : length t2.1.0 ≡ length t1.1.0 + 1 = ap (λ (t : Outcome). length t.1.0) second ∙ count-then t1 (e.cwd ∷ []) in
-    let two : length t2.1.0 ≡ n + 2 = omega (arith, one, counted) in
-    let behind : length t3.1.0 ≡ n + 2 + length e.arguments = ap (λ (t : Outcome). length t.1.0) third ∙ count-then t2 e.arguments ∙ ap (λ k. k + length e.arguments) two in
-    grind arith
+    grind (arith, count-then)
 
 -- groups and their commands, and then further commands, where only texts are before them
 pub from-texts : (before : List (List ℕ)) (groups : List GroupRecord) (xs ys : List Entry) →
@@ -118,10 +112,7 @@ pub from-texts : (before : List (List ℕ)) (groups : List GroupRecord) (xs ys :
 from-texts before groups xs ys =
     let start : Recorded = without_records (of_texts before) in
     let both : with_entries (with_entries start xs) ys ≡ with_entries start (xs ++ ys) = entries-then start xs ys in
-    let texts : with_texts (of_texts before) (flat_map texts_of (xs ++ ys)) ≡ of_texts (before ++ flat_map texts_of (xs ++ ys)) =
-    texts-then (of_texts []) before (flat_map texts_of (xs ++ ys)) in
-    let counted : length (of_texts before).1.0 ≡ length before = ranges-length 0 before in
-    (λ i. ((both i).0, (groups, (both i).1.1))) ∙ (λ i. (texts i, (groups, records_at (counted i) (xs ++ ys))))
+    (λ i. ((both i).0, (groups, (both i).1.1))) ∙ (λ i. ((texts-then (of_texts []) before (flat_map texts_of (xs ++ ys))) i, (groups, records_at ((ranges-length 0 before) i) (xs ++ ys))))
 
 -- a group and its commands, and then further groups, whose numbers begin behind it
 pub groups-step : (described : ℕ → ℕ → NvccGeneratedSubcommand → Entry) (last group : ℕ) (before after : Recorded) (commands : List NvccGeneratedSubcommand)

@@ -1,8 +1,8 @@
 -- A plan is read back from its records.
-use Rattle.std.proofs.Common.{◌≡◌, ◌⊎◌, inl, inr, ◌++◌, ◌+◌, ◌-◌, ◌&&◌, ◌∷◌, [], ℕ, zero, suc, List, true, false, Option, Some, None, ◌==◌, nat_le, not, map, length, take, drop, get_or, cond, refl, sym, ap, subst, ◌∙◌, arith, length-append, append_assoc, add-one, flat_map, get_or-append-add, append-nil, bytes_eq}
+use Rattle.std.proofs.Common.{◌≡◌, ◌⊎◌, inl, inr, ◌++◌, ◌+◌, ◌-◌, ◌∷◌, [], ℕ, zero, suc, List, true, false, Option, Some, None, ◌==◌, nat_le, not, map, length, take, drop, refl, sym, ap, subst, ◌∙◌, arith, length-append, append_assoc, add-one, flat_map, get_or-append-add, append-nil}
 use Rattle.std.specs.Prelude.{filter, if◌then◌else◌, ⊤}
 use Rattle.std.proofs.Math.Seq.{drop-append_seam, drop-append-add, take-append_seam, get_or-append_seam}
-use Rattle.std.proofs.lemmas.Bool.{false≢true, and_parts, le-leb, lt-leb}
+use Rattle.std.proofs.lemmas.Bool.{false≢true, le-leb, lt-leb}
 use Rattle.std.proofs.lemmas.Slice.Eq.{bytes_eq-Decides}
 use Rattle.compilers.specs.declared.command.Cacheable.{Cacheable}
 use Rattle.plans.specs.declared.origins.Origin.{Origin}
@@ -13,7 +13,7 @@ use Rattle.plans.specs.declared.plan.Reason.{Reason}
 use Rattle.plan_json.specs.Json.{origin_at}
 use Rattle.command_files.specs.Numbered.{of_group, of_groups}
 use Rattle.c_texts.specs.declared.memory.Range.{Range}
-use Rattle.c_plans.specs.Records.{Entry, Shared, Variables, are_same, own_texts, shared_by, shared_first, shared_of, variables_at, reason_number, cacheable_number, command_entry, dropped_entry, entries_of, variable_texts, texts_of, record_at, records_at, groups_at, records_of}
+use Rattle.c_plans.specs.Records.{Entry, Shared, Variables, are_same, shared_by, shared_first, shared_of, variables_at, reason_number, cacheable_number, command_entry, dropped_entry, entries_of, variable_texts, texts_of, record_at, records_at, groups_at, records_of}
 use Rattle.c_plans.specs.RecordsRead.{part, pairs_of, entry_in, cacheable_of, reason_of, command_of, dropped_of, origin_of, plan_of, plan_in, HasOrigins}
 use Rattle.c_texts.proofs.RangeLemmas.{cut_behind}
 use Rattle.c_plans.proofs.RecordLemmas.{group-length}
@@ -33,10 +33,7 @@ same-are : (xs ys : Variables) → are_same xs ys ≡ true → xs ≡ ys
 same-are [] [] same = refl
 same-are [] (y ∷ ys) same = absurd (false≢true same)
 same-are (x ∷ xs) [] same = absurd (false≢true same)
-same-are (x ∷ xs) (y ∷ ys) same =
-    let both = and_parts (bytes_eq x.0 y.0 && bytes_eq x.1 y.1) (are_same xs ys) same in
-    let pair = and_parts (bytes_eq x.0 y.0) (bytes_eq x.1 y.1) both.0 in
-    λ i. ((bytes_eq-Decides x.0 y.0).0 pair.0 i, (bytes_eq-Decides x.1 y.1).0 pair.1 i) ∷ same-are xs ys both.1 i
+same-are (x ∷ xs) (y ∷ ys) same = grind (arith, bytes_eq-Decides, (same-are xs ys))
 
 -- whether a command shares these variables, or shares none
 abbrev pub IsSharing : Variables → Entry → Type 0
@@ -81,34 +78,10 @@ own-read before rest e none =
     (sym none)
     read
 
--- a command that shares them
-shared-read : (variables : Variables) (before more rest : List (List ℕ)) (e : Entry) → before ≡ variable_texts variables ++ more →
-    e.shared ≡ Some (shared_first variables).texts → variables ≡ e.variables →
-    variables_read (before ++ (texts_of e ++ rest)) (length before) (length e.arguments) e ≡ (e.variables, e.shared)
-shared-read variables before more rest e begins shared same =
-    let pairs = variable_texts variables in
-    let range = (shared_first variables).texts in
-    let here = e.program ∷ e.cwd ∷ ((e.arguments ++ []) ++ rest) in
-    let whole : before ++ here ≡ pairs ++ (more ++ here) = ap (λ t. t ++ here) begins ∙ append_assoc pairs more here in
-    grind (arith, take-append_seam, pairs-are, le-leb)
-
-any-read : (variables : Variables) (before more rest : List (List ℕ)) (e : Entry) → before ≡ variable_texts variables ++ more → IsSharing variables e →
-    variables_read (before ++ (texts_of e ++ rest)) (length before) (length e.arguments) e ≡ (e.variables, e.shared)
-any-read variables before more rest e begins h = grind (arith, own-read, shared-read)
-
 read-one : (variables : Variables) (before more rest : List (List ℕ)) (e : Entry) → before ≡ variable_texts variables ++ more → IsSharing variables e →
     entry_in (before ++ (texts_of e ++ rest)) (record_at (length before) e) ≡ e
 read-one variables before more rest e begins is =
-    let words = e.arguments in
-    let own = own_texts e.shared e.variables in
-    let behind : List (List ℕ) = (words ++ own) ++ rest in
-    let all : List (List ℕ) = before ++ (e.program ∷ e.cwd ∷ behind) in
-    let program : get_or all (length before) [] ≡ e.program = get_or-append_seam before e.program (e.cwd ∷ behind) [] in
-    let cwd : get_or all (length before + 1) [] ≡ e.cwd = get_or-append-add before (e.program ∷ e.cwd ∷ behind) 1 [] in
-    let first : drop (length before + 2) all ≡ words ++ (own ++ rest) = drop-append-add before (e.program ∷ e.cwd ∷ behind) 2 ∙ append_assoc words own rest in
-    let arguments : take (length words) (drop (length before + 2) all) ≡ words = ap (take (length words)) first ∙ take-append_seam words (own ++ rest) in
-    let last = any-read variables before more rest e begins is in
-    grind arith
+    grind (arith, get_or-append_seam, get_or-append-add, drop-append-add, append_assoc, take-append_seam, own-read, pairs-are, le-leb)
 
 -- commands by their texts, with others before and behind them
 pub entries-read : (variables : Variables) (before more : List (List ℕ)) (entries : List Entry) (behind : List (List ℕ)) →
@@ -186,12 +159,7 @@ module _ (origins : List Origin) (shared : Shared) where
   groups-are last before group (commands ∷ groups) behind =
       let here : List Entry = of_group (command_entry origins shared) (length before) group commands in
       let next = length before + length commands in
-      let rest : List Entry = of_groups (command_entry origins shared) next (group + 1) groups in
-      let all : List Entry = before ++ ((here ++ rest) ++ behind) in
-      let long : length here ≡ length commands = group-length (command_entry origins shared) (length before) group commands in
-      let nested : all ≡ before ++ (here ++ (rest ++ behind)) = ap (λ t. before ++ t) (append_assoc here rest behind) in
-      let aside : all ≡ (before ++ here) ++ (rest ++ behind) = nested ∙ sym (append_assoc before here (rest ++ behind)) in
-      grind (arith, part-behind, commands-are, length-append, (groups-are last (before ++ here) (group + 1) groups behind))
+      grind (arith, part-behind, commands-are, length-append, (groups-are last (before ++ here) (group + 1) groups behind), group-length, append_assoc)
 
   -- ---- which commands are in groups
 
@@ -204,12 +172,7 @@ module _ (origins : List Origin) (shared : Shared) where
       filter (λ e. e.reason == 0) (of_groups (command_entry origins shared) id group groups ++ rest) ≡ of_groups (command_entry origins shared) id group groups ++ filter (λ e. e.reason == 0) rest
   kept id group [] rest = refl
   kept id group (commands ∷ groups) rest =
-      let here : List Entry = of_group (command_entry origins shared) id group commands in
-      let there : List Entry = of_groups (command_entry origins shared) (id + length commands) (group + 1) groups in
-      ap (filter (λ e. e.reason == 0)) (append_assoc here there rest)
-      ∙ kept-group id group commands (there ++ rest)
-      ∙ ap (λ t. here ++ t) (kept (id + length commands) (group + 1) groups rest)
-      ∙ sym (append_assoc here there (filter (λ e. e.reason == 0) rest))
+      simp (append_assoc, kept-group, (kept (id + length commands) (group + 1) groups rest))
 
   skipped-group : (id group : ℕ) (commands : List NvccGeneratedSubcommand) (rest : List Entry) →
       filter (λ e. not (e.reason == 0)) (of_group (command_entry origins shared) id group commands ++ rest) ≡ filter (λ e. not (e.reason == 0)) rest
@@ -220,11 +183,7 @@ module _ (origins : List Origin) (shared : Shared) where
       filter (λ e. not (e.reason == 0)) (of_groups (command_entry origins shared) id group groups ++ rest) ≡ filter (λ e. not (e.reason == 0)) rest
   skipped id group [] rest = refl
   skipped id group (commands ∷ groups) rest =
-      let here : List Entry = of_group (command_entry origins shared) id group commands in
-      let there : List Entry = of_groups (command_entry origins shared) (id + length commands) (group + 1) groups in
-      ap (filter (λ e. not (e.reason == 0))) (append_assoc here there rest)
-      ∙ skipped-group id group commands (there ++ rest)
-      ∙ skipped (id + length commands) (group + 1) groups rest
+      simp (append_assoc, skipped-group, (skipped (id + length commands) (group + 1) groups rest))
 
 -- ---- dropped commands
 
@@ -271,7 +230,6 @@ module _ (origins : List Origin) (shared : Shared) where
   joined-origins : (n m id : ℕ) → origins-from origins n id ++ origins-from origins m (id + n) ≡ origins-from origins (n + m) id
   joined-origins zero m id = grind arith
   joined-origins (suc n) m id =
-      let further : id + suc n ≡ suc id + n = omega arith in
       let more : suc (n + m) ≡ suc n + m = omega arith in
       grind (arith, (joined-origins n m (suc id)))
 

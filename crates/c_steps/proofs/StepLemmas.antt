@@ -4,26 +4,11 @@ use Rattle.plans.specs.declared.plan.NvccGeneratedSubcommand.{NvccGeneratedSubco
 use Rattle.c_texts.proofs.TextLemmas.{texts-then, count-then}
 use Rattle.c_texts.specs.declared.memory.Range.{Range}
 use Rattle.c_texts.specs.Outcomes.{Outcome, with_texts}
-use Rattle.c_steps.specs.declared.step_record.StepRecord.{StepRecord}
-use Rattle.c_steps.specs.Steps.{Extra, Known, Stepped, extra_of, extras_from, file_texts, files_at, step_at, steps_at, with_extra, with_extras}
+use Rattle.c_steps.specs.Steps.{Extra, Known, Stepped, extras_from, file_texts, files_at, steps_at, with_extra, with_extras}
 
 -- a command, and others behind it
 pub extra-then : (s : Stepped) (e : Extra) (extras : List Extra) → with_extras (with_extra s e) extras ≡ with_extras s (e ∷ extras)
-extra-then s e extras =
-    let outcome = s.recorded.0 in
-    let here : StepRecord = step_at (length outcome.1.0) (length s.numbers) e in
-    let there : List StepRecord = steps_at (length (with_texts outcome (file_texts e)).1.0) (length (s.numbers ++ e.needs)) extras in
-    let steps : (s.steps ++ here ∷ []) ++ there ≡ s.steps ++ steps_at (length outcome.1.0) (length s.numbers) (e ∷ extras) =
-    append_assoc s.steps (here ∷ []) there
-    ∙ (λ i. s.steps ++ here ∷ steps_at (count-then outcome (file_texts e) i) (length-append s.numbers e.needs i) extras) in
-    let numbers : (s.numbers ++ e.needs) ++ flat_map (λ e. e.needs) extras ≡ s.numbers ++ (e.needs ++ flat_map (λ e. e.needs) extras) =
-    append_assoc s.numbers e.needs (flat_map (λ e. e.needs) extras) in
-    λ i. record {
-      place = s.place;
-      recorded = (texts-then outcome (file_texts e) (flat_map file_texts extras) i, s.recorded.1);
-      steps = steps i;
-      numbers = numbers i;
-    }
+extra-then s e extras = grind (arith, append_assoc, count-then, length-append, texts-then)
 
 -- the texts of a command's files, added one after the other
 pub file-texts-are : (t0 t1 t2 t3 : Outcome) (e : Extra) →
@@ -50,8 +35,7 @@ texts-append (x ∷ xs) ys = ap (λ t. file_texts x ++ t) (texts-append xs ys) �
 
 needs-append : (xs ys : List Extra) → flat_map (λ e. e.needs) (xs ++ ys) ≡ flat_map (λ e. e.needs) xs ++ flat_map (λ e. e.needs) ys
 needs-append [] ys = refl
-needs-append (x ∷ xs) ys =
-    ap (λ t. x.needs ++ t) (needs-append xs ys) ∙ sym (append_assoc x.needs (flat_map (λ e. e.needs) xs) (flat_map (λ e. e.needs) ys))
+needs-append (x ∷ xs) ys = simp (append_assoc, (needs-append xs ys))
 
 steps-length : (text number : ℕ) (extras : List Extra) → length (steps_at text number extras) ≡ length extras
 steps-length text number [] = refl
@@ -66,20 +50,7 @@ steps-append text number (x ∷ xs) ys = grind (arith, length-append, (steps-app
 -- commands, and others behind them
 extras-then : (s : Stepped) (xs ys : List Extra) → with_extras (with_extras s xs) ys ≡ with_extras s (xs ++ ys)
 extras-then s xs ys =
-    let outcome = s.recorded.0 in
-    let here : List StepRecord = steps_at (length outcome.1.0) (length s.numbers) xs in
-    let files = flat_map file_texts xs in
-    let needs = flat_map (λ e. e.needs) xs in
-    let there : List StepRecord = steps_at (length (with_texts outcome files).1.0) (length (s.numbers ++ needs)) ys in
-    let steps : (s.steps ++ here) ++ there ≡ s.steps ++ steps_at (length outcome.1.0) (length s.numbers) (xs ++ ys) =
-    append_assoc s.steps here there
-    ∙ (λ i. s.steps ++ (here ++ steps_at (count-then outcome files i) (length-append s.numbers needs i) ys))
-    ∙ ap (λ t. s.steps ++ t) (sym (steps-append (length outcome.1.0) (length s.numbers) xs ys)) in
-    let numbers : (s.numbers ++ needs) ++ flat_map (λ e. e.needs) ys ≡ s.numbers ++ flat_map (λ e. e.needs) (xs ++ ys) =
-    append_assoc s.numbers needs (flat_map (λ e. e.needs) ys) ∙ ap (λ t. s.numbers ++ t) (sym (needs-append xs ys)) in
-    let texts : with_texts (with_texts outcome files) (flat_map file_texts ys) ≡ with_texts outcome (flat_map file_texts (xs ++ ys)) =
-    texts-then outcome files (flat_map file_texts ys) ∙ ap (with_texts outcome) (sym (texts-append xs ys)) in
-    λ i. record { place = s.place; recorded = (texts i, s.recorded.1); steps = steps i; numbers = numbers i }
+    grind (arith, append_assoc, count-then, length-append, steps-append, needs-append, texts-then, texts-append)
 
 module _ (known : Known) where
   extras-length : (id : ℕ) (commands : List NvccGeneratedSubcommand) → length (extras_from known id commands) ≡ length commands

@@ -1,25 +1,19 @@
 -- What the records of a plan's commands say.
-use Rattle.std.proofs.Common.{◌≡◌, ◌++◌, ◌+◌, ◌∷◌, [], ℕ, List, Bool, true, false, ◌==◌, map, length, take, drop, refl, sym, ap, subst, ◌∙◌, arith, length-append, append_assoc, ◌-◌, nat_le, if◌then◌else◌, flat_map}
-use Rattle.command_files.specs.PlanNeeds.{plan_files, plan_needs, preprocesses}
+use Rattle.std.proofs.Common.{◌≡◌, ◌++◌, ◌+◌, ◌∷◌, [], ℕ, List, Bool, ◌==◌, map, length, take, drop, refl, sym, ap, subst, ◌∙◌, arith, length-append, append_assoc, flat_map}
+use Rattle.command_files.specs.PlanNeeds.{preprocesses}
 use Rattle.plans.specs.declared.plan.NvccGeneratedSubcommand.{NvccGeneratedSubcommand}
 use Rattle.c_texts.proofs.RangeLemmas.{cut_behind}
 use Rattle.c_texts.proofs.TextLemmas.{ranges-length, texts-then}
 use Rattle.c_texts.specs.Memory.{cut}
 use Rattle.c_texts.specs.Outcomes.{Outcome, of_texts, with_texts}
 use Rattle.c_plans.proofs.RecordReading.{all-read, part-behind, plan-is}
-use Rattle.c_plans.specs.Records.{entries_of, groups_at, records_at, shared_of, texts_of, variable_texts}
-use Rattle.c_plans.specs.RecordsRead.{entry_in, plan_of}
-use Rattle.c_steps.specs.Steps.{Extra, Known, commands_of, extra_of, extras_from, extras_of, file_texts, missing_of, step_at, steps_at, steps_of}
+use Rattle.c_steps.specs.Steps.{Extra, Known, extra_of, extras_from, file_texts, missing_of, step_at, steps_at}
 use Rattle.c_steps.specs.StepLaws.{StepsReadBack, PlansReadBack, extra_in}
 
 -- ---- commands are read back
 
--- a command's files are all if nothing is missing
-any-missing : (unread preprocesses : Bool) → ((if unread then 1 else if preprocesses then 2 else 3) == 0) ≡ false
-any-missing unread preprocesses = grind arith
-
 complete-is : (tool : ℕ) (complete preprocesses : Bool) → (missing_of tool complete preprocesses == 0) ≡ complete
-complete-is tool complete preprocesses = grind (arith, any-missing)
+complete-is tool complete preprocesses = grind arith
 
 -- a part of a list at an offset
 part-at : {X : Type 0} (before here behind all : List X) (offset : ℕ) → all ≡ before ++ (here ++ behind) → offset ≡ length before →
@@ -88,12 +82,4 @@ pub steps-read-back : StepsReadBack
 steps-read-back planned = simp (cut-texts, ranges-length, extras-read)
 
 pub plans-read-back : PlansReadBack
-plans-read-back planned has =
-    let groups = groups_at (length planned.plan.groups - 1) 0 0 planned.plan.groups in
-    let entries = entries_of planned in
-    let shared = variable_texts (shared_of planned.plan.groups) in
-    let texts = flat_map texts_of entries in
-    let more = flat_map file_texts (extras_of planned.plan) in
-    ap (λ ts. plan_of groups (map (entry_in ts) (records_at (length shared) entries))) (cut-texts (shared ++ texts) more ∙ append_assoc shared texts more)
-    ∙ ap (plan_of groups) (all-read planned more)
-    ∙ plan-is planned has
+plans-read-back planned has = simp (cut-texts, append_assoc, all-read, plan-is)

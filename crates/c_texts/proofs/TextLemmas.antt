@@ -1,7 +1,6 @@
 -- Texts behind other texts.
 use Rattle.std.proofs.Common.{◌≡◌, ◌++◌, ◌+◌, ◌∷◌, [], ℕ, suc, List, map, length, refl, sym, ap, ◌∙◌, arith, length-append, append_assoc, append-nil}
 use Rattle.std.specs.List.{concat}
-use Rattle.c_texts.specs.declared.memory.Range.{Range}
 use Rattle.c_texts.specs.Memory.{ranges_at}
 use Rattle.c_texts.specs.Outcomes.{Outcome, with_texts}
 
@@ -25,17 +24,7 @@ concat-append (x ∷ xs) ys = ap (λ t. x ++ t) (concat-append xs ys) ∙ sym (a
 
 -- texts behind texts
 pub texts-then : (outcome : Outcome) (xs ys : List (List ℕ)) → with_texts (with_texts outcome xs) ys ≡ with_texts outcome (xs ++ ys)
-texts-then outcome xs ys =
-    let ranges = outcome.1.0 in
-    let bytes = outcome.1.1 in
-    let here : List Range = ranges_at (length bytes) xs in
-    let places : (ranges ++ here) ++ ranges_at (length (bytes ++ concat xs)) ys ≡ ranges ++ ranges_at (length bytes) (xs ++ ys) =
-    append_assoc ranges here (ranges_at (length (bytes ++ concat xs)) ys)
-    ∙ ap (λ n. ranges ++ (here ++ ranges_at n ys)) (length-append bytes (concat xs))
-    ∙ ap (λ t. ranges ++ t) (sym (ranges-append (length bytes) xs ys)) in
-    let text : (bytes ++ concat xs) ++ concat ys ≡ bytes ++ concat (xs ++ ys) =
-    append_assoc bytes (concat xs) (concat ys) ∙ ap (λ t. bytes ++ t) (sym (concat-append xs ys)) in
-    λ i. (outcome.0, (places i, text i))
+texts-then outcome xs ys = simp (append_assoc, length-append, ranges-append, concat-append)
 
 -- no further texts
 pub with-none : (outcome : Outcome) → outcome ≡ with_texts outcome []

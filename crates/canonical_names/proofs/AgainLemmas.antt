@@ -3,14 +3,13 @@ use Rattle.std.proofs.Common.{◌≡◌, ℕ, ◌++◌, ◌&&◌, Bool, true, fa
 use Rattle.std.specs.List.{All, starts_with}
 use Rattle.std.proofs.lemmas.List.Elements.{All-nil, All-contains}
 use Rattle.std.proofs.Math.Bool.{and-false}
-use Rattle.texts.specs.Path.{folder_of, separator_after}
 use Rattle.texts.proofs.PathLaw.{folder-begins}
-use Rattle.command_lines.specs.CommandLines.{CommandLine, line_of, program_of, words_of_command}
+use Rattle.command_lines.specs.CommandLines.{CommandLine}
 use Rattle.canonical_names.specs.Generated.{head_of, core_of, class_of, class_of_name, begins_with_dash, is_file_mark}
-use Rattle.canonical_names.specs.Renaming.{canonical_in, canonical_name, rank, names_of_run}
+use Rattle.canonical_names.specs.Renaming.{canonical_in, canonical_name, names_of_run}
 use Rattle.canonical_names.specs.Alike.{core_through, word_through, command_through, IsRenaming}
 use Rattle.canonical_names.specs.CanonicalNames.{AreSuffixes, core_by_all, word_by_all, command_by_all}
-use Rattle.canonical_names.proofs.CanonicalLemmas.{HasClass, run-all, canonical-at, different-names, folder_and_class-stay}
+use Rattle.canonical_names.proofs.CanonicalLemmas.{HasClass, run-all, different-names, folder_and_class-stay}
 use Rattle.canonical_names.proofs.RankLemmas.{eqb-turned}
 
 -- a text has no mark where it doesn't begin with `-Fi`
@@ -43,14 +42,8 @@ dash-unmarked text h = grind (arith, one-unmarked, two-unmarked, long-unmarked)
 cond-head : (b : Bool) (text : List ℕ) → Unmarked text → (head_of (cond b (codes "-Fi") [] ++ text) ≡ cond b (codes "-Fi") []) × (core_of (cond b (codes "-Fi") [] ++ text) ≡ text)
 cond-head b text u = grind arith
 
--- a name in the folder of a text begins with `-` only where that text does
-dash-front : (front rest : List ℕ) (x : ℕ) (more : List ℕ) → eqb x 45 ≡ false → begins_with_dash (front ++ rest) ≡ false → begins_with_dash ((front ++ separator_after front) ++ x ∷ more) ≡ false
-dash-front front rest x more other h = grind arith
-
 pub dash-canonical : (names : List (List ℕ)) (core class : List ℕ) → begins_with_dash core ≡ false → begins_with_dash (canonical_in names core class) ≡ false
-dash-canonical names core class h =
-    let begins = folder-begins core in
-    grind (arith, dash-front)
+dash-canonical names core class h = grind (arith, (folder-begins core))
 
 -- what is told of a renamed word
 told-by : (suffixes : List (List ℕ)) (f : List ℕ → List ℕ) (word text : List ℕ) → Unmarked text → cond (begins_with_dash text) None (class_of_name suffixes text) ≡ class_of suffixes word →
@@ -64,12 +57,7 @@ module _ (suffixes : List (List ℕ)) (lawful : AreSuffixes suffixes) (names : L
   pub told-word : (word : List ℕ) (o : Option (List ℕ)) → class_of suffixes word ≡ o → word_through suffixes (canonical_name suffixes names) word ≡ word_through suffixes (λ n. n) (head_of word ++ core_by_all names (core_of word) o)
   told-word word None e = grind (arith, told-by, core-unmarked)
   told-word word (Some class) e =
-      let parts = not-dash word class (begins_with_dash (core_of word)) refl e in
-      let text = canonical_in names (core_of word) class in
-      let is = canonical-at suffixes names (core_of word) class parts.1 in
-      let bare = dash-canonical names (core_of word) class parts.0 in
-      let kept = (folder_and_class-stay suffixes lawful names (core_of word) class parts.1).1 in
-      grind (arith, told-by, dash-unmarked)
+      grind (arith, told-by, dash-unmarked, dash-canonical, ((folder_and_class-stay suffixes lawful names (core_of word) class (not-dash word class (begins_with_dash (core_of word)) refl e).1).1))
 
   told-words : (words : List (List ℕ)) → map (word_through suffixes (canonical_name suffixes names)) words ≡ map (word_through suffixes (λ n. n)) (map (word_by_all suffixes names) words)
   told-words [] = refl

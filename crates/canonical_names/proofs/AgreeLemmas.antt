@@ -3,14 +3,14 @@ use Rattle.std.proofs.Common.{◌≡◌, ℕ, ◌++◌, List, [], ◌∷◌, Opt
 use Rattle.std.proofs.lemmas.List.Elements.{All-nil, All-contains}
 use Rattle.std.proofs.lemmas.Slice.Eq.{bytes_eq-Decides}
 use Rattle.texts.specs.Path.{folder_of}
-use Rattle.command_lines.specs.CommandLines.{CommandLine, line_of, program_of, words_of_command}
+use Rattle.command_lines.specs.CommandLines.{CommandLine, words_of_command}
 use Rattle.canonical_names.specs.Generated.{head_of, core_of, class_of, class_of_name, generated_name}
 use Rattle.canonical_names.specs.Renaming.{canonical_name, seen_after_word, seen_after, names_of_run}
 use Rattle.texts.specs.Lists.{with_name}
 use Rattle.canonical_names.specs.Shadow.{appearances}
 use Rattle.canonical_names.specs.Alike.{core_through, word_through, command_through, IsRenaming}
 use Rattle.canonical_names.specs.CanonicalNames.{AreSuffixes, command_by_all, OneCanonicalRun}
-use Rattle.canonical_names.proofs.CanonicalLemmas.{HasClass, run-all, no-member, head-member, tail-member, member-cases, find-only, different-names, folder_and_class-stay}
+use Rattle.canonical_names.proofs.CanonicalLemmas.{run-all, no-member, head-member, tail-member, member-cases, find-only, different-names, folder_and_class-stay}
 use Rattle.canonical_names.proofs.RankLemmas.{add, fold-append, words-names, run-names}
 use Rattle.canonical_names.proofs.CleanLemmas.{clean-run_is_a_map}
 use Rattle.canonical_names.proofs.AlikeLemmas.{ToldWord, Told, names_told, run-told, added-member, within-all, fold-mapped}
@@ -77,9 +77,7 @@ module _ (suffixes : List (List ℕ)) (lawful : AreSuffixes suffixes) (first : L
       map (command_through suffixes g) commands ≡ map (command_through suffixes (λ n. n)) commands
   run-still seen [] all = refl
   run-still seen (command ∷ commands) all =
-      let words = words_of_command command in
-      let next = seen_after suffixes seen words in
-      grind (arith, words-still, run-names, (run-still next commands all))
+      grind (arith, words-still, run-names, (run-still (seen_after suffixes seen (words_of_command command)) commands all))
 
 -- Below, two runs of which the same is told through their canonical names.
 module _ (suffixes : List (List ℕ)) (lawful : AreSuffixes suffixes) (first second : List CommandLine) where
@@ -127,9 +125,7 @@ module _ (suffixes : List (List ℕ)) (lawful : AreSuffixes suffixes) (first sec
   kept-by : (commands : List CommandLine) (n : List ℕ) → Contains (names_of_run suffixes commands) n →
       (folder_of (canonical_name suffixes (names_of_run suffixes commands) n) ≡ folder_of n) × (class_of_name suffixes (canonical_name suffixes (names_of_run suffixes commands) n) ≡ class_of_name suffixes n)
   kept-by commands n h =
-      let class : HasClass suffixes n = All-contains (HasClass suffixes) (names_of_run suffixes commands) n (run-all suffixes [] commands (All-nil (HasClass suffixes))) h in
-      let stay = folder_and_class-stay suffixes lawful (names_of_run suffixes commands) n class.0 class.1 in
-      grind arith
+      grind (arith, (folder_and_class-stay suffixes lawful (names_of_run suffixes commands) n), All-contains, run-all, All-nil)
 
   partner-renaming : map (command_through suffixes canonical) first ≡ map (command_through suffixes canonical_other) second → IsRenaming suffixes names (λ n. name_of (canonical n))
   partner-renaming told = record {

@@ -1,13 +1,13 @@
 -- Clean runs that are alike have one canonical run.
-use Rattle.std.proofs.Common.{◌≡◌, ℕ, ◌+◌, ◌-◌, ◌++◌, ◌||◌, Bool, true, false, cond, List, [], ◌∷◌, Option, Some, None, inl, inr, map, refl, ap, sym, ◌∙◌, subst, nat_eq, length, take, fold, option_map, bytes_eq, map-id, arith}
+use Rattle.std.proofs.Common.{◌≡◌, ℕ, ◌-◌, ◌++◌, Bool, true, false, cond, List, [], ◌∷◌, Option, Some, None, inl, inr, map, refl, ap, sym, ◌∙◌, subst, nat_eq, length, take, fold, option_map, bytes_eq, map-id, arith}
 use Rattle.std.specs.List.{Contains, list_any, ends_with, filter_map, flat_map, cons_option}
 use Rattle.std.proofs.lemmas.Bool.{false≢true, or_cases}
 use Rattle.std.proofs.lemmas.List.Elements.{Contains-append_left, Contains-push}
 use Rattle.std.proofs.lemmas.Slice.Eq.{bytes_eq-Decides}
 use Rattle.std.proofs.lemmas.List.{map-append}
 use Rattle.command_lines.specs.CommandLines.{CommandLine, words_of_command}
-use Rattle.canonical_names.specs.Generated.{head_of, core_of, class_of, class_of_name, begins_with_dash, generated_name}
-use Rattle.canonical_names.specs.Renaming.{canonical_file, rank, with_words, seen_after_word, seen_after, names_of_run}
+use Rattle.canonical_names.specs.Generated.{core_of, class_of, class_of_name, begins_with_dash, generated_name}
+use Rattle.canonical_names.specs.Renaming.{canonical_file, rank, seen_after_word, seen_after, names_of_run}
 use Rattle.texts.specs.Lists.{with_name}
 use Rattle.canonical_names.specs.Shadow.{appearances}
 use Rattle.canonical_names.specs.Alike.{core_through, word_through, command_through, IsRenaming}
@@ -75,14 +75,10 @@ module _ (suffixes : List (List ℕ)) (lawful : AreSuffixes suffixes) (names : L
   pub any-mapped : (x : List ℕ) (part : List (List ℕ)) → Contains names x → ((n : List ℕ) → Contains part n → Contains names n) → list_any (bytes_eq (f x)) (map f part) ≡ list_any (bytes_eq x) part
   any-mapped x [] hx within = refl
   any-mapped x (n ∷ part) hx within =
-      ap (λ b. b || list_any (bytes_eq (f x)) (map f part)) (bytes-mapped x n hx (within n (head-member n part)))
-      ∙ ap (λ b. bytes_eq x n || b) (any-mapped x part hx (λ m h. within m (tail-member n part m h)))
+      simp (bytes-mapped, head-member, tail-member, (any-mapped x part hx (λ m h. within m (tail-member n part m h))))
 
   pub add-mapped : (seen : List (List ℕ)) (x : List ℕ) → Contains names x → ((n : List ℕ) → Contains seen n → Contains names n) → add (map f seen) (f x) ≡ map f (add seen x)
-  add-mapped seen x hx within =
-      ap (λ b. cond b (map f seen) (map f seen ++ f x ∷ [])) (any-mapped x seen hx within)
-      ∙ elim (list_any (bytes_eq x) seen) as (λ b. cond b (map f seen) (map f seen ++ f x ∷ []) ≡ map f (cond b seen (seen ++ x ∷ [])))
-      [ true ↦ refl | false ↦ sym (map-append f seen (x ∷ [])) ]
+  add-mapped seen x hx within = grind (arith, any-mapped, map-append)
 
   -- names that were added so far are names of the run
   pub within-all : (seen xs : List (List ℕ)) → names ≡ fold add seen xs → (n : List ℕ) → Contains seen n → Contains names n
@@ -93,8 +89,7 @@ module _ (suffixes : List (List ℕ)) (lawful : AreSuffixes suffixes) (names : L
   pub fold-mapped : (seen xs : List (List ℕ)) → names ≡ fold add seen xs → fold add (map f seen) (map f xs) ≡ map f (fold add seen xs)
   fold-mapped seen [] all = refl
   fold-mapped seen (x ∷ xs) all =
-      let hx : Contains names x = within-all (add seen x) xs all x (added-member seen x) in
-      ap (λ s. fold add s (map f xs)) (add-mapped seen x hx (within-all seen (x ∷ xs) all)) ∙ fold-mapped (add seen x) xs all
+      ap (λ s. fold add s (map f xs)) (add-mapped seen x (within-all (add seen x) xs all x (added-member seen x)) (within-all seen (x ∷ xs) all)) ∙ fold-mapped (add seen x) xs all
 
   -- ranks under the renaming
   pub class-found : (class y : List ℕ) → Contains suffixes class → ends_with nat_eq y class ≡ true → class_of_name suffixes y ≡ Some class
@@ -111,10 +106,7 @@ module _ (suffixes : List (List ℕ)) (lawful : AreSuffixes suffixes) (names : L
   pub rank-mapped : (class n : List ℕ) → Contains suffixes class → Contains names n → (part : List (List ℕ)) → ((m : List ℕ) → Contains part m → Contains names m) → rank class (map f part) (f n) ≡ rank class part n
   rank-mapped class n hc hn [] within = refl
   rank-mapped class n hc hn (x ∷ part) within =
-      let hx = within x (head-member x part) in
-      ap (λ b. cond b 0 (cond (ends_with nat_eq (f x) class) 1 0 + rank class (map f part) (f n))) (bytes-mapped x n hx hn)
-      ∙ ap (λ b. cond (bytes_eq x n) 0 (cond b 1 0 + rank class (map f part) (f n))) (ends-mapped class x hc hx)
-      ∙ ap (λ k. cond (bytes_eq x n) 0 (cond (ends_with nat_eq x class) 1 0 + k)) (rank-mapped class n hc hn part (λ m h. within m (tail-member x part m h)))
+      simp (head-member, bytes-mapped, ends-mapped, tail-member, (rank-mapped class n hc hn part (λ m h. within m (tail-member x part m h))))
 
 -- a word and a command, renamed by what is told of them
 abbrev word_of_told : List (List ℕ) → ToldWord → List ℕ
@@ -139,8 +131,7 @@ module _ (suffixes names : List (List ℕ)) where
 -- a run by what is told of it through a renaming
 module _ (suffixes : List (List ℕ)) (lawful : AreSuffixes suffixes) (names : List (List ℕ)) (f : List ℕ → List ℕ) (renaming : IsRenaming suffixes names f) where
   class-member : (word class : List ℕ) (b : Bool) → cond b None (class_of_name suffixes (core_of word)) ≡ Some class → Contains suffixes class
-  class-member word class true e = cc
-  class-member word class false e = (find-found (ends_with nat_eq (core_of word)) suffixes class e).0
+  class-member word class b e = grind (arith, find-found)
 
   core-agrees : (seen xs : List (List ℕ)) (word : List ℕ) (o : Option (List ℕ)) → class_of suffixes word ≡ o → names ≡ fold add (with_name seen (option_map (λ (_ : List ℕ). core_of word) o)) xs →
       core_by_all (map f names) (core_through f (core_of word) o) o ≡ core_by_all names (core_of word) o
@@ -164,9 +155,7 @@ module _ (suffixes : List (List ℕ)) (lawful : AreSuffixes suffixes) (names : L
       map (command_of_told (map f names)) (map (command_through suffixes f) commands) ≡ map (command_by_all suffixes names) commands
   run-agrees seen [] all = refl
   run-agrees seen (command ∷ commands) all =
-      let words = words_of_command command in
-      let next = seen_after suffixes seen words in
-      grind (arith, words-agree, run-names, (run-agrees next commands all))
+      grind (arith, words-agree, run-names, (run-agrees (seen_after suffixes seen (words_of_command command)) commands all))
 
 pub alike-runs_agree : AlikeRunsAgree
 alike-runs_agree suffixes lawful first second one other (f, renaming, told) =

@@ -1,5 +1,5 @@
 -- The names that appear in a run have a class, and a text holds one of them where it holds one of the run's names.
-use Rattle.std.proofs.Common.{◌≡◌, ℕ, ◌++◌, ◌&&◌, ◌||◌, Bool, true, false, not, cond, List, [], ◌∷◌, Option, Some, None, is_some, map, filter, refl, ap, sym, ◌∙◌, nat_eq, fold, codes, length, take, ◌-◌, append_assoc, option_map, bytes_eq, arith}
+use Rattle.std.proofs.Common.{◌≡◌, ℕ, ◌++◌, ◌&&◌, ◌||◌, Bool, true, false, not, cond, List, [], ◌∷◌, Option, None, map, filter, refl, ap, sym, ◌∙◌, nat_eq, fold, codes, length, take, ◌-◌, append_assoc, option_map, bytes_eq, arith}
 use Rattle.std.specs.List.{list_any, list_all, filter_map, cons_option, ends_with}
 use Rattle.std.specs.Cmp.Lexicographic.{pointwise}
 use Rattle.std.proofs.lemmas.Bool.{false≢true, and_parts, and_from, or_right}
@@ -25,9 +25,7 @@ use Rattle.canonical_names.proofs.ReferenceLemmas.{no-suffix-no_names, class-fou
 -- the names that appear have a class
 pub all-append : {A : Type 0} (test : A → Bool) (xs ys : List A) → list_all test xs ≡ true → list_all test ys ≡ true → list_all test (xs ++ ys) ≡ true
 all-append test [] ys h k = k
-all-append test (x ∷ xs) ys h k =
-    let parts = and_parts (test x) (list_all test xs) h in
-    grind (arith, and_from, (all-append test xs ys parts.1 k))
+all-append test (x ∷ xs) ys h k = grind (arith, and_from, (all-append test xs ys))
 
 name-class : (suffixes : List (List ℕ)) (core : List ℕ) (b : Bool) (o : Option (List ℕ)) → class_of_name suffixes core ≡ o → (more : List (List ℕ)) → list_all (has_class suffixes) more ≡ true →
     list_all (has_class suffixes) (cons_option (option_map (λ (_ : List ℕ). core) (cond b None o)) more) ≡ true
@@ -95,25 +93,18 @@ cicc-joined suffixes lawful folder n class =
 filter-joined : (suffixes : List (List ℕ)) → AreSuffixes suffixes → (folder : List ℕ) (names : List (List ℕ)) → list_all (has_class suffixes) names ≡ true → filter is_cicc_word (map (joined folder) names) ≡ map (joined folder) (filter is_cicc_word names)
 filter-joined suffixes lawful folder [] h = refl
 filter-joined suffixes lawful folder (n ∷ names) h =
-    let parts = and_parts (has_class suffixes n) (list_all (has_class suffixes) names) h in
-    let rest = filter-joined suffixes lawful folder names parts.1 in
-    ap (λ b. cond b (joined folder n ∷ filter is_cicc_word (map (joined folder) names)) (filter is_cicc_word (map (joined folder) names))) (cicc-joined suffixes lawful folder n parts.0)
-    ∙ (elim (is_cicc_word n) as (λ b. cond b (joined folder n ∷ filter is_cicc_word (map (joined folder) names)) (filter is_cicc_word (map (joined folder) names)) ≡ map (joined folder) (cond b (n ∷ filter is_cicc_word names) (filter is_cicc_word names)))
-    [ true ↦ ap (λ ns. joined folder n ∷ ns) rest | false ↦ rest ])
+    grind (arith, cicc-joined, (filter-joined suffixes lawful folder names))
 
 all-kept : {A : Type 0} (test kept : A → Bool) (xs : List A) → list_all test xs ≡ true → list_all test (filter kept xs) ≡ true
 all-kept test kept [] h = refl
-all-kept test kept (x ∷ xs) h =
-    let parts = and_parts (test x) (list_all test xs) h in
-    grind (arith, and_from, (all-kept test kept xs parts.1))
+all-kept test kept (x ∷ xs) h = grind (arith, and_from, (all-kept test kept xs))
 
 pub shadow-is_step_shadow : ShadowIsStepShadow
 shadow-is_step_shadow suffixes lawful first second folder h =
     let names = appearances suffixes first in
     let others = appearances suffixes second in
     let plain = list_all (λ command. is_plain_output (word_after (codes "-o") (words_of_command command))) second in
-    let one = and_parts (list_all is_bare names) (pointwise bytes_eq others (map (joined folder) names) && plain) h in
-    let two = and_parts (pointwise bytes_eq others (map (joined folder) names)) plain one.1 in
+    let two = and_parts (pointwise bytes_eq others (map (joined folder) names)) plain (and_parts (list_all is_bare names) (pointwise bytes_eq others (map (joined folder) names) && plain) h).1 in
     let same : others ≡ map (joined folder) names = (lists bytes_eq bytes_eq-Decides others (map (joined folder) names)).0 two.0 in
     let steps : step_names suffixes second ≡ map (joined folder) (step_names suffixes first) = ap (filter is_cicc_word) same ∙ filter-joined suffixes lawful folder names (appearances-classes suffixes first) in
     grind (arith, and_from, all-kept, lists, bytes_eq-Decides)

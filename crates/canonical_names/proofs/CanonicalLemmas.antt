@@ -1,8 +1,8 @@
 -- Canonical names: their files are bare and end in their class, and ranks tell the names of a class apart.
-use Rattle.std.proofs.Common.{◌≡◌, ◌⊎◌, ℕ, ◌+◌, ◌-◌, ◌≤◌, ◌++◌, ◌||◌, Bool, true, false, not, cond, eqb, ne_eqb, append_assoc, List, [], ◌∷◌, Option, Some, None, inl, inr, map, refl, ap, sym, ◌∙◌, subst, nat_eq, length, take, drop, fold, codes, arith, option_map, bytes_eq}
-use Rattle.std.specs.List.{Contains, All, ends_with, find, list_any, list_all}
+use Rattle.std.proofs.Common.{◌≡◌, ◌⊎◌, ℕ, ◌+◌, ◌-◌, ◌≤◌, ◌++◌, Bool, true, false, cond, eqb, append_assoc, List, [], ◌∷◌, Option, Some, None, inl, inr, map, refl, ap, sym, ◌∙◌, subst, nat_eq, length, take, drop, fold, codes, arith, option_map, bytes_eq}
+use Rattle.std.specs.List.{Contains, All, ends_with, find, list_any}
 use Rattle.std.specs.Int.Digits.{digits_of}
-use Rattle.std.proofs.lemmas.Bool.{false≢true, and_parts, and_from, cond_both, cases_lt}
+use Rattle.std.proofs.lemmas.Bool.{false≢true, and_from, cond_both, cases_lt}
 use Rattle.std.proofs.lemmas.List.{length-append, take-append-drop, append_cancel_left, append_cancel_right}
 use Rattle.std.proofs.lemmas.List.Elements.{All-nil, All-push, All-contains, Contains-append_left, Contains-append_right, Contains-append_cases, Contains-push, Contains-push_cases}
 use Rattle.std.proofs.lemmas.List.Sums.{AllPass-from_list_all}
@@ -14,7 +14,7 @@ use Rattle.command_lines.specs.CommandLines.{CommandLine, words_of_command}
 use Rattle.texts.specs.Numeral.{numeral}
 use Rattle.texts.proofs.NumeralLemmas.{numeral-same}
 use Rattle.texts.specs.Lists.{with_name}
-use Rattle.canonical_names.specs.Generated.{standard_suffixes, class_of_name, core_of, begins_with_dash, generated_name}
+use Rattle.canonical_names.specs.Generated.{class_of_name, core_of, begins_with_dash, generated_name}
 use Rattle.canonical_names.specs.Renaming.{canonical_file, canonical_in, canonical_or, canonical_name, rank, seen_after_word, seen_after, names_of_run}
 use Rattle.canonical_names.specs.CanonicalNames.{AreSuffixes, StandardAreSuffixes, DifferentNames, FolderAndClassStay}
 use Rattle.canonical_names.proofs.RankLemmas.{bytes_eq-itself}
@@ -32,10 +32,8 @@ ends-split text s h =
 -- of two ends of one text the shorter one is an end of the longer one
 pub shorter-end : (front other s t : List ℕ) → front ++ s ≡ other ++ t → length s ≤ length t → ends_with nat_eq t s ≡ true
 shorter-end front other s t e le =
-    let lengths : length front + length s ≡ length other + length t = sym (length-append front s) ∙ ap length e ∙ length-append other t in
-    let places : length front ≡ length other + (length t - length s) = omega (arith, lengths, le) in
-    let end : s ≡ drop (length t - length s) t = sym (drop-append_seam front s) ∙ ap (λ x. drop (length front) x) e ∙ ap (λ n. drop n (other ++ t)) places ∙ drop-append-add other t (length t - length s) in
-    grind (arith, bytes_eq-itself)
+    let places : length front ≡ length other + (length t - length s) = omega (arith, (sym (length-append front s) ∙ ap length e ∙ length-append other t), le) in
+    grind (arith, bytes_eq-itself, drop-append_seam, drop-append-add)
 
 pub ends-append : (front s : List ℕ) → ends_with nat_eq (front ++ s) s ≡ true
 ends-append front s =
@@ -45,9 +43,7 @@ ends-append front s =
 -- canonical files are bare
 lacks-append : (byte : ℕ) (front back : List ℕ) → lacks byte front ≡ true → lacks byte back ≡ true → lacks byte (front ++ back) ≡ true
 lacks-append byte [] back h k = k
-lacks-append byte (c ∷ front) back h k =
-    let parts = and_parts (not (eqb c byte)) (lacks byte front) h in
-    grind (arith, and_from, (lacks-append byte front back parts.1 k))
+lacks-append byte (c ∷ front) back h k = grind (arith, and_from, (lacks-append byte front back))
 
 lacks-shifted : (ds : List ℕ) → lacks 47 (map (λ d. 48 + d) ds) ≡ true
 lacks-shifted [] = refl
@@ -132,14 +128,10 @@ rank-cases : (class : List ℕ) (x m n : List ℕ) (more : List (List ℕ)) (a b
     cond a 0 (cond (ends_with nat_eq x class) 1 0 + rank class more m) ≡ cond b 0 (cond (ends_with nat_eq x class) 1 0 + rank class more n) → m ≡ n
 rank-cases class x m n more true true em en cm cn rest e = sym (same x m em) ∙ same x n en
 rank-cases class x m n more true false em en cm cn rest e =
-    let one : ends_with nat_eq x class ≡ true = ap (λ z. ends_with nat_eq z class) (same x m em) ∙ cm in
-    let bad : 0 ≡ 1 + rank class more n = e ∙ ap (λ b. cond b 1 0 + rank class more n) one in
-    let no : ⊥ = omega (arith, bad) in
+    let no : ⊥ = omega (arith, (e ∙ ap (λ b. cond b 1 0 + rank class more n) (ap (λ z. ends_with nat_eq z class) (same x m em) ∙ cm))) in
     grind arith
 rank-cases class x m n more false true em en cm cn rest e =
-    let one : ends_with nat_eq x class ≡ true = ap (λ z. ends_with nat_eq z class) (same x n en) ∙ cn in
-    let bad : 0 ≡ 1 + rank class more m = sym e ∙ ap (λ b. cond b 1 0 + rank class more m) one in
-    let no : ⊥ = omega (arith, bad) in
+    let no : ⊥ = omega (arith, (sym e ∙ ap (λ b. cond b 1 0 + rank class more m) (ap (λ z. ends_with nat_eq z class) (same x n en) ∙ cn))) in
     grind arith
 rank-cases class x m n more false false em en cm cn rest e = grind arith
 
@@ -198,9 +190,5 @@ different-names suffixes lawful commands m n hm hn e =
           let ranks : rank cm names m ≡ rank cm names n = numeral-same i j digits ∙ ap (λ c. rank c names n) (sym class) in
           rank-apart cm names m n hm hn fm.1 (subst (λ c. ends_with nat_eq n c ≡ true) (sym class) fn.1) ranks
 
--- the standard suffixes
-standard-apart : (s t : List ℕ) → Contains standard_suffixes s → Contains standard_suffixes t → ends_with nat_eq s t ≡ true → s ≡ t
-standard-apart s t hs ht ends = grind (arith, All-contains, AllPass-from_list_all, same)
-
 pub standard-are_suffixes : StandardAreSuffixes
-standard-are_suffixes = grind (arith, standard-apart, All-contains, AllPass-from_list_all)
+standard-are_suffixes = grind (arith, All-contains, AllPass-from_list_all)

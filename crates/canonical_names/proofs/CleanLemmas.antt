@@ -1,10 +1,10 @@
 -- In a clean run every word is renamed by all names of the run.
-use Rattle.std.proofs.Common.{◌≡◌, ℕ, ◌++◌, ◌||◌, true, false, not, cond, List, [], ◌∷◌, Option, Some, None, is_some, map, refl, ap, sym, ◌∙◌, nat_eq, fold, option_map, arith}
-use Rattle.std.specs.List.{list_any, list_all, starts_with, filter_map}
+use Rattle.std.proofs.Common.{◌≡◌, ℕ, ◌++◌, true, false, List, [], ◌∷◌, Option, Some, None, is_some, map, refl, ap, sym, ◌∙◌, fold, option_map, arith}
+use Rattle.std.specs.List.{list_any, list_all, filter_map}
 use Rattle.std.proofs.lemmas.Bool.{and_parts, or_parts, or_from, not-true}
 use Rattle.command_lines.specs.CommandLines.{CommandLine, words_of_command}
-use Rattle.canonical_names.specs.Generated.{head_of, core_of, class_of, is_file_mark, generated_name}
-use Rattle.canonical_names.specs.Renaming.{canonical_file, rank, with_words, seen_after_word, seen_after, names_of_run, renamed_core, renamed_word, renamed_words, renamed_after}
+use Rattle.canonical_names.specs.Generated.{head_of, core_of, class_of, generated_name}
+use Rattle.canonical_names.specs.Renaming.{seen_after_word, seen_after, names_of_run, renamed_word, renamed_words, renamed_after}
 use Rattle.texts.specs.Lists.{with_name}
 use Rattle.canonical_names.specs.Shadow.{appearances}
 use Rattle.canonical_names.specs.Alike.{holds, is_clean_word}
@@ -17,26 +17,17 @@ core-free : (part word : List ℕ) → holds part word ≡ false → holds part 
 core-free part [] h = h
 core-free part (a ∷ []) h = h
 core-free part (a ∷ b ∷ []) h = h
-core-free part (a ∷ b ∷ c ∷ rest) h =
-    let one = or_parts (starts_with nat_eq (a ∷ b ∷ c ∷ rest) part) (holds part (b ∷ c ∷ rest)) h in
-    let two = or_parts (starts_with nat_eq (b ∷ c ∷ rest) part) (holds part (c ∷ rest)) one.1 in
-    let three = or_parts (starts_with nat_eq (c ∷ rest) part) (holds part rest) two.1 in
-    grind (arith, (core-free part rest three.1))
+core-free part (a ∷ b ∷ c ∷ rest) h = grind (arith, or_parts, (core-free part rest))
 
 fewer-held : (word : List ℕ) (seen more : List (List ℕ)) → list_any (λ n. holds n word) (seen ++ more) ≡ false → list_any (λ n. holds n (core_of word)) seen ≡ false
 fewer-held word [] more h = refl
-fewer-held word (n ∷ seen) more h =
-    let parts = or_parts (holds n word) (list_any (λ n. holds n word) (seen ++ more)) h in
-    grind (arith, or_from, core-free, (fewer-held word seen more parts.1))
+fewer-held word (n ∷ seen) more h = grind (arith, or_parts, or_from, core-free, (fewer-held word seen more))
 
 -- a word of a clean run, by its class; names has those seen before it, itself and the later ones
 word-clean : (suffixes names seen xs : List (List ℕ)) (word : List ℕ) (o : Option (List ℕ)) → class_of suffixes word ≡ o → names ≡ fold add (with_name seen (option_map (λ (_ : List ℕ). core_of word) o)) xs →
     is_clean_word suffixes names word ≡ true → renamed_word suffixes seen word ≡ head_of word ++ core_by_all names (core_of word) o
 word-clean suffixes names seen xs word None e all clean =
-    let rest = fold-front seen xs in
-    let whole : names ≡ seen ++ rest.0 = all ∙ rest.1 in
-    let none : list_any (λ n. holds n word) names ≡ false = not-true (list_any (λ n. holds n word) names) (sym (ap (λ o. is_some o || not (list_any (λ n. holds n word) names)) e) ∙ clean) in
-    grind (arith, other-words_stay, fewer-held)
+    grind (arith, other-words_stay, fewer-held, not-true, is_some, (fold-front seen xs))
 word-clean suffixes names seen xs word (Some class) e all clean = grind (arith, rank-stable)
 
 -- the words of a command
@@ -57,9 +48,8 @@ run-clean : (suffixes names seen : List (List ℕ)) (commands : List CommandLine
 run-clean suffixes names seen [] all clean = refl
 run-clean suffixes names seen (command ∷ commands) all clean =
     let words = words_of_command command in
-    let parts = and_parts (list_all (is_clean_word suffixes names) words) (list_all (λ command. list_all (is_clean_word suffixes names) (words_of_command command)) commands) clean in
     let behind : names ≡ fold add (seen_after suffixes seen words) (appearances suffixes commands) = all ∙ run-names suffixes (seen_after suffixes seen words) commands in
-    grind (arith, words-clean, (run-clean suffixes names (seen_after suffixes seen words) commands all parts.1))
+    grind (arith, words-clean, (run-clean suffixes names (seen_after suffixes seen words) commands all))
 
 pub clean-run_is_a_map : CleanRunIsAMap
 clean-run_is_a_map suffixes commands clean = run-clean suffixes (names_of_run suffixes commands) [] commands refl clean

@@ -1,5 +1,5 @@
 -- A name that is new is counted, and a name that was seen keeps its canonical name.
-use Rattle.std.proofs.Common.{◌≡◌, ℕ, ◌+◌, ◌<◌, ◌≤◌, ◌||◌, Bool, true, false, cond, suc, zero, List, [], ◌∷◌, ◌++◌, Option, Some, None, is_some, map, filter, length, inl, inr, refl, ap, sym, ◌∙◌, subst, nat_eq, codes, arith, string_bytes, String, slice_set, get_or, replicate, decimal, ◌^◌, unwrap_or, option_copied, bytes_eq, Global, Bor}
+use Rattle.std.proofs.Common.{◌≡◌, ℕ, ◌+◌, ◌<◌, ◌≤◌, ◌||◌, true, false, cond, suc, zero, List, [], ◌∷◌, ◌++◌, Option, Some, None, map, length, inl, inr, refl, ap, sym, ◌∙◌, subst, nat_eq, codes, arith, string_bytes, String, slice_set, get_or, replicate, ◌^◌, unwrap_or, bytes_eq, Global}
 use Rattle.std.specs.List.{Contains, ends_with, list_all, list_any, slice_get}
 use Rattle.std.specs.Map.{lookup}
 use Rattle.indexmap.specs.IndexMap.{insert_entry}
@@ -8,10 +8,9 @@ use Rattle.texts.proofs.NumeralLemmas.{decimal-numeral}
 use Rattle.std.proofs.lemmas.List.{map-append, length-append, length-map, get_or_default}
 use Rattle.std.proofs.lemmas.List.Elements.{filter-append}
 use Rattle.std.proofs.lemmas.Slice.Eq.{bytes_eq-Decides}
-use Rattle.texts.specs.Numeral.{numeral}
 use Rattle.texts.specs.Path.{joined, folder_of}
 use Rattle.texts.specs.Variables.{pair_of}
-use Rattle.canonical_names.specs.Counted.{old_names, count_of, with_canonical, has_class, IsCounted, IsCount, decimal_file}
+use Rattle.canonical_names.specs.Counted.{old_names, count_of, has_class, IsCounted, IsCount, decimal_file}
 use Rattle.canonical_names.specs.Generated.{class_of_name}
 use Rattle.canonical_names.specs.Renaming.{rank, canonical_file, canonical_in, canonical_or, canonical_name}
 use Rattle.canonical_names.specs.SuffixRule.{is_apart, are_apart, are_suffixes}
@@ -77,8 +76,7 @@ count-other names n class other = grind (arith, count-of-push)
 counts-others : (names : List (List ℕ)) (n s : List ℕ) → ends_with nat_eq n s ≡ true → (suffixes : List (List ℕ)) → list_all (is_apart s) suffixes ≡ true → map (count_of names) suffixes ≡ map (count_of (names ++ n ∷ [])) suffixes
 counts-others names n s ends [] h = refl
 counts-others names n s ends (t ∷ suffixes) h =
-    let parts = and_parts (is_apart s t) (list_all (is_apart s) suffixes) h in
-    grind (arith, count-other, one-end, (counts-others names n s ends suffixes parts.1))
+    grind (arith, count-other, one-end, (counts-others names n s ends suffixes))
 
 apart-at : (s : List ℕ) (suffixes : List (List ℕ)) (i : ℕ) (class : List ℕ) → list_all (is_apart s) suffixes ≡ true → slice_get suffixes i ≡ Some class → is_apart s class ≡ true
 apart-at s [] i class h at = cc
@@ -115,21 +113,15 @@ nothing-counted suffixes accepted counts zeros = record { accepted = accepted; c
 -- one more name is counted
 classes-push : (suffixes names : List (List ℕ)) (n : List ℕ) → list_all (has_class suffixes) names ≡ true → has_class suffixes n ≡ true → list_all (has_class suffixes) (names ++ n ∷ []) ≡ true
 classes-push suffixes [] n h one = and_from (has_class suffixes n) true one refl
-classes-push suffixes (m ∷ names) n h one =
-    let parts = and_parts (has_class suffixes m) (list_all (has_class suffixes) names) h in
-    grind (arith, and_from, (classes-push suffixes names n parts.1 one))
+classes-push suffixes (m ∷ names) n h one = grind (arith, and_from, (classes-push suffixes names n))
 
 pub name-counted : (suffixes names : List (List ℕ)) (pairs : List (List ℕ × List ℕ)) (counts : List ℕ) (n class : List ℕ) (i : ℕ) → IsCounted suffixes names pairs counts →
     slice_get suffixes i ≡ Some class → class_of_name suffixes n ≡ Some class → list_any (bytes_eq n) names ≡ false →
     IsCounted suffixes (names ++ n ∷ []) (pairs ++ (n, canonical_in names n class) ∷ []) (slice_set counts i (count_of names class + 1))
 name-counted suffixes names pairs counts n class i before at is new = grind (arith, find-found, same-map, canonical-stays, member-among, rank-same, canonical-at, classes-push, map-append, counts-raised, all-apart)
 
--- numerals of machine numbers
-pub numeral-decimal : (k : ℕ) → k < 2 ^ 64 → numeral k ≡ decimal k
-numeral-decimal k small = sym (decimal-numeral k small)
-
 pub decimal-file : (k : ℕ) (class : List ℕ) → k < 2 ^ 64 → decimal_file k class ≡ canonical_file k class
-decimal-file k class small = ap (λ n. codes "x_" ++ (n ++ class)) (sym (numeral-decimal k small))
+decimal-file k class small = ap (λ n. codes "x_" ++ (n ++ class)) (sym ((sym (decimal-numeral k small))))
 
 -- a counter is a number of names, of which there are no more than the map has entries
 pub counter-limit : (suffixes names : List (List ℕ)) (pairs : List (List ℕ × List ℕ)) (counts : List ℕ) → IsCounted suffixes names pairs counts → (i : ℕ) → i < length suffixes → get_or counts i 0 ≤ length names
@@ -157,9 +149,7 @@ pairs-push es n c = map-append pair_of es ((n, c) ∷ [])
 pub entry-last : (es : List (String Global × String Global)) (n c : String Global) → list_any (bytes_eq (string_bytes n)) (old_names (map pair_of es)) ≡ false →
     insert_entry (λ (a b : String Global). bytes_eq (string_bytes a) (string_bytes b)) es n c ≡ es ++ (n, c) ∷ []
 entry-last [] n c h = refl
-entry-last (e ∷ es) n c h =
-    let parts = or_parts (bytes_eq (string_bytes n) (string_bytes e.0)) (list_any (bytes_eq (string_bytes n)) (old_names (map pair_of es))) h in
-    grind (arith, (entry-last es n c parts.1))
+entry-last (e ∷ es) n c h = grind (arith, or_parts, (entry-last es n c))
 
 pub names-put : (es more : List (String Global × String Global)) (n c : String Global) → more ≡ es ++ (n, c) ∷ [] → old_names (map pair_of more) ≡ old_names (map pair_of es) ++ string_bytes n ∷ []
 names-put es more n c is = ap (λ l. old_names (map pair_of l)) is ∙ ap old_names (pairs-push es n c) ∙ old_names-push (map pair_of es) (string_bytes n) (string_bytes c)
@@ -176,25 +166,14 @@ pub put-counted : (suffixes : List (List ℕ)) (es more : List (String Global ×
 put-counted suffixes es more counts raised n c i k before within class new canonical is count up =
     let at = class-at suffixes i within in
     let names = old_names (map pair_of es) in
-    let of_class : class_of_name suffixes (string_bytes n) ≡ Some at.0 = class ∙ at.1 in
-    let counted = name-counted suffixes names (map pair_of es) counts (string_bytes n) at.0 i before at.1 of_class new in
-    let text : string_bytes c ≡ canonical_in names (string_bytes n) at.0 = canonical ∙ canonical-at suffixes names (string_bytes n) at.0 of_class in
-    let pairs : map pair_of more ≡ map pair_of es ++ (string_bytes n, canonical_in names (string_bytes n) at.0) ∷ [] = ap (map pair_of) is ∙ pairs-push es n c ∙ ap (λ t. map pair_of es ++ (string_bytes n, t) ∷ []) text in
-    let all : raised ≡ slice_set counts i (count_of names at.0 + 1) = up ∙ ap (λ m. slice_set counts i (m + 1)) (count at.0 at.1) in
-    grind (arith, names-put)
+    grind (arith, names-put, pairs-push, (name-counted suffixes names (map pair_of es) counts (string_bytes n) at.0 i before at.1 (class ∙ at.1) new))
 
 -- the canonical name of a name that is new, by the counter of its class
 pub counted-name : (suffixes names : List (List ℕ)) (n suffix : List ℕ) (i k : ℕ) → i < length suffixes → class_of_name suffixes n ≡ slice_get suffixes i → unwrap_or (slice_get suffixes i) [] ≡ suffix → list_any (bytes_eq n) names ≡ false →
     IsCount suffixes names i k → k < 2 ^ 64 → joined (folder_of n) (decimal_file k suffix) ≡ canonical_name suffixes names n
 counted-name suffixes names n suffix i k within class given new count small =
-    let at = class-at suffixes i within in
-    let is : suffix ≡ at.0 = sym given ∙ ap (λ o. unwrap_or o []) at.1 in
-    let number : k ≡ rank at.0 names n = count at.0 at.1 ∙ sym (rank-counted at.0 n names new) in
-    grind (arith, decimal-file, canonical-at)
+    grind (arith, decimal-file, canonical-at, rank-counted, (class-at suffixes i within))
 
 -- what a counter reads as
 pub counter-read : (suffixes names : List (List ℕ)) (pairs : List (List ℕ × List ℕ)) (counts : List ℕ) → IsCounted suffixes names pairs counts → (i x : ℕ) → i < length suffixes → x ≡ get_or counts i x → x ≡ get_or counts i 0
 counter-read suffixes names pairs counts h i x within read = grind (arith, length-map, get_or_default)
-
-pub text-or : (o : Option (Bor (List ℕ))) (d : Bor (List ℕ)) → (unwrap_or o d).now ≡ unwrap_or (option_copied o) d.now
-text-or o d = grind arith

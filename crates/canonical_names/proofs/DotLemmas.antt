@@ -21,10 +21,7 @@ held-short s text h = grind (arith, holds-split, length-append)
 
 pub short-none : (text : List ℕ) (n : ℕ) → length text < n → (suffixes : List (List ℕ)) → list_all (λ s. nat_le n (length s)) suffixes ≡ true → list_any (λ s. holds s text) suffixes ≡ false
 short-none text n short [] all = refl
-short-none text n short (s ∷ suffixes) all =
-    let parts = and_parts (nat_le n (length s)) (list_all (λ s. nat_le n (length s)) suffixes) all in
-    let long : n ≤ length s = grind (arith, parts) in
-    grind (arith, held-short, (short-none text n short suffixes parts.1))
+short-none text n short (s ∷ suffixes) all = grind (arith, held-short, (short-none text n short suffixes))
 
 -- where a text that begins with a dot stands in one that lacks dots, or has one
 lacks-none : (r text : List ℕ) → lacks 46 text ≡ true → holds (46 ∷ r) text ≡ false
@@ -53,25 +50,20 @@ lacks-before (b ∷ bs) =
 
 pub dot-none : (bs : List ℕ) (r : Option (Bor (List ℕ) × Bor (List ℕ))) → IsSplitOnceResult 46 bs r → r ≡ None → lacks 46 bs ≡ true
 dot-none bs None h is =
-    let all : position_or_len (λ b. eqb b 46) bs ≡ length bs = split_once_first 46 bs None h (omega arith) in
-    subst (λ t. lacks 46 t ≡ true) (ap (λ n. take n bs) all ∙ take-length bs) (lacks-before bs)
+    subst (λ t. lacks 46 t ≡ true) (ap (λ n. take n bs) (split_once_first 46 bs None h (omega arith)) ∙ take-length bs) (lacks-before bs)
 dot-none bs (Some x) h is = cc
 
 pub dot-split : (bs : List ℕ) (x : Bor (List ℕ) × Bor (List ℕ)) → IsSplitOnceResult 46 bs (Some x) → (front : List ℕ) × (bs ≡ front ++ 46 ∷ x.1.now) × (lacks 46 front ≡ true)
 dot-split bs x h =
     let at = split_once_first 46 bs (Some x) h (omega arith) in
     let front = before_first (λ b. eqb b 46) bs in
-    let found : get_or bs (position_or_len (λ b. eqb b 46) bs) 0 ≡ 46 = eqb-true _ 46 (passes_at_first (λ b. eqb b 46) bs 0 at.0) in
     let whole : bs ≡ front ++ (get_or bs (position_or_len (λ b. eqb b 46) bs) 0 ∷ after_first (λ b. eqb b 46) bs) = split_at_first (λ b. eqb b 46) bs 0 at.0 in
-    let back : x.1.now ≡ after_first (λ b. eqb b 46) bs = at.2 in
-    grind (arith, lacks-before)
+    grind (arith, lacks-before, eqb-true, passes_at_first)
 
 -- of all suffixes
 each-or : {A : Type 0} (f g h : A → Bool) (xs : List A) (all : A → Bool) → list_all all xs ≡ true → ((x : A) → all x ≡ true → f x ≡ (g x || h x)) → list_any f xs ≡ (list_any g xs || list_any h xs)
 each-or f g h [] all every step = refl
-each-or f g h (x ∷ xs) all every step =
-    let parts = and_parts (all x) (list_all all xs) every in
-    grind (arith, (each-or f g h xs all parts.1 step))
+each-or f g h (x ∷ xs) all every step = grind (arith, (each-or f g h xs all))
 
 pub dots-none : (text : List ℕ) (suffixes : List (List ℕ)) → list_all is_suffix suffixes ≡ true → lacks 46 text ≡ true → list_any (λ s. holds s text) suffixes ≡ false
 dots-none text [] all none = refl
@@ -86,8 +78,4 @@ dots-behind text front back suffixes all is none = grind (arith, each-or, dot-fi
 -- no suffix is empty
 pub least-one : (suffixes : List (List ℕ)) → list_all is_suffix suffixes ≡ true → list_all (λ s. nat_le 1 (length s)) suffixes ≡ true
 least-one [] all = refl
-least-one (s ∷ suffixes) all =
-    let parts = and_parts (is_suffix s) (list_all is_suffix suffixes) all in
-    let long : length s ≡ length (46 ∷ drop 1 s) = ap length (dot-first s parts.0) in
-    let one : nat_le 1 (length s) ≡ true = grind (arith, long) in
-    grind (arith, and_from, (least-one suffixes parts.1))
+least-one (s ∷ suffixes) all = grind (arith, dot-first, and_from, (least-one suffixes))

@@ -1,12 +1,12 @@
 -- File names of paths that end in a given text.
-use Rattle.std.proofs.Common.{◌≡◌, ℕ, ◌-◌, ◌++◌, ◌&&◌, ◌||◌, true, false, not, cond, eqb, List, [], ◌∷◌, Option, Some, None, refl, ap, sym, ◌∙◌, subst, nat_eq, length, take, reverse, append_assoc, append-nil, codes, bytes_eq, arith}
+use Rattle.std.proofs.Common.{◌≡◌, ℕ, ◌-◌, ◌++◌, true, false, cond, eqb, List, [], ◌∷◌, Option, Some, None, refl, ap, sym, ◌∙◌, length, take, reverse, append_assoc, append-nil, codes, arith}
 use Rattle.std.specs.Option.{option_map_or}
 use Rattle.std.proofs.lemmas.Bool.{false≢true, and_parts, or_right}
 use Rattle.std.proofs.lemmas.List.{reverse-append, reverse-reverse}
 use Rattle.std.proofs.Math.Bool.{and-false}
 use Rattle.texts.specs.DeviceFiles.{is_cicc_word}
 use Rattle.texts.specs.Extension.{onto_front, split_at_last, last_part}
-use Rattle.texts.specs.Path.{joined, is_bare, is_absolute_path, separator_after, lacks, trimmed, is_idle, proper_name, file_name_of}
+use Rattle.texts.specs.Path.{joined, is_bare, is_absolute_path, trimmed, is_idle, proper_name, file_name_of}
 use Rattle.texts.proofs.PathLaw.{joined-has_name}
 use Rattle.texts.proofs.PathLemmas.{lacks-append, unsplit-lacks, split-text, reverse-cons, not-is}
 use Rattle.canonical_names.specs.Shadow.{is_cicc_file}
@@ -30,12 +30,7 @@ cicc-front front text h =
     ap (λ z. is_cicc_word (front ++ z)) (ends-split text s h) ∙ ap is_cicc_word (sym (append_assoc front begin s)) ∙ ends-append (front ++ begin) s
 
 proper-cicc : (text : List ℕ) → is_cicc_word text ≡ true → is_cicc_file (proper_name text) ≡ true
-proper-cicc text h =
-    let s = codes ".cpp1.ii" in
-    let begin = take (length text - length s) text in
-    let split = ends-split text s h in
-    let proper : proper_name text ≡ Some text = subst (λ z. proper_name z ≡ Some z) (sym split) (proper-behind begin 46 99 112 (codes "p1.ii")) in
-    grind arith
+proper-cicc text h = grind (arith, proper-behind, (ends-split text (codes ".cpp1.ii") h))
 
 cicc-proper : (text : List ℕ) → is_cicc_file (proper_name text) ≡ true → is_cicc_word text ≡ true
 cicc-proper text h = grind (arith, false≢true)
@@ -67,8 +62,7 @@ any-front front text bare proper = by_split (split_at_last 47 front) refl where
 pub cicc-file : (text : List ℕ) → is_cicc_word text ≡ true → is_cicc_file (file_name_of text) ≡ true
 cicc-file text h =
     let s = codes ".cpp1.ii" in
-    let begin = take (length text - length s) text in
-    let found = any-front begin s refl (λ b. proper-behind b 46 99 112 (codes "p1.ii")) in
+    let found = any-front (take (length text - length s) text) s refl (λ b. proper-behind b 46 99 112 (codes "p1.ii")) in
     ap (λ z. is_cicc_file (file_name_of z)) (ends-split text s h) ∙ ap is_cicc_file found.1 ∙ ends-append found.0 s
 
 -- the last part of a text behind another
@@ -90,9 +84,7 @@ trimmed-behind : (u more : List ℕ) → trimmed (is_idle false) (u ++ 45 ∷ mo
 trimmed-behind [] [] = refl
 trimmed-behind [] (d ∷ more) = refl
 trimmed-behind (c ∷ []) more = grind (arith, (trimmed-behind [] more))
-trimmed-behind (c ∷ d ∷ u) more =
-    elim (is_idle false c (d ∷ u)) as (λ b. cond b (trimmed (is_idle false) (d ∷ (u ++ 45 ∷ more))) (c ∷ d ∷ (u ++ 45 ∷ more)) ≡ cond b (trimmed (is_idle false) (d ∷ (u ++ 45 ∷ []))) (c ∷ d ∷ (u ++ 45 ∷ [])) ++ more)
-    [ true ↦ trimmed-behind (d ∷ u) more | false ↦ ap (λ z. c ∷ d ∷ z) (sym (append_assoc u (45 ∷ []) more)) ]
+trimmed-behind (c ∷ d ∷ u) more = grind (arith, append_assoc, (trimmed-behind (d ∷ u) more))
 
 -- a text that begins with `-` and has a file name as cicc's input has one, behind any front
 pub dash-file : (front text : List ℕ) → is_cicc_file (file_name_of (45 ∷ text)) ≡ true → is_cicc_file (file_name_of (front ++ 45 ∷ text)) ≡ true

@@ -1,7 +1,6 @@
 -- References replaced by the lengths of their names: the longest that stand in a text, then those next to them.
-use Rattle.std.proofs.Common.{◌≡◌, ℕ, ◌-◌, ◌<◌, ◌≤◌, ◌&&◌, ◌++◌, Bool, true, false, not, cond, List, [], ◌∷◌, refl, ap, sym, ◌∙◌, subst, eqb, nat_lt, nat_le, length, fold, filter, arith}
+use Rattle.std.proofs.Common.{◌≡◌, ℕ, ◌-◌, ◌<◌, ◌≤◌, ◌++◌, true, false, not, cond, List, [], ◌∷◌, refl, ap, sym, ◌∙◌, eqb, nat_le, length, fold, filter, arith}
 use Rattle.std.specs.List.{AllByRecursion}
-use Rattle.std.proofs.lemmas.Bool.{and_parts}
 use Rattle.command_lines.specs.Replacing.{replaced}
 use Rattle.canonical_names.specs.Alike.{holds}
 use Rattle.canonical_names.specs.Counted.{old_names}
@@ -93,22 +92,16 @@ longest-begun ps text = cut-none (length text) ps text (too-long ps) where
 
 -- what the search for the longest name tells
 module _ (text : List ℕ) (m : ℕ) where
-  longer-more : (best : ℕ) (n : List ℕ) → best ≤ longer text m best n
-  longer-more best n = grind (arith, and_parts)
-
   pub longer-least : (best : ℕ) (n : List ℕ) → nat_le (length n) m ≡ true → holds n text ≡ true → length n ≤ longer text m best n
   longer-least best n le held = grind arith
 
-  longer-bound : (best : ℕ) (n : List ℕ) → best ≤ m → longer text m best n ≤ m
-  longer-bound best n le = grind arith
-
   pub fold-more : (names : List (List ℕ)) (best : ℕ) → best ≤ fold (longer text m) best names
   fold-more [] best = omega arith
-  fold-more (n ∷ names) best = grind (arith, longer-more, (fold-more names (longer text m best n)))
+  fold-more (n ∷ names) best = grind (arith, (fold-more names (longer text m best n)))
 
   fold-bound : (names : List (List ℕ)) (best : ℕ) → best ≤ m → fold (longer text m) best names ≤ m
   fold-bound [] best le = le
-  fold-bound (n ∷ names) best le = fold-bound names (longer text m best n) (longer-bound best n le)
+  fold-bound (n ∷ names) best le = fold-bound names (longer text m best n) ((grind arith))
 
   pub longest-bound : (names : List (List ℕ)) → longest_in text m names ≤ m
   longest-bound names = fold-bound names 0 (omega arith)
@@ -116,8 +109,7 @@ module _ (text : List ℕ) (m : ℕ) where
   none-over : (k : ℕ) (ps : List Pair) (best : ℕ) → fold (longer text m) best (old_names ps) ≤ k → AllByRecursion (λ p. holds p.0 text ≡ false) (over k (up_to m ps))
   none-over k [] best le = tt
   none-over k (p ∷ ps) best le =
-      let rest = none-over k ps (longer text m best p.0) le in
-      grind (arith, longer-least, fold-more)
+      grind (arith, longer-least, fold-more, (none-over k ps (longer text m best p.0) le))
 
   pub longest-next : (ps : List Pair) → replaced_by_all (longest_pairs_first (up_to m ps)) text ≡ replaced_by_all (longest_pairs_first (up_to (longest_in text m (old_names ps)) ps)) text
   longest-next ps =

@@ -106,15 +106,11 @@ core_told told = (get_or (get_or told 0 (0, [], [])).2 1 ([], None, [])).2
 
 pub one_run_second_clean : OneRunIsAlikeSecondUnclean → ⊥
 one_run_second_clean law =
-    let alike = law standard_suffixes standard-are_suffixes canonical_reference own_reference refl refl in
-    let cores : codes "-x_0.cpp1.ii" ≡ codes "-b.cpp1.ii" = ap core_told alike.2 in
-    grind (arith, false≢true)
+    grind (arith, false≢true, (law standard_suffixes standard-are_suffixes canonical_reference own_reference refl refl))
 
 pub one_run_first_clean : OneRunIsAlikeFirstUnclean → ⊥
 one_run_first_clean law =
-    let alike = law standard_suffixes standard-are_suffixes own_reference canonical_reference refl refl in
-    let cores : codes "-b.cpp1.ii" ≡ codes "-x_0.cpp1.ii" = ap core_told alike.2 in
-    grind (arith, false≢true)
+    grind (arith, false≢true, (law standard_suffixes standard-are_suffixes own_reference canonical_reference refl refl))
 
 -- a text that refers to a name becomes generated once the name is replaced, by a suffix of the caller's
 abbrev own_suffixes : List (List ℕ)

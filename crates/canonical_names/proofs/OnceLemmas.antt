@@ -1,16 +1,15 @@
 -- A clean run is renamed once for all.
-use Rattle.std.proofs.Common.{◌≡◌, ℕ, zero, suc, ◌-◌, ◌++◌, Bool, true, false, cond, List, [], ◌∷◌, Option, Some, None, map, refl, ap, sym, ◌∙◌, subst, nat_eq, length, fold, drop, option_map, sub-one, arith}
-use Rattle.std.specs.List.{Contains, All, AllByRecursion, ends_with, starts_with, filter_map}
+use Rattle.std.proofs.Common.{◌≡◌, ℕ, zero, suc, ◌++◌, Bool, cond, List, [], ◌∷◌, Option, Some, None, map, refl, ap, sym, ◌∙◌, nat_eq, length, fold, drop, option_map, sub-one, arith}
+use Rattle.std.specs.List.{Contains, All, AllByRecursion, ends_with, filter_map}
 use Rattle.std.proofs.lemmas.List.Elements.{All-nil, All-contains}
 use Rattle.texts.specs.Lists.{with_name}
-use Rattle.texts.specs.Path.{joined, folder_of, separator_after}
+use Rattle.texts.specs.Path.{joined, folder_of}
 use Rattle.command_lines.specs.CommandLines.{CommandLine, words_of_command}
 use Rattle.command_lines.specs.Replacing.{replaced, replaced_past}
 use Rattle.canonical_names.specs.Generated.{head_of, core_of, class_of, class_of_name, generated_name, begins_with_dash}
-use Rattle.canonical_names.specs.Renaming.{canonical_file, canonical_name, rank, longest_first, rewritten, renamed_core, renamed_word, renamed_words, renamed_after, renamed, with_words, seen_after_word, seen_after, names_of_run}
+use Rattle.canonical_names.specs.Renaming.{canonical_file, canonical_name, rank, longest_first, rewritten, renamed_core, renamed_words, renamed_after, renamed, seen_after_word, seen_after, names_of_run}
 use Rattle.canonical_names.specs.Alike.{core_through, IsRenaming}
 use Rattle.canonical_names.specs.CanonicalNames.{AreSuffixes, core_by_all, word_by_all, command_by_all, RenamedOnceForAll}
-use Rattle.canonical_names.specs.Shadow.{appearances}
 use Rattle.canonical_names.proofs.CountedLemmas.{member-among}
 use Rattle.canonical_names.proofs.AgainLemmas.{told-word, canonical-renaming}
 use Rattle.canonical_names.proofs.AlikeLemmas.{ToldWord, added-member, add-mapped, within-all, rank-mapped}
@@ -46,9 +45,7 @@ module _ (suffixes : List (List ℕ)) (lawful : AreSuffixes suffixes) (names : L
   f = canonical_name suffixes names
 
   rank-kept : (class n : List ℕ) (seen xs : List (List ℕ)) → names ≡ fold add seen xs → Contains seen n → rank class seen n ≡ rank class names n
-  rank-kept class n seen xs all h =
-      let rest = fold-front seen xs in
-      grind (arith, rank-found, member-among)
+  rank-kept class n seen xs all h = grind (arith, rank-found, member-among, (fold-front seen xs))
 
   -- a canonical name, among canonical names, is its own canonical name
   canonical-again : (seen xs : List (List ℕ)) → names ≡ fold add seen xs → (n : List ℕ) → Contains seen n → canonical_name suffixes (map f seen) (f n) ≡ f n
@@ -100,8 +97,7 @@ module _ (suffixes : List (List ℕ)) (lawful : AreSuffixes suffixes) (names : L
 
   -- the new core of a word stays
   class-member : (word class : List ℕ) (b : Bool) → cond b None (class_of_name suffixes (core_of word)) ≡ Some class → Contains suffixes class
-  class-member word class true e = cc
-  class-member word class false e = (find-found (ends_with nat_eq (core_of word)) suffixes class e).0
+  class-member word class b e = grind (arith, find-found)
 
   core-stays : (seen xs : List (List ℕ)) (word : List ℕ) (o : Option (List ℕ)) → class_of suffixes word ≡ o → names ≡ fold add (with_name seen (option_map (λ (_ : List ℕ). core_of word) o)) xs →
       renamed_core suffixes (map f seen) (core_through f (core_of word) o) o ≡ core_by_all names (core_of word) o
@@ -114,10 +110,6 @@ module _ (suffixes : List (List ℕ)) (lawful : AreSuffixes suffixes) (names : L
       ap (λ d. joined d (canonical_file (rank class (map f seen) (f core)) class)) (renaming.keeps_folder core hn)
       ∙ ap (λ k. joined (folder_of core) (canonical_file k class))
       (rank-mapped suffixes lawful names f renaming class core hc hn seen before ∙ sym (rank-stable class core seen xs) ∙ sym (ap (λ ns. rank class ns core) all))
-
-  word-again : (seen xs : List (List ℕ)) (word : List ℕ) (o : Option (List ℕ)) → class_of suffixes word ≡ o → names ≡ fold add (with_name seen (option_map (λ (_ : List ℕ). core_of word) o)) xs →
-      renamed_word suffixes (map f seen) (new_word word o) ≡ new_word word o
-  word-again seen xs word o e all = grind (arith, head-again, class-again, core-again, core-stays)
 
   seen-again : (seen xs : List (List ℕ)) (word : List ℕ) (o : Option (List ℕ)) → class_of suffixes word ≡ o → names ≡ fold add (with_name seen (option_map (λ (_ : List ℕ). core_of word) o)) xs →
       seen_after_word suffixes (map f seen) (new_word word o) ≡ map f (with_name seen (option_map (λ (_ : List ℕ). core_of word) o))
@@ -138,9 +130,7 @@ module _ (suffixes : List (List ℕ)) (lawful : AreSuffixes suffixes) (names : L
       let next = seen_after_word suffixes seen word in
       let later = filter_map (generated_name suffixes) words ++ xs in
       let behind : names ≡ fold add next later = all ∙ ap (λ s. fold add s xs) (words-names suffixes next words) ∙ sym (fold-append next (filter_map (generated_name suffixes) words) xs) in
-      let new = word_by_all suffixes names word in
-      let news = map (word_by_all suffixes names) words in
-      grind (arith, word-again, seen-again, (words-again next words xs all))
+      grind (arith, seen-again, (words-again next words xs all), head-again, class-again, core-again, core-stays)
 
   seen-words : (seen words xs : List (List ℕ)) → names ≡ fold add (seen_after suffixes seen words) xs → seen_after suffixes (map f seen) (map (word_by_all suffixes names) words) ≡ map f (seen_after suffixes seen words)
   seen-words seen [] xs all = refl
@@ -154,11 +144,7 @@ module _ (suffixes : List (List ℕ)) (lawful : AreSuffixes suffixes) (names : L
       renamed_after suffixes (map f seen) (map (command_by_all suffixes names) commands) ≡ map (command_by_all suffixes names) commands
   run-again seen [] all = refl
   run-again seen (command ∷ commands) all =
-      let words = words_of_command command in
-      let next = seen_after suffixes seen words in
-      let behind : names ≡ fold add next (appearances suffixes commands) = all ∙ run-names suffixes next commands in
-      let news = map (command_by_all suffixes names) commands in
-      grind (arith, words-again, seen-words, (run-again next commands all))
+      grind (arith, run-names, words-again, seen-words, (run-again (seen_after suffixes seen (words_of_command command)) commands all))
 
 pub renamed-once : RenamedOnceForAll
 renamed-once suffixes lawful commands clean =

@@ -33,11 +33,7 @@ module _ {A : Type 0} where
 -- two lists of texts
 module _ (xs ys : List (List ℕ)) (i : ℕ) (one : i < length xs) (other : i < length ys) where
   both : (b : Bool) → is_some_and (λ a. is_some_and (bytes_eq a) (slice_get ys i)) (slice_get xs i) ≡ b → pointwise bytes_eq (drop i xs) (drop i ys) ≡ (b && pointwise bytes_eq (drop (i + 1) xs) (drop (i + 1) ys))
-  both b h =
-      let x = at-place xs i one in
-      let y = at-place ys i other in
-      let same : bytes_eq x.0 y.0 ≡ b = sym (ap (λ o. is_some_and (λ a. is_some_and (bytes_eq a) (slice_get ys i)) o) x.1 ∙ ap (is_some_and (bytes_eq x.0)) y.1) ∙ h in
-      grind arith
+  both b h = grind (arith, (at-place ys i other), (at-place xs i one))
 
   pub equal-later : is_some_and (λ a. is_some_and (bytes_eq a) (slice_get ys i)) (slice_get xs i) ≡ true → pointwise bytes_eq (drop (i + 1) xs) (drop (i + 1) ys) ≡ pointwise bytes_eq (drop i xs) (drop i ys)
   equal-later h = sym (both true h)

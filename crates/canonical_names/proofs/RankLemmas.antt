@@ -1,5 +1,5 @@
 -- Ranks, counted over the appearances of names.
-use Rattle.std.proofs.Common.{◌≡◌, ℕ, ◌+◌, ◌++◌, ◌&&◌, ◌||◌, Bool, true, false, cond, eqb, ne_eqb, eqb-true, eq-eqb, List, [], ◌∷◌, Option, Some, None, refl, ap, sym, ◌∙◌, subst, nat_eq, length, fold, append_assoc, arith, append-nil, bytes_eq}
+use Rattle.std.proofs.Common.{◌≡◌, ℕ, ◌+◌, ◌++◌, ◌&&◌, ◌||◌, Bool, true, false, cond, eqb, ne_eqb, eqb-true, eq-eqb, List, [], ◌∷◌, Option, Some, refl, ap, sym, ◌∙◌, subst, nat_eq, length, fold, append_assoc, arith, append-nil, bytes_eq}
 use Rattle.std.specs.List.{list_any, ends_with, filter, filter_map, cons_option}
 use Rattle.std.proofs.lemmas.Bool.{false≢true, or_parts, or_from, and_from, cond_both, eqb-false}
 use Rattle.std.proofs.lemmas.Slice.Eq.{bytes_eq-Decides}
@@ -64,21 +64,15 @@ module _ (class name : List ℕ) where
 
   pub rank-absent : (seen : List (List ℕ)) → among seen ≡ false → rank class seen name ≡ count seen
   rank-absent [] h = refl
-  rank-absent (n ∷ seen) h =
-      let parts = or_parts (bytes_eq n name) (among seen) h in
-      grind (arith, count-cons, (rank-absent seen parts.1))
+  rank-absent (n ∷ seen) h = grind (arith, or_parts, count-cons, (rank-absent seen))
 
   pub rank-settled : (seen more : List (List ℕ)) → among seen ≡ false → rank class (seen ++ name ∷ more) name ≡ count seen
   rank-settled [] more h = ap (λ b. cond b 0 (cond (ends_with nat_eq name class) 1 0 + rank class more name)) (bytes_eq-itself name)
-  rank-settled (n ∷ seen) more h =
-      let parts = or_parts (bytes_eq n name) (among seen) h in
-      grind (arith, count-cons, (rank-settled seen more parts.1))
+  rank-settled (n ∷ seen) more h = grind (arith, or_parts, count-cons, (rank-settled seen more))
 
   among-push : (seen : List (List ℕ)) (x : List ℕ) → among seen ≡ false → bytes_eq x name ≡ false → among (seen ++ x ∷ []) ≡ false
   among-push [] x h k = or_from (bytes_eq x name) false k refl
-  among-push (n ∷ seen) x h k =
-      let parts = or_parts (bytes_eq n name) (among seen) h in
-      grind (arith, or_from, (among-push seen x parts.1 k))
+  among-push (n ∷ seen) x h k = grind (arith, or_parts, or_from, (among-push seen x))
 
   among-add : (seen : List (List ℕ)) (x : List ℕ) → among seen ≡ false → bytes_eq x name ≡ false → among (add seen x) ≡ false
   among-add seen x h k = cond_both (list_any (bytes_eq x) seen) seen (seen ++ x ∷ []) (λ s. among s ≡ false) (λ _. h) (λ _. among-push seen x h k)

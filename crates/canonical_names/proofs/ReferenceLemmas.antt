@@ -1,7 +1,7 @@
 -- References in the order of their lengths, and what they make of a text.
-use Rattle.std.proofs.Common.{◌≡◌, ℕ, ◌+◌, ◌-◌, ◌<◌, ◌||◌, ◌++◌, true, false, cond, List, [], ◌∷◌, Option, Some, None, is_some, map, refl, ap, sym, ◌∙◌, subst, nat_eq, nat_lt, length, fold, take, arith, append_assoc, length-append}
+use Rattle.std.proofs.Common.{◌≡◌, ℕ, ◌+◌, ◌-◌, ◌<◌, ◌++◌, true, false, List, [], ◌∷◌, Option, is_some, map, refl, ap, sym, ◌∙◌, subst, nat_eq, length, fold, take, arith, append_assoc, length-append}
 use Rattle.std.specs.List.{list_any, list_all, ends_with, AllByRecursion, Contains}
-use Rattle.std.proofs.lemmas.Bool.{false≢true, and_parts}
+use Rattle.std.proofs.lemmas.Bool.{false≢true}
 use Rattle.command_lines.specs.Replacing.{replaced}
 use Rattle.canonical_names.specs.Alike.{holds}
 use Rattle.canonical_names.specs.Counted.{has_class, with_canonical}
@@ -46,15 +46,12 @@ class-found suffixes n o e h = grind (arith, false≢true, find-found)
 named-some : (suffixes : List (List ℕ)) → are_suffixes suffixes ≡ true → (n : List ℕ) → has_class suffixes n ≡ true → 0 < length n
 named-some suffixes accepted n h =
     let class = class-found suffixes n (class_of_name suffixes n) refl h in
-    let some = first-some class.0 (each-member is_suffix suffixes class.0 (each-suffix suffixes accepted) class.1) in
     let parts : length n ≡ length (take (length n - length class.0) n) + length class.0 = ap length (ends-split n class.0 class.2) ∙ length-append (take (length n - length class.0) n) class.0 in
-    grind arith
+    grind (arith, (first-some class.0 (each-member is_suffix suffixes class.0 (each-suffix suffixes accepted) class.1)))
 
 names-some : (suffixes : List (List ℕ)) → are_suffixes suffixes ≡ true → (names : List (List ℕ)) → list_all (has_class suffixes) names ≡ true → AllByRecursion (λ n. 0 < length n) names
 names-some suffixes accepted [] h = tt
-names-some suffixes accepted (n ∷ names) h =
-    let parts = and_parts (has_class suffixes n) (list_all (has_class suffixes) names) h in
-    grind (arith, named-some, (names-some suffixes accepted names parts.1))
+names-some suffixes accepted (n ∷ names) h = grind (arith, named-some, (names-some suffixes accepted names))
 
 pairs-some : (f : List ℕ → List ℕ) (names : List (List ℕ)) → AllByRecursion (λ n. 0 < length n) names → AllByRecursion (λ (p : List ℕ × List ℕ). 0 < length p.0) (map (λ m. (m, f m)) names)
 pairs-some f [] h = tt
@@ -83,8 +80,7 @@ name-needs_suffix suffixes text n class none =
 pub no-suffix-no_names : (suffixes names : List (List ℕ)) (text : List ℕ) → list_all (has_class suffixes) names ≡ true → list_any (λ s. holds s text) suffixes ≡ false → list_any (λ n. holds n text) names ≡ false
 no-suffix-no_names suffixes [] text classes none = refl
 no-suffix-no_names suffixes (n ∷ names) text classes none =
-    let parts = and_parts (has_class suffixes n) (list_all (has_class suffixes) names) classes in
-    grind (arith, name-needs_suffix, (no-suffix-no_names suffixes names text parts.1 none))
+    grind (arith, name-needs_suffix, (no-suffix-no_names suffixes names text))
 
 pub rewritten-none : (suffixes names : List (List ℕ)) (text : List ℕ) → list_all (has_class suffixes) names ≡ true → list_any (λ s. holds s text) suffixes ≡ false → text ≡ rewritten suffixes names text
 rewritten-none suffixes names text classes none =

@@ -1,5 +1,5 @@
 -- Words renamed one after the other.
-use Rattle.std.proofs.Common.{◌≡◌, ℕ, ◌+◌, suc, zero, List, [], ◌∷◌, ◌++◌, map, drop, take, append_assoc, refl, ap, sym, ◌∙◌, add-one, arith}
+use Rattle.std.proofs.Common.{◌≡◌, ℕ, ◌+◌, suc, zero, List, [], ◌∷◌, ◌++◌, map, drop, take, append_assoc, refl, ap, ◌∙◌, add-one, arith}
 use Rattle.command_lines.specs.CommandLines.{CommandLine, words_of_command}
 use Rattle.canonical_names.specs.Renaming.{renamed_word, renamed_words, seen_after_word, seen_after, with_words, renamed_after}
 
@@ -25,8 +25,7 @@ module _ (suffixes : List (List ℕ)) where
 
   pub commands-step : (names : List (List ℕ)) (done target rest : List CommandLine) (c : CommandLine) → done ++ renamed_after suffixes names (c ∷ rest) ≡ target →
       (done ++ with_words c (renamed_words suffixes names (words_of_command c)) ∷ []) ++ renamed_after suffixes (seen_after suffixes names (words_of_command c)) rest ≡ target
-  commands-step names done target rest c h =
-      append_assoc done (with_words c (renamed_words suffixes names (words_of_command c)) ∷ []) (renamed_after suffixes (seen_after suffixes names (words_of_command c)) rest) ∙ h
+  commands-step names done target rest c h = grind (arith, append_assoc)
 
 -- the names of a beginning of the words were seen
 pub beginning-seen : (first before new : List (List ℕ) × List (List ℕ)) (words : List (List ℕ)) (k : ℕ) → before.0 ≡ first.0 → before.1 ≡ seen_after first.0 first.1 (take k words) → new ≡ before →

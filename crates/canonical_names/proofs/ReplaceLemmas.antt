@@ -49,12 +49,9 @@ module _ (old new : List ℕ) (some : 0 < length old) where
   skip [] t = refl
   skip (o ∷ os) t = skip os t
 
-  at-front : (os t : List ℕ) (o : ℕ) → old ≡ o ∷ os → replaced old new (old ++ t) ≡ new ++ replaced old new t
-  at-front os t o is = grind (arith, starts-append, skip)
-
   begun : (l : List ℕ) → old ≡ l → (t : List ℕ) → replaced old new (old ++ t) ≡ new ++ replaced old new t
   begun [] is t = absurd (let none : length old ≡ 0 = ap length is in omega (arith, none))
-  begun (o ∷ os) is t = at-front os t o is
+  begun (o ∷ os) is t = grind (arith, starts-append, skip)
 
   first-place : (front t : List ℕ) → ((i : ℕ) → i < length front → LacksTextAt old (front ++ (old ++ t)) i) → replaced old new (front ++ (old ++ t)) ≡ front ++ (new ++ replaced old new t)
   first-place [] t lacks = begun old refl t

@@ -1,8 +1,8 @@
 -- A word that holds no name seen so far keeps its text.
-use Rattle.std.proofs.Common.{◌≡◌, ℕ, ◌++◌, ◌-◌, false, cond, List, [], ◌∷◌, refl, ap, ◌∙◌, nat_eq, nat_lt, length, fold, arith}
-use Rattle.std.specs.List.{list_any, starts_with, AllByRecursion}
+use Rattle.std.proofs.Common.{◌≡◌, ℕ, ◌++◌, false, List, [], ◌∷◌, refl, ap, ◌∙◌, fold, arith}
+use Rattle.std.specs.List.{list_any, AllByRecursion}
 use Rattle.std.proofs.lemmas.Bool.{or_parts, cond_both}
-use Rattle.command_lines.specs.Replacing.{replaced, replaced_past}
+use Rattle.command_lines.specs.Replacing.{replaced}
 use Rattle.canonical_names.specs.Generated.{head_of, core_of}
 use Rattle.canonical_names.specs.Renaming.{insert_by_length, longest_first, canonical_name, renamed_core}
 use Rattle.canonical_names.specs.Alike.{holds}
@@ -11,9 +11,7 @@ use Rattle.canonical_names.specs.CanonicalNames.{OtherWordsStay}
 -- a text without any place of another stays
 pub replaced-none : (old new text : List ℕ) → holds old text ≡ false → replaced old new text ≡ text
 replaced-none old new [] h = refl
-replaced-none old new (c ∷ cs) h =
-    let parts = or_parts (starts_with nat_eq (c ∷ cs) old) (holds old cs) h in
-    grind (arith, (replaced-none old new cs parts.1))
+replaced-none old new (c ∷ cs) h = grind (arith, or_parts, (replaced-none old new cs))
 
 -- what holds of each name holds of each in the order of their lengths
 module _ (P : List ℕ → Type 0) where
@@ -28,9 +26,7 @@ module _ (P : List ℕ → Type 0) where
 -- none of some names stands in a text
 pub none-each : (text : List ℕ) (names : List (List ℕ)) → list_any (λ n. holds n text) names ≡ false → AllByRecursion (λ n. holds n text ≡ false) names
 none-each text [] h = tt
-none-each text (n ∷ ns) h =
-    let parts = or_parts (holds n text) (list_any (λ n. holds n text) ns) h in
-    grind (arith, (none-each text ns parts.1))
+none-each text (n ∷ ns) h = grind (arith, or_parts, (none-each text ns))
 
 -- names that don't stand in a text are replaced nowhere
 pub fold-none : (new : List ℕ → List ℕ) (text : List ℕ) (names : List (List ℕ)) → AllByRecursion (λ n. holds n text ≡ false) names → fold (λ t name. replaced name (new name) t) text names ≡ text

@@ -1,5 +1,5 @@
 -- Which renamed words are options, inputs of cicc, and outputs that open a group.
-use Rattle.std.proofs.Common.{◌≡◌, ℕ, ◌-◌, ◌++◌, ◌&&◌, ◌⊎◌, Bool, true, false, not, cond, eqb, eqb-true, List, [], ◌∷◌, Option, Some, None, inl, inr, refl, ap, sym, ◌∙◌, nat_eq, length, take, drop, append_assoc, codes, arith}
+use Rattle.std.proofs.Common.{◌≡◌, ℕ, ◌-◌, ◌++◌, ◌⊎◌, Bool, true, false, cond, eqb-true, List, [], ◌∷◌, Option, Some, None, inl, inr, refl, ap, sym, ◌∙◌, nat_eq, length, take, drop, append_assoc, codes, arith}
 use Rattle.std.specs.List.{Contains, starts_with, ends_with}
 use Rattle.std.proofs.lemmas.Bool.{false≢true, and_parts, or_cases, not-true}
 use Rattle.std.proofs.lemmas.List.{append_cancel_left, append_cancel_right}
@@ -90,11 +90,8 @@ module _ (suffixes : List (List ℕ)) (lawful : AreSuffixes suffixes) (names : L
         | false ↦ λ e. kept-by_class word e (class_of suffixes word) refl
       ] refl
 
-  no-option : (test : List ℕ → Bool) → ((rest : List ℕ) → test (45 ∷ 70 ∷ rest) ≡ false) → ((text : List ℕ) → begins_with_dash text ≡ false → test text ≡ false) → (text : List ℕ) → NoOption text → test text ≡ false
-  no-option test marked plain text h = grind arith
-
   pub test-kept : (test : List ℕ → Bool) → ((rest : List ℕ) → test (45 ∷ 70 ∷ rest) ≡ false) → ((text : List ℕ) → begins_with_dash text ≡ false → test text ≡ false) → (word : List ℕ) → test (renamed_one word) ≡ test word
-  test-kept test marked plain word = grind (arith, word-kept, no-option)
+  test-kept test marked plain word = grind (arith, word-kept)
 
   -- a word that ends as cicc's input does, and begins with no `-`
   pub class-by_end : (class text : List ℕ) → Contains suffixes class → ends_with nat_eq text class ≡ true → class_of_name suffixes text ≡ Some class
@@ -119,18 +116,14 @@ module _ (suffixes : List (List ℕ)) (lawful : AreSuffixes suffixes) (names : L
   -- a word is an input of cicc if it becomes one
   core-ends : (word class : List ℕ) → class_of suffixes word ≡ Some class → codes ".cpp1.ii" ≡ class → is_cicc_word word ≡ true
   core-ends word class e same =
-      let named = (not-dash suffixes lawful names word class (begins_with_dash (core_of word)) refl e).1 in
-      let found = find-found (ends_with nat_eq (core_of word)) suffixes class named in
       let front = word-front word in
-      grind (arith, cicc-front)
+      grind (arith, cicc-front, (find-found (ends_with nat_eq (core_of word)) suffixes class ((not-dash suffixes lawful names word class (begins_with_dash (core_of word)) refl e).1)))
 
   class-member : (word class : List ℕ) → class_of suffixes word ≡ Some class → Contains suffixes class
   class-member word class e = grind (arith, find-found, not-dash)
 
   cicc-by_class : (word : List ℕ) (o : Option (List ℕ)) → class_of suffixes word ≡ o → is_cicc_word (head_of word ++ core_by_all names (core_of word) o) ≡ true → is_cicc_word word ≡ true
-  cicc-by_class word None e h =
-      let front = word-front word in
-      grind (arith, cicc-front)
+  cicc-by_class word None e h = grind (arith, cicc-front, (word-front word))
   cicc-by_class word (Some class) e h =
       let text = head_of word ++ canonical_in names (core_of word) class in
       let begin = canonical-front names (core_of word) class in
@@ -149,10 +142,7 @@ module _ (suffixes : List (List ℕ)) (lawful : AreSuffixes suffixes) (names : L
 
   unread-by_class : (word : List ℕ) (k : ℕ) (o : Option (List ℕ)) → class_of suffixes word ≡ o → file_name_of (head_of word ++ core_by_all names (core_of word) o) ≡ Some (canonical_file k (codes ".cpp1.ii")) →
       is_cicc_file (file_name_of word) ≡ true
-  unread-by_class word k None e h =
-      let front = word-front word in
-      let file : is_cicc_file (file_name_of (head_of word ++ core_of word)) ≡ true = ap is_cicc_file h ∙ file-end k in
-      grind (arith, dash-file, unmarked-core)
+  unread-by_class word k None e h = grind (arith, dash-file, unmarked-core, file-end, (word-front word))
   unread-by_class word k (Some class) e h =
       let core = core_of word in
       let hc = class-member word class e in

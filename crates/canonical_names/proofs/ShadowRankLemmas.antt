@@ -1,7 +1,7 @@
 -- An input of cicc and the same one in a folder have one rank, each among those of its run.
-use Rattle.std.proofs.Common.{◌≡◌, ℕ, ◌+◌, ◌++◌, ◌&&◌, ◌||◌, Bool, true, false, cond, List, [], ◌∷◌, map, filter, refl, ap, sym, ◌∙◌, subst, nat_eq, fold, codes, bytes_eq, zero-add, arith}
+use Rattle.std.proofs.Common.{◌≡◌, ℕ, ◌++◌, ◌&&◌, ◌||◌, Bool, true, false, cond, List, [], ◌∷◌, map, filter, refl, ap, sym, ◌∙◌, fold, codes, bytes_eq, zero-add, arith}
 use Rattle.std.specs.Cmp.Lexicographic.{pointwise}
-use Rattle.std.specs.List.{list_any, list_all, ends_with}
+use Rattle.std.specs.List.{list_any, list_all}
 use Rattle.std.proofs.lemmas.Bool.{false≢true, and_parts, and_from}
 use Rattle.std.proofs.lemmas.Slice.Eq.{bytes_eq-Decides}
 use Rattle.std.proofs.lemmas.List.{map-append}
@@ -80,9 +80,7 @@ all-add test seen x h k = grind (arith, all-append, and_from)
 
 all-fold : (test : List ℕ → Bool) (xs seen : List (List ℕ)) → list_all test xs ≡ true → list_all test seen ≡ true → list_all test (fold add seen xs) ≡ true
 all-fold test [] seen h k = k
-all-fold test (x ∷ xs) seen h k =
-    let parts = and_parts (test x) (list_all test xs) h in
-    grind (arith, add, all-add, (all-fold test xs (add seen x) parts.1 (all-add test seen x k parts.0)))
+all-fold test (x ∷ xs) seen h k = grind (arith, add, all-add, (all-fold test xs (add seen x)))
 
 -- Below, bare names are put into a folder.
 module _ (folder : List ℕ) where
@@ -94,27 +92,20 @@ module _ (folder : List ℕ) where
 
   any-joined : (x : List ℕ) → is_bare x ≡ true → (seen : List (List ℕ)) → list_all is_bare seen ≡ true → list_any (bytes_eq (joined folder x)) (map (joined folder) seen) ≡ list_any (bytes_eq x) seen
   any-joined x hx [] h = refl
-  any-joined x hx (n ∷ seen) h =
-      let parts = and_parts (is_bare n) (list_all is_bare seen) h in
-      grind (arith, bytes-joined, (any-joined x hx seen parts.1))
+  any-joined x hx (n ∷ seen) h = grind (arith, bytes-joined, (any-joined x hx seen))
 
   add-joined : (seen : List (List ℕ)) (x : List ℕ) → list_all is_bare seen ≡ true → is_bare x ≡ true → add (map (joined folder) seen) (joined folder x) ≡ map (joined folder) (add seen x)
   add-joined seen x h hx = grind (arith, any-joined, map-append)
 
   fold-joined : (xs seen : List (List ℕ)) → list_all is_bare xs ≡ true → list_all is_bare seen ≡ true → fold add (map (joined folder) seen) (map (joined folder) xs) ≡ map (joined folder) (fold add seen xs)
   fold-joined [] seen h k = refl
-  fold-joined (x ∷ xs) seen h k =
-      let parts = and_parts (is_bare x) (list_all is_bare xs) h in
-      grind (arith, add, add-joined, all-add, (fold-joined xs (add seen x) parts.1 (all-add is_bare seen x k parts.0)))
+  fold-joined (x ∷ xs) seen h k = grind (arith, add, add-joined, all-add, (fold-joined xs (add seen x)))
 
   rank-joined : (name : List ℕ) → is_bare name ≡ true → (seen : List (List ℕ)) → list_all is_bare seen ≡ true → list_all is_cicc_word seen ≡ true →
       rank (codes ".cpp1.ii") (map (joined folder) seen) (joined folder name) ≡ rank (codes ".cpp1.ii") seen name
   rank-joined name hn [] h k = refl
   rank-joined name hn (n ∷ seen) h k =
-      let s = codes ".cpp1.ii" in
-      let parts = and_parts (is_bare n) (list_all is_bare seen) h in
-      let ends = and_parts (is_cicc_word n) (list_all is_cicc_word seen) k in
-      grind (arith, bytes-joined, cicc-joined_name, (rank-joined name hn seen parts.1 ends.1))
+      grind (arith, bytes-joined, cicc-joined_name, (rank-joined name hn seen))
 
 pub step-names_keep_rank : StepNamesKeepRank
 step-names_keep_rank suffixes lawful first second folder h name bare ends =

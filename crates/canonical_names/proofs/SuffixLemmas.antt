@@ -1,5 +1,5 @@
 -- What is asked of suffixes follows from the rule by which a list is accepted.
-use Rattle.std.proofs.Common.{◌≡◌, ℕ, ◌&&◌, ◌||◌, Bool, true, false, not, suc, zero, List, [], ◌∷◌, Some, ◌-◌, drop, length, inl, inr, refl, ap, sym, ◌∙◌, nat_eq, codes, arith, ◌++◌, take, map, bytes_eq}
+use Rattle.std.proofs.Common.{◌≡◌, ℕ, ◌&&◌, ◌||◌, Bool, true, false, suc, zero, List, [], ◌∷◌, Some, ◌-◌, drop, length, inl, inr, refl, ap, sym, ◌∙◌, nat_eq, codes, arith, ◌++◌, take, map, bytes_eq}
 use Rattle.std.specs.List.{Contains, ends_with, list_all, list_any, slice_get}
 use Rattle.std.proofs.lemmas.Bool.{false≢true, and_parts, or_parts, cases_lt, not-true}
 use Rattle.std.proofs.lemmas.List.Elements.{All-contains}
@@ -78,6 +78,4 @@ drop-got (y ∷ ys) (suc i) x h = drop-got ys i x h
 
 pub none-member : {A : Type 0} (test : A → Bool) (xs : List A) (x : A) → list_any test xs ≡ false → Contains xs x → test x ≡ false
 none-member test [] x h among = absurd (no-member x among)
-none-member test (y ∷ ys) x h among =
-    let parts = or_parts (test y) (list_any test ys) h in
-    elim (member-cases y ys x among) as (λ _. test x ≡ false) [ inl is ↦ ap test (sym is) ∙ parts.0 | inr more ↦ none-member test ys x parts.1 more ]
+none-member test (y ∷ ys) x h among = grind (arith, or_parts, member-cases, (none-member test ys x))

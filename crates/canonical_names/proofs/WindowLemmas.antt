@@ -1,11 +1,11 @@
 -- Which names of a length stand in a text, by the parts of it that have that length.
-use Rattle.std.proofs.Common.{◌≡◌, ℕ, ◌+◌, ◌-◌, ◌<◌, ◌≤◌, ◌&&◌, ◌||◌, Bool, true, false, cond, suc, zero, List, [], ◌∷◌, Some, is_some, map, refl, ap, sym, ◌∙◌, subst, eqb, eqb-true, nat_eq, nat_lt, nat_le, length, fold, take, drop, arith, string_bytes, String, get_or, add-one, bytes_eq, IsUtf8, IsCharBoundary, Global, length-take-le, length-append, take-append-drop}
+use Rattle.std.proofs.Common.{◌≡◌, ℕ, ◌+◌, ◌-◌, ◌<◌, ◌≤◌, ◌&&◌, ◌||◌, Bool, true, false, suc, zero, List, [], ◌∷◌, is_some, map, refl, ap, sym, ◌∙◌, subst, eqb, eqb-true, nat_eq, nat_le, length, fold, take, drop, arith, string_bytes, String, get_or, add-one, bytes_eq, IsUtf8, IsCharBoundary, Global, length-take-le, length-append, take-append-drop}
 use Rattle.std.specs.List.{list_any, starts_with}
 use Rattle.std.specs.Map.{lookup}
 use Rattle.std.proofs.lemmas.Bool.{false≢true, or_parts, and_parts}
 use Rattle.std.proofs.lemmas.Slice.Eq.{bytes_eq-Decides}
 use Rattle.std.proofs.lemmas.Str.{IsUtf8-string_bytes, IsUtf8-drop, IsCharBoundary-from_take, IsCharBoundary-from_rest, IsCharBoundary-start}
-use Rattle.std.proofs.Math.Bool.{and-false, and-or_distrib_left, and-true}
+use Rattle.std.proofs.Math.Bool.{and-false, and-or_distrib_left}
 use Rattle.texts.specs.Variables.{pair_of}
 use Rattle.canonical_names.specs.Alike.{holds}
 use Rattle.canonical_names.specs.Counted.{old_names}
@@ -91,23 +91,14 @@ module _ (k : ℕ) (names : List (List ℕ)) where
     none [] = let other : eqb (length {A = ℕ} []) k ≡ false = grind (arith, some) in ap (λ b. b && bytes_eq [] []) other
     none (c ∷ n) = and-false (eqb (length (c ∷ n)) k)
   windows-stand some (c ∷ cs) =
-      let text = c ∷ cs in
-      let e = λ (n : List ℕ). eqb (length n) k in
-      ap (λ b. b || windows_are k names cs) (any-and (nat_le k (length text)) (bytes_eq (take k text)) names ∙ any-same _ (λ n. e n && starts_with nat_eq text n) (part-is text) names)
-      ∙ ap (λ b. list_any (λ n. e n && starts_with nat_eq text n) names || b) (windows-stand some cs)
-      ∙ any-or (λ n. e n && starts_with nat_eq text n) (λ n. e n && holds n cs) names
-      ∙ any-same _ (λ n. e n && holds n text) (λ n. sym (and-or_distrib_left (e n) (starts_with nat_eq text n) (holds n cs))) names
+      simp (any-and, any-same, part-is, any-or, and-or_distrib_left, (windows-stand some cs))
 
 -- the longest name, length by length
 module _ (text : List ℕ) (k : ℕ) where
-  less-each : 0 < k → (n : List ℕ) → (eqb (length n) k && holds n text) ≡ false → (nat_le (length n) k && holds n text) ≡ (nat_le (length n) (k - 1) && holds n text)
-  less-each some n none = grind (arith, and-true, and-false)
-
   less-fold : 0 < k → (names : List (List ℕ)) (best : ℕ) → stand_of k names text ≡ false → fold (longer text k) best names ≡ fold (longer text (k - 1)) best names
   less-fold some [] best none = refl
   less-fold some (n ∷ names) best none =
-      let parts = or_parts (eqb (length n) k && holds n text) (stand_of k names text) none in
-      grind (arith, less-each, (less-fold some names (longer text (k - 1) best n) parts.1))
+      grind (arith, or_parts, (less-fold some names (longer text (k - 1) best n)))
 
   pub longest-less : 0 < k → (names : List (List ℕ)) → stand_of k names text ≡ false → longest_in text k names ≡ longest_in text (k - 1) names
   longest-less some names none = less-fold some names 0 none

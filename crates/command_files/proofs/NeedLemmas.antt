@@ -1,6 +1,6 @@
 -- Needs by a test: they hold it, and by them the plan's own order is an order.
 use Rattle.std.proofs.Common.{◌≡◌, ℕ, zero, suc, ◌+◌, ◌<◌, List, [], ◌∷◌, ◌++◌, Bool, true, false, cond, ◌||◌, ◌==◌, length, take, get_or, refl, sym, ap, subst, ◌∙◌, arith, append_assoc, append-nil, get_or-take, length-take-le}
-use Rattle.std.specs.List.{list_any, list_all, range_with_len}
+use Rattle.std.specs.List.{list_all, range_with_len}
 use Rattle.std.proofs.lemmas.Bool.{false≢true, eqb-true, eq-eqb}
 use Rattle.std.proofs.lemmas.List.Folds.{list_any-append}
 use Rattle.std.proofs.lemmas.List.Sorted.{IsPermutation-refl}
@@ -17,8 +17,7 @@ pub needs_at_place : {X : Type 0} (needed : X → X → Bool) (d : X) (earlier x
 needs_at_place needed d earlier [] k h = absurd (omega arith)
 needs_at_place needed d earlier (x ∷ xs) zero h = ap (numbers_where (λ e. needed e x) 0) (sym (append-nil earlier))
 needs_at_place needed d earlier (x ∷ xs) (suc k) h =
-    needs_at_place needed d (earlier ++ x ∷ []) xs k (omega arith)
-    ∙ ap (numbers_where (λ e. needed e (get_or xs k d)) 0) (append_assoc earlier (x ∷ []) (take k xs))
+    simp (append_assoc, (needs_at_place needed d (earlier ++ x ∷ []) xs k (omega arith)))
 
 -- all numbers of those that pass are numbers of the list
 pub numbers_below : {X : Type 0} (test : X → Bool) (n : ℕ) (xs : List X) (m : ℕ) → is_in (numbers_where test n xs) m ≡ true → m < n + length xs
@@ -46,9 +45,8 @@ needs_each needed d xs i j h k e =
 -- and none but earlier ones
 pub needs_earlier : {X : Type 0} (needed : X → X → Bool) (d : X) (xs : List X) (j m : ℕ) → j < length xs → is_in (needs_at (needs_by needed xs) j) m ≡ true → m < j
 needs_earlier needed d xs j m k e =
-    let size : length (take j xs) ≡ j = length-take-le j xs (omega arith) in
     let below : m < 0 + length (take j xs) = numbers_below (λ x. needed x (get_or xs j d)) 0 (take j xs) m (sym (ap (λ ns. is_in ns m) (needs_at_place needed d [] xs j k)) ∙ e) in
-    grind arith
+    grind (arith, length-take-le)
 
 pub needs_hold : NeedsHold
 needs_hold test plan = grind (arith, length-needs_behind, needs_each)
@@ -56,8 +54,7 @@ needs_hold test plan = grind (arith, length-needs_behind, needs_each)
 pub all_from : (test : ℕ → Bool) (ns : List ℕ) → ((m : ℕ) → is_in ns m ≡ true → test m ≡ true) → list_all test ns ≡ true
 all_from test [] f = refl
 all_from test (n ∷ ns) f =
-    in_both (test n) (list_all test ns) (f n (in_first (n == n) (is_in ns n) (eq-eqb n n refl)))
-    (all_from test ns (λ m e. f m (in_second (n == m) (is_in ns m) e)))
+    simp (in_both, in_first, eq-eqb, in_second, (all_from test ns (λ m e. f m (in_second (n == m) (is_in ns m) e))))
 
 ready_in_order : (needs : ℕ → List ℕ) (bound : ℕ) → ((j m : ℕ) → j < bound → is_in (needs j) m ≡ true → m < j) → (done : List ℕ) (a n : ℕ) → a + n ≡ bound → ((m : ℕ) → m < a → is_in done m ≡ true) → is_ready needs done (range_with_len a n) ≡ true
 ready_in_order needs bound earlier done a zero e known = refl

@@ -1,5 +1,5 @@
 -- What the code gathers for a command is what the command needs.
-use Rattle.std.proofs.Common.{◌≡◌, ℕ, suc, ◌+◌, ◌<◌, ◌≤◌, List, [], ◌∷◌, ◌++◌, true, false, ◌&&◌, ◌||◌, ◌==◌, nat_lt, length, take, drop, drop-cons, add-one, get_or, refl, sym, ap, ◌∙◌, arith, append_assoc, take-suc, ltb-true, lt-ltb, length-take-le}
+use Rattle.std.proofs.Common.{◌≡◌, ℕ, suc, ◌+◌, ◌<◌, ◌≤◌, List, [], ◌∷◌, ◌++◌, true, false, ◌&&◌, ◌||◌, nat_lt, length, take, drop, drop-cons, add-one, get_or, refl, sym, ap, ◌∙◌, arith, append_assoc, take-suc, ltb-true, lt-ltb, length-take-le}
 use Rattle.std.specs.List.{list_any}
 use Rattle.std.specs.List.Sorted.{IsStrictlyIncreasing}
 use Rattle.std.specs.Bool.{one_answer}
@@ -88,12 +88,7 @@ pub listed : (steps : List Step) (n : ℕ) (s : Step) (done new target : List (L
     drop n steps ≡ s ∷ drop (n + 1) steps → take (n + 1) steps ≡ take n steps ++ s ∷ [] →
     numbers ≡ numbers_where (λ e. step_needs e s) 0 (take n steps) → new ≡ done ++ numbers ∷ [] →
     done ++ needs_behind step_needs (take n steps) (drop n steps) ≡ target → new ++ needs_behind step_needs (take (n + 1) steps) (drop (n + 1) steps) ≡ target
-listed steps n s done new target numbers front grown are put before =
-    (λ i. put i ++ needs_behind step_needs (grown i) (drop (n + 1) steps))
-    ∙ append_assoc done (numbers ∷ []) (needs_behind step_needs (take n steps ++ s ∷ []) (drop (n + 1) steps))
-    ∙ (λ i. done ++ are i ∷ needs_behind step_needs (take n steps ++ s ∷ []) (drop (n + 1) steps))
-    ∙ ap (λ rest. done ++ needs_behind step_needs (take n steps) rest) (sym front)
-    ∙ before
+listed steps n s done new target numbers front grown are put before = grind (arith, grown, append_assoc)
 
 -- what is left at an item is that item and what is left behind it, and what is before the next one ends with it
 pub next : {X : Type 0} (xs : List X) (i : ℕ) (item : X) → i < length xs → item ≡ get_or xs i item → drop i xs ≡ item ∷ drop (i + 1) xs

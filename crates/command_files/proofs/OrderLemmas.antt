@@ -1,6 +1,6 @@
 -- Every order by the needs does what the plan's own order does.
-use Rattle.std.proofs.Common.{◌≡◌, ℕ, zero, suc, ◌+◌, ◌<◌, ◌≤◌, List, [], ◌∷◌, ◌++◌, Bool, true, false, cond, ◌&&◌, ◌||◌, ◌==◌, nat_lt, Option, Some, map, length, get_or, refl, sym, ap, subst, ◌∙◌, arith, IsPermutation, bytes_eq}
-use Rattle.std.specs.List.{filter, list_any, list_all, range_with_len, sum_by}
+use Rattle.std.proofs.Common.{◌≡◌, ℕ, zero, suc, ◌+◌, ◌<◌, ◌≤◌, List, [], ◌∷◌, ◌++◌, Bool, true, false, cond, ◌&&◌, ◌||◌, ◌==◌, Option, Some, map, length, get_or, refl, sym, ap, subst, ◌∙◌, arith, IsPermutation, bytes_eq}
+use Rattle.std.specs.List.{filter, list_all, range_with_len, sum_by}
 use Rattle.std.proofs.lemmas.Bool.{false≢true, and_parts, or_parts, eqb-true, eq-eqb, lt-ltb, ltb-true}
 use Rattle.std.proofs.lemmas.List.Folds.{list_any-append}
 use Rattle.std.proofs.lemmas.List.Sums.{sum_by-cons, sum_by-append}
@@ -34,11 +34,7 @@ fails b f = grind arith
 
 apart : (some others : List (List ℕ)) (file : List ℕ) → share some others ≡ false → is_among some file ≡ true → is_among others file ≡ false
 apart [] others file e h = absurd (false≢true h)
-apart (x ∷ xs) others file e h =
-    let parts : (is_among others x ≡ false) × (share xs others ≡ false) = or_parts (is_among others x) (share xs others) e in
-    in_either (bytes_eq file x) (is_among xs file)
-    (λ k. ap (is_among others) ((bytes_eq-Decides file x).0 k) ∙ parts.0)
-    (λ k. apart xs others file parts.1 k) h
+apart (x ∷ xs) others file e h = grind (arith, or_parts, in_either, bytes_eq-Decides, (apart xs others file))
 
 apart_back : (some others : List (List ℕ)) (file : List ℕ) → share some others ≡ false → is_among others file ≡ true → is_among some file ≡ false
 apart_back some others file e h = fails (is_among some file) (λ k. false≢true (sym (apart some others file e k) ∙ h))
@@ -69,9 +65,7 @@ passes test d n (x ∷ xs) (suc i) h e = grind (arith, list_any-append, in_secon
 
 pub all_pass : (test : ℕ → Bool) (xs : List ℕ) (n : ℕ) → list_all test xs ≡ true → is_in xs n ≡ true → test n ≡ true
 all_pass test [] n h e = absurd (false≢true e)
-all_pass test (x ∷ xs) n h e =
-    let parts : (test x ≡ true) × (list_all test xs ≡ true) = and_parts (test x) (list_all test xs) h in
-    in_either (x == n) (is_in xs n) (λ k. ap test (sym (eqb-true x n k)) ∙ parts.0) (λ k. all_pass test xs n parts.1 k) e
+all_pass test (x ∷ xs) n h e = grind (arith, in_either, eqb-true, (all_pass test xs n))
 
 written_by_it : (plan : List Files) (n : ℕ) (file : List ℕ) → n < length plan → is_among (files_at plan n).writes file ≡ true → is_in (writers plan file) n ≡ true
 written_by_it plan n file h w =
@@ -194,9 +188,6 @@ times-permutation : (n : ℕ) (xs ys : List ℕ) → IsPermutation xs ys → tim
 unfolding times
 times-permutation n xs ys h = sum_by-IsPermutation (mark n) xs ys h
 
-mark-same : (n : ℕ) → mark n n ≡ 1
-mark-same n = ap (λ b. cond b 1 0) (eq-eqb n n refl)
-
 times-in : (n : ℕ) (xs : List ℕ) → is_in xs n ≡ true → 1 ≤ times n xs
 times-in n [] e = absurd (false≢true e)
 times-in n (x ∷ xs) e =
@@ -240,9 +231,7 @@ split n (x ∷ xs) e =
 
 all_more : (test more : ℕ → Bool) → ((n : ℕ) → test n ≡ true → more n ≡ true) → (xs : List ℕ) → list_all test xs ≡ true → list_all more xs ≡ true
 all_more test more f [] h = refl
-all_more test more f (x ∷ xs) h =
-    let parts : (test x ≡ true) × (list_all test xs ≡ true) = and_parts (test x) (list_all test xs) h in
-    grind (arith, in_both, (all_more test more f xs parts.1))
+all_more test more f (x ∷ xs) h = grind (arith, in_both, (all_more test more f xs))
 
 more_behind : (a : ℕ) (done more : List ℕ) → ((n : ℕ) → is_in done n ≡ true → is_in more n ≡ true) → (n : ℕ) → is_in (a ∷ done) n ≡ true → is_in (a ∷ more) n ≡ true
 more_behind a done more f n e = in_either (a == n) (is_in done n) (λ k. in_first (a == n) (is_in more n) k) (λ k. in_second (a == n) (is_in more n) (f n k)) e
@@ -250,28 +239,19 @@ more_behind a done more f n e = in_either (a == n) (is_in done n) (λ k. in_firs
 ready_more : (needs : ℕ → List ℕ) (done more xs : List ℕ) → ((n : ℕ) → is_in done n ≡ true → is_in more n ≡ true) → is_ready needs done xs ≡ true → is_ready needs more xs ≡ true
 ready_more needs done more [] f h = refl
 ready_more needs done more (x ∷ xs) f h =
-    let parts : (list_all (is_in done) (needs x) ≡ true) × (is_ready needs (x ∷ done) xs ≡ true) = and_parts (list_all (is_in done) (needs x)) (is_ready needs (x ∷ done) xs) h in
-    grind (arith, in_both, all_more, more_behind, (ready_more needs (x ∷ done) (x ∷ more) xs (more_behind x done more f) parts.1))
-
-exchanged_behind : (a p : ℕ) (done : List ℕ) (n : ℕ) → is_in (p ∷ (a ∷ done)) n ≡ true → is_in (a ∷ (p ∷ done)) n ≡ true
-exchanged_behind a p done n e = grind (arith, in_either, in_second, in_first)
+    grind (arith, in_both, all_more, more_behind, (ready_more needs (x ∷ done) (x ∷ more) xs (more_behind x done more f)))
 
 -- a command may run first where an order is ready
 ready_moved : (needs : ℕ → List ℕ) (done : List ℕ) (p : ℕ) (before after : List ℕ) → is_ready needs done (before ++ p ∷ after) ≡ true → is_ready needs (p ∷ done) (before ++ after) ≡ true
 ready_moved needs done p [] after h = (and_parts (list_all (is_in done) (needs p)) (is_ready needs (p ∷ done) after) h).1
 ready_moved needs done p (a ∷ before) after h =
-    let parts : (list_all (is_in done) (needs a) ≡ true) × (is_ready needs (a ∷ done) (before ++ p ∷ after) ≡ true) = and_parts (list_all (is_in done) (needs a)) (is_ready needs (a ∷ done) (before ++ p ∷ after)) h in
-    grind (arith, in_both, all_more, each_below, ready_more, exchanged_behind, (ready_moved needs (a ∷ done) p before after parts.1))
+    grind (arith, in_both, all_more, each_below, ready_more, (ready_moved needs (a ∷ done) p before after))
 
 -- none of the commands before one needs it
 not_needed : (needs : ℕ → List ℕ) (done : List ℕ) (p : ℕ) (before after : List ℕ) → is_in done p ≡ false → is_in before p ≡ false → is_ready needs done (before ++ p ∷ after) ≡ true → (x : ℕ) → is_in before x ≡ true → is_in (needs x) p ≡ false
 not_needed needs done p [] after fresh new h x e = absurd (false≢true e)
 not_needed needs done p (a ∷ before) after fresh new h x e =
-    let parts : (list_all (is_in done) (needs a) ≡ true) × (is_ready needs (a ∷ done) (before ++ p ∷ after) ≡ true) = and_parts (list_all (is_in done) (needs a)) (is_ready needs (a ∷ done) (before ++ p ∷ after)) h in
-    let others : ((a == p) ≡ false) × (is_in before p ≡ false) = or_parts (a == p) (is_in before p) new in
-    in_either (a == x) (is_in before x)
-    (λ k. ap (λ y. is_in (needs y) p) (sym (eqb-true a x k)) ∙ fails (is_in (needs a) p) (λ m. false≢true (sym fresh ∙ all_pass (is_in done) (needs a) p parts.0 m)))
-    (λ k. not_needed needs (a ∷ done) p before after (in_neither (a == p) (is_in done p) others.0 fresh) others.1 parts.1 x k) e
+    grind (arith, or_parts, in_either, eqb-true, fails, all_pass, in_neither, (not_needed needs (a ∷ done) p before after))
 
 -- The theorem, over the numbers of a plan.
 
@@ -295,11 +275,7 @@ agree : (files : ℕ → Files) (needs : ℕ → List ℕ) (effects : ℕ → Ef
     → (c : Contents) → Same files effects os ps c
 agree files needs effects [] [] done distinct same fresh swaps ready c = record { leaves = refl; reads = λ k. refl }
 agree files needs effects [] (x ∷ xs) done distinct same fresh swaps ready c =
-    let count = same x in
-    let here = times-cons x x xs in
-    let one = mark-same x in
-    let none = times-nil x in
-    grind arith
+    grind (arith, (times-nil x), (times-cons x x xs), (same x))
 agree files needs effects (p ∷ ps) os done distinct same fresh swaps ready c =
     let counted : 1 ≤ times p (p ∷ ps) = times-in p (p ∷ ps) (at_head p ps) in
     let count = same p in
@@ -359,13 +335,6 @@ range_has a (suc n) x h k =
     behind : (a == x) ≡ false → a + 1 ≤ x
     behind e = let differ : a ≡ x → ⊥ = λ s. false≢true (sym e ∙ eq-eqb a x s) in omega arith
 
--- a later command that doesn't need an earlier one isn't ordered with it
-not_ordered : (needs : List (List ℕ)) (a x : ℕ) → a < x → is_in (needs_at needs x) a ≡ false → are_ordered needs a x ≡ false
-not_ordered needs a x h e = ap (λ b. cond b (is_in (needs_at needs x) a) (is_in (needs_at needs a) x)) (lt-ltb a x h) ∙ e
-
-not_ordered_back : (needs : List (List ℕ)) (a x : ℕ) → a < x → is_in (needs_at needs x) a ≡ false → are_ordered needs x a ≡ false
-not_ordered_back needs a x h e = grind (arith, fails, ltb-true)
-
 -- then neither has one place in all orders
 many_places : (needs : List (List ℕ)) (n m : ℕ) → m < length needs → (m ≡ n → ⊥) → are_ordered needs m n ≡ false → has_one_place needs n ≡ false
 many_places needs n m h differ e =
@@ -376,9 +345,8 @@ many_places needs n m h differ e =
 free : (plan : List Files) (needs : List (List ℕ)) (effects : ℕ → Effect) → Hold must_follow plan needs → AllStayWithin plan needs effects
     → (a x : ℕ) → a < x → x < length plan → is_in (needs_at needs x) a ≡ false → Free plan needs a x (effects a) (effects x)
 free plan needs effects holds stay a x h k e =
-    let size = holds.each in
-    let forth : are_ordered needs a x ≡ false = not_ordered needs a x h e in
-    let back : are_ordered needs x a ≡ false = not_ordered_back needs a x h e in
+    let forth : are_ordered needs a x ≡ false = ap (λ b. cond b (is_in (needs_at needs x) a) (is_in (needs_at needs a) x)) (lt-ltb a x h) ∙ e in
+    let back : are_ordered needs x a ≡ false = grind (arith, fails, ltb-true) in
     grind (arith, many_places, apart, apart_if_free, fails, false≢true)
 
 range_exchanges : (plan : List Files) (needs : List (List ℕ)) (effects : ℕ → Effect) → Hold must_follow plan needs → AllStayWithin plan needs effects

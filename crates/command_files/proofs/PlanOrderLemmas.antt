@@ -1,7 +1,7 @@
 -- Plans: their needs hold the needs of files, and their own order is an order.
-use Rattle.std.proofs.Common.{◌≡◌, ℕ, zero, suc, ◌+◌, ◌-◌, ◌<◌, ◌≤◌, List, [], ◌∷◌, ◌++◌, Bool, true, false, cond, ◌||◌, ◌==◌, nat_lt, map, length, get_or, refl, sym, ap, ◌∙◌, arith}
+use Rattle.std.proofs.Common.{◌≡◌, ℕ, zero, suc, ◌+◌, ◌-◌, ◌<◌, List, [], ◌∷◌, ◌++◌, Bool, true, false, cond, ◌||◌, ◌==◌, map, length, get_or, refl, sym, ap, ◌∙◌, arith}
 use Rattle.std.specs.List.{list_all}
-use Rattle.std.proofs.lemmas.Bool.{false≢true, and_parts, or_parts, eqb-true, eq-eqb, lt-ltb, ltb-true}
+use Rattle.std.proofs.lemmas.Bool.{false≢true, and_parts, eqb-true, eq-eqb, lt-ltb, ltb-true}
 use Rattle.std.proofs.lemmas.List.Folds.{list_all-append}
 use Rattle.std.proofs.lemmas.List.Sorted.{IsPermutation-refl}
 use Rattle.plans.specs.declared.plan.NvccGeneratedSubcommand.{NvccGeneratedSubcommand}
@@ -10,9 +10,9 @@ use Rattle.command_files.specs.declared.steps.Role.{Role}
 use Rattle.command_files.specs.declared.steps.Role.TheVariants as roles
 use Rattle.command_files.specs.declared.steps.Step.{Step}
 use Rattle.command_files.specs.Files.{Files, must_follow}
-use Rattle.command_files.specs.Order.{needs_by, needs_at, own_order, is_in, are_ordered, has_one_place, files_at, Effect, AllStayWithin, Hold}
-use Rattle.command_files.specs.PlanNeeds.{record_of, is_host_compiler, role_of, step_of, steps_from, plan_steps, plan_records, plan_needs, role_needs, step_needs}
-use Rattle.command_files.specs.PlanOrders.{is_final, role_at, is_recorded, FinalHasOnePlace, OthersStayWithin, PlanOrdersAgree, PlanRunsAgree, PlanOrderIsOne, RecordsSuffice}
+use Rattle.command_files.specs.Order.{needs_by, needs_at, is_in, are_ordered, files_at, Effect, AllStayWithin, Hold}
+use Rattle.command_files.specs.PlanNeeds.{record_of, role_of, step_of, steps_from, plan_steps, plan_records, plan_needs, role_needs, step_needs}
+use Rattle.command_files.specs.PlanOrders.{is_final, is_recorded, FinalHasOnePlace, OthersStayWithin, PlanOrdersAgree, PlanRunsAgree, PlanOrderIsOne, RecordsSuffice}
 use Rattle.command_files.proofs.NeedLemmas.{length-needs_behind, needs_each, all_from, own_order_ready}
 use Rattle.command_files.proofs.OrderLemmas.{in_either, in_first, in_second, in_both, fails, in_range, orders_agree, runs_agree}
 
@@ -58,20 +58,8 @@ FinalLast (s ∷ steps) = (is_final s.role ≡ true → all_final steps ≡ true
 abbrev is_last : ℕ → ℕ → Bool
 is_last count group = cond (group == 0) false (count - group == 1)
 
-not_first : (first last : Bool) → cond first false last ≡ true → last ≡ true
-not_first first last e = grind (arith, false≢true)
-
-front_is_not_final : (compiles : Bool) → is_final (cond compiles roles.FrontStep roles.Plain) ≡ false
-front_is_not_final compiles = grind arith
-
-device_is_not_final : (compiles : Bool) → is_final (cond compiles roles.DeviceStep roles.Plain) ≡ false
-device_is_not_final compiles = grind arith
-
-role_by : (first last compiles : Bool) → is_final (cond first (cond compiles roles.FrontStep roles.Plain) (cond last roles.Final (cond compiles roles.DeviceStep roles.Plain))) ≡ cond first false last
-role_by first last compiles = grind (arith, front_is_not_final, device_is_not_final)
-
 final_by_group : (count group : ℕ) (compiles : Bool) → is_final (role_of count group compiles) ≡ is_last count group
-final_by_group count group compiles = role_by (group == 0) (count - group == 1) compiles
+final_by_group count group compiles = grind arith
 
 last_group : (count group : ℕ) (commands : List NvccGeneratedSubcommand) → is_last count group ≡ true → all_final (map (step_of count group) commands) ≡ true
 last_group count group [] e = refl
@@ -83,7 +71,7 @@ final_last_in count group (c ∷ cs) rest behind h = grind (arith, final_by_grou
 
 none_behind : (count group : ℕ) (groups : List (List NvccGeneratedSubcommand)) → group + suc (length groups) ≡ count → is_last count group ≡ true → all_final (steps_from count (group + 1) groups) ≡ true
 none_behind count group [] e last = refl
-none_behind count group (g ∷ gs) e last = grind (arith, eqb-true, not_first)
+none_behind count group (g ∷ gs) e last = grind (arith, eqb-true)
 
 final_last : (count group : ℕ) (groups : List (List NvccGeneratedSubcommand)) → group + length groups ≡ count → FinalLast (steps_from count group groups)
 final_last count group [] e = tt

@@ -83,15 +83,9 @@ numbers_from_both files numbers n (t ∷ steps) s = grind (arith, (numbers_from_
 
 -- Numbers below a bound.
 
-below_found : (bound : ℕ) (x m : ℕ) (rest : List ℕ) (among : Bool) → is_in rest m ≡ (nat_lt m bound && among) → (x == m) ≡ true → is_in (cond (nat_lt x bound) (x ∷ rest) rest) m ≡ (nat_lt m bound && true)
-below_found bound x m rest among ih e = grind (arith, eqb-true, in_first)
-
-below_other : (bound : ℕ) (x m : ℕ) (rest : List ℕ) (among : Bool) → is_in rest m ≡ (nat_lt m bound && among) → (x == m) ≡ false → (b : Bool) → is_in (cond b (x ∷ rest) rest) m ≡ (nat_lt m bound && among)
-below_other bound x m rest among ih e b = grind arith
-
 pub in_below : (bound : ℕ) (numbers : List ℕ) (m : ℕ) → is_in (below bound numbers) m ≡ (nat_lt m bound && is_in numbers m)
 in_below bound [] m = sym (and_false (nat_lt m bound))
-in_below bound (x ∷ xs) m = grind (arith, below_found, below_other, (in_below bound xs m))
+in_below bound (x ∷ xs) m = grind (arith, (in_below bound xs m))
 
 pub in_touching : (bound : ℕ) (numbers : Numbers) (paths : List (List ℕ)) (m : ℕ) → is_in (touching bound numbers paths) m ≡ (nat_lt m bound && list_any (λ path. is_in (numbers path) m) paths)
 in_touching bound numbers [] m = sym (and_false (nat_lt m bound))
@@ -100,12 +94,8 @@ in_touching bound numbers (path ∷ paths) m =
     ∙ (λ i. in_below bound (numbers path) m i || in_touching bound numbers paths m i)
     ∙ and_or (nat_lt m bound) (is_in (numbers path) m) (list_any (λ p. is_in (numbers p) m) paths)
 
--- numbers below one that isn't below itself
-below_without : (n : ℕ) (numbers : List ℕ) → below n (numbers ++ n ∷ []) ≡ below n numbers
-below_without n numbers = grind (arith, filter-append, ltb-true, append-nil)
-
 below_with_number : (n : ℕ) (numbers : Numbers) (path file : List ℕ) → below n (with_number numbers path n file) ≡ below n (numbers file)
-below_with_number n numbers path file = grind (arith, below_without)
+below_with_number n numbers path file = grind (arith, filter-append, ltb-true, append-nil)
 
 -- what writes a file doesn't count for itself
 pub touching_noted : (n : ℕ) (readers writers : Numbers) (path : List ℕ) (paths : List (List ℕ)) → touching_either n readers (with_number writers path n) paths ≡ touching_either n readers writers paths
@@ -120,8 +110,7 @@ touching_all_noted n readers writers (p ∷ some) paths = touching_all_noted n r
 touching_either_both : (n : ℕ) (readers writers : Numbers) (some others : List (List ℕ)) → touching_either n readers writers some ++ touching_either n readers writers others ≡ touching_either n readers writers (some ++ others)
 touching_either_both n readers writers [] others = refl
 touching_either_both n readers writers (p ∷ paths) others =
-    append_assoc (below n (writers p) ++ below n (readers p)) (touching_either n readers writers paths) (touching_either n readers writers others)
-    ∙ ap (λ ns. (below n (writers p) ++ below n (readers p)) ++ ns) (touching_either_both n readers writers paths others)
+    simp (append_assoc, (touching_either_both n readers writers paths others))
 
 -- touching files and further ones
 pub touching_both : (n : ℕ) (readers writers : Numbers) (some others : List (List ℕ)) →
@@ -168,18 +157,10 @@ numbers_from_first test n (x ∷ xs) m e =
 holds_both : (a b : Bool) → (a && b) ≡ true → a ≡ true
 holds_both a b h = grind arith
 
-not_later : (b : Bool) (n j : ℕ) → is_in (cond b (n ∷ []) []) (n + suc j) ≡ true → ⊥
-not_later b n j h = grind (arith, in_either, eqb-true, false≢true)
-
 passed : {X : Type 0} (test : X → Bool) (d : X) (n : ℕ) (xs : List X) (i : ℕ) → is_in (numbers_where test n xs) (n + i) ≡ true → test (get_or xs i d) ≡ true
 passed test d n [] i e = absurd (false≢true e)
 passed test d n (x ∷ xs) zero e = grind (arith, in_either, holds_both, in_one_or_none, numbers_from_first, list_any-append)
-passed test d n (x ∷ xs) (suc i) e =
-    let same : n + suc i ≡ (n + 1) + i = omega arith in
-    in_either (is_in (cond (test x) (n ∷ []) []) (n + suc i)) (is_in (numbers_where test (n + 1) xs) (n + suc i))
-    (λ k. absurd (not_later (test x) n i k))
-    (λ k. passed test d (n + 1) xs i (subst (λ m. is_in (numbers_where test (n + 1) xs) m ≡ true) same k))
-    (sym (list_any-append (λ m. m == (n + suc i)) (cond (test x) (n ∷ []) []) (numbers_where test (n + 1) xs)) ∙ e)
+passed test d n (x ∷ xs) (suc i) e = grind (arith, list_any-append, (passed test d (n + 1) xs i))
 
 -- a number of the list is among them if its item passes
 pub in_numbers : {X : Type 0} (test : X → Bool) (d : X) (xs : List X) (m : ℕ) → m < length xs → is_in (numbers_where test 0 xs) m ≡ test (get_or xs m d)
@@ -232,10 +213,7 @@ numbers_rise test n (x ∷ xs) = rise_on (test x) n (numbers_where test (n + 1) 
 at_least : (b : ℕ) (xs : List ℕ) (m : ℕ) → Rises b xs → is_in xs m ≡ true → b ≤ m
 at_least b [] m r e = absurd (false≢true e)
 at_least b (x ∷ xs) m r e =
-    let first : b ≤ x = r.0 in
-    in_either (x == m) (is_in xs m)
-    (λ k. let same = eqb-true x m k in omega arith)
-    (λ k. let ih : suc x ≤ m = at_least (suc x) xs m r.1 k in omega arith) e
+    in_either (x == m) (is_in xs m) (λ k. let same = eqb-true x m k in omega arith) (λ k. let ih : suc x ≤ m = at_least (suc x) xs m r.1 k in omega arith) e
 
 head_in : (x : ℕ) (xs : List ℕ) → is_in (x ∷ xs) x ≡ true
 head_in x xs = in_first (x == x) (is_in xs x) (eq-eqb x x refl)

@@ -1,5 +1,5 @@
 -- Fates: each command has one, and device groups begin with their steps.
-use Rattle.std.proofs.Common.{◌≡◌, ℕ, ◌+◌, suc, List, [], ◌∷◌, ◌++◌, Bool, true, false, cond, ◌||◌, Option, Some, None, map, length, refl, sym, ap, subst, ◌∙◌, arith, IsPermutation, bytes_eq, append-nil}
+use Rattle.std.proofs.Common.{◌≡◌, ℕ, ◌+◌, suc, List, [], ◌∷◌, ◌++◌, Bool, true, false, cond, ◌||◌, Option, Some, map, length, refl, sym, ap, subst, ◌∙◌, arith, IsPermutation, bytes_eq, append-nil}
 use Rattle.std.specs.List.{list_any, fold, find, flat_map}
 use Rattle.std.proofs.lemmas.Bool.{false≢true, or_from, or_left, or_right, or_parts}
 use Rattle.std.proofs.lemmas.Slice.Eq.{bytes_eq-Decides}
@@ -7,9 +7,9 @@ use Rattle.std.proofs.lemmas.List.Sorted.{IsPermutation-refl, IsPermutation-sym,
 use Rattle.std.proofs.lemmas.List.Folds.{list_any-append}
 use Rattle.plans.specs.declared.plan.Reason.{Reason}
 use Rattle.texts.specs.Lists.{is_some_and, with_name}
-use Rattle.command_groups.specs.Stage.{Stage, linking, splitting, device_compiling, assembling, preprocessing, host_compiling, foreign, StagedCommand, opens}
-use Rattle.command_groups.specs.Fate.{Fate, front, device, final, ungrouped, PlacedCommand, is_device, opens_name, opened_names, device_or, is_made, place_of, placed_after, places, fate_of, with_fates, fates}
-use Rattle.command_groups.specs.Plan.{is_front, is_final, of_fate, group_of}
+use Rattle.command_groups.specs.Stage.{Stage, StagedCommand, opens}
+use Rattle.command_groups.specs.Fate.{Fate, front, device, final, ungrouped, PlacedCommand, is_device, opens_name, opened_names, device_or, place_of, placed_after, places, fate_of, with_fates, fates}
+use Rattle.command_groups.specs.Plan.{is_front, is_final, of_fate}
 use Rattle.command_groups.specs.FateLaws.{is_ungrouped, regrouped, EachHasOneFate, BeginsWithLastStep, DeviceGroupsBeginWithTheirStep, OuterGroupsAreThere}
 
 -- Tests.
@@ -79,12 +79,9 @@ all_named_push names (q ∷ qs) p h k = (h.0, all_named_push names qs p h.1 k)
 pub new_name_known : (names : List (List ℕ)) (x : List ℕ) → list_any (bytes_eq x) (with_name names (Some x)) ≡ true
 new_name_known names x = grind (arith, list_any-append, or_right, or_left, equal_texts)
 
-named_cons : (n : List ℕ) (names : List (List ℕ)) (place : Fate) → Named names place → Named (n ∷ names) place
-named_cons n names place h = grind (arith, or_right)
-
 found_named : (reason : Reason) (test : List ℕ → Bool) (names : List (List ℕ)) → Named names (device_or reason (find test names))
 found_named reason test [] = tt
-found_named reason test (n ∷ ns) = grind (arith, or_left, equal_texts, named_cons, (found_named reason test ns))
+found_named reason test (n ∷ ns) = grind (arith, or_left, equal_texts, (found_named reason test ns))
 
 place_named : (names : List (List ℕ)) (before : List PlacedCommand) (stage : Stage) → Named (with_name names (opens stage)) (place_of names before stage)
 place_named names before stage = grind (arith, found_named, new_name_known)
@@ -95,12 +92,9 @@ placed_named names before (c ∷ cs) h =
     let p : PlacedCommand = record { staged = c; fate = place_of names before c.stage } in
     grind (arith, all_named_push, all_named_with, place_named, (placed_named (with_name names (opens c.stage)) (before ++ p ∷ []) cs (all_named_push (with_name names (opens c.stage)) before p (all_named_with names (opens c.stage) before h) (place_named names before c.stage))))
 
-fate_named : (names : List (List ℕ)) (after : List PlacedCommand) (place : Fate) → Named names place → Named names (fate_of after place)
-fate_named names after place h = grind arith
-
 fates_named : (names : List (List ℕ)) (ps : List PlacedCommand) → AllNamed names ps → AllNamed names (with_fates ps)
 fates_named names [] h = tt
-fates_named names (p ∷ ps) h = (fate_named names ps p.fate h.0, fates_named names ps h.1)
+fates_named names (p ∷ ps) h = ((grind arith), fates_named names ps h.1)
 
 -- The commands themselves stay as they are.
 
@@ -111,8 +105,7 @@ push_staged (q ∷ qs) p cs = λ i. q.staged ∷ push_staged qs p cs i
 pub placed_staged : (names : List (List ℕ)) (before : List PlacedCommand) (commands : List StagedCommand) → map (λ q. q.staged) (placed_after names before commands) ≡ (map (λ q. q.staged) before ++ commands)
 placed_staged names before [] = sym (append-nil (map (λ q. q.staged) before))
 placed_staged names before (c ∷ cs) =
-    let p : PlacedCommand = record { staged = c; fate = place_of names before c.stage } in
-    grind (arith, push_staged, (placed_staged (with_name names (opens c.stage)) (before ++ p ∷ []) cs))
+    simp (push_staged, (placed_staged (with_name names (opens c.stage)) (before ++ (record { staged = c; fate = place_of names before c.stage }) ∷ []) cs))
 
 pub fates_staged : (ps : List PlacedCommand) → map (λ q. q.staged) (with_fates ps) ≡ map (λ q. q.staged) ps
 fates_staged [] = refl

@@ -12,10 +12,10 @@ use Rattle.plans.specs.declared.plan.Reason.{Reason}
 use Rattle.plans.specs.declared.plan.Reason.TheVariants.{Superseded}
 use Rattle.command_groups.specs.Stage.{StagedCommand}
 use Rattle.command_groups.specs.Fate.{Fate, device, ungrouped, PlacedCommand, is_device}
-use Rattle.command_groups.specs.Plan.{PlanSetting, subcommand_of, is_front, is_final, of_fate, dropped_by, groups_of, plan_of_staged}
+use Rattle.command_groups.specs.Plan.{PlanSetting, subcommand_of, is_front, is_final, of_fate, dropped_by, plan_of_staged}
 use Rattle.command_groups.specs.Openings.{Opened, names_of}
-use Rattle.command_groups.specs.Labels.{Labelled, GroupingState, grouped}
-use Rattle.command_groups.specs.Groups.{fate_at, fate_by, settled, dropped_for, group_of_label, put_at, with_grouped, with_dropped, no_groups, CutState, nothing_cut, with_labelled, planned_of_cut, plan_by_labels}
+use Rattle.command_groups.specs.Labels.{Labelled, grouped}
+use Rattle.command_groups.specs.Groups.{fate_at, fate_by, settled, dropped_for, group_of_label, put_at, with_grouped, with_dropped, no_groups, CutState, with_labelled, plan_by_labels}
 use Rattle.command_groups.specs.Origins.{origin_of, origins_by, origins_of_placed, origins_of_staged}
 use Rattle.command_groups.proofs.FateLemmas.{Distinct, same_text, equal_texts}
 use Rattle.command_groups.proofs.LabelLemmas.{labels_are_fates, names_are_opened, names_are_distinct, stands}
@@ -179,15 +179,11 @@ module _ (opened : Opened) where
   abbrev Falls : StagedCommand → List PlacedCommand → Fate → Result ℕ Reason → Type 0
   Falls c ps place r = all_dropped (record { staged = c; fate = place } ∷ ps) ≡ drops r c ++ all_dropped ps
 
-  falls_device : (c : StagedCommand) (ps : List PlacedCommand) (o : Opening) (e : Option (List ℕ × ℕ)) → Falls c ps (fate_at e o.step) (if is_some_and (λ q. q.1 == o.step) e then Ok (suc o.number) else Err Superseded)
-  falls_device c ps o e = grind arith
-
   falls : (c : StagedCommand) (ps : List PlacedCommand) (label : Label) → Falls c ps (fate_by opened label) (group_of_label opened label)
-  falls c ps label = grind (arith, falls_device)
+  falls c ps label = grind arith
 
   one_dropped : (ds more : List Dropped) (c : StagedCommand) (r : Result ℕ Reason) → with_dropped ds c r ++ more ≡ ds ++ (drops r c ++ more)
-  one_dropped ds more c (Ok place) = refl
-  one_dropped ds more c (Err reason) = append_assoc ds (dropped_for reason c.command ∷ []) more
+  one_dropped ds more c r = grind (arith, append_assoc)
 
   dropped_after : (ds : List Dropped) (ls : List Labelled) → fold (λ ds l. with_dropped ds l.staged (group_of_label opened l.label)) ds ls ≡ ds ++ all_dropped (map (settled opened) ls)
   dropped_after ds [] = sym (append-nil ds)

@@ -13,7 +13,7 @@ use Rattle.command_groups.specs.declared.labels.Label.TheVariants.{Front, Device
 use Rattle.plans.specs.declared.plan.Reason.TheVariants.{NotCuda, NoCiccGroup, NoPtxasGroup, Superseded}
 use Rattle.command_groups.specs.Merge.{MergedCommand}
 use Rattle.command_groups.specs.Stage.{Stage, linking, splitting, device_compiling, assembling, preprocessing, host_compiling, foreign, StagedCommand, opens}
-use Rattle.command_groups.specs.Fate.{Fate, front, device, final, ungrouped, PlacedCommand, is_device, is_device_compiling, device_or, opens_name, opened_names, makes, is_made, place_of, placed_after, places, fate_of, with_fates, fates}
+use Rattle.command_groups.specs.Fate.{Fate, front, device, final, ungrouped, PlacedCommand, is_device_compiling, device_or, opens_name, opened_names, makes, is_made, place_of, placed_after, places, fate_of, with_fates, fates}
 use Rattle.command_groups.specs.Openings.{Opened, Made, names_of, opening_at, further, opening_of, number_of, is_live, lower, first_live_after, first_live}
 use Rattle.command_groups.specs.Labels.{Labelled, GroupingState, no_commands, device_label, with_made, with_output, with_command, grouped}
 use Rattle.command_groups.specs.Groups.{fate_at, fate_by, settled}

@@ -1,5 +1,5 @@
 -- The merged list is in order, and nothing is lost in it.
-use Rattle.std.proofs.Common.{◌≡◌, ℕ, ◌+◌, ◌<◌, ◌≤◌, List, [], ◌∷◌, ◌++◌, Bool, true, false, cond, ◌||◌, ◌&&◌, nat_lt, map, filter, refl, sym, ap, ◌∙◌, ◌⊎◌, inl, inr, arith, Ordering, Less, Equal, Greater, is_lt, true≢false, IsPermutation, nat_le, ◌==◌, if◌then◌else◌, sum_by}
+use Rattle.std.proofs.Common.{◌≡◌, ℕ, ◌+◌, ◌<◌, ◌≤◌, List, [], ◌∷◌, ◌++◌, Bool, true, false, cond, ◌||◌, ◌&&◌, nat_lt, map, filter, refl, sym, ap, ◌∙◌, ◌⊎◌, inl, inr, arith, Ordering, is_lt, IsPermutation, nat_le, ◌==◌, if◌then◌else◌, sum_by}
 use Rattle.std.specs.List.{list_all, AllByRecursion}
 use Rattle.std.specs.Ordering.{ordering_then, nat_cmp}
 use Rattle.std.proofs.lemmas.Bool.{false≢true, and_parts, ltb-true, ltb-false, leb-true, leb-false, eqb-true, lt-ltb, le-leb, eq-eqb, and_from, or_left, or_right, or_parts}
@@ -19,9 +19,6 @@ second_fails a b e f = grind (arith, false≢true)
 
 not_equal : (m n : ℕ) → (m ≡ n → ⊥) → (m == n) ≡ false
 not_equal m n h = elim (m == n) as (λ b. (m == n) ≡ b → b ≡ false) [ true ↦ λ e. absurd (h (eqb-true m n e)) | false ↦ λ e. refl ] refl
-
-not_less : (m n : ℕ) → n ≤ m → nat_lt m n ≡ false
-not_less m n h = grind (arith, ltb-true)
 
 -- Commands by line, and on equal lines by what a test says of their runs.
 
@@ -46,9 +43,6 @@ told = told_by_line nat_le (λ m n. m ≤ n) leb-true le-leb
 tells : (a b : MergedCommand) → Before a b → is_in_order a b ≡ true
 tells = tells_by_line nat_le (λ m n. m ≤ n) leb-true le-leb
 
-chained : (a b c : MergedCommand) → Before a b → Before b c → Before a c
-chained a b c h k = grind arith
-
 turned : (a b : MergedCommand) → is_in_order a b ≡ false → is_in_order b a ≡ true
 turned a b e = grind (arith, ltb-false, or_parts, tells, ltb-true, leb-false, second_fails, eq-eqb)
 
@@ -56,16 +50,11 @@ turned a b e = grind (arith, ltb-false, or_parts, tells, ltb-true, leb-false, se
 
 all_after : (c d : MergedCommand) (ds : List MergedCommand) → is_in_order c d ≡ true → list_all (is_in_order d) ds ≡ true → list_all (is_in_order c) ds ≡ true
 all_after c d [] e h = refl
-all_after c d (x ∷ xs) e h =
-    let p = and_parts (is_in_order d x) (list_all (is_in_order d) xs) h in
-    grind (arith, and_from, tells, chained, told, (all_after c d xs e p.1))
+all_after c d (x ∷ xs) e h = grind (arith, and_from, tells, told, (all_after c d xs e))
 
 put_after : (c d : MergedCommand) (ds : List MergedCommand) → is_in_order c d ≡ true → list_all (is_in_order c) ds ≡ true → list_all (is_in_order c) (put_in_order d ds) ≡ true
 put_after c d [] e h = and_from (is_in_order c d) true e refl
-put_after c d (x ∷ xs) e h =
-    let p = and_parts (is_in_order c x) (list_all (is_in_order c) xs) h in
-    let ih : list_all (is_in_order c) (put_in_order d xs) ≡ true = put_after c d xs e p.1 in
-    grind (arith, and_from)
+put_after c d (x ∷ xs) e h = grind (arith, and_from, (put_after c d xs e))
 
 put_ordered : (c : MergedCommand) (ds : List MergedCommand) → InOrder ds → InOrder (put_in_order c ds)
 put_ordered c [] h = (refl, tt)
@@ -128,21 +117,13 @@ StrictlyBefore a b = (a.line < b.line) ⊎ ((a.line ≡ b.line) × (a.run < b.ru
 strictly_told : (a b : MergedCommand) → is_before a b ≡ true → StrictlyBefore a b
 strictly_told = told_by_line nat_lt (λ m n. m < n) ltb-true lt-ltb
 
-strictly_tells : (a b : MergedCommand) → StrictlyBefore a b → is_before a b ≡ true
-strictly_tells = tells_by_line nat_lt (λ m n. m < n) ltb-true lt-ltb
-
 not_both : (a b : MergedCommand) → StrictlyBefore a b → StrictlyBefore b a → ⊥
 not_both a b h k = grind arith
-
-never_before_itself : (a b : MergedCommand) → a ≡ b → is_before b a ≡ true → ⊥
-never_before_itself a b e h = let k : is_before b b ≡ true = ap (is_before b) (sym e) ∙ h in not_both b b (strictly_told b b k) (strictly_told b b k)
 
 -- what stands behind a command is among what is left without it
 left_behind : (p : MergedCommand) (ps zs : List MergedCommand) → list_all (is_before p) zs ≡ true → AllByRecursion (λ z. Among z (p ∷ ps)) zs → AllByRecursion (λ z. Among z ps) zs
 left_behind p ps [] h k = tt
-left_behind p ps (z ∷ zs) h k =
-    let s = and_parts (is_before p z) (list_all (is_before p) zs) h in
-    grind (arith, never_before_itself, (left_behind p ps zs s.1 k.1))
+left_behind p ps (z ∷ zs) h k = grind (arith, (left_behind p ps zs))
 
 same_list : (ps ms : List MergedCommand) → RisesInOrder ps → RisesInOrder ms → AllByRecursion (λ z. Among z ps) ms → AllByRecursion (λ z. Among z ms) ps → ms ≡ ps
 same_list [] [] r s h k = refl
@@ -184,14 +165,9 @@ ties_itself a = ap (λ b. if b then 1 else 0) (and_from (a.line == a.line) (a.ru
 no_ties_later : (x : MergedCommand) (xs : List MergedCommand) → NoTies (x ∷ xs) → NoTies xs
 no_ties_later x xs h a = omega (arith, tallied a x xs, h a)
 
-strictly : (a b : MergedCommand) → is_in_order a b ≡ true → tie a b ≡ 0 → is_before a b ≡ true
-strictly a b e t = grind (arith, told, strictly_tells, ltb-true, ltb-false, and_from, eq-eqb)
-
 all_strictly : (a : MergedCommand) (xs : List MergedCommand) → list_all (is_in_order a) xs ≡ true → tally a xs ≡ 0 → list_all (is_before a) xs ≡ true
 all_strictly a [] h t = refl
-all_strictly a (x ∷ xs) h t =
-    let s = and_parts (is_in_order a x) (list_all (is_in_order a) xs) h in
-    grind (arith, and_from, strictly, tallied, (all_strictly a xs s.1 (omega (arith, tallied a x xs))))
+all_strictly a (x ∷ xs) h t = grind (arith, and_from, tallied, (all_strictly a xs))
 
 strict_order : (xs : List MergedCommand) → InOrder xs → NoTies xs → RisesInOrder xs
 strict_order [] h t = tt
@@ -201,11 +177,7 @@ strict_order (x ∷ xs) h t = grind (arith, all_strictly, tallied, ties_itself, 
 
 none_above : (r n : ℕ) (a : MergedCommand) (cs : List CommandLine) → a.line ≤ n → list_all (nat_lt n) (map line_of cs) ≡ true → tally a (map (of_run r) cs) ≡ 0
 none_above r n a [] l h = refl
-none_above r n a (c ∷ cs) l h =
-    let s = and_parts (nat_lt n (line_of c)) (list_all (nat_lt n) (map line_of cs)) h in
-    let above : n < line_of c = ltb-true n (line_of c) s.0 in
-    let apart : (a.line == line_of c) ≡ false = not_equal a.line (line_of c) (omega arith) in
-    grind (arith, tallied, (none_above r n a cs l s.1))
+none_above r n a (c ∷ cs) l h = grind (arith, ltb-true, not_equal, tallied, (none_above r n a cs l))
 
 rising_tally : (r : ℕ) (a : MergedCommand) (cs : List CommandLine) → Rises (map line_of cs) → tally a (map (of_run r) cs) ≤ 1
 rising_tally r a [] h = omega arith
@@ -217,10 +189,7 @@ other_run r a (c ∷ cs) e = grind (arith, tallied, and-false, (other_run r a cs
 
 all_left : (n : ℕ) (test : CommandLine → Bool) (cs : List CommandLine) → list_all (nat_lt n) (map line_of cs) ≡ true → list_all (nat_lt n) (map line_of (filter test cs)) ≡ true
 all_left n test [] h = refl
-all_left n test (c ∷ cs) h =
-    let s = and_parts (nat_lt n (line_of c)) (list_all (nat_lt n) (map line_of cs)) h in
-    let ih : list_all (nat_lt n) (map line_of (filter test cs)) ≡ true = all_left n test cs s.1 in
-    grind (arith, and_from)
+all_left n test (c ∷ cs) h = grind (arith, and_from, (all_left n test cs))
 
 rises_left : (test : CommandLine → Bool) (cs : List CommandLine) → Rises (map line_of cs) → Rises (map line_of (filter test cs))
 rises_left test [] h = tt
@@ -260,4 +229,4 @@ ordered_by_neighbours (c ∷ d ∷ ds) h = grind (arith, and_from, all_after, (o
 
 -- what sorting says of two neighbours
 pub not_greater : (a b : MergedCommand) (o : Ordering) → is_lt (ordering_then (nat_cmp b.line a.line) (ordering_then (nat_cmp b.run a.run) o)) ≡ false → is_in_order a b ≡ true
-not_greater a b o h = grind (arith, turned, lt-ltb, leb-false, second_fails, eq-eqb, or_parts, not_less, told)
+not_greater a b o h = grind (arith, turned, lt-ltb, leb-false, second_fails, eq-eqb, or_parts, told)

@@ -1,7 +1,7 @@
 -- The fate of a command whose group one step opens, and that doesn't stand before that step.
-use Rattle.std.proofs.Common.{◌≡◌, ℕ, List, [], ◌∷◌, ◌++◌, ◌||◌, Bool, true, false, cond, Option, Some, None, map, filter, refl, sym, ap, subst, ◌∙◌, bytes_eq, arith}
+use Rattle.std.proofs.Common.{◌≡◌, ℕ, List, [], ◌∷◌, ◌++◌, ◌||◌, Bool, true, false, cond, Option, Some, None, map, filter, refl, ap, subst, ◌∙◌, bytes_eq, arith}
 use Rattle.std.specs.List.{Contains, AllByRecursion, list_any, list_all}
-use Rattle.std.proofs.lemmas.Bool.{false≢true, and_parts, or_parts}
+use Rattle.std.proofs.lemmas.Bool.{false≢true, or_parts}
 use Rattle.std.proofs.lemmas.List.Elements.{All-from_recursion, All-contains}
 use Rattle.texts.specs.Lists.{is_some_and, with_name}
 use Rattle.canonical_names.proofs.CanonicalLemmas.{head-member, tail-member}
@@ -9,7 +9,7 @@ use Rattle.plans.specs.declared.plan.Reason.TheVariants.{Superseded}
 use Rattle.command_groups.specs.Merge.{is_in_order}
 use Rattle.command_groups.specs.MergeLaws.{InOrder}
 use Rattle.command_groups.specs.Stage.{Stage, linking, splitting, device_compiling, assembling, preprocessing, host_compiling, foreign, StagedCommand, opens}
-use Rattle.command_groups.specs.Fate.{Fate, device, ungrouped, PlacedCommand, opens_name, place_of, placed_after, places, fate_of, with_fates, fates}
+use Rattle.command_groups.specs.Fate.{Fate, device, ungrouped, PlacedCommand, opens_name, place_of, placed_after, fate_of, with_fates, fates}
 use Rattle.command_groups.proofs.FateLemmas.{same_text, known_with, new_name_known, placed_staged}
 
 -- lists of which one element passes a test
@@ -69,12 +69,7 @@ module _ (n : List ℕ) (step target : StagedCommand)
 
   step_behind : (c : StagedCommand) (cs : List StagedCommand) → list_all (is_in_order c.command) (map (λ t. t.command) cs) ≡ true → filter (opener n) cs ≡ step ∷ [] → is_in_order c.command step.command ≡ true
   step_behind c [] h f = cc
-  step_behind c (d ∷ ds) h f =
-      let parts = and_parts (is_in_order c.command d.command) (list_all (is_in_order c.command) (map (λ t. t.command) ds)) h in
-      elim (opener n d) as (λ b. cond b (d ∷ filter (opener n) ds) (filter (opener n) ds) ≡ step ∷ [] → is_in_order c.command step.command ≡ true) [
-        | true ↦ λ k. let is : d ≡ step = cc in subst (λ z. is_in_order c.command z.command ≡ true) is parts.0
-        | false ↦ λ k. step_behind c ds parts.1 k
-      ] f
+  step_behind c (d ∷ ds) h f = grind (arith, (step_behind c ds))
 
   good_after : (names : List (List ℕ)) (before : List PlacedCommand) (cs : List StagedCommand) → AllByRecursion Good before → list_any (bytes_eq n) names ≡ true → AllByRecursion Good (placed_after names before cs)
   good_after names before [] h k = h
@@ -107,9 +102,7 @@ module _ (n : List ℕ) (step target : StagedCommand)
 
   late : (ps : List PlacedCommand) → AllByRecursion Good ps → list_any (opener n) (map (λ p. p.staged) ps) ≡ false → AllByRecursion Good (with_fates ps)
   late [] h k = tt
-  late (p ∷ ps) h k =
-      let rest = (or_parts (opener n p.staged) (list_any (opener n) (map (λ p. p.staged) ps)) k).1 in
-      grind (arith, stays, (late ps h.1 rest))
+  late (p ∷ ps) h k = grind (arith, or_parts, stays, (late ps h.1))
 
   early : (ps : List PlacedCommand) → AllByRecursion Good ps → InOrder (map (λ t. t.command) (map (λ p. p.staged) ps)) → filter (opener n) (map (λ p. p.staged) ps) ≡ step ∷ [] → AllByRecursion Good (with_fates ps)
   early [] h o f = tt

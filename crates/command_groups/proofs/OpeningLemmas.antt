@@ -1,7 +1,7 @@
 -- Openings of device groups.
-use Rattle.std.proofs.Common.{◌≡◌, ℕ, suc, zero, ◌<◌, ◌≤◌, List, [], ◌∷◌, ◌++◌, Bool, true, false, cond, length, refl, sym, ap, ◌∙◌, ◌⊎◌, inl, inr, arith, Option, Some, None, ◌==◌, ◌&&◌, ◌||◌, nat_le, slice_get, if◌then◌else◌, bytes_eq}
+use Rattle.std.proofs.Common.{◌≡◌, ℕ, suc, zero, ◌<◌, ◌≤◌, List, [], ◌∷◌, Bool, true, false, cond, length, refl, sym, ap, ◌∙◌, ◌⊎◌, inl, inr, arith, Option, Some, None, ◌==◌, ◌&&◌, slice_get, if◌then◌else◌, bytes_eq}
 use Rattle.std.specs.List.{list_any, find, AllByRecursion}
-use Rattle.std.proofs.lemmas.Bool.{false≢true, and_parts, leb-true, leb-false, eqb-true, eq-eqb, or_right, or_parts}
+use Rattle.std.proofs.lemmas.Bool.{false≢true, and_parts, eqb-true, eq-eqb, or_right, or_parts}
 use Rattle.indexmap.specs.IndexMap.{insert_entry}
 use Rattle.texts.specs.Lists.{is_some_and, with_name}
 use Rattle.command_groups.specs.declared.openings.Opening.{Opening}
@@ -10,7 +10,7 @@ use Rattle.command_groups.specs.declared.labels.Label.TheVariants.{Device}
 use Rattle.plans.specs.declared.plan.Reason.{Reason}
 use Rattle.plans.specs.declared.plan.Reason.TheVariants.{Superseded}
 use Rattle.command_groups.specs.Fate.{Fate, front, device, final, ungrouped, device_or}
-use Rattle.command_groups.specs.Openings.{Opened, names_of, opening_at, further, opening_of, number_of, is_live, lower, first_live_after, first_live}
+use Rattle.command_groups.specs.Openings.{Opened, names_of, opening_at, opening_of, number_of, is_live, lower, first_live_after, first_live}
 use Rattle.command_groups.specs.Labels.{device_label}
 use Rattle.command_groups.specs.Groups.{fate_at, fate_by}
 use Rattle.command_groups.proofs.FateLemmas.{Distinct, same_text}
@@ -102,17 +102,8 @@ Best opened first os (Some f) =
     (is_live opened f ≡ true) × ((first ≡ Some f) ⊎ Among f os) × AtMost f first × AllByRecursion (λ o. is_live opened o ≡ true → f.number ≤ o.number) os
 
 module _ (opened : Opened) where
-  lower_live : (first : Option Opening) (o : Opening) → IsLive opened first → is_live opened o ≡ true → is_live opened (lower first o) ≡ true
-  lower_live first o h k = grind arith
-
-  lower_is : (first : Option Opening) (o f : Opening) (os : List Opening) → lower first o ≡ f → (first ≡ Some f) ⊎ Among f (o ∷ os)
-  lower_is first o f os e = grind arith
-
-  lower_both : (first : Option Opening) (o f : Opening) → f.number ≤ (lower first o).number → AtMost f first × (f.number ≤ o.number)
-  lower_both first o f h = grind (arith, leb-true, leb-false)
-
   taken : (first : Option Opening) (o : Opening) (os : List Opening) (r : Option Opening) → is_live opened o ≡ true → Best opened (Some (lower first o)) os r → Best opened first (o ∷ os) r
-  taken first o os r h b = grind (arith, lower_both, lower_is)
+  taken first o os r h b = grind arith
 
   passed : (first : Option Opening) (o : Opening) (os : List Opening) (r : Option Opening) → is_live opened o ≡ false → Best opened first os r → Best opened first (o ∷ os) r
   passed first o os r h b = grind (arith, false≢true)
@@ -122,7 +113,7 @@ module _ (opened : Opened) where
   best (Some f) [] h = (h, inl refl, omega arith, tt)
   best first (o ∷ os) h =
       let ih : (g : Option Opening) → IsLive opened g → Best opened g os (first_live_after opened g os) = λ g k. best g os k in
-      grind (arith, taken, lower_live, passed)
+      grind (arith, taken, passed)
 
   live_here : (o : Opening) (k : ℕ) (e : List ℕ × ℕ) → slice_get opened k ≡ Some e → is_at k e o ≡ true → (is_live opened o ≡ true) × (o.number ≡ k)
   live_here o k e g h = grind (arith, and_parts, eqb-true)

@@ -1,7 +1,7 @@
 -- Plans of dry runs that can be read, and of dry runs that are alike.
-use Rattle.std.proofs.Common.{◌≡◌, ℕ, List, [], ◌∷◌, Bool, true, false, cond, map, Option, None, Result, Ok, refl, sym, ap, subst, ◌∙◌, arith}
+use Rattle.std.proofs.Common.{◌≡◌, ℕ, List, [], ◌∷◌, Bool, true, map, Option, None, Result, Ok, refl, sym, ap, subst, ◌∙◌, arith}
 use Rattle.std.specs.List.{list_all}
-use Rattle.std.proofs.lemmas.Bool.{and_parts, and_from}
+use Rattle.std.proofs.lemmas.Bool.{and_from}
 use Rattle.texts.specs.declared.fault.Fault.{Fault}
 use Rattle.command_lines.specs.CommandLines.{CommandLine}
 use Rattle.dry_runs.specs.DryRun.{LookUp, Meaning, meanings, run_or_fault, dry_run_of}
@@ -11,8 +11,8 @@ use Rattle.canonical_names.proofs.AlikeLemmas.{alike-runs_agree}
 use Rattle.canonical_names.specs.CanonicalNames.{AreSuffixes}
 use Rattle.canonical_names.specs.Renaming.{renamed}
 use Rattle.plans.specs.declared.plan.Plan.{Plan}
-use Rattle.command_groups.specs.Fate.{Fate, PlacedCommand, fates, places}
-use Rattle.command_groups.specs.Merge.{MergedCommand, is_in_order, merged}
+use Rattle.command_groups.specs.Fate.{Fate, PlacedCommand}
+use Rattle.command_groups.specs.Merge.{MergedCommand, is_in_order}
 use Rattle.command_groups.specs.MergeLaws.{InOrder}
 use Rattle.command_groups.specs.Plan.{PlanSetting, of_fate, staged_commands, plan_of}
 use Rattle.command_groups.specs.PlanOfBytes.{named, plan_or_fault, planning_of}
@@ -77,9 +77,7 @@ second_run_is_refused suffixes keep_dir s which first second fault others e f = 
 -- staged commands stand as the merged ones do
 staged_in_order : (s : PlanSetting) (c : MergedCommand) (cs : List MergedCommand) → list_all (is_in_order c) cs ≡ true → list_all (is_in_order (staged s.host_compiler s.flag c).command) (map (λ t. t.command) (map (staged s.host_compiler s.flag) cs)) ≡ true
 staged_in_order s c [] h = refl
-staged_in_order s c (d ∷ ds) h =
-    let parts = and_parts (is_in_order c d) (list_all (is_in_order c) ds) h in
-    grind (arith, and_from, (staged_in_order s c ds parts.1))
+staged_in_order s c (d ∷ ds) h = grind (arith, and_from, (staged_in_order s c ds))
 
 pub all_staged_in_order : (s : PlanSetting) (cs : List MergedCommand) → InOrder cs → InOrder (map (λ t. t.command) (map (staged s.host_compiler s.flag) cs))
 all_staged_in_order s [] h = tt
@@ -88,9 +86,7 @@ all_staged_in_order s (c ∷ cs) h = (staged_in_order s c cs h.0, all_staged_in_
 -- what is filtered stays in order
 filtered_after : (test : Fate → Bool) (c : MergedCommand) (ps : List PlacedCommand) → list_all (is_in_order c) (map (λ p. p.staged.command) ps) ≡ true → list_all (is_in_order c) (map (λ p. p.staged.command) (of_fate test ps)) ≡ true
 filtered_after test c [] h = refl
-filtered_after test c (p ∷ ps) h =
-    let parts = and_parts (is_in_order c p.staged.command) (list_all (is_in_order c) (map (λ p. p.staged.command) ps)) h in
-    grind (arith, and_from, (filtered_after test c ps parts.1))
+filtered_after test c (p ∷ ps) h = grind (arith, and_from, (filtered_after test c ps))
 
 filtered_in_order : (test : Fate → Bool) (ps : List PlacedCommand) → InOrder (map (λ p. p.staged.command) ps) → InOrder (map (λ p. p.staged.command) (of_fate test ps))
 filtered_in_order test [] h = tt
@@ -105,18 +101,14 @@ group_is_in_order s first second test = grind (arith, filtered_in_order, command
 
 -- Fates.
 
-has_one_fate_each : (s : PlanSetting) (variables : List Variable) (first second : List CommandLine) → HasOneFateEach s variables first second (plan_of s variables first second)
-has_one_fate_each s variables first second = grind (arith, merged_are_the_selected, merged_is_in_order, each_has_one_fate, group_is_in_order)
-
 one_answer : (r : Result Plan Fault) (p q : Plan) → r ≡ Ok p → r ≡ Ok q → p ≡ q
 one_answer r p q e f = cc
 
 pub planned_commands_have_one_fate : PlannedCommandsHaveOneFate
 planned_commands_have_one_fate suffixes keep_dir s which first second plan e =
-    let lines = meanings which 1 s.cwd [] (numbered_lines first) in
     let more = meanings which 2 s.cwd [] (numbered_lines second) in
     let read = planned_runs_are_readable suffixes keep_dir s which first second plan e in
-    let said : Says which s.cwd first second = record { one = _; two = _; one_is_read = ap (run_or_fault lines) read.0; two_is_read = ap (run_or_fault more) read.1 } in
+    let said : Says which s.cwd first second = record { one = _; two = _; one_is_read = ap (run_or_fault (meanings which 1 s.cwd [] (numbered_lines first))) read.0; two_is_read = ap (run_or_fault more) read.1 } in
     let exact : Plan = plan_of s said.one.1 (named suffixes keep_dir said.one.0) (named suffixes keep_dir said.two.0) in
     let is : exact ≡ plan = one_answer (planning_of suffixes keep_dir s which first second) exact plan (planned suffixes keep_dir s which first second said.one said.two said.one_is_read said.two_is_read) e in
-    (said, subst (HasOneFateEach s said.one.1 (named suffixes keep_dir said.one.0) (named suffixes keep_dir said.two.0)) is (has_one_fate_each s said.one.1 (named suffixes keep_dir said.one.0) (named suffixes keep_dir said.two.0)))
+    (said, subst (HasOneFateEach s said.one.1 (named suffixes keep_dir said.one.0) (named suffixes keep_dir said.two.0)) is ((grind (arith, merged_are_the_selected, merged_is_in_order, each_has_one_fate, group_is_in_order))))

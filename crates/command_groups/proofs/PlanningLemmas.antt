@@ -1,5 +1,5 @@
 -- The plan of two dry runs, by its parts.
-use Rattle.std.proofs.Common.{◌≡◌, ◌∙◌, ℕ, List, map, Option, Result, Ok, Err, IfOk, ap, refl, sym, subst, arith}
+use Rattle.std.proofs.Common.{◌≡◌, ◌∙◌, ℕ, List, map, Option, Result, Ok, Err, IfOk, ap, sym, arith}
 use Rattle.texts.specs.declared.fault.Fault.{Fault}
 use Rattle.texts.specs.Fault.{UnlessMemory, UnlessMemoryIs}
 use Rattle.command_lines.specs.declared.commands.DryRun.{DryRun}
@@ -38,8 +38,5 @@ alone suffixes keep_dir s first second = grind arith
 unless : {P Q : Type 0} (fault : Fault) → (P → Q) → UnlessMemoryIs fault P → UnlessMemoryIs fault Q
 unless fault h e = grind arith
 
-alone_is : (planned expected : Result PlanWithOrigins Fault) → UnlessMemory planned expected → UnlessMemory (plan_alone planned) (plan_alone expected)
-alone_is planned expected e = grind (arith, unless)
-
 pub planned_alone : (suffixes : List (List ℕ)) (keep_dir : Option (List ℕ)) (s : PlanSetting) (first second : Result (List CommandLine × List Variable) Fault) (planned : Result PlanWithOrigins Fault) (answer : Result Plan Fault) → answer ≡ plan_alone planned → UnlessMemory planned (origins_or_fault suffixes keep_dir s first second) → UnlessMemory answer (plan_or_fault suffixes keep_dir s first second)
-planned_alone suffixes keep_dir s first second planned answer same e = grind (arith, alone, alone_is)
+planned_alone suffixes keep_dir s first second planned answer same e = grind (arith, alone)

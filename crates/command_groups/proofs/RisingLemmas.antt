@@ -1,11 +1,10 @@
 -- The commands of a dry run stand at rising lines, and their names change none.
-use Rattle.std.proofs.Common.{◌≡◌, ℕ, ◌+◌, ◌<◌, List, [], ◌∷◌, true, false, map, refl, sym, ap, subst, ◌∙◌, arith, Option, Some, None, Ok, ◌&&◌, nat_lt, codes, if◌then◌else◌, lt-ltb}
-use Rattle.std.specs.Str.Lines.{lines}
+use Rattle.std.proofs.Common.{◌≡◌, ℕ, ◌+◌, ◌<◌, List, [], ◌∷◌, true, map, refl, ap, ◌∙◌, arith, Option, Ok, ◌&&◌, nat_lt, lt-ltb}
 use Rattle.std.specs.List.{list_all, filter_map, enumerate_from}
 use Rattle.texts.specs.declared.fault.Fault.{Fault}
 use Rattle.command_lines.specs.CommandLines.{CommandLine, line_of, words_of_command}
-use Rattle.dry_runs.specs.DryRun.{LookUp, Meaning, Runs, Bad, meaning_found, meaning_by_path, meaning_of_words, meaning_assigned, meaning_marked, meaning, environment_after, meanings, assigned_by, command_of, fault_of, run_or_fault, dry_run_of}
-use Rattle.dry_runs.specs.Environment.{Variable, assignment, expanded}
+use Rattle.dry_runs.specs.DryRun.{LookUp, Meaning, Runs, meaning_found, meaning_by_path, meaning_of_words, meaning_assigned, meaning_marked, meaning, environment_after, meanings, command_of, run_or_fault, dry_run_of}
+use Rattle.dry_runs.specs.Environment.{Variable}
 use Rattle.canonical_names.specs.Renaming.{seen_after, renamed_after}
 use Rattle.command_groups.specs.MergeLaws.{Rises}
 use Rattle.command_groups.specs.PlanOfBytes.{named}

@@ -1,5 +1,5 @@
 -- In the plans of shadow runs cicc stands beside the step that makes its input.
-use Rattle.std.proofs.Common.{◌≡◌, ℕ, ◌<◌, List, [], ◌∷◌, ◌++◌, ◌&&◌, ◌||◌, Bool, true, false, not, cond, eqb, eqb-true, Option, Some, None, inl, inr, map, filter, refl, sym, ap, subst, ◌∙◌, nat_eq, nat_lt, arith, codes, nat_le, option_map, option_and_then, bytes_eq}
+use Rattle.std.proofs.Common.{◌≡◌, ℕ, List, [], ◌∷◌, ◌++◌, ◌&&◌, ◌||◌, Bool, true, false, not, cond, eqb-true, Option, Some, None, inl, inr, map, filter, refl, sym, ap, subst, ◌∙◌, nat_eq, arith, codes, option_map, option_and_then, bytes_eq}
 use Rattle.std.specs.List.{Contains, list_any, list_all, find, starts_with, filter_map, cons_option}
 use Rattle.std.specs.Cmp.Lexicographic.{pointwise}
 use Rattle.std.proofs.lemmas.Bool.{false≢true, and_parts, or_cases, ltb-true, or_from, or_left, or_right}
@@ -10,11 +10,11 @@ use Rattle.std.proofs.lemmas.Slice.Eq.{bytes_eq-Decides}
 use Rattle.compilers.specs.declared.compiler.NvccHostCompiler.{NvccHostCompiler}
 use Rattle.texts.specs.DeviceFiles.{is_cicc_word}
 use Rattle.texts.specs.Lists.{is_some_and, first_word, word_after}
-use Rattle.texts.specs.Path.{joined, is_bare, is_absolute_path, separator_after, file_name_of, file_stem_of}
-use Rattle.command_lines.specs.CommandLines.{CommandLine, line_of, program_of, words_of_command}
+use Rattle.texts.specs.Path.{joined, is_bare, file_name_of, file_stem_of}
+use Rattle.command_lines.specs.CommandLines.{CommandLine, program_of, words_of_command}
 use Rattle.canonical_names.specs.CanonicalNames.{AreSuffixes, word_by_all, command_by_all}
 use Rattle.canonical_names.specs.Generated.{core_of, generated_name, begins_with_dash}
-use Rattle.canonical_names.specs.Renaming.{canonical_file, canonical_name, rank, names_of_run, renamed}
+use Rattle.canonical_names.specs.Renaming.{canonical_file, canonical_name, rank, names_of_run}
 use Rattle.canonical_names.specs.Shadow.{appearances, is_plain_output}
 use Rattle.canonical_names.specs.StepShadow.{step_names, is_step_shadow}
 use Rattle.canonical_names.proofs.AgainLemmas.{dash-unmarked}
@@ -33,8 +33,8 @@ use Rattle.command_groups.specs.Fate.{device, device_or, PlacedCommand, place_of
 use Rattle.command_groups.specs.Merge.{MergedCommand, of_run, is_taken, is_nvcc_stem, is_host_stem, selected, is_in_order, put_in_order, in_order, merged}
 use Rattle.command_groups.specs.MergeLaws.{InOrder}
 use Rattle.command_groups.specs.Plan.{PlanSetting, staged_commands}
-use Rattle.command_groups.specs.ShadowLaws.{is_step, writes, is_step_to, planned_command, IsFedBy, HasFate, StandTogether, StepShadowsStandTogether, ShadowsStandTogether}
-use Rattle.command_groups.specs.Stage.{ProgramKind, linker, cudafe, cicc, ptxas, other, kind_of_optional_stem, kind_of_program, has_word, without_first_word, cicc_edit, edited_by, device_compiling, preprocessing, host_compiling, foreign, StagedCommand, staged, stage_by, opens, defines_cuda, is_for_cuda, preprocess_word, device_name, opened_name, cicc_input}
+use Rattle.command_groups.specs.ShadowLaws.{writes, is_step_to, planned_command, IsFedBy, HasFate, StandTogether, StepShadowsStandTogether, ShadowsStandTogether}
+use Rattle.command_groups.specs.Stage.{ProgramKind, linker, cudafe, cicc, ptxas, other, kind_of_optional_stem, has_word, without_first_word, cicc_edit, edited_by, device_compiling, preprocessing, host_compiling, foreign, StagedCommand, staged, stage_by, opens, defines_cuda, is_for_cuda, preprocess_word, device_name, opened_name, cicc_input, kind_of_program}
 use Rattle.command_groups.proofs.FateLemmas.{same_text, equal_texts, fates_staged, placed_staged}
 use Rattle.command_groups.proofs.MergeLemmas.{merged_is_in_order, merged_are_the_selected}
 use Rattle.command_groups.proofs.OpenerLemmas.{filter_holds, filter_member, opener, opener_place, fate_settled}
@@ -95,14 +95,8 @@ is_own ci pt cu nv fa = ci || (pt || (cu || (nv || (fa || false))))
 own_opens : (ci pt cu nv fa : Bool) → is_own ci pt cu nv fa ≡ true → (compiler : NvccHostCompiler) (words : List (List ℕ)) → opens (stage_by (kind_by ci pt cu nv fa) compiler words) ≡ None
 own_opens ci pt cu nv fa h compiler words = grind (arith, false≢true)
 
-host_kind : (ci pt cu nv fa : Bool) → not (is_own ci pt cu nv fa) ≡ true → kind_by ci pt cu nv fa ≡ other
-host_kind ci pt cu nv fa h = grind (arith, false≢true)
-
-own_program : (stem : Option (List ℕ)) → is_some_and is_nvcc_stem stem ≡ true → (compiler : NvccHostCompiler) (words : List (List ℕ)) → opens (stage_by (kind_of_optional_stem stem) compiler words) ≡ None
-own_program stem h compiler words = grind (arith, false≢true, own_opens)
-
 host_program : (stem : Option (List ℕ)) → is_some_and is_host_stem stem ≡ true → kind_of_optional_stem stem ≡ other
-host_program stem h = grind (arith, false≢true, host_kind)
+host_program stem h = grind (arith, false≢true)
 
 host_opens : (test : List ℕ → Bool) (a b : Bool) (o : Option (List ℕ)) → is_some_and test (opens (cond (not a) foreign (cond b (preprocessing o) host_compiling))) ≡ ((a && b) && is_some_and test o)
 host_opens test a b o = grind arith
@@ -213,16 +207,11 @@ found_known n (m ∷ ms) h =
     elim (bytes_eq n m) as (λ b. bytes_eq n m ≡ b → (b || list_any (bytes_eq n) ms) ≡ true → cond b (Some m) (find (bytes_eq n) ms) ≡ Some n)
     [ true ↦ λ e _. ap Some (sym ((bytes_eq-Decides n m).0 e)) | false ↦ λ _ k. found_known n ms k ] refl h
 
--- a path in an absolute folder begins with no `-`
-path_plain : (folder name : List ℕ) → is_absolute_path folder ≡ true → is_bare name ≡ true → begins_with_dash (joined folder name) ≡ false
-path_plain folder name h bare = grind (arith, false≢true, bare-relative, eqb-true)
-
--- a command of a later line doesn't stand before one of an earlier line
-not_before : (a b : ℕ) → b < a → (nat_lt a b || (eqb a b && nat_le 1 2)) ≡ true → ⊥
-not_before a b lt h = grind (arith, or_cases, ltb-true, eqb-true, and_parts)
-
 written : (path : List ℕ) (o : Option (List ℕ)) → is_some_and (bytes_eq path) o ≡ true → o ≡ Some path
 written path o h = grind (arith, false≢true, bytes_eq-Decides)
+
+own_program : (stem : Option (List ℕ)) → is_some_and is_nvcc_stem stem ≡ true → (compiler : NvccHostCompiler) (words : List (List ℕ)) → opens (stage_by (kind_of_optional_stem stem) compiler words) ≡ None
+own_program stem h compiler words = grind (arith, false≢true, own_opens)
 
 -- Below, the second run shadows the first, and a step feeds a cicc command.
 module _ (suffixes : List (List ℕ)) (lawful : AreSuffixes suffixes) (s : PlanSetting) (first second : List CommandLine) (cicc_line step : CommandLine) (name : List ℕ)
@@ -267,7 +256,7 @@ module _ (suffixes : List (List ℕ)) (lawful : AreSuffixes suffixes) (s : PlanS
   path_ends = cicc-joined_name s.tmp name name_ends
 
   path_dash : begins_with_dash path ≡ false
-  path_dash = path_plain s.tmp name fed.folder_is_absolute fed.input_is_bare
+  path_dash = grind (arith, false≢true, bare-relative, eqb-true)
 
   ranks : rank (codes ".cpp1.ii") ones name ≡ rank (codes ".cpp1.ii") twos path
   ranks = step-names_keep_rank suffixes lawful first second s.tmp shadow name fed.input_is_bare name_ends
@@ -284,9 +273,8 @@ module _ (suffixes : List (List ℕ)) (lawful : AreSuffixes suffixes) (s : PlanS
   plain_each : (c : CommandLine) → Contains second c → is_plain_output (word_after (codes "-o") (words_of_command c)) ≡ true
   plain_each c h =
       let plain : CommandLine → Bool = λ command. is_plain_output (word_after (codes "-o") (words_of_command command)) in
-      let bare = list_all is_bare (step_names suffixes first) in
       let same = pointwise bytes_eq (step_names suffixes second) (map (joined s.tmp) (step_names suffixes first)) in
-      each-member plain second c (and_parts same (list_all plain second) (and_parts bare (same && list_all plain second) shadow).1).1 h
+      each-member plain second c (and_parts same (list_all plain second) (and_parts (list_all is_bare (step_names suffixes first)) (same && list_all plain second) shadow).1).1 h
 
   -- what a word opens once it is renamed
   opened_file : (r : Option (List ℕ)) → is_some_and is_file (option_and_then device_name r) ≡ true → r ≡ Some file
@@ -405,7 +393,7 @@ module _ (suffixes : List (List ℕ)) (lawful : AreSuffixes suffixes) (s : PlanS
   cicc_placed names before h = ap (place_of names before) cicc_stage ∙ ap (device_or NoCiccGroup) (found_known file names h)
 
   cicc_behind : (c : StagedCommand) → opener file c ≡ false → is_in_order c.command fed_by.command ≡ true → c ≡ fed_one → ⊥
-  cicc_behind c e h is = not_before (line_of cicc_line) (line_of step) fed.step_is_earlier (subst (λ (z : StagedCommand). is_in_order z.command fed_by.command ≡ true) is h)
+  cicc_behind c e h is = grind (arith, or_cases, ltb-true, eqb-true, and_parts)
 
   step_placed : (names : List (List ℕ)) (before : List PlacedCommand) → list_any (bytes_eq file) names ≡ true → place_of names before fed_by.stage ≡ device file
   step_placed names before h = opener_place file fed_by.stage step_opens names before

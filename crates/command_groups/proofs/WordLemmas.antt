@@ -1,6 +1,6 @@
 -- Words that are edited at the place of the first that is a given word.
-use Rattle.std.proofs.Common.{◌≡◌, ℕ, suc, zero, Bool, true, false, List, [], ◌∷◌, map, refl, ap, sym, arith, String, string_bytes, Global, Option, Some, None, option_map, if◌then◌else◌, insert, remove, bytes_eq}
-use Rattle.std.proofs.lemmas.Option.{none-some, same_Some}
+use Rattle.std.proofs.Common.{◌≡◌, ℕ, suc, Bool, List, [], ◌∷◌, map, refl, arith, String, string_bytes, Global, Option, Some, None, option_map, if◌then◌else◌, insert, remove, bytes_eq}
+use Rattle.std.proofs.lemmas.Option.{none-some}
 use Rattle.command_groups.specs.Stage.{with_word_before, without_first_word}
 use Rattle.command_groups.specs.WordPlace.{word_place}
 
@@ -19,21 +19,13 @@ pub without-unknown : (word : List ℕ) (ws : List (List ℕ)) → word_place wo
 without-unknown word [] h = refl
 without-unknown word (w ∷ ws) h = unknown-step (bytes_eq word w) w ws ws (without_first_word word ws) (word_place word ws) (without-unknown word ws) h
 
-before-step : (b : Bool) (w new : String Global) (ws : Words) (place : ℕ) (rest : List (List ℕ)) (p : Option ℕ) → ((n : ℕ) → p ≡ Some n → map string_bytes (insert ws n new) ≡ rest) →
-    (if b then Some 0 else option_map suc p) ≡ Some place → map string_bytes (insert (w ∷ ws) place new) ≡ (if b then string_bytes new ∷ string_bytes w ∷ map string_bytes ws else string_bytes w ∷ rest)
-before-step b w new ws place rest p known h = grind (arith, same_Some, none-some)
-
 -- a word that is inserted at the place stands right before
 pub before-known : (new : String Global) (word : List ℕ) (ws : Words) (place : ℕ) → word_place word (map string_bytes ws) ≡ Some place →
     map string_bytes (insert ws place new) ≡ with_word_before (string_bytes new) word (map string_bytes ws)
 before-known new word [] place h = absurd (none-some place h)
-before-known new word (w ∷ ws) place h = grind (arith, before-step, (before-known new word ws))
-
-without-step : (b : Bool) (w : String Global) (ws : Words) (place : ℕ) (rest : List (List ℕ)) (p : Option ℕ) → ((n : ℕ) → p ≡ Some n → map string_bytes (remove ws n) ≡ rest) →
-    (if b then Some 0 else option_map suc p) ≡ Some place → map string_bytes (remove (w ∷ ws) place) ≡ (if b then map string_bytes ws else string_bytes w ∷ rest)
-without-step b w ws place rest p known h = grind (arith, same_Some, none-some)
+before-known new word (w ∷ ws) place h = grind (arith, (before-known new word ws))
 
 -- words of which the one at the place is removed are without it
 pub without-known : (word : List ℕ) (ws : Words) (place : ℕ) → word_place word (map string_bytes ws) ≡ Some place → map string_bytes (remove ws place) ≡ without_first_word word (map string_bytes ws)
 without-known word [] place h = absurd (none-some place h)
-without-known word (w ∷ ws) place h = grind (arith, without-step, (without-known word ws))
+without-known word (w ∷ ws) place h = grind (arith, (without-known word ws))

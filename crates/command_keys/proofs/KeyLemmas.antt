@@ -1,7 +1,7 @@
 -- Keys are read back, and roots are renamed.
-use Rattle.std.proofs.Common.{◌≡◌, ℕ, zero, ◌+◌, ◌-◌, ◌==◌, Bool, true, false, not, cond, ◌&&◌, List, [], ◌∷◌, ◌++◌, refl, ap, sym, ◌∙◌, nat_lt, map, append_assoc, arith}
+use Rattle.std.proofs.Common.{◌≡◌, ℕ, ◌-◌, Bool, true, false, cond, ◌&&◌, List, [], ◌∷◌, ◌++◌, refl, ap, sym, ◌∙◌, nat_lt, map, append_assoc, arith}
 use Rattle.std.specs.List.{flat_map, list_all}
-use Rattle.std.proofs.lemmas.Bool.{and_parts, and_from, not-true, le-ltb}
+use Rattle.std.proofs.lemmas.Bool.{and_parts, and_from, not-true}
 use Rattle.std.proofs.lemmas.Simd.{map-map}
 use Rattle.texts.specs.Path.{lacks}
 use Rattle.command_keys.specs.declared.marks.Part.{Part}
@@ -16,11 +16,7 @@ use Rattle.command_keys.proofs.MarkLemmas.{text-parts, parts-told, plain-past, i
 read-text : (ps : List Part) (end : ℕ) (rest : List ℕ) → list_all is_plain_part ps ≡ true → nat_lt end first_mark ≡ true →
     read_from false (flat_map key_of_part ps ++ 0 ∷ end ∷ rest) ≡ (ps, end) ∷ read_from false rest
 read-text [] end rest plain small = ap (λ b. cond b (([], end) ∷ read_from false rest) (with_part (Root (end - first_mark)) (read_from false rest))) small
-read-text (Byte byte ∷ ps) end rest plain small =
-    let both = and_parts (not (byte == 0)) (list_all is_plain_part ps) plain in
-    let some = not-true (byte == 0) both.0 in
-    let behind = flat_map key_of_part ps ++ 0 ∷ end ∷ rest in
-    grind (arith, (read-text ps end rest both.1 small))
+read-text (Byte byte ∷ ps) end rest plain small = grind (arith, not-true, (read-text ps end rest))
 read-text (Root number ∷ ps) end rest plain small = grind (arith, (read-text ps end rest plain small))
 
 -- what is asked of texts: no NUL in them, and an end below the letters
@@ -32,32 +28,19 @@ read-texts : (roots : List (List ℕ)) (texts : List Ended) → list_all is_read
     read_from false (flat_map (key_of_text roots) texts) ≡ map (λ text. (parts roots text.0, text.1)) texts
 read-texts roots [] all = refl
 read-texts roots (text ∷ texts) all =
-    let both = and_parts (is_readable text) (list_all is_readable texts) all in
-    let this = and_parts (lacks 0 text.0) (nat_lt text.1 first_mark) both.0 in
-    let rest = flat_map (key_of_text roots) texts in
-    ap (read_from false) (append_assoc (flat_map key_of_part (parts roots text.0)) (0 ∷ text.1 ∷ []) rest)
-    ∙ read-text (parts roots text.0) text.1 rest (plain-past roots zero text.0 this.0) this.1
-    ∙ ap (λ more. (parts roots text.0, text.1) ∷ more) (read-texts roots texts both.1)
+    grind (arith, append_assoc, read-text, plain-past, (read-texts roots texts))
 
 all-append : {X : Type 0} (test : X → Bool) (xs ys : List X) → list_all test xs ≡ true → list_all test ys ≡ true → list_all test (xs ++ ys) ≡ true
 all-append test [] ys first second = second
-all-append test (x ∷ xs) ys first second =
-    let both = and_parts (test x) (list_all test xs) first in
-    grind (arith, and_from, (all-append test xs ys both.1 second))
+all-append test (x ∷ xs) ys first second = grind (arith, and_from, (all-append test xs ys))
 
 readable-words : (words : List (List ℕ)) → list_all (lacks 0) words ≡ true → list_all is_readable (map (λ word. (word, word_end)) words) ≡ true
 readable-words [] all = refl
-readable-words (word ∷ words) all =
-    let both = and_parts (lacks 0 word) (list_all (lacks 0) words) all in
-    grind (arith, and_from, (readable-words words both.1))
+readable-words (word ∷ words) all = grind (arith, and_from, (readable-words words))
 
 readable-variables : (variables : List (List ℕ × List ℕ)) → list_all is_plain_variable variables ≡ true → list_all is_readable (flat_map texts_of_variable variables) ≡ true
 readable-variables [] all = refl
-readable-variables (v ∷ variables) all =
-    let both = and_parts (is_plain_variable v) (list_all is_plain_variable variables) all in
-    let this = and_parts (lacks 0 v.0) (lacks 0 v.1) both.0 in
-    let rest = list_all is_readable (flat_map texts_of_variable variables) in
-    grind (arith, and_from, (readable-variables variables both.1))
+readable-variables (v ∷ variables) all = grind (arith, and_from, (readable-variables variables))
 
 readable : (command : Command) → is_plain command ≡ true → list_all is_readable (texts_of command) ≡ true
 readable command plain = grind (arith, and_parts, all-append, readable-words, readable-variables)
@@ -127,10 +110,7 @@ equal-keys_rename roots others command other plain plain' same =
 same-keys : (roots others : List (List ℕ)) (texts : List Ended) → list_all (λ text. are_told others (parts roots text.0)) texts ≡ true →
     flat_map (key_of_text others) (map (changed (renamed roots others)) texts) ≡ flat_map (key_of_text roots) texts
 same-keys roots others [] all = refl
-same-keys roots others (text ∷ texts) all =
-    let both = and_parts (are_told others (parts roots text.0)) (list_all (λ text. are_told others (parts roots text.0)) texts) all in
-    let this : parts others (renamed roots others text.0) ≡ parts roots text.0 = parts-told others (parts roots text.0) both.0 in
-    λ i. (flat_map key_of_part (this i) ++ 0 ∷ text.1 ∷ []) ++ same-keys roots others texts both.1 i
+same-keys roots others (text ∷ texts) all = grind (arith, parts-told, (same-keys roots others texts))
 
 pub renamed-keys_are_equal : RenamedKeysAreEqual
 renamed-keys_are_equal roots others command free = grind (arith, changed-texts, same-keys)

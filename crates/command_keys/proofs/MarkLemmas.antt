@@ -1,5 +1,5 @@
 -- Roots in texts: a text is that of its parts, and parts are found again where no root begins elsewhere.
-use Rattle.std.proofs.Common.{◌≡◌, ℕ, zero, suc, ◌+◌, ◌-◌, ◌<◌, ◌==◌, Bool, true, false, not, cond, ◌&&◌, List, [], ◌∷◌, ◌++◌, Option, Some, None, MatchOption, Bor, length-append, refl, ap, sym, ◌∙◌, subst, eqb-true, length, take, drop, get_or, arith, bytes_eq, sub-one, take-append-drop}
+use Rattle.std.proofs.Common.{◌≡◌, ℕ, zero, suc, ◌+◌, ◌-◌, ◌<◌, ◌==◌, Bool, true, false, not, cond, ◌&&◌, List, [], ◌∷◌, ◌++◌, Option, Some, None, MatchOption, Bor, length-append, refl, ap, sym, ◌∙◌, length, take, drop, get_or, arith, bytes_eq, sub-one, take-append-drop}
 use Rattle.std.specs.List.{position_from, list_all}
 use Rattle.std.proofs.lemmas.Bool.{false≢true, and_parts, and_from, false_from_ne_true}
 use Rattle.std.proofs.lemmas.Slice.Eq.{bytes_eq-Decides}
@@ -7,7 +7,7 @@ use Rattle.std.proofs.lemmas.Option.{none-some, same_Some}
 use Rattle.texts.specs.Path.{lacks}
 use Rattle.command_keys.specs.declared.marks.Part.{Part}
 use Rattle.command_keys.specs.declared.marks.Part.TheVariants.{Byte, Root}
-use Rattle.command_keys.specs.Marks.{begins_with, root_at, root_of, part_at, length_behind, parts_past, parts, text_of_part, text_of, is_told, are_told}
+use Rattle.command_keys.specs.Marks.{begins_with, root_at, root_of, part_at, length_behind, parts_past, parts, text_of_part, text_of, are_told}
 
 -- a text that begins with a root is the root and the rest
 begins-split : (c : ℕ) (cs root : List ℕ) → begins_with (c ∷ cs) root ≡ true → root ++ drop (length root - 1) cs ≡ c ∷ cs
@@ -36,17 +36,10 @@ found-from text (root ∷ roots) start number e =
 
 -- a root that is found begins the text, and has a number of the list
 pub root-begins : (roots : List (List ℕ)) (text : List ℕ) (number : ℕ) → root_at roots text ≡ Some number → begins_with text (root_of roots number) ≡ true
-root-begins roots text number e =
-    let found = found-from text roots 0 number e in
-    let same : number ≡ found.place = found.is ∙ (omega arith) in
-    grind arith
+root-begins roots text number e = grind (arith, (found-from text roots 0 number e))
 
 pub root-within : (roots : List (List ℕ)) (text : List ℕ) (number : ℕ) → root_at roots text ≡ Some number → number < length roots
-root-within roots text number e =
-    let found = found-from text roots 0 number e in
-    let at : number ≡ 0 + found.place = found.is in
-    let below : found.place < length roots = found.within in
-    grind arith
+root-within roots text number e = grind (arith, (found-from text roots 0 number e))
 
 -- the text of the parts is the text
 pub text-past : (roots : List (List ℕ)) (skipped : ℕ) (text : List ℕ) → text_of roots (parts_past skipped roots text) ≡ drop skipped text
@@ -69,12 +62,6 @@ parts-behind : (roots : List (List ℕ)) (front back : List ℕ) → parts_past 
 parts-behind roots [] back = refl
 parts-behind roots (c ∷ front) back = parts-behind roots front back
 
-told-byte : (byte : ℕ) (o : Option ℕ) → is_told (Byte byte) o ≡ true → o ≡ None
-told-byte byte o h = grind (arith, false≢true)
-
-told-root : (number : ℕ) (o : Option ℕ) → is_told (Root number) o ≡ true → o ≡ Some number
-told-root number o h = grind (arith, false≢true, eqb-true)
-
 -- the parts of a text that begins with a root
 root-first : (roots : List (List ℕ)) (number : ℕ) (root rest : List ℕ) → root_of roots number ≡ root → begins_with (root ++ rest) root ≡ true → root_at roots (root ++ rest) ≡ Some number → parts roots (root ++ rest) ≡ Root number ∷ parts roots rest
 root-first roots number [] rest is begins e = grind (arith, false≢true)
@@ -83,17 +70,8 @@ root-first roots number (r ∷ rs) rest is begins e = grind (arith, sub-one, par
 -- parts are found again in their text
 pub parts-told : (roots : List (List ℕ)) (ps : List Part) → are_told roots ps ≡ true → parts roots (text_of roots ps) ≡ ps
 parts-told roots [] h = refl
-parts-told roots (Byte byte ∷ ps) h =
-    let rest = text_of roots ps in
-    let both = and_parts (is_told (Byte byte) (root_at roots (byte ∷ rest))) (are_told roots ps) h in
-    let none = told-byte byte (root_at roots (byte ∷ rest)) both.0 in
-    grind (arith, (parts-told roots ps both.1))
-parts-told roots (Root number ∷ ps) h =
-    let root = root_of roots number in
-    let rest = text_of roots ps in
-    let both = and_parts (is_told (Root number) (root_at roots (root ++ rest))) (are_told roots ps) h in
-    let at = told-root number (root_at roots (root ++ rest)) both.0 in
-    grind (arith, root-first, root-begins, (parts-told roots ps both.1))
+parts-told roots (Byte byte ∷ ps) h = grind (arith, (parts-told roots ps))
+parts-told roots (Root number ∷ ps) h = grind (arith, root-first, root-begins, (parts-told roots ps))
 
 -- a text without NUL has no part that is NUL
 abbrev pub is_plain_part : Part → Bool
@@ -125,11 +103,7 @@ pub first-root : (roots : List (List ℕ)) (text rest : List ℕ) (number : ℕ)
 first-root roots text rest number e is =
     let root = root_of roots number in
     let at : root_at roots (root ++ rest) ≡ Some number = ap (root_at roots) (sym is) ∙ e in
-    let begins = root-begins roots (root ++ rest) number at in
-    let some : 0 < length root = some-root (root ++ rest) root begins in
-    grind (arith, length-append, root-first)
+    grind (arith, length-append, root-first, (root-begins roots (root ++ rest) number at))
 
 pub first-byte : (roots : List (List ℕ)) (text rest : List ℕ) (byte : ℕ) → root_at roots text ≡ None → text ≡ byte ∷ rest → parts roots text ≡ Byte byte ∷ parts roots rest
-first-byte roots text rest byte e is =
-    let at : root_at roots (byte ∷ rest) ≡ None = ap (root_at roots) (sym is) ∙ e in
-    grind arith
+first-byte roots text rest byte e is = cc

@@ -1,5 +1,5 @@
 -- What the items of a line have of the entries that its words choose, and of the line's words.
-use Rattle.std.proofs.Common.{◌≡◌, ℕ, List, [], ◌∷◌, ◌++◌, Bool, true, false, cond, not, ◌&&◌, eqb, Option, Some, None, refl, ap, subst, codes, is_some, option_and_then, bytes_eq, arith}
+use Rattle.std.proofs.Common.{◌≡◌, ℕ, List, [], ◌∷◌, ◌++◌, Bool, true, false, cond, not, ◌&&◌, Option, Some, None, refl, ap, subst, codes, is_some, option_and_then, bytes_eq, arith}
 use Rattle.std.specs.List.{AllByRecursion, fold}
 use Rattle.std.proofs.lemmas.Bool.{false≢true}
 use Rattle.option_items.specs.declared.table.ArgDisposition.{ArgDisposition}
@@ -68,13 +68,9 @@ is_plain (Some (CanBeConcatenated d)) = false
 separate-apart : (form : Option ArgDisposition) → is_joined (separate_form form) ≡ false
 separate-apart form = grind arith
 
--- a flag has no joined value
-flag-no_value : (rest : Option (List ℕ)) (value : List ℕ) → option_and_then (matched_rest None) rest ≡ Some (joined value) → ⊥
-flag-no_value rest value h = grind arith
-
 -- over options that are flags or have the next word as their value, no value is both joined and empty
 plain-joined : (form : Option ArgDisposition) (rest : Option (List ℕ)) (value : List ℕ) → is_plain form ≡ true → option_and_then (matched_rest form) rest ≡ Some (joined value) → not (is_joined (joined_form form) && bytes_eq value []) ≡ true
-plain-joined form rest value h at = grind (arith, flag-no_value, false≢true)
+plain-joined form rest value h at = grind (arith, false≢true)
 
 plain-last : (text : List ℕ) (kind : ArgData) (form : Option ArgDisposition) → is_plain form ≡ true → is_filled (cond (may_stand_last form) (with_value text kind [] (joined_form form)) faulty) ≡ true
 plain-last text kind form h = grind (arith, false≢true)
@@ -140,8 +136,7 @@ module _ (chosen : List ℕ → Option (Entry ArgData)) (P : List ℕ → Type 0
 
   first-words : (line : List (List ℕ)) (i : Item ArgData) (later : List (Item ArgData)) → items chosen line ≡ i ∷ later → AllByRecursion P line → HasGoodWords i
   first-words line i later is good whole =
-      let read = words-are_those_read chosen line i later is whole in
-      grind (arith, all-left)
+      grind (arith, all-left, (words-are_those_read chosen line i later is whole))
 
   pub items-words : (line : List (List ℕ)) → AllByRecursion P line → AllByRecursion HasGoodWords (items chosen line)
   items-words [] good = tt

@@ -1,26 +1,26 @@
 -- A line that is written back is read as the same arguments.
-use Rattle.std.proofs.Common.{◌≡◌, ℕ, List, [], ◌∷◌, ◌++◌, true, false, ◌||◌, Some, None, Ok, refl, ap, sym, ◌∙◌, subst, append_assoc, append-nil, length, codes, IfSome, option_map, arith}
-use Rattle.std.specs.List.{AllByRecursion, filter_map, flat_map, list_any, remove, slice_index_or, filter}
+use Rattle.std.proofs.Common.{◌≡◌, ℕ, List, [], ◌∷◌, ◌++◌, true, false, Some, None, Ok, refl, ap, sym, ◌∙◌, subst, append_assoc, append-nil, length, codes, IfSome, option_map, arith}
+use Rattle.std.specs.List.{AllByRecursion, filter_map, flat_map, list_any, remove, slice_index_or}
 use Rattle.std.proofs.lemmas.Grind.{flat_map-append}
 use Rattle.std.proofs.lemmas.List.Elements.{filter-append, filter_map-append}
 use Rattle.std.proofs.lemmas.List.Folds.{list_any-append}
 use Rattle.texts.specs.declared.language.Language.{Language}
-use Rattle.texts.specs.declared.language.Language.TheVariants.{C, Cxx, ObjectiveC, ObjectiveCxx, Cuda, CudaFE, Ptx, Cubin}
+use Rattle.texts.specs.declared.language.Language.TheVariants.{CudaFE, Ptx, Cubin}
 use Rattle.compilers.specs.declared.outputs.ArtifactDescriptor.{ArtifactDescriptor}
 use Rattle.compilers.specs.declared.arguments.ParsedArguments.{ParsedArguments}
 use Rattle.compilers.specs.declared.command.SingleCompileCommand.{SingleCompileCommand}
 use Rattle.compilers.specs.declared.command.Cacheable.{Cacheable}
 use Rattle.option_items.specs.declared.table.ArgDisposition.TheVariants.{Separated}
 use Rattle.texts.specs.Path.{is_absolute_path, joined}
-use Rattle.compilers.specs.Outputs.{entries_from, entry_at}
+use Rattle.compilers.specs.Outputs.{entry_at}
 use Rattle.option_items.specs.Table.{Entry, longest_match}
-use Rattle.option_items.specs.Items.{Item, with_value, items, words_of, kind_of, value_of}
+use Rattle.option_items.specs.Items.{Item, with_value, items, words_of}
 use Rattle.device_lines.specs.declared.options.ArgData.{ArgData}
 use Rattle.device_lines.specs.declared.options.ArgData.TheVariants.{Output}
 use Rattle.device_lines.specs.Cicc.{cicc_options}
 use Rattle.device_lines.specs.CudaFE.{cudafe_options}
 use Rattle.device_lines.specs.Ptxas.{ptxas_options}
-use Rattle.device_lines.specs.Reading.{is_input_word, is_unhashed_kind, common_items, unhashed_items, made_at, output_of_kind, output_of, module_id_of_kind, module_id_of, is_generating, module_id, module_id_output, module_id_file, outputs_of, reading_of_items, input_place, reading}
+use Rattle.device_lines.specs.Reading.{is_input_word, common_items, unhashed_items, made_at, output_of, module_id_of, is_generating, module_id, module_id_output, outputs_of, reading_of_items, input_place, reading}
 use Rattle.compilers.specs.declared.command.Cacheable.TheVariants.{Yes}
 use Rattle.compilers.specs.Command.{single_command, written, written_to}
 use Rattle.device_lines.specs.DeviceWords.{cicc_words, cudafe_words}
@@ -113,15 +113,8 @@ module _ (options : List (Entry ArgData)) (language : Language) (cwd text : List
       (good-outputs cwd Away (empty-none language) (longest_match options) is (line-fits line) (items-words (longest_match options) Away line good.1))
       (module_id-other cwd (list_any is_generating is) (module_id is)) found
 
-  path-away : (line : List (List ℕ)) (obj : ArtifactDescriptor) → IsGood line → HasOutput line obj → is_input_word language obj.path ≡ false
-  path-away line obj good found =
-      let path = output-path line obj good found in
-      grind (arith, joined-away)
-
   path-settled : (line : List (List ℕ)) (obj : ArtifactDescriptor) → IsGood line → HasOutput line obj → made_at false (joined cwd obj.path) ≡ obj
-  path-settled line obj good found =
-      let path = output-path line obj good found in
-      grind (arith, joined-twice)
+  path-settled line obj good found = grind (arith, joined-twice, (output-path line obj good found))
 
   -- the written words without the input
   items-again : (line : List (List ℕ)) (input : List ℕ) (obj : ArtifactDescriptor) → IsGood line → HasOutput line obj → arguments_of (words_kept line ++ text ∷ obj.path ∷ []) input ≡ arguments_of line input
@@ -160,9 +153,8 @@ module _ (options : List (Entry ArgData)) (language : Language) (cwd text : List
   written-third_last other line input obj good found =
       let front = words_kept line in
       let words = front ++ input ∷ text ∷ obj.path ∷ [] in
-      let place = third-last language front input text obj.path (kept-none line good) other (path-away line obj good found) in
-      let cut : arguments_of (remove words (length front)) (slice_index_or words (length front) []) ≡ arguments_of (front ++ text ∷ obj.path ∷ []) input = λ i. arguments_of (cut-rest front input (text ∷ obj.path ∷ []) i) (cut-word front input (text ∷ obj.path ∷ []) [] i) in
-      ap (option_map (λ at. arguments_of (remove words at) (slice_index_or words at []))) place ∙ ap Some (cut ∙ items-again line input obj good found)
+      let place = third-last language front input text obj.path (kept-none line good) other ((grind (arith, joined-away, (output-path line obj good found)))) in
+      ap (option_map (λ at. arguments_of (remove words at) (slice_index_or words at []))) place ∙ ap Some ((λ i. arguments_of (cut-rest front input (text ∷ obj.path ∷ []) i) (cut-word front input (text ∷ obj.path ∷ []) [] i)) ∙ items-again line input obj good found)
 
 -- a cudafe++ line, with its input as the last word
 written-last : (cwd : List ℕ) (root : is_absolute_path cwd ≡ true) (suit : AllByRecursion (λ e. entry_fits e ≡ true) cudafe_options) (reads : (path : List ℕ) → items (longest_match cudafe_options) (codes "--module_id_file_name" ∷ path ∷ []) ≡ with_value (codes "--module_id_file_name") Output path Separated ∷ []) → WrittenReads cudafe_options CudaFE cwd (codes "--module_id_file_name") root suit reads 1 cudafe_words

@@ -1,5 +1,5 @@
 -- The law of rereading is false without any of its premises.
-use Rattle.std.proofs.Common.{◌≡◌, ℕ, List, [], ◌∷◌, true, false, Option, Some, None, codes, refl, ap, sym, ◌∙◌, arith, option_map, bytes_eq}
+use Rattle.std.proofs.Common.{◌≡◌, ℕ, List, [], ◌∷◌, true, false, Option, Some, codes, refl, ap, sym, ◌∙◌, arith, option_map, bytes_eq}
 use Rattle.std.proofs.lemmas.Bool.{false≢true}
 use Rattle.texts.specs.declared.language.Language.TheVariants.{Ptx, CudaFE, Cubin}
 use Rattle.compilers.specs.declared.outputs.ArtifactDescriptor.{ArtifactDescriptor}
@@ -10,10 +10,10 @@ use Rattle.option_items.specs.Items.{items}
 use Rattle.device_lines.specs.Cicc.{cicc_options, cicc_reading}
 use Rattle.device_lines.specs.CudaFE.{cudafe_options, cudafe_reading}
 use Rattle.device_lines.specs.Ptxas.{ptxas_options, ptxas_reading}
-use Rattle.device_lines.specs.Reading.{made_at, reading_of_items}
+use Rattle.device_lines.specs.Reading.{reading_of_items}
 use Rattle.compilers.specs.declared.command.Cacheable.TheVariants.{Yes}
 use Rattle.compilers.specs.Command.{single_command}
-use Rattle.device_lines.specs.Reread.{AtMostOneInputWord, PtxasLinesRereadWithEmptyValues, CiccLinesRereadWithSeveralInputs, PtxasLinesRereadWithSeveralInputs, CiccLinesRereadAnywhere, PtxasLinesRereadAnywhere, CudaFELinesRereadAnywhere}
+use Rattle.device_lines.specs.Reread.{PtxasLinesRereadWithEmptyValues, CiccLinesRereadWithSeveralInputs, PtxasLinesRereadWithSeveralInputs, CiccLinesRereadAnywhere, PtxasLinesRereadAnywhere, CudaFELinesRereadAnywhere}
 
 -- two texts that a test tells apart
 differ : (a b : List ℕ) → bytes_eq a b ≡ false → bytes_eq b b ≡ true → a ≡ b → ⊥
@@ -24,9 +24,7 @@ empty_value_is_needed law =
     let line : List (List ℕ) = codes "-arch=" ∷ codes "k.ptx" ∷ codes "-o" ∷ codes "k.cubin" ∷ [] in
     let back : List (List ℕ) = codes "-arch" ∷ codes "k.ptx" ∷ codes "-o" ∷ codes "/w/k.cubin" ∷ [] in
     let first : ParsedArguments = reading_of_items (codes "/w") Cubin (codes "k.ptx") (items (longest_match ptxas_options) (codes "-arch=" ∷ codes "-o" ∷ codes "k.cubin" ∷ [])) in
-    let few : AtMostOneInputWord Cubin line = omega arith in
-    let again : ptxas_reading (codes "/w") back ≡ Some first = law (codes "/w") line refl few first [] [] (single_command [] back (codes "/w") [], Yes) refl refl in
-    let lost : Some None ≡ Some (Some (made_at false (codes "/w/k.cubin"))) = ap (option_map (λ p. entry_at (codes "obj") p.outputs)) again in
+    let again : ptxas_reading (codes "/w") back ≡ Some first = law (codes "/w") line refl (omega arith) first [] [] (single_command [] back (codes "/w") [], Yes) refl refl in
     grind arith
 
 -- two words that are equal as optional values
@@ -47,7 +45,6 @@ one_ptxas_input_is_needed law =
     let back : List (List ℕ) = codes "-x" ∷ codes "b.ptx" ∷ codes "a.ptx" ∷ codes "-o" ∷ codes "/w/c" ∷ [] in
     let first : ParsedArguments = reading_of_items (codes "/w") Cubin (codes "a.ptx") (items (longest_match ptxas_options) (codes "-x" ∷ codes "b.ptx" ∷ codes "-o" ∷ codes "c" ∷ [])) in
     let again : ptxas_reading (codes "/w") back ≡ Some first = law (codes "/w") line refl (refl, (refl, (refl, tt))) first [] [] (single_command [] back (codes "/w") [], Yes) refl refl in
-    let inputs : Some (codes "b.ptx") ≡ Some (codes "a.ptx") = ap (option_map (λ p. p.input)) again in
     grind (arith, differ, unwrapped)
 
 pub one_cicc_input_is_needed : CiccLinesRereadWithSeveralInputs → ⊥
@@ -56,7 +53,6 @@ one_cicc_input_is_needed law =
     let back : List (List ℕ) = codes "-x" ∷ codes "b.cpp1.ii" ∷ codes "a.cpp1.ii" ∷ codes "-o" ∷ codes "/w/c" ∷ [] in
     let first : ParsedArguments = reading_of_items (codes "/w") Ptx (codes "a.cpp1.ii") (items (longest_match cicc_options) (codes "-x" ∷ codes "b.cpp1.ii" ∷ codes "-o" ∷ codes "c" ∷ [])) in
     let again : cicc_reading (codes "/w") back ≡ Some first = law (codes "/w") line refl first [] [] (single_command [] back (codes "/w") [], Yes) refl refl in
-    let inputs : Some (codes "b.cpp1.ii") ≡ Some (codes "a.cpp1.ii") = ap (option_map (λ p. p.input)) again in
     grind (arith, differ, unwrapped)
 
 pub absolute_cicc_folder_is_needed : CiccLinesRereadAnywhere → ⊥
@@ -64,9 +60,7 @@ absolute_cicc_folder_is_needed law =
     let line : List (List ℕ) = codes "k.cpp1.ii" ∷ codes "-o" ∷ codes "p" ∷ [] in
     let back : List (List ℕ) = codes "k.cpp1.ii" ∷ codes "-o" ∷ codes "./p" ∷ [] in
     let first : ParsedArguments = reading_of_items (codes ".") Ptx (codes "k.cpp1.ii") (items (longest_match cicc_options) (codes "-o" ∷ codes "p" ∷ [])) in
-    let few : AtMostOneInputWord Ptx line = omega arith in
-    let again : cicc_reading (codes ".") back ≡ Some first = law (codes ".") line few first [] [] (single_command [] back (codes ".") [], Yes) refl refl in
-    let paths : Some (Some (codes "././p")) ≡ Some (Some (codes "./p")) = ap (option_map output_path) again in
+    let again : cicc_reading (codes ".") back ≡ Some first = law (codes ".") line (omega arith) first [] [] (single_command [] back (codes ".") [], Yes) refl refl in
     grind (arith, paths-differ)
 
 pub absolute_ptxas_folder_is_needed : PtxasLinesRereadAnywhere → ⊥
@@ -74,9 +68,7 @@ absolute_ptxas_folder_is_needed law =
     let line : List (List ℕ) = codes "k.ptx" ∷ codes "-o" ∷ codes "p" ∷ [] in
     let back : List (List ℕ) = codes "k.ptx" ∷ codes "-o" ∷ codes "./p" ∷ [] in
     let first : ParsedArguments = reading_of_items (codes ".") Cubin (codes "k.ptx") (items (longest_match ptxas_options) (codes "-o" ∷ codes "p" ∷ [])) in
-    let few : AtMostOneInputWord Cubin line = omega arith in
-    let again : ptxas_reading (codes ".") back ≡ Some first = law (codes ".") line few (refl, tt) first [] [] (single_command [] back (codes ".") [], Yes) refl refl in
-    let paths : Some (Some (codes "././p")) ≡ Some (Some (codes "./p")) = ap (option_map output_path) again in
+    let again : ptxas_reading (codes ".") back ≡ Some first = law (codes ".") line (omega arith) (refl, tt) first [] [] (single_command [] back (codes ".") [], Yes) refl refl in
     grind (arith, paths-differ)
 
 pub absolute_cudafe_folder_is_needed : CudaFELinesRereadAnywhere → ⊥
@@ -85,5 +77,4 @@ absolute_cudafe_folder_is_needed law =
     let back : List (List ℕ) = codes "--module_id_file_name" ∷ codes "./p" ∷ codes "x" ∷ [] in
     let first : ParsedArguments = reading_of_items (codes ".") CudaFE (codes "x") (items (longest_match cudafe_options) (codes "--module_id_file_name" ∷ codes "p" ∷ [])) in
     let again : cudafe_reading (codes ".") back ≡ Some first = law (codes ".") line first [] [] (single_command [] back (codes ".") [], Yes) refl refl in
-    let paths : Some (Some (codes "././p")) ≡ Some (Some (codes "./p")) = ap (option_map output_path) again in
     grind (arith, paths-differ)

@@ -1,15 +1,15 @@
 -- What is picked of the items of a line, and of those that are kept of it.
-use Rattle.std.proofs.Common.{◌≡◌, ℕ, List, [], ◌∷◌, Bool, true, false, cond, not, ◌||◌, Option, Some, None, map, refl, ap, sym, ◌∙◌, subst, filter, codes, bytes_eq, arith}
-use Rattle.std.specs.List.{AllByRecursion, filter_map, cons_option, list_any}
+use Rattle.std.proofs.Common.{◌≡◌, ℕ, List, [], ◌∷◌, Bool, true, false, not, Option, Some, None, refl, subst, filter, codes, bytes_eq, arith}
+use Rattle.std.specs.List.{AllByRecursion, filter_map, list_any}
 use Rattle.std.proofs.lemmas.Bool.{false≢true}
 use Rattle.compilers.specs.declared.outputs.ArtifactDescriptor.{ArtifactDescriptor}
 use Rattle.option_items.specs.declared.table.ArgDisposition.{ArgDisposition}
 use Rattle.texts.specs.Path.{joined}
 use Rattle.option_items.specs.Table.{Entry}
-use Rattle.option_items.specs.Items.{Item, raw, unknown_flag, flag, with_value, faulty, kind_of}
+use Rattle.option_items.specs.Items.{Item, with_value, kind_of}
 use Rattle.option_items.specs.WordsLaw.{is_joined}
 use Rattle.device_lines.specs.declared.options.ArgData.{ArgData}
-use Rattle.device_lines.specs.Reading.{is_unhashed_kind, is_unknown, beside, is_common, unhashed_items, made_at, output_of, is_generating_kind, is_generating, module_id_output}
+use Rattle.device_lines.specs.Reading.{is_unhashed_kind, is_unknown, is_common, unhashed_items, made_at, output_of, is_generating, module_id_output}
 use Rattle.device_lines.proofs.RereadWords.{other-kind, unhashed-kind, common_after}
 use Rattle.device_lines.proofs.RereadOutputs.{IsOther, is_other}
 use Rattle.device_lines.proofs.RereadItems.{item_fits, HasGoodWords}
@@ -19,11 +19,7 @@ use Rattle.device_lines.proofs.RereadItems.{item_fits, HasGoodWords}
 module _ {Y : Type 0} (h : Item ArgData → Option Y) where
   pub picked-common : ((b : Bool) (i : Item ArgData) → is_common (b, i) ≡ false → h i ≡ None) → (b : Bool) (is : List (Item ArgData)) → filter_map h (common_after b is) ≡ filter_map h is
   picked-common other b [] = refl
-  picked-common other b (i ∷ is) =
-      let rest = filter is_common (beside (is_unknown i) is) in
-      let later = picked-common other (is_unknown i) is in
-      elim (is_common (b, i)) as (λ t. is_common (b, i) ≡ t → filter_map h (map (λ p. p.1) (cond t ((b, i) ∷ rest) rest)) ≡ cons_option (h i) (filter_map h is))
-      [ true ↦ λ e. ap (cons_option (h i)) later | false ↦ λ e. later ∙ ap (λ o. cons_option o (filter_map h is)) (sym (other b i e)) ] refl
+  picked-common other b (i ∷ is) = grind (arith, (picked-common other (is_unknown i) is))
 
   pub picked-no_common : ((b : Bool) (i : Item ArgData) → is_common (b, i) ≡ true → h i ≡ None) → (b : Bool) (is : List (Item ArgData)) → filter_map h (common_after b is) ≡ []
   picked-no_common none b [] = refl
@@ -35,18 +31,11 @@ module _ {Y : Type 0} (h : Item ArgData → Option Y) where
 
 pub generating-common : (b : Bool) (is : List (Item ArgData)) → list_any is_generating (common_after b is) ≡ list_any is_generating is
 generating-common b [] = refl
-generating-common b (i ∷ is) =
-    let rest = filter is_common (beside (is_unknown i) is) in
-    let later = generating-common (is_unknown i) is in
-    elim (is_common (b, i)) as (λ t. is_common (b, i) ≡ t → list_any is_generating (map (λ p. p.1) (cond t ((b, i) ∷ rest) rest)) ≡ is_generating i || list_any is_generating is)
-    [ true ↦ λ e. ap (λ t. is_generating i || t) later | false ↦ λ e. later ∙ ap (λ t. t || list_any is_generating is) (sym (other-kind (λ k. is_generating_kind k ≡ false) refl refl refl refl refl b i e)) ] refl
+generating-common b (i ∷ is) = grind (arith, other-kind, (generating-common (is_unknown i) is))
 
 pub generating-no_unhashed : (is : List (Item ArgData)) → list_any is_generating (unhashed_items is) ≡ false
 generating-no_unhashed [] = refl
-generating-no_unhashed (i ∷ is) =
-    let later = generating-no_unhashed is in
-    elim (is_unhashed_kind (kind_of i)) as (λ t. is_unhashed_kind (kind_of i) ≡ t → list_any is_generating (cond t (i ∷ unhashed_items is) (unhashed_items is)) ≡ false)
-    [ true ↦ λ e. ap (λ t. t || list_any is_generating (unhashed_items is)) (unhashed-kind (λ k. is_generating_kind k ≡ false) refl refl refl (kind_of i) e) ∙ later | false ↦ λ e. later ] refl
+generating-no_unhashed (i ∷ is) = grind (arith, unhashed-kind, (generating-no_unhashed is))
 
 -- the outputs of unhashed items are those of all items under other keys than `obj`
 pub outputs-unhashed : (cwd : List ℕ) (is : List (Item ArgData)) → AllByRecursion (λ i. item_fits i ≡ true) is → filter_map (output_of cwd) (unhashed_items is) ≡ filter (is_other (codes "obj")) (filter_map (output_of cwd) is)
@@ -68,12 +57,9 @@ module _ (cwd : List ℕ) (P : List ℕ → Type 0) (nothing : P []) (chosen : L
   other-text : (text : List ℕ) → not (bytes_eq (codes "obj") text) ≡ true → bytes_eq (codes "obj") text ≡ true → ⊥
   other-text text h e = false≢true (subst (λ b. not b ≡ true) e h)
 
-  good-output : (i : Item ArgData) → item_fits i ≡ true → HasGoodWords chosen P i → HasGoodOutput i
-  good-output i h good a at is = grind (arith, other-text, apart-word)
-
   pub good-outputs : (is : List (Item ArgData)) → AllByRecursion (λ i. item_fits i ≡ true) is → AllByRecursion (HasGoodWords chosen P) is → AllByRecursion (λ a. bytes_eq (codes "obj") a.0 ≡ true → AtGoodPath a.1) (filter_map (output_of cwd) is)
   good-outputs [] fit good = tt
-  good-outputs (i ∷ is) fit good = grind (arith, good-output, (good-outputs is fit.1 good.1))
+  good-outputs (i ∷ is) fit good = grind (arith, (good-outputs is fit.1 good.1))
 
 -- the module id file isn't recorded under `obj`
 pub module_id-other : (cwd : List ℕ) (generates : Bool) (id : Option (List ℕ)) → AllByRecursion (IsOther (codes "obj")) (module_id_output cwd generates id)

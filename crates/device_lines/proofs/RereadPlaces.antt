@@ -1,6 +1,6 @@
 -- Where the input stands in a line, in the words left of it, and in the line that it is written back as.
-use Rattle.std.proofs.Common.{◌≡◌, ℕ, zero, suc, ◌+◌, ◌-◌, ◌≤◌, ◌<◌, List, [], ◌∷◌, ◌++◌, Bool, true, false, cond, not, ◌&&◌, ◌||◌, eqb, eqb-true, ne_eqb, Option, Some, None, refl, ap, sym, ◌∙◌, subst, append_assoc, append-nil, filter, length, drop, reverse, nat_lt, nat_le, nat_eq, arith, codes, option_map}
-use Rattle.std.specs.List.{AllByRecursion, position, prefix_len, remove, slice_index_or, ends_with}
+use Rattle.std.proofs.Common.{◌≡◌, ℕ, zero, suc, ◌+◌, ◌-◌, ◌≤◌, ◌<◌, List, [], ◌∷◌, ◌++◌, Bool, true, false, cond, ◌||◌, eqb, eqb-true, ne_eqb, Option, Some, None, refl, ap, sym, ◌∙◌, subst, append_assoc, append-nil, filter, length, drop, reverse, nat_le, nat_eq, arith, codes, option_map}
+use Rattle.std.specs.List.{AllByRecursion, position, remove, slice_index_or, ends_with}
 use Rattle.std.specs.Cmp.Lexicographic.{pointwise}
 use Rattle.std.proofs.Math.Seq.{drop-append-add, get_or-append_seam}
 use Rattle.std.proofs.lemmas.Bool.{false≢true, and_parts}
@@ -124,9 +124,7 @@ apart-slash : (needle front name : List ℕ) → lacks 47 needle ≡ true → po
 apart-slash [] [] name h = refl
 apart-slash [] (x ∷ front) name h = refl
 apart-slash (c ∷ needle) [] name h = grind (arith, and_parts, not-is)
-apart-slash (c ∷ needle) (x ∷ front) name h =
-    let parts = and_parts (not (eqb c 47)) (lacks 47 needle) h in
-    grind (arith, (apart-slash needle front name parts.1))
+apart-slash (c ∷ needle) (x ∷ front) name h = grind (arith, (apart-slash needle front name))
 
 ends-below : (needle front name : List ℕ) → lacks 47 needle ≡ true → ends_with nat_eq name needle ≡ false → ends_with nat_eq (front ++ 47 ∷ name) needle ≡ false
 ends-below needle front name bare none =
@@ -162,12 +160,7 @@ folder-slash (c ∷ cs) h =
           (reverse before, ap (λ t. (c ∷ cs) ++ t) nothing ∙ (append-nil (c ∷ cs) ∙ (forwards (c ∷ cs) before d e ∙ ap (λ n. reverse before ++ n ∷ []) (eqb-true d 47 k))))
 
 joined-end : (needle cwd path : List ℕ) → lacks 47 needle ≡ true → is_absolute_path cwd ≡ true → ends_with nat_eq path needle ≡ false → ends_with nat_eq (joined cwd path) needle ≡ false
-joined-end needle cwd path bare root none =
-    let folder = folder-slash cwd root in
-    elim (is_absolute_path path) as (λ b. ends_with nat_eq (cond b path ((cwd ++ separator_after cwd) ++ path)) needle ≡ false) [
-      | true ↦ none
-      | false ↦ ap (λ t. ends_with nat_eq t needle) (ap (λ t. t ++ path) folder.1 ∙ append_assoc folder.0 (47 ∷ []) path) ∙ ends-below needle folder.0 path bare none
-    ]
+joined-end needle cwd path bare root none = grind (arith, folder-slash, append_assoc, ends-below)
 
 -- a path below an absolute folder is an input by its end only where its text is
 pub joined-away : (language : Language) (cwd path : List ℕ) → is_absolute_path cwd ≡ true → is_input_word language path ≡ false → is_input_word language (joined cwd path) ≡ false

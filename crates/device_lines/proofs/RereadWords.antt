@@ -1,17 +1,17 @@
 -- The words of a line that are kept are read as the items that they were written for, and the same ones of these are
 -- kept again.
-use Rattle.std.proofs.Common.{◌≡◌, ℕ, List, [], ◌∷◌, ◌++◌, Bool, true, false, cond, ◌||◌, Option, Some, None, map, refl, ap, sym, ◌∙◌, subst, append-nil, filter, arith}
+use Rattle.std.proofs.Common.{◌≡◌, ℕ, List, [], ◌∷◌, ◌++◌, Bool, true, false, ◌||◌, Option, Some, None, map, refl, ap, sym, ◌∙◌, append-nil, filter, arith, cond, subst}
 use Rattle.std.specs.List.{AllByRecursion, flat_map}
 use Rattle.std.proofs.lemmas.Bool.{false≢true}
 use Rattle.std.proofs.lemmas.Grind.{flat_map-append}
 use Rattle.std.proofs.lemmas.List.Elements.{filter-append}
 use Rattle.option_items.specs.Table.{Entry}
-use Rattle.option_items.specs.Items.{Item, raw, unknown_flag, flag, with_value, faulty, items, words_of, kind_of}
+use Rattle.option_items.specs.Items.{Item, items, words_of, kind_of}
 use Rattle.option_items.specs.WordsLaw.{is_whole, IsReadOver}
 use Rattle.option_items.proofs.WordsLemmas.{lists-read_back, lines-hold_read_items}
 use Rattle.device_lines.specs.declared.options.ArgData.{ArgData}
 use Rattle.device_lines.specs.declared.options.ArgData.TheVariants.{Output, PassThrough, UnhashedFlag, GenModuleIdFileFlag, ModuleIdFileName, UnhashedPassThrough, UnhashedOutput}
-use Rattle.device_lines.specs.Reading.{is_common_kind, is_unhashed_kind, is_unknown, beside, is_common, common_items, unhashed_items}
+use Rattle.device_lines.specs.Reading.{is_unhashed_kind, is_unknown, beside, is_common, common_items, unhashed_items}
 use Rattle.device_lines.specs.Reread.{is_filled, AllFilled, common_words, unhashed_words, KeptWordsReadBack, KeptWordsStay}
 
 pub or_false : (b : Bool) → (b || false) ≡ b
@@ -36,14 +36,6 @@ unhashed-kind P f p u k h = grind (arith, false≢true)
 abbrev pub common_after : Bool → List (Item ArgData) → List (Item ArgData)
 common_after b is = map (λ p. p.1) (filter is_common (beside b is))
 
--- an item that isn't common is no unknown flag
-not_common-known : (b : Bool) (i : Item ArgData) → is_common (b, i) ≡ false → is_unknown i ≡ false
-not_common-known b i h = grind arith
-
--- a common item is common after an unknown flag too
-common-wider : (b c : Bool) (i : Item ArgData) → is_common (c, i) ≡ true → is_common (b || c, i) ≡ true
-common-wider b c i h = grind arith
-
 -- items of which none is common, whatever stands before them
 abbrev pub Silent : Item ArgData → Type 0
 Silent i = (b : Bool) → is_common (b, i) ≡ false
@@ -51,6 +43,14 @@ Silent i = (b : Bool) → is_common (b, i) ≡ false
 common-silent : (is : List (Item ArgData)) → AllByRecursion Silent is → (b : Bool) → common_after b is ≡ []
 common-silent [] h b = refl
 common-silent (i ∷ is) h b = grind (arith, (common-silent is h.1 (is_unknown i)))
+
+-- an item that isn't common is no unknown flag
+not_common-known : (b : Bool) (i : Item ArgData) → is_common (b, i) ≡ false → is_unknown i ≡ false
+not_common-known b i h = grind arith
+
+-- a common item is common after an unknown flag too
+common-wider : (b c : Bool) (i : Item ArgData) → is_common (c, i) ≡ true → is_common (b || c, i) ≡ true
+common-wider b c i h = grind arith
 
 -- the common items are common again, with items after them of which none is common
 pub common-again : (b c : Bool) (is tail : List (Item ArgData)) → AllByRecursion Silent tail → common_after (b || c) (common_after c is ++ tail) ≡ common_after c is
@@ -68,13 +68,9 @@ common-again b c (i ∷ is) tail none =
           subst (λ u. common_after (b || c) (common_after u is ++ tail) ≡ common_after u is) (sym known) later
     ] refl
 
--- an unhashed item isn't common
-unhashed-silent : (i : Item ArgData) → is_unhashed_kind (kind_of i) ≡ true → Silent i
-unhashed-silent i h b = grind (arith, false≢true, unhashed-kind)
-
 pub all-unhashed_silent : (is : List (Item ArgData)) → AllByRecursion Silent (unhashed_items is)
 all-unhashed_silent [] = tt
-all-unhashed_silent (i ∷ is) = grind (arith, unhashed-silent, (all-unhashed_silent is))
+all-unhashed_silent (i ∷ is) = grind (arith, (all-unhashed_silent is))
 
 -- what holds of all items, and what it says of those that are common or unhashed
 module _ (P Q : Item ArgData → Type 0) where
@@ -101,8 +97,7 @@ pub kept-read : (chosen : List ℕ → Option (Entry ArgData)) (line after : Lis
 kept-read chosen line after filled =
     let is = items chosen line in
     let read = kept-all (IsReadOver chosen) (IsReadOver chosen) (λ b i h e. h) (λ i h e. h) is (lines-hold_read_items chosen line) in
-    let whole = kept-all (λ i. is_filled i ≡ true) (λ i. is_whole i ≡ true) common-whole unhashed-whole is filled in
-    grind (arith, flat_map-append, lists-read_back)
+    grind (arith, flat_map-append, lists-read_back, (kept-all (λ i. is_filled i ≡ true) (λ i. is_whole i ≡ true) common-whole unhashed-whole is filled))
 
 pub kept-words_read_back : (chosen : List ℕ → Option (Entry ArgData)) → KeptWordsReadBack chosen
 kept-words_read_back chosen line filled =

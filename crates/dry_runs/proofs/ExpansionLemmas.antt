@@ -1,6 +1,6 @@
 -- Cutting a text at a mark, and what environment lines and references come to.
-use Rattle.std.proofs.Common.{◌≡◌, ℕ, suc, ◌+◌, ◌<◌, Bool, true, false, cond, eqb, eqb-true, not, ◌&&◌, ◌||◌, List, [], ◌∷◌, ◌++◌, Option, Some, None, Bor, refl, ap, sym, ◌∙◌, subst, length, take, drop, get_or, append-nil, arith, is_some, one-add, sub-one}
-use Rattle.std.specs.List.{position_or_len, prefix_len, list_all, before_first, after_first}
+use Rattle.std.proofs.Common.{◌≡◌, ℕ, suc, ◌+◌, ◌<◌, Bool, true, false, cond, eqb, eqb-true, not, ◌&&◌, List, [], ◌∷◌, ◌++◌, Option, Some, None, Bor, refl, ap, sym, ◌∙◌, subst, length, take, drop, get_or, append-nil, arith, is_some, one-add, sub-one}
+use Rattle.std.specs.List.{position_or_len, prefix_len, list_all, before_first}
 use Rattle.std.specs.Cmp.Lexicographic.{pointwise}
 use Rattle.std.proofs.lemmas.Bool.{false≢true, and_parts, not-true}
 use Rattle.std.proofs.lemmas.List.Sums.{split_at_first, passes_at_first}
@@ -9,7 +9,7 @@ use Rattle.std.proofs.lemmas.Str.Pattern.{IsSplitOnceResult, split_once_first}
 use Rattle.std.proofs.Math.Seq.{take-length, take-append_seam, drop-append_seam}
 use Rattle.texts.specs.Path.{lacks}
 use Rattle.texts.specs.Lists.{rest_after}
-use Rattle.dry_runs.specs.Environment.{Variable, is_name_byte, assigned, assignment, is_followed, refers}
+use Rattle.dry_runs.specs.Environment.{is_name_byte, assigned, assignment, refers}
 use Rattle.command_lines.specs.Replacing.{replaced_past, replaced}
 use Rattle.dry_runs.specs.Reading.{IsCutAt, is_name, begins_name}
 use Rattle.dry_runs.specs.FirstReferred.{behind_dollars, refers as refers_by}
@@ -27,14 +27,11 @@ lacks-before mark (b ∷ bs) =
 
 pub cut-once : (mark : ℕ) (bs : List ℕ) (r : Option (Bor (List ℕ) × Bor (List ℕ))) → IsSplitOnceResult mark bs r → mark < 128 → IsCutAt mark bs r
 cut-once mark bs None h small =
-    let all : position_or_len (λ b. eqb b mark) bs ≡ length bs = split_once_first mark bs None h small in
-    subst (λ t. lacks mark t ≡ true) (ap (λ n. take n bs) all ∙ take-length bs) (lacks-before mark bs)
+    subst (λ t. lacks mark t ≡ true) (ap (λ n. take n bs) (split_once_first mark bs None h small) ∙ take-length bs) (lacks-before mark bs)
 cut-once mark bs (Some x) h small =
     let at = split_once_first mark bs (Some x) h small in
     let found : get_or bs (position_or_len (λ b. eqb b mark) bs) 0 ≡ mark = eqb-true _ mark (passes_at_first (λ b. eqb b mark) bs 0 at.0) in
-    let whole : bs ≡ before_first (λ b. eqb b mark) bs ++ (get_or bs (position_or_len (λ b. eqb b mark) bs) 0 ∷ after_first (λ b. eqb b mark) bs) = split_at_first (λ b. eqb b mark) bs 0 at.0 in
-    let front : x.0.now ≡ before_first (λ b. eqb b mark) bs = at.1 in
-    grind (arith, lacks-before)
+    grind (arith, lacks-before, split_at_first)
 
 -- what follows the bytes of a name
 abbrev behind_bytes : List ℕ → List ℕ
@@ -66,9 +63,7 @@ behind-other (c ∷ cs) rest h other =
 
 bytes-all : (name rest : List ℕ) → list_all is_name_byte name ≡ true → prefix_len is_name_byte (name ++ 61 ∷ rest) ≡ length name
 bytes-all [] rest all = refl
-bytes-all (c ∷ cs) rest all =
-    let parts = and_parts (is_name_byte c) (list_all is_name_byte cs) all in
-    grind (arith, one-add, (bytes-all cs rest parts.1))
+bytes-all (c ∷ cs) rest all = grind (arith, (bytes-all cs rest))
 
 -- a text that begins with another byte assigns nothing
 pub assignment-otherwise : (text : List ℕ) → begins_name text ≡ false → assignment text ≡ None
@@ -90,17 +85,10 @@ named name value some = grind (arith, false≢true)
 pub assignment-named : (text name value : List ℕ) → text ≡ name ++ 61 ∷ value → is_name name ≡ true → assignment text ≡ Some (name, value)
 assignment-named text name value is all = grind (arith, and_parts, assignment-is, bytes-all, take-append_seam, drop-append_seam, named)
 
--- a byte that isn't `$` begins no reference
-no_dollar : (c : ℕ) → not (eqb c 36) ≡ true → eqb 36 c ≡ false
-no_dollar c = grind arith
-
 -- what follows each `$`, past a text without one
 pub behind-past : (front rest : List ℕ) → lacks 36 front ≡ true → behind_dollars (front ++ rest) ≡ behind_dollars rest
 behind-past [] rest h = refl
-behind-past (c ∷ cs) rest h =
-    let parts = and_parts (not (eqb c 36)) (lacks 36 cs) h in
-    let other : eqb c 36 ≡ false = not-true (eqb c 36) parts.0 in
-    grind (arith, (behind-past cs rest parts.1))
+behind-past (c ∷ cs) rest h = grind (arith, not-true, (behind-past cs rest))
 
 pub behind-nothing : (text : List ℕ) → lacks 36 text ≡ true → behind_dollars text ≡ []
 behind-nothing text h = ap behind_dollars (sym (append-nil text)) ∙ behind-past text [] h
@@ -115,9 +103,7 @@ refers-behind name (c ∷ cs) = grind (arith, (refers-behind name cs))
 
 pub replaced-past : (name value front rest : List ℕ) → lacks 36 front ≡ true → replaced (36 ∷ name) value (front ++ rest) ≡ front ++ replaced (36 ∷ name) value rest
 replaced-past name value [] rest h = refl
-replaced-past name value (c ∷ cs) rest h =
-    let parts = and_parts (not (eqb c 36)) (lacks 36 cs) h in
-    grind (arith, no_dollar, (replaced-past name value cs rest parts.1))
+replaced-past name value (c ∷ cs) rest h = grind (arith, (replaced-past name value cs rest))
 
 pub replaced-nothing : (name value text : List ℕ) → lacks 36 text ≡ true → replaced (36 ∷ name) value text ≡ text
 replaced-nothing name value text h = ap (replaced (36 ∷ name) value) (sym (append-nil text)) ∙ replaced-past name value text [] h ∙ append-nil text

@@ -1,8 +1,8 @@
 -- What expanding within a limit makes, and when a text is too long.
-use Rattle.std.proofs.Common.{◌≡◌, ℕ, ◌+◌, ◌-◌, true, false, cond, List, [], ◌∷◌, ◌++◌, Option, Some, None, Bor, MatchOption, refl, ap, sym, ◌∙◌, subst, fold, length, drop, nat_le, arith, option_map, length-append}
+use Rattle.std.proofs.Common.{◌≡◌, ℕ, ◌+◌, ◌-◌, true, false, cond, List, [], ◌∷◌, ◌++◌, Option, Some, None, Bor, MatchOption, refl, ap, sym, ◌∙◌, fold, length, drop, nat_le, arith, option_map, length-append}
 use Rattle.shell_words.specs.Shell.Splitting.{shell_words}
 use Rattle.dry_runs.specs.declared.set_variables.Reference.{Reference}
-use Rattle.dry_runs.specs.Environment.{Variable, refers, expanded}
+use Rattle.dry_runs.specs.Environment.{Variable, expanded}
 use Rattle.command_lines.specs.Replacing.{replaced}
 use Rattle.dry_runs.specs.FirstReferred.{behind_dollars, refers as refers_by}
 use Rattle.dry_runs.specs.Limit.{fitting, begun, made, expanded_fitting, expanded_within, words_left}
@@ -85,9 +85,3 @@ module _ (left : ℕ) (out name value after new : List ℕ) where
   WritesIs o = MatchOption o
       (fitting left (out ++ replaced (36 ∷ name) value (36 ∷ after)) ≡ None)
       (λ rest. new ++ replaced (36 ∷ name) value rest.now ≡ out ++ replaced (36 ∷ name) value (36 ∷ after))
-
-  pub written-none : (o : Option (Bor (List ℕ))) → o ≡ None → WritesIs o → fitting left (out ++ replaced (36 ∷ name) value (36 ∷ after)) ≡ None
-  written-none o is h = grind arith
-
-  pub written-some : (o : Option (Bor (List ℕ))) (r : Bor (List ℕ)) → o ≡ Some r → WritesIs o → new ++ replaced (36 ∷ name) value r.now ≡ out ++ replaced (36 ∷ name) value (36 ∷ after)
-  written-some o r is h = grind arith

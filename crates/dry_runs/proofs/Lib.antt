@@ -4,6 +4,5 @@ pub mod LineLemmas
 pub mod ParsedLemmas
 pub mod PlaceLemmas
 pub mod PlainWordLemmas
-pub mod ReadingLemmas
 pub mod StatementLemmas
 pub mod WithinLemmas

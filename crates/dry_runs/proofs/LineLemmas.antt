@@ -1,11 +1,11 @@
 -- The first line of what is left of a dry run, and the rest.
-use Rattle.std.proofs.Common.{◌≡◌, ℕ, ◌+◌, ◌<◌, Bool, true, false, cond, eqb, not, List, [], ◌∷◌, Option, Some, None, refl, ap, ◌∙◌, nat_lt, length, take, drop, arith}
-use Rattle.std.specs.List.{position, position_or_len, slice_split}
-use Rattle.std.specs.Str.Lines.{lines, lines_of_parts, strip_carriage_return}
-use Rattle.std.proofs.lemmas.Bool.{ltb-true, not_from_false, false_from_ne_true}
+use Rattle.std.proofs.Common.{◌≡◌, ℕ, ◌+◌, ◌<◌, Bool, eqb, not, List, [], ◌∷◌, Option, Some, None, length, take, drop, arith}
+use Rattle.std.specs.List.{position, position_or_len}
+use Rattle.std.specs.Str.Lines.{lines, strip_carriage_return}
+use Rattle.std.proofs.lemmas.Bool.{not_from_false, false_from_ne_true}
 use Rattle.std.proofs.lemmas.List.Splits.{slice_split_none, slice_split_first, length-slice_split}
 use Rattle.dry_runs.proofs.ExpansionLemmas.{not-zero}
-use Rattle.std.proofs.lemmas.List.Sums.{fails_before_first, prefix_len-le-length, prefix_len_is}
+use Rattle.std.proofs.lemmas.List.Sums.{fails_before_first, prefix_len_is}
 use Rattle.memchr.specs.Find.{IsFirstByte, is_byte}
 
 abbrev is_newline : ℕ → Bool
@@ -18,22 +18,8 @@ newline-found bs None h =
     grind arith
 newline-found bs (Some k) h = grind (arith, prefix_len_is, not_from_false, false_from_ne_true)
 
--- a part that others follow is a line
-lines_of_parts-more : (x : List ℕ) (parts : List (List ℕ)) → 0 < length parts → lines_of_parts (x ∷ parts) ≡ strip_carriage_return x ∷ lines_of_parts parts
-lines_of_parts-more x parts some = grind arith
-
--- where the first newline stands, or where none does
-newline-at : (bs : List ℕ) (n : ℕ) → position is_newline bs ≡ Some n → (position_or_len is_newline bs ≡ n) × (position_or_len is_newline bs < length bs)
-newline-at bs n e = grind (arith, ltb-true)
-
-newline-nowhere : (bs : List ℕ) → position is_newline bs ≡ None → position_or_len is_newline bs ≡ length bs
-newline-nowhere bs e = grind (arith, prefix_len-le-length)
-
 pub lines-at_newline : (bs : List ℕ) (n : ℕ) → position is_newline bs ≡ Some n → lines bs ≡ strip_carriage_return (take n bs) ∷ lines (drop (n + 1) bs)
-lines-at_newline bs n e = grind (arith, newline-at, length-slice_split, slice_split_first, lines_of_parts-more)
+lines-at_newline bs n e = grind (arith, length-slice_split, slice_split_first)
 
 pub lines-last : (bs : List ℕ) → 0 < length bs → position is_newline bs ≡ None → lines bs ≡ bs ∷ []
-lines-last bs some e = grind (arith, newline-nowhere, slice_split_none, fails_before_first, not-zero)
-
-pub some-left : (n : ℕ) → eqb n 0 ≡ false → 0 < n
-some-left n = grind arith
+lines-last bs some e = grind (arith, slice_split_none, fails_before_first, not-zero)

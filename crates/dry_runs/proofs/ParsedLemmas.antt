@@ -1,6 +1,6 @@
 -- A run that is read up to its first bad line, and what the look-ups of a parsed one make of it.
-use Rattle.std.proofs.Common.{◌≡◌, ℕ, ◌+◌, true, false, cond, List, [], ◌∷◌, ◌++◌, Option, Some, None, Result, Ok, Err, refl, ap, sym, ◌∙◌, subst, append_assoc, append-nil, codes, unwrap_or, bytes_eq, arith}
-use Rattle.std.specs.List.{filter_map, enumerate_from}
+use Rattle.std.proofs.Common.{◌≡◌, ℕ, ◌+◌, List, [], ◌∷◌, ◌++◌, Option, Some, Result, Ok, Err, refl, ap, sym, ◌∙◌, append_assoc, append-nil, codes, unwrap_or, arith}
+use Rattle.std.specs.List.{enumerate_from}
 use Rattle.std.specs.Str.Lines.{lines}
 use Rattle.texts.specs.declared.fault.Fault.{Fault}
 use Rattle.texts.specs.Fault.{UnlessMemory}
@@ -12,16 +12,13 @@ use Rattle.dry_runs.specs.declared.limit.LimitedFault.TheVariants as limited
 use Rattle.dry_runs.specs.declared.parsed.ParsedRun.{ParsedRun}
 use Rattle.dry_runs.specs.declared.reader.Said.{Said}
 use Rattle.dry_runs.specs.declared.statement.Statement.{Statement}
-use Rattle.dry_runs.specs.declared.statement.Statement.TheVariants.{Nothing, Sets, BadShell, NotUtf8}
-use Rattle.dry_runs.specs.declared.statement.Statement.TheVariants as statements
 use Rattle.command_lines.specs.CommandLines.{CommandLine}
-use Rattle.dry_runs.specs.DryRun.{LookUp, Meaning, Ignored, Assigns, Runs, Bad, meaning, meanings, meaning_by_path, meaning_found, environment_after, fault_of, run_of_meanings, run_or_fault, dry_run_of}
+use Rattle.dry_runs.specs.DryRun.{LookUp, Meaning, Ignored, Assigns, Runs, Bad, meaning, meanings, environment_after, run_of_meanings, run_or_fault}
 use Rattle.dry_runs.specs.DryRunLines.{numbered_lines}
 use Rattle.dry_runs.specs.Environment.{Variable}
-use Rattle.dry_runs.specs.Limit.{UnlessMemoryWithin, first_too_long, left_behind_line, answer_within, dry_run_within}
-use Rattle.dry_runs.specs.Parsed.{question_of, program_in, path_of, with_line, run_of_lines, lines_read, unless_long, lines_read_within, unless_bad, whole, limited_whole, whole_in, behind_found, found_commands, unless_missing, parsed_of, ParsesThenResolves}
-use Rattle.dry_runs.specs.Reading.{found_or_fault, said_parsed, said_ended, with_variable, with_command, said_next, next_within, meaning_stated}
-use Rattle.dry_runs.proofs.ReadingLemmas.{environment-next}
+use Rattle.dry_runs.specs.Limit.{UnlessMemoryWithin, first_too_long, left_behind_line, dry_run_within}
+use Rattle.dry_runs.specs.Parsed.{question_of, program_in, path_of, with_line, run_of_lines, lines_read, unless_long, lines_read_within, unless_bad, whole, whole_in, behind_found, found_commands, unless_missing, parsed_of, ParsesThenResolves}
+use Rattle.dry_runs.specs.Reading.{found_or_fault, said_parsed, said_ended, said_next, next_within, meaning_stated}
 use Rattle.dry_runs.proofs.StatementLemmas.{meaning-stated}
 use Rattle.dry_runs.proofs.WithinLemmas.{within-fault, within-long}
 
@@ -32,29 +29,16 @@ said_before s run = record { commands = s.commands ++ run.commands; env = s.env 
 abbrev run_with : List CommandLine → List Variable → Option Fault → ParsedRun
 run_with commands env fault = record { commands = commands; env = env; fault = fault }
 
-before-next : (s t : Said) (m : Meaning) (run : ParsedRun) → said_next s m ≡ Ok t → said_before s (with_line m run) ≡ said_before t run
-before-next s t Ignored run e = let now : s ≡ t = cc in ap (λ (x : Said). said_before x run) now
-before-next s t (Assigns v) run e =
-    let now : with_variable s v ≡ t = cc in
-    ap (λ env. run_with (s.commands ++ run.commands) env run.fault) (sym (append_assoc s.env (v ∷ []) run.env)) ∙ ap (λ (x : Said). said_before x run) now
-before-next s t (Runs command) run e =
-    let now : with_command s command ≡ t = cc in
-    ap (λ commands. run_with commands (s.env ++ run.env) run.fault) (sym (append_assoc s.commands (command ∷ []) run.commands)) ∙ ap (λ (x : Said). said_before x run) now
-before-next s t (Bad fault) run e = cc
-
-before-bad : (s : Said) (m : Meaning) (run : ParsedRun) (fault : Fault) → said_next s m ≡ Err fault → said_before s (with_line m run) ≡ said_parsed s (Some fault)
-before-bad s m run fault e = grind (arith, append-nil)
-
 -- one line, and the lines behind it
 module _ (which : LookUp) (run : ℕ) (cwd : List ℕ) where
   abbrev pub run_from : List Variable → ℕ → List ℕ → ParsedRun
   run_from env number rest = run_of_lines (meanings which run cwd env (enumerate_from number (lines rest)))
 
   pub read-next : (s t : Said) (number : ℕ) (line rest behind : List ℕ) → lines rest ≡ line ∷ lines behind → said_next s (meaning which run cwd s.env (number, line)) ≡ Ok t → said_before t (run_from t.env (number + 1) behind) ≡ said_before s (run_from s.env number rest)
-  read-next s t number line rest behind cut e = grind (arith, environment-next, before-next)
+  read-next s t number line rest behind cut e = grind (arith, append_assoc)
 
   read-bad : (s : Said) (number : ℕ) (line rest behind : List ℕ) (fault : Fault) → lines rest ≡ line ∷ lines behind → said_next s (meaning which run cwd s.env (number, line)) ≡ Err fault → said_before s (run_from s.env number rest) ≡ said_parsed s (Some fault)
-  read-bad s number line rest behind fault cut e = grind (arith, before-bad)
+  read-bad s number line rest behind fault cut e = grind (arith, append-nil)
 
 -- a line at which the reading ends
 ended-bad : {X : Type 0} (fault : Fault) (s : Said) (part : Result X LimitedFault) (all : Result ParsedRun LimitedFault) → (part ≡ Err (limited.Fault fault) → all ≡ Ok (said_parsed s (Some fault))) → UnlessMemoryWithin {T = X} (Err (limited.Fault fault)) part → UnlessMemoryWithin (said_ended s (limited.Fault fault)) all
@@ -93,9 +77,6 @@ bad-variable commands env v fault = grind arith
 bad-command : (commands : List CommandLine) (env : List Variable) (command : CommandLine) (fault : Option Fault) → unless_bad (command ∷ commands) env fault ≡ behind_one command (unless_bad commands env fault)
 bad-command commands env command fault = grind arith
 
-fault-ignored : (ms : List Meaning) (faults : List Fault) → run_or_fault (Ignored ∷ ms) faults ≡ run_or_fault ms faults
-fault-ignored ms faults = grind arith
-
 fault-variable : (v : Variable) (ms : List Meaning) (faults : List Fault) → run_or_fault (Assigns v ∷ ms) faults ≡ with_one v (run_or_fault ms faults)
 fault-variable v ms faults = grind arith
 
@@ -104,19 +85,13 @@ fault-command command ms faults = grind arith
 
 pub whole-lines : (ms : List Meaning) → whole (run_of_lines ms) ≡ run_of_meanings ms
 whole-lines [] = refl
-whole-lines (Ignored ∷ ms) = whole-lines ms ∙ sym (fault-ignored ms (filter_map fault_of ms))
+whole-lines (Ignored ∷ ms) = whole-lines ms ∙ sym ((grind arith))
 whole-lines (Assigns v ∷ ms) = simp (bad-variable, fault-variable, (whole-lines ms))
 whole-lines (Runs command ∷ ms) = simp (bad-command, fault-command, (whole-lines ms))
 whole-lines (Bad fault ∷ ms) = refl
 
-limited-said : (run : ℕ) (said : Read) → limited_whole said ≡ answer_within run None said
-limited-said run said = grind arith
-
-whole-long : (run : ℕ) (long : Option ℕ) (parsed : ParsedRun) (said : Read) → whole parsed ≡ said → whole_in (unless_long run long parsed) ≡ answer_within run long said
-whole-long run long parsed said h = grind (arith, limited-said)
-
 pub whole-within : (which : LookUp) (limit run : ℕ) (bytes cwd : List ℕ) → whole_in (lines_read_within which limit run bytes cwd) ≡ dry_run_within limit run bytes cwd which
-whole-within which limit run bytes cwd = grind (arith, whole-long, whole-lines)
+whole-within which limit run bytes cwd = grind (arith, whole-lines)
 
 -- The first `PATH` counts for all lines behind it.
 
@@ -129,10 +104,6 @@ path-stays env more path h = ap (λ o. unwrap_or o []) (first-stays (codes "PATH
 
 program-asked : (path program : List ℕ) → program_in path (path ++ program) ≡ program
 program-asked path program = ap (λ o. unwrap_or o []) (rest_after-append path program)
-
--- looking the programs of a parsed run up, with what looking them up so far found
-missing-variable : (env : List Variable) (v : Variable) (fault : Option Fault) (found : Result (List CommandLine) Fault) → unless_missing (v ∷ env) fault found ≡ with_one v (unless_missing env fault found)
-missing-variable env v fault found = grind (arith, bad-variable)
 
 missing-command : (env : List Variable) (fault : Option Fault) (line : ℕ) (question program path : List ℕ) (words : List (List ℕ)) (rest : Result (List CommandLine) Fault) → unless_missing env fault (behind_found (line, question, words) program (Some path) rest) ≡ behind_one (line, path, words) (unless_missing env fault rest)
 missing-command env fault line question program path words rest = grind (arith, bad-command)
@@ -161,37 +132,14 @@ module _ (which : LookUp) (run : ℕ) (cwd : List ℕ) where
   abbrev SaysAlikeFrom : List Variable → Meaning → Meaning → List (ℕ × List ℕ) → Type 0
   SaysAlikeFrom env m k ls = looked_up (path_of (env ++ (asked_from env m ls).env)) (asked_from env m ls) ≡ whole (read_from env k ls)
 
-  alike-found : (number : ℕ) (env : List Variable) (ls : List (ℕ × List ℕ)) (program path : List ℕ) (words : List (List ℕ)) (found : Option (List ℕ)) → looked_up path (asked_all env ls) ≡ whole (read_all env ls) →
-      unless_missing (asked_all env ls).env (asked_all env ls).fault (behind_found (number, path ++ program, words) program found (found_commands which cwd path (asked_all env ls).commands))
-      ≡ whole (read_from env (meaning_found which run cwd number program words found) ls)
-  alike-found number env ls program path words found same = grind (arith, missing-command, bad-command)
-
-  alike-path : (number : ℕ) (env : List Variable) (ls : List (ℕ × List ℕ)) (program : List ℕ) (words : List (List ℕ)) (first : Option (List ℕ)) → first_value (codes "PATH") env ≡ first → SaysAlike env ls →
-      SaysAlikeFrom env (meaning_by_path question_of run [] number program words first) (meaning_by_path which run cwd number program words first) ls
-  alike-path number env ls program words first is same = grind (arith, path-stays, program-asked, alike-found)
-
   alike-stated : (number : ℕ) (env : List Variable) (ls : List (ℕ × List ℕ)) (s : Statement) → ((after : List Variable) → SaysAlike after ls) →
       SaysAlikeFrom env (meaning_stated question_of run [] number env s) (meaning_stated which run cwd number env s) ls
-  alike-stated number env ls Nothing same = same env
-  alike-stated number env ls (Sets name value) same =
-      let v : Variable = (name, value) in
-      let after = env ++ v ∷ [] in
-      let asked = asked_all after ls in
-      let read = read_all after ls in
-      ap (λ e. looked_up (path_of e) (with_line (Assigns v) asked)) (sym (append_assoc env (v ∷ []) asked.env))
-      ∙ missing-variable asked.env v asked.fault (found_commands which cwd (path_of (after ++ asked.env)) asked.commands)
-      ∙ ap (with_one v) (same after) ∙ sym (bad-variable read.commands read.env v read.fault)
-  alike-stated number env ls (statements.Runs []) same = refl
-  alike-stated number env ls (statements.Runs (program ∷ words)) same = alike-path number env ls program words (first_value (codes "PATH") env) refl (same env)
-  alike-stated number env ls BadShell same = refl
-  alike-stated number env ls NotUtf8 same = refl
+  alike-stated number env ls s same = grind (arith, append_assoc, bad-variable, path-stays, program-asked)
 
   says-alike : (ls : List (ℕ × List ℕ)) (env : List Variable) → SaysAlike env ls
   says-alike [] env = refl
   says-alike ((number, line) ∷ ls) env =
-      let asked = meaning-stated question_of run [] number env line in
-      let read = meaning-stated which run cwd number env line in
-      grind (arith, alike-stated, (says-alike ls))
+      grind (arith, alike-stated, (says-alike ls), (meaning-stated which run cwd number env line), (meaning-stated question_of run [] number env line))
 
 pub parses-then-resolves : ParsesThenResolves
 parses-then-resolves run bytes cwd which =
@@ -208,20 +156,12 @@ module _ (run other : ℕ) where
   abbrev HoldAlikeBehind : List Variable → List (ℕ × List ℕ) → Type 0
   HoldAlikeBehind env ls = HoldAlike (asked_all question_of run [] env ls) (asked_all question_of other [] env ls)
 
-  hold-path : (number : ℕ) (env : List Variable) (ls : List (ℕ × List ℕ)) (program : List ℕ) (words : List (List ℕ)) (path : Option (List ℕ)) → HoldAlikeBehind env ls →
-      HoldAlikeFrom env (meaning_by_path question_of run [] number program words path) (meaning_by_path question_of other [] number program words path) ls
-  hold-path number env ls program words path same = grind arith
-
-  hold-stated : (number : ℕ) (env : List Variable) (ls : List (ℕ × List ℕ)) (s : Statement) → ((after : List Variable) → HoldAlikeBehind after ls) →
-      HoldAlikeFrom env (meaning_stated question_of run [] number env s) (meaning_stated question_of other [] number env s) ls
-  hold-stated number env ls s same = grind (arith, hold-path)
-
   hold-alike : (ls : List (ℕ × List ℕ)) (env : List Variable) → HoldAlikeBehind env ls
   hold-alike [] env = (refl, refl)
   hold-alike ((number, line) ∷ ls) env =
       let one = meaning-stated question_of run [] number env line in
       let two = meaning-stated question_of other [] number env line in
-      grind (arith, hold-stated, (hold-alike ls))
+      grind (arith, (hold-alike ls))
 
   pub parsed-alike : (bytes : List ℕ) → HoldAlike (parsed_of run bytes) (parsed_of other bytes)
   parsed-alike bytes = hold-alike (numbered_lines bytes) []
@@ -234,5 +174,4 @@ found_behind found (Err fault) = Err fault
 -- one more command that is found
 pub found-next : (found : List CommandLine) (command : CommandLine) (program path : List ℕ) (answer : Option (List ℕ)) (rest : Result (List CommandLine) Fault) → UnlessMemory (Ok path) (found_or_fault program answer) →
     found_behind (found ++ (command.0, path, command.2) ∷ []) rest ≡ found_behind found (behind_found command program answer rest)
-found-next found command program path answer (Ok rest) told = grind (arith, append_assoc)
-found-next found command program path answer (Err fault) told = grind arith
+found-next found command program path answer rest told = grind (arith, append_assoc)

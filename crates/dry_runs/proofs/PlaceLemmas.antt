@@ -1,5 +1,5 @@
 -- Where variables stand by the beginnings of their names, and which of them a text refers to first.
-use Rattle.std.proofs.Common.{◌≡◌, ℕ, zero, suc, ◌+◌, ◌<◌, ◌≤◌, Bool, true, false, cond, eqb, eqb-true, not, ◌&&◌, ◌||◌, nat_le, List, [], ◌∷◌, ◌++◌, Option, Some, None, refl, ap, sym, ◌∙◌, subst, fold, map, length, drop, get_or, string_bytes, String, append_assoc, add-one, arith, option_map, zero-add, add-zero, one-add, Global}
+use Rattle.std.proofs.Common.{◌≡◌, ℕ, zero, suc, ◌+◌, ◌<◌, ◌≤◌, Bool, true, false, cond, eqb, eqb-true, not, ◌&&◌, ◌||◌, nat_le, List, [], ◌∷◌, ◌++◌, Some, None, refl, ap, sym, ◌∙◌, subst, fold, map, length, drop, get_or, string_bytes, String, add-one, arith, option_map, zero-add, add-zero, one-add, Global}
 use Rattle.std.specs.List.{prefix_len, list_all, slice_get}
 use Rattle.std.specs.Str.{chars, bytes_eq, IsUtf8, IsCharBoundary}
 use Rattle.std.proofs.lemmas.Bool.{false≢true, lt-ltb, and_parts}
@@ -75,8 +75,7 @@ byte-small (c ∷ cs) n le =
 pub name-boundary : (text : List ℕ) (n : ℕ) → IsUtf8 text → n ≡ prefix_len is_name_byte text → IsCharBoundary text n
 name-boundary text zero utf8 is = IsCharBoundary-start text utf8
 name-boundary text (suc n) utf8 is =
-    let within : prefix_len is_name_byte text ≤ length text = prefix_len-le-length is_name_byte text in
-    subst (λ k. IsCharBoundary text k) (add-one n) (IsCharBoundary-after_ascii text n utf8 (omega (arith, within, is)) (byte-small text n (omega (arith, is))))
+    subst (λ k. IsCharBoundary text k) (add-one n) (IsCharBoundary-after_ascii text n utf8 (omega (arith, (prefix_len-le-length is_name_byte text), is)) (byte-small text n (omega (arith, is))))
 
 -- One more variable has one more place.
 
@@ -110,12 +109,7 @@ unended after h = grind (arith, name-first)
 plain-fails : (name after : List ℕ) → list_all is_name_byte name ≡ true → begins_otherwise (chars (behind_beginning after)) ≡ false → is_followed (rest_after name after) ≡ false
 plain-fails [] after plain h = unended after h
 plain-fails (c ∷ cs) [] plain h = refl
-plain-fails (c ∷ cs) (d ∷ ds) plain h =
-    let parts = and_parts (is_name_byte c) (list_all is_name_byte cs) plain in
-    elim (eqb c d) as (λ b. eqb c d ≡ b → is_followed (cond b (rest_after cs ds) None) ≡ false) [
-      | true ↦ λ e. plain-fails cs ds parts.1 (subst (λ t. begins_otherwise (chars t) ≡ false) (behind-byte d ds (subst (λ x. is_name_byte x ≡ true) (eqb-true c d e) parts.0)) h)
-      | false ↦ λ e. refl
-    ] refl
+plain-fails (c ∷ cs) (d ∷ ds) plain h = grind (arith, behind-byte, (plain-fails cs ds))
 
 plain-at : (env : List Variable) (place : ℕ) (after : List ℕ) → are_plain env ≡ true → begins_otherwise (chars (behind_beginning after)) ≡ false → follows_at env after place ≡ false
 plain-at [] zero after plain h = refl
@@ -194,9 +188,6 @@ module _ (env : List Variable) (from bound : ℕ) (after : List ℕ) where
 
 -- A text refers to a variable if what follows its first `$` does, or the text behind that.
 
-pub refers-cut : (env : List Variable) (text front after : List ℕ) (place : ℕ) → text ≡ front ++ 36 ∷ after → lacks 36 front ≡ true → refers_at env text place ≡ (follows_at env after place || refers_at env after place)
-refers-cut env text front after place is h = grind (arith, behind-cut)
-
 pub refers-none : (env : List Variable) (text : List ℕ) (place : ℕ) → lacks 36 text ≡ true → refers_at env text place ≡ false
 refers-none env text place h = grind (arith, behind-nothing)
 
@@ -232,7 +223,7 @@ module _ (env : List Variable) (from : ℕ) (text rest front after : List ℕ) (
   lower = subst (λ n. n ≤ place) (sym found) (first-within (follows_from from env after) place (places_from 0 env (beginning after)))
 
   cut : (i : ℕ) → from ≤ i → i < place → refers_at env text i ≡ (follows_at env after i || refers_at env after i)
-  cut i low high = so.before i low high ∙ refers-cut env rest front after i is clear
+  cut i low high = so.before i low high ∙ (grind (arith, behind-cut))
 
   one : next < place → (from ≤ next) × (refers_at env text next ≡ true)
   one less = grind (arith, first-passes, and_parts, cut)

@@ -1,5 +1,5 @@
 -- The shell words of a plain text are its parts between spaces.
-use Rattle.std.proofs.Common.{◌≡◌, ℕ, suc, ◌<◌, Bool, true, false, cond, eqb, eqb-true, not, ◌&&◌, ◌||◌, List, [], ◌∷◌, ◌++◌, Option, Some, None, refl, ap, sym, ◌∙◌, subst, map, length, get_or, append-nil, arith, encode_utf8, encode_utf8_all, option_map, is_none, chars, IsUtf8}
+use Rattle.std.proofs.Common.{◌≡◌, ℕ, suc, ◌<◌, Bool, true, false, cond, eqb, eqb-true, not, ◌&&◌, List, [], ◌∷◌, ◌++◌, Option, Some, refl, ap, sym, ◌∙◌, subst, map, length, get_or, append-nil, arith, encode_utf8, encode_utf8_all, option_map, is_none, chars, IsUtf8}
 use Rattle.std.specs.List.{list_all}
 use Rattle.std.proofs.lemmas.Bool.{false≢true, and_parts, or_parts, not-true, not_from_false, false_from_ne_true}
 use Rattle.std.proofs.lemmas.Bool.Decides.{Decides-eqb, nat_tests}
@@ -27,15 +27,11 @@ none-found a b c text r h = grind (arith, all-places, not_from_false, false_from
 
 inside-word : (word behind : List ℕ) → lacks 32 word ≡ true → cut true (word ++ 32 ∷ behind) ≡ word ∷ cut false behind
 inside-word [] behind h = refl
-inside-word (c ∷ cs) behind h =
-    let parts = and_parts (not (eqb c 32)) (lacks 32 cs) h in
-    grind (arith, not-true, (inside-word cs behind parts.1))
+inside-word (c ∷ cs) behind h = grind (arith, not-true, (inside-word cs behind))
 
 inside-last : (word : List ℕ) → lacks 32 word ≡ true → cut true word ≡ word ∷ []
 inside-last [] h = refl
-inside-last (c ∷ cs) h =
-    let parts = and_parts (not (eqb c 32)) (lacks 32 cs) h in
-    grind (arith, not-true, (inside-last cs parts.1))
+inside-last (c ∷ cs) h = grind (arith, not-true, (inside-last cs))
 
 pub between-cut : (text word behind : List ℕ) → text ≡ word ++ 32 ∷ behind → lacks 32 word ≡ true → between text ≡ word_of word ++ between behind
 between-cut text word behind is h = grind (arith, and_parts, not-true, inside-word)
@@ -54,9 +50,7 @@ cut-inside [] rest h = sym (prepend-nothing (cut true rest)) where
   prepend-nothing : (words : List (List ℕ)) → prepend [] words ≡ words
   prepend-nothing [] = refl
   prepend-nothing (w ∷ words) = refl
-cut-inside (b ∷ bs) rest h =
-    let parts = and_parts (not (eqb b 32)) (lacks 32 bs) h in
-    grind (arith, not-true, prepended, (cut-inside bs rest parts.1))
+cut-inside (b ∷ bs) rest h = grind (arith, not-true, prepended, (cut-inside bs rest))
 
 cut-bytes : (inside : Bool) (bs rest : List ℕ) → 0 < length bs → lacks 32 bs ≡ true → cut inside (bs ++ rest) ≡ prepend bs (cut true rest)
 cut-bytes inside [] rest some h = absurd (omega (arith, some))
@@ -101,27 +95,17 @@ words-plain : (inside : Bool) (cs : List ℕ) → list_all plain cs ≡ true →
 words-plain true [] h = refl
 words-plain false [] h = refl
 words-plain inside (c ∷ cs) h =
-    let parts = and_parts (plain c) (list_all plain cs) h in
-    grind (arith, eqb-true, others, (words-plain false cs parts.1), (words-plain true cs parts.1))
+    grind (arith, eqb-true, others, (words-plain false cs), (words-plain true cs), (and_parts (plain c) (list_all plain cs) h))
 
 -- ---- a plain text is made of plain characters
 
-encoded-plain : (c : ℕ) (rest : List ℕ) → list_all plain (encode_utf8 c ++ rest) ≡ true → plain c ≡ true
-encoded-plain c rest h = grind (arith, false≢true, encode_ascii, nat_tests)
-
 chars-plain : (cs : List ℕ) → list_all plain (encode_utf8_all cs) ≡ true → list_all plain cs ≡ true
 chars-plain [] h = refl
-chars-plain (c ∷ cs) h =
-    let parts = and_parts (list_all plain (encode_utf8 c)) (list_all plain (encode_utf8_all cs)) (sym (list_all-append plain (encode_utf8 c) (encode_utf8_all cs)) ∙ h) in
-    grind (arith, encoded-plain, (chars-plain cs parts.1))
+chars-plain (c ∷ cs) h = grind (arith, list_all-append, (chars-plain cs), false≢true, encode_ascii, nat_tests)
 
 both-plain : (bs : List ℕ) → is_plain bs ≡ true → list_all plain bs ≡ true
 both-plain [] h = refl
-both-plain (b ∷ bs) h =
-    let whole = and_parts (list_all (λ c. not (is_byte3 34 39 92 c)) (b ∷ bs)) (list_all (λ c. not (is_byte3 9 10 35 c)) (b ∷ bs)) h in
-    let one = and_parts (not (is_byte3 34 39 92 b)) (list_all (λ c. not (is_byte3 34 39 92 c)) bs) whole.0 in
-    let two = and_parts (not (is_byte3 9 10 35 b)) (list_all (λ c. not (is_byte3 9 10 35 c)) bs) whole.1 in
-    grind (arith, (both-plain bs (rw (one.1, two.1) refl)))
+both-plain (b ∷ bs) h = grind (arith, (both-plain bs))
 
 pub plain-words : (text : List ℕ) → IsUtf8 text → is_plain text ≡ true → Some (between text) ≡ shell_words text
 plain-words text utf8 h =

@@ -4,13 +4,11 @@ use Rattle.std.specs.List.{list_any}
 use Rattle.std.specs.Option.{option_or}
 use Rattle.std.proofs.Math.Bool.{or-false, or-true}
 use Rattle.gcc_lines.specs.declared.gcc.options.ArgData.{ArgData}
-use Rattle.gcc_lines.specs.declared.gcc.options.ArgData.TheVariants.{PassThrough, PassThroughFlag, PreprocessorArgument, PreprocessorArgumentFlag, PreprocessorArgumentPath, DepArgumentPath, NeedDepTarget, Arch, Standard, ExtraHashFile, Unhashed, UnhashedFlag}
 use Rattle.option_items.specs.declared.table.ArgDisposition.{ArgDisposition}
-use Rattle.texts.specs.Path.{joined}
 use Rattle.option_items.specs.Table.{Entry}
-use Rattle.option_items.specs.Items.{Item, raw, unknown_flag, flag, with_value, faulty, Said, item, option, said_of, last_item, separate_item, joined_form, may_stand_last, Completes, normal_form, value_words}
+use Rattle.option_items.specs.Items.{Item, raw, Said, item, option, said_of, separate_item, Completes, normal_form, value_words}
 use Rattle.gcc_lines.specs.GccItems.{Asked, is_double_dash, items_to_dashes, has_double_dash, first_refusal, refusal_of, words_to, inputs, common, preprocessor, unhashed, architectures, dependencies, hash_files, language_said, flag_said, output_said, dependency_file_said, target_said, needs_target_item, written_form}
-use Rattle.gcc_lines.specs.GccSteps.{with_option, with_item}
+use Rattle.gcc_lines.specs.GccSteps.{with_item}
 use Rattle.gcc_lines.specs.Gcc.{unless_refused}
 use Rattle.option_items.proofs.ItemLemmas.{items-completed}
 
@@ -38,49 +36,13 @@ added cwd g dashes is = record {
 }
 
 module _ (cwd : List ℕ) where
-  -- one more flag
-  flag-added : (g : Asked) (dashes : Bool) (text : List ℕ) (kind : ArgData) (is : List (Item ArgData)) → added cwd (with_option cwd g text [] (text ∷ []) kind) dashes is ≡ added cwd g dashes (flag text kind ∷ is)
-  flag-added g dashes text PassThrough is = rw (append_assoc g.common_args (text ∷ []) (words_to common is)) refl
-  flag-added g dashes text PassThroughFlag is = rw (append_assoc g.common_args (text ∷ []) (words_to common is)) refl
-  flag-added g dashes text PreprocessorArgument is = rw (append_assoc g.preprocessor_args (text ∷ []) (words_to preprocessor is)) refl
-  flag-added g dashes text PreprocessorArgumentFlag is = rw (append_assoc g.preprocessor_args (text ∷ []) (words_to preprocessor is)) refl
-  flag-added g dashes text PreprocessorArgumentPath is = rw (append_assoc g.preprocessor_args (text ∷ []) (words_to preprocessor is)) refl
-  flag-added g dashes text DepArgumentPath is = rw (append_assoc g.dependency_args (text ∷ []) (words_to dependencies is)) refl
-  flag-added g dashes text NeedDepTarget is = rw (append_assoc g.dependency_args (text ∷ []) (words_to dependencies is), or-true g.target_needed) refl
-  flag-added g dashes text Arch is = rw (append_assoc g.arch_args (text ∷ []) (words_to architectures is)) refl
-  flag-added g dashes text Standard is = rw (append_assoc g.common_args (text ∷ []) (words_to common is)) refl
-  flag-added g dashes text ExtraHashFile is = rw (append_assoc g.common_args (text ∷ []) (words_to common is), append_assoc g.extra_hash_files (joined cwd [] ∷ []) (hash_files cwd is)) refl
-  flag-added g dashes text Unhashed is = rw (append_assoc g.unhashed_args (text ∷ []) (words_to unhashed is)) refl
-  flag-added g dashes text UnhashedFlag is = rw (append_assoc g.unhashed_args (text ∷ []) (words_to unhashed is)) refl
-  flag-added g dashes text _ is = refl
-
   -- the words of an option as it is written
   abbrev option_words : List ℕ → List ℕ → ArgDisposition → List (List ℕ)
   option_words text value form = value_words text value (normal_form (written_form (Some text)) form)
 
-  -- one more option with a value
-  value-added : (g : Asked) (dashes : Bool) (text value : List ℕ) (form : ArgDisposition) (kind : ArgData) (is : List (Item ArgData)) → added cwd (with_option cwd g text value (option_words text value form) kind) dashes is ≡ added cwd g dashes (with_value text kind value form ∷ is)
-  value-added g dashes text value form PassThrough is = rw (append_assoc g.common_args (option_words text value form) (words_to common is)) refl
-  value-added g dashes text value form PassThroughFlag is = rw (append_assoc g.common_args (option_words text value form) (words_to common is)) refl
-  value-added g dashes text value form PreprocessorArgument is = rw (append_assoc g.preprocessor_args (option_words text value form) (words_to preprocessor is)) refl
-  value-added g dashes text value form PreprocessorArgumentFlag is = rw (append_assoc g.preprocessor_args (option_words text value form) (words_to preprocessor is)) refl
-  value-added g dashes text value form PreprocessorArgumentPath is = rw (append_assoc g.preprocessor_args (option_words text value form) (words_to preprocessor is)) refl
-  value-added g dashes text value form DepArgumentPath is = rw (append_assoc g.dependency_args (option_words text value form) (words_to dependencies is)) refl
-  value-added g dashes text value form NeedDepTarget is = rw (append_assoc g.dependency_args (option_words text value form) (words_to dependencies is), or-true g.target_needed) refl
-  value-added g dashes text value form Arch is = rw (append_assoc g.arch_args (option_words text value form) (words_to architectures is)) refl
-  value-added g dashes text value form Standard is = rw (append_assoc g.common_args (option_words text value form) (words_to common is)) refl
-  value-added g dashes text value form ExtraHashFile is = rw (append_assoc g.common_args (option_words text value form) (words_to common is), append_assoc g.extra_hash_files (joined cwd value ∷ []) (hash_files cwd is)) refl
-  value-added g dashes text value form Unhashed is = rw (append_assoc g.unhashed_args (option_words text value form) (words_to unhashed is)) refl
-  value-added g dashes text value form UnhashedFlag is = rw (append_assoc g.unhashed_args (option_words text value form) (words_to unhashed is)) refl
-  value-added g dashes text value form _ is = refl
-
   -- one more item
   item-added : (g : Asked) (dashes : Bool) (i : Item ArgData) (is : List (Item ArgData)) → added cwd (with_item cwd g i) dashes is ≡ added cwd g dashes (i ∷ is)
-  item-added g dashes (raw word) is = rw (append_assoc g.inputs (word ∷ []) (words_to inputs is)) refl
-  item-added g dashes (unknown_flag word) is = rw (append_assoc g.common_args (word ∷ []) (words_to common is)) refl
-  item-added g dashes (flag text kind) is = flag-added g dashes text kind is
-  item-added g dashes (with_value text kind value form) is = value-added g dashes text value form kind is
-  item-added g dashes faulty is = refl
+  item-added g dashes i is = grind (arith, append_assoc)
 
 -- what a line asks for whose first items asked for this, of the words that are left
 abbrev pub gathering_after : (List ℕ → Option (Entry ArgData)) → List ℕ → Asked → List (List ℕ) → Result Asked (List ℕ)
@@ -99,23 +61,16 @@ added-raw cwd g (w ∷ line) =
     sym (item-added cwd g true (raw w) (map raw line)) ∙ added-raw cwd (with_item cwd g (raw w)) line
     ∙ ap (λ (ws : List (List ℕ)). record g { inputs = ws; double_dash_input = true }) (append_assoc g.inputs (w ∷ []) line)
 
--- an option is no `--`
-last_item-dashes : (e : Entry ArgData) → is_double_dash (last_item e) ≡ false
-last_item-dashes e = elim (may_stand_last e.form) as (λ b. is_double_dash (cond b (with_value e.text e.kind [] (joined_form e.form)) faulty) ≡ false) [ true ↦ refl | false ↦ refl ]
-
 module _ (chosen : List ℕ → Option (Entry ArgData)) where
   -- the items of a line that an item begins
   abbrev begun : Item ArgData → List (List ℕ) → List (Item ArgData)
   begun i after = cond (is_double_dash i) (map raw after) (i ∷ items_to_dashes chosen after)
 
-  last_begun : (s : Said ArgData) (i : Item ArgData) (after : List (List ℕ)) → Completes s [] i after → (elim s as (λ _. List (Item ArgData)) [ item j ↦ cond (is_double_dash j) [] (j ∷ []) | option e ↦ last_item e ∷ [] ]) ≡ begun i after
-  last_begun s i after h = grind (arith, last_item-dashes)
-
   next_begun : (s : Said ArgData) (x : List ℕ) (rest : List (List ℕ)) (i : Item ArgData) (after : List (List ℕ)) → Completes s (x ∷ rest) i after → (elim s as (λ _. List (Item ArgData)) [ item j ↦ cond (is_double_dash j) (map raw (x ∷ rest)) (j ∷ items_to_dashes chosen (x ∷ rest)) | option e ↦ separate_item e x ∷ items_to_dashes chosen rest ]) ≡ begun i after
   next_begun s x rest i after h = grind arith
 
   items_to_dashes-completed : (w : List ℕ) (before : List (List ℕ)) (i : Item ArgData) (after : List (List ℕ)) → Completes (said_of w (chosen w)) before i after → items_to_dashes chosen (w ∷ before) ≡ begun i after
-  items_to_dashes-completed w before i after h = grind (arith, last_begun, next_begun)
+  items_to_dashes-completed w before i after h = grind (arith, next_begun)
 
   has_double_dash-completed : (w : List ℕ) (before : List (List ℕ)) (i : Item ArgData) (after : List (List ℕ)) → Completes (said_of w (chosen w)) before i after → has_double_dash chosen (w ∷ before) ≡ (is_double_dash i || has_double_dash chosen after)
   has_double_dash-completed w before i after h = ap (list_any is_double_dash) (items-completed chosen w before i after h)

@@ -1,5 +1,5 @@
 -- The words that stand first, gathered one by one.
-use Rattle.std.proofs.Common.{◌≡◌, ◌∙◌, ℕ, List, [], ◌∷◌, ◌++◌, Bool, true, false, ◌||◌, not, cond, Some, Bor, map, filter, refl, sym, ap, subst, append_assoc, if◌then◌else◌, bytes_eq, arith}
+use Rattle.std.proofs.Common.{◌≡◌, ◌∙◌, ℕ, List, [], ◌∷◌, ◌++◌, Bool, true, false, ◌||◌, not, cond, Some, Bor, map, filter, refl, ap, append_assoc, bytes_eq, arith}
 use Rattle.std.specs.List.{list_any}
 use Rattle.std.proofs.lemmas.List.Folds.{list_any-append}
 use Rattle.std.proofs.lemmas.Slice.Eq.{bytes_eq-Decides}
@@ -51,24 +51,14 @@ unseen_again seen word h [] = refl
 unseen_again seen word h (x ∷ xs) = grind (arith, filter_cond, same_step, bytes_eq-Decides, (unseen_again seen word h xs))
 
 pub new_word : (seen : List (List ℕ)) (word : List ℕ) (words : List (List ℕ)) → stands seen word ≡ false → (seen ++ word ∷ []) ++ unseen (seen ++ word ∷ []) (first_appearances words) ≡ seen ++ unseen seen (first_appearances (word ∷ words))
-new_word seen word words e =
-    append_assoc seen (word ∷ []) (unseen (seen ++ word ∷ []) (first_appearances words))
-    ∙ ap (λ t. seen ++ word ∷ t) (unseen_after seen word (first_appearances words))
-    ∙ ap (λ (b : Bool). seen ++ cond (not b) (word ∷ unseen seen (others word (first_appearances words))) (unseen seen (others word (first_appearances words)))) (sym e)
-
-pub seen_word : (seen : List (List ℕ)) (word : List ℕ) (words : List (List ℕ)) → stands seen word ≡ true → seen ++ unseen seen (first_appearances words) ≡ seen ++ unseen seen (first_appearances (word ∷ words))
-seen_word seen word words e = grind (arith, unseen_again)
-
--- a test by what its contrary is
-pub not_true : (b : Bool) → not b ≡ true → b ≡ false
-not_true b e = grind (arith, false≢true)
+new_word seen word words e = grind (arith, append_assoc, unseen_after)
 
 pub not_false : (b : Bool) → not b ≡ false → b ≡ true
 not_false b e = grind (arith, false≢true)
 
 -- one more word, seen before or not
 pub next_word : (seen : List (List ℕ)) (word : List ℕ) (words : List (List ℕ)) → with_name seen (Some word) ++ unseen (with_name seen (Some word)) (first_appearances words) ≡ seen ++ unseen seen (first_appearances (word ∷ words))
-next_word seen word words = grind (arith, seen_word, new_word)
+next_word seen word words = grind (arith, new_word, unseen_again)
 
 -- Keys seen, which are the words so far. One more word is a new key (`added`), or not.
 module _ (keys after : List (Bor (List ℕ))) (key : Bor (List ℕ)) (first : List (List ℕ)) (added : Bool) where
@@ -84,4 +74,4 @@ module _ (keys after : List (Bor (List ℕ))) (key : Bor (List ℕ)) (first : Li
 
   pub new_key : map (λ (k : Bor (List ℕ)). k.now) keys ≡ first → after ≡ cond found keys (keys ++ key ∷ []) → added ≡ not found → added ≡ true →
       (map (λ (k : Bor (List ℕ)). k.now) after ≡ first ++ key.now ∷ []) × (first ++ key.now ∷ [] ≡ with_name first (Some key.now))
-  new_key h a e t = grind (arith, not_true, map-append, alike)
+  new_key h a e t = grind (arith, map-append, alike)

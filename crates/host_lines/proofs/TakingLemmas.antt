@@ -1,5 +1,5 @@
 -- What a loop over the words gathers is what the filters say.
-use Rattle.std.proofs.Common.{◌≡◌, ◌∙◌, ℕ, List, [], ◌∷◌, ◌++◌, Bool, true, false, ◌||◌, cond, Option, Some, None, filter, refl, sym, append_assoc, append-nil, arith}
+use Rattle.std.proofs.Common.{◌≡◌, ◌∙◌, ℕ, List, [], ◌∷◌, ◌++◌, Bool, false, ◌||◌, cond, Option, Some, None, filter, refl, sym, append_assoc, append-nil, arith}
 use Rattle.std.specs.List.{filter_map, cons_option, list_any, fold}
 use Rattle.host_lines.specs.declared.nvcc.taking.KeepWords.{KeepWords}
 use Rattle.host_lines.specs.declared.nvcc.taking.ThreadWords.{ThreadWords}
@@ -9,12 +9,7 @@ use Rattle.host_lines.specs.Taken.{nothing_kept, with_keep_word, keep_of_gathere
 
 -- a word put after those so far, where a test says so
 kept_word : (b : Bool) (so_far : List (List ℕ)) (p : Bool × List ℕ) (rest : List (Bool × List ℕ)) → cond b (so_far ++ p.1 ∷ []) so_far ++ words_alone rest ≡ so_far ++ words_alone (cond b (p ∷ rest) rest)
-kept_word true so_far p rest = append_assoc so_far (p.1 ∷ []) (words_alone rest)
-kept_word false so_far p rest = refl
-
--- the last of the items, one of which is put in front where a test says so
-last_kept : (b : Bool) (before : Option (List ℕ)) (p : Bool × List ℕ) (rest : List (Bool × List ℕ)) → fold (λ _ x. Some x) (cond b (Some p.1) before) (words_alone rest) ≡ fold (λ _ x. Some x) before (words_alone (cond b (p ∷ rest) rest))
-last_kept b before p rest = grind arith
+kept_word b so_far p rest = grind (arith, append_assoc)
 
 last_given : {X : Type 0} (before next : Option X) (rest : List X) → fold (λ _ x. Some x) (latest before next) rest ≡ fold (λ _ x. Some x) before (cons_option next rest)
 last_given before next rest = grind arith
@@ -32,7 +27,7 @@ stay_kept (word ∷ words) k =
 
 directory_kept : (words : List (List ℕ)) (k : KeepWords) → (fold with_keep_word k words).directory ≡ fold (λ _ x. Some x) k.directory (words_alone (filter (λ p. p.0) (valued is_keep_dir k.awaits_directory words)))
 directory_kept [] k = refl
-directory_kept (word ∷ words) k = grind (arith, last_kept, (directory_kept words (with_keep_word k word)))
+directory_kept (word ∷ words) k = grind (arith, (directory_kept words (with_keep_word k word)))
 
 is_kept_kept : (words : List (List ℕ)) (k : KeepWords) → (fold with_keep_word k words).is_kept ≡ (k.is_kept || list_any sets_keep (valued is_keep_dir k.awaits_directory words))
 is_kept_kept [] k = or_false k.is_kept

@@ -1,6 +1,6 @@
 -- Texts that are shown character by character.
-use Rattle.std.proofs.Common.{◌≡◌, ◌∙◌, ap, sym, refl, subst, ℕ, zero, suc, ◌-◌, true, false, List, ◌∷◌, ◌++◌, append_assoc, cond, arith}
-use Rattle.std.specs.Str.{IsUtf8, is_utf8, chars}
+use Rattle.std.proofs.Common.{◌≡◌, ℕ, ◌-◌, List, ◌∷◌, ◌++◌, append_assoc, arith}
+use Rattle.std.specs.Str.{IsUtf8, chars}
 use Rattle.std.proofs.lemmas.Str.{IsUtf8-from_is_utf8, is_utf8-from_IsUtf8}
 use Rattle.message_texts.specs.Excerpts.{excerpt, shown, shown_char, shown_byte}
 
@@ -9,14 +9,7 @@ pub excerpt-step :
     (show : ℕ → List ℕ) (left c : ℕ) (before after all rest line : List ℕ)
     → (left ≡ 0 → ⊥) → rest ≡ c ∷ line → after ≡ before ++ show c → before ++ excerpt show left rest ≡ all
     → after ++ excerpt show (left - 1) line ≡ all
-excerpt-step show zero c before after all rest line some is now whole = absurd (some refl)
-excerpt-step show (suc n) c before after all rest line some is now whole =
-    let less : suc n - 1 ≡ n = omega arith in
-    ap (λ k. after ++ excerpt show k line) less
-    ∙ ap (λ t. t ++ excerpt show n line) now
-    ∙ append_assoc before (show c) (excerpt show n line)
-    ∙ ap (λ t. before ++ excerpt show (suc n) t) (sym is)
-    ∙ whole
+excerpt-step show left c before after all rest line some is now whole = grind (arith, append_assoc)
 
 -- a text that isn't UTF-8, and one that is
 pub shown-bytes : (most : ℕ) (text : List ℕ) → (IsUtf8 text → ⊥) → excerpt shown_byte most text ≡ shown most text

@@ -1,5 +1,5 @@
 -- Calls that differ in a part differ in the text that names their directory.
-use Rattle.std.proofs.Common.{◌≡◌, ℕ, ◌+◌, ◌<◌, suc, true, not, eqb, ne_eqb, List, [], ◌∷◌, ◌++◌, length, map, take, drop, get_or, refl, ap, sym, ◌∙◌, subst, append_assoc, length-append, false, codes, arith}
+use Rattle.std.proofs.Common.{◌≡◌, ℕ, ◌+◌, ◌<◌, true, not, eqb, List, [], ◌∷◌, ◌++◌, length, map, take, drop, get_or, refl, ap, sym, ◌∙◌, append_assoc, length-append, arith}
 use Rattle.std.specs.List.{AllByRecursion}
 use Rattle.std.proofs.lemmas.Bool.{false≢true, and_parts, and_from, cond_both}
 use Rattle.std.proofs.lemmas.Int.Digits.{all_below_base_digits_of}
@@ -41,14 +41,10 @@ sized-cut a b us vs e =
 no-text : (b vs : List ℕ) → [] ≡ sized b ++ vs → ⊥
 no-text b vs e =
     let all : 0 ≡ length (sized b ++ vs) = ap length e in
-    let whole : length (sized b ++ vs) ≡ length (sized b) + length vs = length-append (sized b) vs in
-    let part : length (sized b) ≡ length (numeral (length b)) + suc (length b) = length-append (numeral (length b)) (58 ∷ b) in
-    grind arith
+    grind (arith, length-append)
 
 pub identities : IdentitiesDiffer
 identities [] [] e = refl
 identities [] (b ∷ vs) e = absurd (no-text b (identity vs) e)
 identities (a ∷ us) [] e = absurd (no-text a (identity us) (sym e))
-identities (a ∷ us) (b ∷ vs) e =
-    let parts = sized-cut a b (identity us) (identity vs) e in
-    grind (arith, (identities us vs parts.1))
+identities (a ∷ us) (b ∷ vs) e = grind (arith, sized-cut, (identities us vs))

@@ -1,10 +1,10 @@
 -- A line whose answer is an outline was checked on the way to it.
-use Rattle.std.proofs.Common.{◌≡◌, ℕ, Bool, true, false, cond, List, [], Option, Some, None, is_some, Result, Ok, Err, refl, ap, sym, unwrap_or, arith}
+use Rattle.std.proofs.Common.{◌≡◌, ℕ, Bool, true, false, cond, List, [], Option, Some, None, is_some, Result, Ok, Err, refl, ap, arith}
 use Rattle.std.proofs.lemmas.Bool.{false≢true}
 use Rattle.texts.specs.declared.fault.Fault.{Fault}
 use Rattle.texts.specs.Results.{and_then}
 use Rattle.compilers.specs.declared.arguments.ParsedArguments.{ParsedArguments}
-use Rattle.compilers.specs.Compiler.{Reading, accepted, cannot_cache, not_compilation}
+use Rattle.compilers.specs.Compiler.{Reading}
 use Rattle.cuda_plans.specs.declared.nvcc.command.NvccCompileCommand.{NvccCompileCommand}
 use Rattle.cuda_plans.specs.Nvcc.{nvcc_reading}
 use Rattle.cuda_plans.specs.NvccCommand.{dry_runs}
@@ -15,18 +15,18 @@ use Rattle.nvcc_options.specs.declared.reason.Reason.TheVariants.{OtherReading}
 use Rattle.nvcc_words.specs.declared.verdict.Verdict.{Verdict}
 use Rattle.nvcc_words.specs.declared.verdict.Verdict.TheVariants as verdicts
 use Rattle.nvcc_words.specs.Asked.{asked_of}
-use Rattle.nvcc_words.specs.Keeping.{keeps, SaysAs}
+use Rattle.nvcc_words.specs.Keeping.{keeps}
 use Rattle.nvcc_options.specs.Reasons.{text_of}
 use Rattle.nvcc_words.specs.Verdict.{verdict}
 use Rattle.nvcc_words.proofs.KeepingLemmas.{keeps-says}
 use Rattle.nvcc_calls.specs.declared.answer.Answer.{Answer}
 use Rattle.nvcc_calls.specs.declared.answer.Answer.TheVariants.{Split, Pass}
 use Rattle.nvcc_calls.specs.declared.outline.Outline.{Outline}
-use Rattle.nvcc_calls.specs.Answer.{split_by, answer_by, answer_of, answer_to, answer_to_normal, unless_hazard}
+use Rattle.nvcc_calls.specs.Answer.{split_by, answer_by, answer_of, answer_to, unless_hazard}
 use Rattle.program_calls.specs.Calls.{NvccOf}
 use Rattle.nvcc_calls.specs.Hazards.{hazard_of}
 use Rattle.nvcc_calls.specs.Laws.{DryRunsSayAs, SplitLinesKeepOptions}
-use Rattle.nvcc_calls.specs.Outline.{command_of, command_text, dependencies_of, jobs_of_line, outline_with}
+use Rattle.nvcc_calls.specs.Outline.{command_text, outline_with}
 
 -- the outline of an answer
 abbrev outline_in : Result Answer Fault → Option Outline
@@ -41,11 +41,6 @@ with-jobs : (command : NvccCompileCommand) (dependencies : List ℕ) (r : Result
     outline_in (and_then (and_then r (λ jobs. Ok (outline_with command dependencies jobs))) (λ made. Ok (Split made))) ≡ Some o → HasDryRuns o command
 with-jobs command dependencies r o e = grind (arith, false≢true)
 
-with-dependencies : (command : NvccCompileCommand) (d r : Result (List ℕ) Fault) (o : Outline) →
-    outline_in (and_then (and_then d (λ dependencies. and_then r (λ jobs. Ok (outline_with command dependencies jobs)))) (λ made. Ok (Split made))) ≡ Some o →
-    HasDryRuns o command
-with-dependencies command d r o e = grind (arith, with-jobs, false≢true)
-
 module _ (call : NvccOf) (variables files : List (List ℕ × List ℕ)) where
   abbrev asked : Asked
   asked = asked_of files (with_added_words variables call.words)
@@ -55,7 +50,7 @@ module _ (call : NvccOf) (variables files : List (List ℕ × List ℕ)) where
 
   by-check : (p : ParsedArguments) (command : NvccCompileCommand) (o : Outline) (b : Bool) → keeps asked (asked_of [] command.arguments) ≡ b →
       outline_in (cond b (split_by call variables p command) (Ok (Pass (text_of OtherReading)))) ≡ Some o → DryRunsSayAs asked o command
-  by-check p command o true t e = grind (arith, with-dependencies, keeps-says)
+  by-check p command o true t e = grind (arith, keeps-says)
   by-check p command o false t e = absurd (false≢true (ap is_some e))
 
   by-command : (p : ParsedArguments) (r : Result NvccCompileCommand Fault) (o : Outline) →
@@ -63,12 +58,9 @@ module _ (call : NvccOf) (variables files : List (List ℕ × List ℕ)) where
   by-command p (Ok command) o e = (command, by-check p command o (keeps asked (asked_of [] command.arguments)) refl e)
   by-command p (Err fault) o e = absurd (false≢true (ap is_some e))
 
-  by-reading : (reading : Reading) (o : Outline) → outline_in (answer_of call variables files reading) ≡ Some o → IsKept o
-  by-reading reading o e = grind (arith, by-command, false≢true)
-
   by-hazard : (hazard : Option Reason) (reading : Reading) (o : Outline) →
       outline_in (unless_hazard hazard (answer_of call variables files reading)) ≡ Some o → IsKept o
-  by-hazard hazard reading o e = grind (arith, by-reading, false≢true)
+  by-hazard hazard reading o e = grind (arith, false≢true, by-command)
 
   by-verdict : (v : Verdict) (o : Outline) → outline_in (answer_to call variables files v) ≡ Some o → IsKept o
   by-verdict (verdicts.Split normal) o e = by-hazard (hazard_of call normal) (nvcc_reading normal.words call.cwd []) o e

@@ -1,12 +1,12 @@
 -- The words that an item is written as are read as that item again.
-use Rattle.std.proofs.Common.{◌≡◌, ◌≢◌, ℕ, true, false, cond, not, ◌&&◌, eqb, eqb-true, List, [], ◌∷◌, ◌++◌, map, Option, Some, None, refl, ap, sym, ◌∙◌, subst, nat_lt, append_assoc, append-nil, option_map, option_and_then, bytes_eq, encode_utf8, arith}
+use Rattle.std.proofs.Common.{◌≡◌, ◌≢◌, ℕ, true, false, cond, not, ◌&&◌, eqb, eqb-true, List, [], ◌∷◌, ◌++◌, Option, Some, None, refl, ap, sym, ◌∙◌, subst, append_assoc, append-nil, option_map, bytes_eq, arith}
 use Rattle.std.specs.List.{AllByRecursion, flat_map}
 use Rattle.std.proofs.lemmas.Bool.{false≢true, and_parts, ltb-true}
 use Rattle.std.proofs.lemmas.Str.{encode_ascii}
 use Rattle.option_items.specs.declared.table.ArgDisposition.{ArgDisposition}
 use Rattle.option_items.specs.Table.{Entry, Matched, lone, joined, awaiting, value_after, matched_rest, matched}
 use Rattle.texts.specs.Lists.{rest_after}
-use Rattle.option_items.specs.Items.{Item, raw, unknown_flag, flag, with_value, faulty, Said, item, option, items, said_by, said_of, unmatched_item, last_item, separate_item, joined_form, separate_form, may_stand_last, Completes, delimiter_before, value_words, words_of}
+use Rattle.option_items.specs.Items.{Item, flag, Said, item, option, items, said_by, said_of, unmatched_item, last_item, separate_item, joined_form, Completes, delimiter_before, value_words, words_of}
 use Rattle.option_items.specs.WordsLaw.{is_joined, is_whole, AllWhole, IsReadOver, parts, LinesAreTheirParts, WholeItemsAreTheirParts, LinesHoldReadItems, WordsAreThoseRead, WordsReadBack, ListsReadBack, WholeLinesAreKept}
 use Rattle.option_items.proofs.ItemLemmas.{items-completed}
 
@@ -29,17 +29,11 @@ mapped-not f o b never h = grind arith
 rest-unjoined : (form : Option ArgDisposition) (rest : List ℕ) (m : Matched) → ((value : List ℕ) → joined value ≢ m) → matched_rest form rest ≡ Some m → rest ≡ []
 rest-unjoined form rest m never h = grind (arith, mapped-not)
 
--- an option with a value that was joined to it is written as its text and what followed
-mapped-joined : (o : Option (List ℕ)) (value : List ℕ) → option_map joined o ≡ Some (joined value) → o ≡ Some value
-mapped-joined o value h = grind arith
-
 one_word : (text rest value : List ℕ) (delimiter : Option ℕ) → value_after delimiter rest ≡ Some value → not (bytes_eq value []) ≡ true → ((text ++ delimiter_before value delimiter) ++ value) ∷ [] ≡ (text ++ rest) ∷ []
-one_word text rest value delimiter h whole =
-    let some : value ≢ [] = λ none. false≢true (subst (λ v. not (bytes_eq v []) ≡ true) none whole) in
-    ap (λ word. word ∷ []) (append_assoc text (delimiter_before value delimiter) value ∙ ap (λ t. text ++ t) (value_after-some delimiter rest value h some))
+one_word text rest value delimiter h whole = grind (arith, append_assoc, value_after-some)
 
 rest-joined : (form : Option ArgDisposition) (text rest value : List ℕ) → matched_rest form rest ≡ Some (joined value) → not (is_joined (joined_form form) && bytes_eq value []) ≡ true → value_words text value (joined_form form) ≡ (text ++ rest) ∷ []
-rest-joined form text rest value h whole = grind (arith, one_word, mapped-joined, mapped-not)
+rest-joined form text rest value h whole = grind (arith, one_word, mapped-not)
 
 -- the text of an entry is the word if nothing follows it
 text-alone : (text rest word : List ℕ) → word ≡ text ++ rest → rest ≡ [] → text ≡ word
@@ -80,38 +74,24 @@ module _ {T : Type 0} where
   said-option : (word : List ℕ) (choice : Option (Entry T)) (f : Entry T) → said_of word choice ≡ option f → f.text ≡ word
   said-option word choice f said = grind (arith, said_by-option)
 
-  -- an option that stands last is never whole
-  last-not_whole : (e : Entry T) → is_whole (last_item e) ≡ true → ⊥
-  last-not_whole e whole = grind (arith, false≢true)
-
   -- an option with the next word as its value is written as both
   separate-words : (e : Entry T) (x : List ℕ) → words_of (separate_item e x) ≡ e.text ∷ x ∷ []
   separate-words e x = grind arith
 
 module _ {T : Type 0} (chosen : List ℕ → Option (Entry T)) where
-  -- the first item of a line is what its first word says, completed
-  last-completes : (s : Said T) (i : Item T) (later : List (Item T)) → (elim s as (λ _. List (Item T)) [ item j ↦ j ∷ [] | option e ↦ last_item e ∷ [] ]) ≡ i ∷ later → (after : List (List ℕ)) × Completes s [] i after × (later ≡ items chosen after)
-  last-completes s i later h = grind arith
-
-  next-completes : (s : Said T) (x : List ℕ) (rest : List (List ℕ)) (i : Item T) (later : List (Item T)) → (elim s as (λ _. List (Item T)) [ item j ↦ j ∷ items chosen (x ∷ rest) | option e ↦ separate_item e x ∷ items chosen rest ]) ≡ i ∷ later → (after : List (List ℕ)) × Completes s (x ∷ rest) i after × (later ≡ items chosen after)
-  next-completes (item j) x rest i later h = let is : i ≡ j = cc in let same : later ≡ items chosen (x ∷ rest) = cc in (x ∷ rest, (is, refl), same)
-  next-completes (option e) x rest i later h = let is : i ≡ separate_item e x = cc in let same : later ≡ items chosen rest = cc in (rest, (is, refl), same)
-
   first-completes : (w : List ℕ) (before : List (List ℕ)) (i : Item T) (later : List (Item T)) → items chosen (w ∷ before) ≡ i ∷ later → (after : List (List ℕ)) × Completes (said_of w (chosen w)) before i after × (later ≡ items chosen after)
-  first-completes w before i later h = grind (arith, last-completes, next-completes)
+  first-completes w before i later h = grind arith
 
   -- the words of a whole item: the word that begins it, and those that complete it
   completing-words : (w : List ℕ) (s : Said T) (before : List (List ℕ)) (i : Item T) (after : List (List ℕ)) → said_of w (chosen w) ≡ s → Completes s before i after → is_whole i ≡ true → (tail : List (List ℕ)) × (words_of i ≡ w ∷ tail) × (before ≡ tail ++ after) × ((rest : List (List ℕ)) → Completes s (tail ++ rest) i rest)
   completing-words w (item j) before i after said h whole = grind (arith, said-words)
-  completing-words w (option e) [] i after said h whole = absurd (last-not_whole e (subst (λ k. is_whole k ≡ true) h.0 whole))
+  completing-words w (option e) [] i after said h whole = absurd ((grind (arith, false≢true)))
   completing-words w (option e) (x ∷ rest) i after said h whole =
-      let text : e.text ≡ w = said-option w (chosen w) e said in
-      (x ∷ [], ap words_of h.0 ∙ separate-words e x ∙ ap (λ t. t ∷ x ∷ []) text, ap (λ r. x ∷ r) (sym h.1), λ more. (h.0, refl))
+      (x ∷ [], ap words_of h.0 ∙ separate-words e x ∙ ap (λ t. t ∷ x ∷ []) (said-option w (chosen w) e said), ap (λ r. x ∷ r) (sym h.1), λ more. (h.0, refl))
 
   first-words : (w : List ℕ) (before : List (List ℕ)) (i : Item T) (later : List (Item T)) → items chosen (w ∷ before) ≡ i ∷ later → is_whole i ≡ true → (after : List (List ℕ)) × (w ∷ before ≡ words_of i ++ after) × (later ≡ items chosen after) × ((rest : List (List ℕ)) → items chosen (words_of i ++ rest) ≡ i ∷ items chosen rest)
   first-words w before i later h whole =
-      let read = first-completes w before i later h in
-      grind (arith, completing-words, items-completed)
+      grind (arith, completing-words, items-completed, (first-completes w before i later h))
 
   pub words-are_those_read : WordsAreThoseRead chosen
   words-are_those_read [] i later h whole = cc
@@ -153,24 +133,15 @@ module _ {T : Type 0} (chosen : List ℕ → Option (Entry T)) where
   lines-are_their_parts (w ∷ []) = grind arith
   lines-are_their_parts (w ∷ x ∷ rest) = grind (arith, (lines-are_their_parts (x ∷ rest)), (lines-are_their_parts rest))
 
-  -- the words of a whole item are its part
-  last-is_no_part : (e : Entry T) (part : List (List ℕ)) → is_whole (last_item e) ≡ true → words_of (last_item e) ≡ part
-  last-is_no_part e part whole = absurd (last-not_whole e whole)
-
   pub whole_items-are_their_parts : WholeItemsAreTheirParts chosen
   whole_items-are_their_parts [] = tt
-  whole_items-are_their_parts (w ∷ []) = grind (arith, said-words, last-is_no_part)
+  whole_items-are_their_parts (w ∷ []) = grind (arith, said-words)
   whole_items-are_their_parts (w ∷ x ∷ rest) = grind (arith, said-words, separate-words, said-option, (whole_items-are_their_parts (x ∷ rest)), (whole_items-are_their_parts rest))
 
-  -- a line is the words of its items
-  no-items : (line : List (List ℕ)) → items chosen line ≡ [] → line ≡ []
-  no-items line h = grind arith
-
   words-of_items : (is : List (Item T)) (line : List (List ℕ)) → items chosen line ≡ is → AllWhole is → flat_map words_of is ≡ line
-  words-of_items [] line h whole = sym (no-items line h)
+  words-of_items [] line h whole = sym ((grind arith))
   words-of_items (i ∷ is) line h whole =
-      let read = words-are_those_read line i is h whole.0 in
-      grind (arith, (words-of_items is read.0 (sym read.2) whole.1))
+      grind (arith, (words-of_items is), (words-are_those_read line i is h whole.0))
 
   pub whole-lines_are_kept : WholeLinesAreKept chosen
   whole-lines_are_kept line whole = words-of_items (items chosen line) line refl whole

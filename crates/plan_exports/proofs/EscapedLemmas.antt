@@ -1,7 +1,6 @@
 -- A value is cut at its first `$`.
-use Rattle.std.proofs.Common.{ℕ, eqb, ◌<◌, ◌+◌, List, [], ◌∷◌, ◌++◌, ◌≡◌, not, cond, true, refl, sym, ap, subst, ◌∙◌, arith, encode_utf8_all, length, get_or, Option, Some, None, MatchOption, Bor, flat_map, IsUtf8, chars, length-append}
+use Rattle.std.proofs.Common.{ℕ, ◌<◌, List, [], ◌∷◌, ◌++◌, ◌≡◌, true, refl, sym, ap, subst, ◌∙◌, arith, encode_utf8_all, length, get_or, Option, Some, None, MatchOption, Bor, flat_map, IsUtf8, chars, length-append}
 use Rattle.std.proofs.Math.Seq.{get_or-append_seam, take-append_seam}
-use Rattle.std.proofs.lemmas.Bool.{and_parts}
 use Rattle.std.proofs.lemmas.Grind.{flat_map-append}
 use Rattle.std.proofs.lemmas.Str.{IsCharBoundary-before_ascii, IsUtf8-take, chars-append, encodes-append, encodes-chars}
 use Rattle.std.proofs.lemmas.Str.Pattern.{IsSplitOnceResult, split_parts}
@@ -15,15 +14,12 @@ use Rattle.plan_scripts.proofs.TextLemmas.{plain_chars}
 front-utf8 : (front behind : List ℕ) → IsUtf8 (front ++ 36 ∷ behind) → IsUtf8 front
 front-utf8 front behind is =
     let text = front ++ 36 ∷ behind in
-    let within : length front < length text = omega (arith, length-append front (36 ∷ behind)) in
     let ascii : get_or text (length front) 0 < 128 = subst (λ c. c < 128) (sym (get_or-append_seam front 36 behind 0)) (omega arith) in
-    grind (arith, take-append_seam, IsUtf8-take, IsCharBoundary-before_ascii)
+    grind (arith, take-append_seam, IsUtf8-take, IsCharBoundary-before_ascii, length-append)
 
 plain-chars : (cs : List ℕ) → lacks 36 cs ≡ true → flat_map escaped_char cs ≡ cs
 plain-chars [] h = refl
-plain-chars (c ∷ cs) h =
-    let parts = and_parts (not (eqb c 36)) (lacks 36 cs) h in
-    grind (arith, not-is, (plain-chars cs parts.1))
+plain-chars (c ∷ cs) h = grind (arith, not-is, (plain-chars cs))
 
 plain-text : (text : List ℕ) → IsUtf8 text → lacks 36 text ≡ true → flat_map escaped_char (chars text) ≡ chars text
 plain-text text is h = grind (arith, plain-chars, lacks-encoded, encodes-chars)
@@ -45,6 +41,4 @@ pub dollar-cut : (text : List ℕ) (r : Option (Bor (List ℕ) × Bor (List ℕ)
     MatchOption r (escaped text ≡ text) (λ parts. escaped text ≡ parts.0.now ++ (36 ∷ 36 ∷ escaped parts.1.now))
 dollar-cut text None is h = escaped-plain text is (lacks-places 36 text (split_parts 36 text None h (omega arith)))
 dollar-cut text (Some x) is h =
-    let parts = split_parts 36 text (Some x) h (omega arith) in
-    let front = front-utf8 x.0.now x.1.now (subst IsUtf8 parts.0 is) in
-    grind (arith, escaped-cut, lacks-places)
+    grind (arith, escaped-cut, lacks-places, (front-utf8 x.0.now x.1.now), (split_parts 36 text (Some x) h (omega arith)))

@@ -1,5 +1,5 @@
 -- What is written for Ninja is read as the edges of the plan.
-use Rattle.std.proofs.Common.{ℕ, suc, ◌<◌, ◌+◌, List, [], ◌∷◌, ◌++◌, ◌≡◌, refl, sym, ap, ◌∙◌, subst, append_assoc, append-nil, map, length, drop, Bool, true, false, not, ◌&&◌, ◌==◌, eqb, eqb-true, eq-eqb, ne_eqb, Option, Some, None, Result, Ok, Err, codes, encode_utf8_all, arith, IsUtf8, chars}
+use Rattle.std.proofs.Common.{ℕ, suc, ◌<◌, ◌+◌, List, [], ◌∷◌, ◌++◌, ◌≡◌, refl, sym, ap, ◌∙◌, subst, append_assoc, append-nil, map, length, drop, Bool, true, false, not, ◌&&◌, eqb, eqb-true, eq-eqb, ne_eqb, Option, Some, None, Result, Ok, codes, encode_utf8_all, arith, IsUtf8, chars}
 use Rattle.std.specs.List.{AllByRecursion, flat_map, list_all}
 use Rattle.std.proofs.lemmas.List.{get_or_at, get_or-drop, drop-drop, length_push, length-append}
 use Rattle.std.proofs.lemmas.Bool.{false≢true, and_parts, and_from, not-true, cond_both, eqb-false}
@@ -11,7 +11,7 @@ use Rattle.compilers.specs.declared.command.Cacheable.TheVariants.{Yes, No}
 use Rattle.texts.specs.Numeral.{numeral}
 use Rattle.texts.specs.Path.{lacks}
 use Rattle.texts.proofs.PathLemmas.{lacks-places, lacks-append}
-use Rattle.shell_words.specs.Shell.Quoting.{is_plain, quoted_char, quoted_word, further, quoted, written}
+use Rattle.shell_words.specs.Shell.Quoting.{quoted_word, further, quoted, written}
 use Rattle.plans.specs.declared.plan.NvccGeneratedSubcommand.{NvccGeneratedSubcommand}
 use Rattle.plans.specs.declared.plan.Dropped.{Dropped}
 use Rattle.plans.specs.declared.plan.Reason.{Reason}
@@ -19,13 +19,13 @@ use Rattle.plans.specs.declared.plan.Plan.{Plan}
 use Rattle.plan_scripts.specs.declared.refusal.Refusal.{Refusal}
 use Rattle.plan_scripts.specs.declared.format.Format.TheVariants.{Ninja}
 use Rattle.plan_scripts.specs.CommandText.{assignment, env_words, command_text}
-use Rattle.plan_scripts.specs.Judging.{holds, holds_text, holds_variables, holds_command, judged_command, judged_group, judged_groups, and_then}
+use Rattle.plan_scripts.specs.Judging.{holds_text, holds_variables, holds_command, judged_command, judged_group, judged_groups, and_then}
 use Rattle.plan_scripts.specs.Script.{unless_refused}
 use Rattle.plans.specs.Reasons.{reason_name}
-use Rattle.plan_exports.specs.Graph.{escaped_char, escaped, stamp, stamp_below, stamp_path, runner, touch, edge_command, edge_line, edge, places_in, places_from, plan_places, place_at, stamp_at, stamps_at, depended, waits, awaited, edges_from as written_edges, group_edges, comment, rule, head, graph, holds_dropped, judged_rest, ninja_answer}
+use Rattle.plan_exports.specs.Graph.{escaped, stamp, stamp_below, stamp_path, runner, touch, edge_command, edge_line, edge, places_in, places_from, plan_places, place_at, stamp_at, stamps_at, depended, waits, awaited, edges_from as written_edges, group_edges, comment, head, graph, holds_dropped, judged_rest, ninja_answer}
 use Rattle.plan_exports.specs.Scripts.{stamps_of}
 use Rattle.plan_scripts.specs.ReadBack.{IsOfTexts}
-use Rattle.plan_exports.specs.ReadGraph.{parts_at, behind, Edge, path_of, head_parts, head_behind, with_edge, edges_from, edges_in, edges_of_lines, edges_of, path_at, place_path, awaited_paths, edge_at, edges_at, plan_commands, plan_edges, IsDroppedText}
+use Rattle.plan_exports.specs.ReadGraph.{parts_at, behind, Edge, path_of, head_behind, edges_from, edges_of, path_at, place_path, awaited_paths, edges_at, plan_commands, plan_edges, IsDroppedText}
 use Rattle.command_files.specs.Order.{needs_at}
 use Rattle.command_files.specs.PlanNeeds.{plan_needs}
 use Rattle.texts.proofs.NumeralLemmas.{utf8-numeral}
@@ -36,10 +36,7 @@ use Rattle.plan_exports.proofs.ValueLemmas.{value_reads_back}
 
 pub lacks-parts : (byte : ℕ) (front back : List ℕ) → lacks byte (front ++ back) ≡ true → (lacks byte front ≡ true) × (lacks byte back ≡ true)
 lacks-parts byte [] back h = (refl, h)
-lacks-parts byte (c ∷ front) back h =
-    let parts = and_parts (not (eqb c byte)) (lacks byte (front ++ back)) h in
-    let rest = lacks-parts byte front back parts.1 in
-    grind (arith, and_from)
+lacks-parts byte (c ∷ front) back h = grind (arith, and_from, (lacks-parts byte front back))
 
 -- a byte below 128 stands in no other character's bytes
 lacks-encode : (byte c : ℕ) → byte < 128 → eqb c byte ≡ false → lacks byte (encode c) ≡ true
@@ -50,27 +47,19 @@ lacks-encode byte c ascii other =
 lacks-encodes : (byte : ℕ) (cs : List ℕ) → byte < 128 → lacks byte cs ≡ true → lacks byte (encode_utf8_all cs) ≡ true
 lacks-encodes byte [] ascii h = refl
 lacks-encodes byte (c ∷ cs) ascii h =
-    let parts = and_parts (not (eqb c byte)) (lacks byte cs) h in
-    grind (arith, lacks-append, lacks-encode, not-true, (lacks-encodes byte cs ascii parts.1))
-
--- the character whose bytes lack a byte below 128 is another one
-other-char : (byte c : ℕ) (b : Bool) → eqb c byte ≡ b → byte < 128 → lacks byte (encode c) ≡ true → not b ≡ true
-other-char byte c b is ascii h = grind (arith, eqb-true, encode_ascii, false≢true, eq-eqb)
+    grind (arith, lacks-append, lacks-encode, not-true, (lacks-encodes byte cs ascii))
 
 pub lacks-encoded : (byte : ℕ) (cs : List ℕ) → byte < 128 → lacks byte (encode_utf8_all cs) ≡ true → lacks byte cs ≡ true
 lacks-encoded byte [] ascii h = refl
 lacks-encoded byte (c ∷ cs) ascii h =
-    let parts = lacks-parts byte (encode c) (encode_utf8_all cs) h in
-    grind (arith, and_from, other-char, (lacks-encoded byte cs ascii parts.1))
+    grind (arith, lacks-parts, and_from, (lacks-encoded byte cs ascii), eqb-true, encode_ascii, false≢true, eq-eqb)
 
 lacks-chars : (text : List ℕ) → IsUtf8 text → lacks 10 text ≡ true → lacks 10 (chars text) ≡ true
 lacks-chars text is h = lacks-encoded 10 (chars text) (omega arith) (subst (λ t. lacks 10 t ≡ true) (sym (encodes-chars text is)) h)
 
 lacks-flat : (f : ℕ → List ℕ) (cs : List ℕ) → ((c : ℕ) → eqb c 10 ≡ false → lacks 10 (f c) ≡ true) → lacks 10 cs ≡ true → lacks 10 (flat_map f cs) ≡ true
 lacks-flat f [] each h = refl
-lacks-flat f (c ∷ cs) each h =
-    let parts = and_parts (not (eqb c 10)) (lacks 10 cs) h in
-    grind (arith, lacks-append, not-true, (lacks-flat f cs each parts.1))
+lacks-flat f (c ∷ cs) each h = grind (arith, lacks-append, not-true, (lacks-flat f cs each))
 
 lacks-one : (c : ℕ) → eqb c 10 ≡ false → lacks 10 (c ∷ []) ≡ true
 lacks-one c other = and_from (not (eqb c 10)) true (ap not other) refl
@@ -150,17 +139,11 @@ line-path tmp group place is =
 
 pub held-text : (text : List ℕ) → holds_text Ninja text ≡ true → lacks 10 text ≡ true
 held-text [] h = refl
-held-text (c ∷ cs) h =
-    let parts = and_parts (holds Ninja c) (list_all (holds Ninja) cs) h in
-    let one = and_parts (not (eqb c 0)) (not (eqb c 10) && not (eqb c 13)) parts.0 in
-    let two = and_parts (not (eqb c 10)) (not (eqb c 13)) one.1 in
-    grind (arith, and_from, (held-text cs parts.1))
+held-text (c ∷ cs) h = grind (arith, and_from, (held-text cs))
 
 held-words : (words : List (List ℕ)) → AllByRecursion IsUtf8 words → list_all (holds_text Ninja) words ≡ true → AllByRecursion IsLine words
 held-words [] are h = tt
-held-words (word ∷ words) are h =
-    let parts = and_parts (holds_text Ninja word) (list_all (holds_text Ninja) words) h in
-    grind (arith, held-text, (held-words words are.1 parts.1))
+held-words (word ∷ words) are h = grind (arith, held-text, (held-words words are.1))
 
 held-variables : (variables : List (List ℕ × List ℕ)) → AllByRecursion (λ p. IsUtf8 p.0 × IsUtf8 p.1) variables → holds_variables Ninja variables ≡ true → AllByRecursion IsLine (map assignment variables)
 unfolding lib.Utf8.encode
@@ -201,13 +184,11 @@ line-edge tmp group place c is are h =
 parts-onto : (byte : ℕ) (front text first : List ℕ) (parts : List (List ℕ)) → lacks byte front ≡ true → parts_at byte text ≡ first ∷ parts → parts_at byte (front ++ text) ≡ (front ++ first) ∷ parts
 parts-onto byte [] text first parts h e = e
 parts-onto byte (c ∷ front) text first parts h e =
-    let both = and_parts (not (eqb c byte)) (lacks byte front) h in
-    grind (arith, not-true, (parts-onto byte front text first parts both.1 e))
+    grind (arith, not-true, (parts-onto byte front text first parts))
 
 pub parts-past : (byte : ℕ) (part rest : List ℕ) → lacks byte part ≡ true → parts_at byte (part ++ byte ∷ rest) ≡ part ∷ parts_at byte rest
 parts-past byte part rest h =
-    let seam : parts_at byte (byte ∷ rest) ≡ [] ∷ parts_at byte rest = rw (eq-eqb byte byte refl) refl in
-    parts-onto byte part (byte ∷ rest) [] (parts_at byte rest) h seam ∙ ap (λ p. p ∷ parts_at byte rest) (append-nil part)
+    parts-onto byte part (byte ∷ rest) [] (parts_at byte rest) h (rw (eq-eqb byte byte refl) refl) ∙ ap (λ p. p ∷ parts_at byte rest) (append-nil part)
 
 parts-end : (byte : ℕ) (part : List ℕ) → lacks byte part ≡ true → parts_at byte part ≡ part ∷ []
 parts-end byte part h = ap (parts_at byte) (sym (append-nil part)) ∙ parts-onto byte part [] [] [] h refl ∙ ap (λ p. p ∷ []) (append-nil part)
@@ -232,10 +213,7 @@ lacks-stamps byte (p ∷ ps) each = lacks-append byte (stamp_below p.0 p.1) (sta
 parts-stamps : (ps : List (ℕ × ℕ)) (tail : List ℕ) (more : List (List ℕ)) → parts_at 32 tail ≡ [] ∷ more → parts_at 32 (stamps_of ps ++ tail) ≡ [] ∷ (map place_text ps ++ more)
 parts-stamps [] tail more found = found
 parts-stamps (p ∷ ps) tail more found =
-    ap (parts_at 32) (append_assoc (stamp_below p.0 p.1) (stamps_of ps) tail)
-    ∙ ap (λ parts. [] ∷ parts)
-    (parts-onto 32 (place_text p) (stamps_of ps ++ tail) [] (map place_text ps ++ more) (stamp-no_blank p.0 p.1) (parts-stamps ps tail more found)
-    ∙ ap (λ t. t ∷ (map place_text ps ++ more)) (append-nil (place_text p)))
+    grind (arith, append_assoc, parts-onto, stamp-no_blank, append-nil, (parts-stamps ps tail more found))
 
 paths-stamps : (tmp : List ℕ) (ps : List (ℕ × ℕ)) (more : List (List ℕ)) → map (path_of tmp) (map place_text ps ++ more) ≡ map (place_path tmp) ps ++ map (path_of tmp) more
 paths-stamps tmp [] more = refl
@@ -285,11 +263,7 @@ value_line text = codes "  line = " ++ escaped text
 
 -- the lines of an edge, before further ones
 edge-lines : (output needs text rest : List ℕ) → (codes "build " ++ (output ++ (codes ": run" ++ (needs ++ edge_line text)))) ++ rest ≡ build_line output needs ++ 10 ∷ (value_line text ++ 10 ∷ rest)
-edge-lines output needs text rest =
-    ap (λ t. codes "build " ++ t)
-    (append_assoc output (codes ": run" ++ (needs ++ edge_line text)) rest
-    ∙ ap (λ t. output ++ (codes ": run" ++ t)) (append_assoc needs (edge_line text) rest ∙ ap (λ t. needs ++ (codes "\n  line = " ++ t)) (append_assoc (escaped text) (10 ∷ []) rest))
-    ∙ sym (append_assoc output (codes ": run" ++ needs) (10 ∷ (value_line text ++ 10 ∷ rest))))
+edge-lines output needs text rest = simp append_assoc
 
 head-read : (tmp output needs : List ℕ) (paths : List (List ℕ)) → lacks 58 output ≡ true → IsNeeds tmp needs paths →
     head_behind tmp (behind (codes "build ") (build_line output needs)) ≡ Some (path_of tmp output, paths)
@@ -351,32 +325,16 @@ groups-read : (tmp : List ℕ) (places : List (ℕ × ℕ)) (last : Option (ℕ 
     edges_from tmp None (parts_at 10 (group_edges tmp places last group needs groups ++ rest)) ≡ Some (all_edges_of tmp places last group needs groups ++ es)
 groups-read tmp places last group needs [] rest es is are h found = found
 groups-read tmp places last group needs (commands ∷ groups) rest es is are h found =
-    let judged = then-both (judged_group Ninja commands) (judged_groups Ninja groups) h in
-    let behind_these = drop (length commands) needs in
-    let more = group_edges tmp places last (group + 1) behind_these groups in
-    let edges = all_edges_of tmp places last (group + 1) behind_these groups in
-    ap (λ t. edges_from tmp None (parts_at 10 t)) (append_assoc (written_edges tmp places last group 0 needs commands) more rest)
-    ∙ group-read tmp places last group 0 needs commands (more ++ rest) (edges ++ es) is are.0 judged.0 (groups-read tmp places last (group + 1) behind_these groups rest es is are.1 judged.1 found)
-    ∙ ap Some (sym (append_assoc (group_edges_of tmp places last group 0 needs commands) edges es))
+    grind (arith, append_assoc, group-read, then-both, (groups-read tmp places last (group + 1) (drop (length commands) needs) groups rest es is are.1))
 
 -- ---- the same edges by the numbers of commands
-
--- an edge of a command whose place and needs are those of its number
-edge-numbered : (tmp : List ℕ) (places : List (ℕ × ℕ)) (last : Option (ℕ × ℕ)) (needs : List (List ℕ)) (group place n : ℕ) (numbers : List ℕ) (c : NvccGeneratedSubcommand) →
-    place_at places n ≡ (group, place) → numbers ≡ needs_at needs n → edge_of tmp places group place (waits last group place) numbers c ≡ edge_at tmp places last needs n c
-edge-numbered tmp places last needs group place n numbers c at same = grind arith
 
 group-numbered : (tmp : List ℕ) (places : List (ℕ × ℕ)) (last : Option (ℕ × ℕ)) (needs : List (List ℕ)) (group place n : ℕ) (commands : List NvccGeneratedSubcommand) (front more : List (ℕ × ℕ)) →
     places ≡ front ++ (places_in group place commands ++ more) → length front ≡ n + place →
     group_edges_of tmp places last group place (drop n needs) commands ≡ edges_at tmp places last needs (n + place) commands
 group-numbered tmp places last needs group place n [] front more are long = refl
 group-numbered tmp places last needs group place n (c ∷ commands) front more are long =
-    let later = places_in group (place + 1) commands ++ more in
-    let at : place_at places (n + place) ≡ (group, place) = ap (λ ps. place_at ps (n + place)) are ∙ get_or_at front (group, place) later (0, 0) (n + place) long in
-    let next : places ≡ (front ++ (group, place) ∷ []) ++ later = are ∙ sym (append_assoc front ((group, place) ∷ []) later) in
-    let longer : length (front ++ (group, place) ∷ []) ≡ n + (place + 1) = length_push front (group, place) ∙ omega (arith, long) in
-    let step : n + (place + 1) ≡ n + place + 1 = omega arith in
-    grind (arith, edge-numbered, get_or-drop, (group-numbered tmp places last needs group (place + 1) n commands (front ++ (group, place) ∷ []) more next longer))
+    grind (arith, get_or_at, append_assoc, length_push, get_or-drop, (group-numbered tmp places last needs group (place + 1) n commands (front ++ (group, place) ∷ []) more))
 
 edges-append : (tmp : List ℕ) (places : List (ℕ × ℕ)) (last : Option (ℕ × ℕ)) (needs : List (List ℕ)) (n : ℕ) (xs ys : List NvccGeneratedSubcommand) →
     edges_at tmp places last needs n (xs ++ ys) ≡ edges_at tmp places last needs n xs ++ edges_at tmp places last needs (n + length xs) ys
@@ -439,9 +397,7 @@ comments-read tmp (d ∷ dropped) are h =
 -- ---- the file
 
 head-lines : (tmp rest : List ℕ) → IsLine tmp → parts_at 10 (head tmp ++ rest) ≡ (codes "tmp = " ++ escaped tmp) ∷ codes "builddir = ${tmp}" ∷ codes "rule run" ∷ codes "  command = ${line} || { code=$$?; echo $$code > ${out}.status; exit $$code; }" ∷ parts_at 10 rest
-head-lines tmp rest is =
-    ap (λ t. parts_at 10 (codes "tmp = " ++ t)) (append_assoc (escaped tmp) rule rest)
-    ∙ parts-past 10 (codes "tmp = " ++ escaped tmp) (codes "builddir = ${tmp}\nrule run\n  command = ${line} || { code=$$?; echo $$code > ${out}.status; exit $$code; }\n" ++ rest) (lacks-append 10 (codes "tmp = ") (escaped tmp) refl (line-escaped tmp is))
+head-lines tmp rest is = simp (append_assoc, parts-past, lacks-append, line-escaped)
 
 -- the edges of a plan's commands, and the comments behind them
 pub plan-reads : (tmp : List ℕ) (last : Option (ℕ × ℕ)) (plan : Plan) → IsLine tmp → AllByRecursion (AllByRecursion IsOfTexts) plan.groups → AllByRecursion IsDroppedText plan.dropped →

@@ -1,20 +1,20 @@
 -- What Ninja does with a file that runs each command by a script is that for each command of the plan.
-use Rattle.std.proofs.Common.{ℕ, List, [], ◌∷◌, ◌++◌, ◌≡◌, refl, sym, ap, ◌∙◌, append_assoc, append-nil, map, Bool, true, false, ◌&&◌, Option, Some, None, Ok, Err, codes, IsUtf8, arith}
+use Rattle.std.proofs.Common.{ℕ, List, [], ◌∷◌, ◌++◌, ◌≡◌, refl, ap, ◌∙◌, append_assoc, append-nil, map, Bool, true, false, Option, Some, None, Ok, codes, IsUtf8, arith}
 use Rattle.std.specs.List.{AllByRecursion, flat_map, list_all}
-use Rattle.std.proofs.lemmas.Bool.{and_parts, cond_both}
+use Rattle.std.proofs.lemmas.Bool.{and_parts}
 use Rattle.texts.specs.Path.{lacks}
 use Rattle.texts.proofs.PathLemmas.{lacks-append}
 use Rattle.shell_words.specs.Shell.Quoting.{written}
 use Rattle.plans.specs.declared.plan.NvccGeneratedSubcommand.{NvccGeneratedSubcommand}
 use Rattle.plans.specs.declared.plan.Plan.{Plan}
-use Rattle.command_files.specs.PlanNeeds.{plan_needs, preprocesses}
+use Rattle.command_files.specs.PlanNeeds.{plan_needs}
 use Rattle.plan_scripts.specs.declared.format.Format.TheVariants.{Ninja}
-use Rattle.plan_scripts.specs.Judging.{holds_text, holds_variables, holds_command, judged_command, judged_group, judged_groups, and_then}
-use Rattle.plan_exports.specs.Graph.{escaped, plan_places, depended, group_edges, comment, holds_dropped, judged_rest}
-use Rattle.plan_exports.specs.Scripts.{plan_preprocessors, program_in, or_text, first_program, stamps_of, head_with, depend_command, depend_text, waiting, script_graph, judged_slot, scripts_answer}
+use Rattle.plan_scripts.specs.Judging.{holds_text, holds_command, judged_group, judged_groups}
+use Rattle.plan_exports.specs.Graph.{escaped, plan_places, depended, group_edges, comment, holds_dropped}
+use Rattle.plan_exports.specs.Scripts.{plan_preprocessors, program_in, first_program, stamps_of, head_with, depend_command, depend_text, waiting, script_graph, judged_slot, scripts_answer}
 use Rattle.plan_scripts.specs.ReadBack.{IsOfTexts}
 use Rattle.plan_exports.specs.ReadGraph.{Edge, IsDroppedText, parts_at, edges_from, edges_in, edges_of_lines, edges_of, place_path, edges_at, plan_commands}
-use Rattle.plan_exports.specs.ReadScripts.{ninja_word, without_blanks, Rule, rule_with, rule_of, before_runs, run_by, runs_by, runs_in, runs_of, run_of, depend_edges, script_edges}
+use Rattle.plan_exports.specs.ReadScripts.{without_blanks, Rule, rule_of, runs_by, runs_in, runs_of, run_of, depend_edges, script_edges}
 use Rattle.plan_exports.proofs.ReadGraphLemmas.{IsLine, line-append, line-written, line-escaped, held-text, held-command, then-both, held-rest, unrefused, parts-past, stamp-no_newline, lacks-stamps, needs-stamps, any-edge-read, plan-reads}
 use Rattle.plan_exports.proofs.ValueLemmas.{value_reads_back}
 
@@ -29,18 +29,11 @@ held-program c h = grind (arith, and_parts, held-text)
 
 program-line : (commands : List NvccGeneratedSubcommand) → judged_group Ninja commands ≡ Ok tt → LacksEnd (program_in commands)
 program-line [] h = tt
-program-line (c ∷ commands) h =
-    let judged = then-both (judged_command Ninja c) (judged_group Ninja commands) h in
-    grind (arith, cond_both, held-program, held-command, (program-line commands judged.1))
-
-or-line : (first : Option (List ℕ)) (other : List ℕ) → LacksEnd first → lacks 10 other ≡ true → lacks 10 (or_text first other) ≡ true
-or-line first other h k = grind arith
+program-line (c ∷ commands) h = grind (arith, then-both, held-program, held-command, (program-line commands))
 
 first-program-line : (groups : List (List NvccGeneratedSubcommand)) → judged_groups Ninja groups ≡ Ok tt → lacks 10 (first_program groups) ≡ true
 first-program-line [] h = refl
-first-program-line (commands ∷ groups) h =
-    let judged = then-both (judged_group Ninja commands) (judged_groups Ninja groups) h in
-    grind (arith, or-line, program-line, (first-program-line groups judged.1))
+first-program-line (commands ∷ groups) h = grind (arith, then-both, program-line, (first-program-line groups))
 
 -- ---- the first lines
 
@@ -89,12 +82,9 @@ rule-read : (tmp slot stamps program : List ℕ) (lines : List (List ℕ)) → I
     ≡ Some (the_rule slot)
 rule-read tmp slot stamps program lines is = simp value_reads_back
 
-run-read : (slot : List ℕ) (edge : Edge) → run_by (the_rule slot) edge ≡ Some (run_of (without_blanks slot) edge)
-run-read slot edge = simp append-nil
-
 runs-read : (slot : List ℕ) (edges : List Edge) → runs_by (the_rule slot) edges ≡ Some (map (run_of (without_blanks slot)) edges)
 runs-read slot [] = refl
-runs-read slot (edge ∷ edges) = grind (arith, run-read, (runs-read slot edges))
+runs-read slot (edge ∷ edges) = grind (arith, (runs-read slot edges), append-nil)
 
 -- ---- the edges
 

@@ -1,7 +1,7 @@
 -- A value is read as the text that it was written of.
-use Rattle.std.proofs.Common.{ℕ, List, [], ◌∷◌, ◌++◌, ◌≡◌, refl, sym, ap, ◌∙◌, Some, true, false, ◌==◌, ◌&&◌, encode_utf8_all, flat_map, option_map, IsUtf8, chars, arith}
+use Rattle.std.proofs.Common.{ℕ, List, [], ◌∷◌, ◌++◌, ◌≡◌, refl, Some, true, false, flat_map, IsUtf8, arith}
 use Rattle.std.proofs.Math.Utf8.{scalars}
-use Rattle.std.proofs.lemmas.Bool.{cond_both, cond-false, and_parts, eqb-true}
+use Rattle.std.proofs.lemmas.Bool.{cond_both, cond-false, eqb-true}
 use Rattle.std.proofs.lemmas.Str.{chars-encodes, encodes-chars, scalars-chars}
 use Rattle.plan_exports.specs.Graph.{escaped_char, escaped}
 use Rattle.plan_exports.specs.ReadValue.{value_from, value_of}
@@ -9,9 +9,7 @@ use Rattle.plan_scripts.proofs.TextLemmas.{scalars_append}
 
 scalars_escaped : (cs : List ℕ) → scalars cs ≡ true → scalars (flat_map escaped_char cs) ≡ true
 scalars_escaped [] are = refl
-scalars_escaped (c ∷ cs) are =
-    let parts = and_parts _ (scalars cs) are in
-    grind (arith, scalars_append, cond_both, scalars, (scalars_escaped cs parts.1))
+scalars_escaped (c ∷ cs) are = grind (arith, scalars_append, (scalars_escaped cs))
 
 char_read : (c : ℕ) (rest read : List ℕ) → value_from false rest ≡ Some read → value_from false (escaped_char c ++ rest) ≡ Some (c ∷ read)
 char_read c rest read found = grind (arith, cond_both, eqb-true, cond-false)

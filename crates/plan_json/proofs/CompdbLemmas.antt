@@ -76,11 +76,9 @@ database_plain plan = plain_from (length plan.groups) 0 plan.groups
 -- what is written of a value with a plan's database
 pub database_text : (plan : Plan) (d : Data) (text : List ℕ) → d ≡ database plan → (has_float d ≡ false → text ≡ compact_text d) → text ≡ compact_text (database plan)
 database_text plan d text same written =
-    let of_plan : has_float (database plan) ≡ false → text ≡ compact_text (database plan) = subst (λ d. has_float d ≡ false → text ≡ compact_text d) same written in
-    of_plan (database_plain plan).float_free
+    (subst (λ d. has_float d ≡ false → text ≡ compact_text d) same written) (database_plain plan).float_free
 
 pub database_reads_back : (plan : Plan) (d : Data) (text : List ℕ) → d ≡ database plan → (depth d ≤ max_depth → read text ≡ Some d) → read text ≡ Some (database plan)
 database_reads_back plan d text same written =
-    let of_plan : depth (database plan) ≤ max_depth → read text ≡ Some (database plan) = subst (λ d. depth d ≤ max_depth → read text ≡ Some d) same written in
     let within : items_depth (items_of (records_from (length plan.groups) 0 plan.groups)) ≤ 2 = (database_plain plan).within in
     grind arith

@@ -1,5 +1,5 @@
 -- A plan's data has no float and nests no deeper than a text that is read may.
-use Rattle.std.proofs.Common.{◌≡◌, ℕ, ◌+◌, ◌≤◌, List, [], ◌∷◌, ◌++◌, length, false, Some, refl, subst, arith}
+use Rattle.std.proofs.Common.{◌≡◌, ℕ, ◌+◌, ◌≤◌, List, [], ◌∷◌, ◌++◌, length, false, Some, refl, arith}
 use Rattle.plans.specs.declared.origins.Origin.{Origin}
 use Rattle.plans.specs.declared.plan.NvccGeneratedSubcommand.{NvccGeneratedSubcommand}
 use Rattle.plans.specs.declared.plan.Dropped.{Dropped}
@@ -64,11 +64,8 @@ groups_float_free : (known : Known) (id group : ℕ) (groups : List (List NvccGe
 groups_float_free known id group [] = refl
 groups_float_free known id group (commands ∷ groups) = simp (group_float_free, (groups_float_free known (id + length commands) (group + 1) groups))
 
-dropped_float_free : (d : Dropped) → has_float (dropped_data d) ≡ false
-dropped_float_free d = neither (texts_float_free d.args) refl
-
 pub plan_float_free : (d : Described) → has_float (data_of d) ≡ false
-plan_float_free d = simp (neither, groups_float_free, items_float_free, dropped_float_free)
+plan_float_free d = simp (neither, groups_float_free, items_float_free)
 
 -- what is written of a value with a plan's data
 pub exact_text : (plan : Described) (d : Data) (text : List ℕ) → d ≡ data_of plan → (has_float d ≡ false → text ≡ compact_text d) → text ≡ compact_text (data_of plan)

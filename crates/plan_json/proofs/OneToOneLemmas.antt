@@ -1,5 +1,5 @@
 -- A plan is read back from its data.
-use Rattle.std.proofs.Common.{◌≡◌, ℕ, suc, zero, ◌+◌, ◌-◌, ◌<◌, ◌^◌, ◌==◌, List, [], ◌∷◌, ◌++◌, map, length, drop, Bool, true, false, cond, refl, sym, ap, ◌∙◌, arith, eq-eqb, ne_eqb, codes, add-one, filter, if◌then◌else◌, bytes_eq}
+use Rattle.std.proofs.Common.{◌≡◌, ℕ, suc, zero, ◌+◌, ◌-◌, ◌<◌, ◌^◌, ◌==◌, List, [], ◌∷◌, ◌++◌, map, length, drop, Bool, true, false, refl, sym, ap, ◌∙◌, arith, eq-eqb, codes, add-one, filter, if◌then◌else◌, bytes_eq}
 use Rattle.std.specs.List.{AllByRecursion, flat_map}
 use Rattle.compilers.specs.declared.command.Cacheable.{Cacheable}
 use Rattle.compilers.specs.declared.command.Cacheable.TheVariants.{Yes, No}
@@ -11,7 +11,7 @@ use Rattle.plans.specs.declared.plan.Reason.TheVariants.{NotCuda, NoCiccGroup, N
 use Rattle.plans.specs.Reasons.{reason_name}
 use Rattle.serde_json.specs.Data.{Num, unsigned, negative, float, Data, null, boolean, number, string, array, object, Items, no_items, item, Members, no_members, member}
 use Rattle.serde_json.specs.View.{items_of}
-use Rattle.plan_json.specs.Json.{variable_data, is_cacheable, from_one, Known, origin_at, command_at, dropped_data, Described, known_of, data_of}
+use Rattle.plan_json.specs.Json.{variable_data, is_cacheable, from_one, Known, origin_at, command_at, dropped_data, Described, data_of}
 use Rattle.command_files.specs.Numbered.{of_group, of_groups}
 use Rattle.plan_json.specs.OneToOne.{IsDescribed}
 
@@ -190,7 +190,6 @@ module _ (known : Known) (all : AllByRecursion Fits known.origins) where
   joined_origins : (n m id : ℕ) → origins_from known.origins n id ++ origins_from known.origins m (id + n) ≡ origins_from known.origins (n + m) id
   joined_origins zero m id = grind arith
   joined_origins (suc n) m id =
-      let further : id + suc n ≡ suc id + n = omega arith in
       let more : suc (n + m) ≡ suc n + m = omega arith in
       grind (arith, (joined_origins n m (suc id)))
 

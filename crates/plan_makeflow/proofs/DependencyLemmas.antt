@@ -1,5 +1,5 @@
 -- Rules wait as commands need each other, and name the files that commands hand on.
-use Rattle.std.proofs.Common.{◌≡◌, ℕ, zero, suc, ◌+◌, ◌<◌, List, [], ◌∷◌, ◌++◌, Bool, true, false, cond, not, ◌&&◌, ◌==◌, nat_lt, nat_eq, Option, Some, None, map, length, get_or, refl, sym, ap, subst, ◌∙◌, arith, codes, option_and_then, bytes_eq}
+use Rattle.std.proofs.Common.{◌≡◌, ℕ, zero, suc, ◌+◌, ◌<◌, List, [], ◌∷◌, ◌++◌, Bool, true, false, cond, not, ◌&&◌, ◌==◌, nat_eq, Option, Some, None, map, length, get_or, refl, sym, ap, subst, ◌∙◌, arith, codes, option_and_then, bytes_eq}
 use Rattle.std.specs.Bool.{one_answer}
 use Rattle.std.specs.List.{flat_map, starts_with}
 use Rattle.std.proofs.lemmas.Bool.{false≢true, and_parts, eqb-true, eq-eqb, ltb-true, lt-ltb}
@@ -17,7 +17,7 @@ use Rattle.command_files.specs.CommandFiles.{unknown_files}
 use Rattle.command_files.specs.Files.{is_among, share}
 use Rattle.command_files.specs.Numbered.{of_group, of_groups}
 use Rattle.command_files.specs.Order.{is_in, needs_at}
-use Rattle.command_files.specs.PlanNeeds.{steps_from, step_of, step_needs, plan_steps, plan_files, plan_needs}
+use Rattle.command_files.specs.PlanNeeds.{steps_from, step_needs, plan_steps, plan_files, plan_needs}
 use Rattle.command_files.proofs.OrderLemmas.{in_either, in_first, in_second, in_both}
 use Rattle.command_files.proofs.NeedLemmas.{needs_each, needs_earlier}
 use Rattle.plan_makeflow.specs.declared.facts.Side.{Side}
@@ -78,12 +78,9 @@ split tmp path name e = first (rest_after tmp path) refl e
     first None is found = absurd cc
     first (Some rest) is found = second rest (rest_after (codes "/") rest) is refl found
 
-stamp_begins : (n : ℕ) → starts_with nat_eq (stamp n) (codes "zigrunk.") ≡ true
-stamp_begins n = refl
-
 stamp_unnamed : (tmp path name : List ℕ) (n : ℕ) → name_in tmp path ≡ Some name → name ≡ stamp n → ⊥
 stamp_unnamed tmp path name n e same =
-    false≢true (sym (split tmp path name e).no_stamp ∙ ap (λ t. starts_with nat_eq t (codes "zigrunk.")) same ∙ stamp_begins n)
+    false≢true (sym (split tmp path name e).no_stamp ∙ ap (λ t. starts_with nat_eq t (codes "zigrunk.")) same ∙ refl)
 
 stamp_same : (m n : ℕ) → stamp m ≡ stamp n → m ≡ n
 stamp_same m n e = numeral-same m n (append_cancel_left (codes "zigrunk.") (numeral m) (numeral n) e)
@@ -272,12 +269,8 @@ rules_counted tmp plan = simp (groups_numbered, length_numbered, length_steps)
 
 rule_found : (tmp : List ℕ) (plan : Plan) (n : ℕ) → n < length (plan_steps plan) → At (known_of tmp plan) n (rule_numbered tmp plan n)
 rule_found tmp plan n h =
-    let known = known_of tmp plan in
-    let commands = flat_map (λ cs. cs) plan.groups in
-    let size : length (plan_steps plan) ≡ length commands = length_steps (length plan.groups) 0 plan.groups in
     let here : 0 + n ≡ n = omega arith in
-    let found = numbered_at known 0 n commands (omega arith) in
-    grind (arith, groups_numbered)
+    grind (arith, groups_numbered, numbered_at, length_steps)
 
 targets_are : (tmp : List ℕ) (plan : Plan) (n : ℕ) → n < length (plan_steps plan) → (rule_numbered tmp plan n).targets ≡ targets (known_of tmp plan) n
 targets_are tmp plan n h = ap (λ r. r.targets) (rule_found tmp plan n h).is

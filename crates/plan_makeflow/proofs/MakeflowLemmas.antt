@@ -23,10 +23,8 @@ plan_float_free tmp plan = neither (items_float_free rule_data rule_float_free (
 -- what is written of a value with a plan's data
 pub exact_text : (tmp : List ℕ) (plan : Plan) (d : Data) (text : List ℕ) → d ≡ makeflow_data tmp plan → (has_float d ≡ false → text ≡ compact_text d) → text ≡ compact_text (makeflow_data tmp plan)
 exact_text tmp plan d text same written =
-    let of_plan : has_float (makeflow_data tmp plan) ≡ false → text ≡ compact_text (makeflow_data tmp plan) = subst (λ d. has_float d ≡ false → text ≡ compact_text d) same written in
-    of_plan (plan_float_free tmp plan)
+    (subst (λ d. has_float d ≡ false → text ≡ compact_text d) same written) (plan_float_free tmp plan)
 
 pub text_reads_back : (tmp : List ℕ) (plan : Plan) (d : Data) (text : List ℕ) → d ≡ makeflow_data tmp plan → (depth d ≤ max_depth → read text ≡ Some d) → read text ≡ Some (makeflow_data tmp plan)
 text_reads_back tmp plan d text same written =
-    let of_plan : depth (makeflow_data tmp plan) ≤ max_depth → read text ≡ Some (makeflow_data tmp plan) = subst (λ d. depth d ≤ max_depth → read text ≡ Some d) same written in
-    of_plan (plan_within tmp plan)
+    (subst (λ d. depth d ≤ max_depth → read text ≡ Some d) same written) (plan_within tmp plan)

@@ -1,5 +1,5 @@
 -- A group's account, command by command.
-use Rattle.std.proofs.Common.{◌≡◌, ℕ, ◌+◌, List, [], ◌∷◌, ◌++◌, Bool, true, false, not, ◌&&◌, ltb, refl, ap, sym, ◌∙◌, map, subst, append_assoc, MatchBool, Result, Ok, Err, ℤ, pos, negsuc, zero, suc, ◌↔◌, arith, fold, IsTrue, IfOk, IsErr, MatchResult, ne_eqb}
+use Rattle.std.proofs.Common.{◌≡◌, ℕ, ◌+◌, List, [], ◌∷◌, ◌++◌, Bool, true, false, not, ◌&&◌, ltb, refl, ap, sym, ◌∙◌, map, subst, append_assoc, MatchBool, Result, ℤ, pos, ◌↔◌, arith, fold, IsTrue, IfOk, IsErr, MatchResult, ne_eqb}
 use Rattle.std.proofs.lemmas.List.{append-nil, map-append}
 use Rattle.std.proofs.lemmas.List.Sums.{fold-append}
 use Rattle.std.specs.declared.alloc.AllocError.{AllocError}
@@ -86,11 +86,8 @@ more-left group index (e ∷ f ∷ es) c rest h = grind arith
 pub group-cut : (before middle after : List AccountEntry) (group index : ℕ) (c : NvccGeneratedSubcommand) (rest commands : List NvccGeneratedSubcommand) (output joined : Output)
     → GroupSoFar before middle group index (c ∷ rest) commands output joined → Gains middle after (λ account. OfGroup false group index account (c ∷ []))
     → Gains before after (λ account. OfGroup false group 0 account commands)
-group-cut before middle after group index c rest commands output joined s more = (
-  s.account ++ more.0,
-  more.1 ∙ ap (λ l. l ++ more.0) s.gained ∙ append_assoc before s.account more.0,
-  s.whole false more.0 (more-left group index more.0 c rest more.2),
-)
+group-cut before middle after group index c rest commands output joined s more =
+    grind (arith, append_assoc, more-left)
 
 -- memory was refused for the joined output
 pub group-cut_joining : (before middle after : List AccountEntry) (group index : ℕ) (c : NvccGeneratedSubcommand) (rest commands : List NvccGeneratedSubcommand) (output joined : Output)

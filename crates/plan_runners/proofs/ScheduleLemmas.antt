@@ -16,7 +16,7 @@ use Rattle.texts.specs.Endings.{is_success}
 use Rattle.plan_runners.specs.Outcome.{aggregated, empty_success, all_aggregated}
 use Rattle.plan_runners.specs.Running.{step_at, OfGroup}
 use Rattle.plan_runners.proofs.RunningLemmas.{GroupEnds}
-use Rattle.plan_runners.specs.Schedule.{Step, AccountEntry, steps_of_group, steps_from, steps, output_of_entry, output_of_account, fails, step_of, depends_on, is_due, chunk_size, chunk_of, outcome_of, Gains}
+use Rattle.plan_runners.specs.Schedule.{Step, AccountEntry, steps_of_group, steps_from, steps, output_of_entry, output_of_account, fails, step_of, depends_on, is_due, chunk_of, outcome_of, Gains}
 
 -- A fact of each item of a list.
 abbrev pub Each : {X : Type 0} → (X → Type 0) → List X → Type 0
@@ -68,9 +68,6 @@ of_group to_end group index (e ∷ es) (c ∷ cs) h = grind (arith, each-map, (o
 quiet : (a b c f : Bool) → (a && b) ≡ false → c ≡ false → (((a && b) || c) && f) ≡ false
 quiet a b c f own other = (λ i. (own i || other i) && f)
 
-quiet_if_failed : (a b c f : Bool) → a ≡ false → (f ≡ true → c ≡ false) → (((a && b) || c) && f) ≡ false
-quiet_if_failed a b c f other h = grind (arith, quiet, and_right)
-
 loud : (a b c f : Bool) → a ≡ true → b ≡ true → f ≡ true → (((a && b) || c) && f) ≡ true
 loud a b c f p q r = λ i. ((p i && q i) || c) && r i
 
@@ -87,7 +84,7 @@ not-later chunk rises p e later = grind (arith, quiet, ne_eqb, le-ltb)
 
 -- nor by one of an earlier group whose chunk isn't earlier, if it fails
 not-earlier : (chunk : ℕ → ℕ) (group index : ℕ) (e : AccountEntry) → e.place.group < group → (fails e ≡ true → chunk group ≤ chunk e.place.group) → stops chunk (at group index) e ≡ false
-not-earlier chunk group index e earlier held = grind (arith, quiet_if_failed, ne_eqb, le-ltb)
+not-earlier chunk group index e earlier held = grind (arith, ne_eqb, le-ltb)
 
 any-here : {X : Type 0} (p : X → Bool) (xs : List X) (x : X) (ys : List X) → p x ≡ true → list_any p (xs ++ x ∷ ys) ≡ true
 any-here p [] x ys h = ap (λ b. b || list_any p ys) h
@@ -261,10 +258,7 @@ parts-next all passed own rest e = e ∙ sym (append_assoc passed own rest)
 -- the due steps of the earlier groups and of the next one
 due-next : (chunk : ℕ → ℕ) → Rises chunk → (account more : List AccountEntry) (group : ℕ) (passed own left : List Step) → OfGroupFrom group 0 more → Each (λ s. s.place.group < group) passed → filter (is_due chunk account) passed ≡ map step_of account → filter (is_due chunk (account ++ more)) own ≡ map step_of more ++ left → filter (is_due chunk (account ++ more)) (passed ++ own) ≡ map step_of (account ++ more) ++ left
 due-next chunk rises account more group passed own left entries earlier due next =
-    filter-append (is_due chunk (account ++ more)) passed own
-    ∙ (λ i. (still-due chunk rises account more group passed entries earlier ∙ due) i ++ next i)
-    ∙ sym (append_assoc (map step_of account) (map step_of more) left)
-    ∙ ap (λ l. l ++ left) (sym (map-append step_of account more))
+    grind (arith, filter-append, still-due, append_assoc, map-append)
 
 pub plan-goes_on : (chunk : ℕ → ℕ) → Rises chunk → (before middle after : List AccountEntry) (all : List Step) (group : ℕ) (commands : List NvccGeneratedSubcommand) (groups : List (List NvccGeneratedSubcommand)) (last next : ℕ) (joined output : Output)
     → PlanSoFar chunk before middle all group (commands ∷ groups) last joined → next ≡ chunk group → last ≤ next → Free last next joined → Gains middle after (GroupEnds true group commands joined output)

@@ -1,8 +1,8 @@
 -- A POSIX shell reads a command's text, and a script, as the commands.
-use Rattle.std.proofs.Common.{ℕ, List, [], ◌∷◌, ◌++◌, ◌≡◌, refl, sym, ap, ◌∙◌, append_assoc, append-nil, map, Some, true, false, codes, IsUtf8, chars, arith}
+use Rattle.std.proofs.Common.{ℕ, List, [], ◌∷◌, ◌++◌, ◌≡◌, refl, sym, ap, ◌∙◌, append_assoc, append-nil, map, Some, true, codes, IsUtf8, chars, arith}
 use Rattle.std.specs.List.{AllByRecursion, flat_map}
 use Rattle.std.proofs.lemmas.Str.{chars-nil}
-use Rattle.shell_words.specs.Posix.{Token, Word, Operator, Place, Between, After, Inside, step, prepend, tokens_from, tokens, is_apart}
+use Rattle.shell_words.specs.Posix.{Token, Word, Operator, Place, Between, step, prepend, tokens_from, tokens, is_apart}
 use Rattle.shell_words.specs.Shell.Quoting.{written}
 use Rattle.shell_words.proofs.PosixLemmas.{reading, quoted_before}
 use Rattle.plans.specs.declared.plan.NvccGeneratedSubcommand.{NvccGeneratedSubcommand}
@@ -35,9 +35,6 @@ reads_blank rest ts found = skipping Between 32 rest Between ts refl found
 
 reads_and : (rest : List ℕ) (ts : List Token) → tokens rest ≡ Some ts → tokens (codes " && " ++ rest) ≡ Some (Operator (codes "&&") ∷ ts)
 reads_and rest ts found = grind (arith, reads_blank, skipping, ending)
-
-reads_close : (rest : List ℕ) (ts : List Token) → tokens rest ≡ Some ts → tokens (codes " )" ++ rest) ≡ Some (Operator (codes ")") ∷ ts)
-reads_close rest ts found = reads_blank (codes ")" ++ rest) (Operator (codes ")") ∷ ts) (ending Between 41 rest Between (Operator (codes ")")) ts refl found)
 
 reads_touch : (rest : List ℕ) (ts : List Token) → tokens rest ≡ Some ts → tokens (codes " && touch " ++ rest) ≡ Some (Operator (codes "&&") ∷ Word (codes "touch") ∷ ts)
 reads_touch rest ts found = grind (arith, reads_and, adding, ending)
@@ -96,9 +93,7 @@ line_bytes runner c tail = codes "( cd " ++ (written (c.cwd ∷ []) ++ (codes " 
 run_then : (c : NvccGeneratedSubcommand) (tail : List ℕ) (ts : List Token) → IsOfTexts c → shell_tokens tail ≡ Some ts →
     shell_tokens (run_bytes c tail) ≡ Some (word_tokens (c.exe ∷ c.args) ++ Operator (codes ")") ∷ ts)
 unfolding lib.Utf8.encode
-run_then c tail ts are found =
-    let close = plain_chars (codes " )") tail refl refl in
-    grind (arith, written_then, reads_close)
+run_then c tail ts are found = grind (arith, written_then, (plain_chars (codes " )") tail refl refl))
 
 env_then : (runner : List (List ℕ)) (c : NvccGeneratedSubcommand) (tail : List ℕ) (ts : List Token) → AllByRecursion IsUtf8 runner → IsOfTexts c → shell_tokens tail ≡ Some ts →
     shell_tokens (env_bytes runner c tail) ≡ Some (word_tokens (env_words c) ++ (word_tokens runner ++ (word_tokens (c.exe ∷ c.args) ++ Operator (codes ")") ∷ ts)))
@@ -113,14 +108,7 @@ env_then runner c tail ts words are found =
 tokens-assoc : (runner : List (List ℕ)) (c : NvccGeneratedSubcommand) (ts : List Token) →
     command_tokens runner c ++ ts ≡ Operator (codes "(") ∷ Word (codes "cd") ∷ Word (chars c.cwd) ∷ Operator (codes "&&")
     ∷ (word_tokens (env_words c) ++ (word_tokens runner ++ (word_tokens (c.exe ∷ c.args) ++ Operator (codes ")") ∷ ts)))
-tokens-assoc runner c ts =
-    let env = word_tokens (env_words c) in
-    let ran = word_tokens runner in
-    let run = word_tokens (c.exe ∷ c.args) in
-    let close : List Token = Operator (codes ")") ∷ [] in
-    ap (λ us. Operator (codes "(") ∷ Word (codes "cd") ∷ Word (chars c.cwd) ∷ Operator (codes "&&") ∷ us)
-    (append_assoc env (ran ++ (run ++ close)) ts
-    ∙ ap (λ us. env ++ us) (append_assoc ran (run ++ close) ts ∙ ap (λ us. ran ++ us) (append_assoc run close ts)))
+tokens-assoc runner c ts = simp append_assoc
 
 line_then : (runner : List (List ℕ)) (c : NvccGeneratedSubcommand) (tail : List ℕ) (ts : List Token) → AllByRecursion IsUtf8 runner → IsOfTexts c → shell_tokens tail ≡ Some ts →
     shell_tokens (line_bytes runner c tail) ≡ Some (command_tokens runner c ++ ts)
@@ -139,18 +127,7 @@ line_then runner c tail ts words are found =
 -- a command's text before a text
 pub text_then : (runner : List (List ℕ)) (c : NvccGeneratedSubcommand) (tail : List ℕ) (ts : List Token) → AllByRecursion IsUtf8 runner → IsOfTexts c → shell_tokens tail ≡ Some ts →
     shell_tokens (command_text (in_front runner) c ++ tail) ≡ Some (command_tokens runner c ++ ts)
-text_then runner c tail ts words are found =
-    let cwd = written (c.cwd ∷ []) in
-    let env = written (env_words c) in
-    let ran = in_front runner in
-    let run = written (c.exe ∷ c.args) in
-    let whole : command_text ran c ++ tail ≡ line_bytes runner c tail =
-    ap (λ t. codes "( cd " ++ t)
-    (append_assoc cwd (codes " && " ++ (env ++ (codes " " ++ (ran ++ (run ++ codes " )"))))) tail
-    ∙ ap (λ t. cwd ++ (codes " && " ++ t))
-    (append_assoc env (codes " " ++ (ran ++ (run ++ codes " )"))) tail
-    ∙ ap (λ t. env ++ (codes " " ++ t)) (append_assoc ran (run ++ codes " )") tail ∙ ap (λ t. ran ++ t) (append_assoc run (codes " )") tail)))) in
-    ap shell_tokens whole ∙ line_then runner c tail ts words are found
+text_then runner c tail ts words are found = grind (arith, append_assoc, line_then)
 
 -- ---- the laws
 
@@ -180,9 +157,7 @@ line_before c rest ts are found =
 group_before : (group : List NvccGeneratedSubcommand) (rest : List ℕ) (ts : List Token) → AllByRecursion IsOfTexts group → shell_tokens rest ≡ Some ts → shell_tokens (group_lines group ++ rest) ≡ Some (flat_map line_tokens group ++ ts)
 group_before [] rest ts are found = found
 group_before (c ∷ group) rest ts are found =
-    ap shell_tokens (append_assoc (command_line c) (group_lines group) rest)
-    ∙ line_before c (group_lines group ++ rest) (flat_map line_tokens group ++ ts) are.0 (group_before group rest ts are.1 found)
-    ∙ ap Some (sym (append_assoc (line_tokens c) (flat_map line_tokens group) ts))
+    grind (arith, append_assoc, line_before, (group_before group rest ts are.1 found))
 
 groups_read : (groups : List (List NvccGeneratedSubcommand)) → AllByRecursion (AllByRecursion IsOfTexts) groups → shell_tokens (groups_lines groups) ≡ Some (flat_map (flat_map line_tokens) groups)
 groups_read [] are = nothing_reads

@@ -1,26 +1,19 @@
 -- The characters of texts that are written of UTF-8.
-use Rattle.std.proofs.Common.{ℕ, List, [], ◌∷◌, ◌++◌, ◌≡◌, refl, sym, ap, ◌∙◌, map, true, ◌==◌, ◌&&◌, encode_utf8_all, IsUtf8, chars, arith}
+use Rattle.std.proofs.Common.{ℕ, List, [], ◌∷◌, ◌++◌, ◌≡◌, refl, sym, ap, ◌∙◌, map, true, encode_utf8_all, IsUtf8, chars, arith}
 use Rattle.std.specs.List.{AllByRecursion, flat_map}
 use Rattle.std.proofs.Math.Utf8.{scalars}
-use Rattle.std.proofs.lemmas.Bool.{cond_both, and_parts}
+use Rattle.std.proofs.lemmas.Bool.{cond_both}
 use Rattle.std.proofs.lemmas.Str.{chars-append, chars-encodes, scalars-chars, IsUtf8-append}
-use Rattle.shell_words.specs.Shell.Quoting.{is_plain, quoted_char, quoted_word, further, quoted, written}
+use Rattle.shell_words.specs.Shell.Quoting.{quoted_char, quoted_word, further, quoted, written}
 use Rattle.plan_scripts.specs.CommandText.{assignment}
 
 pub scalars_append : (xs ys : List ℕ) → scalars xs ≡ true → scalars ys ≡ true → scalars (xs ++ ys) ≡ true
 scalars_append [] ys first second = second
-scalars_append (c ∷ xs) ys first second =
-    let parts = and_parts _ (scalars xs) first in
-    grind (arith, scalars, (scalars_append xs ys parts.1 second))
-
-scalars_char : (c : ℕ) → scalars (c ∷ []) ≡ true → scalars (quoted_char c) ≡ true
-scalars_char c is = grind (arith, cond_both, scalars)
+scalars_append (c ∷ xs) ys first second = grind (arith, (scalars_append xs ys))
 
 scalars_quoted : (word : List ℕ) → scalars word ≡ true → scalars (flat_map quoted_char word) ≡ true
 scalars_quoted [] are = refl
-scalars_quoted (c ∷ word) are =
-    let parts = and_parts _ (scalars word) are in
-    grind (arith, scalars_append, scalars_char, (scalars_quoted word parts.1))
+scalars_quoted (c ∷ word) are = grind (arith, scalars_append, (scalars_quoted word))
 
 scalars_word : (word : List ℕ) → scalars word ≡ true → scalars (quoted_word word) ≡ true
 scalars_word word are = grind (arith, cond_both, scalars, scalars_append, scalars_quoted)

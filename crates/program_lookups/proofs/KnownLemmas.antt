@@ -1,5 +1,5 @@
 -- Lists of look-ups, each once.
-use Rattle.std.proofs.Common.{◌≡◌, List, [], ◌∷◌, ◌++◌, ◌||◌, ◌&&◌, Bool, true, false, cond, refl, ap, sym, ◌∙◌, subst, Decides, bytes_eq, arith}
+use Rattle.std.proofs.Common.{◌≡◌, List, [], ◌∷◌, ◌++◌, ◌||◌, Bool, true, false, refl, ap, ◌∙◌, subst, Decides, arith}
 use Rattle.std.specs.List.{list_any, AllByRecursion}
 use Rattle.std.proofs.lemmas.Bool.{false≢true}
 use Rattle.std.proofs.lemmas.Bool.Decides.{Decides-and, Decides-like}
@@ -62,9 +62,6 @@ once-more : (known : List Lookup) (x : Lookup) → AreOnce known → has known x
 once-more [] x once h = (refl, tt)
 once-more (k ∷ known) x once h = let parts = or-false (same_lookup k x) (has known x) h in (none-more k known x once.0 parts.0, once-more known x once.1 parts.1)
 
-once-one : (known : List Lookup) (x : Lookup) → AreOnce known → AreOnce (with_lookup known x)
-once-one known x once = grind (arith, once-more)
-
 pub once-listed : (known lookups : List Lookup) → AreOnce known → AreOnce (with_lookups known lookups)
 once-listed known [] once = once
-once-listed known (l ∷ lookups) once = once-listed (with_lookup known l) lookups (once-one known l once)
+once-listed known (l ∷ lookups) once = once-listed (with_lookup known l) lookups ((grind (arith, once-more)))

@@ -1,10 +1,10 @@
 -- Quoted words are read back by a POSIX shell.
-use Rattle.std.proofs.Common.{ℕ, List, [], ◌∷◌, ◌++◌, ◌≡◌, refl, sym, ap, ◌∙◌, append-nil, append_assoc, map, Option, Some, None, Bool, true, false, ◌==◌, ◌||◌, ◌&&◌, arith, ⊎_elim, option_map, option_and_then}
+use Rattle.std.proofs.Common.{ℕ, List, [], ◌∷◌, ◌++◌, ◌≡◌, refl, sym, ap, ◌∙◌, append-nil, append_assoc, map, Some, Bool, true, false, ◌==◌, ◌||◌, ◌&&◌, arith, option_map}
 use Rattle.std.specs.List.{list_all, flat_map}
 use Rattle.std.proofs.lemmas.Bool.{cond_both, cond-false, cond-true, and_parts, or_cases, eqb-true}
 use Rattle.std.proofs.lemmas.Bool.Decides.{nat_tests}
-use Rattle.shell_words.specs.Shell.{newline, hash, backslash, single_quote, double_quote}
-use Rattle.shell_words.specs.Posix.{Token, Word, Role, Blank, Lone, Opening, Plain, role_of, is_opening, is_expanding, is_pattern_or_redirection, Place, Between, Inside, Escaped, SingleQuoted, Step, between, inside, step, after_token, with_step, tokens_from, tokens, is_apart, ends_a_word, words_of, is_program, as_command, command}
+use Rattle.shell_words.specs.Shell.{single_quote}
+use Rattle.shell_words.specs.Posix.{Token, Word, Role, Plain, role_of, Place, Between, Inside, SingleQuoted, Step, between, inside, step, after_token, with_step, tokens_from, tokens, is_apart, ends_a_word, words_of, is_program, command}
 use Rattle.shell_words.specs.Shell.Quoting.{is_safe, is_plain, quoted_char, quoted_word, further, quoted}
 
 -- the tokens after one more character in front
@@ -32,8 +32,7 @@ plain_char_reads option c h = grind (arith, role_safe, and_parts, eqb-true, cond
 plain_chars_read : (option : Bool) (cs rest : List ℕ) (ts : List Token) → list_all (λ c. is_safe c || (option && (c == 61))) cs ≡ true → tokens_from (Inside option) rest ≡ Some (Word [] ∷ ts) → tokens_from (Inside option) (cs ++ rest) ≡ Some (Word cs ∷ ts)
 plain_chars_read option [] rest ts plain found = found
 plain_chars_read option (c ∷ cs) rest ts plain found =
-    let parts = and_parts (is_safe c || (option && (c == 61))) (list_all (λ c. is_safe c || (option && (c == 61))) cs) plain in
-    grind (arith, reading, plain_char_reads, (plain_chars_read option cs rest ts parts.1 found))
+    grind (arith, reading, plain_char_reads, (plain_chars_read option cs rest ts), (and_parts (is_safe c || (option && (c == 61))) (list_all (λ c. is_safe c || (option && (c == 61))) cs) plain))
 
 plain_word_reads : (word rest : List ℕ) (ts : List Token) → is_plain word ≡ true → ((option : Bool) → tokens_from (Inside option) rest ≡ Some (Word [] ∷ ts)) → tokens_from Between (word ++ rest) ≡ Some (Word word ∷ ts)
 plain_word_reads [] rest ts plain found = absurd cc
@@ -65,12 +64,8 @@ further_read (word ∷ words) rest ts found option =
 ending : (option : Bool) (c : ℕ) (role : Role) → ends_a_word role ≡ true → inside option c role ≡ option_map (after_token (Word [])) (between c role)
 ending option c role apart = grind arith
 
-after_word : (cs : List ℕ) (o : Option Step) (ts : List Token) → option_and_then (λ s. option_map (with_step s) (tokens_from s.0 cs)) o ≡ Some ts →
-    option_and_then (λ s. option_map (with_step s) (tokens_from s.0 cs)) (option_map (after_token (Word [])) o) ≡ Some (Word [] ∷ ts)
-after_word cs o ts found = grind arith
-
 apart_reads : (rest : List ℕ) (ts : List Token) → is_apart rest ≡ true → tokens rest ≡ Some ts → (option : Bool) → tokens_from (Inside option) rest ≡ Some (Word [] ∷ ts)
-apart_reads rest ts apart found option = grind (arith, ending, after_word)
+apart_reads rest ts apart found option = grind (arith, ending)
 
 -- ---- the law
 

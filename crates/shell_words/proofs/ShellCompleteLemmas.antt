@@ -1,5 +1,5 @@
 -- The words that a text is split into are those that the grammar gives it.
-use Rattle.std.proofs.Common.{ℕ, List, [], ◌∷◌, ◌++◌, ◌≡◌, ◌≢◌, refl, sym, ap, ◌∙◌, subst, append-nil, append_assoc, Some, None, Option, true, false, ◌==◌, option_map, arith}
+use Rattle.std.proofs.Common.{ℕ, List, [], ◌∷◌, ◌++◌, ◌≡◌, ◌≢◌, refl, sym, ap, ◌∙◌, subst, append-nil, append_assoc, Some, true, false, ◌==◌, arith}
 use Rattle.std.proofs.lemmas.Bool.{cond_both, eqb-true, eqb-false}
 use Rattle.shell_words.specs.declared.splitting.State.{State}
 use Rattle.shell_words.specs.declared.splitting.State.TheVariants.{Between, Comment, Word, Escaped, SingleQuoted, DoubleQuoted, EscapedInQuotes}
@@ -71,8 +71,7 @@ Rest EscapedInQuotes cs words = InDouble (backslash ∷ cs) words
 -- ---- how a piece goes on
 
 prepend-prepend : (first second : List ℕ) (words : List (List ℕ)) → prepend (first ++ second) words ≡ prepend first (prepend second words)
-prepend-prepend first second [] = refl
-prepend-prepend first second (w ∷ words) = ap (λ v. v ∷ words) (append_assoc first second w)
+prepend-prepend first second words = grind (arith, append_assoc)
 
 tail_of_begins : (cs : List ℕ) (words : List (List ℕ)) → Begins cs words → Tail cs words
 tail_of_begins cs words b = record {
@@ -92,14 +91,10 @@ text_of_word written given rest later is (follows_text c after words blank_is te
 
 text_of_begins : (cs : List ℕ) (words : List (List ℕ)) (b : Begins cs words) → b.first ≢ hash ∷ [] → IsText cs words
 text_of_begins cs words b no_hash =
-    let is : IsWord (b.first ++ b.is_rest.first) (b.given ++ b.is_rest.given) =
-    word b.first b.is_rest.first b.given b.is_rest.given b.is_first no_hash b.is_rest.is_first in
-    let text : IsText ((b.first ++ b.is_rest.first) ++ b.is_rest.rest) ((b.given ++ b.is_rest.given) ∷ b.is_rest.later) =
-    text_of_word _ _ _ _ is b.is_rest.is_rest in
-    let is_text : (b.first ++ b.is_rest.first) ++ b.is_rest.rest ≡ cs =
-    append_assoc b.first b.is_rest.first b.is_rest.rest ∙ ap (λ t. b.first ++ t) b.is_rest.is_text ∙ b.is_text in
+    let is : IsWord (b.first ++ b.is_rest.first) (b.given ++ b.is_rest.given) = word b.first b.is_rest.first b.given b.is_rest.given b.is_first no_hash b.is_rest.is_first in
+    let is_text : (b.first ++ b.is_rest.first) ++ b.is_rest.rest ≡ cs = append_assoc b.first b.is_rest.first b.is_rest.rest ∙ ap (λ t. b.first ++ t) b.is_rest.is_text ∙ b.is_text in
     let are_words : (b.given ++ b.is_rest.given) ∷ b.is_rest.later ≡ words = ap (prepend b.given) b.is_rest.are_words ∙ b.are_words in
-    subst (λ t. IsText t words) is_text (subst (IsText ((b.first ++ b.is_rest.first) ++ b.is_rest.rest)) are_words text)
+    subst (λ t. IsText t words) is_text (subst (IsText ((b.first ++ b.is_rest.first) ++ b.is_rest.rest)) are_words (text_of_word _ _ _ _ is b.is_rest.is_rest))
 
 -- one more inner piece
 more_inside : (piece given cs : List ℕ) (words : List (List ℕ)) → IsInnerPiece piece given → InDouble cs words → InDouble (piece ++ cs) (prepend given words)
@@ -285,14 +280,9 @@ at_end SingleQuoted words is = absurd cc
 at_end DoubleQuoted words is = absurd cc
 at_end EscapedInQuotes words is = absurd cc
 
-some_from_map : {A B : Type 0} (f : A → B) (o : Option A) (y : B) → option_map f o ≡ Some y → (x : A) × (o ≡ Some x) × (f x ≡ y)
-some_from_map f o y is = grind arith
-
 rest_is : (cs : List ℕ) (state : State) (words : List (List ℕ)) → words_from state cs ≡ Some words → Rest state cs words
 rest_is [] state words is = at_end state words is
-rest_is (c ∷ cs) state words is =
-    let found = some_from_map (λ ws. with_effect (reads state c).1 ws) (words_from (reads state c).0 cs) words is in
-    grind (arith, step, (rest_is cs (reads state c).0 found.0 found.1))
+rest_is (c ∷ cs) state words is = grind (arith, step, (rest_is cs (reads state c).0))
 
 pub text_of_words : (cs : List ℕ) (words : List (List ℕ)) → split_chars cs ≡ Some words → IsText cs words
 text_of_words cs words is = rest_is cs Between words is

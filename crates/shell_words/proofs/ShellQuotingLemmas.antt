@@ -1,13 +1,13 @@
 -- Words that are written with quotes are read back.
-use Rattle.std.proofs.Common.{ℕ, List, [], ◌∷◌, ◌++◌, ◌≡◌, ◌≢◌, refl, sym, ap, ◌∙◌, subst, append-nil, append_assoc, map, Some, Bool, true, false, ◌==◌, ◌||◌, ◌&&◌, arith, ⊎_elim, String, string_bytes, encode_utf8, encode_utf8_all, cond, Result, Ok, Err, is_ok, OnOk, chars}
+use Rattle.std.proofs.Common.{ℕ, List, [], ◌∷◌, ◌++◌, ◌≡◌, ◌≢◌, refl, sym, ap, ◌∙◌, append-nil, append_assoc, map, Some, Bool, true, false, ◌==◌, ◌||◌, ◌&&◌, arith, String, string_bytes, encode_utf8, encode_utf8_all, cond, Result, is_ok, OnOk, chars}
 use Rattle.std.specs.List.{list_all, flat_map}
 use Rattle.std.proofs.lemmas.Bool.{cond_both, cond-false, and_parts, or_cases, eqb-true}
 use Rattle.std.proofs.lemmas.Bool.Decides.{nat_tests}
 use Rattle.std.proofs.lemmas.Grind.{flat_map-append}
 use Rattle.std.proofs.lemmas.Str.{chars_from_encodes, encodes-chars, encodes-append, IsUtf8-string_bytes}
-use Rattle.shell_words.specs.declared.splitting.State.TheVariants.{Between, Word, Escaped, SingleQuoted}
+use Rattle.shell_words.specs.declared.splitting.State.TheVariants.{Between, Word, SingleQuoted}
 use Rattle.shell_words.specs.Shell.{hash, backslash, single_quote, double_quote, is_blank, HasWords, IsText}
-use Rattle.shell_words.specs.Shell.Splitting.{Gives, EndsWord, words_from, split_chars}
+use Rattle.shell_words.specs.Shell.Splitting.{Gives, words_from, split_chars}
 use Rattle.shell_words.specs.Shell.Quoting.{is_safe, is_plain, quoted_char, quoted_word, further, quoted, written}
 use Rattle.shell_words.proofs.ShellSoundLemmas.{reading, begins_bare}
 use Rattle.shell_words.proofs.ShellCompleteLemmas.{text_of_words}
@@ -34,18 +34,11 @@ record IsBare (c : ℕ) : Type 0 where
 bare_from_safe : (c : ℕ) → is_safe c ≡ true → IsBare c
 bare_from_safe c safe = grind (arith, nat_tests)
 
-bare_equals : (c : ℕ) → c ≡ 61 → IsBare c
-bare_equals c is = grind (arith, nat_tests)
-
-bare_from_rest : (c : ℕ) (option : Bool) → (is_safe c || (option && (c == 61))) ≡ true → IsBare c
-bare_from_rest c option h = grind (arith, bare_from_safe, bare_equals, eqb-true, and_parts, or_cases)
-
 plain_chars_read : (option : Bool) (cs rest : List ℕ) (words : List (List ℕ)) → list_all (λ c. is_safe c || (option && (c == 61))) cs ≡ true → words_from Word rest ≡ Some ([] ∷ words) → words_from Word (cs ++ rest) ≡ Some (cs ∷ words)
 plain_chars_read option [] rest words plain found = found
 plain_chars_read option (c ∷ cs) rest words plain found =
     let parts = and_parts (is_safe c || (option && (c == 61))) (list_all (λ c. is_safe c || (option && (c == 61))) cs) plain in
-    let is = bare_from_rest c option parts.0 in
-    grind (arith, reading, cond-false, begins_bare, (plain_chars_read option cs rest words parts.1 found))
+    grind (arith, reading, cond-false, begins_bare, (plain_chars_read option cs rest words parts.1 found), bare_from_safe, eqb-true, and_parts, or_cases)
 
 plain_word_reads : (word rest : List ℕ) (words : List (List ℕ)) → is_plain word ≡ true → words_from Word rest ≡ Some ([] ∷ words) → words_from Between (word ++ rest) ≡ Some (word ∷ words)
 plain_word_reads [] rest words plain found = absurd cc
@@ -60,20 +53,13 @@ plain_word_reads (c ∷ cs) rest words plain found =
 
 -- a word as it is written, before a text that ends it
 word_reads : (word rest : List ℕ) (words : List (List ℕ)) → words_from Word rest ≡ Some ([] ∷ words) → words_from Between (quoted_word word ++ rest) ≡ Some (word ∷ words)
-word_reads word rest words found =
-    cond_both (is_plain word) word (single_quote ∷ (flat_map quoted_char word ++ single_quote ∷ []))
-    (λ written. words_from Between (written ++ rest) ≡ Some (word ∷ words))
-    (λ plain. plain_word_reads word rest words plain found)
-    (λ not_plain. reading Between single_quote ((flat_map quoted_char word ++ single_quote ∷ []) ++ rest) SingleQuoted (Gives []) (word ∷ words) refl
-    (ap (words_from SingleQuoted) (append_assoc (flat_map quoted_char word) (single_quote ∷ []) rest) ∙ quoted_chars_read word rest words found))
+word_reads word rest words found = grind (arith, plain_word_reads, reading, append_assoc, quoted_chars_read)
 
 -- further words, before a text that ends the last one
 further_read : (words : List (List ℕ)) (rest : List ℕ) (more : List (List ℕ)) → words_from Word rest ≡ Some ([] ∷ more) → words_from Word (further words ++ rest) ≡ Some ([] ∷ (words ++ more))
 further_read [] rest more found = found
 further_read (word ∷ words) rest more found =
-    reading Word 32 ((quoted_word word ++ further words) ++ rest) Between EndsWord (word ∷ (words ++ more)) refl
-    (ap (words_from Between) (append_assoc (quoted_word word) (further words) rest)
-    ∙ word_reads word (further words ++ rest) (words ++ more) (further_read words rest more found))
+    grind (arith, reading, append_assoc, word_reads, (further_read words rest more found))
 
 -- quoted words, before a text that ends the last one
 pub quoted_then : (word : List ℕ) (words : List (List ℕ)) (rest : List ℕ) (more : List (List ℕ)) → words_from Word rest ≡ Some ([] ∷ more) → words_from Between (quoted (word ∷ words) ++ rest) ≡ Some (word ∷ (words ++ more))
@@ -95,42 +81,25 @@ quoted_text words = text_of_words (quoted words) words (quoted_reads words)
 -- one more character between quotes
 pub quoted_push : (old now new yielded : List ℕ) (c : ℕ) → now ≡ old ++ encode_utf8_all (flat_map quoted_char yielded) → new ≡ now ++ encode_utf8_all (quoted_char c) → new ≡ old ++ encode_utf8_all (flat_map quoted_char (yielded ++ c ∷ []))
 quoted_push old now new yielded c before after =
-    after ∙ ap (λ t. t ++ encode_utf8_all (quoted_char c)) before
-    ∙ append_assoc old (encode_utf8_all (flat_map quoted_char yielded)) (encode_utf8_all (quoted_char c))
-    ∙ ap (λ t. old ++ t) (sym (rw (flat_map-append, encodes-append) (ap (λ t. encode_utf8_all (flat_map quoted_char yielded) ++ encode_utf8_all t) (append-nil (quoted_char c)))))
+    grind (arith, append_assoc, flat_map-append, encodes-append, append-nil)
 
 -- a word in quotes
 pub quoted_whole : (old opened inside closed word : List ℕ) → is_plain word ≡ false → opened ≡ old ++ encode_utf8 single_quote → inside ≡ opened ++ encode_utf8_all (flat_map quoted_char word) → closed ≡ inside ++ encode_utf8 single_quote → closed ≡ old ++ encode_utf8_all (quoted_word word)
 quoted_whole old opened inside closed word plain is_opened is_inside is_closed =
-    let written : encode_utf8_all (quoted_word word) ≡ encode_utf8 single_quote ++ (encode_utf8_all (flat_map quoted_char word) ++ encode_utf8 single_quote) =
-    ap encode_utf8_all (cond-false _ _ _ plain) ∙ ap (λ t. encode_utf8 single_quote ++ t) (encodes-append (flat_map quoted_char word) (single_quote ∷ []) ∙ ap (λ t. encode_utf8_all (flat_map quoted_char word) ++ t) (append-nil (encode_utf8 single_quote))) in
-    is_closed ∙ ap (λ t. t ++ encode_utf8 single_quote) (is_inside ∙ ap (λ t. t ++ encode_utf8_all (flat_map quoted_char word)) is_opened)
-    ∙ ap (λ t. t ++ encode_utf8 single_quote) (append_assoc old (encode_utf8 single_quote) (encode_utf8_all (flat_map quoted_char word)))
-    ∙ append_assoc old (encode_utf8 single_quote ++ encode_utf8_all (flat_map quoted_char word)) (encode_utf8 single_quote)
-    ∙ ap (λ t. old ++ t) (append_assoc (encode_utf8 single_quote) (encode_utf8_all (flat_map quoted_char word)) (encode_utf8 single_quote) ∙ sym written)
+    grind (arith, cond-false, encodes-append, append-nil, append_assoc)
 
 -- one more word, with a space in front
 pub further_push : {Z : Type 0} (now spaced new : List ℕ) (word : String Z) (rest : List (String Z)) (all : List ℕ) →
     now ++ encode_utf8_all (further (map chars (map string_bytes (word ∷ rest)))) ≡ all → spaced ≡ now ++ encode_utf8 32 →
     new ≡ spaced ++ encode_utf8_all (quoted_word (chars (string_bytes word))) → new ++ encode_utf8_all (further (map chars (map string_bytes rest))) ≡ all
-further_push now spaced new word rest all before space after =
-    let w : List ℕ = quoted_word (chars (string_bytes word)) in
-    let others : List ℕ = further (map chars (map string_bytes rest)) in
-    ap (λ t. t ++ encode_utf8_all others) (after ∙ ap (λ t. t ++ encode_utf8_all w) space)
-    ∙ append_assoc (now ++ encode_utf8 32) (encode_utf8_all w) (encode_utf8_all others)
-    ∙ append_assoc now (encode_utf8 32) (encode_utf8_all w ++ encode_utf8_all others)
-    ∙ ap (λ t. now ++ (encode_utf8 32 ++ t)) (sym (encodes-append w others)) ∙ before
+further_push now spaced new word rest all before space after = grind (arith, append_assoc, encodes-append)
 
 -- the first word and the others
 pub words_push : {Z : Type 0} (old now new first : List ℕ) (rest : List (String Z)) →
     now ≡ old ++ encode_utf8_all (quoted_word (chars first)) →
     new ≡ now ++ encode_utf8_all (further (map chars (map string_bytes rest))) →
     new ≡ old ++ written (first ∷ map string_bytes rest)
-words_push old now new first rest before after =
-    let w : List ℕ = quoted_word (chars first) in
-    let others : List ℕ = further (map chars (map string_bytes rest)) in
-    after ∙ ap (λ t. t ++ encode_utf8_all others) before ∙ append_assoc old (encode_utf8_all w) (encode_utf8_all others)
-    ∙ ap (λ t. old ++ t) (sym (encodes-append w others))
+words_push old now new first rest before after = grind (arith, append_assoc, encodes-append)
 
 -- what a write left, if it succeeded
 pub ok_written : {E : Type 0} (r : Result (Unit {0}) E) (old more new want : List ℕ) → new ≡ cond (is_ok r) (old ++ more) old → old ++ more ≡ want → OnOk r (new ≡ want)

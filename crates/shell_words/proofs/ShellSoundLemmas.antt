@@ -1,10 +1,10 @@
 -- A text of the grammar is split into the words that the grammar gives it.
-use Rattle.std.proofs.Common.{ℕ, List, [], ◌∷◌, ◌++◌, ◌≡◌, ◌≢◌, refl, sym, ap, ◌∙◌, append-nil, append_assoc, Some, ne_eqb, option_map, arith}
+use Rattle.std.proofs.Common.{ℕ, List, [], ◌∷◌, ◌++◌, ◌≡◌, ◌≢◌, refl, sym, ap, ◌∙◌, append-nil, append_assoc, Some, ne_eqb, arith}
 use Rattle.std.proofs.lemmas.Bool.{cond-true, cond-false}
 use Rattle.shell_words.specs.declared.splitting.State.{State}
-use Rattle.shell_words.specs.declared.splitting.State.TheVariants.{Between, Comment, Word, Escaped, SingleQuoted, DoubleQuoted, EscapedInQuotes}
-use Rattle.shell_words.specs.Shell.{newline, hash, backslash, single_quote, double_quote, HasNone, IsGap, blank, comment, IsInnerPiece, inner_bare, inner_escaped, inner_joined, inner_kept, IsInside, inside_end, inside_more, IsPiece, bare, escaped, joined, single_quoted, double_quoted, IsPieces, pieces_end, pieces_more, IsWord, word, IsText, text_end, text_gap, text_comment, text_word, text_words}
-use Rattle.shell_words.specs.Shell.Splitting.{Effect, Skips, Gives, EndsWord, begins_piece, reads_between, reads_word, reads, with_effect, words_from, split_chars}
+use Rattle.shell_words.specs.declared.splitting.State.TheVariants.{Between, Comment, Word, SingleQuoted, DoubleQuoted}
+use Rattle.shell_words.specs.Shell.{newline, hash, backslash, single_quote, double_quote, HasNone, IsGap, IsInnerPiece, IsInside, inside_end, inside_more, IsPiece, bare, escaped, joined, single_quoted, double_quoted, IsPieces, pieces_end, pieces_more, IsWord, word, IsText, text_end, text_gap, text_comment, text_word, text_words}
+use Rattle.shell_words.specs.Shell.Splitting.{Effect, Skips, Gives, EndsWord, begins_piece, reads, with_effect, words_from, split_chars}
 
 -- the words after one more character in front
 pub reading : (state : State) (c : ℕ) (cs : List ℕ) (next : State) (effect : Effect) (words : List (List ℕ)) → reads state c ≡ (next, effect) → words_from next cs ≡ Some words → words_from state (c ∷ cs) ≡ Some (with_effect effect words)
@@ -24,10 +24,7 @@ comment_ends [] none = refl
 comment_ends (c ∷ cs) none = reading Comment c cs Comment Skips [] (cond-false _ _ _ (ne_eqb c newline none.0)) (comment_ends cs none.1)
 
 gap_passes : (gap rest : List ℕ) (words : List (List ℕ)) → IsGap gap → words_from Between rest ≡ Some words → words_from Between (gap ++ rest) ≡ Some words
-gap_passes gap rest words (blank c is) found = reading Between c rest Between Skips words (cond-true _ _ _ is) found
-gap_passes gap rest words (comment cs none) found =
-    reading Between hash ((cs ++ newline ∷ []) ++ rest) Comment Skips words refl
-    (ap (words_from Comment) (append_assoc cs (newline ∷ []) rest) ∙ comment_passes cs rest words none found)
+gap_passes gap rest words h3 found = grind (arith, reading, cond-true, append_assoc, comment_passes)
 
 -- ---- pieces
 
@@ -41,17 +38,14 @@ inner_passes piece gives rest given words kind found = grind (arith, reading, co
 inside_passes : (cs gives rest given : List ℕ) (words : List (List ℕ)) → IsInside cs gives → words_from DoubleQuoted rest ≡ Some (given ∷ words) → words_from DoubleQuoted (cs ++ rest) ≡ Some ((gives ++ given) ∷ words)
 inside_passes cs gives rest given words inside_end found = found
 inside_passes cs gives rest given words (inside_more piece more gives_first gives_more first others) found =
-    ap (words_from DoubleQuoted) (append_assoc piece more rest)
-    ∙ inner_passes piece gives_first (more ++ rest) (gives_more ++ given) words first (inside_passes more gives_more rest given words others found)
-    ∙ ap (λ w. Some (w ∷ words)) (sym (append_assoc gives_first gives_more given))
+    grind (arith, append_assoc, inner_passes, (inside_passes more gives_more rest given words others found))
 
 piece_passes : (piece gives rest given : List ℕ) (words : List (List ℕ)) → IsPiece piece gives → words_from Word rest ≡ Some (given ∷ words) → words_from Word (piece ++ rest) ≡ Some ((gives ++ given) ∷ words)
 piece_passes piece gives rest given words (bare c not_blank not_single not_double not_backslash) found = grind (arith, reading, cond-false, begins_bare)
 piece_passes piece gives rest given words (escaped c not_newline) found = grind (arith, reading, cond-false)
 piece_passes piece gives rest given words joined found = grind (arith, reading)
 piece_passes piece gives rest given words (single_quoted cs none) found =
-    reading Word single_quote ((cs ++ single_quote ∷ []) ++ rest) SingleQuoted (Gives []) _ refl
-    (ap (words_from SingleQuoted) (append_assoc cs (single_quote ∷ []) rest) ∙ single_passes cs rest given words none found)
+    grind (arith, reading, append_assoc, single_passes)
 piece_passes piece gives rest given words (double_quoted cs inner inside) found =
     reading Word double_quote ((cs ++ double_quote ∷ []) ++ rest) DoubleQuoted (Gives []) _ refl
     (ap (words_from DoubleQuoted) (append_assoc cs (double_quote ∷ []) rest)
@@ -60,8 +54,7 @@ piece_passes piece gives rest given words (double_quoted cs inner inside) found 
 pieces_pass : (pieces gives rest : List ℕ) (words : List (List ℕ)) → IsPieces pieces gives → words_from Word rest ≡ Some ([] ∷ words) → words_from Word (pieces ++ rest) ≡ Some (gives ∷ words)
 pieces_pass pieces gives rest words pieces_end found = found
 pieces_pass pieces gives rest words (pieces_more piece more gives_first gives_more first others) found =
-    ap (words_from Word) (append_assoc piece more rest)
-    ∙ piece_passes piece gives_first (more ++ rest) gives_more words first (pieces_pass more gives_more rest words others found)
+    grind (arith, append_assoc, piece_passes, (pieces_pass more gives_more rest words others found))
 
 -- a word's first piece is read between words as it is in a word
 first_piece : (piece gives rest : List ℕ) → IsPiece piece gives → piece ≢ hash ∷ [] → words_from Between (piece ++ rest) ≡ words_from Word (piece ++ rest)

@@ -1,24 +1,19 @@
 -- A span, whose characters are given as they stand, is read at once.
-use Rattle.std.proofs.Common.{ℕ, List, [], ◌∷◌, ◌++◌, ◌≡◌, refl, sym, ap, ◌∙◌, subst, Bool, true, false, not, ◌||◌, ◌==◌, ◌<◌, ◌+◌, arith, length, take, drop, get_or, cond, nat_lt, suc, length-append, append-nil, append_assoc, encode_utf8, encode_utf8_all, inl, inr, chars, IsUtf8, IsCharBoundary, take-append-drop}
+use Rattle.std.proofs.Common.{ℕ, List, [], ◌∷◌, ◌++◌, ◌≡◌, sym, ap, ◌∙◌, subst, Bool, true, false, ◌==◌, ◌<◌, ◌+◌, arith, length, take, drop, get_or, suc, length-append, append-nil, append_assoc, encode_utf8, encode_utf8_all, inl, inr, chars, IsUtf8, IsCharBoundary, take-append-drop}
 use Rattle.std.specs.List.{fold, position_or_len, AllByRecursion}
-use Rattle.std.proofs.lemmas.Bool.{cond-false, or_parts, ltb-true, ltb-false, eqb-true, cases_eq, false≢true}
+use Rattle.std.proofs.lemmas.Bool.{ltb-true, ltb-false, eqb-true, cases_eq, false≢true}
 use Rattle.std.proofs.lemmas.Bool.Decides.{nat_tests}
 use Rattle.std.proofs.lemmas.List.Sums.{fold-append, prefix_len-le-length, passes_at_first}
 use Rattle.std.proofs.lemmas.Str.{encode_ascii, length-encode, len_utf8_bounds, chars_past_char, chars-nil, encodes-append, encodes-chars, chars-append, IsUtf8-take, IsCharBoundary-end, IsCharBoundary-before_ascii, char_from_byte}
 use Rattle.shell_words.specs.declared.splitting.State.{State}
-use Rattle.shell_words.specs.Shell.Splitting.{Effect, Gives, reads, Splitting, applied, after, with_bytes, ends_span}
+use Rattle.shell_words.specs.Shell.Splitting.{Splitting, after, with_bytes, ends_span}
 
 -- ---- characters
-
-span_reads : (state : State) (c : ℕ) → ends_span state c ≡ false → reads state c ≡ (state, Gives (c ∷ []))
-span_reads state c goes = grind (arith, or_parts, cond-false)
 
 span_given : (s : Splitting) (cs : List ℕ) → AllByRecursion (λ c. ends_span s.state c ≡ false) cs → fold after s cs ≡ with_bytes s (encode_utf8_all cs)
 span_given s [] go = ap (λ w. record s { word = w }) (sym (append-nil s.word))
 span_given s (c ∷ cs) go =
-    ap (λ (r : State × Effect). fold after (applied r s) cs) (span_reads s.state c go.0)
-    ∙ span_given (with_bytes s (encode_utf8_all (c ∷ []))) cs go.1 ∙ ap (λ w. record s { word = w })
-    (append_assoc s.word (encode_utf8_all (c ∷ [])) (encode_utf8_all cs) ∙ ap (λ w. s.word ++ w) (sym (encodes-append (c ∷ []) cs)))
+    grind (arith, append_assoc, encodes-append, (span_given (with_bytes s (encode_utf8_all (c ∷ []))) cs go.1))
 
 -- ---- bytes
 
@@ -36,13 +31,10 @@ none_before test (b ∷ bs) =
     let one : suc (position_or_len test bs) ≡ 1 + position_or_len test bs = omega arith in
     grind (arith, (none_before test bs))
 
-char_goes : (test : ℕ → Bool) → IsAsciiTest test → (c : ℕ) (rest : List ℕ) → AllByRecursion (λ b. test b ≡ false) (encode_utf8 c ++ rest) → test c ≡ false
-char_goes test ascii c rest go = grind (arith, encode_ascii)
-
 chars_go : (test : ℕ → Bool) → IsAsciiTest test → (cs : List ℕ) → AllByRecursion (λ b. test b ≡ false) (encode_utf8_all cs) → AllByRecursion (λ c. test c ≡ false) cs
 chars_go test ascii [] go = tt
 chars_go test ascii (c ∷ cs) go =
-    (char_goes test ascii c (encode_utf8_all cs) go, chars_go test ascii cs (latter_part _ (encode_utf8 c) (encode_utf8_all cs) go))
+    ((grind (arith, encode_ascii)), chars_go test ascii cs (latter_part _ (encode_utf8 c) (encode_utf8_all cs) go))
 
 -- the place where a span ends
 boundary : (test : ℕ → Bool) → IsAsciiTest test → (bs : List ℕ) → IsCharBoundary bs (position_or_len test bs)

@@ -1,8 +1,8 @@
 -- What a splitter holds after a text gives the words of that text.
-use Rattle.std.proofs.Common.{ℕ, List, [], ◌∷◌, ◌++◌, ◌≡◌, refl, sym, ap, ◌∙◌, map, append-nil, append_assoc, Some, None, Option, encode_utf8_all, option_map, fold, arith}
+use Rattle.std.proofs.Common.{ℕ, List, [], ◌∷◌, ◌++◌, ◌≡◌, refl, ap, ◌∙◌, map, append-nil, append_assoc, Option, encode_utf8_all, option_map, fold, arith}
 use Rattle.std.proofs.lemmas.Str.{encodes-append}
 use Rattle.shell_words.specs.declared.splitting.State.{State}
-use Rattle.shell_words.specs.Shell.Splitting.{Effect, Skips, Gives, EndsWord, reads, prepend, with_effect, words_at_end, words_from, split_chars, Splitting, start, applied, after, ended, finished}
+use Rattle.shell_words.specs.Shell.Splitting.{Effect, Skips, Gives, EndsWord, reads, prepend, with_effect, words_from, split_chars, Splitting, start, applied, after, finished}
 
 -- the words that a splitter gives, where these are the words of the rest of the text
 abbrev joined : List (List ℕ) → List ℕ → List (List ℕ) → List (List ℕ)
@@ -14,20 +14,11 @@ prepend-nil words = grind arith
 map_twice : {A B C : Type 0} (f : A → C) (g : B → C) (h : A → B) → ((x : A) → f x ≡ g (h x)) → (o : Option A) → option_map f o ≡ option_map g (option_map h o)
 map_twice f g h same o = grind arith
 
-joined_end : (state : State) (words : List (List ℕ)) (word : List ℕ) → ended state words word ≡ option_map (joined words word) (words_at_end state)
-joined_end state words word = grind (arith, append-nil)
-
 joined_gives : (words : List (List ℕ)) (word given : List ℕ) (later : List (List ℕ)) → joined words (word ++ encode_utf8_all given) later ≡ joined words word (prepend given later)
-joined_gives words word given [] = refl
-joined_gives words word given (next ∷ later) =
-    ap (λ w. words ++ w ∷ map encode_utf8_all later)
-    (append_assoc word (encode_utf8_all given) (encode_utf8_all next) ∙ ap (λ w. word ++ w) (sym (encodes-append given next)))
+joined_gives words word given later = grind (arith, append_assoc, encodes-append)
 
 joined_ends : (words : List (List ℕ)) (word : List ℕ) (later : List (List ℕ)) → joined (words ++ word ∷ []) [] later ≡ joined words word ([] ∷ later)
-joined_ends words word later =
-    append_assoc words (word ∷ []) (prepend [] (map encode_utf8_all later))
-    ∙ ap (λ ws. words ++ word ∷ ws) (prepend-nil (map encode_utf8_all later))
-    ∙ ap (λ w. words ++ w ∷ map encode_utf8_all later) (sym (append-nil word))
+joined_ends words word later = simp (append_assoc, prepend-nil, append-nil)
 
 joined_step : (read : State × Effect) (cs : List ℕ) (s : Splitting) →
     option_map (joined (applied read s).words (applied read s).word) (words_from (applied read s).state cs)
@@ -37,7 +28,7 @@ joined_step (state, Gives given) cs s = map_twice _ _ _ (joined_gives s.words s.
 joined_step (state, EndsWord) cs s = map_twice _ _ _ (joined_ends s.words s.word) (words_from state cs)
 
 finished_after : (cs : List ℕ) (s : Splitting) → finished (fold after s cs) ≡ option_map (joined s.words s.word) (words_from s.state cs)
-finished_after [] s = joined_end s.state s.words s.word
+finished_after [] s = grind (arith, append-nil)
 finished_after (c ∷ cs) s = finished_after cs (after s c) ∙ joined_step (reads s.state c) cs s
 
 -- from the start

@@ -1,5 +1,5 @@
 -- The parts of a text that is cut at each of its characters of one kind.
-use Rattle.std.proofs.Common.{◌≡◌, ℕ, List, [], ◌∷◌, Option, Some, None, Bor, MatchOption, refl, ap, ◌∙◌, ◌<◌, length, false, eqb, get_or, ne_eqb, arith}
+use Rattle.std.proofs.Common.{◌≡◌, ℕ, List, [], ◌∷◌, Option, Some, None, Bor, MatchOption, ap, ◌∙◌, ◌<◌, length, false, eqb, get_or, ne_eqb, arith}
 use Rattle.std.specs.List.{All, slice_split}
 use Rattle.std.proofs.lemmas.Bool.Decides.{Decides-eqb}
 use Rattle.std.proofs.lemmas.Grind.{get_or_default_zero}
@@ -13,8 +13,6 @@ all-other c xs h = λ k d within. ap (λ x. eqb x c) (get_or_default_zero xs k d
 pub parts-cut_once : (c : ℕ) (text : List ℕ) (r : Option (Bor (List ℕ) × Bor (List ℕ))) → c < 128 → IsSplitOnceResult c text r
     → MatchOption r (slice_split (λ b. eqb b c) text ≡ text ∷ []) (λ x. slice_split (λ b. eqb b c) text ≡ x.0.now ∷ slice_split (λ b. eqb b c) x.1.now)
 parts-cut_once c text None low h =
-    let none : Option (Bor (List ℕ) × Bor (List ℕ)) = None in
-    slice_split_none (λ b. eqb b c) text (all-other c text (split_parts c text none h low))
+    slice_split_none (λ b. eqb b c) text (all-other c text (split_parts c text None h low))
 parts-cut_once c text (Some x) low h =
-    let cut = split_parts c text (Some x) h low in
-    grind (arith, slice_split_at, all-other, Decides-eqb)
+    grind (arith, slice_split_at, all-other, Decides-eqb, (split_parts c text (Some x) h low))

@@ -13,9 +13,8 @@ Lacks mark s = (i : ℕ) → i < length s → get_or s i 0 ≢ mark
 split_at_last-lacks : (mark : ℕ) (s : List ℕ) → Lacks mark s → split_at_last mark s ≡ None
 split_at_last-lacks mark [] h = refl
 split_at_last-lacks mark (c ∷ cs) h =
-    let rest : split_at_last mark cs ≡ None = split_at_last-lacks mark cs (λ i l e. h (suc i) (omega arith) e) in
     let other : eqb c mark ≡ false = elim (eqb c mark) as (λ b. eqb c mark ≡ b → b ≡ false) [ true ↦ λ e. absurd (h 0 (omega arith) ((Decides-eqb c mark).0 e)) | false ↦ λ _. refl ] refl in
-    grind arith
+    grind (arith, (split_at_last-lacks mark cs (λ i l e. h (suc i) (omega arith) e)))
 
 -- a text is split where the byte stands and what follows lacks it
 split_at_last-at : (mark : ℕ) (before after : List ℕ) → Lacks mark after → split_at_last mark (before ++ mark ∷ after) ≡ Some (before, after)

@@ -1,8 +1,8 @@
 -- Facts about lists that the records rest on.
-use Rattle.std.proofs.Common.{subst, Result, Ok, Err, OnErr, ◌⊎◌, ⊎_elim, Vec, vec_len, ◌≡◌, ℕ, Bool, ◌&&◌, List, [], ◌∷◌, ◌++◌, map, refl, ap, ◌∙◌, String, string_bytes, Global, nat_eq, Ordering, Less, Equal, Greater, arith}
+use Rattle.std.proofs.Common.{Result, OnErr, ◌⊎◌, ⊎_elim, Vec, vec_len, ◌≡◌, ℕ, Bool, ◌&&◌, List, [], ◌∷◌, ◌++◌, map, refl, ap, ◌∙◌, String, string_bytes, Global, nat_eq, Ordering, arith}
 use Rattle.std.specs.Cmp.Lexicographic.{pointwise}
 use Rattle.std.specs.List.{AllZip, AppendsClones}
-use Rattle.std.specs.Ordering.{on, eq_of_both, match_ordering}
+use Rattle.std.specs.Ordering.{on, eq_of_both}
 use Rattle.std.specs.BTreeMap.{insert_entry}
 use Rattle.std.specs.Map.{lookup}
 use Rattle.std.proofs.lemmas.List.{map-append}
@@ -57,7 +57,3 @@ same-or-cloned-pairs old new h = ⊎_elim (λ e. ap (λ v. map pair_of v.items) 
 -- what holds anyway holds on an error
 pub on-error : {T E P : Type 0} (r : Result T E) → P → OnErr r P
 on-error r p = grind arith
-
--- what holds on an error holds of one
-pub of-error : {T E P : Type 0} {r : Result T E} {e : E} → r ≡ Err e → OnErr r P → P
-of-error {P = P} is h = subst (λ q. OnErr q P) is h

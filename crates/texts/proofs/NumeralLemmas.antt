@@ -1,5 +1,5 @@
 -- Numerals: a number below 2^64 is printed as its numeral, numerals are UTF-8, and they tell numbers apart.
-use Rattle.std.proofs.Common.{◌≡◌, ◌≢◌, ℕ, ◌+◌, ◌-◌, ◌<◌, ◌^◌, Bool, true, false, cond, eqb, eqb-true, List, [], ◌∷◌, map, refl, ap, sym, ◌∙◌, subst, get_or, codes, arith, decimal, IsUtf8, IsAscii}
+use Rattle.std.proofs.Common.{◌≡◌, ◌≢◌, ℕ, ◌+◌, ◌-◌, ◌<◌, ◌^◌, Bool, false, cond, eqb, eqb-true, List, [], ◌∷◌, map, refl, ap, sym, ◌∙◌, subst, get_or, codes, arith, decimal, IsUtf8, IsAscii}
 use Rattle.std.specs.Int.Digits.{digits_of}
 use Rattle.std.specs.List.{AllByRecursion}
 use Rattle.std.proofs.lemmas.Bool.{cond_both, eqb-false}
@@ -37,12 +37,8 @@ shift-cancel xs ys e = sym (unshift xs) ∙ ap (map (λ d. d - 48)) e ∙ unshif
 -- no other number is written as nothing is
 no-zero_digit : (n : ℕ) → 0 < n → codes "0" ≡ map (λ d. 48 + d) (digits_of 10 n) → ⊥
 no-zero_digit n pos e =
-    let zero_digit : digits_of 10 n ≡ 0 ∷ [] = sym (unshift (digits_of 10 n)) ∙ sym (ap (map (λ d. d - 48)) e) in
-    let bad : 0 < get_or (0 ∷ []) 0 0 = subst (λ ds. 0 < get_or ds 0 0) zero_digit (first_digits_of 10 n (omega arith) pos) in
+    let bad : 0 < get_or (0 ∷ []) 0 0 = subst (λ ds. 0 < get_or ds 0 0) (sym (unshift (digits_of 10 n)) ∙ sym (ap (map (λ d. d - 48)) e)) (first_digits_of 10 n (omega arith) pos) in
     grind arith
 
-numeral-cases : (m n : ℕ) (a b : Bool) → eqb m 0 ≡ a → eqb n 0 ≡ b → cond a (codes "0") (map (λ d. 48 + d) (digits_of 10 m)) ≡ cond b (codes "0") (map (λ d. 48 + d) (digits_of 10 n)) → m ≡ n
-numeral-cases m n a b em en e = grind (arith, eqb-true, no-zero_digit, positive, same_from_digits_of, shift-cancel)
-
 pub numeral-same : (m n : ℕ) → numeral m ≡ numeral n → m ≡ n
-numeral-same m n e = numeral-cases m n (eqb m 0) (eqb n 0) refl refl e
+numeral-same m n e = grind (arith, eqb-true, no-zero_digit, positive, same_from_digits_of, shift-cancel)

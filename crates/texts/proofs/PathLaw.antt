@@ -1,5 +1,5 @@
 -- A name that is put into a folder has that folder and that file name.
-use Rattle.std.proofs.Common.{◌≡◌, ◌≢◌, ℕ, Bool, true, false, cond, not, ◌&&◌, ◌||◌, eqb, eqb-true, ne_eqb, List, [], ◌∷◌, ◌++◌, Some, refl, ap, sym, ◌∙◌, subst, length, reverse, nat_eq, arith, append_assoc, append-nil}
+use Rattle.std.proofs.Common.{◌≡◌, ◌≢◌, ℕ, Bool, true, false, cond, not, ◌&&◌, eqb, eqb-true, ne_eqb, List, [], ◌∷◌, ◌++◌, Some, refl, ap, sym, ◌∙◌, subst, reverse, arith, append_assoc, append-nil}
 use Rattle.std.proofs.lemmas.List.{reverse-append, reverse-reverse, append_cancel_left, length-reverse}
 use Rattle.std.proofs.lemmas.Bool.{false≢true, and_parts}
 use Rattle.texts.specs.Extension.{last_part}
@@ -87,10 +87,6 @@ name-kept f back bare proper =
           trimmed-stays_before false c (before ++ back) (not-is 47 c parts.0) (no_dot-before f back c before proper e parts.1)
     ] refl
 
--- what follows the last `/` of a bare name that stands after nothing, or after a `/`
-last-bare : (f : List ℕ) → is_bare f ≡ true → last_part f ≡ f
-last-bare f bare = rw (split-bare 47 f bare) refl
-
 last-after : (front f : List ℕ) → is_bare f ≡ true → last_part (front ++ 47 ∷ f) ≡ f
 last-after front f bare = rw (split-at 47 front f bare) refl
 
@@ -98,7 +94,7 @@ pub joined-has_name : JoinedHasName
 joined-has_name base f bare proper =
     let back = reverse (base ++ separator_after base) in
     let slash : (before : List ℕ) → last_part (reverse (47 ∷ before) ++ f) ≡ f = λ before. ap last_part (ap (λ t. t ++ f) (reverse-cons before 47) ∙ append_assoc (reverse before) (47 ∷ []) f) ∙ last-after (reverse before) f bare in
-    let seam : last_part (reverse back ++ f) ≡ f = at-separator (λ t. last_part (reverse t ++ f) ≡ f) base (λ _. last-bare f bare) (λ before _. slash before) (λ c before _ _. slash (c ∷ before)) in
+    let seam : last_part (reverse back ++ f) ≡ f = at-separator (λ t. last_part (reverse t ++ f) ≡ f) base (λ _. (rw (split-bare 47 f bare) refl)) (λ before _. slash before) (λ c before _ _. slash (c ∷ before)) in
     grind (arith, joined-backwards, name-kept, reverse-append, reverse-reverse)
 
 -- a folder is a beginning of its name

@@ -1,12 +1,11 @@
 -- Facts about the ends of texts, which are read backwards.
-use Rattle.std.proofs.Common.{◌≡◌, ◌≢◌, ℕ, ◌<◌, ◌-◌, suc, Bool, true, false, cond, not, ◌&&◌, ◌||◌, eqb, eq-eqb, eqb-true, ne_eqb, List, [], ◌∷◌, ◌++◌, Option, Some, None, MatchOption, Bor, refl, ap, sym, ◌∙◌, subst, drop, take, get_or, length, reverse, nat_eq, arith, append_assoc, append-nil}
+use Rattle.std.proofs.Common.{◌≡◌, ◌≢◌, ℕ, ◌<◌, ◌-◌, suc, Bool, true, false, not, ◌&&◌, eqb, eq-eqb, eqb-true, ne_eqb, List, [], ◌∷◌, ◌++◌, Option, Some, None, MatchOption, refl, ap, sym, ◌∙◌, subst, get_or, length, reverse, nat_eq, arith, append_assoc, append-nil}
 use Rattle.std.specs.List.{ends_with, list_any}
-use Rattle.std.specs.Cmp.Lexicographic.{pointwise}
-use Rattle.std.proofs.lemmas.List.{reverse-append, reverse-reverse, length-append, take-append-drop}
+use Rattle.std.proofs.lemmas.List.{reverse-append, reverse-reverse, length-append}
 use Rattle.std.proofs.lemmas.Grind.{reverse_onto}
 use Rattle.std.proofs.lemmas.Bool.{false≢true, and_parts}
 use Rattle.std.proofs.Math.Seq.{drop-append_seam}
-use Rattle.texts.specs.Extension.{onto_front, split_at_last}
+use Rattle.texts.specs.Extension.{split_at_last}
 use Rattle.texts.specs.Path.{is_absolute_path, lacks, through_last_byte, trimmed, is_idle, folder_of}
 
 -- a test that isn't true is false
@@ -34,17 +33,11 @@ forwards text before c e = sym (reverse-reverse text) ∙ ap reverse e ∙ rever
 pub reverse-parted : (front back : List ℕ) (c : ℕ) → reverse (front ++ c ∷ back) ≡ reverse back ++ c ∷ reverse front
 reverse-parted front back c = reverse-append front (c ∷ back) ∙ ap (λ t. t ++ reverse front) (reverse-cons back c) ∙ append_assoc (reverse back) (c ∷ []) (reverse front)
 
--- a text ends in `/` where it begins with it backwards
-last_slash : (c : ℕ) → pointwise nat_eq (47 ∷ []) (c ∷ []) ≡ eqb c 47
-last_slash c = grind (arith, eqb-true, false≢true, eq-eqb)
-
 ends_slash_before : (before : List ℕ) → ends_with nat_eq (reverse before) (47 ∷ []) ≡ is_absolute_path before
 ends_slash_before [] = refl
 ends_slash_before (c ∷ before) =
-    let push = reverse-cons before c in
     let count : length (reverse before ++ c ∷ []) - 1 ≡ length (reverse before) = omega (arith, length-append (reverse before) (c ∷ [])) in
-    let last : drop (length (reverse before ++ c ∷ []) - 1) (reverse before ++ c ∷ []) ≡ c ∷ [] = ap (λ n. drop n (reverse before ++ c ∷ [])) count ∙ drop-append_seam (reverse before) (c ∷ []) in
-    grind (arith, last_slash)
+    grind (arith, drop-append_seam, reverse-cons)
 
 pub ends_slash : (text : List ℕ) → ends_with nat_eq text (47 ∷ []) ≡ is_absolute_path (reverse text)
 ends_slash text = ap (λ t. ends_with nat_eq t (47 ∷ [])) (sym (reverse-reverse text)) ∙ ends_slash_before (reverse text)
@@ -56,9 +49,6 @@ trimmed-slash_before keeps_root before some = grind arith
 -- a `.` right after a `/` goes
 trimmed-dot_before : (keeps_root : Bool) (before : List ℕ) → is_absolute_path before ≡ true → trimmed (is_idle keeps_root) (46 ∷ before) ≡ trimmed (is_idle keeps_root) before
 trimmed-dot_before keeps_root before e = grind (arith, false≢true)
-
-pub trimmed-dot : (keeps_root : Bool) (text front : List ℕ) → text ≡ front ++ 46 ∷ [] → is_absolute_path (reverse front) ≡ true → trimmed (is_idle keeps_root) (reverse text) ≡ trimmed (is_idle keeps_root) (reverse front)
-trimmed-dot keeps_root text front e slash = grind (arith, reverse-push, trimmed-dot_before)
 
 -- a text that ends in neither stays
 pub trimmed-stays_before : (keeps_root : Bool) (c : ℕ) (before : List ℕ) → eqb c 47 ≡ false → (eqb c 46 && is_absolute_path before) ≡ false → trimmed (is_idle keeps_root) (c ∷ before) ≡ c ∷ before
@@ -81,21 +71,15 @@ pub lacks-places : (byte : ℕ) (text : List ℕ) → ((i : ℕ) → i < length 
 lacks-places byte [] h = refl
 lacks-places byte (c ∷ cs) h =
     let here : eqb c byte ≡ false = ne_eqb c byte (h 0 (omega arith)) in
-    let later : lacks byte cs ≡ true = lacks-places byte cs (λ i l. h (suc i) (omega arith)) in
-    grind arith
+    grind (arith, (lacks-places byte cs (λ i l. h (suc i) (omega arith))))
 
 pub lacks-append : (byte : ℕ) (front back : List ℕ) → lacks byte front ≡ true → lacks byte back ≡ true → lacks byte (front ++ back) ≡ true
 lacks-append byte [] back h k = k
-lacks-append byte (c ∷ front) back h k =
-    let parts = and_parts (not (eqb c byte)) (lacks byte front) h in
-    grind (arith, (lacks-append byte front back parts.1 k))
+lacks-append byte (c ∷ front) back h k = grind (arith, (lacks-append byte front back))
 
 pub lacks-reverse : (byte : ℕ) (text : List ℕ) → lacks byte text ≡ true → lacks byte (reverse text) ≡ true
 lacks-reverse byte [] h = refl
-lacks-reverse byte (c ∷ cs) h =
-    let parts = and_parts (not (eqb c byte)) (lacks byte cs) h in
-    let one : lacks byte (c ∷ []) ≡ true = rw parts.0 refl in
-    grind (arith, reverse-cons, lacks-append, (lacks-reverse byte cs parts.1))
+lacks-reverse byte (c ∷ cs) h = grind (arith, reverse-cons, lacks-append, (lacks-reverse byte cs))
 
 -- the parts of a text, backwards, by its last such byte
 pub not-is : (byte c : ℕ) → not (eqb c byte) ≡ true → eqb c byte ≡ false
@@ -144,10 +128,6 @@ pub folder-below : (name front back : List ℕ) → name ≡ front ++ 47 ∷ bac
 folder-below name front back e h some =
     folder-parted name front back e h ∙ ap reverse (trimmed-slash_before true (reverse front) (λ _ none. some (sym (reverse-reverse front) ∙ ap reverse none)))
 
--- a text lacks a byte if a search for it finds none
-not-or : (a b : Bool) → not (a || b) ≡ (not a && not b)
-not-or a b = grind arith
-
 pub lacks-by_search : (byte : ℕ) (text : List ℕ) → not (list_any (λ c. eqb c byte) text) ≡ lacks byte text
 lacks-by_search byte [] = refl
-lacks-by_search byte (c ∷ cs) = not-or (eqb c byte) (list_any (λ c. eqb c byte) cs) ∙ ap (λ t. not (eqb c byte) && t) (lacks-by_search byte cs)
+lacks-by_search byte (c ∷ cs) = (grind arith) ∙ ap (λ t. not (eqb c byte) && t) (lacks-by_search byte cs)

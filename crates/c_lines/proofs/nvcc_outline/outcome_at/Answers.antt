@@ -1,4 +1,4 @@
-use Rattle.std.proofs.Common.{◌≡◌, [], List, ℕ, Result, subst}
+use Rattle.std.proofs.Common.{[], List, ℕ, Result, subst}
 use Rattle.nvcc_calls.specs.Answer.{nvcc_answer}
 use Rattle.nvcc_calls.specs.declared.answer.Answer.{Answer}
 use Rattle.texts.specs.declared.fault.Fault.{Fault}

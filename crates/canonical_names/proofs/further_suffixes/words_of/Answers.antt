@@ -9,10 +9,4 @@ next-taken xs i within =
     ap (λ x. take i xs ++ option_to_list x) (slice_get-get_or xs i [] within) ∙ sym (take-suc xs i [] within) ∙ ap (λ n. take n xs) one_more
 
 pub loop-index-preserved : goal.loop-index-preserved
-loop-index-preserved c =
-    let suffixes = c.args.suffixes.now in
-    let index = c.loop-index.index in
-    let within : index < length suffixes = omega (arith, c.loop-index-test.true, c.len-index-end.ensures) in
-    c.in_ok-push_suffix.ensures ∙ ap (λ suffix. c.loop-index.words ++ option_to_list suffix) c.get.ensures
-    ∙ ap (λ words. words ++ option_to_list (slice_get suffixes index)) c.loop-index.invariant
-    ∙ next-taken suffixes index within
+loop-index-preserved c = grind (arith, next-taken)

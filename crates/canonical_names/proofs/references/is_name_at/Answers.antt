@@ -1,4 +1,4 @@
-use Rattle.std.proofs.Common.{◌≡◌, ◌+◌, ◌-◌, ap, sym, ◌∙◌, map, take, drop, arith, bytes_eq}
+use Rattle.std.proofs.Common.{◌≡◌, ap, sym, ◌∙◌, map, take, drop, arith, bytes_eq}
 use Rattle.std.specs.List.{list_any}
 use Rattle.texts.specs.Variables.{pair_of}
 use Rattle.canonical_names.specs.Counted.{old_names}
@@ -10,9 +10,6 @@ returns-in-None c = sym (no-part c.args.text.now c.utf8.text c.args.start c.args
 
 pub returns-in-Some : goal.returns-in-Some
 returns-in-Some c =
-    let entries = c.args.names.now.entries in
-    let i = c.args.start in
     let k = c.args.length in
-    let length_is : i + k - i ≡ k = omega arith in
-    let is : c.in-Some.part.now ≡ take k (drop i c.args.text.now) = c.in-Some.ensures.cases.0 ∙ ap (λ n. take n (drop i c.args.text.now)) length_is in
-    c.contains_key.ensures ∙ found-named entries c.in-Some.part.now ∙ ap (λ part. list_any (bytes_eq part) (old_names (map pair_of entries))) is
+    let is : c.in-Some.part.now ≡ take k (drop c.args.start c.args.text.now) = c.in-Some.ensures.cases.0 ∙ ap (λ n. take n (drop c.args.start c.args.text.now)) (omega arith) in
+    c.contains_key.ensures ∙ found-named c.args.names.now.entries c.in-Some.part.now ∙ ap (λ part. list_any (bytes_eq part) (old_names (map pair_of c.args.names.now.entries))) is

@@ -1,4 +1,4 @@
-use Rattle.std.proofs.Common.{◌≡◌, ◌<◌, ◌≤◌, ◌-◌, map, length, ap, sym, ◌∙◌, arith, string_bytes}
+use Rattle.std.proofs.Common.{◌≡◌, ◌-◌, map, ap, sym, ◌∙◌, arith, string_bytes}
 use Rattle.texts.specs.Variables.{pair_of}
 use Rattle.canonical_names.specs.Counted.{old_names}
 use Rattle.canonical_names.specs.References.{replaced_by_all, longest_pairs_first, longest_in}
@@ -6,21 +6,10 @@ use Rattle.canonical_names.proofs.LengthLemmas.{up_to, longest-begun, longest-bo
 use Rattle.canonical_names.proofs.references.rewrite.Goals as goal
 
 pub loop-longest-init : goal.loop-longest-init
-loop-longest-init c =
-    let pairs = map pair_of c.args.names.now.entries in
-    let text = c.args.text.now in
-    ap (replaced_by_all (longest_pairs_first (up_to c.longest_in-longest.result pairs))) c.in_ok-new.ensures.ok
-    ∙ ap (λ k. replaced_by_all (longest_pairs_first (up_to k pairs)) text) c.longest_in-longest.ensures
-    ∙ sym (longest-next text (length text) pairs) ∙ sym (longest-begun pairs text)
+loop-longest-init c = grind (arith, longest-next, longest-begun)
 
 pub loop-longest-smaller : goal.loop-longest-smaller
-loop-longest-smaller c =
-    let pairs = map pair_of c.args.names.now.entries in
-    let most = c.loop-longest.longest - 1 in
-    let told : c.longest_in-longest-in-loop-longest.result ≡ longest_in c.as_str.result.now most (old_names pairs) = c.longest_in-longest-in-loop-longest.ensures in
-    let bound : longest_in c.as_str.result.now most (old_names pairs) ≤ most = longest-bound c.as_str.result.now most (old_names pairs) in
-    let some : 0 < c.loop-longest.longest = c.loop-longest-test.true in
-    omega (arith, told, bound, some)
+loop-longest-smaller c = grind (arith, longest-bound)
 
 pub loop-longest-preserved : goal.loop-longest-preserved
 loop-longest-preserved c =
@@ -38,6 +27,4 @@ pub returns : goal.returns
 returns c =
     let pairs = map pair_of c.args.names.now.entries in
     let text = string_bytes c.loop-longest.new in
-    let past : c.loop-longest.longest ≤ 0 = c.loop-longest-test.false in
-    let none : c.loop-longest.longest ≡ 0 = omega (arith, past) in
-    sym (longest-done pairs text c.requires) ∙ ap (λ n. replaced_by_all (longest_pairs_first (up_to n pairs)) text) (sym none) ∙ c.loop-longest.invariant
+    sym (longest-done pairs text c.requires) ∙ ap (λ n. replaced_by_all (longest_pairs_first (up_to n pairs)) text) (sym (omega (arith, c.loop-longest-test.false))) ∙ c.loop-longest.invariant

@@ -1,4 +1,5 @@
-use Rattle.std.proofs.Common.{◌≡◌, ◌+◌, ◌-◌, ◌<◌, ◌≤◌, ◌||◌, true, false, ap, sym, ◌∙◌, map, length, drop, arith}
+use Rattle.std.proofs.Common.{◌≡◌, ◌+◌, ◌||◌, false, ap, sym, ◌∙◌, map, drop, arith}
+use Rattle.std.proofs.lemmas.Grind.{common_steps}
 use Rattle.texts.specs.Variables.{pair_of}
 use Rattle.canonical_names.specs.Counted.{old_names}
 use Rattle.canonical_names.specs.References.{window_is, windows_are}
@@ -15,20 +16,10 @@ returns-then-text-length c =
 from : (c : After-is_name_at) → windows_are c.args.length (old_names (map pair_of c.args.names.now.entries)) (drop c.loop-start.start c.args.text.now)
     ≡ (window_is c.args.length (old_names (map pair_of c.args.names.now.entries)) (drop c.loop-start.start c.args.text.now)
     || windows_are c.args.length (old_names (map pair_of c.args.names.now.entries)) (drop (c.loop-start.start + 1) c.args.text.now))
-from c =
-    let text = c.args.text.now in
-    let test : c.loop-start.start < length text - c.args.length + 1 = c.loop-start-test.true in
-    let enough : c.args.length ≤ length text = c.if-text-length.false in
-    windows-from c.args.length (old_names (map pair_of c.args.names.now.entries)) c.requires text c.loop-start.start (omega (arith, test, enough))
+from c = grind (arith, windows-from)
 
 pub returns-then-is_name_at : goal.returns-then-is_name_at
-returns-then-is_name_at c =
-    let names = old_names (map pair_of c.args.names.now.entries) in
-    let text = c.args.text.now in
-    let k = c.args.length in
-    let i = c.loop-start.start in
-    let here : window_is k names (drop i text) ≡ true = sym c.is_name_at.ensures ∙ c.if-is_name_at.true in
-    sym (sym (windows-stand k names c.requires text) ∙ sym c.loop-start.invariant ∙ from (goal.at.returns-then-is_name_at c).After-is_name_at ∙ ap (λ b. b || windows_are k names (drop (i + 1) text)) here)
+returns-then-is_name_at c = grind (arith, common_steps, windows-stand, from)
 
 pub loop-start-preserved : goal.loop-start-preserved
 loop-start-preserved c =
@@ -39,11 +30,4 @@ loop-start-preserved c =
     sym (from (goal.at.loop-start-preserved c).After-is_name_at ∙ ap (λ b. b || windows_are k names (drop (i + 1) c.args.text.now)) here) ∙ c.loop-start.invariant
 
 pub returns : goal.returns
-returns c =
-    let names = old_names (map pair_of c.args.names.now.entries) in
-    let text = c.args.text.now in
-    let k = c.args.length in
-    let i = c.loop-start.start in
-    let test : length text - k + 1 ≤ i = c.loop-start-test.false in
-    let enough : k ≤ length text = c.if-text-length.false in
-    sym (sym (windows-stand k names c.requires text) ∙ sym c.loop-start.invariant ∙ windows-end k names c.requires text i (omega (arith, test, enough)))
+returns c = grind (arith, windows-stand, windows-end)

@@ -1,4 +1,4 @@
-use Rattle.std.proofs.Common.{◌≡◌, ℕ, List, ◌∙◌, ap, sym, Option, Some, Result, Ok, Err, OnOk, String, string_bytes, option_map, Global}
+use Rattle.std.proofs.Common.{◌≡◌, ℕ, List, ◌∙◌, ap, sym, Option, Some, String, string_bytes, option_map, Global}
 use Rattle.std.proofs.lemmas.Result.{IfOk-weaker, on_ok_weaker}
 use Rattle.texts.specs.Lists.{with_name}
 use Rattle.canonical_names.specs.Counted.{class_of_core}
@@ -7,23 +7,6 @@ use Rattle.canonical_names.specs.Renaming as spec
 use Rattle.canonical_names.proofs.CanonicalLemmas.{canonical-at}
 use Rattle.canonical_names.proofs.CountedLemmas.{class-at}
 use Rattle.canonical_names.proofs.remap.remap_core.Goals as goal
-
-whenever-ok : {T E P : Type 0} (r : Result T E) → P → OnOk r P
-whenever-ok (Ok x) p = p
-whenever-ok (Err e) p = tt
-
-pub returns-in-None-clause-text : goal.returns-in-None-clause-text
-returns-in-None-clause-text c =
-    let names = c.args.renames.now in
-    let text = c.args.text.now in
-    IfOk-weaker c.rewritten.result (λ (t : String Global). string_bytes t ≡ spec.rewritten names.0 names.1 text) (λ (t : String Global). string_bytes t ≡ spec.renamed_core names.0 names.1 text (class_of_core names.0 text))
-    (λ t is. is ∙ ap (spec.renamed_core names.0 names.1 text) (sym c.in-None.ensures.none)) c.rewritten.ensures
-
-pub returns-in-None-clause-names : goal.returns-in-None-clause-names
-returns-in-None-clause-names c =
-    let names = c.args.renames.now in
-    let text = c.args.text.now in
-    whenever-ok c.rewritten.result (ap (λ (o : Option (List ℕ)). (names.0, with_name names.1 (option_map (λ _. text) o))) (sym c.in-None.ensures.none))
 
 pub returns-in-Some-clause-text : goal.returns-in-Some-clause-text
 returns-in-Some-clause-text c =
@@ -40,5 +23,4 @@ returns-in-Some-clause-names c =
     let names = c.args.renames.now in
     let text = c.args.text.now in
     let at = class-at names.0 c.in-Some.class c.in-Some.ensures.within in
-    let core : class_of_core names.0 text ≡ Some at.0 = c.in-Some.ensures.none ∙ at.1 in
-    on_ok_weaker c.canonical.result (λ is. is ∙ ap (λ (o : Option (List ℕ)). (names.0, with_name names.1 (option_map (λ _. text) o))) (sym core)) c.canonical.ensures.names
+    on_ok_weaker c.canonical.result (λ is. is ∙ ap (λ (o : Option (List ℕ)). (names.0, with_name names.1 (option_map (λ _. text) o))) (sym (c.in-Some.ensures.none ∙ at.1))) c.canonical.ensures.names

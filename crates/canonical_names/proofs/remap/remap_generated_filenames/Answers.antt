@@ -1,4 +1,5 @@
-use Rattle.std.proofs.Common.{◌≡◌, ℕ, suc, ◌+◌, ◌++◌, ◌∷◌, [], ◌∙◌, ap, sym, subst, List, drop, take, drop-cons, add-one, map, string_bytes, inl, inr}
+use Rattle.std.proofs.Common.{◌≡◌, ℕ, ◌+◌, ◌++◌, ◌∷◌, [], ◌∙◌, ap, subst, List, drop, take, drop-cons, add-one, map, string_bytes, inl, inr, arith}
+use Rattle.std.proofs.lemmas.Grind.{common_steps}
 use Rattle.texts.proofs.ListLemmas.{on-error}
 use Rattle.canonical_names.specs.Renaming.{seen_after, seen_after_word, renamed_words, renamed_word}
 use Rattle.canonical_names.proofs.RemapLemmas.{seen-step, words-step, beginning-seen}
@@ -7,10 +8,7 @@ use Rattle.canonical_names.proofs.remap.remap_generated_filenames.Goals.{After-r
 
 -- the words from this one on
 front : (c : After-remap_word) → drop c.loop-word.word-index c.args.args.now ≡ c.word-item.result ∷ drop (c.loop-word.word-index + 1) c.args.args.now
-front c =
-    let args = c.args.args.now in
-    let i = c.loop-word.word-index in
-    rw add-one (drop-cons args i c.word-item.result c.loop-word-test.true ∙ ap (λ w. w ∷ drop (suc i) args) (sym c.word-item.is))
+front c = grind (arith, common_steps, add-one, drop-cons)
 
 -- the names seen after this word are those seen after one word more
 next : (c : After-remap_word) → seen_after_word c.loop-word.renames.0 c.loop-word.renames.1 (string_bytes c.word-item.result)
@@ -25,9 +23,7 @@ next c =
 
 -- once this word is renamed, its name was seen
 after : (c : In_ok-new) → c.remap_word.new.renames ≡ (c.loop-word.renames.0, seen_after_word c.loop-word.renames.0 c.loop-word.renames.1 (string_bytes c.word-item.result))
-after c =
-    let before = c.loop-word.renames in
-    c.in_ok-new.ensures.names ∙ ap (λ w. (before.0, seen_after_word before.0 before.1 w)) c.as_str-text.ensures.value
+after c = cc (c.in_ok-new.ensures.names, c.as_str-text.ensures.value)
 
 pub returns-in_err-new-clause-refused : goal.returns-in_err-new-clause-refused
 returns-in_err-new-clause-refused c =

@@ -1,6 +1,6 @@
 -- Environments in which a variable is set, at its place or at the end.
-use Rattle.std.proofs.Common.{◌≡◌, ℕ, suc, zero, Bool, true, false, List, [], ◌∷◌, ◌++◌, map, refl, ap, sym, arith, String, string_bytes, Global, slice_index_or, slice_set, Option, Some, None, option_map, if◌then◌else◌, bytes_eq, ◌∙◌}
-use Rattle.std.proofs.lemmas.Option.{none-some, same_Some}
+use Rattle.std.proofs.Common.{◌≡◌, ℕ, suc, Bool, List, [], ◌∷◌, ◌++◌, map, refl, arith, String, string_bytes, Global, slice_index_or, slice_set, Option, Some, None, option_map, if◌then◌else◌, bytes_eq}
+use Rattle.std.proofs.lemmas.Option.{none-some}
 use Rattle.std.proofs.lemmas.List.{map-append}
 use Rattle.texts.specs.Variables.{pair_of}
 use Rattle.dry_runs.specs.Environment.{Variable, with_variable}
@@ -9,9 +9,7 @@ use Rattle.command_groups.proofs.environment.set.Goals as goal
 
 unknown-step : (b : Bool) (e : Variable) (es : List Variable) (v : Variable) (p : Option ℕ) → (p ≡ None → with_variable es v ≡ es ++ v ∷ []) → (if b then Some 0 else option_map suc p) ≡ None →
     (if b then (e.0, v.1) ∷ es else e ∷ with_variable es v) ≡ e ∷ (es ++ v ∷ [])
-unknown-step true e es v p rest h = absurd (none-some 0 (sym h))
-unknown-step false e es v None rest h = ap (λ t. e ∷ t) (rest refl)
-unknown-step false e es v (Some n) rest h = absurd (none-some (suc n) (sym h))
+unknown-step b e es v p rest h = grind arith
 
 -- a variable of a new name comes last
 set-unknown : (es : List Variable) (v : Variable) → variable_place v.0 es ≡ None → with_variable es v ≡ es ++ v ∷ []
@@ -24,11 +22,7 @@ Pair = String Global × String Global
 known-step : (b : Bool) (e : Pair) (es : List Pair) (name : List ℕ) (value : String Global) (place : ℕ) (x d : Pair) (p : Option ℕ) → ((n : ℕ) → x ≡ slice_index_or es n d → p ≡ Some n → map pair_of (slice_set es n (x.0, value)) ≡ with_variable (map pair_of es) (name, string_bytes value)) →
     x ≡ slice_index_or (e ∷ es) place d → (if b then Some 0 else option_map suc p) ≡ Some place →
     map pair_of (slice_set (e ∷ es) place (x.0, value)) ≡ (if b then (string_bytes e.0, string_bytes value) ∷ map pair_of es else pair_of e ∷ with_variable (map pair_of es) (name, string_bytes value))
-known-step true e es name value zero x d p rest is h = ap (λ (y : Pair). (string_bytes y.0, string_bytes value) ∷ map pair_of es) is
-known-step true e es name value (suc place) x d p rest is h = absurd (omega (arith, same_Some 0 (suc place) h))
-known-step false e es name value place x d None rest is h = absurd (none-some place h)
-known-step false e es name value zero x d (Some n) rest is h = absurd (omega (arith, same_Some (suc n) 0 h))
-known-step false e es name value (suc place) x d (Some n) rest is h = ap (λ t. pair_of e ∷ t) (rest place is (ap Some (omega (arith, same_Some (suc n) (suc place) h))))
+known-step b e es name value place x d p rest is h = grind arith
 
 -- the first variable of a known name gets the new value, and keeps its name
 set-known : (es : List Pair) (name : List ℕ) (value : String Global) (place : ℕ) (x d : Pair) → x ≡ slice_index_or es place d → variable_place name (map pair_of es) ≡ Some place →
@@ -38,11 +32,7 @@ set-known (e ∷ es) name value place x d is h =
     known-step (bytes_eq (string_bytes e.0) name) e es name value place x d (variable_place name (map pair_of es)) (λ n is' h'. set-known es name value n x d is' h') is h
 
 pub returns-in_ok-push-in-None : goal.returns-in_ok-push-in-None
-returns-in_ok-push-in-None c =
-    ap (map pair_of) c.in_ok-push-in-None.ensures.items
-    ∙ map-append pair_of c.args.environment.now.items ((c.args.name, c.args.value) ∷ [])
-    ∙ sym (set-unknown (map pair_of c.args.environment.now.items) (string_bytes c.args.name, string_bytes c.args.value) ((λ i. variable_place (sym c.as_str.ensures.value i) (map pair_of (sym c.as_slice.ensures.value i))) ∙ sym c.in-None.ensures.place))
+returns-in_ok-push-in-None c = grind (arith, map-append, set-unknown)
 
 pub returns-in-Some : goal.returns-in-Some
-returns-in-Some c =
-    set-known c.args.environment.now.items (string_bytes c.args.name) c.args.value c.in-Some.place c.index_mut.result.now c.index_mut.result.now c.index_mut.ensures.value ((λ i. variable_place (sym c.as_str.ensures.value i) (map pair_of (sym c.as_slice.ensures.value i))) ∙ sym c.in-Some.ensures.place)
+returns-in-Some c = grind (arith, set-known)

@@ -1,4 +1,4 @@
-use Rattle.std.proofs.Common.{◌≡◌, ◌∷◌, [], ◌++◌, List, suc, map, refl, ap, subst, ◌∙◌, arith, add-one, IsPermutation, IsSorted, Result, Ok, Err, IfOk}
+use Rattle.std.proofs.Common.{◌≡◌, ◌∷◌, [], ◌++◌, List, suc, map, refl, ap, subst, ◌∙◌, arith, add-one, IsPermutation, IsSorted, Result, IfOk}
 use Rattle.std.specs.Vec.Iter.{into_iter_items}
 use Rattle.command_lines.specs.CommandLines.{CommandLine, line_of}
 use Rattle.std.proofs.lemmas.List.Sorted.{IsPermutation-map}
@@ -14,8 +14,7 @@ neighbours : (cs : List SelectedCommand) → IsSorted (compared.cmp-value).it cs
 neighbours [] s = tt
 neighbours (x ∷ []) s = tt
 neighbours (x ∷ y ∷ ys) s =
-    let tail : IsSorted (compared.cmp-value).it (y ∷ ys) = λ k d p q. rw add-one (rw add-one at (s (suc k) d (omega arith) (omega arith))) in
-    (not_greater (command_seen x) (command_seen y) _ (s 0 x (omega arith) (omega arith)), neighbours (y ∷ ys) tail)
+    (not_greater (command_seen x) (command_seen y) _ (s 0 x (omega arith) (omega arith)), neighbours (y ∷ ys) (λ k d p q. rw add-one (rw add-one at (s (suc k) d (omega arith) (omega arith)))))
 
 mapped : (xs ys : List SelectedCommand) → map command_seen (xs ++ ys) ≡ map command_seen xs ++ map command_seen ys
 mapped [] ys = refl
@@ -34,15 +33,10 @@ all_merged first second tools others commands sorted h k e f g p s =
     (ordered_by_neighbours (map command_seen sorted) (neighbours sorted s))
 
 from_both : {X E : Type 0} (P Q R : X → Type 0) → ((x : X) → P x → Q x → R x) → (r : Result X E) → IfOk r P → IfOk r Q → IfOk r R
-from_both P Q R f (Ok x) p q = f x p q
-from_both P Q R f (Err e) p q = tt
+from_both X E P f R p q = grind arith
 
 both : (c : goal.After-drop-others-2) → IfOk c.in_order.result (λ merged. (map command_seen (into_iter_items merged) ≡ spec.merged c.args.first c.args.second) × RisesInOrder (map command_seen (into_iter_items merged)))
-both c =
-    from_both _ _ _
-    (λ it p s. all_merged c.args.first c.args.second c.in_ok-commands.commands.items c.in_ok-others.others.items c.append.new.self.items (into_iter_items it)
-    c.requires.first_rises c.requires.second_rises c.in_ok-commands.ensures c.in_ok-others.ensures c.in_ok-append.ensures.items p s)
-    c.in_order.result c.in_order.ensures.same c.in_order.ensures.sorted
+both c = grind (arith, from_both, all_merged)
 
 pub returns-clause-commands : goal.returns-clause-commands
 returns-clause-commands c = from_both _ _ _ (λ it p s. p.0) c.in_order.result (both c) (both c)

@@ -1,13 +1,10 @@
-use Rattle.std.proofs.Common.{◌∙◌, map, sym, string_bytes}
-use Rattle.command_groups.specs.WordPlace.{word_place}
+use Rattle.std.proofs.Common.{arith}
+use Rattle.std.proofs.lemmas.Grind.{common_steps}
 use Rattle.command_groups.proofs.WordLemmas.{without-unknown, without-known}
 use Rattle.command_groups.proofs.stage.without_first_word.Goals as goal
 
 pub returns-in-None : goal.returns-in-None
-returns-in-None c =
-    sym (without-unknown c.args.word.now (map string_bytes c.args.words.items) ((λ i. word_place c.args.word.now (map string_bytes (sym c.as_slice.ensures.value i))) ∙ sym c.in-None.ensures.place))
+returns-in-None c = simp (without-unknown, c.as_slice.ensures.value, c.in-None.ensures.place)
 
 pub returns-in-Some : goal.returns-in-Some
-returns-in-Some c =
-    (λ i. map string_bytes (c.remove.ensures.items i))
-    ∙ without-known c.args.word.now c.args.words.items c.in-Some.place ((λ i. word_place c.args.word.now (map string_bytes (sym c.as_slice.ensures.value i))) ∙ sym c.in-Some.ensures.place)
+returns-in-Some c = grind (arith, common_steps, without-known)

@@ -1,6 +1,6 @@
 use Rattle.std.proofs.Common.{◌≡◌, IfOk, subst, nat_le, length, true, arith, option_map}
 use Rattle.dry_runs.specs.Limit.{words_seen}
-use Rattle.dry_runs.proofs.FittingLemmas.{words-too_long, words-from, first-none, first-some}
+use Rattle.dry_runs.proofs.FittingLemmas.{words-too_long, words-from, first-none}
 use Rattle.dry_runs.proofs.environment.expanded_words_within.Goals as goal
 
 pub returns-then-text-left : goal.returns-then-text-left
@@ -14,12 +14,3 @@ returns-in-None c =
     let fits : nat_le (length text) left ≡ true = grind (arith, c.if-text-left.false) in
     subst (λ q. IfOk c.words_alone.result (λ found. option_map words_seen found ≡ q))
     (words-from left env text _ fits (first-none left env 0 text c.first_reference.result c.in-None.is c.first_reference.ensures.found)) c.words_alone.ensures
-
-pub returns-in-Some : goal.returns-in-Some
-returns-in-Some c =
-    let left = c.args.left in
-    let env = c.args.env.now in
-    let text = c.args.text.now in
-    let fits : nat_le (length text) left ≡ true = grind (arith, c.if-text-left.false) in
-    subst (λ q. IfOk c.words_of_expanded.result (λ found. option_map words_seen found ≡ q))
-    (words-from left env text _ fits (first-some left env 0 text c.first_reference.result c.in-Some.first c.in-Some.is c.first_reference.ensures.found)) c.words_of_expanded.ensures

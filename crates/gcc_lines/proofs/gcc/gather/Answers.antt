@@ -1,10 +1,9 @@
-use Rattle.std.proofs.Common.{Option, Result, length, arith, ap, sym, subst, ◌∙◌, option_map, option_copied}
+use Rattle.std.proofs.Common.{Option, Result, ap, sym, subst, ◌∙◌, option_map, option_copied}
 use Rattle.gcc_lines.specs.declared.gcc.options.ArgData.{ArgData}
 use Rattle.option_items.specs.declared.items.Argument.{Argument}
 use Rattle.option_items.specs.declared.items.ArgParseError.{ArgParseError}
 use Rattle.option_items.specs.Table.{Entry, entry_of}
 use Rattle.option_items.specs.Items.{Completes, said_of, item_of, item_read}
-use Rattle.option_items.proofs.ItemLemmas.{words-completed}
 use Rattle.gcc_lines.specs.GccSteps.{asked_by}
 use Rattle.gcc_lines.proofs.GccLemmas.{gathering_after, after_item, after_refusal, after_dashes}
 use Rattle.gcc_lines.proofs.gcc.gather.Goals as goal
@@ -25,10 +24,6 @@ returns-in-Some-refusal g c =
     let read = subst (λ (e : Option (Entry ArgData)). Completes (said_of c.in-Some.word.now e) c.next_word.new.self (item_of c.in-Ok.item) c.read_item.new.line) c.search-row.ensures asked in
     c.loop-word.invariant ∙ ap (gathering_after chosen c.args.cwd.now (asked_by c.loop-word.gathered)) c.in-Some.ensures
     ∙ after_refusal chosen c.args.cwd.now (asked_by c.loop-word.gathered) c.in-Some.word.now c.next_word.new.self (item_of c.in-Ok.item) c.read_item.new.line read c.in-Some-refusal.text.now (sym c.is_dashes.ensures ∙ c.if-is_dashes.false) (sym c.in-Some-refusal.ensures)
-
-pub loop-word-smaller : goal.loop-word-smaller
-loop-word-smaller g c =
-    omega (arith, words-completed (said_of c.in-Some.word.now (option_map entry_of (option_copied c.search-row.result))) c.next_word.new.self (item_read c.in_ok-item.field-0) c.read_item.new.line c.in_ok-item.ensures.item, ap length c.in-Some.ensures)
 
 pub loop-word-preserved : goal.loop-word-preserved
 loop-word-preserved g c =

@@ -1,14 +1,7 @@
-use Rattle.std.proofs.Common.{◌++◌, append-nil, map, drop_of_length-le, length, vec_items, sym, ap, ◌∙◌}
-use Rattle.serde_json.specs.Data.{array}
-use Rattle.serde_json.specs.View.{items_of, view}
+use Rattle.std.proofs.Common.{append-nil, drop_of_length-le, arith}
+use Rattle.std.proofs.lemmas.Grind.{common_steps}
 use Rattle.serde_json.proofs.Views.{view-Array}
-use Rattle.plan_json.specs.Compdb.{records_from}
 use Rattle.plan_json.proofs.compdb.records_value.Goals as goal
 
 pub returns : goal.returns
-returns c =
-    let seen = map view c.loop-group.list.items in
-    view-Array c.loop-group.list ∙ ap (λ ds. array (items_of ds))
-    (sym (append-nil seen)
-    ∙ ap (λ gs. seen ++ records_from (length c.args.groups.now) c.loop-group.group (map vec_items gs)) (sym (drop_of_length-le c.args.groups.now c.loop-group-test.false))
-    ∙ c.loop-group.invariant)
+returns c = grind (arith, common_steps, view-Array, append-nil, drop_of_length-le)

@@ -1,12 +1,11 @@
-use Rattle.std.proofs.Common.{sym, ◌∙◌}
+use Rattle.std.proofs.Common.{sym, ◌∙◌, arith}
 use Rattle.std.proofs.lemmas.List.{nil_from_length}
+use Rattle.std.proofs.lemmas.Grind.{common_steps}
 use Rattle.program_lookups.proofs.SnapshotLemmas.{taken-all, taken-snapshot}
 use Rattle.program_lookups.proofs.disk.answered.Goals as goal
 
 pub returns-clause-taken : goal.returns-clause-taken
-returns-clause-taken g c =
-    let rest = c.loop-lookup.lookup-iterator.rest in
-    taken-all (goal.F-post g c.args.runs.now) c.args.lookups.items rest.items c.loop-lookup.entries.items c.new.result (nil_from_length _ (sym rest.ok.0 ∙ c.in-None.ensures.steps.0)) c.new.ensures c.loop-lookup.invariant
+returns-clause-taken g c = grind (arith, common_steps, taken-all, nil_from_length)
 
 pub returns-clause-tried : goal.returns-clause-tried
 returns-clause-tried g c =

@@ -1,18 +1,16 @@
-use Rattle.std.proofs.Common.{◌≡◌, ◌++◌, ◌∙◌, refl, ap, sym, string_bytes, encode_utf8, encode_utf8_all, map-id, flat_map, chars}
+use Rattle.std.proofs.Common.{◌≡◌, ◌++◌, ◌∙◌, refl, ap, sym, string_bytes, encode_utf8, encode_utf8_all, map-id, flat_map, chars, arith}
 use Rattle.std.proofs.lemmas.Bool.{cond-true}
 use Rattle.std.proofs.lemmas.Iterator.{YieldsList-from_chars}
 use Rattle.std.proofs.lemmas.Iterator.Consumers.{YieldsList-end}
 use Rattle.std.proofs.lemmas.Str.{encodes-chars}
-use Rattle.shell_words.specs.Shell.Quoting.{quoted_word, quoted_char, is_plain}
+use Rattle.std.proofs.lemmas.Grind.{common_steps}
+use Rattle.shell_words.specs.Shell.Quoting.{quoted_word, quoted_char}
 use Rattle.shell_words.proofs.ShellQuotingLemmas.{quoted_push, quoted_whole, ok_written}
 use Rattle.shell_words.proofs.quoting.push_word.Goals as goal
 
 -- A plain word is written as it stands.
 pub returns-then-is_plain : goal.returns-then-is_plain
-returns-then-is_plain c =
-    let written : encode_utf8_all (quoted_word (chars c.args.word.now)) ≡ c.args.word.now =
-    ap encode_utf8_all (cond-true (is_plain (chars c.args.word.now)) _ _ (sym c.is_plain.ensures ∙ c.if-is_plain.true)) ∙ encodes-chars c.args.word.now c.utf8.word in
-    ok_written c.push_str.result (string_bytes c.args.text.now) c.args.word.now (string_bytes c.push_str.new.self) (string_bytes c.args.text.now ++ encode_utf8_all (quoted_word (chars c.args.word.now))) c.push_str.ensures.bytes (ap (λ t. string_bytes c.args.text.now ++ t) (sym written))
+returns-then-is_plain c = grind (arith, common_steps, cond-true, encodes-chars, ok_written)
 
 pub loop-c-preserved : goal.loop-c-preserved
 loop-c-preserved c = quoted_push _ _ _ c.loop-c.yielded c.in-Some.c c.loop-c.invariant c.in_ok-push_char.ensures

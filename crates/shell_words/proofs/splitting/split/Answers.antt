@@ -1,7 +1,8 @@
 -- The splitter has read all of the text.
-use Rattle.std.proofs.Common.{◌≡◌, ◌∙◌, ap, sym, map, string_bytes, encode_utf8_all, fold, option_map, chars}
+use Rattle.std.proofs.Common.{◌≡◌, ◌∙◌, map, string_bytes, encode_utf8_all, option_map, chars, arith}
 use Rattle.std.proofs.lemmas.Result.{IfOk-weaker}
-use Rattle.shell_words.specs.Shell.Splitting.{split_chars, after, finished}
+use Rattle.std.proofs.lemmas.Grind.{common_steps}
+use Rattle.shell_words.specs.Shell.Splitting.{split_chars, finished}
 use Rattle.shell_words.proofs.ShellSplittingLemmas.{finished_is}
 use Rattle.shell_words.proofs.ShellSpanLemmas.{empty_chars}
 use Rattle.shell_words.proofs.ShellLawLemmas.{words_from_value}
@@ -9,10 +10,7 @@ use Rattle.shell_words.proofs.splitting.split.Goals as goal
 use Rattle.shell_words.proofs.splitting.split.Goals.{After-finish}
 
 finished_words : (c : After-finish) → finished c.loop-rest.splitter ≡ option_map (map encode_utf8_all) (split_chars (chars c.args.text.now))
-finished_words c =
-    let nothing = empty_chars c.loop-rest.rest.now (sym c.is_empty.ensures ∙ c.loop-rest-test.false) in
-    ap finished (ap (fold after c.loop-rest.splitter) (sym nothing) ∙ c.loop-rest.invariant.1)
-    ∙ finished_is (chars c.args.text.now)
+finished_words c = grind (arith, common_steps, empty_chars, finished_is)
 
 pub returns-clause-words : goal.returns-clause-words
 returns-clause-words c =

@@ -1,7 +1,8 @@
-use Rattle.std.proofs.Common.{◌≡◌, ◌++◌, ◌∷◌, [], ℕ, List, map, ap, ◌∙◌, subst, sym, false, true, cond, Bool, string_bytes, String, Some, None, if◌then◌else◌, option_copied, IfOk, OnOk, bytes_eq, Global}
+use Rattle.std.proofs.Common.{◌≡◌, ◌++◌, ◌∷◌, [], ℕ, List, map, ap, ◌∙◌, subst, sym, false, true, cond, Bool, string_bytes, String, Some, if◌then◌else◌, option_copied, IfOk, OnOk, bytes_eq, Global, arith}
 use Rattle.std.specs.List.{list_any}
 use Rattle.std.specs.Map.{lookup}
 use Rattle.std.proofs.lemmas.Result.{IfOk-weaker}
+use Rattle.std.proofs.lemmas.Grind.{common_steps}
 use Rattle.texts.specs.Variables.{pair_of}
 use Rattle.canonical_names.specs.Counted.{old_names}
 use Rattle.canonical_names.specs.Renaming as spec
@@ -14,17 +15,12 @@ known : (c : In-Some) → (string_bytes c.in-Some.known.now ≡ spec.canonical_n
     × (list_any (bytes_eq c.args.name.now) (old_names (map pair_of c.self.inside.names.entries)) ≡ true)
 known c =
     let entries = c.self.inside.names.entries in
-    let name = c.args.name.now in
-    let found : lookup (λ (k : String Global). bytes_eq name (string_bytes k)) entries ≡ Some c.in-Some.known.now = sym c.get.ensures.value ∙ ap option_copied c.in-Some.is in
-    known-name (spec.canonical_name c.self.inside.suffixes (old_names (map pair_of entries))) entries name c.self.invariant.canonical c.in-Some.known.now found
+    let found : lookup (λ (k : String Global). bytes_eq c.args.name.now (string_bytes k)) entries ≡ Some c.in-Some.known.now = sym c.get.ensures.value ∙ ap option_copied c.in-Some.is in
+    known-name (spec.canonical_name c.self.inside.suffixes (old_names (map pair_of entries))) entries c.args.name.now c.self.invariant.canonical c.in-Some.known.now found
 
 -- a name that wasn't found wasn't seen
 absent : (c : In_default) → list_any (bytes_eq c.args.name.now) c.args.self.now.1 ≡ false
-absent c =
-    let entries = c.self.inside.names.entries in
-    let name = c.args.name.now in
-    let missing : lookup (λ (k : String Global). bytes_eq name (string_bytes k)) entries ≡ None = sym c.get.ensures.value ∙ ap option_copied c.in_default.is in
-    subst (λ (r : List (List ℕ) × List (List ℕ)). list_any (bytes_eq name) r.1 ≡ false) c.self.view_is (unknown-name entries name missing)
+absent c = grind (arith, common_steps, unknown-name)
 
 pub returns-in-Some-clause-name : goal.returns-in-Some-clause-name
 returns-in-Some-clause-name c =

@@ -1,4 +1,4 @@
-use Rattle.std.proofs.Common.{◌≡◌, ◌<◌, ◌≤◌, ℕ, List, length, get_or, map, sym, subst, ◌∙◌, arith}
+use Rattle.std.proofs.Common.{◌≡◌, ◌<◌, ℕ, List, length, get_or, map, sym, subst, ◌∙◌, arith}
 use Rattle.texts.specs.Variables.{pair_of}
 use Rattle.canonical_names.specs.Counted.{old_names, IsCount}
 use Rattle.canonical_names.proofs.CountedLemmas.{counter-read, counter-limit, counter-is, old_names-length}
@@ -7,18 +7,13 @@ use Rattle.canonical_names.proofs.renames.Renames.count.Goals as goal
 pub prove-unreachable-requires : goal.prove-unreachable-requires
 prove-unreachable-requires c =
     let suffixes = c.self.inside.suffixes in
-    let entries = c.self.inside.names.entries in
-    let pairs = map pair_of entries in
+    let pairs = map pair_of c.self.inside.names.entries in
     let counts = c.self.inside.counts.items in
     let i = c.args.class in
     let x = c.index-count.result.now in
     let within : i < length suffixes = subst (λ (r : List (List ℕ) × List (List ℕ)). i < length r.0) (sym c.self.view_is) c.requires in
     let read : x ≡ get_or counts i 0 = counter-read suffixes (old_names pairs) pairs counts c.self.invariant i x within c.index-count.ensures in
-    let limit : get_or counts i 0 ≤ length (old_names pairs) = counter-limit suffixes (old_names pairs) pairs counts c.self.invariant i within in
-    let all : length (old_names pairs) ≡ length entries = old_names-length entries in
-    let most : c.len.result ≡ length entries = c.len.ensures.len in
-    let above : c.len.result < x = c.if-prove.true in
-    omega (arith, read, limit, all, most, above)
+    omega (arith, read, (counter-limit suffixes (old_names pairs) pairs counts c.self.invariant i within), old_names-length)
 
 pub returns-clause-value : goal.returns-clause-value
 returns-clause-value c =

@@ -11,7 +11,6 @@ pub invariant_of-self-2 : goal.invariant_of-self-2
 invariant_of-self-2 c =
     let suffixes = c.self.inside.suffixes in
     let entries = c.self.inside.names.entries in
-    let counts = c.self.inside.counts.items in
     let i = c.args.class in
     let k = c.count-count.result in
     let name = string_bytes c.args.name in
@@ -22,7 +21,7 @@ invariant_of-self-2 c =
     let canonical : string_bytes c.args.canonical ≡ canonical_name suffixes (old_names (map pair_of entries)) name = subst (λ (r : List (List ℕ) × List (List ℕ)). string_bytes c.args.canonical ≡ canonical_name r.0 r.1 name) back c.requires.canonical in
     let count : IsCount suffixes (old_names (map pair_of entries)) i k = subst (λ (r : List (List ℕ) × List (List ℕ)). IsCount r.0 r.1 i k) back c.count-count.ensures.value in
     let is : c.insert.new.self.entries ≡ entries ++ (c.args.name, c.args.canonical) ∷ [] = c.in_ok-insert.ensures.entries ∙ entry-last entries c.args.name c.args.canonical new in
-    put-counted suffixes entries c.insert.new.self.entries counts (slice_set counts i (k + 1)) c.args.name c.args.canonical i k c.self.invariant within class new canonical is count refl
+    put-counted suffixes entries c.insert.new.self.entries c.self.inside.counts.items (slice_set c.self.inside.counts.items i (k + 1)) c.args.name c.args.canonical i k c.self.invariant within class new canonical is count refl
 
 pub returns-clause-names : goal.returns-clause-names
 returns-clause-names c =

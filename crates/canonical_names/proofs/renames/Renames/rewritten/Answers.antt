@@ -1,6 +1,7 @@
-use Rattle.std.proofs.Common.{◌≡◌, ℕ, List, map, ◌∙◌, subst, sym, false, string_bytes, String, IfOk, Global}
+use Rattle.std.proofs.Common.{◌≡◌, ℕ, List, map, ◌∙◌, subst, sym, false, string_bytes, String, IfOk, Global, arith}
 use Rattle.std.specs.List.{list_any}
 use Rattle.std.proofs.lemmas.Result.{IfOk-weaker}
+use Rattle.std.proofs.lemmas.Grind.{common_steps}
 use Rattle.texts.specs.Variables.{pair_of}
 use Rattle.canonical_names.specs.Alike.{holds}
 use Rattle.canonical_names.specs.Counted.{old_names}
@@ -20,9 +21,7 @@ returns-then-not-stand_in c =
     (λ t h. h ∙ rewritten-none suffixes names text c.self.invariant.classes none) c.from_str.ensures.ok)
 
 pub rewrite-requires : goal.rewrite-requires
-rewrite-requires c =
-    let pairs = map pair_of c.self.inside.names.entries in
-    pairs-named c.self.inside.suffixes (old_names pairs) pairs c.self.invariant.accepted c.self.invariant.classes c.self.invariant.canonical
+rewrite-requires c = grind (arith, common_steps, pairs-named)
 
 pub returns : goal.returns
 returns c =

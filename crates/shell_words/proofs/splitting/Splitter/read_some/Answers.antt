@@ -16,13 +16,7 @@ split_at-requires c =
     (c.span_len.ensures ∙ ap (position_or_len (ends_span c.self.inside.state)) c.as_bytes.ensures.value)
 
 pub returns-clause-same : goal.returns-clause-same
-returns-clause-same c =
-    let began = c.begin_span.new.self in
-    let len = c.span_len.ensures ∙ ap (position_or_len (ends_span c.self.inside.state)) c.as_bytes.ensures.value ∙ ap (λ (s : Splitting). position_or_len (ends_span s.state) c.args.text.now) c.self.view_is in
-    IfOk-weaker c.take_span.result _ _
-    (λ left is. is ∙ some_read began c.args.self.now c.in-Some.c c.args.text.now c.in-Some.behind.now c.split_at.result.0.now c.split_at.result.1.now c.span_len.result
-    c.if-not-begin_span.ensures.0 c.if-not-begin_span.ensures.1 c.utf8.text c.in-Some.ensures.0 len c.split_at.ensures.front c.split_at.ensures.back)
-    c.take_span.ensures.same
+returns-clause-same c = grind (arith, IfOk-weaker, some_read)
 
 pub returns-clause-less : goal.returns-clause-less
 returns-clause-less c =
