@@ -404,8 +404,8 @@ def chosen(crates: List[Any], record: Record) -> Dict[str, List[WrongBody]]:
 
 
 class Queue:
-    """The attempts that are left, those of the libraries below first. With the log of `rt ci`, an attempt waits until its crate is
-    proved."""
+    """The attempts that are left. Those with most libraries below come first: they take longest, and would else be left alone at the
+    end. With the log of `rt ci`, an attempt waits until its crate is proved."""
 
     def __init__(self, attempts: List[Attempt], log: str, say: Callable[[str], None]):
         self.attempts, self.log, self.say, self.lock = attempts, log, say, threading.Lock()
@@ -463,7 +463,7 @@ def main(words: List[str]) -> int:
     if not crates or set(named) - set(with_edits):
         print(__doc__, file=sys.stderr)
         return 2
-    crates.sort(key=lambda it: len(it.below()))
+    crates.sort(key=lambda it: len(it.below()), reverse=True)
     # (it ends what it started when this program ends; its first call sets a signal's handler, which only the main thread may)
     rtlib.guarded()
     printing = threading.Lock()
