@@ -40,7 +40,7 @@ help:
 # A cicc line that is read and written back, and the plan of two real dry runs: the calls in demo/.
 demo:
 	@echo 'This builds cudaplan without proving it and runs it twice, in about a minute. make build proves it.'
-	@cd crates/cudaplan && rt try --data one_target.dry1=../test_plans/data/dry_runs/one_target.dry1 --data one_target.dry2=../test_plans/data/dry_runs/one_target.dry2 --cases ../../demo
+	@cd crates/cudaplan && rt try --data one_target.dry1=../../tests/drivers/test_plans/data/dry_runs/one_target.dry1 --data one_target.dry2=../../tests/drivers/test_plans/data/dry_runs/one_target.dry2 --cases ../../demo
 
 # rt builds a program only when it runs it, and leaves it in out/. So each program makes a short call, whose output is thrown away.
 build:
@@ -109,7 +109,7 @@ uninstall:
 	rm -rf "$(target)/share/zigrunk" "$(target)/share/doc/zigrunk"
 
 bench:
-	cd crates/cudabench && rt run -- line 100000 cicc /w --device-c -arch compute_80 --module_id_file_name kernel.module_id kernel.cpp1.ii --simt-only -o kernel.ptx
+	cd tests/drivers/cudabench && rt run -- line 100000 cicc /w --device-c -arch compute_80 --module_id_file_name kernel.module_id kernel.cpp1.ii --simt-only -o kernel.ptx
 
 # libzigrunk by libFuzzer, with code that counts its branches. It keeps inputs and figures in out/fuzz.
 FUZZ_SECONDS ?= 3600
