@@ -13,7 +13,8 @@ help:
 	@echo '                      make install-programs and make install-library install, and build, one of them'
 	@echo 'make uninstall        remove what make install installed, with the same PREFIX and DESTDIR'
 	@echo 'make check CRATE=dry_runs   prove one crate over kept libraries, or with FUNCTION=PATH one function of it; no verdict'
-	@echo 'make test             the whole gate; the last line is N passed, M failed; BODIES=all tries all wrong bodies'
+	@echo 'make test             the whole gate, with rt ci in it; the last line is N passed, M failed; BODIES=all tries all wrong bodies,'
+	@echo '                      ANEW=1 takes no proof from an earlier run on this machine'
 	@echo 'make drivers          compile the test drivers, unproved, and run their cases, or those of NAMES="test_lines"'
 	@echo 'make must-fail        check that the prover rejects the wrong bodies of all crates, or of CRATES="texts dry_runs"'
 	@echo 'make fuzz-library     fuzz libzigrunk for an hour, guided by coverage; needs clang with libFuzzer; FUZZ_SECONDS=3600'
@@ -109,7 +110,7 @@ uninstall:
 	rm -rf "$(target)/share/zigrunk" "$(target)/share/doc/zigrunk"
 
 bench:
-	cd tests/drivers/cudabench && rt run -- line 100000 cicc /w --device-c -arch compute_80 --module_id_file_name kernel.module_id kernel.cpp1.ii --simt-only -o kernel.ptx
+	tests/drivers.sh --run cudabench line 100000 cicc /w --device-c -arch compute_80 --module_id_file_name kernel.module_id kernel.cpp1.ii --simt-only -o kernel.ptx
 
 # libzigrunk by libFuzzer, with code that counts its branches. It keeps inputs and figures in out/fuzz.
 FUZZ_SECONDS ?= 3600
@@ -120,7 +121,7 @@ fuzz-library:
 drivers:
 	@tests/drivers.sh $(NAMES)
 
-# The prover has to reject each wrong body in crates/NAME/must-fail. It notes in tests/must_fail.tried what it tried.
+# The prover has to reject each wrong body in crates/NAME/must-fail and crates/NAME/wrong-bodies. It notes in tests/must_fail.tried what it tried.
 must-fail:
 	tests/must_fail.py $(CRATES)
 
@@ -197,6 +198,6 @@ test-install:
 	@.ci/built check library || $(MAKE) lib
 	@tests/install.sh
 
-# Every proof from nothing, the wrong bodies, the tests and the programs, then calls of the built programs and of nvcc.
+# rt ci: every proof, wrong bodies, tests and programs. Beside it all other tests, of what it built.
 test:
 	@.ci/gate
