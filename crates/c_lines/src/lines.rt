@@ -267,8 +267,8 @@ fn rewritten_by(alloc: Global, tool: LineTool, line: &Line<'_>) -> Result<Outcom
     }
 }
 
-// The JSON of a call's line.
-fn json_outcome(alloc: Global, call: &LineCall<'_>) -> Result<Outcome, AllocError>
+/// What [`line`] tells: the JSON of a call's line.
+pub fn json_outcome(alloc: Global, call: &LineCall<'_>) -> Result<Outcome, AllocError>
     ensures { IfOk result (λ outcome. outcome ≡ spec.json_outcome call.now) }
 {
     match line_in(alloc, call) {
@@ -283,8 +283,8 @@ fn json_outcome(alloc: Global, call: &LineCall<'_>) -> Result<Outcome, AllocErro
     }
 }
 
-// The words of a call's line.
-fn words_outcome(alloc: Global, call: &LineCall<'_>) -> Result<Outcome, AllocError>
+/// What [`line_words`] tells: the words of a call's line.
+pub fn words_outcome(alloc: Global, call: &LineCall<'_>) -> Result<Outcome, AllocError>
     ensures { IfOk result (λ outcome. outcome ≡ spec.words_outcome call.now) }
 {
     match line_in(alloc, call) {
