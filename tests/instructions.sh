@@ -2,7 +2,7 @@
 # Counts the instructions of plans by libzigrunk, beside those of the same plan by `cudabench plan`: of 21 calls less those of one, by 20.
 # docs/PERFORMANCE.md has what came out. Outside the gate, since it compares nothing.
 #
-#   tests/instructions.sh [ARCHIVE [CUDABENCH]]    what `make lib` leaves and what `rt run` leaves in tests/drivers/cudabench, unless given
+#   tests/instructions.sh [ARCHIVE [CUDABENCH]]    what `make lib` leaves and what `tests/drivers.sh --build cudabench` does, unless given
 #
 #   NAME=two_targets     the dry runs, of those in tests/drivers/test_plans/data/dry_runs
 set -eu

@@ -312,7 +312,7 @@ pub fn line(alloc: Global, call: &LineCall<'_>, out: &mut [u8]) -> TextAnswer
 /// Reads a line of a tool and lists the words that it is written back as, as `CCompilerImpl::generate_compile_commands` of that
 /// tool. The input's path is that of the line.
 ///
-/// Refuses what [`line`] refuses, and then arguments that can't be written back.
+/// Refuses what [`line()`] refuses, and then arguments that can't be written back.
 pub fn line_words(
     alloc: Global,
     call: &LineCall<'_>,
