@@ -73,6 +73,14 @@ struct Call<'a> {
     folder: Option<CallFolder>,
 }
 
+/// Answers zigrunk-batch, which makes each call twice: the first time it asks for a plan. The call isn't planned then: made as one command,
+/// it is split all the same.
+fn answers_batch() -> bool {
+    let Some(plan) = env::var_os("ZIGRUNK_PLAN").filter(|plan| !plan.is_empty()) else { return false };
+    let is_planned = fs::metadata(&plan).is_ok_and(|file| file.len() > 0);
+    !is_planned && fs::write(&plan, "nvcc\nzigrunk-nvcc splits it\n").is_ok()
+}
+
 /// Makes a call, given the name by which the program was started and its words. Says its status.
 pub fn make(own_name: &OsStr, words: &[OsString]) -> i32 {
     let settings = Settings::of_environment();
@@ -83,10 +91,12 @@ pub fn make(own_name: &OsStr, words: &[OsString]) -> i32 {
             return 127;
         }
     };
-    let begun = host::now();
-    let mut call = Call { settings, compiler, words, begun, age: (begun * 1e9) as u64, host: None, folder: None };
+        let mut call = Call { settings, compiler, words, begun: host::now(), age: host::nanoseconds(), host: None, folder: None };
     if !call.settings.inside.is_empty() {
         return call.become_nvcc(&[]);
+    }
+    if answers_batch() {
+        return 0;
     }
     match call.split() {
         Ok(status) => call.end(status),
@@ -160,7 +170,7 @@ impl Call<'_> {
         let waits = make_flags.server.is_some() && server.is_none();
         self.start_host(server, make_flags.jobs.filter(|_| waits))?;
         let dry_runs = self.dry_runs(&line, &outline, &tmp)?;
-        self.run(&line, &outline, &tmp, dry_runs)
+        self.run(&line, &outline, &tmp, &dry_runs)
     }
 
     /// The call as a line, if its texts are UTF-8.
@@ -217,7 +227,7 @@ impl Call<'_> {
     }
 
     /// Plans the call and runs its commands. Says its status.
-    fn run(&mut self, line: &Line, outline: &Outline, tmp: &str, dry_runs: DryRuns) -> Result<i32, Stop> {
+    fn run(&mut self, line: &Line, outline: &Outline, tmp: &str, dry_runs: &DryRuns) -> Result<i32, Stop> {
         let keeps = outline.keep_dir.is_some();
         let to_plan = ToPlan { dry_runs: [&dry_runs.first, &dry_runs.second], cwd: &line.cwd, tmp, flag: &outline.flag, keeps };
         let commands = planner::plan(&to_plan)?;
@@ -229,7 +239,7 @@ impl Call<'_> {
         let launcher = self.settings.launcher.first().cloned().unwrap_or_default();
         let mut maker = RuleMaker { commands: &commands, asked: outline.dependencies.as_ref(), launcher };
         let done = run::run(self.host()?, &mut maker, &tasks, at_once)?;
-        self.check_end(&done, &tasks, &dry_runs)?;
+        self.check_end(&done, &tasks, dry_runs)?;
         let status = say(&dry_runs.messages, &tasks, &done, &self.settings);
         if let Some(keep_dir) = &outline.keep_dir {
             products::keep(Path::new(tmp), Path::new(keep_dir), begun);

@@ -45,7 +45,7 @@ fn planned_job(words: &Words) -> Job {
 }
 
 /// Runs jobs side by side in one slot, and waits for all.
-fn all<M: Machine>(machine: &mut M, jobs: Vec<Job>) -> Result<Vec<Ended>, Failed> {
+fn all<M: Machine>(machine: &mut M, jobs: &[Job]) -> Result<Vec<Ended>, Failed> {
     let mut ended: Vec<Option<Ended>> = vec![None; jobs.len()];
     let mut running = 0;
     machine.want(true);
@@ -89,7 +89,7 @@ fn for_one_thread<M: Machine>(machine: &mut M, line: &Line<'_>, failed: &[u8]) -
     if !lines().any(is_of_threads) {
         return Err(fails());
     }
-    let again = all(machine, vec![own_job(line, &["--threads", "1"])])?;
+    let again = all(machine, &[own_job(line, &["--threads", "1"])])?;
     let said = lines().filter(|line| !line.starts_with(b"#$ ") && !is_of_threads(line));
     match again.as_slice() {
         [again] if again.status.succeeded() => {
@@ -121,26 +121,24 @@ pub fn make<M: Machine>(machine: &mut M, line: &Line<'_>) -> Result<DryRuns, Fai
     let places = Places { cwd: line.cwd, keep_dir: outline.keep_dir.as_deref(), has_rule: outline.dependencies.is_some() };
     let mut jobs = vec![own_job(line, &[]), planned_job(&outline.second_dry_run)];
     jobs.extend(outline.keep_dir.is_some().then(|| planned_job(&outline.first_dry_run)));
-    let mut ended = all(machine, jobs)?.into_iter();
+    let mut ended = all(machine, &jobs)?.into_iter();
     let (Some(own), Some(second), first) = (ended.next(), ended.next(), ended.next()) else { return Err(fails()) };
     let own = if own.status.succeeded() { own.errors } else { for_one_thread(machine, line, &own.errors)? };
     if [Some(&second), first.as_ref()].into_iter().flatten().any(|run| !run.status.succeeded()) {
         return Err(fails());
     }
-    let first = match first {
-        Some(first) => first.errors,
-        None => {
-            let derived = without_folder(&second.errors, format!("{}/", line.tmp).as_bytes());
-            if have_same_commands(&own, &derived, &places) { derived } else { first_by_nvcc(machine, outline)? }
-        }
-    };
-    if !have_same_commands(&own, &first, &places) {
+    let derived = || without_folder(&second.errors, format!("{}/", line.tmp).as_bytes());
+    let mut commands = first.map_or_else(derived, |first| first.errors);
+    if outline.keep_dir.is_none() && !have_same_commands(&own, &commands, &places) {
+        commands = first_by_nvcc(machine, outline)?;
+    }
+    if !have_same_commands(&own, &commands, &places) {
         return Err(Failed::ByNvcc("nvcc reads the line otherwise".into()));
     }
-    Ok(DryRuns { first, second: second.errors, messages: messages(&own) })
+    Ok(DryRuns { first: commands, second: second.errors, messages: messages(&own) })
 }
 
 fn first_by_nvcc<M: Machine>(machine: &mut M, outline: &Outline) -> Result<Vec<u8>, Failed> {
-    let ended = all(machine, vec![planned_job(&outline.first_dry_run)])?;
+    let ended = all(machine, &[planned_job(&outline.first_dry_run)])?;
     ended.into_iter().find(|run| run.status.succeeded()).map(|run| run.errors).ok_or_else(fails)
 }

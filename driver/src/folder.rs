@@ -1,18 +1,19 @@
 //! The user's folder for temporary files, and the directory of a call in it.
 //!
 //! The user's folder is made once, checked once opened, and never removed: nobody else can come between the check and the use.
+use crate::host::nanoseconds;
 use crate::system::{self, Opening};
 use std::fs::{self, File, Metadata};
 use std::io;
 use std::os::fd::{AsFd, BorrowedFd, OwnedFd};
 use std::os::unix::fs::MetadataExt;
 use std::path::{Path, PathBuf};
-use std::time::{Duration, SystemTime};
+use std::time::Duration;
 
 /// How many equal calls may have directories at once.
 const MOST_EQUAL_CALLS: usize = 64;
 /// How long what a killed call left stays, if no equal call takes it.
-const LEFT_ALONE: Duration = Duration::from_secs(600);
+const LEFT_ALONE: Duration = Duration::new(600, 0);
 
 /// An open folder.
 #[derive(Debug)]
@@ -161,7 +162,7 @@ fn lock(user: &Folder, name: &str) -> io::Result<Option<OwnedFd>> {
 /// A directory of a name that nobody else has.
 fn random(above: &Path) -> io::Result<CallFolder> {
     let parent = File::open(above)?;
-    let mut seed = SystemTime::now().duration_since(SystemTime::UNIX_EPOCH).map_or(0, |time| time.as_nanos() as u64) ^ u64::from(std::process::id()) << 40;
+    let mut seed = nanoseconds() ^ u64::from(std::process::id()) << 40;
     for _ in 0..100 {
         seed = seed.wrapping_mul(6_364_136_223_846_793_005).wrapping_add(1_442_695_040_888_963_407);
         let name = format!("zigrunk.{:06x}", seed >> 40);

@@ -61,7 +61,6 @@ pub struct Guard {
     /// Nobody else has this end, so the guard sees when the call is gone.
     _alive: OwnedFd,
     shared: Shared,
-    process: i32,
 }
 
 impl Guard {
@@ -73,16 +72,12 @@ impl Guard {
     pub fn start(shared: Shared, folder: &mut Option<CallFolder>, tokens: Option<&OwnedFd>) -> io::Result<Guard> {
         let (gone, alive) = system::pipe()?;
         let alive_there = alive.as_raw_fd();
-        let process = system::fork_to(|| {
+        system::fork_to(|| {
             system::close(alive_there);
             system::leave_streams();
             watch(&gone, shared, folder.take(), tokens);
         })?;
-        Ok(Guard { _alive: alive, shared, process })
-    }
-
-    pub fn process(&self) -> i32 {
-        self.process
+        Ok(Guard { _alive: alive, shared })
     }
 
     /// Says that the call has ended by itself. The guard ends then.

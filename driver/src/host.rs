@@ -16,8 +16,8 @@ use std::path::Path;
 use std::ptr;
 use std::time::{Duration, Instant, SystemTime};
 
-/// How long a call waits at most until it looks again for a slot of a call that died.
-const LOOK: Duration = Duration::from_millis(200);
+/// How many milliseconds a call waits at most until it looks again for a slot of a call that died.
+const LOOK: i32 = 200;
 /// How long commands may take to end after a signal.
 const GRACE: Duration = Duration::from_secs(1);
 
@@ -68,6 +68,12 @@ pub struct Host {
 /// The time in seconds.
 pub fn now() -> f64 {
     SystemTime::now().duration_since(SystemTime::UNIX_EPOCH).map_or(0.0, |time| time.as_secs_f64())
+}
+
+/// The time in nanoseconds.
+pub fn nanoseconds() -> u64 {
+    let time = SystemTime::now().duration_since(SystemTime::UNIX_EPOCH).unwrap_or_default();
+    time.as_secs() * 1_000_000_000 + u64::from(time.subsec_nanos())
 }
 
 /// All that a file in memory holds.
@@ -127,10 +133,6 @@ impl Host {
 
     pub fn signals(&self) -> &Signals {
         &self.signals
-    }
-
-    pub fn tokens(&self) -> Option<&Tokens> {
-        self.tokens.as_ref()
     }
 
     /// Has nothing any more that another call may want. The guard ends.
@@ -201,10 +203,12 @@ impl Host {
         self.give_back(permit);
         let permits: Vec<Slot> = self.running.iter_mut().filter_map(|it| it.permit.as_mut()?.slot.take()).collect();
         if let Some(slots) = &mut self.slots {
-            permits.into_iter().for_each(|slot| slots.give_back(slot));
+            for slot in permits {
+                slots.give_back(slot);
+            }
             slots.end_to_wait();
         }
-        self.signals.stop();
+        Signals::stop();
         self.signal_all(CONT);
     }
 
@@ -248,8 +252,8 @@ impl Host {
             Printed::Memory(_) => None,
         }));
         let holds = self.permit.is_some() || !self.running.is_empty();
-        let longest = if waits.is_some() { Some(LOOK) } else if holds && self.slots.is_some() { Some(BEAT) } else { None };
-        system::wait_for(&files, longest.map_or(-1, |time| time.as_millis() as i32));
+        let longest = if waits.is_some() { LOOK } else if holds && self.slots.is_some() { BEAT } else { -1 };
+        system::wait_for(&files, longest);
         if let Some(slots) = &self.slots {
             slots.awake();
         }
@@ -259,7 +263,7 @@ impl Host {
 
     /// Says once a second that this call runs.
     fn beat(&mut self) {
-        if self.beaten.elapsed() < BEAT {
+        if self.beaten.elapsed().as_millis() < BEAT as u128 {
             return;
         }
         self.beaten = Instant::now();
@@ -290,10 +294,8 @@ impl Host {
     /// The streams that a job prints to: what is read later, and what the job gets for its messages.
     fn streams(&self) -> io::Result<(File, Printed, OwnedFd)> {
         let out = system::memory_file()?;
-        if self.shows_colours {
-            if let Ok((owner, program)) = system::terminal() {
-                return Ok((out, Printed::Terminal(owner, Vec::new()), program));
-            }
+        if let Some((owner, program)) = self.shows_colours.then(system::terminal).and_then(Result::ok) {
+            return Ok((out, Printed::Terminal(owner, Vec::new()), program));
         }
         let errors = system::memory_file()?;
         let program = errors.try_clone()?.into();

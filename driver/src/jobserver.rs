@@ -7,7 +7,7 @@ use std::os::fd::{AsFd, AsRawFd, BorrowedFd, OwnedFd, RawFd};
 use std::os::unix::fs::{FileTypeExt, MetadataExt};
 use std::ptr;
 
-/// What MAKEFLAGS says of jobs.
+/// What `MAKEFLAGS` says of jobs.
 #[derive(Clone, PartialEq, Eq, Debug, Default)]
 pub struct MakeFlags {
     /// The jobserver's text, if there is one.
@@ -46,7 +46,7 @@ fn pipe_of(number: RawFd) -> Option<(u64, u64)> {
 }
 
 impl Jobserver {
-    /// The jobserver of a text in MAKEFLAGS, `fifo:PATH` or `READ,WRITE`. `None` if a recipe that make doesn't take for another make has no
+    /// The jobserver of a text in `MAKEFLAGS`, `fifo:PATH` or `READ,WRITE`. `None` if a recipe that make doesn't take for another make has no
     /// access to it.
     ///
     /// A pipe is opened again, so that not to wait for it here doesn't change it for make.

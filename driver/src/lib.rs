@@ -1,25 +1,27 @@
 //! One program under several names: zigrunk-nvcc runs the commands of an nvcc call side by side, and through a compiler cache.
 //!
 //! It acts by its name, or by its first word if that isn't a name of its own.
-pub mod call;
-pub mod dry_runs;
-pub mod folder;
-pub mod guard;
-pub mod host;
-pub mod jobserver;
-pub mod log;
-pub mod machine;
-pub mod planner;
-pub mod products;
-pub mod programs;
-pub mod rule;
-pub mod run;
-pub mod schedule;
-pub mod settings;
-pub mod slots;
-pub mod system;
-pub mod tasks;
-pub mod texts;
+mod call;
+mod dry_runs;
+mod folder;
+mod guard;
+mod host;
+mod jobserver;
+mod log;
+mod machine;
+mod planner;
+mod products;
+mod programs;
+mod rule;
+mod run;
+mod schedule;
+mod settings;
+mod slots;
+mod system;
+mod tasks;
+mod texts;
+
+pub use system::open_standard_streams;
 
 use std::ffi::{OsStr, OsString};
 use std::path::Path;

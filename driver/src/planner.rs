@@ -28,7 +28,7 @@ pub struct Line {
     pub nvcc: String,
     /// The words behind it.
     pub words: Vec<String>,
-    /// Those of NVCC_PREPEND_FLAGS, NVCC_APPEND_FLAGS, ZIGRUNK_JOBS and MAKEFLAGS that count.
+    /// Those of `NVCC_PREPEND_FLAGS`, `NVCC_APPEND_FLAGS`, `ZIGRUNK_JOBS` and `MAKEFLAGS` that count.
     pub variables: Vec<(String, String)>,
 }
 
@@ -72,20 +72,24 @@ pub struct PlannedCommand {
     pub writes: Vec<String>,
 }
 
-fn text(text: &str) -> Text {
-    Text(text.to_owned())
+fn text(text: &str) -> Result<Text, AllocError> {
+    Text::from_str(Global, text)
 }
 
-fn texts<'a>(words: impl IntoIterator<Item = &'a String>) -> Vec<Text> {
-    words.into_iter().map(|word| text(word)).collect()
+fn texts(words: &[String]) -> Result<Vec<Text>, AllocError> {
+    words.iter().map(|word| text(word)).collect()
 }
 
-fn pairs(variables: &[(String, String)]) -> Vec<(Text, Text)> {
-    variables.iter().map(|(name, value)| (text(name), text(value))).collect()
+fn pairs(variables: &[(String, String)]) -> Result<Vec<(Text, Text)>, AllocError> {
+    variables.iter().map(|(name, value)| Ok((text(name)?, text(value)?))).collect()
 }
 
-fn strings<'a>(words: impl IntoIterator<Item = &'a Text>) -> Vec<String> {
-    words.into_iter().map(|word| word.0.clone()).collect()
+fn string(text: &Text) -> String {
+    text.as_str().to_owned()
+}
+
+fn strings(words: &[Text]) -> Vec<String> {
+    words.iter().map(string).collect()
 }
 
 fn out_of_memory(_: AllocError) -> String {
@@ -99,23 +103,26 @@ fn out_of_memory(_: AllocError) -> String {
 ///
 /// A text that says that memory ran out.
 pub fn directory_of(line: &Line) -> Result<String, String> {
-    let words = texts(&line.words);
-    let call = DirectoryCall { cwd: &line.cwd, nvcc: &line.nvcc, words: &words };
-    Ok(directory_name(Global, &call, &pairs(&line.variables)).map_err(out_of_memory)?.0)
+    let name = || {
+        let words = texts(&line.words)?;
+        let call = DirectoryCall { cwd: &line.cwd, nvcc: &line.nvcc, words: &words };
+        directory_name(Global, &call, &pairs(&line.variables)?)
+    };
+    name().map(|name| string(&name)).map_err(out_of_memory)
 }
 
 /// The text of a plain file. nvcc reads an options file too, and a pipe gives its bytes only once.
-fn options_file(cwd: &str, name: &str) -> Option<(Text, Text)> {
+fn options_file(cwd: &str, name: &str) -> Option<(String, String)> {
     let path = Path::new(cwd).join(name);
     let content = fs::metadata(&path).is_ok_and(|file| file.is_file()).then(|| fs::read(path).ok())??;
-    Some((text(name), Text(String::from_utf8(content).ok()?)))
+    Some((name.to_owned(), String::from_utf8(content).ok()?))
 }
 
-/// The words of a command of an outline, whose text is `( unset NVCC_PREPEND_FLAGS NVCC_APPEND_FLAGS; cd FOLDER && WORD.. )`.
+/// The words of a command of an outline, whose text is `( unset `NVCC_PREPEND_FLAGS` `NVCC_APPEND_FLAGS`; cd FOLDER && WORD.. )`.
 fn words_of(command: &str) -> Result<Words, String> {
-    let split = shell_words::split(Global, command).map_err(out_of_memory)?.unwrap_or_default();
-    match split.0.as_slice() {
-        [_, _, _, _, _, folder, _, words @ .., _] => Ok(Words { folder: folder.0.clone(), words: strings(words) }),
+    let split = shell_words::split(Global, command).map_err(out_of_memory)?;
+    match split.as_ref().map(List::as_slice) {
+        Some([_, _, _, _, _, folder, _, words @ .., _]) => Ok(Words { folder: string(folder), words: strings(words) }),
         _ => Err("a command has no words".into()),
     }
 }
@@ -126,9 +133,11 @@ fn words_of(command: &str) -> Result<Words, String> {
 ///
 /// Why nvcc makes the call unchanged.
 pub fn outline_of(line: &Line, tmp: &str) -> Result<Outline, String> {
-    let (words, variables) = (texts(&line.words), pairs(&line.variables));
+    let words = texts(&line.words).map_err(out_of_memory)?;
+    let variables = pairs(&line.variables).map_err(out_of_memory)?;
     let names = file_names(Global, &words, &variables).map_err(out_of_memory)?;
-    let files: Vec<(Text, Text)> = names.as_slice().iter().filter_map(|name| options_file(&line.cwd, name)).collect();
+    let files: Vec<(String, String)> = names.as_slice().iter().filter_map(|name| options_file(&line.cwd, name.as_str())).collect();
+    let files = pairs(&files).map_err(out_of_memory)?;
     let call = NvccCall { cwd: &line.cwd, tmp, nvcc: &line.nvcc, words: &words };
     match read_call(Global, &call, &variables, &files).map_err(|fault| fault.to_string())? {
         Answer::Pass(reason) => Err(reason.as_str().to_owned()),
@@ -152,7 +161,8 @@ struct Disk;
 impl Which for Disk {
     fn found(&self, alloc: Global, program: &str, path: &str, cwd: &str) -> Result<Option<Text>, AllocError> {
         let paths = program_lookups::candidates(alloc, program, path, cwd)?;
-        Ok(paths.as_slice().iter().find(|path| is_program(Path::new(path.as_str()))).map(|found| text(found)))
+        let found = paths.as_slice().iter().find(|path| is_program(Path::new(path.as_str())));
+        found.map(|found| text(found.as_str())).transpose()
     }
 }
 
@@ -203,7 +213,7 @@ fn commands_of(planned: &PlanWithOrigins) -> Result<Vec<PlannedCommand>, String>
         program: command.exe.as_str().to_owned(),
         words: strings(command.args.as_slice()),
         folder: command.cwd.as_str().to_owned(),
-        variables: command.env_vars.as_slice().iter().map(|(name, value)| (name.0.clone(), value.0.clone())).collect(),
+        variables: command.env_vars.as_slice().iter().map(|(name, value)| (string(name), string(value))).collect(),
         cacheable: matches!(command.cacheable, Cacheable::Yes),
         preprocesses: preprocesses(command.args.as_slice()),
         needs: needs.as_slice().to_vec(),

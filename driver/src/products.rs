@@ -22,7 +22,7 @@ pub fn keep(tmp: &Path, keep_dir: &Path, begun: SystemTime) {
 /// What to say of a command that failed without a message: on a full disk its message is lost.
 pub fn lack_of_room(temporary: &Path) -> String {
     let path = temporary.join(format!(".zigrunk-room.{}", std::process::id()));
-    let has_room = fs::File::create(&path).and_then(|mut file| file.write_all(&[0; 65536])).is_ok();
+    let has_room = fs::File::create(&path).and_then(|mut file| file.write_all(&vec![0; 65536])).is_ok();
     let _ = fs::remove_file(&path);
     if has_room { String::new() } else { format!(": there is no room in {}", temporary.display()) }
 }

@@ -38,7 +38,7 @@ impl Own {
         matches!((&self.file, fs::metadata(path)), (Some(own), Ok(other)) if is_same(own, &other))
     }
 
-    /// Whether a program is this one, or an nvcc that called it. What the driver calls finds in ZIGRUNK_INSIDE each nvcc that it came
+    /// Whether a program is this one, or an nvcc that called it. What the driver calls finds in `ZIGRUNK_INSIDE` each nvcc that it came
     /// through, so a wrapper that ends here again doesn't run in circles.
     fn includes(&self, path: &Path) -> bool {
         let mark = [b":", path.as_os_str().as_bytes(), b":"].concat();
@@ -67,7 +67,7 @@ pub struct Compiler {
     pub name: OsString,
     /// Where it is, if it is anywhere.
     pub path: Option<PathBuf>,
-    /// What ZIGRUNK_INSIDE is for the programs that this call runs.
+    /// What `ZIGRUNK_INSIDE` is for the programs that this call runs.
     pub inside: OsString,
 }
 

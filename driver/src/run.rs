@@ -76,15 +76,15 @@ pub fn run<M: Machine, W: Watch>(machine: &mut M, watch: &mut W, tasks: &[Task],
     let schedule = Schedule::new(tasks.iter().map(|task| task.needs.clone()).collect(), at_once.max(1));
     let done = vec![Done::default(); tasks.len()];
     let mut run = Run { machine, watch, tasks, schedule, done, again: Vec::new(), refused: Vec::new(), launched: vec![false; tasks.len()] };
-    let ended = run.to_the_end();
+    let ended = run.run_all();
     if let Err(stopped) = &ended {
         run.machine.end_all(if let Stopped::Signal(number) = stopped { *number } else { crate::system::TERM });
     }
     ended.map(|()| run.done)
 }
 
-impl<'a, M: Machine, W: Watch> Run<'a, M, W> {
-    fn to_the_end(&mut self) -> Result<(), Stopped> {
+impl<M: Machine, W: Watch> Run<'_, M, W> {
+    fn run_all(&mut self) -> Result<(), Stopped> {
         let mut is_held_back = false;
         loop {
             self.make_rules();

@@ -14,8 +14,8 @@ use std::time::{Duration, SystemTime};
 
 /// How long a call that doesn't touch its files counts.
 const STALE: Duration = Duration::from_secs(5);
-/// How often holders and waiters touch their files.
-pub const BEAT: Duration = Duration::from_secs(1);
+/// How often holders and waiters touch their files, in milliseconds.
+pub const BEAT: i32 = 1000;
 
 /// A slot that a call has.
 #[derive(Debug)]

@@ -357,8 +357,9 @@ impl Signals {
     }
 
     /// Stops this process as TSTP does, until it is continued.
-    pub fn stop(&self) {
-        let set: SignalSet = { let mut set = [0; 16]; set[0] = 1 << (TSTP - 1); set };
+    pub fn stop() {
+        let mut set: SignalSet = [0; 16];
+        set[0] = 1 << (TSTP - 1);
         unsafe {
             signal(TSTP, DEFAULT);
             raise(TSTP);

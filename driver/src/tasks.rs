@@ -36,7 +36,7 @@ fn target_of(word: &str, next: Option<&String>) -> Option<String> {
     named.filter(is_target).map(String::from)
 }
 
-/// The name by which ZIGRUNK_LAUNCHED has a command.
+/// The name by which `ZIGRUNK_LAUNCHED` has a command.
 fn launched_as(command: &PlannedCommand) -> &str {
     match command.program.rsplit('/').next().unwrap_or_default() {
         tool @ ("cudafe++" | "cicc" | "ptxas" | "fatbinary") => tool,
