@@ -3,17 +3,19 @@ PREFIX ?= /usr/local
 DESTDIR ?=
 target = $(DESTDIR)$(PREFIX)
 
-.PHONY: help demo build lib check install install-programs install-library uninstall dist bench drivers fuzz-library must-fail refused-memory end-to-end odd-calls random-calls versions cache cache-example peer cluster field mutants test-install dist-test check-docs lint test
+.PHONY: help demo build lib rust check install install-programs install-library uninstall dist bench drivers fuzz-library must-fail refused-memory end-to-end odd-calls random-calls versions cache cache-example peer cluster field mutants test-install dist-test check-docs lint test
 
 help:
 	@echo 'make demo             run cudaplan, unproved, on two calls; a minute from a fresh clone'
 	@echo 'make build            prove and build the programs: crates/cudaplan/out/cudaplan and crates/zigrunk/out/zigrunk'
 	@echo 'make lib              prove and build libzigrunk for C, Rust and Python: out/lib and out/include'
+	@echo 'make rust             write the proved sources as plain Rust and build programs and library of them: out/rust; needs cargo alone'
 	@echo 'make install          install both, the scripts, the man pages and completions; PREFIX=/usr/local, DESTDIR='
 	@echo '                      make install-programs and make install-library install, and build, one of them'
 	@echo 'make uninstall        remove what make install installed, with the same PREFIX and DESTDIR'
 	@echo 'make check CRATE=dry_runs   prove one crate over kept libraries, or with FUNCTION=PATH one function of it; no verdict'
-	@echo 'make test             the whole gate; the last line is N passed, M failed; BODIES=all tries all wrong bodies'
+	@echo 'make test             the whole gate, with rt ci in it; the last line is N passed, M failed; BODIES=all tries all wrong bodies,'
+	@echo '                      ANEW=1 takes no proof from an earlier run on this machine'
 	@echo 'make drivers          compile the test drivers, unproved, and run their cases, or those of NAMES="test_lines"'
 	@echo 'make must-fail        check that the prover rejects the wrong bodies of all crates, or of CRATES="texts dry_runs"'
 	@echo 'make fuzz-library     fuzz libzigrunk for an hour, guided by coverage; needs clang with libFuzzer; FUZZ_SECONDS=3600'
@@ -40,7 +42,7 @@ help:
 # A cicc line that is read and written back, and the plan of two real dry runs: the calls in demo/.
 demo:
 	@echo 'This builds cudaplan without proving it and runs it twice, in about a minute. make build proves it.'
-	@cd crates/cudaplan && rt try --data one_target.dry1=../test_plans/data/dry_runs/one_target.dry1 --data one_target.dry2=../test_plans/data/dry_runs/one_target.dry2 --cases ../../demo
+	@cd crates/cudaplan && rt try --data one_target.dry1=../../tests/drivers/test_plans/data/dry_runs/one_target.dry1 --data one_target.dry2=../../tests/drivers/test_plans/data/dry_runs/one_target.dry2 --cases ../../demo
 
 # rt builds a program only when it runs it, and leaves it in out/. So each program makes a short call, whose output is thrown away.
 build:
@@ -57,6 +59,11 @@ lib:
 	cd crates/zigrunk_c && rt lib
 	@.ci/built record library
 	bindings/c/library.sh crates/zigrunk_c/out/libzigrunk_c.a "$(CURDIR)/out"
+
+# The proved sources as crates of plain Rust (docs/PLAIN_RUST.md), and programs and library of them: no kit, no network.
+rust:
+	cargo run --quiet --release --manifest-path rust/Cargo.toml -p eraser -- . out/rust
+	cd out/rust && cargo build --release
 
 # Nothing is proved again if out/ holds what these sources make. Otherwise each part builds what it installs, so that those who
 # want one part don't wait for the other.
@@ -109,7 +116,7 @@ uninstall:
 	rm -rf "$(target)/share/zigrunk" "$(target)/share/doc/zigrunk"
 
 bench:
-	cd crates/cudabench && rt run -- line 100000 cicc /w --device-c -arch compute_80 --module_id_file_name kernel.module_id kernel.cpp1.ii --simt-only -o kernel.ptx
+	tests/drivers.sh --run cudabench line 100000 cicc /w --device-c -arch compute_80 --module_id_file_name kernel.module_id kernel.cpp1.ii --simt-only -o kernel.ptx
 
 # libzigrunk by libFuzzer, with code that counts its branches. It keeps inputs and figures in out/fuzz.
 FUZZ_SECONDS ?= 3600
@@ -120,7 +127,7 @@ fuzz-library:
 drivers:
 	@tests/drivers.sh $(NAMES)
 
-# The prover has to reject each wrong body in crates/NAME/must-fail. It notes in tests/must_fail.tried what it tried.
+# The prover has to reject each wrong body in crates/NAME/must-fail and crates/NAME/wrong-bodies. It notes in tests/must_fail.tried what it tried.
 must-fail:
 	tests/must_fail.py $(CRATES)
 
@@ -197,6 +204,6 @@ test-install:
 	@.ci/built check library || $(MAKE) lib
 	@tests/install.sh
 
-# Every proof from nothing, the wrong bodies, the tests and the programs, then calls of the built programs and of nvcc.
+# rt ci: every proof, wrong bodies, tests and programs. Beside it all other tests, of what it built.
 test:
 	@.ci/gate

@@ -67,7 +67,7 @@ for release in "$@"; do
         skip "$release" "$(tail -n 1 "$scratch/said")"
         continue
     fi
-    cp "$package" crates/test_plans/data/dry_runs/one_target.dry* "$root/root"
+    cp "$package" tests/drivers/test_plans/data/dry_runs/one_target.dry* "$root/root"
     # stand-ins for the tools that the dry runs name
     mkdir -p "$root/root/t" "$root/opt/cuda/bin" "$root/opt/cuda/nvvm/bin"
     for tool in bin/gcc bin/cudafe++ bin/ptxas bin/fatbinary nvvm/bin/cicc; do

@@ -1,7 +1,7 @@
 #!/usr/bin/env python3
 """Makes the cases of test_lines and test_plans through libzigrunk. Usage: tests/c_cases.py [FOLDER]
 
-FOLDER is the repository, or a copy of its crates/test_lines and crates/test_plans. The README of test_lines' data says how
+FOLDER is the repository, or a copy of its tests/drivers/test_lines and tests/drivers/test_plans. The README of test_lines' data says how
 cases are written. Each case that a call of zigrunk.h answers too is made by the binding for Python, and the answer has to be
 what the case expects. Prints a line for each wrong answer, then how many cases of each kind it made and how many have no call
 in C, and last 'N passed, M failed': a case that it makes, a kind or a file counts once. The status is 1 if an answer is wrong, if one
@@ -643,7 +643,7 @@ class Report:
 def main() -> int:
     report = Report()
     for program in "test_lines", "test_plans":
-        crate = os.path.join(ROOT, "crates", program)
+        crate = os.path.join(ROOT, "tests", "drivers", program)
         with open(os.path.join(crate, "stdout"), encoding="utf-8") as text:
             counts = dict(re.findall(r"^(\S+\.txt): (\d+) cases$", text.read(), re.MULTILINE))
         with open(os.path.join(crate, "args"), encoding="utf-8") as names:

@@ -28,7 +28,7 @@ version=$(cat VERSION)
 flags=(-Wall -Wextra -pedantic -Werror -g -O1 -Itests/c -DVERSION="\"$version\"")
 c_flags=(-std=c99 -D_POSIX_C_SOURCE=200809L "${flags[@]}")
 # the dry runs of real calls, each with the plan that the program cudaplan prints
-data=crates/test_plans/data/dry_runs
+data=tests/drivers/test_plans/data/dry_runs
 real_calls=("$data"/*.flag)
 real_calls=("${real_calls[@]##*/}")
 real_calls=("${real_calls[@]%.flag}")

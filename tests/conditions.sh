@@ -10,7 +10,7 @@
 set -u
 cd "$(dirname "$0")/.." || exit 1
 built=$(realpath "${1:-crates/zigrunk/out/zigrunk}") other=$(realpath "${2:-crates/cudaplan/out/cudaplan}")
-runs=$PWD/crates/test_plans/data/dry_runs/one_kernel header=$PWD/tests/small/cuda_runtime.h
+runs=$PWD/tests/drivers/test_plans/data/dry_runs/one_kernel header=$PWD/tests/small/cuda_runtime.h
 . tests/lib.sh
 trap 'umount "$scratch"/disk.* 2> /dev/null; rm -rf "$scratch"' EXIT
 require 'the conditions of a machine' nvcc ninja objcopy

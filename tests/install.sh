@@ -64,7 +64,7 @@ same 'what it said' "$(cat "$scratch/said")" ''
 PATH=$root/usr/bin:$PATH
 mkdir "$scratch/work"
 cd "$scratch/work" || exit 1
-cp "$top"/crates/test_plans/data/dry_runs/one_target.dry* .
+cp "$top"/tests/drivers/test_plans/data/dry_runs/one_target.dry* .
 cudafe='cudafe++ /w --module_id_file_name m k.cpp4.ii'
 line=$'--module_id_file_name\n/w/m\nk.cpp4.ii'
 check 'the version' prints "zigrunk $version" zigrunk --version

@@ -2,13 +2,13 @@
 # Counts the instructions of plans by libzigrunk, beside those of the same plan by `cudabench plan`: of 21 calls less those of one, by 20.
 # docs/PERFORMANCE.md has what came out. Outside the gate, since it compares nothing.
 #
-#   tests/instructions.sh [ARCHIVE [CUDABENCH]]    what `make lib` leaves and what `rt run` leaves in crates/cudabench, unless given
+#   tests/instructions.sh [ARCHIVE [CUDABENCH]]    what `make lib` leaves and what `tests/drivers.sh --build cudabench` does, unless given
 #
-#   NAME=two_targets     the dry runs, of those in crates/test_plans/data/dry_runs
+#   NAME=two_targets     the dry runs, of those in tests/drivers/test_plans/data/dry_runs
 set -eu
 cd "$(dirname "$0")/.."
-archive=$(realpath "${1:-crates/zigrunk_c/out/libzigrunk_c.a}") bench=$(realpath "${2:-crates/cudabench/out/cudabench}")
-data=crates/test_plans/data/dry_runs name=${NAME:-two_targets}
+archive=$(realpath "${1:-crates/zigrunk_c/out/libzigrunk_c.a}") bench=$(realpath "${2:-tests/drivers/cudabench/out/cudabench}")
+data=tests/drivers/test_plans/data/dry_runs name=${NAME:-two_targets}
 scratch=$(mktemp -d)
 trap 'rm -rf "$scratch"' EXIT
 

@@ -1,5 +1,5 @@
 #!/usr/bin/env python3
-"""Tries the wrong bodies, crates/NAME/must-fail/*.edit: the prover has to reject each.
+"""Tries the wrong bodies, crates/NAME/must-fail/*.edit and crates/NAME/wrong-bodies/*.edit: the prover has to reject each.
 
 Usage: tests/must_fail.py [CRATE..]                   all crates, or those named; proves first the libraries below that aren't kept
        tests/must_fail.py --right [CRATE..]           the control: the same functions with their right bodies, none of which may count as
@@ -7,9 +7,10 @@ Usage: tests/must_fail.py [CRATE..]                   all crates, or those named
        tests/must_fail.py --gate FOLDER LOG           beside an `rt ci` that runs in FOLDER and writes to LOG; there is a file
                                                       LOG.status once it has ended
 
-`rt must-fail` tries the same files one after the other, each in a check of the whole crate. This script tries all of a crate in one
-check. The result is the same: a function is proved against the contracts of what it calls, never against their bodies, so a wrong
-body can't make another function's proof fail.
+The kit's own gate, `rt ci`, tries those in must-fail one after the other, each in a check of the whole crate. So that folder has one
+wrong body for a public function, and wrong-bodies has the others. This script tries all of a crate in one check. The result is the same: a
+function is proved against the contracts of what it calls, never against their bodies, so a wrong body can't make another function's proof
+fail.
 
 - So that nothing of the other functions is read or proved again, these have no bodies there, and a hole for a proof. A wrong body that
   isn't rejected so is tried again with all of the crate.
@@ -30,6 +31,7 @@ RT_JOBS is the number of checks at a time, by default the number of processors. 
 ended, for the memory of both. The last line is 'N passed, M failed'.
 """
 
+import glob
 import hashlib
 import os
 import random
@@ -48,6 +50,8 @@ from kept import PARTS, rtlib
 
 TOP = os.path.realpath(f"{os.path.dirname(os.path.realpath(__file__))}/..")
 RECORD = f"{TOP}/tests/must_fail.tried"
+# Where a crate's wrong bodies are. `rt ci` tries the first folder's.
+FOLDERS = ("must-fail", "wrong-bodies")
 # How many wrong bodies the gate draws from the crates that haven't changed.
 DRAWN = 20
 # The check's message for a proof that names something that an edit removed.
@@ -160,8 +164,7 @@ def texts_of(folder: str) -> Texts:
 
 
 def wrong_bodies(crate: str, kind: Callable[[str, str], WrongBody] = WrongBody) -> List[WrongBody]:
-    folder = f"{TOP}/crates/{crate}/must-fail"
-    return [kind(crate, f"{folder}/{it}") for it in sorted(os.listdir(folder)) if it.endswith(".edit")]
+    return [kind(crate, it) for folder in FOLDERS for it in sorted(glob.glob(f"{TOP}/crates/{crate}/{folder}/*.edit"))]
 
 
 def module_of(path: str) -> str:
@@ -377,7 +380,7 @@ class Record:
     def write(self, crates: List[Any]) -> None:
         """Writes the file anew, with these crates' digests of today."""
         self.digests.update((it.name, digest_of(it)) for it in crates)
-        there = [it for it in sorted(self.digests) if os.path.isdir(f"{TOP}/crates/{it}/must-fail")]
+        there = [it for it in sorted(self.digests) if wrong_bodies(it)]
         with open(self.file, "w", encoding="utf-8") as it:
             it.writelines(f"{name} {self.digests[name]}\n" for name in there)
 
@@ -403,6 +406,11 @@ def chosen(crates: List[Any], record: Record) -> Dict[str, List[WrongBody]]:
     return bodies
 
 
+def is_proved(crate: str, logged: str) -> bool:
+    """Returns whether `rt ci` has logged that a crate is proved, or that it took the proof of an earlier run."""
+    return bool(re.search(rf"^rt: {crate} (proved$|is kept: )", logged, re.M))
+
+
 class Queue:
     """The attempts that are left. Those with most libraries below come first: they take longest, and would else be left alone at the
     end. With the log of `rt ci`, an attempt waits until its crate is proved."""
@@ -421,7 +429,7 @@ class Queue:
     def next(self, logged: str) -> Optional[Attempt]:
         """Takes the first attempt whose crate is proved, by what was logged. Returns None if there is none."""
         with self.lock:
-            found = next((it for it in self.attempts if not self.log or f"rt: {it.crate.name} proved\n" in logged), None)
+            found = next((it for it in self.attempts if not self.log or is_proved(it.crate.name, logged)), None)
             if found:
                 self.attempts.remove(found)
             return found
@@ -458,7 +466,7 @@ def main(words: List[str]) -> int:
     folder, log = (words[1], words[2]) if words[:1] == ["--gate"] and len(words) == 3 else (TOP, "")
     right = words[:1] == ["--right"]
     named = [] if log else words[right:]
-    with_edits = [it for it in os.listdir(f"{TOP}/crates") if os.path.isdir(f"{TOP}/crates/{it}/must-fail")]
+    with_edits = [it for it in os.listdir(f"{TOP}/crates") if wrong_bodies(it)]
     crates = [it for it in rtlib.crates_below(os.path.realpath(folder)) if it.name in (named or with_edits)]
     if not crates or set(named) - set(with_edits):
         print(__doc__, file=sys.stderr)

@@ -12,7 +12,7 @@ cd "$(dirname "$0")/.." || exit 1
 program=$(realpath "${1:-crates/cudaplan/out/cudaplan}")
 zigrunk=$(realpath "${2:-crates/zigrunk/out/zigrunk}")
 wanted=("${@:3}")
-data=crates/test_plans/data/dry_runs
+data=tests/drivers/test_plans/data/dry_runs
 . tests/lib.sh
 
 readonly USAGE=$'usage: cudaplan line TOOL CWD WORD.. | plan CWD TMP FLAG DRY1 DRY2 SUFFIX..\n'

@@ -2,8 +2,8 @@
 """Plans the stored dry runs by another reading of the rules, and compares.
 
 Nothing here comes from the crates: shell words are those of Python's shlex, and each rule was written from docs/DEFINITIONS.md. For each
-pair in crates/test_plans/data/dry_runs it compares the plan with the pair's `.plan`, and each command's needs with the case of the pair in
-crates/test_plans/data/nvcc_versions.txt. It checks the premises of the laws on names, and that of the law on orders that words can show: each
+pair in tests/drivers/test_plans/data/dry_runs it compares the plan with the pair's `.plan`, and each command's needs with the case of the pair in
+tests/drivers/test_plans/data/nvcc_versions.txt. It checks the premises of the laws on names, and that of the law on orders that words can show: each
 command that isn't in the last group names all its files, or preprocesses.
 
 It also checks what must hold of needs whatever the rules say, by files alone: if one command writes a file that another reads or
@@ -23,7 +23,7 @@ from collections.abc import Iterable, Iterator
 from runner import Counts
 
 TOP = os.path.realpath(f"{os.path.dirname(os.path.realpath(__file__))}/..")
-DATA = f"{TOP}/crates/test_plans/data"
+DATA = f"{TOP}/tests/drivers/test_plans/data"
 RUNS = f"{DATA}/dry_runs"
 SUFFIXES = (".cpp1.ii", ".cpp4.ii", ".cudafe1.cpp", ".cudafe1.c", ".cudafe1.stub.c")
 OWN = ("cicc", "ptxas", "cudafe++", "nvlink", "fatbinary")

@@ -5,7 +5,7 @@
 # library may ask again for less room than the first time. A run that gets it gives the same as with memory, and is counted
 # apart.)
 #
-# Usage: tests/refused_memory.sh [FILE..]     files of crates/test_lines/data or crates/test_plans/data; all files, and the
+# Usage: tests/refused_memory.sh [FILE..]     files of tests/drivers/test_lines/data or tests/drivers/test_plans/data; all files, and the
 #                                             calls of the programs, unless named
 #        tests/refused_memory.sh --calls      the calls of the programs alone
 #
@@ -17,8 +17,8 @@
 set -u
 cd "$(dirname "$0")/.." || exit 2
 root=$PWD
-test_lines=$root/crates/test_lines/out/test_lines
-test_plans=$root/crates/test_plans/out/test_plans
+test_lines=$root/tests/drivers/test_lines/out/test_lines
+test_plans=$root/tests/drivers/test_plans/out/test_plans
 cudaplan=$root/crates/cudaplan/out/cudaplan
 zigrunk=$root/crates/zigrunk/out/zigrunk
 needed=("$cudaplan" "$zigrunk")
@@ -31,7 +31,7 @@ for built in "${needed[@]}"; do
 done
 . tests/lib.sh
 work=$scratch
-cp -r crates/test_lines/data/. crates/test_plans/data/. "$work"
+cp -r tests/drivers/test_lines/data/. tests/drivers/test_plans/data/. "$work"
 cd "$work" || exit 2
 cc -shared -fPIC -O2 -o hook.so "$root/tests/refuse_nth.c" -ldl || exit 2
 
@@ -149,7 +149,7 @@ call() {
 # run_file FILE: runs the cases of a file, each alone, with the program whose file it is.
 run_file() {
     local before=$refused file=$1 case cases=$test_lines
-    if [ -e "$root/crates/test_plans/data/$file" ]; then
+    if [ -e "$root/tests/drivers/test_plans/data/$file" ]; then
         cases=$test_plans
     fi
     rm -rf parts

@@ -1,7 +1,7 @@
 #!/usr/bin/env python3
 """Validates the JSON of the plans of real nvcc calls by docs/plan.schema.json.
 
-The dry runs are those of crates/test_plans/data. Beyond the schema it checks that ids count from 0, that a command needs only
+The dry runs are those of tests/drivers/test_plans/data. Beyond the schema it checks that ids count from 0, that a command needs only
 earlier ones, that lines have the program that the command runs, and that the plan's commands can run in threads. Rules of the plan's
 Makeflow file wait for each other as the JSON says that commands need each other.
 
@@ -26,7 +26,7 @@ except ImportError:
     sys.exit(skip_all("schema", "python3-jsonschema isn't installed"))
 
 TOP = os.path.realpath(f"{os.path.dirname(os.path.realpath(__file__))}/..")
-DATA = f"{TOP}/crates/test_plans/data/dry_runs"
+DATA = f"{TOP}/tests/drivers/test_plans/data/dry_runs"
 # A value of JSON, by its members.
 Json = dict[str, Any]
 

@@ -24,7 +24,7 @@ def read(name: str) -> bytes:
         return file.read()
 
 
-runs = f"{top}/crates/test_plans/data/dry_runs"
+runs = f"{top}/tests/drivers/test_plans/data/dry_runs"
 for dry1 in sorted(glob.glob(f"{runs}/*.dry1")):
     first = read(dry1)
     second = read(dry1[:-1] + "2") if os.path.exists(dry1[:-1] + "2") else first
@@ -48,7 +48,7 @@ for table in sorted(glob.glob(f"{top}/crates/test_*/data/*.txt")):
             write([made % 4, made % 8], text)
             group = []
 TOOLS = [b"cicc", b"ptxas", b"cudafe++", b"nvcc", b"nvc", b"nvc++"]
-for table in sorted(glob.glob(f"{top}/crates/test_lines/data/*_lines.txt")):
+for table in sorted(glob.glob(f"{top}/tests/drivers/test_lines/data/*_lines.txt")):
     for line in read(table).splitlines():
         found = re.fullmatch(rb"\w+ ([a-z+]+) .*?: (.*?)(?: => .*)?", line)
         if found and found[1] in TOOLS and len(line) < 4000:

@@ -38,7 +38,7 @@ fn call<'a>(run: &'a [u8], programs: &'a [FoundProgram]) -> PlanCall<'a> {
 
 /// The folder with the dry runs of real calls, each with its plan as `cudaplan` prints it.
 fn folder() -> PathBuf {
-    [env!("CARGO_MANIFEST_DIR"), "..", "..", "crates", "test_plans", "data", "dry_runs"].iter().collect()
+    [env!("CARGO_MANIFEST_DIR"), "..", "..", "tests", "drivers", "test_plans", "data", "dry_runs"].iter().collect()
 }
 
 /// The names of the calls with a file for the flag.

@@ -267,8 +267,8 @@ fn rewritten_by(alloc: Global, tool: LineTool, line: &Line<'_>) -> Result<Outcom
     }
 }
 
-// The JSON of a call's line.
-fn json_outcome(alloc: Global, call: &LineCall<'_>) -> Result<Outcome, AllocError>
+/// What [`line`] tells: the JSON of a call's line.
+pub fn json_outcome(alloc: Global, call: &LineCall<'_>) -> Result<Outcome, AllocError>
     ensures { IfOk result (λ outcome. outcome ≡ spec.json_outcome call.now) }
 {
     match line_in(alloc, call) {
@@ -283,8 +283,8 @@ fn json_outcome(alloc: Global, call: &LineCall<'_>) -> Result<Outcome, AllocErro
     }
 }
 
-// The words of a call's line.
-fn words_outcome(alloc: Global, call: &LineCall<'_>) -> Result<Outcome, AllocError>
+/// What [`line_words`] tells: the words of a call's line.
+pub fn words_outcome(alloc: Global, call: &LineCall<'_>) -> Result<Outcome, AllocError>
     ensures { IfOk result (λ outcome. outcome ≡ spec.words_outcome call.now) }
 {
     match line_in(alloc, call) {
@@ -312,7 +312,7 @@ pub fn line(alloc: Global, call: &LineCall<'_>, out: &mut [u8]) -> TextAnswer
 /// Reads a line of a tool and lists the words that it is written back as, as `CCompilerImpl::generate_compile_commands` of that
 /// tool. The input's path is that of the line.
 ///
-/// Refuses what [`line`] refuses, and then arguments that can't be written back.
+/// Refuses what [`line()`] refuses, and then arguments that can't be written back.
 pub fn line_words(
     alloc: Global,
     call: &LineCall<'_>,

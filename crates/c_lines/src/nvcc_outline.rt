@@ -162,8 +162,8 @@ fn valid_outcome(alloc: Global, call: &NvccLineCall<'_>) -> Result<Outcome, Allo
     }
 }
 
-// What the line of a call says.
-fn nvcc_outcome(alloc: Global, call: &NvccLineCall<'_>) -> Result<Outcome, AllocError>
+/// What [`nvcc_line`] tells: what the line of a call says.
+pub fn nvcc_outcome(alloc: Global, call: &NvccLineCall<'_>) -> Result<Outcome, AllocError>
     ensures { IfOk result (λ outcome. outcome ≡ spec.nvcc_outcome call.now) }
 {
     if call.reserved == 0 {

@@ -19,10 +19,10 @@ use texts::words::Words;
 
 /// A status and texts, and the records that say what the texts are.
 #[derive(Drop)]
-pub(crate) struct RecordedLine {
-    outcome: Outcome,
-    line: LineRecord,
-    outputs: Vec<OutputRecord>,
+pub struct RecordedLine {
+    pub outcome: Outcome,
+    pub line: LineRecord,
+    pub outputs: Vec<OutputRecord>,
 }
 
 impl Model for RecordedLine {

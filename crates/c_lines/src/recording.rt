@@ -50,8 +50,8 @@ fn recorded_by(alloc: Global, tool: LineTool, line: &Line<'_>) -> Result<Recorde
     }
 }
 
-// The records of a call's line.
-fn records_outcome(alloc: Global, call: &LineCall<'_>) -> Result<RecordedLine, AllocError>
+/// What [`line_records`] tells: the records of a call's line.
+pub fn records_outcome(alloc: Global, call: &LineCall<'_>) -> Result<RecordedLine, AllocError>
     ensures { IfOk result (λ recorded. recorded ≡ spec.line_records call.now) }
 {
     match line_in(alloc, call) {

@@ -103,8 +103,8 @@ fn lookups_at(
     }
 }
 
-// The same, of a working directory that may be no text.
-fn lookups_outcome(
+/// What [`lookups_within`] tells.
+pub fn lookups_outcome(
     alloc: Global,
     dry1: &[u8],
     dry2: &[u8],
@@ -168,8 +168,8 @@ fn candidates_from(
     Ok(outcome)
 }
 
-// The same, of bytes that may be no texts.
-fn candidates_outcome(
+/// What [`candidates`] tells.
+pub fn candidates_outcome(
     alloc: Global,
     program: &[u8],
     path: &[u8],

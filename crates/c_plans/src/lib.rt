@@ -19,15 +19,15 @@ mod refusal;
 mod renaming;
 mod room;
 
-pub use asking::{candidates, lookups, lookups_within};
+pub use asking::{candidates, candidates_outcome, lookups, lookups_outcome, lookups_within};
 pub use directory::{OddField, odd_directory};
 pub use plan_call::{
     FoundProgram, PlanCall, Tables, Texts, has_numbers, host_of, tables_of, texts_of,
 };
 pub use plan_entries::records_of;
 pub use planned_records::plan_records;
-pub use planning::{plan, planned};
+pub use planning::{plan, plan_outcome, planned};
 pub use record::{CommandRecord, GroupRecord, RecordsAnswer};
 pub use recorded::Recorded;
-pub use renaming::remap;
+pub use renaming::{remap, remap_outcome};
 pub use room::Room;

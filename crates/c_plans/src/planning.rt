@@ -160,8 +160,8 @@ fn valid_outcome(
     outcome
 }
 
-// A call, and the number of a form.
-fn plan_outcome(alloc: Global, call: &PlanCall<'_>, form: u32) -> Result<Outcome, AllocError>
+/// What [`plan`] tells of a call and the number of a form.
+pub fn plan_outcome(alloc: Global, call: &PlanCall<'_>, form: u32) -> Result<Outcome, AllocError>
     ensures { IfOk result (λ outcome. outcome ≡ spec.plan_outcome call.now form) }
 {
     let Some(form) = form_of(form) else {

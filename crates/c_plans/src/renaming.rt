@@ -45,8 +45,8 @@ fn remapped(alloc: Global, words: &[String], further: &[String]) -> Result<Outco
     Ok(renamed_outcome(alloc, words, &suffixes)?)
 }
 
-// Words of the caller, with suffixes of the caller.
-fn remap_outcome(
+/// What [`remap`] tells.
+pub fn remap_outcome(
     alloc: Global,
     words: &[InputText<'_>],
     suffixes: &[InputText<'_>],

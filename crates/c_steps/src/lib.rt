@@ -16,5 +16,6 @@ mod stepped;
 mod steps;
 mod tool;
 
-pub use planned_steps::plan_steps;
+pub use planned_steps::{plan_steps, steps_outcome};
 pub use step_record::{PlaceRecord, StepRecord, StepsAnswer};
+pub use stepped::Stepped;

@@ -149,8 +149,8 @@ fn steps_with(
     stepped
 }
 
-// A call.
-fn steps_outcome(alloc: Global, call: &PlanCall<'_>) -> Result<Stepped, AllocError>
+/// What [`plan_steps`] tells of a call.
+pub fn steps_outcome(alloc: Global, call: &PlanCall<'_>) -> Result<Stepped, AllocError>
     ensures { IfOk result (λ stepped. stepped ≡ spec.plan_steps call.now) }
 {
     let Some(host) = host_of(call.host_compiler) else {

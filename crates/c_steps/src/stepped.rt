@@ -19,11 +19,11 @@ use std::marker::Model;
 
 /// The place of a refusal, a plan's records, and what else there is to know of its commands.
 #[derive(Drop)]
-pub(crate) struct Stepped {
-    place: PlaceRecord,
-    recorded: Recorded,
-    steps: Vec<StepRecord>,
-    numbers: Vec<usize>,
+pub struct Stepped {
+    pub place: PlaceRecord,
+    pub recorded: Recorded,
+    pub steps: Vec<StepRecord>,
+    pub numbers: Vec<usize>,
 }
 
 impl Model for Stepped {

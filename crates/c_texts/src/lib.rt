@@ -5,7 +5,8 @@
 //! No call keeps anything: there is no state and nothing to free.
 //!
 //! `c_lines` and `c_plans` have the other calls, and are written with what is here: an `Outcome` is what a call ends with,
-//! and `give_text` and `give_list` tell it to the caller. The crate `zigrunk_c` exports all calls to C.
+//! and `give_text` and `give_list` tell it to the caller. The crate `zigrunk_c` exports all calls to C. A program in Rust takes an outcome
+//! itself, by the functions whose names end in `_outcome`.
 #![tactic(auto)]
 
 mod failure;
@@ -20,7 +21,7 @@ mod versions;
 pub use failure::{answered, failed, status_of};
 pub use memory::{InputText, ListAnswer, Range, TextAnswer, text_of, words_of};
 pub use outcome::{Outcome, give_list, give_text, refused, refused_with, tell_text};
-pub use shell::{quote, split};
+pub use shell::{quote, quote_outcome, split, split_outcome};
 pub use status::{Status, message};
 pub use variables::{Variable, variables_of};
 pub use versions::{abi_version, version};

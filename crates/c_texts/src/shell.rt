@@ -23,8 +23,8 @@ fn words_outcome(alloc: Global, found: Option<Vec<String>>) -> Result<Outcome, A
     Ok(outcome)
 }
 
-// The words of the text that bytes are.
-fn split_outcome(alloc: Global, bytes: &[u8]) -> Result<Outcome, AllocError>
+/// What [`split`] tells: the words of the text that bytes are.
+pub fn split_outcome(alloc: Global, bytes: &[u8]) -> Result<Outcome, AllocError>
     ensures { IfOk result (λ outcome. outcome ≡ spec.split_outcome bytes.now) }
 {
     match text_of(bytes) {
@@ -40,8 +40,8 @@ pub fn split(alloc: Global, text: &[u8], ranges: &mut [Range], out: &mut [u8]) -
     give_list(split_outcome(alloc, text), ranges, out)
 }
 
-// The words as one text for a shell.
-fn quote_outcome(alloc: Global, texts: &[InputText<'_>]) -> Result<Outcome, AllocError>
+/// What [`quote`] tells: the words as one text for a shell.
+pub fn quote_outcome(alloc: Global, texts: &[InputText<'_>]) -> Result<Outcome, AllocError>
     ensures { IfOk result (λ outcome. outcome ≡ spec.quote_outcome (map bytes_of texts.now)) }
 {
     let Some(words) = words_of(alloc, texts)? else {

@@ -41,8 +41,7 @@ fn keep_all(steps: &[Step]) -> bool
 ///
 /// Final commands need all before them, so nothing is asked of their records. Each other command must have a complete record
 /// ([`CommandFiles`](crate::CommandFiles)), or the word `-E`: a preprocess step reads headers too, and no command of a plan
-/// writes these. It isn't so, for example, if a line of cicc can't be read. [`plan_orders`](crate::laws::plan_orders) says what
-/// follows.
+/// writes these. It isn't so, for example, if a line of cicc can't be read. `laws::plan_orders` says what follows.
 pub fn keeps_orders(alloc: Global, plan: &Plan) -> Result<bool, AllocError>
     ensures { IfOk result (λ keeps. keeps ≡ spec.keeps_orders plan.now) }
 {

@@ -239,10 +239,9 @@ pub(crate) fn joined_word(
     let room = text.len().saturating_add(value.len()).saturating_add(1);
     let mut word = String::with_capacity(alloc, room)?;
     word.push_str(text)?;
-    if let Some(byte) = delimiter
-        && !value.is_empty()
-    {
-        word.push(char::from(byte))?;
+    match delimiter {
+        Some(byte) if !value.is_empty() => word.push(char::from(byte))?,
+        _ => {},
     }
     word.push_str(value)?;
     Ok(word)
