@@ -14,8 +14,8 @@
 //! With `ZIGRUNK_LAUNCHED='-E cudafe++ cicc ptxas -c'` it serves preprocessors too. Such an entry notes each file that was read, and each folder
 //! in which another file of that name could be found first, and holds as long as these are as they were. The list of the call's targets is a
 //! macro of each preprocessor; where no file names it, an entry holds for other lists.
-use std::collections::hash_map::RandomState;
 use std::collections::BTreeSet;
+use std::collections::hash_map::RandomState;
 use std::error::Error;
 use std::ffi::{OsStr, OsString};
 use std::fs::{self, File, OpenOptions};
@@ -29,7 +29,7 @@ use std::process::{Command, Stdio};
 use std::time::{Duration, SystemTime};
 use std::{env, process};
 
-use zigrunk::{command_key, line_records, variables, CommandTool, KeyCall, LineCall};
+use zigrunk::{CommandTool, KeyCall, LineCall, command_key, line_records, variables};
 
 type Outcome<T> = Result<T, Box<dyn Error>>;
 

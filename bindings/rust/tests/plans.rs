@@ -5,9 +5,9 @@ use std::num::NonZeroUsize;
 use std::path::PathBuf;
 
 use zigrunk::{
-    candidates, find_programs, find_programs_within, line_words, lookups, lookups_within, needs, plan, plan_text, variables,
     Command, CommandTool, Error, ErrorKind, Field, Form, FoundProgram, HostCompiler, LineCall, Missing, Plan, PlanCall, Reason,
-    Stage, Tool, Variable,
+    Stage, Tool, Variable, candidates, find_programs, find_programs_within, line_words, lookups, lookups_within, needs, plan,
+    plan_text, variables,
 };
 
 const RUN: &[u8] = b"#$ PATH=/b\n#$ gcc -D__NVCC__ -E k.cu -o k.cpp1.ii\n#$ cicc --x k.gpu k.cpp1.ii -o k.ptx\n";
@@ -33,12 +33,15 @@ fn place<T: std::fmt::Debug>(answer: Result<T, Error>) -> Option<(Field, Option<
 }
 
 fn call<'a>(run: &'a [u8], programs: &'a [FoundProgram]) -> PlanCall<'a> {
-    PlanCall { dry1: run, dry2: run, cwd: "/w", tmp: "/t", flag: "-c", programs, ..PlanCall::default() }
+    PlanCall { dry1: run, dry2: run, cwd: "/w", tmp: "/t", flag: "-c", programs, ..PlanCall::new(&[]) }
 }
 
-/// The folder with the dry runs of real calls, each with its plan as `cudaplan` prints it.
+/// The folder with the dry runs of real calls, each with its plan as `cudaplan` prints it: in the repository that this folder is in.
 fn folder() -> PathBuf {
-    [env!("CARGO_MANIFEST_DIR"), "..", "..", "tests", "drivers", "test_plans", "data", "dry_runs"].iter().collect()
+    let here = PathBuf::from(env!("CARGO_MANIFEST_DIR")).canonicalize().unwrap();
+    let places = ["tests/drivers/test_plans/data/dry_runs", "crates/test_plans/data/dry_runs"];
+    let mut folders = here.ancestors().flat_map(|top| places.map(|place| top.join(place)));
+    folders.find(|folder| folder.is_dir()).expect("a folder above with the dry runs")
 }
 
 /// The names of the calls with a file for the flag.
@@ -60,7 +63,7 @@ fn real_calls_are_planned_as_cudaplan_does() {
         let (flag, plan) = (String::from_utf8(read(&name, ".flag")).unwrap(), String::from_utf8(read(&name, ".plan")).unwrap());
         let programs = first_candidates(&dry1, &dry2);
         let flag = flag.trim();
-        let call = PlanCall { dry1: &dry1, dry2: &dry2, cwd: "/w", tmp: "/t", flag, programs: &programs, ..PlanCall::default() };
+        let call = PlanCall { dry1: &dry1, dry2: &dry2, cwd: "/w", tmp: "/t", flag, programs: &programs, ..PlanCall::new(&[]) };
         assert_eq!(plan_text(&call, Form::Text).unwrap(), plan, "{name}");
         for form in [Form::Json, Form::Ninja, Form::Shell] {
             assert!(plan_text(&call, form).unwrap().contains("gcc"), "{name}");

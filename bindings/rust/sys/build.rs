@@ -3,7 +3,7 @@
 
 use std::env;
 use std::path::{Path, PathBuf};
-use std::process::{exit, Command};
+use std::process::{Command, exit};
 
 /// A folder to look into, and where it comes from.
 struct Place {
@@ -42,8 +42,9 @@ fn places() -> Vec<Place> {
     }
     let here = PathBuf::from(env::var_os("CARGO_MANIFEST_DIR").unwrap_or_default());
     let mut all: Vec<Place> = packaged().into_iter().map(|folder| Place::new("pkg-config zigrunk", folder)).collect();
-    all.push(Place::new("make lib", here.join("../../out/lib")));
-    all.push(Place::new("make install", here.join("../../../lib")));
+    // The crate is in bindings/rust/sys, in out/rust/zigrunk-sys, or in the same folder below share/zigrunk.
+    all.push(Place::new("make lib", here.join("../../../out/lib")));
+    all.push(Place::new("make install", here.join("../../../../lib")));
     all
 }
 
