@@ -3,12 +3,13 @@ PREFIX ?= /usr/local
 DESTDIR ?=
 target = $(DESTDIR)$(PREFIX)
 
-.PHONY: help demo build lib check install install-programs install-library uninstall dist bench drivers fuzz-library must-fail refused-memory end-to-end odd-calls random-calls versions cache cache-example peer cluster field mutants test-install dist-test check-docs lint test
+.PHONY: help demo build lib rust check install install-programs install-library uninstall dist bench drivers fuzz-library must-fail refused-memory end-to-end odd-calls random-calls versions cache cache-example peer cluster field mutants test-install dist-test check-docs lint test
 
 help:
 	@echo 'make demo             run cudaplan, unproved, on two calls; a minute from a fresh clone'
 	@echo 'make build            prove and build the programs: crates/cudaplan/out/cudaplan and crates/zigrunk/out/zigrunk'
 	@echo 'make lib              prove and build libzigrunk for C, Rust and Python: out/lib and out/include'
+	@echo 'make rust             write the proved sources as plain Rust and build programs and library of them: out/rust; needs cargo alone'
 	@echo 'make install          install both, the scripts, the man pages and completions; PREFIX=/usr/local, DESTDIR='
 	@echo '                      make install-programs and make install-library install, and build, one of them'
 	@echo 'make uninstall        remove what make install installed, with the same PREFIX and DESTDIR'
@@ -58,6 +59,11 @@ lib:
 	cd crates/zigrunk_c && rt lib
 	@.ci/built record library
 	bindings/c/library.sh crates/zigrunk_c/out/libzigrunk_c.a "$(CURDIR)/out"
+
+# The proved sources as crates of plain Rust (docs/PLAIN_RUST.md), and programs and library of them: no kit, no network.
+rust:
+	cargo run --quiet --release --manifest-path rust/Cargo.toml -p eraser -- . out/rust
+	cd out/rust && cargo build --release
 
 # Nothing is proved again if out/ holds what these sources make. Otherwise each part builds what it installs, so that those who
 # want one part don't wait for the other.

@@ -1,0 +1,101 @@
+//! The Cargo.toml of each erased crate, and that of the workspace.
+
+use crate::crates::Crate;
+use crate::erased::ErasedCrate;
+use crate::error::Error;
+use crate::exports;
+use std::collections::BTreeSet;
+use std::path::{Path, PathBuf};
+
+/// The package of the program whose crate has the name of the library for Rust.
+const PROGRAM: &str = "zigrunk";
+const PROGRAM_PACKAGE: &str = "zigrunk-cli";
+
+/// What erased crates can depend on.
+pub struct Known {
+    /// The proved crates.
+    pub crates: BTreeSet<String>,
+    /// The stand-ins for libraries of the kit.
+    pub stand_ins: BTreeSet<String>,
+}
+
+/// The manifest of a crate.
+pub fn manifest(of: &Crate, erased: &ErasedCrate, known: &Known) -> Result<String, Error> {
+    let package = match of.name.as_str() {
+        PROGRAM => PROGRAM_PACKAGE,
+        name => name,
+    };
+    let mut text = format!(
+        "[package]\nname = \"{package}\"\ndescription = \"{}\"\nversion.workspace = true\nedition.workspace = true\n\
+         rust-version.workspace = true\nlicense.workspace = true\npublish = false\n\n",
+        description(erased)
+    );
+    text.push_str(target(of));
+    text.push_str(
+        "[dependencies]\nstd = { package = \"rattle_std\", path = \"../../stand/std\" }\n",
+    );
+    for name in &of.dependencies {
+        text.push_str(&dependency(of, name, erased, known)?);
+    }
+    text.push_str("\n[lints]\nworkspace = true\n");
+    Ok(text)
+}
+
+// The line of a dependency, or nothing for one that only contracts name.
+fn dependency(
+    of: &Crate,
+    name: &str,
+    erased: &ErasedCrate,
+    known: &Known,
+) -> Result<String, Error> {
+    if !erased.words.contains(name) {
+        return Ok(String::new());
+    }
+    if known.crates.contains(name) {
+        return Ok(format!("{name} = {{ path = \"../{name}\" }}\n"));
+    }
+    if known.stand_ins.contains(name) {
+        return Ok(format!("{name} = {{ path = \"../../stand/{name}\" }}\n"));
+    }
+    Err(Error::NoDependency {
+        of: of.name.clone(),
+        name: name.to_string(),
+    })
+}
+
+// What cargo builds of a crate, where that isn't what its name says.
+fn target(of: &Crate) -> &'static str {
+    match of.name.as_str() {
+        exports::CRATE => {
+            "[lib]\nname = \"zigrunk\"\ncrate-type = [\"cdylib\", \"staticlib\"]\ndoc = false\n\n"
+        }
+        PROGRAM => "[[bin]]\nname = \"zigrunk\"\npath = \"src/main.rs\"\ndoc = false\n\n",
+        _ => "",
+    }
+}
+
+// The first sentence of the crate's documentation, without its end.
+fn description(erased: &ErasedCrate) -> String {
+    let root = ["src/lib.rs", "src/main.rs"];
+    let text = root.iter().find_map(|it| erased.files.get(Path::new(it)));
+    let lines = text.into_iter().flat_map(|it| it.lines());
+    let comment: Vec<&str> = lines.map_while(|it| it.strip_prefix("//! ")).collect();
+    let comment = comment.join(" ");
+    let sentence = comment.split_once(". ").map_or(comment.as_str(), |it| it.0);
+    sentence
+        .trim_end_matches('.')
+        .replace('"', "'")
+        .replace('`', "")
+}
+
+/// The manifest of the workspace.
+pub fn workspace(version: &str, members: &[PathBuf]) -> String {
+    let members: String = members
+        .iter()
+        .map(|it| format!("    \"{}\",\n", it.display()))
+        .collect();
+    let front = include_str!("../templates/workspace.toml");
+    front
+        .replace("@MEMBERS@", &members)
+        .replace("@VERSION@", version)
+}

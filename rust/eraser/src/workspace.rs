@@ -1,0 +1,107 @@
+//! The workspace of plain Rust: the erased crates, and what is written by hand for them.
+
+use crate::crates::{Crate, crates};
+use crate::erased::{ErasedCrate, erased};
+use crate::error::Error;
+use crate::exports;
+use crate::manifest::{Known, manifest, workspace};
+use crate::tree::{Tree, names};
+use std::fs;
+use std::path::{Path, PathBuf};
+
+/// Where crates that are written by hand are in the project, and where they go. Some projects lack some of them.
+const COPIED: [(&str, &str); 3] = [
+    ("bindings/rust", "zigrunk"),
+    ("bindings/rust/sys", "zigrunk-sys"),
+    ("driver", "driver"),
+];
+
+/// Names the files of the record, and says what its columns are.
+const RECORD: &str = "# What went from each file of the proved sources: FILE, CLASS, and the bytes from START to END. A rewrite has its name.\n";
+
+/// What makes up the workspace.
+#[derive(Debug, Default)]
+pub struct Workspace {
+    /// All files.
+    pub tree: Tree,
+    /// The roots of the erased crates: the files that rustfmt begins with.
+    pub roots: Vec<PathBuf>,
+    members: Vec<PathBuf>,
+    record: String,
+}
+
+/// The workspace for the project at `root`. Test drivers are in it if `drivers` says so.
+pub fn workspace_of(root: &Path, drivers: bool) -> Result<Workspace, Error> {
+    let all = crates(root, drivers)?;
+    let stand = root.join("rust/stand");
+    let known = Known {
+        crates: all.iter().map(|it| it.name.clone()).collect(),
+        stand_ins: names(&stand)?.into_iter().collect(),
+    };
+    let mut found = Workspace::default();
+    found.record.push_str(RECORD);
+    for one in &all {
+        found.add_crate(root, one, &known)?;
+    }
+    for name in names(&stand)? {
+        found.add_copy(&stand.join(&name), &Path::new("stand").join(&name))?;
+    }
+    for (from, to) in COPIED {
+        found.add_copy(&root.join(from), Path::new(to))?;
+    }
+    let version = root.join("VERSION");
+    let version = fs::read_to_string(&version).map_err(|it| Error::io(&version, it))?;
+    found
+        .tree
+        .add("Cargo.toml", workspace(version.trim(), &found.members));
+    found.tree.add("erased.txt", found.record.as_str());
+    Ok(found)
+}
+
+impl Workspace {
+    fn add_crate(&mut self, root: &Path, of: &Crate, known: &Known) -> Result<(), Error> {
+        let mut erased = erased(root, of)?;
+        let folder = Path::new("crates").join(&of.name);
+        if of.name == exports::CRATE {
+            export(&mut erased)?;
+        }
+        self.tree
+            .add(folder.join("Cargo.toml"), manifest(of, &erased, known)?);
+        for (path, text) in erased.files {
+            let path = folder.join(path);
+            if path.ends_with("src/lib.rs") || path.ends_with("src/main.rs") {
+                self.roots.push(path.clone());
+            }
+            self.tree.add(path, text);
+        }
+        self.record.push_str(&erased.record);
+        self.members.push(folder);
+        Ok(())
+    }
+
+    // Adds a crate that is written by hand, if it is there and made for this workspace.
+    fn add_copy(&mut self, from: &Path, to: &Path) -> Result<(), Error> {
+        if is_member(&from.join("Cargo.toml")) {
+            self.tree.copy(from, to, Some("sys"))?;
+            self.members.push(to.to_path_buf());
+        }
+        Ok(())
+    }
+}
+
+// Whether a manifest takes its version from the workspace.
+fn is_member(manifest: &Path) -> bool {
+    fs::read_to_string(manifest).is_ok_and(|it| it.contains("version.workspace = true"))
+}
+
+// Puts the C functions in place of those of the proved source.
+fn export(erased: &mut ErasedCrate) -> Result<(), Error> {
+    let root = PathBuf::from("src/lib.rs");
+    if let Some(text) = erased.files.get_mut(&root) {
+        *text = exports::exports(text)?;
+    }
+    erased
+        .files
+        .insert(PathBuf::from("src/memory.rs"), exports::MEMORY.to_string());
+    Ok(())
+}

@@ -1,0 +1,76 @@
+//! Maps without an order.
+
+use super::FoldHasher;
+use crate::alloc::{AllocError, Global};
+use core::borrow::Borrow;
+use core::hash::{BuildHasherDefault, Hash};
+pub use rust::collections::hash_map::Entry;
+
+/// Rust's `HashMap`, whose growth can fail.
+pub struct HashMap<K, V> {
+    entries: rust::collections::HashMap<K, V, BuildHasherDefault<FoldHasher>>,
+}
+
+impl<K: Eq + Hash, V> HashMap<K, V> {
+    /// An empty map. It doesn't allocate.
+    pub fn new(_alloc: Global) -> HashMap<K, V> {
+        HashMap { entries: rust::collections::HashMap::default() }
+    }
+
+    /// An empty map with room for `capacity` entries.
+    pub fn with_capacity(alloc: Global, capacity: usize) -> Result<HashMap<K, V>, AllocError> {
+        let mut map = HashMap::new(alloc);
+        map.entries.try_reserve(capacity)?;
+        Ok(map)
+    }
+
+    /// How many entries there are.
+    pub fn len(&self) -> usize {
+        self.entries.len()
+    }
+
+    /// Whether there are no entries.
+    pub fn is_empty(&self) -> bool {
+        self.entries.is_empty()
+    }
+
+    /// Sets the value of `key`, and gives the one that it had. On an error the map is unchanged.
+    pub fn insert(&mut self, key: K, value: V) -> Result<Option<V>, AllocError> {
+        self.entries.try_reserve(1)?;
+        Ok(self.entries.insert(key, value))
+    }
+
+    /// The place of `key`, with room for its value.
+    #[inline]
+    pub fn entry(&mut self, key: K) -> Result<Entry<'_, K, V>, AllocError> {
+        self.entries.try_reserve(1)?;
+        Ok(self.entries.entry(key))
+    }
+
+    /// The value of `key`.
+    #[inline]
+    pub fn get<Q: Eq + Hash + ?Sized>(&self, key: &Q) -> Option<&V>
+    where
+        K: Borrow<Q>,
+    {
+        self.entries.get(key)
+    }
+
+    /// The value of `key`, to be changed.
+    #[inline]
+    pub fn get_mut<Q: Eq + Hash + ?Sized>(&mut self, key: &Q) -> Option<&mut V>
+    where
+        K: Borrow<Q>,
+    {
+        self.entries.get_mut(key)
+    }
+
+    /// Whether there is an entry of `key`.
+    #[inline]
+    pub fn contains_key<Q: Eq + Hash + ?Sized>(&self, key: &Q) -> bool
+    where
+        K: Borrow<Q>,
+    {
+        self.entries.contains_key(key)
+    }
+}

@@ -1,0 +1,6 @@
+//! Classes of characters.
+#![forbid(unsafe_code)]
+#![warn(missing_docs)]
+
+pub mod perl;
+mod word;
