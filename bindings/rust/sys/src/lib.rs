@@ -6,7 +6,8 @@
 //! # Linking
 //!
 //! The build looks for `libzigrunk.a`, else `libzigrunk.so`, in the folder `ZIGRUNK_LIB_DIR`. If that isn't set, it looks where
-//! pkg-config says, in `out/lib` of the repository, where `make lib` leaves it, and in the installation that the crate is of.
+//! pkg-config says, in `out/lib` of the repository, where `make lib` leaves it, and in the installation that the crate is of. If none has it,
+//! the linker looks where it looks for all libraries.
 
 mod buffers;
 mod calls;
