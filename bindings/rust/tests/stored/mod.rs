@@ -1,7 +1,7 @@
 //! The dry runs of real calls that the repository has, for tests.
 
 use std::fs;
-use std::path::PathBuf;
+use std::path::{Path, PathBuf};
 
 /// A real call: its dry runs, and its plan as `cudaplan` prints it.
 #[derive(Debug)]
@@ -22,11 +22,11 @@ fn folder() -> PathBuf {
     folders.find(|folder| folder.is_dir()).expect("a folder above with the dry runs")
 }
 
-fn read(path: PathBuf) -> Vec<u8> {
-    fs::read(&path).unwrap_or_else(|error| panic!("{}: {error}", path.display()))
+fn read(path: &Path) -> Vec<u8> {
+    fs::read(path).unwrap_or_else(|error| panic!("{}: {error}", path.display()))
 }
 
-fn text(path: PathBuf) -> String {
+fn text(path: &Path) -> String {
     String::from_utf8(read(path)).expect("a text")
 }
 
@@ -35,10 +35,10 @@ pub fn call(name: &str) -> Stored {
     let file = |end| folder().join(format!("{name}.{end}"));
     Stored {
         name: name.to_owned(),
-        dry1: read(file("dry1")),
-        dry2: read(file("dry2")),
-        flag: text(file("flag")).trim().to_owned(),
-        plan: text(file("plan")),
+        dry1: read(&file("dry1")),
+        dry2: read(&file("dry2")),
+        flag: text(&file("flag")).trim().to_owned(),
+        plan: text(&file("plan")),
     }
 }
 
