@@ -22,6 +22,11 @@ impl<'a> Variable<'a> {
         Variable { name: name.as_ref(), value: value.as_ref() }
     }
 
+    /// Its name and its value.
+    pub(crate) fn parts(&self) -> (&'a OsStr, &'a OsStr) {
+        (self.name, self.value)
+    }
+
     /// The bytes of its name, and those of its value: UTF-8 if they are text.
     pub(crate) fn bytes(&self) -> (&'a [u8], &'a [u8]) {
         (self.name.as_encoded_bytes(), self.value.as_encoded_bytes())
@@ -30,7 +35,7 @@ impl<'a> Variable<'a> {
 
 impl fmt::Debug for Variable<'_> {
     fn fmt(&self, f: &mut fmt::Formatter<'_>) -> fmt::Result {
-        (self.name, self.value).fmt(f)
+        self.parts().fmt(f)
     }
 }
 
