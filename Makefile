@@ -3,15 +3,34 @@ PREFIX ?= /usr/local
 DESTDIR ?=
 target = $(DESTDIR)$(PREFIX)
 
-.PHONY: help demo build lib rust check install install-programs install-library uninstall dist bench drivers fuzz-library must-fail refused-memory end-to-end odd-calls random-calls versions cache cache-example peer cluster field mutants test-install dist-test check-docs lint test
+# What `make install` installs: `proved`, which needs the Rattle kit, or `plain`, the same sources as plain Rust, which needs cargo.
+BUILT ?= $(if $(shell command -v rt),proved,plain)
+ifeq ($(BUILT),plain)
+built = out/rust/target/release
+cudaplan = $(built)/cudaplan
+zigrunk = $(built)/zigrunk
+archive = $(built)/libzigrunk.a
+programs_from = $(MAKE) rust
+library_from = $(MAKE) rust
+else
+cudaplan = crates/cudaplan/out/cudaplan
+zigrunk = crates/zigrunk/out/zigrunk
+archive = crates/zigrunk_c/out/libzigrunk_c.a
+programs_from = .ci/built check programs || $(MAKE) build
+library_from = .ci/built check library || $(MAKE) lib
+endif
+
+.PHONY: help demo build lib rust rust-install check install install-programs install-library uninstall dist bench drivers fuzz-library must-fail refused-memory end-to-end odd-calls random-calls versions cache cache-example peer cluster field mutants test-install dist-test check-docs lint test
 
 help:
 	@echo 'make demo             run cudaplan, unproved, on two calls; a minute from a fresh clone'
 	@echo 'make build            prove and build the programs: crates/cudaplan/out/cudaplan and crates/zigrunk/out/zigrunk'
 	@echo 'make lib              prove and build libzigrunk for C, Rust and Python: out/lib and out/include'
 	@echo 'make rust             write the proved sources as plain Rust and build programs and library of them: out/rust; needs cargo alone'
-	@echo 'make install          install both, the scripts, the man pages and completions; PREFIX=/usr/local, DESTDIR='
+	@echo 'make install          install programs, library, scripts, man pages and completions; PREFIX=/usr/local, DESTDIR='
+	@echo '                      it proves and builds both, or without the kit builds the plain Rust: BUILT=proved, BUILT=plain'
 	@echo '                      make install-programs and make install-library install, and build, one of them'
+	@echo 'make rust-install     the same with the plain Rust'
 	@echo 'make uninstall        remove what make install installed, with the same PREFIX and DESTDIR'
 	@echo 'make check CRATE=dry_runs   prove one crate over kept libraries, or with FUNCTION=PATH one function of it; no verdict'
 	@echo 'make test             the whole gate, with rt ci in it; the last line is N passed, M failed; BODIES=all tries all wrong bodies,'
@@ -40,9 +59,15 @@ help:
 	@echo 'make bench            time calls of the library'
 
 # A cicc line that is read and written back, and the plan of two real dry runs: the calls in demo/.
+DRY_RUNS = tests/drivers/test_plans/data/dry_runs
+ifeq ($(BUILT),plain)
+demo: rust
+	@cd $(DRY_RUNS) && for call in line plan; do xargs -d '\n' "$(CURDIR)/$(cudaplan)" < "$(CURDIR)/demo/$$call.args" || exit 1; done
+else
 demo:
 	@echo 'This builds cudaplan without proving it and runs it twice, in about a minute. make build proves it.'
-	@cd crates/cudaplan && rt try --data one_target.dry1=../../tests/drivers/test_plans/data/dry_runs/one_target.dry1 --data one_target.dry2=../../tests/drivers/test_plans/data/dry_runs/one_target.dry2 --cases ../../demo
+	@cd crates/cudaplan && rt try --data one_target.dry1=../../$(DRY_RUNS)/one_target.dry1 --data one_target.dry2=../../$(DRY_RUNS)/one_target.dry2 --cases ../../demo
+endif
 
 # rt builds a program only when it runs it, and leaves it in out/. So each program makes a short call, whose output is thrown away.
 build:
@@ -69,10 +94,13 @@ rust:
 # want one part don't wait for the other.
 install: install-programs install-library
 
+rust-install:
+	@$(MAKE) install BUILT=plain
+
 install-programs:
-	@.ci/built check programs || $(MAKE) build
-	install -D -m 755 crates/cudaplan/out/cudaplan "$(target)/bin/cudaplan"
-	install -D -m 755 crates/zigrunk/out/zigrunk "$(target)/bin/zigrunk"
+	@$(programs_from)
+	install -D -m 755 $(cudaplan) "$(target)/bin/cudaplan"
+	install -D -m 755 $(zigrunk) "$(target)/bin/zigrunk"
 	install -D -m 755 bin/zigrunk-nvcc "$(target)/bin/zigrunk-nvcc"
 	install -D -m 755 bin/zigrunk-batch "$(target)/bin/zigrunk-batch"
 	install -D -m 755 bin/zigrunk-slot "$(target)/bin/zigrunk-slot"
@@ -97,8 +125,8 @@ install-programs:
 
 # The library is linked here, from the archive: the header and the version are always those of this folder.
 install-library:
-	@.ci/built check library || $(MAKE) lib
-	umask 022 && bindings/c/library.sh crates/zigrunk_c/out/libzigrunk_c.a "$(target)"
+	@$(library_from)
+	umask 022 && bindings/c/library.sh $(archive) "$(target)"
 	install -D -m 644 man/zigrunk.h.3 "$(target)/share/man/man3/zigrunk.h.3"
 	find bindings -type f ! -path '*/c/library.sh' ! -path '*/c/zigrunk.*' ! -path '*/rust/tests/*' ! -path '*/target/*' ! -path '*/__pycache__/*' -printf '%P\n' | \
 		while read -r file; do install -D -m 644 "bindings/$$file" "$(target)/share/zigrunk/$$file" || exit 1; done

@@ -1,7 +1,7 @@
 //! Sets.
 
 use crate::map::IndexMap;
-use std::alloc::{AllocError, Global};
+use std::alloc::{AllocFailed, Global};
 use std::hash::Hash;
 
 /// A set in the order in which its values were first inserted, whose growth can fail.
@@ -16,7 +16,10 @@ impl<T: Hash + Eq> IndexSet<T> {
     }
 
     /// Inserts a value, and says whether it is new. On an error the set is unchanged.
-    pub fn insert(&mut self, value: T) -> Result<bool, AllocError> {
-        Ok(self.map.insert(value, ())?.is_none())
+    pub fn insert(&mut self, value: T) -> Result<bool, AllocFailed<T>> {
+        match self.map.insert(value, ()) {
+            Ok(before) => Ok(before.is_none()),
+            Err(AllocFailed { value: (value, ()) }) => Err(AllocFailed { value }),
+        }
     }
 }

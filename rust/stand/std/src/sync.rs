@@ -1,6 +1,6 @@
 //! Values with several owners.
 
-use crate::alloc::{AllocError, Global};
+use crate::alloc::{AllocError, AllocFailed, Global};
 use crate::clone::TryClone;
 use core::fmt;
 use core::marker::PhantomData;
@@ -34,9 +34,11 @@ unsafe impl<T: Send + Sync> Sync for Arc<T> {}
 
 impl<T> Arc<T> {
     /// The only owner of `value`.
-    pub fn new(_alloc: Global, value: T) -> Result<Arc<T>, AllocError> {
+    pub fn new(_alloc: Global, value: T) -> Result<Arc<T>, AllocFailed<T>> {
         let mut counted = rust::vec::Vec::new();
-        counted.try_reserve_exact(1)?;
+        if counted.try_reserve_exact(1).is_err() {
+            return Err(AllocFailed { value });
+        }
         counted.push(Counted { owners: AtomicUsize::new(1), value });
         match Box::<Block<T>>::try_from(counted.into_boxed_slice()) {
             Ok(block) => Ok(Arc { block: NonNull::from(Box::leak(block)), owned: PhantomData }),

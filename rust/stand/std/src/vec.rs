@@ -49,8 +49,10 @@ impl<T> Vec<T> {
     }
 
     /// The items of `array`.
-    pub fn from_array<const N: usize>(alloc: Global, array: [T; N]) -> Result<Vec<T>, AllocError> {
-        let mut made = Vec::with_capacity(alloc, N)?;
+    pub fn from_array<const N: usize>(alloc: Global, array: [T; N]) -> Result<Vec<T>, AllocFailed<[T; N]>> {
+        let Ok(mut made) = Vec::with_capacity(alloc, N) else {
+            return Err(AllocFailed { value: array });
+        };
         made.items.extend(array);
         Ok(made)
     }

@@ -1,6 +1,6 @@
 //! Maps in the order of their keys.
 
-use crate::alloc::{AllocError, Global};
+use crate::alloc::{AllocFailed, Global};
 use crate::vec;
 use crate::vec::Vec;
 use core::borrow::Borrow;
@@ -39,7 +39,7 @@ impl<K, V> BTreeMap<K, V> {
 
 impl<K: Ord, V> BTreeMap<K, V> {
     /// Sets the value of `key`, and gives the one that it had. On an error the map is unchanged.
-    pub fn insert(&mut self, key: K, value: V) -> Result<Option<V>, AllocError> {
+    pub fn insert(&mut self, key: K, value: V) -> Result<Option<V>, AllocFailed<(K, V)>> {
         match self.place(&key) {
             Ok(place) => Ok(Some(replace(&mut self.entries[place].1, value))),
             Err(place) => {

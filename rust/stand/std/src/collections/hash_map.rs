@@ -1,7 +1,7 @@
 //! Maps without an order.
 
 use super::FoldHasher;
-use crate::alloc::{AllocError, Global};
+use crate::alloc::{AllocError, AllocFailed, Global};
 use core::borrow::Borrow;
 use core::hash::{BuildHasherDefault, Hash};
 pub use rust::collections::hash_map::Entry;
@@ -35,15 +35,19 @@ impl<K: Eq + Hash, V> HashMap<K, V> {
     }
 
     /// Sets the value of `key`, and gives the one that it had. On an error the map is unchanged.
-    pub fn insert(&mut self, key: K, value: V) -> Result<Option<V>, AllocError> {
-        self.entries.try_reserve(1)?;
+    pub fn insert(&mut self, key: K, value: V) -> Result<Option<V>, AllocFailed<(K, V)>> {
+        if self.entries.try_reserve(1).is_err() {
+            return Err(AllocFailed { value: (key, value) });
+        }
         Ok(self.entries.insert(key, value))
     }
 
     /// The place of `key`, with room for its value.
     #[inline]
-    pub fn entry(&mut self, key: K) -> Result<Entry<'_, K, V>, AllocError> {
-        self.entries.try_reserve(1)?;
+    pub fn entry(&mut self, key: K) -> Result<Entry<'_, K, V>, AllocFailed<K>> {
+        if self.entries.try_reserve(1).is_err() {
+            return Err(AllocFailed { value: key });
+        }
         Ok(self.entries.entry(key))
     }
 
