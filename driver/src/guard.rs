@@ -59,8 +59,9 @@ impl Shared {
 #[derive(Debug)]
 pub struct Guard {
     /// Nobody else has this end, so the guard sees when the call is gone.
-    _alive: OwnedFd,
+    alive: OwnedFd,
     shared: Shared,
+    process: i32,
 }
 
 impl Guard {
@@ -72,18 +73,20 @@ impl Guard {
     pub fn start(shared: Shared, folder: &mut Option<CallFolder>, tokens: Option<&OwnedFd>) -> io::Result<Guard> {
         let (gone, alive) = system::pipe()?;
         let alive_there = alive.as_raw_fd();
-        system::fork_to(|| {
+        let process = system::fork_to(|| {
             system::close(alive_there);
             system::leave_streams();
             watch(&gone, shared, folder.take(), tokens);
         })?;
-        Ok(Guard { _alive: alive, shared })
+        Ok(Guard { alive, shared, process })
     }
 
-    /// Says that the call has ended by itself. The guard ends then.
-    pub fn dismiss(&self) {
+    /// Says that the call has ended by itself. The guard ends then, and this process waits for it.
+    pub fn dismiss(self) {
         // SAFETY: the place is a byte of a page that lasts as long as this process.
         unsafe { ptr::write_volatile(self.shared.done(), 1) };
+        drop(self.alive);
+        system::wait_for_child(self.process);
     }
 }
 

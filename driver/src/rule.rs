@@ -41,7 +41,7 @@ impl Watch for RuleMaker<'_> {
         self.try_make().is_some()
     }
 
-    fn refused(&mut self, kind: &str) {
-        eprintln!("zigrunk-nvcc: {} doesn't take {kind}, which runs without it", self.launcher);
+    fn refused(&mut self, tool: &str) {
+        eprintln!("zigrunk-nvcc: {} doesn't take {tool}, which runs without it", self.launcher);
     }
 }

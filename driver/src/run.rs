@@ -17,6 +17,13 @@ pub struct Task {
     pub kind: String,
 }
 
+impl Task {
+    /// The name of its program.
+    fn tool(&self) -> &str {
+        self.kind.split(' ').next().unwrap_or_default()
+    }
+}
+
 /// What became of a task.
 #[derive(Clone, Debug, Default)]
 pub struct Done {
@@ -46,7 +53,7 @@ pub trait Watch {
     /// Does a task without a process, if that is possible.
     fn make_rule(&mut self) -> bool;
     /// Hears that the cache refuses a command: it runs without it.
-    fn refused(&mut self, kind: &str);
+    fn refused(&mut self, tool: &str);
 }
 
 /// The words with which a cache says that it doesn't know a compiler.
@@ -127,7 +134,7 @@ impl<M: Machine, W: Watch> Run<'_, M, W> {
     fn start(&mut self, next: Option<usize>) -> Result<bool, Stopped> {
         let Some(next) = next else { return Ok(false) };
         let task = &self.tasks[next];
-        let bare = task.without_launcher.as_ref().filter(|_| self.refused.contains(&task.kind.as_str()));
+        let bare = task.without_launcher.as_ref().filter(|_| self.refused.contains(&task.tool()));
         match self.machine.start(next, bare.unwrap_or(&task.job)) {
             Ok(()) => {
                 self.launched[next] = task.without_launcher.is_some() && bare.is_none();
@@ -145,9 +152,9 @@ impl<M: Machine, W: Watch> Run<'_, M, W> {
         let task = &self.tasks[number];
         let is_refusal = !ended.status.succeeded() && contains(&ended.errors, REFUSAL);
         if is_refusal && self.launched[number] {
-            if !self.refused.contains(&task.kind.as_str()) {
-                self.refused.push(&task.kind);
-                self.watch.refused(&task.kind);
+            if !self.refused.contains(&task.tool()) {
+                self.refused.push(task.tool());
+                self.watch.refused(task.tool());
             }
             self.again.push(number);
             return;
@@ -219,8 +226,8 @@ mod tests {
             false
         }
 
-        fn refused(&mut self, kind: &str) {
-            self.0.push(kind.to_owned());
+        fn refused(&mut self, tool: &str) {
+            self.0.push(tool.to_owned());
         }
     }
 

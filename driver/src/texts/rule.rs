@@ -11,10 +11,16 @@ pub struct Rule<'a> {
 }
 
 /// The rule that the words of a dependency command ask for. `None` if nvcc has to make it: for other words than
-/// `.. SOURCE -M -MF FILE -MT TARGET`, for a name with another character than those that no rule escapes, and for a device.
+/// `.. SOURCE -M -MF FILE -MT TARGET`, the last two pairs in any order, for a name with another character than those that no rule
+/// escapes, and for a device.
 pub fn asked(words: &[String]) -> Option<Rule<'_>> {
-    let [before @ .., source, list, to, file, of, target] = words else { return None };
-    let is_asked = list == "-M" && to == "-MF" && of == "-MT" && !before.iter().any(|word| word.starts_with("-M"));
+    let [before @ .., source, list, one, first, other, second] = words else { return None };
+    let (file, target) = match (one.as_str(), other.as_str()) {
+        ("-MF", "-MT") => (first, second),
+        ("-MT", "-MF") => (second, first),
+        _ => return None,
+    };
+    let is_asked = list == "-M" && !before.iter().any(|word| word.starts_with("-M"));
     let are_plain = [source, file, target].iter().all(|name| is_plain(name, b"_./+-"));
     let is_device = file.starts_with("/dev/") || file.starts_with("/proc/");
     (is_asked && are_plain && !is_device).then_some(Rule { source, file, target })
@@ -84,7 +90,8 @@ mod tests {
     #[test]
     fn a_rule_is_asked_for_by_its_words() {
         assert_eq!(asked(&words("nvcc -c -x cu k.cu -M -MF k.d -MT k.o")), Some(RULE));
-        let others = ["nvcc k.cu -M -MP -MF k.d -MT k.o", "nvcc k.cu -MM -MF k.d -MT k.o", "nvcc -MD k.cu -M -MF k.d -MT k.o", "nvcc k.cu -M -MF k.d",
+        assert_eq!(asked(&words("nvcc -c -x cu k.cu -M -MT k.o -MF k.d")), Some(RULE));
+        let others = ["nvcc k.cu -M -MP -MF k.d -MT k.o", "nvcc k.cu -MM -MF k.d -MT k.o", "nvcc -MD k.cu -M -MF k.d -MT k.o", "nvcc k.cu -M -MF k.d", "nvcc k.cu -M -MF k.d -MF k.o",
             "nvcc k.cu -M -MF /dev/stdout -MT k.o", "nvcc k.cu -M -MF k.d -MT $x", "nvcc k:.cu -M -MF k.d -MT k.o", "nvcc k.cu -M -MF /proc/self/fd/1 -MT k.o"];
         for line in others {
             assert_eq!(asked(&words(line)), None, "{line}");
