@@ -14,8 +14,10 @@
 //! With `ZIGRUNK_LAUNCHED='-E cudafe++ cicc ptxas -c'` it serves preprocessors too. Such an entry notes each file that was read, and each folder
 //! in which another file of that name could be found first, and holds as long as these are as they were. The list of the call's targets is a
 //! macro of each preprocessor; where no file names it, an entry holds for other lists.
-use std::collections::hash_map::RandomState;
+#![allow(clippy::pedantic, clippy::format_collect, clippy::precedence, reason = "SHA-256 is written as its standard has it")]
+
 use std::collections::BTreeSet;
+use std::collections::hash_map::RandomState;
 use std::error::Error;
 use std::ffi::{OsStr, OsString};
 use std::fs::{self, File, OpenOptions};
@@ -29,7 +31,7 @@ use std::process::{Command, Stdio};
 use std::time::{Duration, SystemTime};
 use std::{env, process};
 
-use zigrunk::{command_key, line_records, variables, CommandTool, KeyCall, LineCall};
+use zigrunk::{CommandTool, KeyCall, LineCall, command_key, line_records, variables};
 
 type Outcome<T> = Result<T, Box<dyn Error>>;
 
@@ -171,7 +173,7 @@ fn digests(cwd: &Path, files: &Files, program: &str, words: &[String]) -> Outcom
     let mut rest = vec![OsString::from(format!("{} {}.{}", tool.size(), tool.mtime(), tool.mtime_nsec()))];
     let roots = roots(files);
     // (a long text is a long key; where it has no root, its digest does)
-    let has_root = |text: &str| roots.iter().any(|root| root.to_str().map_or(true, |root| text.contains(root)));
+    let has_root = |text: &str| roots.iter().any(|root| root.to_str().is_none_or(|root| text.contains(root)));
     rest.extend(contents(files, program, words)?.into_iter().map(|text| match std::str::from_utf8(&text) {
         Ok(plain) if !has_root(plain) => sha256(&text).into(),
         _ => OsString::from_vec(text),
@@ -218,7 +220,7 @@ fn stamp(path: &Path, before: Option<SystemTime>) -> Option<String> {
     let status = fs::metadata(path).ok()?;
     let changed = Duration::new(u64::try_from(status.ctime()).ok()?, u32::try_from(status.ctime_nsec()).ok()?);
     let is_old = |time: SystemTime| status.modified().is_ok_and(|it| it < time) && SystemTime::UNIX_EPOCH + changed < time;
-    before.map_or(true, |time| is_old(time - Duration::from_millis(50))).then(|| {
+    before.is_none_or(|time| is_old(time - Duration::from_millis(50))).then(|| {
         let size = if status.is_dir() { 0 } else { status.size() };
         format!("{size} {}.{} {}.{} {}", status.mtime(), status.mtime_nsec(), status.ctime(), status.ctime_nsec(), status.ino())
     })

@@ -9,7 +9,7 @@ use std::error::Error;
 use std::path::PathBuf;
 use std::{env, fs, process};
 
-use zigrunk::{candidates, find_programs, plan, quote, FoundProgram, Plan, PlanCall, Stage};
+use zigrunk::{FoundProgram, Plan, PlanCall, Stage, candidates, find_programs, plan, quote};
 
 /// A command, ready to be run or looked up in a cache.
 struct Subcommand {
@@ -74,7 +74,7 @@ fn main() -> Result<(), Box<dyn Error>> {
     };
     let (dry1, dry2) = (fs::read(first)?, fs::read(second)?);
     let programs = programs(&dry1, &dry2, cwd)?;
-    let call = PlanCall { dry1: &dry1, dry2: &dry2, cwd, tmp, flag, programs: &programs, ..PlanCall::default() };
+    let call = PlanCall { dry1: &dry1, dry2: &dry2, cwd, tmp, flag, programs: &programs, ..PlanCall::new(&[]) };
     let plan = plan(&call)?;
     print(&owned(&plan))?;
     for command in plan.dropped() {

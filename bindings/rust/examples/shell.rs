@@ -5,7 +5,7 @@
 use std::error::Error;
 use std::{env, fs, process};
 
-use zigrunk::{candidates, find_programs, plan_text, Form, PlanCall};
+use zigrunk::{Form, PlanCall, candidates, find_programs, plan_text};
 
 fn main() -> Result<(), Box<dyn Error>> {
     let words: Vec<String> = env::args().skip(1).collect();
@@ -18,7 +18,8 @@ fn main() -> Result<(), Box<dyn Error>> {
     for program in programs.iter_mut().filter(|program| program.found.is_none()) {
         program.found = candidates(&program.lookup, cwd)?.get(0).map(String::from);
     }
-    let call = PlanCall { dry1: &dry1, dry2: &dry2, cwd, tmp, flag, programs: &programs, ..PlanCall::default() };
+    // The commands run in the environment of the shell that reads the script.
+    let call = PlanCall { dry1: &dry1, dry2: &dry2, cwd, tmp, flag, programs: &programs, ..PlanCall::new(&[]) };
     print!("{}", plan_text(&call, Form::Shell)?);
     Ok(())
 }

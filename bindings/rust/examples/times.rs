@@ -6,7 +6,7 @@ use std::hint::black_box;
 use std::time::Instant;
 use std::{env, fs, process};
 
-use zigrunk::{candidates, lookups, plan, FoundProgram, PlanCall};
+use zigrunk::{FoundProgram, PlanCall, candidates, lookups, plan};
 
 fn main() -> Result<(), Box<dyn Error>> {
     let words: Vec<String> = env::args().skip(1).collect();
@@ -19,7 +19,7 @@ fn main() -> Result<(), Box<dyn Error>> {
     for lookup in lookups(&dry1, &dry2, cwd)? {
         programs.push(FoundProgram { found: candidates(&lookup, cwd)?.get(0).map(String::from), lookup });
     }
-    let call = PlanCall { dry1: &dry1, dry2: &dry2, cwd, tmp, flag, programs: &programs, ..PlanCall::default() };
+    let call = PlanCall { dry1: &dry1, dry2: &dry2, cwd, tmp, flag, programs: &programs, ..PlanCall::new(&[]) };
     let start = Instant::now();
     for _ in 0..count {
         black_box(plan(black_box(&call))?);

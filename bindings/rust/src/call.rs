@@ -2,8 +2,7 @@
 
 use std::num::NonZeroUsize;
 
-use crate::sys::{self, Text};
-use crate::{buffers, Error, FoundProgram, Variable};
+use crate::{Error, FoundProgram, Variable, backend};
 
 /// What a plan is written as.
 #[derive(Debug, Clone, Copy, PartialEq, Eq, Hash)]
@@ -36,11 +35,13 @@ pub enum HostCompiler {
 ///
 /// ```
 /// # let (dry1, dry2) = (b"#$ cicc --version\n", b"#$ cicc --version\n");
-/// use zigrunk::PlanCall;
-/// let call = PlanCall { dry1, dry2, cwd: "/w", tmp: "/t", flag: "-c", ..PlanCall::default() };
+/// use zigrunk::{PlanCall, variables};
+/// let environment: Vec<_> = std::env::vars_os().collect();
+/// let variables = variables(&environment);
+/// let call = PlanCall { dry1, dry2, cwd: "/w", tmp: "/t", flag: "-c", ..PlanCall::new(&variables) };
 /// # assert_eq!(call.keep_dir, None);
 /// ```
-#[derive(Debug, Clone, Copy, Default, PartialEq, Eq)]
+#[derive(Debug, Clone, Copy, PartialEq, Eq)]
 pub struct PlanCall<'a> {
     /// What the call prints with `--dryrun --keep`. Any bytes: a line that isn't UTF-8 is [`ErrorKind::BadDryRun`](crate::ErrorKind).
     pub dry1: &'a [u8],
@@ -54,8 +55,8 @@ pub struct PlanCall<'a> {
     pub flag: &'a str,
     /// The directory that keeps generated files. If there is none, they get canonical names.
     pub keep_dir: Option<&'a str>,
-    /// The call's environment: [`variables`](crate::variables()) of [`std::env::vars_os`]. Without one, each command has only the
-    /// variables that it adds to it.
+    /// The call's environment: [`variables`](crate::variables()) of [`std::env::vars_os`]. Commands run in it, so an empty one makes
+    /// other products than nvcc does.
     pub variables: &'a [Variable<'a>],
     /// Suffixes of generated files, behind the standard ones.
     pub suffixes: &'a [&'a str],
@@ -68,44 +69,29 @@ pub struct PlanCall<'a> {
     pub limit: Option<NonZeroUsize>,
 }
 
-impl PlanCall<'_> {
-    /// Passes the call as the record of `zigrunk.h`.
-    pub(crate) fn with_record<R>(&self, take: impl FnOnce(&sys::PlanCall<'_>) -> R) -> R {
-        let suffixes: Vec<_> = self.suffixes.iter().map(|&suffix| Text::from(suffix)).collect();
-        let programs: Vec<_> = self.programs.iter().map(row).collect();
-        take(&sys::PlanCall {
-            dry1: Text::new(self.dry1),
-            dry2: Text::new(self.dry2),
-            cwd: self.cwd.into(),
-            tmp: self.tmp.into(),
-            flag: self.flag.into(),
-            keep_dir: self.keep_dir.unwrap_or_default().into(),
-            variables: self.variables.as_ptr(),
-            variables_count: self.variables.len(),
-            suffixes: suffixes.as_ptr(),
-            suffixes_count: suffixes.len(),
-            programs: programs.as_ptr(),
-            programs_count: programs.len(),
-            keeps: self.keep_dir.is_some().into(),
-            host_compiler: self.host_compiler as u32,
-            limit: sys::limit(self.limit),
-        })
-    }
-
-    /// The length of both dry runs.
-    pub(crate) fn dry_length(&self) -> usize {
-        self.dry1.len() + self.dry2.len()
+impl<'a> PlanCall<'a> {
+    /// A call in an environment, with nothing else yet.
+    #[must_use]
+    pub fn new(variables: &'a [Variable<'a>]) -> Self {
+        PlanCall {
+            dry1: &[],
+            dry2: &[],
+            cwd: "",
+            tmp: "",
+            flag: "",
+            keep_dir: None,
+            variables,
+            suffixes: &[],
+            programs: &[],
+            host_compiler: HostCompiler::Gcc,
+            limit: None,
+        }
     }
 }
 
-fn row(program: &FoundProgram) -> sys::FoundProgram<'_> {
-    sys::FoundProgram {
-        program: program.lookup.program.as_str().into(),
-        path: program.lookup.path.as_str().into(),
-        found: program.found.as_deref().unwrap_or_default().into(),
-        is_found: program.found.is_some().into(),
-        reserved: 0,
-    }
+/// A limit as the library has it: 0 if there is none.
+pub(crate) fn number_of_limit(limit: Option<NonZeroUsize>) -> usize {
+    limit.map_or(0, NonZeroUsize::get)
 }
 
 /// Plans the commands of one nvcc call, and writes the plan in a form.
@@ -119,14 +105,9 @@ fn row(program: &FoundProgram) -> sys::FoundProgram<'_> {
 /// ```
 /// # let run = b"#$ PATH=/b\n#$ gcc -D__NVCC__ -E k.cu -o k.cpp1.ii\n";
 /// use zigrunk::{plan_text, ErrorKind, Form, PlanCall};
-/// let call = PlanCall { dry1: run, dry2: run, cwd: "/w", tmp: "/t", flag: "-c", ..PlanCall::default() };
+/// let call = PlanCall { dry1: run, dry2: run, cwd: "/w", tmp: "/t", flag: "-c", ..PlanCall::new(&[]) };
 /// assert_eq!(plan_text(&call, Form::Json).unwrap_err().kind(), ErrorKind::NotFound);
 /// ```
 pub fn plan_text(call: &PlanCall<'_>, form: Form) -> Result<String, Error> {
-    let variables: usize = call.variables.iter().map(|it| it.length() + 8).sum();
-    let estimate = call.dry_length() * 4 + variables * 16;
-    // SAFETY: the record and all that it points to live through the call, and the buffer is exclusive.
-    call.with_record(|record| unsafe {
-        buffers::text_or_error(estimate, |out, size| sys::zigrunk_plan(record, form as u32, out, size))
-    })
+    backend::plan_text(call, form)
 }

@@ -2,7 +2,7 @@
 
 use std::fmt;
 
-use crate::sys;
+use crate::backend;
 
 /// The kinds of errors: one for each status of `zigrunk.h`, and one of this crate.
 #[derive(Debug, Clone, Copy, PartialEq, Eq, Hash)]
@@ -35,16 +35,19 @@ pub enum ErrorKind {
     NoDryRun,
     /// A directory of a plan isn't absolute and plain: a part of its path is empty, `.` or `..`. The message says which.
     OddDirectory,
-    /// The answer didn't fit into buffers of the sizes that the call itself had asked for, several times. The library can't cause
-    /// that: something changes the memory that the call reads, such as a file that is mapped into memory.
+    /// libzigrunk's answer didn't fit into buffers of the sizes that the call itself had asked for, several times. The library can't
+    /// cause that: something changes the memory that the call reads, such as a file that is mapped into memory.
     Unsettled,
     /// A status that a later library may have.
     Other(i32),
 }
 
+/// The status of [`ErrorKind::Unsettled`], which no library has.
+pub(crate) const UNSETTLED: i32 = -1;
+
 /// The kinds with the numbers of their statuses.
 const KINDS: [(i32, ErrorKind); 14] = [
-    (-1, ErrorKind::Unsettled),
+    (UNSETTLED, ErrorKind::Unsettled),
     (1, ErrorKind::OutOfMemory),
     (2, ErrorKind::NotUtf8),
     (3, ErrorKind::BadNumber),
@@ -100,7 +103,7 @@ pub struct Place {
 
 impl Place {
     /// The place of a record, if it is one.
-    fn of(place: sys::Place) -> Option<Self> {
+    fn of(place: backend::Place) -> Option<Self> {
         let field = match place.field {
             0 => return None,
             1 => Field::Dry1,
@@ -123,7 +126,7 @@ impl Place {
 ///
 /// ```
 /// use zigrunk::{plan, ErrorKind, Field, PlanCall};
-/// let error = plan(&PlanCall { dry1: b"nvcc: not found", dry2: b"", cwd: "/w", tmp: "/t", ..PlanCall::default() }).unwrap_err();
+/// let error = plan(&PlanCall { dry1: b"nvcc: not found", dry2: b"", cwd: "/w", tmp: "/t", ..PlanCall::new(&[]) }).unwrap_err();
 /// assert_eq!(error.kind(), ErrorKind::NoDryRun);
 /// assert_eq!(error.to_string(), "the first text is no dry run: no line begins with \"#$ \"");
 /// assert_eq!(error.place().map(|place| place.field), Some(Field::Dry1));
@@ -137,16 +140,13 @@ pub struct Error {
 
 impl Error {
     pub(crate) fn new(status: i32, message: String) -> Self {
-        let kind = KINDS.iter().find(|it| it.0 == status && status > 0).map_or(ErrorKind::Other(status), |it| it.1);
+        let kind = KINDS.iter().find(|it| it.0 == status).map_or(ErrorKind::Other(status), |it| it.1);
         Error { kind, message, place: None }
     }
 
-    pub(crate) fn at(status: i32, message: String, place: sys::Place) -> Self {
-        Error { place: Place::of(place), ..Error::new(status, message) }
-    }
-
-    pub(crate) fn unsettled() -> Self {
-        Error { kind: ErrorKind::Unsettled, message: "the answer grew with each call".to_string(), place: None }
+    /// The error, with the place where the call is refused.
+    pub(crate) fn at(self, place: backend::Place) -> Self {
+        Error { place: Place::of(place), ..self }
     }
 
     /// The kind.
@@ -160,7 +160,7 @@ impl Error {
     pub fn status(&self) -> i32 {
         match self.kind {
             ErrorKind::Other(status) => status,
-            kind => KINDS.iter().find(|it| it.1 == kind).map_or(-1, |it| it.0),
+            kind => KINDS.iter().find(|it| it.1 == kind).map_or(UNSETTLED, |it| it.0),
         }
     }
 
@@ -192,19 +192,18 @@ mod tests {
     #[test]
     fn each_status_has_its_kind() {
         for (status, kind) in KINDS {
-            let error = if status < 0 { Error::unsettled() } else { Error::new(status, String::new()) };
+            let error = Error::new(status, String::new());
             assert_eq!((error.kind(), error.status()), (kind, status));
         }
-        for status in [-1, 14, i32::MAX] {
+        for status in [-2, 14, i32::MAX] {
             let error = Error::new(status, "new".to_string());
             assert_eq!((error.kind(), error.status(), error.message()), (ErrorKind::Other(status), status, "new"));
         }
-        assert_eq!(Error::unsettled().to_string(), "the answer grew with each call");
     }
 
     #[test]
     fn places() {
-        let place = |run, line, field| Place::of(sys::Place { run, line, field, reserved: 0 });
+        let place = |run, line, field| Place::of(backend::Place { run, line, field, reserved: 0 });
         assert_eq!(place(0, 0, 0), None);
         assert_eq!(place(1, 7, 1), Some(Place { field: Field::Dry1, line: Some(7) }));
         assert_eq!(place(0, 0, 2), Some(Place { field: Field::Dry2, line: None }));

@@ -1,11 +1,9 @@
 //! Keys of commands, for caches.
 
 use std::ffi::OsStr;
-use std::os::unix::ffi::OsStrExt;
 use std::path::Path;
 
-use crate::sys::{self, Text};
-use crate::{buffers, CommandTool, Error, Variable};
+use crate::{CommandTool, Error, Variable, backend};
 
 /// A command whose key a cache asks for. Its texts may be any bytes but NUL.
 #[derive(Debug, Clone, Copy, PartialEq, Eq)]
@@ -18,13 +16,6 @@ pub struct KeyCall<'a, S> {
     pub variables: &'a [Variable<'a>],
     /// Directories whose paths don't count, such as the temporary one; at most 26. One that is in another comes before it.
     pub roots: &'a [&'a Path],
-}
-
-impl<S> Default for KeyCall<'_, S> {
-    /// A command without a word, of a host compiler.
-    fn default() -> Self {
-        KeyCall { tool: CommandTool::Host, words: &[], variables: &[], roots: &[] }
-    }
 }
 
 /// The key of a command: the bytes that a cache hashes together with the contents of the command's files and whatever tells one version
@@ -40,7 +31,7 @@ impl<S> Default for KeyCall<'_, S> {
 /// use zigrunk::{command_key, CommandTool, KeyCall};
 /// let key = |tmp: &str| {
 ///     let words = ["ptxas".to_string(), format!("{tmp}/k.ptx"), "-o".to_string(), format!("{tmp}/k.cubin")];
-///     command_key(&KeyCall { tool: CommandTool::Ptxas, words: &words, roots: &[Path::new(tmp)], ..KeyCall::default() })
+///     command_key(&KeyCall { tool: CommandTool::Ptxas, words: &words, variables: &[], roots: &[Path::new(tmp)] })
 /// };
 /// assert_eq!(key("/tmp/a")?, key("/var/tmp/b")?);
 /// # Ok::<(), zigrunk::Error>(())
@@ -51,19 +42,5 @@ impl<S> Default for KeyCall<'_, S> {
 /// [`ErrorKind::BadNumber`](crate::ErrorKind) if there are more than 26 roots or the tool is none of this version's,
 /// [`ErrorKind::BadLine`](crate::ErrorKind) if a text contains NUL, [`ErrorKind::OutOfMemory`](crate::ErrorKind).
 pub fn command_key<S: AsRef<OsStr>>(call: &KeyCall<'_, S>) -> Result<Vec<u8>, Error> {
-    let words: Vec<Text<'_>> = call.words.iter().map(|word| Text::new(word.as_ref().as_bytes())).collect();
-    let roots: Vec<Text<'_>> = call.roots.iter().map(|root| Text::new(root.as_os_str().as_bytes())).collect();
-    let record = sys::KeyCall {
-        words: words.as_ptr(),
-        words_count: words.len(),
-        variables: call.variables.as_ptr(),
-        variables_count: call.variables.len(),
-        roots: roots.as_ptr(),
-        roots_count: roots.len(),
-        tool: call.tool.number(),
-        reserved: 0,
-    };
-    let estimate = words.iter().map(|word| word.length + 2).sum::<usize>() + 1024;
-    // SAFETY: the record and all that it points to live through the call, and the buffer is exclusive.
-    unsafe { buffers::bytes_or_error(estimate, |out, size| sys::zigrunk_command_key(&record, out, size)) }
+    backend::command_key(call)
 }

@@ -1,88 +1,80 @@
-//! What one `nvcc` call really runs, by libzigrunk.
+//! What one `nvcc` call really runs.
 //!
-//! nvcc's two dry runs go in, and a plan comes out: the commands of the call in groups, and the commands that the plan dropped,
-//! each with the reason. The library reads no file and starts no process: [`find_programs`] looks on this machine's disk for the
-//! programs that the dry runs name.
+//! nvcc is a driver: for each GPU architecture it runs a preprocessor, cicc and ptxas, and then links the results into one object. It
+//! prints these commands if you ask for a dry run. Two dry runs go in here, and a plan comes out: the commands of the call in groups, with
+//! what each reads, writes and waits for, and the commands that the plan dropped, each with the reason.
 //!
 //! ```no_run
-//! use std::process::Command;
-//! use zigrunk::{find_programs, plan, variables, PlanCall};
-//!
-//! /// What nvcc prints on standard error.
-//! fn dry_run(words: &[&str]) -> Result<Vec<u8>, Box<dyn std::error::Error>> {
-//!     let ran = Command::new("nvcc").args(words).output()?;
-//!     if !ran.status.success() {
-//!         return Err(String::from_utf8_lossy(&ran.stderr).into());
-//!     }
-//!     Ok(ran.stderr)
-//! }
-//!
-//! let (cwd, tmp) = ("/w", "/t");
-//! let dry1 = dry_run(&["--dryrun", "--keep", "-c", "k.cu"])?;
-//! let dry2 = dry_run(&["--keep-dir", tmp, "--dryrun", "--keep", "-c", "k.cu"])?;
-//! let programs = find_programs(&dry1, &dry2, cwd)?;
+//! # fn main() -> Result<(), Box<dyn std::error::Error>> {
+//! use zigrunk::{NvccCall, variables};
 //! let environment: Vec<_> = std::env::vars_os().collect();
-//! let (dry1, dry2, variables, programs) = (&dry1, &dry2, &variables(&environment), &programs);
-//! let call = PlanCall { dry1, dry2, cwd, tmp, flag: "-c", variables, programs, ..PlanCall::default() };
-//! for (number, command) in plan(&call)?.commands().enumerate() {
+//! let words = ["-c", "k.cu", "-o", "k.o"];
+//! let call = NvccCall { cwd: "/w", tmp: "/t", nvcc: "nvcc", words: &words, variables: &variables(&environment) };
+//! for (number, command) in call.plan()?.commands().enumerate() {
 //!     println!("{number}, when {:?} have ended: {}", command.needs(), command.program());
 //! }
-//! # Ok::<(), Box<dyn std::error::Error>>(())
+//! # Ok(())
+//! # }
 //! ```
 //!
+//! [`NvccCall::plan`] runs nvcc's dry runs on this machine, and [`find_programs`] looks on its disk for the programs that they name. Nothing
+//! else here starts a process or reads a file: [`plan()`] plans dry runs that you have, with programs that you know, for any machine.
 //! [`plan_text`] writes the same plan as JSON, as a Ninja file, as a shell script or for people.
 //!
 //! Calls share no state, so any number of threads may call. The same input always gives the same answer, unless an allocation fails.
 //!
-//! # Linking
+//! # Backends
 //!
-//! The build looks for `libzigrunk.a`, else `libzigrunk.so`, in the folder `ZIGRUNK_LIB_DIR`. If that isn't set, it looks where
-//! pkg-config says, in `out/lib` of the repository, where `make lib` leaves it, and in the installation that the crate is of.
-#![deny(missing_docs, unsafe_op_in_unsafe_fn)]
+//! By default, the planner is the proved sources of Zigrunk as plain Rust, compiled by your compiler. With the feature `libzigrunk`, the
+//! crate calls the C library instead, which the prover's own compiler built: `zigrunk-sys` says how it is found. Both give the same answers.
 
-mod buffers;
+#[cfg(not(any(feature = "plain", feature = "libzigrunk")))]
+compile_error!("zigrunk needs one of its features plain and libzigrunk");
+
+#[cfg(feature = "libzigrunk")]
+#[path = "linked.rs"]
+mod backend;
+#[cfg(not(feature = "libzigrunk"))]
+#[path = "plain.rs"]
+mod backend;
 mod call;
 mod error;
 mod key;
-#[cfg(test)]
-mod layout;
 mod line;
 mod needs;
+mod nvcc;
 mod plan;
 mod programs;
-mod sys;
 mod texts;
 mod tools;
 mod variable;
 mod words;
 
-pub use call::{plan_text, Form, HostCompiler, PlanCall};
+pub use call::{Form, HostCompiler, PlanCall, plan_text};
 pub use error::{Error, ErrorKind, Field, Place};
-pub use key::{command_key, KeyCall};
-pub use line::{line_records, ColorMode, Language, Line, Output};
+pub use key::{KeyCall, command_key};
+pub use line::{ColorMode, Language, Line, Output, line_records};
 pub use needs::needs;
-pub use plan::{plan, Command, CommandTool, Commands, Group, Groups, Missing, Plan, Reason, Stage, Variables};
+pub use nvcc::CallError;
+pub use plan::{Command, CommandTool, Commands, Group, Groups, Missing, Plan, Reason, Stage, Variables, plan};
 pub use programs::{
-    candidates, find_program, find_programs, find_programs_within, lookups, lookups_within, FoundProgram, Lookup,
+    FoundProgram, Lookup, candidates, find_program, find_programs, find_programs_within, lookups, lookups_within,
 };
 pub use texts::{Texts, TextsIter};
-pub use tools::{line, line_words, nvcc_line, remap, LineCall, NvccCall, NvccLine, Tool};
-pub use variable::{variables, Variable};
+pub use tools::{LineCall, NvccCall, NvccLine, Tool, line, line_words, nvcc_line, remap};
+pub use variable::{Variable, variables};
 pub use words::{quote, split};
 
 /// The library's version, such as `0.1.0`.
 #[must_use]
 pub fn version() -> String {
-    // SAFETY: the buffer is exclusive.
-    let answer = unsafe { buffers::text(0, |out, size| sys::zigrunk_version(out, size)) };
-    answer.map_or_else(|error| error.to_string(), |(_, text)| text)
+    backend::version()
 }
 
-/// The number of the library's binary interface. This crate is for 1, and so is every `libzigrunk.so.1`.
+/// The number of libzigrunk's binary interface. This crate is for 1, and so is every `libzigrunk.so.1`.
 #[must_use]
 pub fn abi_version() -> u32 {
-    // SAFETY: it takes nothing.
-    unsafe { sys::zigrunk_abi_version() }
+    backend::abi_version()
 }
 
 /// What a status of `zigrunk.h` means. An [`Error`] has a message of its own, which may say more.
@@ -91,6 +83,5 @@ pub fn abi_version() -> u32 {
 ///
 /// [`ErrorKind::BadNumber`] if there is no such status, [`ErrorKind::OutOfMemory`].
 pub fn message(status: i32) -> Result<String, Error> {
-    // SAFETY: the buffer is exclusive.
-    unsafe { buffers::text_or_error(0, |out, size| sys::zigrunk_message(status, out, size)) }
+    backend::message(status)
 }

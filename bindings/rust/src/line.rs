@@ -2,8 +2,8 @@
 
 use std::fmt;
 
-use crate::sys::{self, Range};
-use crate::{buffers, Error, LineCall, Texts, TextsIter};
+use crate::backend::{self, LineRecord};
+use crate::{Error, LineCall, Texts, TextsIter};
 
 /// The language of a line's input, or what the tool makes of it.
 #[derive(Debug, Clone, Copy, PartialEq, Eq, Hash)]
@@ -57,11 +57,11 @@ pub struct Output<'a> {
 /// What a line of a tool says. Words are in the order of the line.
 ///
 /// It owns the records of its outputs, and all texts one behind the other with where each is. What it gives borrows from them.
-#[derive(Clone, PartialEq, Eq)]
+#[derive(Clone)]
 pub struct Line {
-    record: sys::LineRecord,
-    outputs: Vec<sys::Output>,
-    texts: Texts,
+    pub(crate) record: LineRecord,
+    pub(crate) outputs: Vec<backend::Output>,
+    pub(crate) texts: Texts,
 }
 
 /// Reads a line of a tool: its input, its outputs, and its words by what they are for.
@@ -70,43 +70,42 @@ pub struct Line {
 ///
 /// [`ErrorKind::BadLine`](crate::ErrorKind) if the line compiles nothing or no cache can serve it, [`ErrorKind::OutOfMemory`](crate::ErrorKind).
 pub fn line_records<S: AsRef<str>>(call: &LineCall<'_, S>) -> Result<Line, Error> {
-    let sizes = (8, call.words.len() * 2 + 32, call.estimate() * 2 + 1024);
-    // SAFETY: the record and all that it points to live through the call.
-    call.with_record(|record| buffers::settled(sizes, |sizes| unsafe { try_line(record, sizes) })?)
-}
-
-/// A call with room for so many outputs, texts and bytes: its answer, or the sizes that it needs.
-///
-/// # Safety
-///
-/// The record and all that it points to live through the call.
-unsafe fn try_line(
-    record: &sys::LineCall<'_>,
-    sizes: (usize, usize, usize),
-) -> Result<Result<Line, Error>, (usize, usize, usize)> {
-    let mut outputs: Vec<sys::Output> = Vec::with_capacity(sizes.0);
-    let mut ranges: Vec<Range> = Vec::with_capacity(sizes.1);
-    let mut out: Vec<u8> = Vec::with_capacity(sizes.2.max(buffers::LEAST));
-    // SAFETY: the caller's duty for the record. The three buffers are exclusive.
-    let answer = unsafe {
-        let (first, second, third) = (outputs.as_mut_ptr(), ranges.as_mut_ptr(), out.as_mut_ptr());
-        sys::zigrunk_line_records(record, first, outputs.capacity(), second, ranges.capacity(), third, out.capacity())
-    };
-    if answer.outputs > outputs.capacity() || answer.ranges > ranges.capacity() || answer.length > out.capacity() {
-        return Err((answer.outputs, answer.ranges, answer.length));
-    }
-    // SAFETY: all three fit, so the call has written them.
-    let (outputs, ranges, text) = unsafe {
-        let text = buffers::utf8(buffers::written(out, answer.length));
-        (buffers::written(outputs, answer.outputs), buffers::written(ranges, answer.ranges), text)
-    };
-    Ok(match answer.status {
-        0 => Ok(Line { record: answer.line, outputs, texts: Texts::new(ranges, text) }),
-        status => Err(Error::new(status, text)),
-    })
+    backend::line_records(call)
 }
 
 impl Line {
+    /// All lists of words and paths, and the texts that there may be.
+    fn lists(&self) -> [TextsIter<'_>; 9] {
+        let it = &self.record;
+        let ranges = [
+            it.depfile,
+            it.dependency_args,
+            it.preprocessor_args,
+            it.common_args,
+            it.arch_args,
+            it.unhashed_args,
+            it.extra_dist_files,
+            it.extra_hash_files,
+            it.too_hard_for_preprocessor_cache_mode,
+        ];
+        ranges.map(|range| self.texts.part(range))
+    }
+
+    /// All choices.
+    fn numbers(&self) -> [u32; 8] {
+        let it = &self.record;
+        [
+            it.language,
+            it.color_mode,
+            it.double_dash_input,
+            it.msvc_explicit_language,
+            it.msvc_show_includes,
+            it.profile_generate,
+            it.suppress_rewrite_includes_only,
+            it.uses_external_assembler,
+        ]
+    }
+
     /// The input's path, as the line has it.
     #[must_use]
     pub fn input(&self) -> &str {
@@ -114,6 +113,7 @@ impl Line {
     }
 
     /// The files that the line makes, in the order of their keys.
+    #[must_use]
     pub fn outputs(&self) -> impl ExactSizeIterator<Item = Output<'_>> + Clone {
         let texts = &self.texts;
         self.outputs.iter().map(|it| Output { key: &texts[it.key], path: &texts[it.path], is_optional: it.optional == 1 })
@@ -242,6 +242,18 @@ impl Line {
         self.record.uses_external_assembler == 1
     }
 }
+
+impl PartialEq for Line {
+    /// Whether they say the same.
+    fn eq(&self, other: &Self) -> bool {
+        self.numbers() == other.numbers()
+            && self.outputs().eq(other.outputs())
+            && self.lists().into_iter().zip(other.lists()).all(|(one, another)| one.eq(another))
+            && (self.input(), self.compilation_flag()) == (other.input(), other.compilation_flag())
+    }
+}
+
+impl Eq for Line {}
 
 impl fmt::Debug for Line {
     fn fmt(&self, f: &mut fmt::Formatter<'_>) -> fmt::Result {

@@ -1,6 +1,6 @@
 //! What the commands of a plan wait for.
 
-use crate::{plan, Error, PlanCall};
+use crate::{Error, PlanCall, plan};
 
 /// Lists for each command of a plan, in plan order, the commands that have to end before it starts: [`Command::needs`](crate::Command::needs)
 /// of each.

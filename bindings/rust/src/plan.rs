@@ -3,9 +3,8 @@
 use std::fmt;
 use std::iter::FusedIterator;
 
-use crate::sys::{self, Range};
-use crate::texts::cut;
-use crate::{buffers, Error, PlanCall, TextsIter, Tool};
+use crate::backend::{self, Range};
+use crate::{Error, PlanCall, Texts, TextsIter, Tool};
 
 /// What a group of a plan is.
 #[derive(Debug, Clone, Copy, PartialEq, Eq, Hash)]
@@ -70,19 +69,6 @@ impl CommandTool {
         }
     }
 
-    /// The number of `zigrunk.h`.
-    pub(crate) fn number(self) -> u32 {
-        match self {
-            CommandTool::Cicc => 0,
-            CommandTool::Ptxas => 1,
-            CommandTool::CudaFe => 2,
-            CommandTool::Fatbinary => 6,
-            CommandTool::NvLink => 7,
-            CommandTool::Host => 8,
-            CommandTool::Other(number) => number,
-        }
-    }
-
     /// The tool for [`line_records`](crate::line_records), if it reads lines of this one.
     #[must_use]
     pub fn for_lines(self) -> Option<Tool> {
@@ -111,8 +97,8 @@ pub enum Missing {
 
 /// What one nvcc call runs: groups of commands, and the commands that were dropped.
 ///
-/// It owns six lists: groups, commands and what else there is to know of them, numbers, and all texts one behind the other with where
-/// each is. What it gives borrows from them.
+/// It owns the records of its groups and commands, and all texts one behind the other with where each is. What it gives borrows from
+/// them.
 ///
 /// ```
 /// # let dry1 = b"#$ PATH=/b\n#$ gcc -D__NVCC__ -E k.cu -o k.cpp1.ii\n#$ cicc --module_id_file_name m k.cpp1.ii -o k.ptx\n";
@@ -120,20 +106,21 @@ pub enum Missing {
 /// # let lookups = zigrunk::lookups(dry1, dry2, "/w")?;
 /// # let programs: Vec<_> = lookups.into_iter().map(|it| zigrunk::FoundProgram { found: Some(format!("/b/{}", it.program)), lookup: it }).collect();
 /// use zigrunk::{plan, PlanCall};
-/// let plan = plan(&PlanCall { dry1, dry2, cwd: "/w", tmp: "/t", flag: "-c", programs: &programs, ..PlanCall::default() })?;
+/// let plan = plan(&PlanCall { dry1, dry2, cwd: "/w", tmp: "/t", flag: "-c", programs: &programs, ..PlanCall::new(&[]) })?;
 /// let cicc = plan.commands().last().expect("a command");
 /// assert_eq!(cicc.needs(), [0]);
 /// assert!(cicc.reads().eq(["/t/x_0.cpp1.ii", "/t/m"]) && cicc.writes().eq(["/t/k.ptx"]));
 /// # Ok::<(), zigrunk::Error>(())
 /// ```
-#[derive(Clone, PartialEq, Eq)]
+#[derive(Clone)]
 pub struct Plan {
-    groups: Vec<sys::Group>,
-    commands: Vec<sys::Command>,
-    steps: Vec<sys::Step>,
-    numbers: Vec<usize>,
-    ranges: Vec<Range>,
-    texts: String,
+    pub(crate) groups: Vec<backend::Group>,
+    pub(crate) commands: Vec<backend::Command>,
+    /// What else there is to know of each command of a group.
+    pub(crate) steps: Vec<backend::Step>,
+    /// The needs of all commands.
+    pub(crate) numbers: Vec<usize>,
+    pub(crate) texts: Texts,
 }
 
 /// Plans the commands of one nvcc call.
@@ -144,78 +131,7 @@ pub struct Plan {
 /// texts that aren't the dry runs of a call, a flag that is none of nvcc's, and a plan without a command. `BadSuffixes`, `BadDryRun`,
 /// `NotFound` and `OverLimit` for the first bad line of the first run or of the second, `OutOfMemory`. [`Error::place`] says where.
 pub fn plan(call: &PlanCall<'_>) -> Result<Plan, Error> {
-    // SAFETY: the record and all that it points to live through the call.
-    call.with_record(|record| buffers::settled(estimate(call), |sizes| unsafe { try_plan(record, sizes) })?)
-}
-
-/// The sizes of the buffers for a first call. The texts of real plans took at most 1.4 bytes for each byte of their dry runs, and the
-/// environment once for each host compiler that compiles, and once for all other commands.
-fn estimate(call: &PlanCall<'_>) -> sys::StepsAnswer {
-    let length = call.dry_length();
-    let commands = length / 256 + 16;
-    let variables: usize = call.variables.iter().map(crate::Variable::length).sum();
-    sys::StepsAnswer {
-        groups: commands / 2,
-        commands,
-        steps: commands,
-        numbers: commands * 8,
-        ranges: length / 12 + 4 * commands + 6 * call.variables.len() + 64,
-        length: length * 3 / 2 + 3 * variables + 256,
-        ..sys::StepsAnswer::default()
-    }
-}
-
-/// A call with buffers of some sizes: its answer, or the sizes that it needs.
-///
-/// # Safety
-///
-/// The record and all that it points to live through the call.
-unsafe fn try_plan(record: &sys::PlanCall<'_>, sizes: sys::StepsAnswer) -> Result<Result<Plan, Error>, sys::StepsAnswer> {
-    let mut groups: Vec<sys::Group> = Vec::with_capacity(sizes.groups);
-    let mut commands: Vec<sys::Command> = Vec::with_capacity(sizes.commands);
-    let mut steps: Vec<sys::Step> = Vec::with_capacity(sizes.steps);
-    let mut numbers: Vec<usize> = Vec::with_capacity(sizes.numbers);
-    let mut ranges: Vec<Range> = Vec::with_capacity(sizes.ranges);
-    let mut out: Vec<u8> = Vec::with_capacity(sizes.length.max(buffers::LEAST));
-    // SAFETY: the caller's duty for the record. The six buffers are exclusive.
-    let answer = unsafe {
-        sys::zigrunk_plan_steps(
-            record,
-            groups.as_mut_ptr(),
-            groups.capacity(),
-            commands.as_mut_ptr(),
-            commands.capacity(),
-            steps.as_mut_ptr(),
-            steps.capacity(),
-            numbers.as_mut_ptr(),
-            numbers.capacity(),
-            ranges.as_mut_ptr(),
-            ranges.capacity(),
-            out.as_mut_ptr(),
-            out.capacity(),
-        )
-    };
-    if answer.groups > groups.capacity()
-        || answer.commands > commands.capacity()
-        || answer.steps > steps.capacity()
-        || answer.numbers > numbers.capacity()
-        || answer.ranges > ranges.capacity()
-        || answer.length > out.capacity()
-    {
-        return Err(answer);
-    }
-    // SAFETY: all six fit, so the call has written them.
-    let plan = unsafe {
-        Plan {
-            groups: buffers::written(groups, answer.groups),
-            commands: buffers::written(commands, answer.commands),
-            steps: buffers::written(steps, answer.steps),
-            numbers: buffers::written(numbers, answer.numbers),
-            ranges: buffers::written(ranges, answer.ranges),
-            texts: buffers::utf8(buffers::written(out, answer.length)),
-        }
-    };
-    Ok(if answer.status == 0 { Ok(plan) } else { Err(Error::at(answer.status, plan.texts, answer.place)) })
+    backend::plan(call)
 }
 
 impl Plan {
@@ -241,15 +157,16 @@ impl Plan {
     fn commands_of(&self, from: usize, to: usize) -> Commands<'_> {
         Commands { numbers: from..to, plan: self }
     }
+}
 
-    fn text(&self, number: usize) -> &str {
-        cut(&self.texts, self.ranges[number])
-    }
-
-    fn texts_of(&self, range: Range) -> TextsIter<'_> {
-        TextsIter::new(&self.ranges[range.offset..range.offset + range.length], &self.texts)
+impl PartialEq for Plan {
+    /// Whether they say the same.
+    fn eq(&self, other: &Self) -> bool {
+        self.groups().eq(other.groups()) && self.dropped().eq(other.dropped())
     }
 }
+
+impl Eq for Plan {}
 
 impl fmt::Debug for Plan {
     fn fmt(&self, f: &mut fmt::Formatter<'_>) -> fmt::Result {
@@ -260,7 +177,7 @@ impl fmt::Debug for Plan {
 /// A group of a plan.
 #[derive(Clone, Copy)]
 pub struct Group<'a> {
-    record: &'a sys::Group,
+    record: &'a backend::Group,
     plan: &'a Plan,
 }
 
@@ -306,8 +223,8 @@ impl fmt::Debug for Group<'_> {
 /// A command of a plan, or one that the plan dropped.
 #[derive(Clone, Copy)]
 pub struct Command<'a> {
-    record: &'a sys::Command,
-    step: Option<&'a sys::Step>,
+    record: &'a backend::Command,
+    step: Option<&'a backend::Step>,
     plan: &'a Plan,
 }
 
@@ -335,15 +252,15 @@ impl<'a> Command<'a> {
     }
 
     /// The texts that a field of its step names; none if it was dropped.
-    fn step_texts(&self, range: fn(&sys::Step) -> Range) -> TextsIter<'a> {
-        self.plan.texts_of(self.step.map(range).unwrap_or_default())
+    fn step_texts(&self, range: fn(&backend::Step) -> Range) -> TextsIter<'a> {
+        self.plan.texts.part(self.step.map_or(Range { offset: 0, length: 0 }, range))
     }
 
     /// The commands that have to end before it starts: their places in [`Plan::commands`], in ascending order. None if it was dropped.
     #[must_use]
     pub fn needs(&self) -> &'a [usize] {
-        let Range { offset, length } = self.step.map(|step| step.needs).unwrap_or_default();
-        &self.plan.numbers[offset..offset + length]
+        let Some(step) = self.step else { return &[] };
+        &self.plan.numbers[step.needs.offset..step.needs.offset + step.needs.length]
     }
 
     /// The paths of the files that it reads by its words: see [`missing`](Command::missing). None if it was dropped.
@@ -386,25 +303,25 @@ impl<'a> Command<'a> {
     /// The program's path.
     #[must_use]
     pub fn program(&self) -> &'a str {
-        self.plan.text(self.record.program)
+        &self.plan.texts[self.record.program]
     }
 
     /// The words after the program's name.
     #[must_use]
     pub fn arguments(&self) -> TextsIter<'a> {
-        self.plan.texts_of(self.record.arguments)
+        self.plan.texts.part(self.record.arguments)
     }
 
     /// The environment: names and values. A name may occur twice: the last one counts. None if the command was dropped.
     #[must_use]
     pub fn variables(&self) -> Variables<'a> {
-        Variables { texts: self.plan.texts_of(self.record.variables) }
+        Variables { texts: self.plan.texts.part(self.record.variables) }
     }
 
     /// The directory that it runs in; empty if it was dropped.
     #[must_use]
     pub fn cwd(&self) -> &'a str {
-        self.plan.text(self.record.cwd)
+        &self.plan.texts[self.record.cwd]
     }
 
     /// The number of its group, from 0, or `None` if it was dropped.

@@ -1,10 +1,10 @@
 //! Finding the programs that dry runs name.
 
-use std::ffi::{c_char, c_int, CString};
 use std::num::NonZeroUsize;
 use std::path::Path;
 
-use crate::{buffers, sys, Error, Texts};
+use crate::call::number_of_limit;
+use crate::{Error, Texts, backend};
 
 /// A program that a dry run names, and the value of `PATH` there.
 #[derive(Debug, Clone, PartialEq, Eq, Hash)]
@@ -40,27 +40,7 @@ pub fn lookups(dry1: &[u8], dry2: &[u8], cwd: &str) -> Result<Vec<Lookup>, Error
 ///
 /// [`ErrorKind::OverLimit`](crate::ErrorKind) if a line exceeds the limit, `OddDirectory`, `OutOfMemory`.
 pub fn lookups_within(dry1: &[u8], dry2: &[u8], cwd: &str, limit: Option<NonZeroUsize>) -> Result<Vec<Lookup>, Error> {
-    let limit = sys::limit(limit);
-    // SAFETY: the texts are slices, and the two buffers are exclusive.
-    let texts = unsafe {
-        buffers::list(64, 4096, |ranges, count, out, size| {
-            let (first, second, folder) = (dry1.as_ptr(), dry2.as_ptr(), cwd.as_ptr());
-            let (first_length, second_length, folder_length) = (dry1.len(), dry2.len(), cwd.len());
-            sys::zigrunk_lookups_within(
-                first,
-                first_length,
-                second,
-                second_length,
-                folder,
-                folder_length,
-                limit,
-                ranges,
-                count,
-                out,
-                size,
-            )
-        })
-    }?;
+    let texts = backend::lookups(dry1, dry2, cwd, number_of_limit(limit))?;
     let mut texts = texts.iter().map(String::from);
     Ok(std::iter::from_fn(|| Some(Lookup { program: texts.next()?, path: texts.next()? })).collect())
 }
@@ -71,14 +51,7 @@ pub fn lookups_within(dry1: &[u8], dry2: &[u8], cwd: &str, limit: Option<NonZero
 ///
 /// [`ErrorKind::OddDirectory`](crate::ErrorKind), `OutOfMemory`.
 pub fn candidates(lookup: &Lookup, cwd: &str) -> Result<Texts, Error> {
-    let Lookup { program, path } = lookup;
-    // SAFETY: the texts are slices, and the two buffers are exclusive.
-    unsafe {
-        buffers::list(64, 4096, |ranges, count, out, size| {
-            let (name, list, folder) = (program.as_ptr(), path.as_ptr(), cwd.as_ptr());
-            sys::zigrunk_candidates(name, program.len(), list, path.len(), folder, cwd.len(), ranges, count, out, size)
-        })
-    }
+    backend::candidates(&lookup.program, &lookup.path, cwd)
 }
 
 /// Finds a program on this machine: the first of its [`candidates`] that is a file which this process may run.
@@ -87,7 +60,7 @@ pub fn candidates(lookup: &Lookup, cwd: &str) -> Result<Texts, Error> {
 ///
 /// [`ErrorKind::OddDirectory`](crate::ErrorKind), `OutOfMemory`.
 pub fn find_program(lookup: &Lookup, cwd: &str) -> Result<Option<String>, Error> {
-    Ok(candidates(lookup, cwd)?.iter().find(|path| is_program(path)).map(String::from))
+    Ok(candidates(lookup, cwd)?.iter().find(|path| is_program(Path::new(path))).map(String::from))
 }
 
 /// Finds the programs that a plan of two dry runs needs, on this machine. It is [`find_program`] for each of the [`lookups`].
@@ -117,11 +90,21 @@ pub fn find_programs_within(
 }
 
 /// Whether a path names a file that this process may run.
-fn is_program(path: &str) -> bool {
+#[cfg(unix)]
+fn is_program(path: &Path) -> bool {
+    use std::ffi::{CString, c_char, c_int};
+    use std::os::unix::ffi::OsStrExt;
+
     const X_OK: c_int = 1;
-    extern "C" {
+    unsafe extern "C" {
         fn access(path: *const c_char, mode: c_int) -> c_int;
     }
     // SAFETY: the path ends with a NUL and lives through the call.
-    Path::new(path).is_file() && CString::new(path).is_ok_and(|name| unsafe { access(name.as_ptr(), X_OK) } == 0)
+    path.is_file() && CString::new(path.as_os_str().as_bytes()).is_ok_and(|name| unsafe { access(name.as_ptr(), X_OK) } == 0)
+}
+
+/// Whether a path names a file. Nothing here says more.
+#[cfg(not(unix))]
+fn is_program(path: &Path) -> bool {
+    path.is_file()
 }

@@ -5,10 +5,10 @@ use std::iter::FusedIterator;
 use std::ops::Index;
 use std::slice;
 
-use crate::sys::Range;
+use crate::backend::Range;
 
 /// A list of texts in two allocations: all texts one behind the other, and where each is.
-#[derive(Clone, PartialEq, Eq)]
+#[derive(Clone)]
 pub struct Texts {
     ranges: Vec<Range>,
     all: String,
@@ -37,7 +37,7 @@ impl Texts {
         self.ranges.get(number).map(|range| cut(&self.all, *range))
     }
 
-    /// The texts that a record of the list names.
+    /// The texts that a record names.
     pub(crate) fn part(&self, range: Range) -> TextsIter<'_> {
         TextsIter::new(&self.ranges[range.offset..range.offset + range.length], &self.all)
     }
@@ -49,8 +49,16 @@ impl Texts {
     }
 }
 
+impl PartialEq for Texts {
+    fn eq(&self, other: &Self) -> bool {
+        self.iter().eq(other)
+    }
+}
+
+impl Eq for Texts {}
+
 /// The part of a text that a range says.
-pub(crate) fn cut(all: &str, range: Range) -> &str {
+fn cut(all: &str, range: Range) -> &str {
     &all[range.offset..range.offset + range.length]
 }
 
@@ -86,7 +94,7 @@ pub struct TextsIter<'a> {
 }
 
 impl<'a> TextsIter<'a> {
-    pub(crate) fn new(ranges: &'a [Range], all: &'a str) -> Self {
+    fn new(ranges: &'a [Range], all: &'a str) -> Self {
         TextsIter { ranges: ranges.iter(), all }
     }
 }

@@ -1,7 +1,6 @@
 //! Lines of tools: what they say, and how to plan a line of nvcc.
 
-use crate::sys::{self, Text};
-use crate::{buffers, Error, Texts, Variable};
+use crate::{Error, Texts, Variable, backend};
 
 /// A tool that lines are of.
 #[derive(Debug, Clone, Copy, PartialEq, Eq, Hash)]
@@ -26,7 +25,7 @@ pub enum Tool {
 /// ```
 /// use zigrunk::{line_words, LineCall, Tool};
 /// let words = ["-arch=sm_80", "k.ptx", "-o", "k.cubin"];
-/// let call = LineCall { tool: Tool::Ptxas, cwd: "/w", words: &words, ..LineCall::default() };
+/// let call = LineCall { tool: Tool::Ptxas, cwd: "/w", words: &words, variables: &[] };
 /// assert!(line_words(&call)?.iter().any(|word| word == "/w/k.cubin"));
 /// # Ok::<(), zigrunk::Error>(())
 /// ```
@@ -38,40 +37,9 @@ pub struct LineCall<'a, S> {
     pub cwd: &'a str,
     /// The line's words without the tool's name.
     pub words: &'a [S],
-    /// The environment. nvcc reads `NVCC_PREPEND_FLAGS` and `NVCC_APPEND_FLAGS`, the others none.
+    /// The environment. nvcc reads `NVCC_PREPEND_FLAGS` and `NVCC_APPEND_FLAGS`, so a line of nvcc without them may say something
+    /// else. The others read none.
     pub variables: &'a [Variable<'a>],
-}
-
-impl<S> Default for LineCall<'_, S> {
-    /// A line of nvcc without a word.
-    fn default() -> Self {
-        LineCall { tool: Tool::Nvcc, cwd: "", words: &[], variables: &[] }
-    }
-}
-
-impl<S: AsRef<str>> LineCall<'_, S> {
-    /// Passes the call as the record of `zigrunk.h`.
-    pub(crate) fn with_record<R>(&self, take: impl FnOnce(&sys::LineCall<'_>) -> R) -> R {
-        let words = texts(self.words);
-        take(&sys::LineCall {
-            cwd: self.cwd.into(),
-            words: words.as_ptr(),
-            words_count: words.len(),
-            variables: self.variables.as_ptr(),
-            variables_count: self.variables.len(),
-            tool: self.tool as u32,
-            reserved: 0,
-        })
-    }
-
-    /// Room for a path in front of each word.
-    pub(crate) fn estimate(&self) -> usize {
-        self.words.iter().map(|word| word.as_ref().len() + self.cwd.len() + 8).sum()
-    }
-}
-
-fn texts<S: AsRef<str>>(words: &[S]) -> Vec<Text<'_>> {
-    words.iter().map(|word| word.as_ref().into()).collect()
 }
 
 /// Reads a line of a tool and writes what it says as JSON: its input, its outputs, and its words by what they are for.
@@ -81,10 +49,7 @@ fn texts<S: AsRef<str>>(words: &[S]) -> Vec<Text<'_>> {
 ///
 /// [`ErrorKind::BadLine`](crate::ErrorKind) if the line compiles nothing or no cache can serve it, [`ErrorKind::OutOfMemory`](crate::ErrorKind).
 pub fn line<S: AsRef<str>>(call: &LineCall<'_, S>) -> Result<String, Error> {
-    // SAFETY: the record and all that it points to live through the call, and the buffer is exclusive.
-    call.with_record(|record| unsafe {
-        buffers::text_or_error(call.estimate() * 2 + 1024, |out, size| sys::zigrunk_line(record, out, size))
-    })
+    backend::line(call)
 }
 
 /// Reads a line of a tool and lists the words that it is written back as.
@@ -93,19 +58,16 @@ pub fn line<S: AsRef<str>>(call: &LineCall<'_, S>) -> Result<String, Error> {
 ///
 /// [`ErrorKind::BadLine`](crate::ErrorKind) as for [`line()`], and if the line has no output; [`ErrorKind::OutOfMemory`](crate::ErrorKind).
 pub fn line_words<S: AsRef<str>>(call: &LineCall<'_, S>) -> Result<Texts, Error> {
-    // SAFETY: the record and all that it points to live through the call, and the two buffers are exclusive.
-    call.with_record(|record| unsafe {
-        buffers::list(call.words.len() * 2 + 16, call.estimate() + 1024, |ranges, count, out, size| {
-            sys::zigrunk_line_words(record, ranges, count, out, size)
-        })
-    })
+    backend::line_words(call)
 }
 
 /// A line of nvcc that is to be planned.
 ///
 /// ```
-/// use zigrunk::{nvcc_line, NvccCall};
-/// let line = nvcc_line(&NvccCall { cwd: "/w", tmp: "/t", nvcc: "nvcc", words: &["-c", "k.cu"], ..NvccCall::default() })?;
+/// use zigrunk::{NvccCall, nvcc_line, variables};
+/// let environment: Vec<_> = std::env::vars_os().collect();
+/// let (words, variables) = (["-c", "k.cu"], variables(&environment));
+/// let line = nvcc_line(&NvccCall { cwd: "/w", tmp: "/t", nvcc: "nvcc", words: &words, variables: &variables })?;
 /// assert_eq!((line.flag(), line.dependencies()), ("-c", None));
 /// # Ok::<(), zigrunk::Error>(())
 /// ```
@@ -119,15 +81,9 @@ pub struct NvccCall<'a, S> {
     pub nvcc: &'a str,
     /// The line's words without nvcc's name.
     pub words: &'a [S],
-    /// The environment. `NVCC_PREPEND_FLAGS`, `NVCC_APPEND_FLAGS`, `ZIGRUNK_JOBS` and `MAKEFLAGS` count.
+    /// The environment: [`variables`](crate::variables()) of [`std::env::vars_os`]. `NVCC_PREPEND_FLAGS`, `NVCC_APPEND_FLAGS`,
+    /// `ZIGRUNK_JOBS` and `MAKEFLAGS` count, so with an empty one the plan may be that of another call.
     pub variables: &'a [Variable<'a>],
-}
-
-impl<S> Default for NvccCall<'_, S> {
-    /// A line without a word, of the nvcc on `PATH`.
-    fn default() -> Self {
-        NvccCall { cwd: "", tmp: "", nvcc: "nvcc", words: &[], variables: &[] }
-    }
 }
 
 /// How to plan a line of nvcc. The commands are texts for a POSIX shell.
@@ -184,23 +140,7 @@ impl NvccLine {
 ///
 /// [`ErrorKind::ToNvcc`](crate::ErrorKind), with the reason, if the line doesn't compile one source; [`ErrorKind::OutOfMemory`](crate::ErrorKind).
 pub fn nvcc_line<S: AsRef<str>>(call: &NvccCall<'_, S>) -> Result<NvccLine, Error> {
-    let words = texts(call.words);
-    let record = sys::NvccCall {
-        cwd: call.cwd.into(),
-        tmp: call.tmp.into(),
-        nvcc: call.nvcc.into(),
-        words: words.as_ptr(),
-        words_count: words.len(),
-        variables: call.variables.as_ptr(),
-        variables_count: call.variables.len(),
-        reserved: 0,
-    };
-    let estimate = call.words.iter().map(|word| word.as_ref().len() + 4).sum::<usize>() * 4 + 1024;
-    // SAFETY: the record and all that it points to live through the call, and the two buffers are exclusive.
-    let texts = unsafe {
-        buffers::list(6, estimate, |ranges, count, out, size| sys::zigrunk_nvcc_line(&record, ranges, count, out, size))
-    }?;
-    Ok(NvccLine { texts })
+    Ok(NvccLine { texts: backend::nvcc_line(call)? })
 }
 
 /// Lists words with canonical names for the files that nvcc generates: as many words, in their order. Pass the words of all
@@ -210,13 +150,5 @@ pub fn nvcc_line<S: AsRef<str>>(call: &NvccCall<'_, S>) -> Result<NvccLine, Erro
 ///
 /// [`ErrorKind::BadSuffixes`](crate::ErrorKind), [`ErrorKind::OutOfMemory`](crate::ErrorKind).
 pub fn remap<S: AsRef<str>, T: AsRef<str>>(words: &[S], suffixes: &[T]) -> Result<Texts, Error> {
-    let (words, suffixes) = (texts(words), texts(suffixes));
-    let estimate = words.iter().map(|word| word.length + 8).sum();
-    // SAFETY: the words and suffixes live through the call, and the two buffers are exclusive.
-    unsafe {
-        buffers::list(words.len(), estimate, |ranges, count, out, size| {
-            let (first, second) = (words.as_ptr(), suffixes.as_ptr());
-            sys::zigrunk_remap(first, words.len(), second, suffixes.len(), ranges, count, out, size)
-        })
-    }
+    backend::remap(words, suffixes)
 }

@@ -2,16 +2,12 @@
 
 use std::ffi::OsStr;
 use std::fmt;
-use std::os::unix::ffi::OsStrExt;
-
-use crate::sys::Text;
 
 /// An environment variable, borrowed. One that isn't UTF-8 is an error of the call that reads it ([`ErrorKind::NotUtf8`](crate::ErrorKind)).
-#[repr(C)]
-#[derive(Clone, Copy)]
+#[derive(Clone, Copy, PartialEq, Eq, Hash)]
 pub struct Variable<'a> {
-    pub(crate) name: Text<'a>,
-    pub(crate) value: Text<'a>,
+    name: &'a OsStr,
+    value: &'a OsStr,
 }
 
 impl<'a> Variable<'a> {
@@ -23,17 +19,17 @@ impl<'a> Variable<'a> {
     /// ```
     #[must_use]
     pub fn new<N: AsRef<OsStr> + ?Sized, V: AsRef<OsStr> + ?Sized>(name: &'a N, value: &'a V) -> Self {
-        Variable { name: Text::new(name.as_ref().as_bytes()), value: Text::new(value.as_ref().as_bytes()) }
+        Variable { name: name.as_ref(), value: value.as_ref() }
     }
 
-    /// The bytes of its name, and those of its value.
-    fn parts(&self) -> (&'a OsStr, &'a OsStr) {
-        (OsStr::from_bytes(self.name.bytes()), OsStr::from_bytes(self.value.bytes()))
+    /// Its name and its value.
+    pub(crate) fn parts(&self) -> (&'a OsStr, &'a OsStr) {
+        (self.name, self.value)
     }
 
-    /// How long both are together.
-    pub(crate) fn length(&self) -> usize {
-        self.name.length + self.value.length
+    /// The bytes of its name, and those of its value: UTF-8 if they are text.
+    pub(crate) fn bytes(&self) -> (&'a [u8], &'a [u8]) {
+        (self.name.as_encoded_bytes(), self.value.as_encoded_bytes())
     }
 }
 
@@ -42,14 +38,6 @@ impl fmt::Debug for Variable<'_> {
         self.parts().fmt(f)
     }
 }
-
-impl PartialEq for Variable<'_> {
-    fn eq(&self, other: &Self) -> bool {
-        self.parts() == other.parts()
-    }
-}
-
-impl Eq for Variable<'_> {}
 
 /// Views of names and values, as [`std::env::vars_os`] gives them. Nothing is copied.
 ///

@@ -1,12 +1,11 @@
 //! Calls of each function: answers, errors, and input of all sizes.
 
 use std::ffi::OsStr;
-use std::os::unix::ffi::OsStrExt;
 use std::path::Path;
 
 use zigrunk::{
-    candidates, command_key, find_program, lookups, message, quote, split, CommandTool, Error, ErrorKind, KeyCall, Lookup,
-    Variable,
+    CommandTool, Error, ErrorKind, KeyCall, Lookup, Variable, candidates, command_key, find_program, lookups, message, quote,
+    split,
 };
 
 fn words_of(text: &str) -> Vec<String> {
@@ -54,17 +53,22 @@ fn a_list_of_texts() {
     assert_eq!(words, words.clone());
 }
 
+/// A text of an OS that is these bytes.
+fn any_text(bytes: &[u8]) -> &OsStr {
+    std::os::unix::ffi::OsStrExt::from_bytes(bytes)
+}
+
 #[test]
 fn keys() {
-    let (word, root) = (OsStr::from_bytes(b"\xff/t/a"), Path::new("/t"));
+    let (word, root) = (any_text(b"\xff/t/a"), Path::new("/t"));
     let variables = [Variable::new("PWD", "/t"), Variable::new("HOME", "/")];
     let call = KeyCall { tool: CommandTool::Cicc, words: &[OsStr::new("cicc"), word], variables: &variables, roots: &[root] };
     assert_eq!(command_key(&call).unwrap(), b"cicc\x000\xff\0A/a\x000PWD\x001\0A\x002");
-    let none: KeyCall<'_, &str> = KeyCall::default();
+    let none: KeyCall<'_, &str> = KeyCall { tool: CommandTool::Host, words: &[], variables: &[], roots: &[] };
     assert_eq!(command_key(&none).unwrap(), b"");
     let long = "w".repeat(100_000);
-    assert_eq!(command_key(&KeyCall { words: &[&long], ..KeyCall::default() }).unwrap().len(), long.len() + 2);
-    let error = command_key(&KeyCall { words: &["a\0b"], ..KeyCall::default() }).unwrap_err();
+    assert_eq!(command_key(&KeyCall { words: &[&*long], ..none }).unwrap().len(), long.len() + 2);
+    let error = command_key(&KeyCall { words: &["a\0b"], ..none }).unwrap_err();
     assert_eq!((error.kind(), error.message()), (ErrorKind::BadLine, "a text contains NUL"));
     for tool in [3, 9] {
         let error = command_key(&KeyCall { tool: CommandTool::Other(tool), ..none }).unwrap_err();

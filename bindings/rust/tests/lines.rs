@@ -1,7 +1,7 @@
 //! Lines of tools, and canonical names.
 
 use zigrunk::{
-    line, line_records, line_words, nvcc_line, remap, ColorMode, ErrorKind, Language, LineCall, NvccCall, Output, Tool, Variable,
+    ColorMode, ErrorKind, Language, LineCall, NvccCall, Output, Tool, Variable, line, line_records, line_words, nvcc_line, remap,
 };
 
 fn words(text: &str) -> Vec<String> {

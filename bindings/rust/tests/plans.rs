@@ -1,13 +1,14 @@
 //! Plans: of real calls, with all settings, and of bad ones.
 
-use std::fs;
-use std::num::NonZeroUsize;
-use std::path::PathBuf;
+mod stored;
 
+use std::num::NonZeroUsize;
+
+use stored::Stored;
 use zigrunk::{
-    candidates, find_programs, find_programs_within, line_words, lookups, lookups_within, needs, plan, plan_text, variables,
     Command, CommandTool, Error, ErrorKind, Field, Form, FoundProgram, HostCompiler, LineCall, Missing, Plan, PlanCall, Reason,
-    Stage, Tool, Variable,
+    Stage, Tool, Variable, candidates, find_programs, find_programs_within, line_words, lookups, lookups_within, needs, plan,
+    plan_text, variables,
 };
 
 const RUN: &[u8] = b"#$ PATH=/b\n#$ gcc -D__NVCC__ -E k.cu -o k.cpp1.ii\n#$ cicc --x k.gpu k.cpp1.ii -o k.ptx\n";
@@ -33,34 +34,14 @@ fn place<T: std::fmt::Debug>(answer: Result<T, Error>) -> Option<(Field, Option<
 }
 
 fn call<'a>(run: &'a [u8], programs: &'a [FoundProgram]) -> PlanCall<'a> {
-    PlanCall { dry1: run, dry2: run, cwd: "/w", tmp: "/t", flag: "-c", programs, ..PlanCall::default() }
-}
-
-/// The folder with the dry runs of real calls, each with its plan as `cudaplan` prints it.
-fn folder() -> PathBuf {
-    [env!("CARGO_MANIFEST_DIR"), "..", "..", "tests", "drivers", "test_plans", "data", "dry_runs"].iter().collect()
-}
-
-/// The names of the calls with a file for the flag.
-fn real_calls() -> Vec<String> {
-    let file_names = fs::read_dir(folder()).unwrap().map(|entry| entry.unwrap().file_name().into_string().unwrap());
-    let names: Vec<String> = file_names.filter_map(|name| name.strip_suffix(".flag").map(String::from)).collect();
-    assert!(names.len() > 5);
-    names
-}
-
-fn read(name: &str, end: &str) -> Vec<u8> {
-    fs::read(folder().join(format!("{name}{end}"))).unwrap()
+    PlanCall { dry1: run, dry2: run, cwd: "/w", tmp: "/t", flag: "-c", programs, ..PlanCall::new(&[]) }
 }
 
 #[test]
 fn real_calls_are_planned_as_cudaplan_does() {
-    for name in real_calls() {
-        let (dry1, dry2) = (read(&name, ".dry1"), read(&name, ".dry2"));
-        let (flag, plan) = (String::from_utf8(read(&name, ".flag")).unwrap(), String::from_utf8(read(&name, ".plan")).unwrap());
+    for Stored { name, dry1, dry2, flag, plan } in stored::calls() {
         let programs = first_candidates(&dry1, &dry2);
-        let flag = flag.trim();
-        let call = PlanCall { dry1: &dry1, dry2: &dry2, cwd: "/w", tmp: "/t", flag, programs: &programs, ..PlanCall::default() };
+        let call = PlanCall { flag: &flag, dry2: &dry2, ..call(&dry1, &programs) };
         assert_eq!(plan_text(&call, Form::Text).unwrap(), plan, "{name}");
         for form in [Form::Json, Form::Ninja, Form::Shell] {
             assert!(plan_text(&call, form).unwrap().contains("gcc"), "{name}");
@@ -93,13 +74,9 @@ fn printed(plan: &Plan) -> String {
 
 #[test]
 fn real_calls_as_records_are_their_texts() {
-    for name in real_calls() {
-        let (dry1, dry2) = (read(&name, ".dry1"), read(&name, ".dry2"));
-        let flag = String::from_utf8(read(&name, ".flag")).unwrap();
+    for Stored { name, dry1, dry2, flag, plan: text } in stored::calls() {
         let programs = first_candidates(&dry1, &dry2);
-        let call = PlanCall { flag: flag.trim(), dry2: &dry2, ..call(&dry1, &programs) };
-        let records = plan(&call).unwrap();
-        let text = String::from_utf8(read(&name, ".plan")).unwrap();
+        let records = plan(&PlanCall { flag: &flag, dry2: &dry2, ..call(&dry1, &programs) }).unwrap();
         assert_eq!(printed(&records), text, "{name}");
         let stages: Vec<Stage> = records.groups().map(|group| group.stage()).collect();
         let last = stages.len() - 1;
@@ -144,7 +121,7 @@ fn records_of_a_small_call() {
 
 #[test]
 fn a_command_for_a_cache() {
-    let (dry1, dry2) = (read("two_targets", ".dry1"), read("two_targets", ".dry2"));
+    let Stored { dry1, dry2, .. } = stored::call("two_targets");
     let programs = first_candidates(&dry1, &dry2);
     let plan = plan(&PlanCall { dry2: &dry2, ..call(&dry1, &programs) }).unwrap();
     let tools: Vec<CommandTool> = plan.commands().filter_map(|command| command.tool()).collect();
@@ -164,7 +141,7 @@ fn a_command_for_a_cache() {
 
 /// The needs of one of the real calls.
 fn needs_of(name: &str, flag: &str) -> Vec<Vec<usize>> {
-    let (dry1, dry2) = (read(name, ".dry1"), read(name, ".dry2"));
+    let Stored { dry1, dry2, .. } = stored::call(name);
     let programs = first_candidates(&dry1, &dry2);
     needs(&PlanCall { flag, dry2: &dry2, ..call(&dry1, &programs) }).unwrap()
 }

@@ -3,7 +3,7 @@
 
 use std::env;
 use std::path::{Path, PathBuf};
-use std::process::{exit, Command};
+use std::process::Command;
 
 /// A folder to look into, and where it comes from.
 struct Place {
@@ -42,34 +42,36 @@ fn places() -> Vec<Place> {
     }
     let here = PathBuf::from(env::var_os("CARGO_MANIFEST_DIR").unwrap_or_default());
     let mut all: Vec<Place> = packaged().into_iter().map(|folder| Place::new("pkg-config zigrunk", folder)).collect();
-    all.push(Place::new("make lib", here.join("../../out/lib")));
-    all.push(Place::new("make install", here.join("../../../lib")));
+    // The crate is in bindings/rust/sys, in out/rust/zigrunk-sys, or in the same folder below share/zigrunk.
+    all.push(Place::new("make lib", here.join("../../../out/lib")));
+    all.push(Place::new("make install", here.join("../../../../lib")));
     all
 }
 
 fn link(kind: &str, folder: &Path) {
     let folder = folder.canonicalize().unwrap_or_else(|_| folder.to_path_buf());
     let library = if kind == "static" { "libzigrunk.a" } else { "libzigrunk.so" };
-    println!("cargo:rerun-if-changed={}", folder.join(library).display());
-    println!("cargo:rustc-link-search=native={}", folder.display());
-    println!("cargo:rustc-link-lib={kind}=zigrunk");
-    println!("cargo:rustc-env=ZIGRUNK_INCLUDE={}", folder.join("../include").display());
+    println!("cargo::rerun-if-changed={}", folder.join(library).display());
+    println!("cargo::rustc-link-search=native={}", folder.display());
+    println!("cargo::rustc-link-lib={kind}=zigrunk");
+    println!("cargo::rustc-env=ZIGRUNK_INCLUDE={}", folder.join("../include").display());
+}
+
+/// Leaves it to the linker, which may know a place of its own. Pages and checks need no library, so this is no error by itself.
+fn leave_to_linker(places: &[Place]) {
+    let looked: Vec<String> = places.iter().map(|place| format!("{} ({})", place.folder.display(), place.source)).collect();
+    println!("cargo::warning=no libzigrunk.a or libzigrunk.so in {}. Set ZIGRUNK_LIB_DIR to its folder", looked.join(", "));
+    println!("cargo::rustc-link-lib=dylib=zigrunk");
+    println!("cargo::rustc-env=ZIGRUNK_INCLUDE=/usr/include");
 }
 
 fn main() {
     for name in ["ZIGRUNK_LIB_DIR", "PKG_CONFIG_PATH"] {
-        println!("cargo:rerun-if-env-changed={name}");
+        println!("cargo::rerun-if-env-changed={name}");
     }
     let places = places();
-    if let Some((kind, place)) = places.iter().find_map(|place| Some((place.kind()?, place))) {
-        link(kind, &place.folder);
-        return;
+    match places.iter().find_map(|place| Some((place.kind()?, place))) {
+        Some((kind, place)) => link(kind, &place.folder),
+        None => leave_to_linker(&places),
     }
-    eprintln!("cannot find libzigrunk.a or libzigrunk.so. Looked into:");
-    for place in &places {
-        eprintln!("    {} ({})", place.folder.display(), place.source);
-    }
-    eprintln!("Set ZIGRUNK_LIB_DIR to the folder that has it, or PKG_CONFIG_PATH to that of zigrunk.pc.");
-    eprintln!("`make lib` in the repository of Zigrunk makes the library.");
-    exit(1);
 }

@@ -1,0 +1,137 @@
+#!/usr/bin/env bash
+# Tests the crate for Rust, bindings/rust: over the plain sources, over libzigrunk, and that both answer alike. Cargo takes nothing from
+# a network here, and leaves nothing in the repository. Prints a line for each failure, and last 'N passed, M failed'.
+#
+#   tests/rust_crate.sh [LIBRARY]   LIBRARY: a folder as `make lib` makes out, with lib/ and include/. Without one, it is out if that has a library
+#
+# COUNT=1000000 compares as many generated calls, half of them of SEED, which is the time if it isn't set. WORKSPACE=out/rust takes the workspace
+# of `make rust` as it is, and TARGET=FOLDER keeps what cargo builds. Another cargo first on the path tests with that: Rust 1.85 is the oldest.
+set -u
+cd "$(dirname "$0")/.." || exit 1
+. tests/lib.sh
+require 'the crate for Rust' cargo rustc cc
+
+count=${COUNT:-20000}
+seed=${SEED:-$(date +%s)}
+library=$(realpath -m "${1:-out}")
+export CARGO_TARGET_DIR=${TARGET:-$scratch/target} CARGO_NET_OFFLINE=true
+# (answers are compared by optimized programs, which are built soon)
+export CARGO_PROFILE_RELEASE_LTO=off CARGO_PROFILE_RELEASE_CODEGEN_UNITS=16 CARGO_PROFILE_RELEASE_PANIC=unwind
+version=$(cat VERSION)
+data=$PWD/tests/drivers/test_plans/data/dry_runs
+plain=(-p zigrunk)
+linked=(-p zigrunk -p zigrunk-sys --no-default-features --features zigrunk/libzigrunk)
+
+workspace=${WORKSPACE-}
+if [ -z "$workspace" ]; then
+    workspace=$scratch/rust
+    check 'the workspace of plain Rust' cargo run --quiet --release --manifest-path rust/Cargo.toml -p eraser -- . "$workspace"
+fi
+if ! cd "$workspace"; then
+    count 'the workspace' 'it is not there'
+    summary
+    exit
+fi
+
+# linted NAME WORD..: the findings of clippy and the pages, for packages and features.
+linted() {
+    check "$1: clippy" cargo clippy -q --no-deps --all-targets "${@:2}" -- -D warnings
+    check "$1: the pages" env RUSTDOCFLAGS='-D warnings' cargo doc -q --no-deps "${@:2}"
+}
+
+# examples_write FOLDER: the examples plan the dry runs of real calls: one as a script that a shell can read, with a line for each command,
+# and one as its groups.
+examples_write() {
+    local plan name words
+    for plan in "$data"/*.flag; do
+        name=${plan%.flag}
+        words=(/w /t "$(cat "$plan")" "$name.dry1" "$name.dry2")
+        "$1/shell" "${words[@]}" > "$scratch/script" && sh -n "$scratch/script" || return 1
+        diff <(grep -cE '^(yes|no) cd ' "$name.plan") <(grep -c '^( cd ' "$scratch/script") || return 1
+        "$1/groups" "${words[@]}" > "$scratch/groups" || return 1
+        diff <(sed -E 's/^(group [0-9]+|no|yes|dropped).*/\1/' "$name.plan") \
+            <(sed -E 's/^    cached.*/yes/; s/^    run.*/no/; s/^(group [0-9]+|dropped),.*/\1/' "$scratch/groups") || return 1
+    done
+}
+
+# new_project: a project that adds the crate plans a call in the five lines that the crate's page has. nvcc and its tools are stand-ins, and
+# the dry runs are those of a real call.
+new_project() {
+    local crate=$PWD/zigrunk room=$scratch/project tool
+    mkdir -p "$room/bin" "$room/src"
+    for tool in gcc cudafe++ cicc ptxas fatbinary rm; do
+        printf '#!/bin/sh\n' > "$room/bin/$tool"
+    done
+    printf '%s\n' '#!/bin/sh' "case \$* in *--keep-dir*) run=2 ;; *) run=1 ;; esac" \
+        "sed 's,^#[$] PATH=.*,#\$ PATH=$room/bin,; s,/opt/cuda/bin/../nvvm/bin,$room/bin,g' $data/one_target.dry\$run >&2" > "$room/bin/nvcc"
+    chmod +x "$room"/bin/*
+    {
+        echo 'fn main() -> Result<(), Box<dyn std::error::Error>> {'
+        sed -n '/^\/\/! use zigrunk/,/^\/\/! # Ok/s/^\/\/! \(# \)\?//p' zigrunk/src/lib.rs | sed "s,\"nvcc\",\"$room/bin/nvcc\",; s,\"/[wt]\",\"$room\",g"
+        echo '}'
+    } > "$room/src/main.rs"
+    (cd "$room" && cargo init -q --vcs none --name five_lines . && cargo add -q --path "$crate" && cargo build -q) || return 1
+    "$CARGO_TARGET_DIR/debug/five_lines" > "$scratch/five" || return 1
+    diff <(grep -cE '^(yes|no) cd ' "$data/one_target.plan") <(grep -c '' "$scratch/five") && grep -qxF "0, when [] have ended: $room/bin/gcc" "$scratch/five"
+}
+
+# answers_of BACKEND WORD..: builds the program that prints answers, for packages and features.
+answers_of() {
+    cargo build -q --release --example answers "${@:2}" && cp "$CARGO_TARGET_DIR/release/examples/answers" "$scratch/answers.$1"
+}
+
+# alike SEED: both backends give the same answers to generated calls. It shows the first case that differs.
+alike() {
+    local backend number
+    for backend in plain linked; do
+        "$scratch/answers.$backend" "$1" "$((count / 2))" > "$scratch/told.$backend" &
+    done
+    wait
+    [ "$(grep -c '' "$scratch/told.plain")" -eq "$((count / 2))" ] || return 1
+    ! cmp -s "$scratch/told.plain" "$scratch/told.linked" || return 0
+    number=$(diff "$scratch/told.plain" "$scratch/told.linked" | sed -n '2s/^. \([0-9]*\) .*/\1/p')
+    echo "answers $1 case $number, plain and linked:"
+    diff <("$scratch/answers.plain" "$1" case "$number") <("$scratch/answers.linked" "$1" case "$number") | cut -c 1-3000
+    return 1
+}
+
+# by_library: the same tests over the C library, and that both backends answer alike.
+by_library() {
+    mkdir -p "$scratch/library"
+    cp -r "$library/lib" "$library/include" "$scratch/library"
+    export ZIGRUNK_LIB_DIR=$scratch/library/lib
+    if [ -f "$ZIGRUNK_LIB_DIR/libzigrunk.a" ]; then
+        check 'linked: the tests, with the archive' cargo test -q "${linked[@]}"
+    fi
+    check 'linked: the answers' answers_of linked "${linked[@]}"
+    check 'plain: the answers' answers_of plain "${plain[@]}"
+    for number in 1 "$seed"; do
+        check "$((count / 2)) answers to calls of seed $number" alike "$number"
+    done
+    rm -f "$ZIGRUNK_LIB_DIR/libzigrunk.a"
+    check 'linked: the tests, with the shared object' env LD_LIBRARY_PATH="$ZIGRUNK_LIB_DIR" cargo test -q --tests "${linked[@]}"
+}
+
+check 'the versions' grep -qx "version = \"$version\"" Cargo.toml
+check 'the tests' cargo test -q "${plain[@]}"
+check 'what the examples write' examples_write "$CARGO_TARGET_DIR/debug/examples"
+check 'five lines in a new project' new_project
+if cargo clippy --version > /dev/null 2>&1; then
+    linted 'plain' "${plain[@]}"
+    linted 'linked' "${linked[@]}"
+else
+    skip 'clippy' 'it is not installed'
+fi
+if cargo fmt --version > /dev/null 2>&1; then
+    check 'the format' cargo fmt --check -p zigrunk -p zigrunk-sys
+else
+    skip 'the format' 'rustfmt is not installed'
+fi
+ZIGRUNK_LIB_DIR=$scratch/none cargo build -p zigrunk-sys > "$scratch/without" 2>&1
+check 'the build says where it looked for the library' grep -qF "$scratch/none (ZIGRUNK_LIB_DIR)" "$scratch/without"
+if compgen -G "$library/lib/libzigrunk.*" > /dev/null; then
+    by_library
+else
+    skip 'the crate over libzigrunk' "there is none in $library/lib: make lib"
+fi
+summary
