@@ -5,6 +5,8 @@ target = $(DESTDIR)$(PREFIX)
 
 # What `make install` installs: `proved`, which needs the Rattle kit, or `plain`, the same sources as plain Rust, which needs cargo.
 BUILT ?= $(if $(shell command -v rt),proved,plain)
+workspace = out/rust
+crates_from = if command -v cargo > /dev/null; then $(MAKE) rust-sources; else echo 'no cargo, so no crate for Rust'; fi
 ifeq ($(BUILT),plain)
 built = out/rust/target/release
 cudaplan = $(built)/cudaplan
@@ -20,7 +22,7 @@ programs_from = .ci/built check programs || $(MAKE) build
 library_from = .ci/built check library || $(MAKE) lib
 endif
 
-.PHONY: help demo build lib rust rust-install check install install-programs install-library uninstall dist bench drivers fuzz-library must-fail refused-memory end-to-end odd-calls random-calls versions cache cache-example peer cluster field mutants test-install dist-test check-docs lint test
+.PHONY: help demo build lib rust rust-sources rust-install check install install-programs install-library install-rust uninstall dist bench drivers fuzz-library must-fail refused-memory end-to-end odd-calls random-calls versions cache cache-example peer cluster field mutants test-install dist-test check-docs lint test
 
 help:
 	@echo 'make demo             run cudaplan, unproved, on two calls; a minute from a fresh clone'
@@ -86,9 +88,11 @@ lib:
 	bindings/c/library.sh crates/zigrunk_c/out/libzigrunk_c.a "$(CURDIR)/out"
 
 # The proved sources as crates of plain Rust (docs/PLAIN_RUST.md), and programs and library of them: no kit, no network.
-rust:
-	cargo run --quiet --release --manifest-path rust/Cargo.toml -p eraser -- . out/rust
+rust: rust-sources
 	cd out/rust && cargo build --release
+
+rust-sources:
+	cargo run --quiet --release --manifest-path rust/Cargo.toml -p eraser -- . out/rust
 
 include packaging/install.mk
 
