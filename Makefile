@@ -22,7 +22,7 @@ programs_from = .ci/built check programs || $(MAKE) build
 library_from = .ci/built check library || $(MAKE) lib
 endif
 
-.PHONY: help demo build lib rust rust-sources rust-install check install install-programs install-library install-rust uninstall dist bench drivers fuzz-library must-fail refused-memory end-to-end odd-calls random-calls versions cache cache-example peer cluster field mutants test-install dist-test check-docs lint test
+.PHONY: help demo build lib rust rust-sources rust-install check install install-programs install-library install-rust uninstall dist bench drivers fuzz-library must-fail refused-memory end-to-end odd-calls random-calls versions cache cache-example peer cluster field mutants platforms test-install dist-test check-docs lint test
 
 help:
 	@echo 'make demo             run cudaplan, unproved, on two calls; a minute from a fresh clone'
@@ -53,11 +53,12 @@ help:
 	@echo '                      downloads 80 MB from Debian; PROJECTS="bart ceres" builds only these. No part of the gate'
 	@echo 'make cluster          build on a Slurm that it starts on this machine, and let nodes vanish; needs nvcc, slurm-wlm, munge, iproute2; root'
 	@echo 'make mutants          check that the tests catch wrong edits of zigrunk-nvcc, zigrunk-slot, zigrunk-plan and zigrunk-batch'
+	@echo 'make platforms        build the plain Rust for other platforms in a root of Debian 13, and run the cases there; needs root'
 	@echo 'make check-docs       check links, quoted code and names in the pages, and the version number'
 	@echo 'make lint             check shell, Python and Rust: shellcheck, mypy, flake8, clippy and rustfmt, as far as they are installed'
 	@echo 'make test-install     install into an empty directory, run the programs from there, uninstall'
-	@echo 'make dist             pack the built programs: a tarball, a Debian package and their checksums, in dist/'
-	@echo 'make dist-test        install the Debian package in fresh Debian roots, run it there, remove it; needs root'
+	@echo 'make dist             pack the sources as plain Rust, Debian packages of them, and the proved programs if built; in dist/'
+	@echo 'make dist-test        build the sources and install the package in fresh Debian roots, run all there, remove it; needs root'
 	@echo 'make bench            time calls of the library'
 
 # A cicc line that is read and written back, and the plan of two real dry runs: the calls in demo/.
@@ -177,9 +178,11 @@ lint:
 
 # Proves nothing. Two runs from one commit give the same bytes.
 dist:
-	@.ci/built check programs || $(MAKE) build
-	@.ci/built check library || $(MAKE) lib
 	@packaging/dist.sh
+
+# Outside the gate.
+platforms:
+	@tests/platforms.sh
 
 dist-test:
 	@packaging/test.sh
