@@ -30,7 +30,9 @@ make_root() {
         inside apt-get install -y --no-install-recommends rustc cargo libc6-dev gcc-aarch64-linux-gnu gcc-i686-linux-gnu \
             libstd-rust-dev-wasm32 qemu-user-static pkg-config &&
         inside env -C /root/zigrunk/debs apt-get download libstd-rust-dev:arm64 libstd-rust-dev:i386 &&
-        inside sh -c 'for deb in debs/*.deb; do dpkg -x "$deb" / || exit 1; done'
+        for deb in "$work"/debs/*.deb; do
+            dpkg -x "$deb" "$root" || return 1
+        done
 }
 
 # copy_sources: the workspace with its test drivers, and what the tests in C need.
@@ -42,6 +44,7 @@ copy_sources() {
 
 # has_library TARGET: whether rustc has its library for a platform.
 has_library() {
+    # shellcheck disable=SC2016 # for sh
     inside sh -c '[ -d "$(rustc --print target-libdir --target "$1")" ]' _ "$1"
 }
 
@@ -96,9 +99,9 @@ in_c() {
     done
     words=("$data"/*.flag)
     words=("${words[@]##*/}")
-    # shellcheck disable=SC2086 # an emulator is a command
     for name in 'calls 100' "plans $data ${words[*]%.flag}" lines 'line_records 100' 'keys 100' limits; do
-        inside $3 "./$1/${name%% *}" $([ "$name" = "${name#* }" ] || echo "${name#* }") || return 1
+        # shellcheck disable=SC2086 # an emulator, and the program's words
+        inside $3 ./"$1"/$name || return 1
         echo "  $1: ${name%% *}" >> "$scratch/counts"
     done
 }
