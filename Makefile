@@ -3,15 +3,34 @@ PREFIX ?= /usr/local
 DESTDIR ?=
 target = $(DESTDIR)$(PREFIX)
 
-.PHONY: help demo build lib rust check install install-programs install-library uninstall dist bench drivers fuzz-library must-fail refused-memory end-to-end odd-calls random-calls versions cache cache-example peer cluster field mutants test-install dist-test check-docs lint test
+# What `make install` installs: `proved`, which needs the Rattle kit, or `plain`, the same sources as plain Rust, which needs cargo.
+BUILT ?= $(if $(shell command -v rt),proved,plain)
+ifeq ($(BUILT),plain)
+built = out/rust/target/release
+cudaplan = $(built)/cudaplan
+zigrunk = $(built)/zigrunk
+archive = $(built)/libzigrunk.a
+programs_from = $(MAKE) rust
+library_from = $(MAKE) rust
+else
+cudaplan = crates/cudaplan/out/cudaplan
+zigrunk = crates/zigrunk/out/zigrunk
+archive = crates/zigrunk_c/out/libzigrunk_c.a
+programs_from = .ci/built check programs || $(MAKE) build
+library_from = .ci/built check library || $(MAKE) lib
+endif
+
+.PHONY: help demo build lib rust rust-install check install install-programs install-library uninstall dist bench drivers fuzz-library must-fail refused-memory end-to-end odd-calls random-calls versions cache cache-example peer cluster field mutants test-install dist-test check-docs lint test
 
 help:
 	@echo 'make demo             run cudaplan, unproved, on two calls; a minute from a fresh clone'
 	@echo 'make build            prove and build the programs: crates/cudaplan/out/cudaplan and crates/zigrunk/out/zigrunk'
 	@echo 'make lib              prove and build libzigrunk for C, Rust and Python: out/lib and out/include'
 	@echo 'make rust             write the proved sources as plain Rust and build programs and library of them: out/rust; needs cargo alone'
-	@echo 'make install          install both, the scripts, the man pages and completions; PREFIX=/usr/local, DESTDIR='
+	@echo 'make install          install programs, library, scripts, man pages and completions; PREFIX=/usr/local, DESTDIR='
+	@echo '                      it proves and builds both, or without the kit builds the plain Rust: BUILT=proved, BUILT=plain'
 	@echo '                      make install-programs and make install-library install, and build, one of them'
+	@echo 'make rust-install     the same with the plain Rust'
 	@echo 'make uninstall        remove what make install installed, with the same PREFIX and DESTDIR'
 	@echo 'make check CRATE=dry_runs   prove one crate over kept libraries, or with FUNCTION=PATH one function of it; no verdict'
 	@echo 'make test             the whole gate, with rt ci in it; the last line is N passed, M failed; BODIES=all tries all wrong bodies,'
@@ -40,9 +59,15 @@ help:
 	@echo 'make bench            time calls of the library'
 
 # A cicc line that is read and written back, and the plan of two real dry runs: the calls in demo/.
+DRY_RUNS = tests/drivers/test_plans/data/dry_runs
+ifeq ($(BUILT),plain)
+demo: rust
+	@cd $(DRY_RUNS) && for call in line plan; do xargs -d '\n' "$(CURDIR)/$(cudaplan)" < "$(CURDIR)/demo/$$call.args" || exit 1; done
+else
 demo:
 	@echo 'This builds cudaplan without proving it and runs it twice, in about a minute. make build proves it.'
-	@cd crates/cudaplan && rt try --data one_target.dry1=../../tests/drivers/test_plans/data/dry_runs/one_target.dry1 --data one_target.dry2=../../tests/drivers/test_plans/data/dry_runs/one_target.dry2 --cases ../../demo
+	@cd crates/cudaplan && rt try --data one_target.dry1=../../$(DRY_RUNS)/one_target.dry1 --data one_target.dry2=../../$(DRY_RUNS)/one_target.dry2 --cases ../../demo
+endif
 
 # rt builds a program only when it runs it, and leaves it in out/. So each program makes a short call, whose output is thrown away.
 build:
@@ -65,55 +90,11 @@ rust:
 	cargo run --quiet --release --manifest-path rust/Cargo.toml -p eraser -- . out/rust
 	cd out/rust && cargo build --release
 
-# Nothing is proved again if out/ holds what these sources make. Otherwise each part builds what it installs, so that those who
-# want one part don't wait for the other.
-install: install-programs install-library
+include packaging/install.mk
 
-install-programs:
-	@.ci/built check programs || $(MAKE) build
-	install -D -m 755 crates/cudaplan/out/cudaplan "$(target)/bin/cudaplan"
-	install -D -m 755 crates/zigrunk/out/zigrunk "$(target)/bin/zigrunk"
-	install -D -m 755 bin/zigrunk-nvcc "$(target)/bin/zigrunk-nvcc"
-	install -D -m 755 bin/zigrunk-batch "$(target)/bin/zigrunk-batch"
-	install -D -m 755 bin/zigrunk-slot "$(target)/bin/zigrunk-slot"
-	install -D -m 755 bin/zigrunk-report "$(target)/bin/zigrunk-report"
-	install -D -m 755 bin/zigrunk-plan "$(target)/bin/zigrunk-plan"
-	install -D -m 644 man/zigrunk.1 "$(target)/share/man/man1/zigrunk.1"
-	install -D -m 644 man/zigrunk-nvcc.1 "$(target)/share/man/man1/zigrunk-nvcc.1"
-	install -D -m 644 man/zigrunk-batch.1 "$(target)/share/man/man1/zigrunk-batch.1"
-	ln -sf zigrunk.1 "$(target)/share/man/man1/cudaplan.1"
-	ln -sf zigrunk-nvcc.1 "$(target)/share/man/man1/zigrunk-slot.1"
-	ln -sf zigrunk-nvcc.1 "$(target)/share/man/man1/zigrunk-report.1"
-	ln -sf zigrunk-nvcc.1 "$(target)/share/man/man1/zigrunk-plan.1"
-	install -D -m 644 completions/zigrunk.bash "$(target)/share/bash-completion/completions/zigrunk"
-	ln -sf zigrunk "$(target)/share/bash-completion/completions/cudaplan"
-	ln -sf zigrunk "$(target)/share/bash-completion/completions/zigrunk-nvcc"
-	ln -sf zigrunk "$(target)/share/bash-completion/completions/zigrunk-batch"
-	install -D -m 644 completions/_zigrunk "$(target)/share/zsh/site-functions/_zigrunk"
-	find examples -type f ! -path '*/__pycache__/*' | while read -r file; do \
-		[ -x "$$file" ] && mode=755 || mode=644; install -D -m "$$mode" "$$file" "$(target)/share/zigrunk/$$file" || exit 1; done
-	install -d -m 755 "$(target)/share/doc/zigrunk"
-	install -m 644 README.md docs/*.md docs/*.json docs/*.svg "$(target)/share/doc/zigrunk"
-
-# The library is linked here, from the archive: the header and the version are always those of this folder.
-install-library:
-	@.ci/built check library || $(MAKE) lib
-	umask 022 && bindings/c/library.sh crates/zigrunk_c/out/libzigrunk_c.a "$(target)"
-	install -D -m 644 man/zigrunk.h.3 "$(target)/share/man/man3/zigrunk.h.3"
-	find bindings -type f ! -path '*/c/library.sh' ! -path '*/c/zigrunk.*' ! -path '*/rust/tests/*' ! -path '*/target/*' ! -path '*/__pycache__/*' -printf '%P\n' | \
-		while read -r file; do install -D -m 644 "bindings/$$file" "$(target)/share/zigrunk/$$file" || exit 1; done
-
-uninstall:
-	rm -f "$(target)/bin/cudaplan" "$(target)/bin/zigrunk" "$(target)/bin/zigrunk-nvcc" "$(target)/bin/zigrunk-batch"
-	rm -f "$(target)/share/man/man1/zigrunk.1" "$(target)/share/man/man1/zigrunk-nvcc.1" "$(target)/share/man/man1/cudaplan.1"
-	for name in slot report plan; do rm -f "$(target)/bin/zigrunk-$$name" "$(target)/share/man/man1/zigrunk-$$name.1"; done
-	rm -f "$(target)/share/man/man1/zigrunk-batch.1" "$(target)/share/man/man3/zigrunk.h.3"
-	rm -f "$(target)/share/bash-completion/completions/zigrunk" "$(target)/share/bash-completion/completions/cudaplan"
-	rm -f "$(target)/share/bash-completion/completions/zigrunk-nvcc" "$(target)/share/bash-completion/completions/zigrunk-batch"
-	rm -f "$(target)/share/zsh/site-functions/_zigrunk"
-	rm -f "$(target)/lib/libzigrunk.a" "$(target)/lib/libzigrunk.so" "$(target)/lib/libzigrunk.so.1"
-	rm -f "$(target)/lib/pkgconfig/zigrunk.pc" "$(target)/include/zigrunk.h"
-	rm -rf "$(target)/share/zigrunk" "$(target)/share/doc/zigrunk"
+# The same with the plain Rust, also if the kit is there.
+rust-install:
+	@$(MAKE) install BUILT=plain
 
 bench:
 	tests/drivers.sh --run cudabench line 100000 cicc /w --device-c -arch compute_80 --module_id_file_name kernel.module_id kernel.cpp1.ii --simt-only -o kernel.ptx

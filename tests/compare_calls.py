@@ -4,6 +4,8 @@
     tests/compare_calls.py [OPTIONS] FILE..
 
     --nvcc PATH --ours PATH     the two tools, if not nvcc and bin/zigrunk-nvcc
+    --driver PATH               our tool is the compiled driver. It needs neither Ninja nor zigrunk, so a line that takes one away is left out, and
+                                the user's folder stays in TMPDIR, empty
     --only TEXT                 only the calls whose lines contain TEXT
     --keep FOLDER               keep each call's files below FOLDER
     --scratch FOLDER            make the calls below FOLDER
@@ -458,6 +460,8 @@ def compare(call: Call, args: argparse.Namespace) -> Compared:
     try:
         want = run(args.nvcc, "nvcc", call, base, keep)
         got = run(args.ours, "ours", call, base, keep)
+        if args.driver:
+            got["left"] = [name for name in got["left"] if name != f"zigrunk-{os.getuid()}"]
         found = differences(want, got, base)
         noise: list[Difference] = []
         if not loud(found) <= explained(call, args.version):
@@ -492,6 +496,7 @@ def options() -> argparse.Namespace:
     parser.add_argument("files", nargs="+")
     parser.add_argument("--nvcc", type=path_of, default="nvcc")
     parser.add_argument("--ours", type=path_of, default=str(Path(__file__).resolve().parent.parent / "bin/zigrunk-nvcc"))
+    parser.add_argument("--driver", type=path_of)
     parser.add_argument("--only", default="")
     parser.add_argument("--keep")
     parser.add_argument("--scratch", type=lambda name: os.path.abspath(name))
@@ -500,7 +505,9 @@ def options() -> argparse.Namespace:
     parser.add_argument("--reasons", action="store_true")
     parser.add_argument("--least-split", type=int, default=0)
     parser.add_argument("--all", action="store_true")
-    return parser.parse_args()
+    args = parser.parse_args()
+    args.ours = args.driver or args.ours
+    return args
 
 
 def read_calls(args: argparse.Namespace) -> list[Call]:
@@ -509,7 +516,8 @@ def read_calls(args: argparse.Namespace) -> list[Call]:
     values = values_in(said)
     lines = [line for line in lines if line and line[0] != "#"]
     calls = [earlier(Call(suited(line, values), number), said) for number, line in enumerate(lines, 1)]
-    return [call for call in calls if args.only in call.line]
+    needless = {"ZIGRUNK_NINJA", "ZIGRUNK_PROGRAM"} if args.driver else set()
+    return [call for call in calls if args.only in call.line and not needless & call.env.keys()]
 
 
 def longest_first(calls: list[Call]) -> list[Call]:

@@ -16,9 +16,10 @@ import os
 import random
 import re
 import sys
+import tomllib
 from collections import Counter
 from collections.abc import Iterator
-from dataclasses import dataclass
+from dataclasses import dataclass, replace
 from pathlib import Path
 
 import erased_edits
@@ -27,14 +28,16 @@ from rust_layout import in_one_layout
 from rust_reading import Import, Reader, Reading
 from rust_tokens import Token, Unreadable, tokens_of
 
-# What the documentation of an export has in plain Rust, since it is unsafe.
-SAFETY = ["///", "/// # Safety", "///", "/// As `zigrunk.h` says."]
 TOP = Path(os.path.realpath(__file__)).parent.parent
+# Libraries of the kit that crates name only for their definitions.
+ONLY_BELOW = {"ucd_perl"}
+MANIFEST_KEYS = {"package.name", "package.description", "package.version", "package.edition", "package.rust-version", "package.license",
+                 "package.publish", "lints.workspace", "lib.name", "lib.crate-type", "lib.doc", "bin.name", "bin.path", "bin.doc"}
 
 
 @dataclass(frozen=True)
 class Rewrite:
-    """Tokens that plain Rust spells in another way, and why."""
+    """Tokens that plain Rust spells in another way."""
 
     name: str
     source: str
@@ -43,9 +46,9 @@ class Rewrite:
 
 REWRITES = [
     # A formatter of the kit's has its writer's type, one of Rust's hides it.
-    Rewrite("fmt", "fn fmt<W: fmt::Write>(&self, f: &mut fmt::Formatter<W>)", "fn fmt(&self, f: &mut fmt::Formatter<'_>)"),
-    # `main` takes the process from the kit.
-    Rewrite("main", "fn main(rt: HostRuntime) -> ExitCode {", "fn main() -> ExitCode { let rt = HostRuntime::of_process();"),
+    Rewrite("fmt", "fn fmt<W: fmt::Write>(&self, f: &mut fmt::Formatter<W>)", "fn fmt(&self, f: &mut fmt::Formatter)"),
+    # The kit starts `main` with the process, Rust doesn't: a macro of the stand-in for std does.
+    Rewrite("main", "fn main(rt: HostRuntime) -> ExitCode", "std::program!(main); fn main(rt: HostRuntime) -> ExitCode"),
     # `str` has a method of this name, which allocates by itself.
     Rewrite("replace", "text.replace(alloc, old, new)", "text.replace_in(alloc, old, new)"),
 ]
@@ -58,7 +61,7 @@ def rewritten(tokens: list[Token], counts: Counter[str]) -> list[Token]:
         made, at = list[Token](), 0
         while at < len(tokens):
             if tokens[at].text == old[0] and [token.text for token in tokens[at:at + len(old)]] == old:
-                made += [Token(token.kind, token.text, tokens[at].start, tokens[at].line) for token in new]
+                made += [replace(token, line=tokens[at].line) for token in new]
                 at += len(old)
                 counts[f"rewritten {rewrite.name}"] += 1
             else:
@@ -66,6 +69,16 @@ def rewritten(tokens: list[Token], counts: Counter[str]) -> list[Token]:
                 at += 1
         tokens = made
     return tokens
+
+
+def plain(tokens: list[Token], counts: Counter[str]) -> list[Token]:
+    """Returns the code of a source in plain Rust: rewritten, with the attribute that the macro of a program's start needs."""
+    programs = counts["rewritten main"]
+    made = rewritten(tokens, counts)
+    if counts["rewritten main"] == programs:
+        return made
+    first = next((place for place, token in enumerate(made) if not token.text.startswith("//!")), 0)
+    return [*made[:first], *tokens_of("#![no_main]"), *made[first:]]
 
 
 def differences(source: list[Token], output: list[Token]) -> Iterator[str]:
@@ -81,37 +94,53 @@ def differences(source: list[Token], output: list[Token]) -> Iterator[str]:
 
 
 # The exports of libzigrunk. In Rattle an export takes slices, and an allocator that C doesn't see. In plain Rust a slice is a pointer and
-# a number of elements, which the function trusts, so that it is unsafe, and says so in its documentation.
+# a number of elements. The function trusts both, so it is unsafe, and its documentation says so.
 
 EXPORT = re.compile(r"#\[unsafe\(no_mangle\)\]pub extern \"C\" fn (?P<name>\w+)\((?P<parameters>[^()]*)\)->(?P<answer>\w+)"
                     r"\{(?P<callee>\w+::\w+)\((?P<arguments>[^()]*)\)\}")
+SAFETY = ["///", "/// # Safety", "///", "/// `zigrunk.h` says what the caller ensures."]
+# What makes slices of them, in a file of its own, which is the only one without a source.
+MEMORY = """
+use core::slice;
+pub(crate) unsafe fn list<'a, T>(pointer: *const T, size: usize) -> &'a [T] {
+    if size == 0 { return &[]; }
+    unsafe { slice::from_raw_parts(pointer, size) }
+}
+pub(crate) unsafe fn list_mut<'a, T>(pointer: *mut T, size: usize) -> &'a mut [T] {
+    if size == 0 { return &mut []; }
+    unsafe { slice::from_raw_parts_mut(pointer, size) }
+}
+"""
+MEMORY_FILE = "zigrunk_c/src/memory.rs"
+MEMORY_MODULE = "mod memory ;".split()
+MEMORY_IMPORTS = {"memory::list", "memory::list_mut"}
 
 
 def spelled(tokens: list[Token]) -> str:
-    """Returns the tokens as one text, with a blank behind each word that another word follows."""
+    """Returns the tokens as one text, with a blank only between two words."""
     return re.sub(r"(?<=[\w\"']) (?![\w\"'])|(?<![\w\"']) ", "", " ".join(token.text for token in tokens))
 
 
-def exported(export: list[Token]) -> str | None:
-    """Returns how plain Rust spells an export, without its documentation, or None if this is none."""
+def exported(export: list[Token]) -> tuple[str, bool] | None:
+    """Returns how plain Rust spells an export, without its documentation, and whether it is unsafe. None if this is no export."""
     match = EXPORT.fullmatch(spelled(code_of(export)))
     if match is None:
         return None
     parameters, arguments = list[str](), list[str]()
-    for name, kind in re.findall(r"(\w+):([^,]+)", match["parameters"]):
-        if kind == "Global":
-            arguments.append("Global")
-        elif slice_of := re.fullmatch(r"&(mut)?\[(.*)\]", kind):
-            parameters += [f"{name}: *{'mut' if slice_of[1] else 'const'} {slice_of[2]}", f"{name}_size: usize"]
-            arguments.append(f"unsafe {{ slice::from_raw_parts{'_mut' if slice_of[1] else ''}({name}, {name}_size) }}")
+    pairs = re.findall(r"(\w+):([^,]+)", match["parameters"])
+    for name, kind in pairs:
+        if slice_of := re.fullmatch(r"&(mut)?\[(.*)\]", kind):
+            parameters += [f"{name}: *{slice_of[1] or 'const'} {slice_of[2]}", f"{name}_size: usize"]
+            arguments.append(f"{'list_mut' if slice_of[1] else 'list'}({name}, {name}_size)")
         else:
-            parameters.append(f"{name}: {kind}")
-            arguments.append(name)
-    names = re.findall(r"(\w+):", match["parameters"])
-    if match["arguments"].rstrip(",") != ",".join(names):
+            parameters += [] if kind == "Global" else [f"{name}: {kind}"]
+            arguments.append("Global" if kind == "Global" else name)
+    if match["arguments"].rstrip(",") != ",".join(name for name, _ in pairs):
         return None
-    return (f'#[unsafe(no_mangle)] pub unsafe extern "C" fn {match["name"]}({", ".join(parameters)}) -> {match["answer"]}'
-            f' {{ {match["callee"]}({", ".join(arguments)}) }}')
+    is_unsafe, call = "list" in str(arguments), f"{match['callee']}({', '.join(arguments)})"
+    head = f'extern "C" fn {match["name"]}({", ".join(parameters)}) -> {match["answer"]}'
+    words = ("pub unsafe", f"unsafe {{ {call} }}") if is_unsafe else ("pub", call)
+    return f"#[unsafe(no_mangle)] {words[0]} {head} {{ {words[1]} }}", is_unsafe
 
 
 def documentation_of(tokens: list[Token]) -> list[str]:
@@ -127,13 +156,12 @@ def different_exports(source: Reading, output: Reading) -> Iterator[str]:
     if len(source.exports) != len(output.exports):
         yield f"{len(output.exports)} exports, not {len(source.exports)}"
     for wanted, got in zip(source.exports, output.exports):
-        text = exported(wanted)
-        if text is None:
+        spelling = exported(wanted)
+        if spelling is None:
             yield f"line {wanted[0].line} of the source: an export of no known form"
             continue
-        yield from differences(tokens_of(text), code_of(got))
-        documentation = documentation_of(wanted)
-        if documentation_of(got) != [*documentation, *SAFETY]:
+        yield from differences(tokens_of(spelling[0]), code_of(got))
+        if documentation_of(got) != [*documentation_of(wanted), *(SAFETY if spelling[1] else [])]:
             yield f"line {got[0].line}: other documentation than its source's and `Safety`"
 
 
@@ -143,14 +171,20 @@ def different_imports(source: Reading, output: Reading) -> Iterator[str]:
         return it.module, it.before, it.path
 
     wanted, got = Counter(map(key, source.imports)), Counter(map(key, output.imports))
-    used = {token.text for token in source.code if token.kind == "word"} | {it.path.split("::")[0] for it in output.imports}
-    ghost = {token.text for token in source.ghost}
     for it in source.imports:
-        if wanted[key(it)] > got[key(it)] and (it.is_public or it.name in used or it.name not in ghost):
-            yield f"`use {it.path}` of line {it.line} of the source is left out, and not only ghost text used it"
+        if wanted[key(it)] > got[key(it)] and not is_idle(it, source):
+            yield f"`use {it.path}` of line {it.line} of the source is left out, and code may use it"
     for it in output.imports:
-        if got[key(it)] > wanted[key(it)] and not (source.exports and it.path == "core::slice"):
+        if got[key(it)] > wanted[key(it)] and not (source.exports and it.path in MEMORY_IMPORTS):
             yield f"line {it.line}: `{it.before} use {it.path}` isn't in the source"
+
+
+def is_idle(it: Import, source: Reading) -> bool:
+    """Whether no code uses an import: only this file could, it doesn't name it, and it can't be a trait whose methods it uses, since it is
+    a module or a function, or ghost text names it."""
+    used = {token.text for token in source.code if token.kind == "word"} | {other.path.split("::")[0] for other in source.imports}
+    is_named_by_ghosts = any(token.text == it.name for token in source.ghost)
+    return not it.is_public and it.name not in used and (is_named_by_ghosts or it.name[0].islower())
 
 
 def different_modules(source: Reading, output: Reading, laws: set[str]) -> Iterator[str]:
@@ -158,7 +192,7 @@ def different_modules(source: Reading, output: Reading, laws: set[str]) -> Itera
     for name in {*source.modules, *output.modules}:
         wanted = [token.text for token in source.modules.get(name, [])] if name not in laws else []
         got = [token.text for token in output.modules.get(name, [])]
-        if wanted != got:
+        if wanted != got and not (source.exports and got == MEMORY_MODULE):
             yield f"`{' '.join(got) or 'nothing'}` declares the module {name}, not `{' '.join(wanted) or 'nothing'}`"
 
 
@@ -166,7 +200,7 @@ def compared(source: str, output: str, laws: set[str], counts: Counter[str]) -> 
     """Returns what differs between the text of a source and that of its output. `laws` are the modules of it that have laws alone."""
     try:
         wanted, got = Reader(source, True).read(), Reader(output, False).read()
-        found = [*differences(rewritten(wanted.code, counts), got.code), *different_exports(wanted, got)]
+        found = [*differences(plain(wanted.code, counts), got.code), *different_exports(wanted, got)]
         found += [*different_imports(wanted, got), *different_modules(wanted, got, laws)]
         counts["rewritten export"] += len(wanted.exports)
         counts.update(wanted.counts)
@@ -179,11 +213,11 @@ def compared(source: str, output: str, laws: set[str], counts: Counter[str]) -> 
 # The files of both.
 
 
-def crates_of(source: Path) -> list[str]:
-    """Returns the libraries and programs that crates.txt lists, without tests."""
+def crates_of(source: Path) -> dict[str, set[str]]:
+    """Returns the libraries and programs that crates.txt lists, without tests, each with what it uses."""
     parts = (source / "crates.txt").read_text(encoding="utf-8").split("\n\n")
-    product = [part for part in parts if not part.startswith(("# Test drivers", "# The callers"))]
-    return re.findall(r"^(\w+)(?: staticlib)?:", "\n".join(product), re.M)
+    product = "\n".join(part for part in parts if not part.startswith("# The callers"))
+    return {name: {*needs.split()} - ONLY_BELOW for name, needs in re.findall(r"^(\w+)(?: staticlib)?:(.*)$", product, re.M)}
 
 
 @dataclass
@@ -211,25 +245,59 @@ def read_crate(source: Path, out: Path, name: str) -> Crate:
     return Crate(name, sources, texts_below(out / "crates" / name / "src", ".rs"), laws)
 
 
-def different_files(crate: Crate, out: Path) -> Iterator[str]:
-    """Files of a crate that the output lacks, and those that it has beyond its sources' and a manifest."""
-    wanted = {*crate.sources} - crate.laws
-    yield from (f"src/{place}.rs isn't there" for place in sorted(wanted - {*crate.outputs}))
-    there = {str(path.relative_to(out / "crates" / crate.name)) for path in (out / "crates" / crate.name).rglob("*") if path.is_file()}
-    yield from (f"{place} has no source" for place in sorted(there - {f"src/{place}.rs" for place in wanted} - {"Cargo.toml"}))
+def different_files(crate: Crate, there: set[str]) -> Iterator[str]:
+    """Files that a crate of these lacks, and those that it has beyond its sources' and a manifest."""
+    wanted = {f"src/{place}.rs" for place in {*crate.sources} - crate.laws} | {"Cargo.toml"}
+    wanted |= {MEMORY_FILE.partition("/")[2]} if MEMORY_FILE.startswith(f"{crate.name}/") else set()
+    yield from (f"{place} isn't there" for place in sorted(wanted - there))
+    yield from (f"{place} has no source" for place in sorted(there - wanted))
+
+
+def files_of(folder: Path) -> set[str]:
+    return {str(path.relative_to(folder)) for path in folder.rglob("*") if not path.is_dir()}
+
+
+def different_memory(text: str) -> Iterator[str]:
+    """What the one file without a source has beyond two functions."""
+    yield from differences(tokens_of(MEMORY), code_of(tokens_of(text)))
+
+
+def different_manifest(text: str, needs: set[str], crates: set[str]) -> Iterator[str]:
+    """What a manifest has that could make another program of the same files: other libraries, or more than a manifest has to say. It may
+    lack a library, of which only ghost text used something: rustc would miss any other."""
+    manifest = tomllib.loads(text)
+    folders = {need: {"path": f"../{need}" if need in crates else f"../../stand/{need}"} for need in needs}
+    folders["std"] = {"package": "rattle_std", "path": "../../stand/std"}
+    for need, where in manifest.pop("dependencies", {}).items():
+        if where != folders.get(need):
+            yield f"its library {need} is {where}, not {folders.get(need)}"
+    keys = {f"{table}.{key}" for table, value in manifest.items() for part in (value if isinstance(value, list) else [value]) for key in part}
+    yield from (f"it sets {key}" for key in sorted(keys - MANIFEST_KEYS))
+    if manifest.get("bin", [{}])[0].get("path", "src/main.rs") != "src/main.rs":
+        yield "its program isn't src/main.rs"
+
+
+def check_crate(crate: Crate, folder: Path, needs: set[str], crates: set[str], counts: Counts, found: Counter[str]) -> None:
+    """Checks a crate: which files it has, and each of them."""
+    there = files_of(folder)
+    counts.case(crate.name, different_files(crate, there))
+    if "Cargo.toml" in there:
+        manifest = (folder / "Cargo.toml").read_text(encoding="utf-8")
+        counts.case(f"{crate.name}/Cargo.toml", different_manifest(manifest, needs, crates))
+    for place in sorted({*crate.sources} & {*crate.outputs} - crate.laws):
+        counts.case(f"{crate.name}/src/{place}.rs", compared(crate.sources[place], crate.outputs[place], crate.laws_below(place), found))
+    if "src/memory.rs" in there and f"{crate.name}/src/memory.rs" == MEMORY_FILE:
+        counts.case(MEMORY_FILE, different_memory(crate.outputs["memory"]))
 
 
 def check(source: Path, out: Path) -> int:
     """Checks all crates, and prints what was left out and rewritten. Each file is a case, and so are the files of a crate."""
     counts, found = Counts(), Counter[str]()
-    names = crates_of(source)
+    crates = crates_of(source)
     there = {path.name for path in (out / "crates").iterdir()}
-    counts.case("crates", (f"{name} is no crate of the sources" for name in sorted(there - {*names})))
-    for name in names:
-        crate = read_crate(source, out, name)
-        counts.case(name, different_files(crate, out))
-        for place in sorted({*crate.sources} & {*crate.outputs} - crate.laws):
-            counts.case(f"{name}/src/{place}.rs", compared(crate.sources[place], crate.outputs[place], crate.laws_below(place), found))
+    counts.case("crates", (f"{name} is no crate of the sources" for name in sorted(there - {*crates})))
+    for name, needs in crates.items():
+        check_crate(read_crate(source, out, name), out / "crates" / name, needs, {*crates}, counts, found)
     print(", ".join(f"{kind} {number}" for kind, number in sorted(found.items())))
     return counts.summary()
 
@@ -237,19 +305,39 @@ def check(source: Path, out: Path) -> int:
 # Edits drawn by lot.
 
 
+def found_in_files(lot: random.Random, crate: Crate, there: set[str]) -> tuple[str, bool]:
+    """Takes a file away, or puts one there. Returns the edit, and whether it is found."""
+    if lot.random() < 0.5:
+        left_out = lot.choice(sorted(file for file in there if file.startswith("src/")))
+        return f"{left_out} left out", any(different_files(crate, there - {left_out}))
+    more = lot.choice([f"src/{lot.choice(sorted(crate.laws) or ['more'])}.rs", "build.rs", ".cargo/config.toml"])
+    return f"{more} more", any(different_files(crate, there | {more}))
+
+
+def found_in_text(lot: random.Random, crate: Crate) -> tuple[str, bool] | None:
+    """Makes an edit of a file. Returns it, and whether it is found; or None if it isn't one: if there is no such place, or rustfmt makes
+    of both texts the same."""
+    place = lot.choice(sorted({*crate.sources} & {*crate.outputs} - crate.laws))
+    before = crate.sources[place], crate.outputs[place]
+    name, after = erased_edits.draw(lot, before)
+    if after is None or after == before:
+        return None
+    is_found = bool(compared(*after, crate.laws_below(place), Counter()))
+    if not is_found and after[0] == before[0] and erased_edits.is_the_same(before[1], after[1]):
+        return None
+    return f"src/{place}.rs: {name}" + ("" if is_found else f"\n{change(before, after)}\n"), is_found
+
+
 def edited(number: int, seed: str, source: Path, out: Path) -> int:
-    """Makes edits one by one, and counts those that the check finds. One that rustfmt takes back isn't counted."""
-    counts, lot, texts, laws = Counts(), random.Random(seed), dict[str, erased_edits.Texts](), dict[str, set[str]]()
-    for crate in (read_crate(source, out, name) for name in crates_of(source)):
-        for place in {*crate.sources} & {*crate.outputs} - crate.laws:
-            name = f"{crate.name}/src/{place}"
-            texts[name], laws[name] = (crate.sources[place], crate.outputs[place]), crate.laws_below(place)
+    """Makes edits one by one, and counts those that the check finds. One of twenty is of a whole file."""
+    counts, lot = Counts(), random.Random(seed)
+    crates = [read_crate(source, out, name) for name in crates_of(source)]
+    there = {crate.name: files_of(out / "crates" / crate.name) for crate in crates}
     while counts.passed + counts.failed < number:
-        name, file, (old, new) = erased_edits.draw(lot, texts)
-        is_found = bool(compared(old, new, laws[file], Counter()))
-        if not is_found and old == texts[file][0] and erased_edits.is_the_same(new, texts[file][1]):
-            continue
-        counts.case(f"{file}: {name}", [] if is_found else [f"isn't found:\n{change(texts[file], (old, new))}"])
+        crate = lot.choices(crates, [len(crate.outputs) for crate in crates])[0]
+        made = found_in_files(lot, crate, there[crate.name]) if lot.random() < 0.05 else found_in_text(lot, crate)
+        if made is not None:
+            counts.case(f"{crate.name}/{made[0]}", [] if made[1] else ["isn't found"])
     return counts.summary()
 
 

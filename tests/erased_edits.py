@@ -252,10 +252,7 @@ def is_the_same(one: str, other: str) -> bool:
     return not any(it.returncode for it in made) and made[0].stdout == made[1].stdout
 
 
-def draw(lot: random.Random, texts: dict[str, Texts]) -> tuple[str, str, Texts]:
-    """Draws an edit: its name, the file, and the two texts with the mistake."""
-    while True:
-        name, file = lot.choice(sorted(EDITS)), lot.choice(sorted(texts))
-        edited = EDITS[name](lot, *texts[file])
-        if edited is not None and edited != texts[file]:
-            return name, file, edited
+def draw(lot: random.Random, texts: Texts) -> tuple[str, Texts | None]:
+    """Draws an edit: its name, and both texts with the mistake, or None if it can't make it there."""
+    name = lot.choice(sorted(EDITS))
+    return name, EDITS[name](lot, *texts)

@@ -7,7 +7,8 @@ A proof's text has these forms, and no other is taken for ghost text:
     ensures NAME? {..}  requires NAME? {..}                       the clauses of a function, between its signature and its body
     impl Model for TYPE { ghost .. }                              how clauses see a type: an implementation of ghost members alone
     fn NAME() ensures {..} {}                                     a law: no parameters, no answer, no code but calls of other laws
-    #![tactic(NAME)]  prove!(NAME);                               words to the prover
+    #![tactic(NAME)]  prove!(NAME);                               words to the prover, the second with the fact that it takes
+    'NAME: while ..                                               the label of a loop that nothing leaves by name: proofs name loops by labels
     Drop                                                          in derives and bounds: the prover's word for a type that owns memory
 """
 
@@ -270,16 +271,35 @@ class Reader:
             self.statements(at, end)
 
     def statements(self, at: int, end: int) -> None:
-        """Reads code, in which only `prove!` is ghost text."""
+        """Reads code, in which facts for the prover and labels are ghost text."""
         while at < end:
-            is_first = self.text(at - 1) in ("{", "}", ";")
-            if self.erases and is_first and self.has(at, "prove", "!", "(") and self.has(self.past(at + 2), ";"):
-                behind = self.past(at + 2) + 1
-                self.leave_out("prove!", at, behind)
-                at = behind
+            fact = self.past_fact(at) if self.erases and self.text(at - 1) in ("{", "}", ";") else None
+            if fact is not None:
+                self.leave_out("fact", at, fact)
+            elif self.erases and self.is_ghost_label(at):
+                self.leave_out("label", at, at + 2)
             else:
                 self.keep(at, at + 1)
-                at += 1
+            at = fact or at + (2 if self.erases and self.is_ghost_label(at) else 1)
+
+    def past_fact(self, at: int) -> int | None:
+        """Returns the place behind `let NAME = FACT; prove!(NAME);`, if nothing else uses the name, or None. A fact compares, and
+        changes nothing: it is made of names, numbers and lengths."""
+        behind = self.find(at, len(self.tokens), ";")
+        name = self.text(at + 1)
+        fact = "".join(token.text for token in self.tokens[at + 3:behind])
+        if not self.has(at, "let", name, "=") or not self.has(behind, ";", "prove", "!", "(", name, ")", ";"):
+            return None
+        is_plain = re.fullmatch(r"[\w.]+(\.len\(\))?(==|<=|<)[\w.]+(\.len\(\))?", fact)
+        uses = sum(token.text == name for token in self.tokens)
+        return behind + 7 if is_plain and uses == 2 else None
+
+    def is_ghost_label(self, at: int) -> bool:
+        """Whether the label of a loop begins here that no `break` and no `continue` names."""
+        if self.tokens[at].kind != "lifetime" or not self.has(at + 1, ":") or self.text(at + 2) not in ("while", "for", "loop"):
+            return False
+        close = self.partners[self.find(at + 2, len(self.tokens), "{")]
+        return all(self.text(place) != self.text(at) for place in range(at + 1, close))
 
     # What stands before an item's body.
 

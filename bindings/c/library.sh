@@ -1,9 +1,9 @@
 #!/bin/sh
 # library.sh ARCHIVE FOLDER: makes libzigrunk in FOLDER, with its header and pkg-config file, of the archive that `rt lib`
-# leaves in crates/zigrunk_c/out.
+# leaves in crates/zigrunk_c/out, or of the one that cargo leaves in out/rust/target/release.
 #
-# The archive lacks the kit's three functions over malloc, realloc and free, and its names are all global. So both become
-# one object, in which only the exports are global.
+# The names of an archive are all global. So it becomes one object, in which only the exports are. The archive of `rt lib` lacks the
+# kit's three functions over malloc, realloc and free. That of cargo has Rust's whole library, most of which nothing here needs.
 set -eu
 archive=$(realpath "$1")
 folder=$(realpath -m "$2")
@@ -13,14 +13,21 @@ mkdir -p "$folder/lib/pkgconfig" "$folder/include"
 work=$(mktemp -d)
 trap 'rm -rf "$work"' EXIT
 
-ld -r -z noexecstack -o "$work/whole.o" --whole-archive "$archive" "$kit/c/liblibc_c.a"
+# So that a cross build can name those of its target.
+: "${LD:=ld}" "${AR:=ar}" "${OBJCOPY:=objcopy}"
 sed -n 's/^ *\(zigrunk_[a-z_0-9]*\);$/\1/p' zigrunk.map > "$work/exports"
-objcopy --keep-global-symbols="$work/exports" --strip-unneeded "$work/whole.o" "$work/zigrunk.o"
+if "$AR" t "$archive" | grep -q '^compiler_builtins-'; then
+    # shellcheck disable=SC2046 # a list of words
+    "$LD" -r -z noexecstack --gc-sections --force-group-allocation $(sed 's/^/-u /' "$work/exports") -o "$work/whole.o" "$archive"
+else
+    "$LD" -r -z noexecstack -o "$work/whole.o" --whole-archive "$archive" "$kit/c/liblibc_c.a"
+fi
+"$OBJCOPY" --keep-global-symbols="$work/exports" --strip-unneeded "$work/whole.o" "$work/zigrunk.o"
 
 rm -f "$folder/lib/libzigrunk.a"
-ar rcsD "$folder/lib/libzigrunk.a" "$work/zigrunk.o"
-${CC:-cc} -shared -o "$folder/lib/libzigrunk.so.1" "$work/zigrunk.o" -s \
-    -Wl,-soname,libzigrunk.so.1 -Wl,--version-script=zigrunk.map -Wl,--no-undefined -Wl,-z,relro,-z,now,-z,noexecstack
+"$AR" rcsD "$folder/lib/libzigrunk.a" "$work/zigrunk.o"
+${CC:-cc} -shared -o "$folder/lib/libzigrunk.so.1" "$work/zigrunk.o" -s -Wl,--gc-sections \
+    -Wl,-soname,libzigrunk.so.1 -Wl,--version-script=zigrunk.map -static-libgcc -Wl,--no-undefined -Wl,-z,relro,-z,now,-z,noexecstack
 ln -sf libzigrunk.so.1 "$folder/lib/libzigrunk.so"
 cp zigrunk.h "$folder/include/zigrunk.h"
 cat > "$folder/lib/pkgconfig/zigrunk.pc" << END

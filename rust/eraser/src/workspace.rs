@@ -89,9 +89,10 @@ impl Workspace {
     }
 }
 
-// Whether a manifest takes its version from the workspace.
+// Whether a manifest is of this workspace: it takes its version from it, or it needs crates of it.
 fn is_member(manifest: &Path) -> bool {
-    fs::read_to_string(manifest).is_ok_and(|it| it.contains("version.workspace = true"))
+    let marks = ["version.workspace = true", "\"../crates/"];
+    fs::read_to_string(manifest).is_ok_and(|text| marks.iter().any(|it| text.contains(it)))
 }
 
 // Puts the C functions in place of those of the proved source.

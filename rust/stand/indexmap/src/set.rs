@@ -1,7 +1,7 @@
 //! Sets.
 
 use crate::map::IndexMap;
-use std::alloc::{AllocError, Global};
+use std::alloc::{AllocFailed, Global};
 use std::hash::Hash;
 
 /// A set in the order in which its values were first inserted, whose growth can fail.
@@ -12,11 +12,16 @@ pub struct IndexSet<T> {
 impl<T: Hash + Eq> IndexSet<T> {
     /// An empty set. It doesn't allocate.
     pub const fn new(alloc: Global) -> IndexSet<T> {
-        IndexSet { map: IndexMap::new(alloc) }
+        IndexSet {
+            map: IndexMap::new(alloc),
+        }
     }
 
     /// Inserts a value, and says whether it is new. On an error the set is unchanged.
-    pub fn insert(&mut self, value: T) -> Result<bool, AllocError> {
-        Ok(self.map.insert(value, ())?.is_none())
+    pub fn insert(&mut self, value: T) -> Result<bool, AllocFailed<T>> {
+        match self.map.insert(value, ()) {
+            Ok(before) => Ok(before.is_none()),
+            Err(AllocFailed { value: (value, ()) }) => Err(AllocFailed { value }),
+        }
     }
 }

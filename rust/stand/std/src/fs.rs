@@ -23,7 +23,9 @@ impl Read for File {
 
 /// Opens a file to be read.
 pub fn open<R: Files>(_files: &R, path: &str) -> Result<File> {
-    Ok(File { file: rust_fs::File::open(path)? })
+    Ok(File {
+        file: rust_fs::File::open(path)?,
+    })
 }
 
 /// What the system knows of a file, whose path may be that of a symbolic link to it.

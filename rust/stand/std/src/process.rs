@@ -63,7 +63,12 @@ impl Iterator for CTexts {
     fn next(&mut self) -> Option<&'static [u8]> {
         // SAFETY: `start` says that the list ends in a null pointer, behind which this never goes, that each text ends in a
         // NUL, and that both live as long as the process.
-        let text = unsafe { self.next.as_ref()?.as_ref().map(|text| core::ffi::CStr::from_ptr(text))? };
+        let text = unsafe {
+            self.next
+                .as_ref()?
+                .as_ref()
+                .map(|text| core::ffi::CStr::from_ptr(text))?
+        };
         self.next = self.next.wrapping_add(1);
         Some(text.to_bytes())
     }
@@ -88,7 +93,10 @@ pub unsafe fn start(
     }
     // SAFETY: to ignore a signal calls no code. A write to a pipe that nobody reads is then an error, as in a Rust program.
     unsafe { signal(SIGPIPE, SIG_IGN) };
-    let started = Started { arguments: CTexts { next: arguments }, variables: CTexts { next: variables } };
+    let started = Started {
+        arguments: CTexts { next: arguments },
+        variables: CTexts { next: variables },
+    };
     c_int::from(main(HostRuntime::new(started)).status)
 }
 

@@ -1,0 +1,144 @@
+//! The dry runs of a call, made side by side and compared.
+use crate::machine::{Ended, Event, Job, Machine};
+use crate::planner::{Outline, Words};
+use crate::system::TERM;
+use crate::texts::comparison::{Places, have_same_commands, messages, without_folder};
+
+/// What nvcc says of a call.
+#[derive(Clone, PartialEq, Eq, Debug, Default)]
+pub struct DryRuns {
+    /// Those that are planned.
+    pub first: Vec<u8>,
+    pub second: Vec<u8>,
+    /// Its warnings of the line as it is.
+    pub messages: Vec<u8>,
+}
+
+/// Why there are no dry runs.
+#[derive(Clone, PartialEq, Eq, Debug)]
+pub enum Failed {
+    /// Why nvcc makes the call.
+    ByNvcc(String),
+    /// A signal ended the call.
+    Signal(i32),
+}
+
+/// The call whose dry runs are made.
+#[derive(Clone, Copy, Debug)]
+pub struct Line<'a> {
+    pub nvcc: &'a str,
+    /// Its words, with those of the variables of nvcc's flags.
+    pub words: &'a [String],
+    pub outline: &'a Outline,
+    pub tmp: &'a str,
+    pub cwd: &'a str,
+}
+
+/// A dry run: nvcc gets the words of its variables once.
+fn job(words: Vec<String>, folder: &str) -> Job {
+    let variables = ["NVCC_PREPEND_FLAGS", "NVCC_APPEND_FLAGS"].map(|name| (name.to_owned(), None));
+    Job { words, folder: folder.to_owned(), variables: variables.into(), shares_slot: false }
+}
+
+fn planned_job(words: &Words) -> Job {
+    job(words.words.clone(), &words.folder)
+}
+
+/// Runs jobs side by side in one slot, and waits for all.
+fn all<M: Machine>(machine: &mut M, jobs: &[Job]) -> Result<Vec<Ended>, Failed> {
+    let mut ended: Vec<Option<Ended>> = vec![None; jobs.len()];
+    let mut running = 0;
+    machine.want(true);
+    while running > 0 || ended.iter().any(Option::is_none) {
+        match machine.next() {
+            Event::Slot => {
+                for (number, job) in jobs.iter().enumerate() {
+                    let job = Job { shares_slot: number > 0, ..job.clone() };
+                    if machine.start(number, &job).is_err() {
+                        machine.end_all(TERM);
+                        return Err(Failed::ByNvcc("no process for a dry run".into()));
+                    }
+                    running += 1;
+                }
+                machine.want(false);
+            }
+            Event::Ended(number, one) => {
+                running -= 1;
+                ended[number] = Some(one);
+            }
+            Event::Signal(number) => {
+                machine.end_all(number);
+                return Err(Failed::Signal(number));
+            }
+        }
+    }
+    Ok(ended.into_iter().flatten().collect())
+}
+
+/// Whether a message is of a file that nvcc can't open. With several threads, an nvcc before version 13 reads files that its commands
+/// would have printed to.
+fn is_of_threads(line: &[u8]) -> bool {
+    let line = line.strip_suffix(b"\n").unwrap_or(line);
+    let message = b"Could not open input file ";
+    line.windows(message.len()).any(|part| part == message) && line.ends_with(b"_stdout")
+}
+
+/// The line's own dry run as for one thread, if it failed for several: what it said of the line, and the commands of another.
+fn for_one_thread<M: Machine>(machine: &mut M, line: &Line<'_>, failed: &[u8]) -> Result<Vec<u8>, Failed> {
+    let lines = || failed.split_inclusive(|&byte| byte == b'\n');
+    if !lines().any(is_of_threads) {
+        return Err(fails());
+    }
+    let again = all(machine, &[own_job(line, &["--threads", "1"])])?;
+    let said = lines().filter(|line| !line.starts_with(b"#$ ") && !is_of_threads(line));
+    match again.as_slice() {
+        [again] if again.status.succeeded() => {
+            let commands = again.errors.split_inclusive(|&byte| byte == b'\n').filter(|line| line.starts_with(b"#$ "));
+            Ok(said.chain(commands).flatten().copied().collect())
+        }
+        _ => Err(fails()),
+    }
+}
+
+fn fails() -> Failed {
+    Failed::ByNvcc("a dry run fails".into())
+}
+
+/// The dry run of the line as it is, for what nvcc itself says of it. Those of the plan are made from the line's normal form.
+fn own_job(line: &Line<'_>, further: &[&str]) -> Job {
+    let words = [line.nvcc, "--dryrun"].into_iter().map(String::from).chain(line.words.iter().cloned());
+    job(words.chain(further.iter().copied().map(String::from)).collect(), line.cwd)
+}
+
+/// Makes the dry runs of a call. The first is what the second says without the call's directory, and nvcc makes it only if that doesn't
+/// have the commands of the line, or if the call keeps files. So it doesn't matter which options this nvcc has, and what they mean to it.
+///
+/// # Errors
+///
+/// If a dry run fails, the line's own has other commands, or a signal comes.
+pub fn make<M: Machine>(machine: &mut M, line: &Line<'_>) -> Result<DryRuns, Failed> {
+    let outline = line.outline;
+    let places = Places { cwd: line.cwd, keep_dir: outline.keep_dir.as_deref(), has_rule: outline.dependencies.is_some() };
+    let mut jobs = vec![own_job(line, &[]), planned_job(&outline.second_dry_run)];
+    jobs.extend(outline.keep_dir.is_some().then(|| planned_job(&outline.first_dry_run)));
+    let mut ended = all(machine, &jobs)?.into_iter();
+    let (Some(own), Some(second), first) = (ended.next(), ended.next(), ended.next()) else { return Err(fails()) };
+    let own = if own.status.succeeded() { own.errors } else { for_one_thread(machine, line, &own.errors)? };
+    if [Some(&second), first.as_ref()].into_iter().flatten().any(|run| !run.status.succeeded()) {
+        return Err(fails());
+    }
+    let derived = || without_folder(&second.errors, format!("{}/", line.tmp).as_bytes());
+    let mut commands = first.map_or_else(derived, |first| first.errors);
+    if outline.keep_dir.is_none() && !have_same_commands(&own, &commands, &places) {
+        commands = first_by_nvcc(machine, outline)?;
+    }
+    if !have_same_commands(&own, &commands, &places) {
+        return Err(Failed::ByNvcc("nvcc reads the line otherwise".into()));
+    }
+    Ok(DryRuns { first: commands, second: second.errors, messages: messages(&own) })
+}
+
+fn first_by_nvcc<M: Machine>(machine: &mut M, outline: &Outline) -> Result<Vec<u8>, Failed> {
+    let ended = all(machine, &[planned_job(&outline.first_dry_run)])?;
+    ended.into_iter().find(|run| run.status.succeeded()).map(|run| run.errors).ok_or_else(fails)
+}

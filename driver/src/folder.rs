@@ -1,0 +1,269 @@
+//! The user's folder for temporary files, and the directory of a call in it.
+//!
+//! The user's folder is made once, checked once opened, and never removed: nobody else can come between the check and the use.
+use crate::host::nanoseconds;
+use crate::system::{self, Opening};
+use std::fs::{self, File, Metadata};
+use std::io;
+use std::os::fd::{AsFd, BorrowedFd, OwnedFd};
+use std::os::unix::fs::MetadataExt;
+use std::path::{Path, PathBuf};
+use std::time::Duration;
+
+/// How many equal calls may have directories at once.
+const MOST_EQUAL_CALLS: usize = 64;
+/// How long what a killed call left stays, if no equal call takes it.
+const LEFT_ALONE: Duration = Duration::new(600, 0);
+
+/// An open folder.
+#[derive(Debug)]
+pub struct Folder {
+    file: File,
+    pub path: PathBuf,
+}
+
+impl Folder {
+    /// Opens a folder of this name, and makes it if it isn't there. It has to be the user's alone.
+    ///
+    /// # Errors
+    ///
+    /// If it can't be made, or is another's, or others may use it.
+    pub fn private(above: &Path, name: &str) -> io::Result<Folder> {
+        let parent = File::open(above)?;
+        match system::make_folder(parent.as_fd(), name) {
+            Err(error) if error.kind() != io::ErrorKind::AlreadyExists => return Err(error),
+            _ => {}
+        }
+        let folder = Folder { file: system::open_below(parent.as_fd(), name, Opening::Folder)?.into(), path: above.join(name) };
+        let status = folder.file.metadata()?;
+        let is_private = status.uid() == system::user() && status.mode() & 0o7777 == 0o700;
+        if is_private { Ok(folder) } else { Err(io::ErrorKind::PermissionDenied.into()) }
+    }
+
+    pub fn as_fd(&self) -> BorrowedFd<'_> {
+        self.file.as_fd()
+    }
+
+    /// Whether the folder is still where it was opened.
+    pub fn is_there(&self) -> bool {
+        let place = |status: Metadata| (status.dev(), status.ino());
+        let (opened, named) = (self.file.metadata().map(place), fs::symlink_metadata(&self.path).map(place));
+        matches!((opened, named), (Ok(opened), Ok(named)) if opened == named)
+    }
+
+    /// Whether an open file is still the one of this name.
+    pub fn names(&self, name: &str, file: &File) -> bool {
+        let named = system::open_below(self.as_fd(), name, Opening::Pipe).map(File::from).and_then(|it| it.metadata());
+        matches!((named, file.metadata()), (Ok(named), Ok(own)) if (named.dev(), named.ino()) == (own.dev(), own.ino()))
+    }
+
+    /// Makes a folder in this one. What was there under its name goes.
+    fn make_anew(&self, name: &str) -> io::Result<Folder> {
+        self.clear(name);
+        system::make_folder(self.as_fd(), name)?;
+        Ok(Folder { file: system::open_below(self.as_fd(), name, Opening::Folder)?.into(), path: self.path.join(name) })
+    }
+
+    /// Removes a folder in this one, with all that it holds.
+    fn clear(&self, name: &str) {
+        if self.is_there() {
+            let _ = fs::remove_dir_all(self.path.join(name));
+        }
+    }
+}
+
+/// The directory of a call. Its lock is a file beside it, and lasts as long as the call or its guard lives.
+#[derive(Debug)]
+pub struct CallFolder {
+    folder: Folder,
+    place: Option<Place>,
+}
+
+/// Where a call's directory is: in the user's folder, under a name that is locked.
+#[derive(Debug)]
+struct Place {
+    user: Folder,
+    name: String,
+    lock: OwnedFd,
+}
+
+impl CallFolder {
+    /// The directory of this name, or with a number behind it if a living call has that, in the user's folder below `above`. If that
+    /// folder isn't the user's alone, or the disk has no locks, it is one of a random name.
+    ///
+    /// # Errors
+    ///
+    /// If no directory can be made.
+    pub fn take(above: &Path, name: &str) -> io::Result<CallFolder> {
+        if let Ok(user) = Folder::private(above, &format!("zigrunk-{}", system::user())) {
+            for number in 1..=MOST_EQUAL_CALLS {
+                let name = if number == 1 { name.to_owned() } else { format!("{name}-{number}") };
+                match lock(&user, &name) {
+                    Ok(Some(lock)) => {
+                        let folder = user.make_anew(&name)?;
+                        return Ok(CallFolder { folder, place: Some(Place { user, name, lock }) });
+                    }
+                    Ok(None) => {}
+                    Err(_) => break,
+                }
+            }
+        }
+        random(above)
+    }
+
+    pub fn path(&self) -> &Path {
+        &self.folder.path
+    }
+
+    /// Whether its name is the one that the same call always has, so far as no equal call lives.
+    pub fn is_named(&self) -> bool {
+        self.place.is_some()
+    }
+
+    /// Whether it is still there, with the user's folder.
+    pub fn is_there(&self) -> bool {
+        self.folder.is_there()
+    }
+
+    /// Removes it, and what calls that were killed left long ago.
+    pub fn remove(self) {
+        match &self.place {
+            None => drop(fs::remove_dir_all(self.path())),
+            Some(place) => {
+                place.user.clear(&place.name);
+                let _ = system::remove_below(place.user.as_fd(), &lock_name(&place.name));
+                system::unlock(place.lock.as_fd());
+                remove_left(&place.user);
+            }
+        }
+    }
+}
+
+fn lock_name(name: &str) -> String {
+    format!("{name}.lock")
+}
+
+/// The lock of a name, unless a living call has it.
+fn lock(user: &Folder, name: &str) -> io::Result<Option<OwnedFd>> {
+    let name = lock_name(name);
+    for _ in 0..3 {
+        let file = File::from(system::open_below(user.as_fd(), &name, Opening::Kept)?);
+        if !system::try_lock(file.as_fd())? {
+            return Ok(None);
+        }
+        // Its last holder may have removed it just now.
+        if user.names(&name, &file) {
+            return Ok(Some(file.into()));
+        }
+    }
+    Ok(None)
+}
+
+/// A directory of a name that nobody else has.
+fn random(above: &Path) -> io::Result<CallFolder> {
+    let parent = File::open(above)?;
+    let mut seed = nanoseconds() ^ u64::from(std::process::id()) << 40;
+    for _ in 0..100 {
+        seed = seed.wrapping_mul(6_364_136_223_846_793_005).wrapping_add(1_442_695_040_888_963_407);
+        let name = format!("zigrunk.{:06x}", seed >> 40);
+        match system::make_folder(parent.as_fd(), &name) {
+            Ok(()) => {
+                let file = system::open_below(parent.as_fd(), &name, Opening::Folder)?;
+                return Ok(CallFolder { folder: Folder { file: file.into(), path: above.join(name) }, place: None });
+            }
+            Err(error) if error.kind() == io::ErrorKind::AlreadyExists => {}
+            Err(error) => return Err(error),
+        }
+    }
+    Err(io::ErrorKind::AlreadyExists.into())
+}
+
+/// Removes the directories of calls that were killed long ago.
+fn remove_left(user: &Folder) {
+    let Ok(entries) = fs::read_dir(&user.path) else { return };
+    let is_old = |status: Metadata| status.modified().is_ok_and(|time| time.elapsed().is_ok_and(|age| age > LEFT_ALONE));
+    for entry in entries.flatten() {
+        let file = entry.file_name();
+        let Some(name) = file.to_str().and_then(|name| name.strip_suffix(".lock")) else { continue };
+        if !entry.metadata().is_ok_and(is_old) {
+            continue;
+        }
+        if let Ok(Some(lock)) = lock(user, name) {
+            user.clear(name);
+            let _ = system::remove_below(user.as_fd(), &lock_name(name));
+            system::unlock(lock.as_fd());
+        }
+    }
+}
+
+#[cfg(test)]
+mod tests {
+    use super::*;
+    use std::os::unix::fs::{PermissionsExt, symlink};
+
+    /// A folder for a test, which goes with it.
+    struct Scratch(PathBuf);
+
+    impl Scratch {
+        fn new() -> Scratch {
+            let folder = random(&std::env::temp_dir()).unwrap();
+            Scratch(folder.path().to_owned())
+        }
+    }
+
+    impl Drop for Scratch {
+        fn drop(&mut self) {
+            let _ = fs::remove_dir_all(&self.0);
+        }
+    }
+
+    fn user_name() -> String {
+        format!("zigrunk-{}", system::user())
+    }
+
+    #[test]
+    fn an_equal_call_gets_another_name_and_a_dead_one_leaves_its_own() {
+        let scratch = Scratch::new();
+        let first = CallFolder::take(&scratch.0, "k").unwrap();
+        let second = CallFolder::take(&scratch.0, "k").unwrap();
+        assert_eq!((first.path().file_name(), second.path().file_name()), (Some("k".as_ref()), Some("k-2".as_ref())));
+        fs::write(first.path().join("left"), "").unwrap();
+        drop(first);
+        let third = CallFolder::take(&scratch.0, "k").unwrap();
+        assert_eq!((third.path().file_name(), fs::read_dir(third.path()).unwrap().count()), (Some("k".as_ref()), 0));
+        second.remove();
+        third.remove();
+        assert_eq!(fs::read_dir(scratch.0.join(user_name())).unwrap().count(), 0);
+    }
+
+    #[test]
+    fn a_folder_that_is_not_the_users_alone_is_not_used() {
+        type Spoils = fn(&Path);
+        let cases: [(&str, Spoils); 4] = [
+            ("755", |path| fs::set_permissions(path, PermissionsExt::from_mode(0o755)).unwrap()),
+            ("1700", |path| fs::set_permissions(path, PermissionsExt::from_mode(0o1700)).unwrap()),
+            ("a link", |path| { fs::rename(path, path.with_extension("x")).unwrap(); symlink(path.with_extension("x"), path).unwrap(); }),
+            ("a file", |path| { fs::remove_dir(path).unwrap(); fs::write(path, "").unwrap(); }),
+        ];
+        for (name, spoil) in cases {
+            let scratch = Scratch::new();
+            CallFolder::take(&scratch.0, "k").unwrap().remove();
+            spoil(&scratch.0.join(user_name()));
+            let taken = CallFolder::take(&scratch.0, "k").unwrap();
+            assert!(!taken.is_named() && taken.path().starts_with(&scratch.0), "{name}");
+            assert_eq!(fs::metadata(taken.path()).unwrap().mode() & 0o7777, 0o700);
+            taken.remove();
+        }
+    }
+
+    #[test]
+    fn a_folder_that_vanishes_is_noticed() {
+        let scratch = Scratch::new();
+        let taken = CallFolder::take(&scratch.0, "k").unwrap();
+        assert!(taken.is_there());
+        fs::remove_dir_all(scratch.0.join(user_name())).unwrap();
+        assert!(!taken.is_there());
+        fs::create_dir_all(taken.path()).unwrap();
+        assert!(!taken.is_there(), "another of its name");
+    }
+}

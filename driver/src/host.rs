@@ -1,0 +1,395 @@
+//! The machine on which the driver runs.
+use crate::guard::{Guard, MOST_GROUPS, Shared};
+use crate::jobserver::{Token, Tokens};
+use crate::machine::{Ended, Event, Job, Machine};
+use crate::programs;
+use crate::slots::{BEAT, Slot, Slots};
+use crate::system::{self, CHLD, CONT, Image, KILL, STOP, Signals, Status, TSTP};
+use std::collections::VecDeque;
+use std::env;
+use std::ffi::{CString, OsStr, OsString};
+use std::fs::File;
+use std::io::{self, Read, Seek};
+use std::os::fd::{AsRawFd, OwnedFd, RawFd};
+use std::os::unix::ffi::OsStrExt;
+use std::path::Path;
+use std::ptr;
+use std::time::{Duration, Instant, SystemTime};
+
+/// How many milliseconds a call waits at most until it looks again for a slot of a call that died.
+const LOOK: i32 = 200;
+/// How long commands may take to end after a signal.
+const GRACE: Duration = Duration::from_secs(1);
+
+/// What a job runs in: a slot, and a job of make.
+#[derive(Debug, Default)]
+struct Permit {
+    slot: Option<Slot>,
+    token: Option<Token>,
+}
+
+/// What a process prints to.
+#[derive(Debug)]
+enum Printed {
+    Memory(File),
+    Terminal(File, Vec<u8>),
+}
+
+/// A process that runs.
+#[derive(Debug)]
+struct Running {
+    number: usize,
+    process: i32,
+    /// Its place in what the guard sees.
+    place: usize,
+    permit: Option<Permit>,
+    out: File,
+    errors: Printed,
+    begun: f64,
+}
+
+/// This machine, for one call.
+pub struct Host {
+    signals: Signals,
+    shared: Shared,
+    guard: Option<Guard>,
+    slots: Option<Slots>,
+    tokens: Option<Tokens>,
+    null: File,
+    shows_colours: bool,
+    environment: Vec<(OsString, OsString)>,
+    wants: bool,
+    permit: Option<Permit>,
+    running: Vec<Running>,
+    events: VecDeque<Event>,
+    beaten: Instant,
+}
+
+/// The time in seconds.
+pub fn now() -> f64 {
+    SystemTime::now().duration_since(SystemTime::UNIX_EPOCH).map_or(0.0, |time| time.as_secs_f64())
+}
+
+/// The time in nanoseconds.
+pub fn nanoseconds() -> u64 {
+    let time = SystemTime::now().duration_since(SystemTime::UNIX_EPOCH).unwrap_or_default();
+    time.as_secs() * 1_000_000_000 + u64::from(time.subsec_nanos())
+}
+
+/// All that a file in memory holds.
+fn content(mut file: File) -> Vec<u8> {
+    let mut text = Vec::new();
+    let read = file.rewind().and_then(|()| file.read_to_end(&mut text));
+    read.map_or_else(|_| Vec::new(), |_| text)
+}
+
+impl Printed {
+    /// For a terminal's end that is read.
+    fn drain(&mut self) {
+        let Printed::Terminal(file, text) = self else { return };
+        let mut part = [0; 4096];
+        while let Ok(size @ 1..) = file.read(&mut part) {
+            text.extend_from_slice(&part[..size]);
+        }
+    }
+
+    fn text(mut self) -> Vec<u8> {
+        self.drain();
+        match self {
+            Printed::Memory(file) => content(file),
+            Printed::Terminal(_, text) => text,
+        }
+    }
+}
+
+impl Host {
+    /// This machine, with slots and jobs of make, if they count. Commands get `environment`.
+    ///
+    /// # Errors
+    ///
+    /// If /dev/null can't be opened.
+    pub fn new(signals: Signals, shared: Shared, slots: Option<Slots>, tokens: Option<Tokens>, environment: Vec<(OsString, OsString)>) -> io::Result<Host> {
+        Ok(Host {
+            signals,
+            shared,
+            guard: None,
+            slots,
+            tokens,
+            null: File::options().read(true).write(true).open("/dev/null")?,
+            shows_colours: io::IsTerminal::is_terminal(&io::stderr()),
+            environment,
+            wants: false,
+            permit: None,
+            running: Vec::new(),
+            events: VecDeque::new(),
+            beaten: Instant::now(),
+        })
+    }
+
+    /// Has a guard, which it tells when the call has ended.
+    pub fn guarded_by(&mut self, guard: Guard) {
+        self.guard = Some(guard);
+    }
+
+    pub fn signals(&self) -> &Signals {
+        &self.signals
+    }
+
+    /// Has nothing any more that another call may want. The guard ends.
+    pub fn leave(&mut self) {
+        let permit = self.permit.take();
+        self.give_back(permit);
+        self.slots = None;
+        if let Some(guard) = self.guard.take() {
+            guard.dismiss();
+        }
+    }
+
+    fn give_back(&mut self, permit: Option<Permit>) {
+        let Some(permit) = permit else { return };
+        if let (Some(tokens), Some(token)) = (&mut self.tokens, &permit.token) {
+            tokens.give_back(token);
+        }
+        if let (Some(slots), Some(slot)) = (&self.slots, permit.slot) {
+            slots.give_back(slot);
+        }
+    }
+
+    /// Takes what is lacking of a permit, and says whether it is whole.
+    fn has_permit(&mut self) -> bool {
+        let mut permit = self.permit.take().unwrap_or_default();
+        if let (Some(tokens), None) = (&mut self.tokens, &permit.token) {
+            permit.token = tokens.try_take();
+        }
+        let has_token = self.tokens.is_none() || permit.token.is_some();
+        if let (Some(slots), None, true) = (&self.slots, &permit.slot, has_token) {
+            permit.slot = slots.try_take();
+        }
+        let is_whole = has_token && (self.slots.is_none() || permit.slot.is_some());
+        self.permit = Some(permit);
+        is_whole
+    }
+
+    /// Whether a job may start now. If not, the call waits in its turn.
+    fn may_start(&mut self) -> bool {
+        if self.has_permit() {
+            return true;
+        }
+        let waits = self.permit.as_ref().is_some_and(|permit| permit.token.is_some() || self.tokens.is_none());
+        let has_begun = waits && self.slots.as_mut().is_some_and(Slots::begin_to_wait);
+        has_begun && self.has_permit()
+    }
+
+    /// Takes the signals that have come. A child's end, or a signal that ends the call, is an event.
+    fn take_signals(&mut self) {
+        while let Some(number) = self.signals.next() {
+            match number {
+                CHLD => {
+                    while let Some((process, status)) = system::ended_child() {
+                        self.ended(process, status);
+                    }
+                }
+                TSTP => self.pause(),
+                CONT => self.signal_all(CONT),
+                _ => self.events.push_back(Event::Signal(number)),
+            }
+        }
+    }
+
+    /// Stops all jobs and this process, without its slots, until it is continued.
+    fn pause(&mut self) {
+        self.signal_all(STOP);
+        let permit = self.permit.take();
+        self.give_back(permit);
+        let permits: Vec<Slot> = self.running.iter_mut().filter_map(|it| it.permit.as_mut()?.slot.take()).collect();
+        if let Some(slots) = &mut self.slots {
+            for slot in permits {
+                slots.give_back(slot);
+            }
+            slots.end_to_wait();
+        }
+        Signals::stop();
+        self.signal_all(CONT);
+    }
+
+    fn signal_all(&self, number: i32) {
+        for running in &self.running {
+            system::signal_group(running.process, number);
+        }
+    }
+
+    /// Notes that a child has ended.
+    fn ended(&mut self, process: i32, status: Status) {
+        let Some(at) = self.running.iter().position(|running| running.process == process) else { return };
+        let running = self.running.swap_remove(at);
+        // SAFETY: the place is one of a page that lasts as long as this process.
+        unsafe { ptr::write_volatile(self.shared.group(running.place), 0) };
+        self.keep_or_give_back(running.permit);
+        let ended = Ended { status, out: content(running.out), errors: running.errors.text(), times: (running.begun, now()) };
+        self.events.push_back(Event::Ended(running.number, ended));
+    }
+
+    /// Keeps a permit for the next job, unless an older call wants the slot.
+    fn keep_or_give_back(&mut self, permit: Option<Permit>) {
+        let Some(permit) = permit else { return };
+        let is_wanted = matches!((&self.slots, &permit.slot), (Some(slots), Some(slot)) if slots.is_wanted(slot));
+        if is_wanted || self.permit.is_some() || (self.slots.is_some() && permit.slot.is_none()) {
+            self.give_back(Some(permit));
+        } else {
+            self.permit = Some(permit);
+        }
+    }
+
+    /// Waits until there is something to look at.
+    fn wait(&mut self) {
+        let waits = self.slots.as_ref().and_then(Slots::file);
+        let mut files: Vec<RawFd> = vec![self.signals.number()];
+        files.extend(waits);
+        let lacks_token = self.wants && self.permit.as_ref().is_none_or(|permit| permit.token.is_none());
+        files.extend(self.tokens.as_ref().filter(|_| lacks_token).map(Tokens::file));
+        files.extend(self.running.iter().filter_map(|running| match &running.errors {
+            Printed::Terminal(file, _) => Some(file.as_raw_fd()),
+            Printed::Memory(_) => None,
+        }));
+        let holds = self.permit.is_some() || !self.running.is_empty();
+        let longest = if waits.is_some() { LOOK } else if holds && self.slots.is_some() { BEAT } else { -1 };
+        system::wait_for(&files, longest);
+        if let Some(slots) = &self.slots {
+            slots.awake();
+        }
+        self.running.iter_mut().for_each(|running| running.errors.drain());
+        self.beat();
+    }
+
+    /// Says once a second that this call runs.
+    fn beat(&mut self) {
+        if self.beaten.elapsed().as_millis() < BEAT as u128 {
+            return;
+        }
+        self.beaten = Instant::now();
+        let permits = self.running.iter().filter_map(|running| running.permit.as_ref()).chain(&self.permit);
+        if let Some(slots) = &self.slots {
+            slots.beat(permits.filter_map(|permit| permit.slot.as_ref()));
+        }
+    }
+
+    /// The environment of a job.
+    fn environment_of<'a>(&'a self, job: &'a Job) -> Vec<(&'a OsStr, &'a OsStr)> {
+        let is_kept = |name: &OsStr| !job.variables.iter().any(|(other, _)| name == other.as_str());
+        let kept = self.environment.iter().map(|(name, value)| (name.as_os_str(), value.as_os_str())).filter(|(name, _)| is_kept(name));
+        let given = job.variables.iter().filter_map(|(name, value)| Some((OsStr::new(name), OsStr::new(value.as_ref()?))));
+        kept.chain(given).collect()
+    }
+
+    /// A job as a program to run, or why it can't be run.
+    fn image_of(&self, job: &Job) -> Result<Image, String> {
+        let environment = self.environment_of(job);
+        let path = environment.iter().find(|(name, _)| *name == "PATH").map(|(_, value)| *value).unwrap_or_default();
+        let name = job.words.first().map(String::as_str).unwrap_or_default();
+        let folder = Path::new(&job.folder);
+        let program = programs::find(OsStr::new(name), path, folder).ok_or_else(|| format!("{name}: not found"))?;
+        image(program.as_os_str(), job.words.iter().map(OsStr::new), &environment, &job.folder).map_err(|error| format!("{name}: {error}"))
+    }
+
+    /// The streams that a job prints to: what is read later, and what the job gets for its messages.
+    fn streams(&self) -> io::Result<(File, Printed, OwnedFd)> {
+        let out = system::memory_file()?;
+        if let Some((owner, program)) = self.shows_colours.then(system::terminal).and_then(Result::ok) {
+            return Ok((out, Printed::Terminal(owner, Vec::new()), program));
+        }
+        let errors = system::memory_file()?;
+        let program = errors.try_clone()?.into();
+        Ok((out, Printed::Memory(errors), program))
+    }
+
+    /// A place for a group that nobody has.
+    fn free_place(&self) -> io::Result<usize> {
+        let is_free = |&place: &usize| self.running.iter().all(|running| running.place != place);
+        (0..MOST_GROUPS).find(is_free).ok_or_else(|| io::ErrorKind::ResourceBusy.into())
+    }
+}
+
+/// A program to run, by its path, words, environment and folder.
+///
+/// # Errors
+///
+/// If a text has a NUL.
+pub fn image<'a>(program: &OsStr, words: impl Iterator<Item = &'a OsStr>, environment: &[(&OsStr, &OsStr)], folder: &str) -> io::Result<Image> {
+    let text = |text: &OsStr| CString::new(text.as_bytes());
+    let variables = environment.iter().map(|(name, value)| CString::new([name.as_bytes(), b"=", value.as_bytes()].concat()));
+    let folder = if folder.is_empty() { None } else { Some(CString::new(folder)?) };
+    Ok(Image::new(text(program)?, words.map(text).collect::<Result<_, _>>()?, variables.collect::<Result<_, _>>()?, folder))
+}
+
+/// This process's environment, with one variable in place of what it had.
+pub fn environment_with(name: &str, value: &OsStr) -> Vec<(OsString, OsString)> {
+    let others = env::vars_os().filter(|(other, _)| other != name);
+    others.chain([(name.into(), value.into())]).collect()
+}
+
+impl Machine for Host {
+    fn want(&mut self, wants: bool) {
+        self.wants = wants;
+    }
+
+    fn next(&mut self) -> Event {
+        loop {
+            self.take_signals();
+            if let Some(event) = self.events.pop_front() {
+                return event;
+            }
+            if self.wants && self.may_start() {
+                return Event::Slot;
+            }
+            if !self.wants {
+                let permit = self.permit.take();
+                self.give_back(permit);
+            }
+            if let (Some(slots), true) = (&mut self.slots, !self.wants) {
+                slots.end_to_wait();
+            }
+            self.wait();
+        }
+    }
+
+    fn start(&mut self, number: usize, job: &Job) -> io::Result<()> {
+        let (place, (out, errors, program_errors)) = (self.free_place()?, self.streams()?);
+        let begun = now();
+        let image = match self.image_of(job) {
+            Ok(image) => image,
+            Err(complaint) => {
+                let status = Status { code: 127, signal: None, dumped: false };
+                let errors = format!("zigrunk-nvcc: {complaint}\n").into_bytes();
+                self.events.push_back(Event::Ended(number, Ended { status, out: Vec::new(), errors, times: (begun, begun) }));
+                return Ok(());
+            }
+        };
+        let complaint = CString::new(format!("zigrunk-nvcc: cannot run {}\n", job.words.first().map(String::as_str).unwrap_or_default()))?;
+        let streams = [self.null.as_raw_fd(), out.as_raw_fd(), program_errors.as_raw_fd()];
+        let process = image.start(streams, &self.signals, self.shared.group(place), &complaint)?;
+        let permit = if job.shares_slot { None } else { self.permit.take() };
+        self.running.push(Running { number, process, place, permit, out, errors, begun });
+        Ok(())
+    }
+
+    fn end_all(&mut self, signal: i32) {
+        self.wants = false;
+        let begun = Instant::now();
+        let mut next = signal;
+        while !self.running.is_empty() && next != 0 {
+            self.signal_all(next);
+            self.signal_all(CONT);
+            next = if next == KILL { 0 } else { KILL };
+            while !self.running.is_empty() && begun.elapsed() < if next == 0 { 2 * GRACE } else { GRACE } {
+                system::wait_for(&[self.signals.number()], 20);
+                self.take_signals();
+            }
+        }
+        let permit = self.permit.take();
+        self.give_back(permit);
+    }
+
+    fn now(&self) -> f64 {
+        now()
+    }
+}

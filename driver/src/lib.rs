@@ -1,0 +1,56 @@
+//! One program under several names: zigrunk-nvcc runs the commands of an nvcc call side by side, and through a compiler cache.
+//!
+//! It acts by its name, or by its first word if that isn't a name of its own.
+mod call;
+mod dry_runs;
+mod folder;
+mod guard;
+mod host;
+mod jobserver;
+mod log;
+mod machine;
+mod planner;
+mod products;
+mod programs;
+mod rule;
+mod run;
+mod schedule;
+mod settings;
+mod slots;
+mod system;
+mod tasks;
+mod texts;
+
+pub use system::open_standard_streams;
+
+use std::ffi::{OsStr, OsString};
+use std::path::Path;
+
+const USAGE: &str = "usage: zigrunk-driver nvcc WORD..";
+
+/// What is run under a name.
+fn run_as(name: &OsStr, words: &[OsString]) -> Option<i32> {
+    match name.to_str()? {
+        "zigrunk-nvcc" | "nvcc" => Some(call::make(name, words)),
+        other if other.ends_with("nvcc") => Some(call::make(name, words)),
+        _ => None,
+    }
+}
+
+/// A program's name by a word such as `nvcc`.
+fn named(word: &OsStr) -> OsString {
+    let mut name = OsString::from("zigrunk-");
+    name.push(word);
+    name
+}
+
+/// Acts by a process's words, its own name first. Says its status.
+pub fn run_words(words: &[OsString]) -> i32 {
+    let [own, rest @ ..] = words else { return 2 };
+    let name = Path::new(own).file_name().unwrap_or_default();
+    let by_word = || rest.split_first().and_then(|(name, words)| run_as(&named(name), words));
+    run_as(name, rest).or_else(by_word).unwrap_or_else(|| {
+        eprintln!("{USAGE}");
+        2
+    })
+}

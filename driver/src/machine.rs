@@ -1,0 +1,59 @@
+//! What the driver asks of the machine. Tests have a machine of their own.
+use crate::system::Status;
+use std::io;
+
+/// A process to start.
+#[derive(Clone, PartialEq, Eq, Debug, Default)]
+pub struct Job {
+    /// The program, by its name or path, and its words.
+    pub words: Vec<String>,
+    /// The folder where it runs; empty for the call's own.
+    pub folder: String,
+    /// What its environment has in place of the call's own: values, or nothing if it lacks a variable.
+    pub variables: Vec<(String, Option<String>)>,
+    /// Whether it runs beside another process in the same slot.
+    pub shares_slot: bool,
+}
+
+/// What a process was, once it has ended.
+#[derive(Clone, PartialEq, Debug)]
+pub struct Ended {
+    pub status: Status,
+    pub out: Vec<u8>,
+    pub errors: Vec<u8>,
+    /// When it began and ended, in seconds.
+    pub times: (f64, f64),
+}
+
+/// What comes next.
+#[derive(Debug)]
+pub enum Event {
+    /// A job may start.
+    Slot,
+    /// The job of this number has ended.
+    Ended(usize, Ended),
+    /// A signal ends the call.
+    Signal(i32),
+}
+
+/// A machine that runs jobs.
+pub trait Machine {
+    /// Says whether the call has a job to start, so that it waits for a slot or not.
+    fn want(&mut self, wants: bool);
+
+    /// Waits for what comes next. Without a job that runs or is wanted, that is a signal.
+    fn next(&mut self) -> Event;
+
+    /// Starts a job in the slot that has just come, or in one that another has. Its end has this number.
+    ///
+    /// # Errors
+    ///
+    /// If there is no process or no file for it. The slot stays.
+    fn start(&mut self, number: usize, job: &Job) -> io::Result<()>;
+
+    /// Ends all jobs, by a signal and then by KILL, and waits for them.
+    fn end_all(&mut self, signal: i32);
+
+    /// The time in seconds.
+    fn now(&self) -> f64;
+}

@@ -1,0 +1,223 @@
+//! What the proved crates say of a call: the name of its directory, its dry runs, and its plan. Here their texts become Rust's own.
+use crate::programs::is_program;
+use canonical_names::all_suffixes;
+use command_files::{files_and_needs, preprocesses};
+use command_groups::{CallToPlan, plan_with_origins_within};
+use compilers::command::Cacheable;
+use compilers::compiler::NvccHostCompiler;
+use dry_runs::Which;
+use nvcc_calls::{Answer, directory_name, file_names, read_call};
+use plans::{NvccGeneratedSubcommand, PlanWithOrigins};
+use program_calls::{DirectoryCall, NvccCall};
+use rattle_std::alloc::{AllocError, Global};
+use rattle_std::string::String as Text;
+use rattle_std::vec::Vec as List;
+use std::fs;
+use std::path::Path;
+
+/// The limit on the bytes that a dry run's lines are expanded to. It is far above what a line can make: nvcc wrote these dry runs, and
+/// nobody else.
+const MOST_BYTES: usize = 1 << 28;
+
+/// An nvcc line, and where it is made.
+#[derive(Clone, Debug)]
+pub struct Line {
+    /// The working directory's path.
+    pub cwd: String,
+    /// nvcc's name or path.
+    pub nvcc: String,
+    /// The words behind it.
+    pub words: Vec<String>,
+    /// Those of `NVCC_PREPEND_FLAGS`, `NVCC_APPEND_FLAGS`, `ZIGRUNK_JOBS` and `MAKEFLAGS` that count.
+    pub variables: Vec<(String, String)>,
+}
+
+/// A program's words, its own name first, and the folder where it runs.
+#[derive(Clone, PartialEq, Eq, Debug)]
+pub struct Words {
+    pub folder: String,
+    pub words: Vec<String>,
+}
+
+/// What a line that is split says.
+#[derive(Clone, PartialEq, Eq, Debug)]
+pub struct Outline {
+    /// The command that writes the dependency file, if the line asks for one.
+    pub dependencies: Option<Words>,
+    pub first_dry_run: Words,
+    pub second_dry_run: Words,
+    /// The option that says what nvcc makes, as `-c`.
+    pub flag: String,
+    /// How many commands run at once, if the line or the environment says so.
+    pub jobs: Option<usize>,
+    /// The directory that keeps generated files, if one does.
+    pub keep_dir: Option<String>,
+}
+
+/// A command of a plan.
+#[derive(Clone, PartialEq, Eq, Debug, Default)]
+pub struct PlannedCommand {
+    /// The program's path, and the words behind it.
+    pub program: String,
+    pub words: Vec<String>,
+    pub folder: String,
+    pub variables: Vec<(String, String)>,
+    /// Whether a cache may serve its outputs.
+    pub cacheable: bool,
+    /// Whether it only preprocesses.
+    pub preprocesses: bool,
+    /// The earlier commands that have to end before it starts.
+    pub needs: Vec<usize>,
+    /// The files that it writes.
+    pub writes: Vec<String>,
+}
+
+fn text(text: &str) -> Result<Text, AllocError> {
+    Text::from_str(Global, text)
+}
+
+fn texts(words: &[String]) -> Result<Vec<Text>, AllocError> {
+    words.iter().map(|word| text(word)).collect()
+}
+
+fn pairs(variables: &[(String, String)]) -> Result<Vec<(Text, Text)>, AllocError> {
+    variables.iter().map(|(name, value)| Ok((text(name)?, text(value)?))).collect()
+}
+
+fn string(text: &Text) -> String {
+    text.as_str().to_owned()
+}
+
+fn strings(words: &[Text]) -> Vec<String> {
+    words.iter().map(string).collect()
+}
+
+fn out_of_memory(_: AllocError) -> String {
+    "out of memory".into()
+}
+
+/// The name of a line's directory for temporary files. The same line has the same one each time, since some commands write its path
+/// into what they make.
+///
+/// # Errors
+///
+/// A text that says that memory ran out.
+pub fn directory_of(line: &Line) -> Result<String, String> {
+    let name = || {
+        let words = texts(&line.words)?;
+        let call = DirectoryCall { cwd: &line.cwd, nvcc: &line.nvcc, words: &words };
+        directory_name(Global, &call, &pairs(&line.variables)?)
+    };
+    name().map(|name| string(&name)).map_err(out_of_memory)
+}
+
+/// The text of a plain file. nvcc reads an options file too, and a pipe gives its bytes only once.
+fn options_file(cwd: &str, name: &str) -> Option<(String, String)> {
+    let path = Path::new(cwd).join(name);
+    let content = fs::metadata(&path).is_ok_and(|file| file.is_file()).then(|| fs::read(path).ok())??;
+    Some((name.to_owned(), String::from_utf8(content).ok()?))
+}
+
+/// The words of a command of an outline, whose text is `( unset `NVCC_PREPEND_FLAGS` `NVCC_APPEND_FLAGS`; cd FOLDER && WORD.. )`.
+fn words_of(command: &str) -> Result<Words, String> {
+    let split = shell_words::split(Global, command).map_err(out_of_memory)?;
+    match split.as_ref().map(List::as_slice) {
+        Some([_, _, _, _, _, folder, _, words @ .., _]) => Ok(Words { folder: string(folder), words: strings(words) }),
+        _ => Err("a command has no words".into()),
+    }
+}
+
+/// What becomes of a line whose files go to the directory `tmp`.
+///
+/// # Errors
+///
+/// Why nvcc makes the call unchanged.
+pub fn outline_of(line: &Line, tmp: &str) -> Result<Outline, String> {
+    let words = texts(&line.words).map_err(out_of_memory)?;
+    let variables = pairs(&line.variables).map_err(out_of_memory)?;
+    let names = file_names(Global, &words, &variables).map_err(out_of_memory)?;
+    let files: Vec<(String, String)> = names.as_slice().iter().filter_map(|name| options_file(&line.cwd, name.as_str())).collect();
+    let files = pairs(&files).map_err(out_of_memory)?;
+    let call = NvccCall { cwd: &line.cwd, tmp, nvcc: &line.nvcc, words: &words };
+    match read_call(Global, &call, &variables, &files).map_err(|fault| fault.to_string())? {
+        Answer::Pass(reason) => Err(reason.as_str().to_owned()),
+        Answer::Split(outline) => {
+            let filled = |text: &str| (!text.is_empty()).then(|| text.to_owned());
+            Ok(Outline {
+                dependencies: filled(outline.dependencies.as_str()).map(|text| words_of(&text)).transpose()?,
+                first_dry_run: words_of(outline.first.as_str())?,
+                second_dry_run: words_of(outline.second.as_str())?,
+                flag: outline.flag.as_str().to_owned(),
+                jobs: outline.jobs.as_str().parse().ok(),
+                keep_dir: filled(outline.keep_dir.as_str()),
+            })
+        }
+    }
+}
+
+/// Looks programs up on the disk.
+struct Disk;
+
+impl Which for Disk {
+    fn found(&self, alloc: Global, program: &str, path: &str, cwd: &str) -> Result<Option<Text>, AllocError> {
+        let paths = program_lookups::candidates(alloc, program, path, cwd)?;
+        let found = paths.as_slice().iter().find(|path| is_program(Path::new(path.as_str())));
+        found.map(|found| text(found.as_str())).transpose()
+    }
+}
+
+/// What a plan is of: two dry runs of a call, and where the call is made.
+pub struct ToPlan<'a> {
+    pub dry_runs: [&'a [u8]; 2],
+    pub cwd: &'a str,
+    pub tmp: &'a str,
+    pub flag: &'a str,
+    /// Whether generated files keep nvcc's names.
+    pub keeps: bool,
+}
+
+/// The commands of a call, in plan order.
+///
+/// # Errors
+///
+/// Why there is no plan, or none that runs all commands.
+pub fn plan(of: &ToPlan<'_>) -> Result<Vec<PlannedCommand>, String> {
+    if !directories::is_plain(of.cwd) || !directories::is_plain(of.tmp) {
+        return Err("a directory isn't absolute, or has an empty part, . or ..".into());
+    }
+    let suffixes = all_suffixes(Global, &[]).map_err(|fault| fault.to_string())?;
+    let call = CallToPlan {
+        cwd: of.cwd,
+        tmp: of.tmp,
+        compilation_flag: of.flag,
+        keep_dir: of.keeps.then_some(of.tmp),
+        env_vars: &[],
+        host_compiler: NvccHostCompiler::Gcc,
+        suffixes: &suffixes,
+    };
+    let [dry1, dry2] = of.dry_runs;
+    let planned = plan_with_origins_within(Global, dry1, dry2, &call, &Disk, MOST_BYTES).map_err(|fault| fault.to_string())?;
+    if !planned.plan.dropped.as_slice().is_empty() {
+        return Err("the plan dropped a command".into());
+    }
+    let commands = commands_of(&planned)?;
+    if commands.is_empty() { Err("the plan has no command".into()) } else { Ok(commands) }
+}
+
+/// The commands of a plan, with what each needs and writes.
+fn commands_of(planned: &PlanWithOrigins) -> Result<Vec<PlannedCommand>, String> {
+    let both = files_and_needs(Global, &planned.plan).map_err(out_of_memory)?;
+    let commands = planned.plan.groups.as_slice().iter().flat_map(List::as_slice);
+    let facts = both.files.as_slice().iter().zip(both.needs.as_slice());
+    let command = |(command, (files, needs)): (&NvccGeneratedSubcommand, (&command_files::CommandFiles, &List<usize>))| PlannedCommand {
+        program: command.exe.as_str().to_owned(),
+        words: strings(command.args.as_slice()),
+        folder: command.cwd.as_str().to_owned(),
+        variables: command.env_vars.as_slice().iter().map(|(name, value)| (string(name), string(value))).collect(),
+        cacheable: matches!(command.cacheable, Cacheable::Yes),
+        preprocesses: preprocesses(command.args.as_slice()),
+        needs: needs.as_slice().to_vec(),
+        writes: strings(files.writes.as_slice()),
+    };
+    Ok(commands.zip(facts).map(command).collect())
+}

@@ -1,0 +1,131 @@
+//! Programs on the disk: where one is, and which nvcc a call means.
+use crate::settings::Settings;
+use std::env;
+use std::ffi::{OsStr, OsString};
+use std::fs::{self, Metadata};
+use std::os::unix::ffi::{OsStrExt, OsStringExt};
+use std::os::unix::fs::{MetadataExt, PermissionsExt};
+use std::path::{Path, PathBuf};
+
+/// Whether a path is that of a program.
+pub fn is_program(path: &Path) -> bool {
+    fs::metadata(path).is_ok_and(|file| file.is_file() && file.permissions().mode() & 0o111 != 0)
+}
+
+/// The path of a program by its name and the value of `PATH`, as a shell in `folder` finds it.
+pub fn find(name: &OsStr, path: &OsStr, folder: &Path) -> Option<PathBuf> {
+    if name.as_bytes().contains(&b'/') {
+        let found = folder.join(name);
+        return is_program(&found).then_some(found);
+    }
+    env::split_paths(path).map(|part| folder.join(part).join(name)).find(|found| is_program(found))
+}
+
+/// Whether two files are one.
+fn is_same(one: &Metadata, other: &Metadata) -> bool {
+    (one.dev(), one.ino()) == (other.dev(), other.ino())
+}
+
+/// This program's own file, by which it knows itself under other names.
+struct Own {
+    file: Option<Metadata>,
+    inside: OsString,
+}
+
+impl Own {
+    /// Whether a path is this program.
+    fn is(&self, path: &Path) -> bool {
+        matches!((&self.file, fs::metadata(path)), (Some(own), Ok(other)) if is_same(own, &other))
+    }
+
+    /// Whether a program is this one, or an nvcc that called it. What the driver calls finds in `ZIGRUNK_INSIDE` each nvcc that it came
+    /// through, so a wrapper that ends here again doesn't run in circles.
+    fn includes(&self, path: &Path) -> bool {
+        let mark = [b":", path.as_os_str().as_bytes(), b":"].concat();
+        self.is(path) || self.inside.as_bytes().windows(mark.len()).any(|part| part == mark)
+    }
+
+    /// The first nvcc on `PATH` behind this program's own place there, or else the first one before it.
+    fn next_nvcc(&self, path: &OsStr, folder: &Path) -> Option<PathBuf> {
+        let (mut before, mut behind) = (None, None);
+        for part in env::split_paths(path) {
+            let found = folder.join(part).join("nvcc");
+            if self.is(&found) {
+                before = before.or(behind.take());
+            } else if is_program(&found) && !self.includes(&found) {
+                behind = behind.or(Some(found));
+            }
+        }
+        behind.or(before)
+    }
+}
+
+/// The nvcc of a call.
+#[derive(Clone, Debug)]
+pub struct Compiler {
+    /// Its name or path, as the call has it.
+    pub name: OsString,
+    /// Where it is, if it is anywhere.
+    pub path: Option<PathBuf>,
+    /// What `ZIGRUNK_INSIDE` is for the programs that this call runs.
+    pub inside: OsString,
+}
+
+/// The words of a call without the nvcc that they may begin with, and its name.
+fn named<'a>(settings: &Settings, words: &'a [OsString]) -> (OsString, &'a [OsString]) {
+    match words {
+        [first, rest @ ..] if !first.as_bytes().starts_with(b"-") && (first.as_bytes().ends_with(b"nvcc") || *first == settings.nvcc) => {
+            (first.clone(), rest)
+        }
+        _ => (settings.nvcc.clone(), words),
+    }
+}
+
+/// The nvcc of a call and the words for it, given the name by which this program was started.
+///
+/// # Errors
+///
+/// If the nvcc that the call names is this program, and there is no other.
+pub fn compiler<'a>(settings: &Settings, own_name: &OsStr, words: &'a [OsString]) -> Result<(Compiler, &'a [OsString]), String> {
+    let (mut name, words) = named(settings, words);
+    let path = env::var_os("PATH").unwrap_or_default();
+    let own = Own { file: fs::metadata("/proc/self/exe").ok(), inside: settings.inside.clone() };
+    let mut found = find(&name, &path, Path::new(""));
+    let is_own = found.as_ref().is_some_and(|found| own.includes(found));
+    if is_own || (own_name == "nvcc" && name == "nvcc") {
+        let next = own.next_nvcc(&path, Path::new(""));
+        let lacking = || format!("{} is zigrunk-nvcc itself, and PATH has no other nvcc", name.to_string_lossy());
+        let next = next.ok_or_else(lacking)?;
+        name = next.clone().into_os_string();
+        found = Some(next);
+    }
+    let passed = found.as_ref().map(|path| path.as_os_str().as_bytes()).unwrap_or_default();
+    let before: &[u8] = if settings.inside.is_empty() { b":" } else { settings.inside.as_bytes() };
+    let inside = OsString::from_vec([before, passed, b":"].concat());
+    Ok((Compiler { name, path: found, inside }, words))
+}
+
+#[cfg(test)]
+mod tests {
+    use super::*;
+
+    #[test]
+    fn a_first_word_may_be_the_compiler() {
+        let settings = Settings { nvcc: "my-compiler".into(), ..Settings::default() };
+        let cases = [("/a/nvcc", "/a/nvcc"), ("cross-nvcc", "cross-nvcc"), ("my-compiler", "my-compiler"), ("-Invcc", "my-compiler"), ("k.cu", "my-compiler")];
+        for (first, wanted) in cases {
+            let words = [OsString::from(first), "-c".into()];
+            let (name, rest) = named(&settings, &words);
+            assert_eq!((name.to_str(), rest.len()), (Some(wanted), if first == wanted { 1 } else { 2 }), "{first}");
+        }
+    }
+
+    #[test]
+    fn a_program_is_found_as_a_shell_finds_it() {
+        assert_eq!(find("sh".as_ref(), "/missing:/bin".as_ref(), Path::new("/")), Some("/bin/sh".into()));
+        assert_eq!(find("bin/sh".as_ref(), "".as_ref(), Path::new("/")), Some("/bin/sh".into()));
+        assert_eq!(find("sh".as_ref(), "bin".as_ref(), Path::new("/")), Some("/bin/sh".into()));
+        assert_eq!(find("missing".as_ref(), "/bin".as_ref(), Path::new("/")), None);
+        assert_eq!(find("bin".as_ref(), "/".as_ref(), Path::new("/")), None, "a folder");
+    }
+}

@@ -1,0 +1,247 @@
+//! Runs the commands of a plan on a machine.
+use crate::machine::{Ended, Event, Job, Machine};
+use crate::schedule::{Outcome, Schedule};
+use std::io;
+
+/// A command of a plan, or what writes the dependency file.
+#[derive(Clone, Debug, Default)]
+pub struct Task {
+    pub job: Job,
+    /// The same without the cache, for one that goes through it.
+    pub without_launcher: Option<Job>,
+    /// The earlier tasks that have to end before it starts.
+    pub needs: Vec<usize>,
+    /// Whether the driver may do it itself, without a process.
+    pub is_rule: bool,
+    /// What it is, for the log: a program, what it does, and for which target.
+    pub kind: String,
+}
+
+impl Task {
+    /// The name of its program.
+    fn tool(&self) -> &str {
+        self.kind.split(' ').next().unwrap_or_default()
+    }
+}
+
+/// What became of a task.
+#[derive(Clone, Debug, Default)]
+pub struct Done {
+    /// When it could have started but for slots, in seconds.
+    pub asked: f64,
+    /// How it ended. `None` if it never began, or if the driver did it itself.
+    pub ended: Option<Ended>,
+}
+
+impl Done {
+    fn failed(&self) -> bool {
+        self.ended.as_ref().is_some_and(|ended| !ended.status.succeeded())
+    }
+}
+
+/// Why the tasks of a plan didn't come to their end.
+#[derive(Clone, PartialEq, Eq, Debug)]
+pub enum Stopped {
+    /// A signal ended the call.
+    Signal(i32),
+    /// A process couldn't be started.
+    NoProcess(String),
+}
+
+/// What tells of tasks that end.
+pub trait Watch {
+    /// Does a task without a process, if that is possible.
+    fn make_rule(&mut self) -> bool;
+    /// Hears that the cache refuses a command: it runs without it.
+    fn refused(&mut self, tool: &str);
+}
+
+/// The words with which a cache says that it doesn't know a compiler.
+const REFUSAL: &[u8] = b"Compiler not supported";
+
+/// A plan while it runs.
+struct Run<'a, M, W> {
+    machine: &'a mut M,
+    watch: &'a mut W,
+    tasks: &'a [Task],
+    schedule: Schedule,
+    done: Vec<Done>,
+    /// Tasks that run once more, without the cache.
+    again: Vec<usize>,
+    /// What the cache refuses.
+    refused: Vec<&'a str>,
+    /// Whether each task was started through the cache.
+    launched: Vec<bool>,
+}
+
+/// Runs tasks, so many at once, until all have ended or one has failed and all before it have ended. Says what became of each.
+///
+/// # Errors
+///
+/// If a signal comes, or no process can be started though none runs. Then no task runs any more.
+pub fn run<M: Machine, W: Watch>(machine: &mut M, watch: &mut W, tasks: &[Task], at_once: usize) -> Result<Vec<Done>, Stopped> {
+    let schedule = Schedule::new(tasks.iter().map(|task| task.needs.clone()).collect(), at_once.max(1));
+    let done = vec![Done::default(); tasks.len()];
+    let mut run = Run { machine, watch, tasks, schedule, done, again: Vec::new(), refused: Vec::new(), launched: vec![false; tasks.len()] };
+    let ended = run.run_all();
+    if let Err(stopped) = &ended {
+        run.machine.end_all(if let Stopped::Signal(number) = stopped { *number } else { crate::system::TERM });
+    }
+    ended.map(|()| run.done)
+}
+
+impl<M: Machine, W: Watch> Run<'_, M, W> {
+    fn run_all(&mut self) -> Result<(), Stopped> {
+        let mut is_held_back = false;
+        loop {
+            self.make_rules();
+            if self.schedule.over() {
+                self.machine.want(false);
+                return Ok(());
+            }
+            let next = self.again.last().copied().or_else(|| self.schedule.next());
+            self.note_asked(next);
+            self.machine.want(next.is_some() && !is_held_back);
+            match self.machine.next() {
+                Event::Slot => is_held_back = self.start(next)?,
+                Event::Ended(number, ended) => {
+                    is_held_back = false;
+                    self.ended(number, ended);
+                }
+                Event::Signal(number) => return Err(Stopped::Signal(number)),
+            }
+        }
+    }
+
+    /// Does what needs no process.
+    fn make_rules(&mut self) {
+        while let Some(next) = self.schedule.next().filter(|&next| self.tasks[next].is_rule) {
+            if !self.watch.make_rule() {
+                return;
+            }
+            self.schedule.started(next);
+            self.schedule.ended(next, Outcome::Success);
+        }
+    }
+
+    fn note_asked(&mut self, next: Option<usize>) {
+        if let Some(done) = next.map(|next| &mut self.done[next]).filter(|done| done.asked == 0.0) {
+            done.asked = self.machine.now();
+        }
+    }
+
+    /// Starts a task. Says whether none can be started until another ends.
+    fn start(&mut self, next: Option<usize>) -> Result<bool, Stopped> {
+        let Some(next) = next else { return Ok(false) };
+        let task = &self.tasks[next];
+        let bare = task.without_launcher.as_ref().filter(|_| self.refused.contains(&task.tool()));
+        match self.machine.start(next, bare.unwrap_or(&task.job)) {
+            Ok(()) => {
+                self.launched[next] = task.without_launcher.is_some() && bare.is_none();
+                if self.again.pop().is_none() {
+                    self.schedule.started(next);
+                }
+                Ok(false)
+            }
+            Err(_) if self.schedule.running() > self.again.len() => Ok(true),
+            Err(error) => Err(Stopped::NoProcess(format!("no process for a command: {}", plain(&error)))),
+        }
+    }
+
+    fn ended(&mut self, number: usize, ended: Ended) {
+        let task = &self.tasks[number];
+        let is_refusal = !ended.status.succeeded() && contains(&ended.errors, REFUSAL);
+        if is_refusal && self.launched[number] {
+            if !self.refused.contains(&task.tool()) {
+                self.refused.push(task.tool());
+                self.watch.refused(task.tool());
+            }
+            self.again.push(number);
+            return;
+        }
+        self.done[number].ended = Some(ended);
+        let outcome = if self.done[number].failed() { Outcome::Failure } else { Outcome::Success };
+        self.schedule.ended(number, outcome);
+    }
+}
+
+fn contains(text: &[u8], part: &[u8]) -> bool {
+    text.windows(part.len()).any(|window| window == part)
+}
+
+/// An error's text without the number that std adds.
+fn plain(error: &io::Error) -> String {
+    let text = error.to_string();
+    text.split(" (os error").next().unwrap_or_default().to_owned()
+}
+
+#[cfg(test)]
+mod tests {
+    use super::*;
+    use crate::system::Status;
+    use std::collections::VecDeque;
+
+    /// A machine whose jobs end in the order in which they start, with the statuses that their words say.
+    #[derive(Default)]
+    struct Fake {
+        wants: bool,
+        running: VecDeque<(usize, Job)>,
+        started: Vec<String>,
+    }
+
+    impl Machine for Fake {
+        fn want(&mut self, wants: bool) {
+            self.wants = wants;
+        }
+
+        fn next(&mut self) -> Event {
+            if self.wants {
+                return Event::Slot;
+            }
+            let (number, job) = self.running.pop_front().expect("something runs");
+            let code = job.words[1].parse().unwrap();
+            let errors = job.words.get(2).map(|text| text.clone().into_bytes()).unwrap_or_default();
+            Event::Ended(number, Ended { status: Status { code, signal: None, dumped: false }, out: Vec::new(), errors, times: (1.0, 2.0) })
+        }
+
+        fn start(&mut self, number: usize, job: &Job) -> io::Result<()> {
+            self.started.push(job.words.join(" "));
+            self.running.push_back((number, job.clone()));
+            Ok(())
+        }
+
+        fn end_all(&mut self, _: i32) {
+            self.running.clear();
+        }
+
+        fn now(&self) -> f64 {
+            1.0
+        }
+    }
+
+    struct NoWatch(Vec<String>);
+
+    impl Watch for NoWatch {
+        fn make_rule(&mut self) -> bool {
+            false
+        }
+
+        fn refused(&mut self, tool: &str) {
+            self.0.push(tool.to_owned());
+        }
+    }
+
+    fn task(words: &str, needs: &[usize]) -> Task {
+        let job = Job { words: words.split(' ').map(String::from).collect(), ..Job::default() };
+        Task { job, needs: needs.to_vec(), kind: words.split(' ').next().unwrap().to_owned(), ..Task::default() }
+    }
+
+    #[test]
+    fn all_commands_run() {
+        let tasks = [task("a 0", &[]), task("b 0", &[0]), task("c 0", &[0]), task("d 0", &[1, 2]), task("e 0", &[3]), task("f 0", &[0, 1, 2, 3, 4]), task("g 0", &[0, 1, 2, 3, 4, 5])];
+        let mut machine = Fake::default();
+        let done = run(&mut machine, &mut NoWatch(vec![]), &tasks, 9).unwrap();
+        assert_eq!(machine.started, ["a 0", "b 0", "c 0", "d 0", "e 0", "f 0", "g 0"]);
+        assert!(done.iter().all(|done| done.ended.is_some()));
+    }
+}

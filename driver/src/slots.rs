@@ -1,0 +1,318 @@
+//! Slots: how many commands of all the user's calls on this machine run at once.
+//!
+//! A slot is a file that a call locks, so the kernel frees it if the call dies. A call that waits has a ticket, a named pipe beside the
+//! slots with the call's age in its name. Older calls come first: a call takes a slot only if no older one waits for it. Who gives a
+//! slot back wakes the oldest call that waits for it, by a byte in its ticket. Holders and waiters touch their files each second. What
+//! wasn't touched for some seconds belongs to a call that is stopped or frozen, and doesn't count.
+use crate::folder::Folder;
+use crate::system::{self, Opening};
+use std::fs::{self, File};
+use std::io;
+use std::os::fd::{AsFd, AsRawFd, OwnedFd, RawFd};
+use std::path::{Path, PathBuf};
+use std::time::{Duration, SystemTime};
+
+/// How long a call that doesn't touch its files counts.
+const STALE: Duration = Duration::from_secs(5);
+/// How often holders and waiters touch their files, in milliseconds.
+pub const BEAT: i32 = 1000;
+
+/// A slot that a call has.
+#[derive(Debug)]
+pub struct Slot {
+    number: usize,
+    file: File,
+}
+
+/// A call that waits: its age, how many slots it shares, and its process.
+#[derive(Clone, Copy, PartialEq, Eq, PartialOrd, Ord, Debug)]
+struct Waiter {
+    age: u64,
+    process: i32,
+    count: usize,
+}
+
+impl Waiter {
+    fn name(self) -> String {
+        format!("wait-{:020}-{}-{}", self.age, self.process, self.count)
+    }
+
+    fn named(name: &str) -> Option<Waiter> {
+        let mut parts = name.strip_prefix("wait-")?.split('-');
+        let (age, process, count) = (parts.next()?.parse().ok()?, parts.next()?.parse().ok()?, parts.next()?.parse().ok()?);
+        parts.next().is_none().then_some(Waiter { age, process, count })
+    }
+}
+
+/// What a call that waits reads.
+#[derive(Debug)]
+struct Ticket {
+    file: OwnedFd,
+    name: String,
+}
+
+/// The slots of a machine, for one call.
+#[derive(Debug)]
+pub struct Slots {
+    folder: Folder,
+    own: Waiter,
+    ticket: Option<Ticket>,
+}
+
+/// Whether a file was touched within the last seconds.
+fn is_fresh(file: &File) -> bool {
+    let age = file.metadata().and_then(|it| it.modified()).ok().and_then(|time| SystemTime::now().duration_since(time).ok());
+    age.is_none_or(|age| age < STALE)
+}
+
+impl Slots {
+    /// So many slots, for a call of this age, in the first of these folders that takes locks. `None` if none does.
+    pub fn open(count: usize, age: u64, places: &[PathBuf]) -> Option<Slots> {
+        let own = Waiter { age, process: system::process(), count };
+        places.iter().find_map(|place| Slots::open_in(place, own).ok())
+    }
+
+    fn open_in(place: &Path, own: Waiter) -> io::Result<Slots> {
+        let folder = Folder::private(place, &format!("zigrunk-slots-{}", system::user()))?;
+        let first = system::open_below(folder.as_fd(), "1", Opening::Kept)?;
+        system::try_lock(first.as_fd())?;
+        Ok(Slots { folder, own, ticket: None })
+    }
+
+    /// The calls that wait, oldest first.
+    fn waiters(&self) -> Vec<Waiter> {
+        let entries = fs::read_dir(&self.folder.path).into_iter().flatten().flatten();
+        let mut waiters: Vec<Waiter> = entries.filter_map(|entry| Waiter::named(entry.file_name().to_str()?)).collect();
+        waiters.sort_unstable();
+        waiters
+    }
+
+    /// Whether a call waits, and can. The ticket of one that is dead goes.
+    fn is_alive(&self, waiter: Waiter) -> bool {
+        let Ok(file) = system::open_below(self.folder.as_fd(), &waiter.name(), Opening::Pipe).map(File::from) else { return false };
+        if system::try_lock(file.as_fd()).unwrap_or(false) {
+            let _ = system::remove_below(self.folder.as_fd(), &waiter.name());
+            return false;
+        }
+        is_fresh(&file)
+    }
+
+    /// The greatest number of a slot that an older call waits for.
+    fn taken_by_older(&self) -> usize {
+        let mut most = 0;
+        for waiter in self.waiters().into_iter().take_while(|&waiter| waiter < self.own) {
+            if waiter.count > most && self.is_alive(waiter) {
+                most = waiter.count;
+            }
+        }
+        most
+    }
+
+    /// A free slot, if there is one that no older call waits for. Calls with more slots leave the first ones to others.
+    pub fn try_take(&self) -> Option<Slot> {
+        let left_to_others = self.taken_by_older();
+        let mut stale = 0;
+        for number in (left_to_others + 1..=self.own.count).rev() {
+            match self.lock(number) {
+                Ok(slot) => return Some(slot),
+                Err(is_stale) => stale += usize::from(is_stale),
+            }
+        }
+        if left_to_others > 0 {
+            return None;
+        }
+        (self.own.count + 1..=self.own.count + stale).find_map(|number| self.lock(number).ok())
+    }
+
+    /// The slot of a number, or whether its holder can't run.
+    fn lock(&self, number: usize) -> Result<Slot, bool> {
+        let file = File::from(system::open_below(self.folder.as_fd(), &number.to_string(), Opening::Kept).map_err(|_| false)?);
+        if system::try_lock(file.as_fd()).unwrap_or(false) {
+            system::touch(file.as_fd());
+            return Ok(Slot { number, file });
+        }
+        Err(!is_fresh(&file))
+    }
+
+    /// Whether an older call waits for a slot that this call has.
+    pub fn is_wanted(&self, slot: &Slot) -> bool {
+        slot.number > self.own.count || self.taken_by_older() >= slot.number
+    }
+
+    /// Gives a slot back, and wakes the oldest call that waits for it.
+    pub fn give_back(&self, slot: Slot) {
+        let number = slot.number;
+        drop(slot);
+        for waiter in self.waiters() {
+            let is_other = waiter != self.own && waiter.count >= number;
+            if is_other && self.is_alive(waiter) && self.wake(waiter) {
+                return;
+            }
+        }
+    }
+
+    fn wake(&self, waiter: Waiter) -> bool {
+        let pipe = system::open_below(self.folder.as_fd(), &waiter.name(), Opening::PipeToWrite);
+        pipe.is_ok_and(|pipe| system::write_byte(pipe.as_fd(), b'+'))
+    }
+
+    /// Begins to wait, if this call doesn't yet. Says whether it has just begun: then a slot may be free by now.
+    pub fn begin_to_wait(&mut self) -> bool {
+        if self.ticket.is_some() {
+            return false;
+        }
+        let name = self.own.name();
+        for _ in 0..3 {
+            let made = system::make_pipe(self.folder.as_fd(), &name);
+            let opened = system::open_below(self.folder.as_fd(), &name, Opening::Pipe).map(File::from);
+            let (Ok(()), Ok(file)) = (made, opened) else { return false };
+            // Another call may take it for that of a dead one before it is locked.
+            if system::try_lock(file.as_fd()).unwrap_or(false) && self.folder.names(&name, &file) {
+                self.ticket = Some(Ticket { file: file.into(), name });
+                return true;
+            }
+        }
+        false
+    }
+
+    /// Doesn't wait any longer, and wakes the next one, which may have waited for this call.
+    pub fn end_to_wait(&mut self) {
+        let Some(ticket) = self.ticket.take() else { return };
+        let _ = system::remove_below(self.folder.as_fd(), &ticket.name);
+        drop(ticket);
+        let next = self.waiters().into_iter().find(|&waiter| self.is_alive(waiter));
+        if let Some(waiter) = next {
+            self.wake(waiter);
+        }
+    }
+
+    /// The file that can be read if a slot may be free.
+    pub fn file(&self) -> Option<RawFd> {
+        self.ticket.as_ref().map(|ticket| ticket.file.as_raw_fd())
+    }
+
+    /// Takes the bytes out of the ticket.
+    pub fn awake(&self) {
+        let mut byte = 0;
+        while self.ticket.as_ref().is_some_and(|ticket| system::read_byte(ticket.file.as_fd(), &raw mut byte)) {}
+    }
+
+    /// Says that this call runs, with these slots.
+    pub fn beat<'a>(&self, slots: impl Iterator<Item = &'a Slot>) {
+        slots.for_each(|slot| system::touch(slot.file.as_fd()));
+        if let Some(ticket) = &self.ticket {
+            system::touch(ticket.file.as_fd());
+        }
+    }
+}
+
+impl Drop for Slots {
+    fn drop(&mut self) {
+        self.end_to_wait();
+    }
+}
+
+#[cfg(test)]
+mod tests {
+    use super::*;
+    use crate::folder::CallFolder;
+
+    /// Slots of several calls in a folder of a test, which goes with it.
+    struct Room(Option<CallFolder>);
+
+    impl Room {
+        fn new() -> Room {
+            Room(Some(CallFolder::take(&std::env::temp_dir(), "slots-of-a-test").unwrap()))
+        }
+
+        fn slots(&self, count: usize, age: u64) -> Slots {
+            Slots::open(count, age, &[self.0.as_ref().unwrap().path().to_owned()]).unwrap()
+        }
+    }
+
+    impl Drop for Room {
+        fn drop(&mut self) {
+            self.0.take().map(CallFolder::remove);
+        }
+    }
+
+    #[test]
+    fn names_say_who_waits() {
+        let waiter = Waiter { age: 12, process: 34, count: 5 };
+        assert_eq!(Waiter::named(&waiter.name()), Some(waiter));
+        for name in ["wait-1-2", "wait-1-2-3-4", "wait-a-2-3", "1", "wait-"] {
+            assert_eq!(Waiter::named(name), None, "{name}");
+        }
+        assert!(Waiter { age: 9, process: 9, count: 1 }.name() < Waiter { age: 10, process: 1, count: 1 }.name());
+    }
+
+    #[test]
+    fn the_last_slot_goes_first_and_no_more_than_all() {
+        let room = Room::new();
+        let (one, other) = (room.slots(2, 1), room.slots(2, 2));
+        let first = one.try_take().unwrap();
+        assert_eq!(first.number, 2);
+        let second = other.try_take().unwrap();
+        assert_eq!(second.number, 1);
+        assert!(one.try_take().is_none() && other.try_take().is_none());
+        one.give_back(first);
+        assert_eq!(other.try_take().unwrap().number, 2);
+    }
+
+    #[test]
+    fn older_calls_come_first() {
+        let room = Room::new();
+        let (mut old, mut young) = (room.slots(1, 1), room.slots(1, 2));
+        let holder = room.slots(1, 3);
+        let slot = holder.try_take().unwrap();
+        assert!(young.begin_to_wait() && old.begin_to_wait() && !old.begin_to_wait());
+        assert!(holder.is_wanted(&slot));
+        holder.give_back(slot);
+        assert_eq!((old.file().map(|file| system::wait_for(&[file], 0)), young.file().map(|file| system::wait_for(&[file], 0))), (Some(vec![true]), Some(vec![false])));
+        assert!(young.try_take().is_none(), "an older one waits");
+        let slot = old.try_take().unwrap();
+        old.end_to_wait();
+        assert_eq!(young.file().map(|file| system::wait_for(&[file], 0)), Some(vec![true]), "the next one looks again");
+        assert!(young.try_take().is_none(), "it is taken");
+        old.give_back(slot);
+        assert!(young.try_take().is_some());
+    }
+
+    #[test]
+    fn a_call_with_fewer_slots_holds_up_no_others() {
+        let room = Room::new();
+        let (mut few, many) = (room.slots(1, 1), room.slots(2, 2));
+        let first = room.slots(1, 3).try_take().unwrap();
+        assert!(few.begin_to_wait());
+        assert_eq!(many.try_take().unwrap().number, 2);
+        drop(first);
+        assert!(many.try_take().is_none_or(|slot| slot.number == 2), "the first slot is left to the older one");
+    }
+
+    #[test]
+    fn what_is_not_touched_does_not_count() {
+        let room = Room::new();
+        let (mut stopped, other) = (room.slots(1, 1), room.slots(1, 2));
+        let slot = stopped.try_take().unwrap();
+        assert!(stopped.begin_to_wait());
+        assert!(other.try_take().is_none());
+        let long_ago = fs::FileTimes::new().set_modified(SystemTime::now() - 2 * STALE);
+        slot.file.set_times(long_ago).unwrap();
+        let ticket = File::from(stopped.ticket.as_ref().unwrap().file.try_clone().unwrap());
+        ticket.set_times(long_ago).unwrap();
+        assert_eq!(other.try_take().unwrap().number, 2);
+        stopped.beat([&slot].into_iter());
+        assert!(other.try_take().is_none());
+    }
+
+    #[test]
+    fn the_ticket_of_a_dead_call_goes() {
+        let room = Room::new();
+        let slots = room.slots(1, 2);
+        let dead = Waiter { age: 1, process: 1, count: 1 };
+        system::make_pipe(slots.folder.as_fd(), &dead.name()).unwrap();
+        assert_eq!(slots.waiters(), [dead]);
+        assert!(slots.try_take().is_some());
+        assert_eq!(slots.waiters(), []);
+    }
+}

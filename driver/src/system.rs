@@ -1,0 +1,513 @@
+//! The calls of Linux that std lacks, each behind a safe function: files below a folder, locks, signals, memory files, processes.
+//!
+//! They are declared by hand: these few are all that is needed, and the crate `libc` would be the only one from outside.
+use std::ffi::{CStr, CString, c_char, c_int, c_long, c_uint, c_ulong, c_void};
+use std::fs::File;
+use std::io;
+use std::os::fd::{AsRawFd, BorrowedFd, FromRawFd, OwnedFd, RawFd};
+use std::ptr;
+
+type Handler = usize;
+const DEFAULT: Handler = 0;
+const IGNORED: Handler = 1;
+
+/// A set of signals, as the kernel has it: bit n-1 is signal n.
+type SignalSet = [u64; 16];
+
+pub const HUP: i32 = 1;
+pub const INT: i32 = 2;
+pub const KILL: i32 = 9;
+pub const TERM: i32 = 15;
+pub const CHLD: i32 = 17;
+pub const CONT: i32 = 18;
+pub const STOP: i32 = 19;
+pub const TSTP: i32 = 20;
+
+/// The error of a file that is no program.
+const NO_FORMAT: i32 = 8;
+
+const CREATE: c_int = 0o100;
+const UNBLOCKED: c_int = 0o4000;
+const CLOSE_ON_EXEC: c_int = 0o2_000_000;
+#[cfg(target_arch = "aarch64")]
+const FOLDER: c_int = 0o40000;
+#[cfg(target_arch = "aarch64")]
+const NO_LINK: c_int = 0o100_000;
+#[cfg(not(target_arch = "aarch64"))]
+const FOLDER: c_int = 0o200_000;
+#[cfg(not(target_arch = "aarch64"))]
+const NO_LINK: c_int = 0o400_000;
+
+#[repr(C)]
+#[derive(Clone, Copy)]
+pub struct PollFd {
+    fd: RawFd,
+    events: i16,
+    ready: i16,
+}
+
+#[repr(C)]
+struct Times([[c_long; 2]; 2]);
+
+unsafe extern "C" {
+    fn _exit(status: c_int) -> !;
+    fn chdir(path: *const c_char) -> c_int;
+    fn dup2(from: c_int, to: c_int) -> c_int;
+    fn execve(path: *const c_char, argv: *const *const c_char, envp: *const *const c_char) -> c_int;
+    fn fcntl(fd: c_int, what: c_int, ...) -> c_int;
+    fn flock(fd: c_int, how: c_int) -> c_int;
+    fn fork() -> c_int;
+    fn futimens(fd: c_int, times: *const Times) -> c_int;
+    fn geteuid() -> c_uint;
+    fn getpid() -> c_int;
+    fn getppid() -> c_int;
+    fn getrlimit(what: c_int, limit: *mut [c_ulong; 2]) -> c_int;
+    fn grantpt(fd: c_int) -> c_int;
+    fn kill(pid: c_int, signal: c_int) -> c_int;
+    fn memfd_create(name: *const c_char, flags: c_uint) -> c_int;
+    fn mkdirat(folder: c_int, name: *const c_char, mode: c_uint) -> c_int;
+    fn mkfifoat(folder: c_int, name: *const c_char, mode: c_uint) -> c_int;
+    fn mmap(at: *mut c_void, size: usize, protection: c_int, flags: c_int, fd: c_int, offset: c_long) -> *mut c_void;
+    fn openat(folder: c_int, name: *const c_char, flags: c_int, ...) -> c_int;
+    fn pipe2(ends: *mut [c_int; 2], flags: c_int) -> c_int;
+    fn poll(fds: *mut PollFd, count: c_ulong, milliseconds: c_int) -> c_int;
+    fn posix_openpt(flags: c_int) -> c_int;
+    fn prctl(what: c_int, value: c_ulong) -> c_int;
+    fn ptsname_r(fd: c_int, name: *mut c_char, size: usize) -> c_int;
+    fn raise(signal: c_int) -> c_int;
+    fn read(fd: c_int, to: *mut c_void, size: usize) -> isize;
+    fn sched_getaffinity(pid: c_int, size: usize, mask: *mut c_void) -> c_int;
+    fn setpgid(pid: c_int, group: c_int) -> c_int;
+    fn signal(number: c_int, handler: Handler) -> Handler;
+    fn signalfd(fd: c_int, set: *const SignalSet, flags: c_int) -> c_int;
+    fn sigprocmask(how: c_int, set: *const SignalSet, old: *mut SignalSet) -> c_int;
+    fn tcgetattr(fd: c_int, modes: *mut [u32; 16]) -> c_int;
+    fn tcsetattr(fd: c_int, when: c_int, modes: *const [u32; 16]) -> c_int;
+    fn unlinkat(folder: c_int, name: *const c_char, flags: c_int) -> c_int;
+    fn unlockpt(fd: c_int) -> c_int;
+    fn waitpid(pid: c_int, status: *mut c_int, options: c_int) -> c_int;
+    fn write(fd: c_int, from: *const c_void, size: usize) -> isize;
+}
+
+fn checked(answer: c_int) -> io::Result<c_int> {
+    if answer < 0 { Err(io::Error::last_os_error()) } else { Ok(answer) }
+}
+
+fn owned(answer: c_int) -> io::Result<OwnedFd> {
+    // SAFETY: the call that gave this number has just opened it for us.
+    checked(answer).map(|number| unsafe { OwnedFd::from_raw_fd(number) })
+}
+
+/// The effective user's number.
+pub fn user() -> u32 {
+    unsafe { geteuid() }
+}
+
+/// This process's number.
+pub fn process() -> i32 {
+    unsafe { getpid() }
+}
+
+/// How many processors this process may use.
+pub fn processors() -> usize {
+    let mut mask = [0_u8; 1024];
+    let size = unsafe { sched_getaffinity(0, mask.len(), mask.as_mut_ptr().cast()) };
+    if size < 0 { 1 } else { mask.iter().map(|byte| byte.count_ones() as usize).sum() }
+}
+
+/// How many files this process may have open.
+pub fn most_files() -> u64 {
+    let mut limit = [0; 2];
+    if unsafe { getrlimit(7, &raw mut limit) } < 0 { u64::MAX } else { limit[0] }
+}
+
+/// A file in memory, which no program that is run inherits by itself.
+pub fn memory_file() -> io::Result<File> {
+    owned(unsafe { memfd_create(c"said".as_ptr(), 1) }).map(File::from)
+}
+
+/// Both ends of a pipe, first the one to read.
+pub fn pipe() -> io::Result<(OwnedFd, OwnedFd)> {
+    let mut ends = [0; 2];
+    checked(unsafe { pipe2(&raw mut ends, CLOSE_ON_EXEC) })?;
+    Ok(unsafe { (OwnedFd::from_raw_fd(ends[0]), OwnedFd::from_raw_fd(ends[1])) })
+}
+
+/// How a file below a folder is opened.
+#[derive(Clone, Copy)]
+pub enum Opening {
+    /// A folder, and no link to one.
+    Folder,
+    /// A file to read and write, which is made if it isn't there.
+    Kept,
+    /// A named pipe, to read and write, without waiting for anybody.
+    Pipe,
+    /// The end of a named pipe to write, if somebody reads it.
+    PipeToWrite,
+}
+
+/// Opens a file below a folder. No link is followed.
+///
+/// # Errors
+///
+/// Those of `openat`, and that of a name with a NUL.
+pub fn open_below(folder: BorrowedFd<'_>, name: &str, how: Opening) -> io::Result<OwnedFd> {
+    let flags = match how {
+        Opening::Folder => FOLDER,
+        Opening::Kept => 2 | CREATE,
+        Opening::Pipe => 2 | UNBLOCKED,
+        Opening::PipeToWrite => 1 | UNBLOCKED,
+    };
+    let name = CString::new(name)?;
+    owned(unsafe { openat(folder.as_raw_fd(), name.as_ptr(), flags | NO_LINK | CLOSE_ON_EXEC, 0o600) })
+}
+
+/// Opens a path for reading or for writing, without waiting.
+pub fn open_unblocked(path: &CStr, writes: bool) -> io::Result<OwnedFd> {
+    owned(unsafe { openat(-100, path.as_ptr(), c_int::from(writes) | UNBLOCKED | CLOSE_ON_EXEC) })
+}
+
+/// Opens a named pipe for reading and writing, without waiting.
+pub fn open_fifo(path: &CStr) -> io::Result<OwnedFd> {
+    owned(unsafe { openat(-100, path.as_ptr(), 2 | UNBLOCKED | CLOSE_ON_EXEC) })
+}
+
+/// Makes a folder that only its owner may use.
+pub fn make_folder(folder: BorrowedFd<'_>, name: &str) -> io::Result<()> {
+    let name = CString::new(name)?;
+    checked(unsafe { mkdirat(folder.as_raw_fd(), name.as_ptr(), 0o700) }).map(|_| ())
+}
+
+/// Makes a named pipe that only its owner may use.
+pub fn make_pipe(folder: BorrowedFd<'_>, name: &str) -> io::Result<()> {
+    let name = CString::new(name)?;
+    checked(unsafe { mkfifoat(folder.as_raw_fd(), name.as_ptr(), 0o600) }).map(|_| ())
+}
+
+/// Removes a file below a folder.
+pub fn remove_below(folder: BorrowedFd<'_>, name: &str) -> io::Result<()> {
+    let name = CString::new(name)?;
+    checked(unsafe { unlinkat(folder.as_raw_fd(), name.as_ptr(), 0) }).map(|_| ())
+}
+
+/// Sets the time of an open file's last change to now.
+pub fn touch(file: BorrowedFd<'_>) {
+    unsafe { futimens(file.as_raw_fd(), ptr::null()) };
+}
+
+/// Takes the lock of an open file if nobody has it. `Ok(false)` says that somebody has.
+///
+/// # Errors
+///
+/// Those of a disk without locks.
+pub fn try_lock(file: BorrowedFd<'_>) -> io::Result<bool> {
+    match checked(unsafe { flock(file.as_raw_fd(), 2 | 4) }) {
+        Ok(_) => Ok(true),
+        Err(error) if error.kind() == io::ErrorKind::WouldBlock => Ok(false),
+        Err(error) => Err(error),
+    }
+}
+
+/// Gives back the lock of an open file, in all processes that have it.
+pub fn unlock(file: BorrowedFd<'_>) {
+    unsafe { flock(file.as_raw_fd(), 8) };
+}
+
+/// Waits until one of these files can be read, at most so many milliseconds; -1 is for ever. Says which can be.
+pub fn wait_for(files: &[RawFd], milliseconds: i32) -> Vec<bool> {
+    let mut fds: Vec<PollFd> = files.iter().map(|&fd| PollFd { fd, events: 1, ready: 0 }).collect();
+    let count = unsafe { poll(fds.as_mut_ptr(), fds.len() as c_ulong, milliseconds) };
+    fds.iter().map(|it| count > 0 && it.ready != 0).collect()
+}
+
+/// Reads a byte into a place that another process may see, without waiting on an open file that doesn't wait. Says whether there was one.
+pub fn read_byte(file: BorrowedFd<'_>, to: *mut u8) -> bool {
+    unsafe { read(file.as_raw_fd(), to.cast(), 1) == 1 }
+}
+
+/// Writes a byte. Says whether that could be done.
+pub fn write_byte(file: BorrowedFd<'_>, byte: u8) -> bool {
+    unsafe { write(file.as_raw_fd(), (&raw const byte).cast(), 1) == 1 }
+}
+
+/// A page of memory that this process shares with those that it forks, all zeros at first.
+pub fn shared_page() -> io::Result<*mut u8> {
+    let page = unsafe { mmap(ptr::null_mut(), 4096, 3, 0x21, -1, 0) };
+    if page.addr() == usize::MAX { Err(io::Error::last_os_error()) } else { Ok(page.cast()) }
+}
+
+/// Opens /dev/null in place of each standard stream that is closed. No program that is run gets it.
+pub fn open_standard_streams() {
+    for number in 0..3 {
+        unsafe {
+            if fcntl(number, 1) < 0 {
+                openat(-100, c"/dev/null".as_ptr(), 2 | CLOSE_ON_EXEC);
+            }
+        }
+    }
+}
+
+/// How a process ended, as a shell's status: its own, or 128 and the number of the signal that ended it.
+#[derive(Clone, Copy, PartialEq, Eq, Debug)]
+pub struct Status {
+    pub code: i32,
+    pub signal: Option<i32>,
+    pub dumped: bool,
+}
+
+impl Status {
+    fn of(state: c_int) -> Status {
+        let signal = state & 0x7f;
+        if signal == 0 {
+            return Status { code: state >> 8 & 0xff, signal: None, dumped: false };
+        }
+        Status { code: 128 + signal, signal: Some(signal), dumped: state & 0x80 != 0 }
+    }
+
+    pub fn succeeded(self) -> bool {
+        self.code == 0
+    }
+}
+
+/// A child that has ended, and how; nothing if none has.
+pub fn ended_child() -> Option<(i32, Status)> {
+    loop {
+        let mut state = 0;
+        let child = unsafe { waitpid(-1, &raw mut state, 1) };
+        if child > 0 {
+            return Some((child, Status::of(state)));
+        }
+        if child == 0 || io::Error::last_os_error().kind() != io::ErrorKind::Interrupted {
+            return None;
+        }
+    }
+}
+
+/// Sends a signal to a process group, or to its first process if that has no group yet. Says whether there was one.
+pub fn signal_group(group: i32, number: i32) -> bool {
+    unsafe { kill(-group, number) == 0 || kill(group, number) == 0 }
+}
+
+/// Ends this process by a signal, whatever it does with that signal otherwise.
+pub fn end_by(number: i32) {
+    unsafe {
+        signal(number, DEFAULT);
+        sigprocmask(2, &[0; 16], ptr::null_mut());
+        raise(number);
+    }
+}
+
+/// The signals that come by a file. Those that the caller ignores stay ignored.
+pub struct Signals {
+    file: OwnedFd,
+    stop_ignored: bool,
+}
+
+impl Signals {
+    /// From now on HUP, INT, TERM, TSTP, CONT and CHLD come by the file.
+    ///
+    /// TSTP is ignored too: one that a child gets before it has a group of its own is dropped then, and doesn't stop it for ever.
+    ///
+    /// # Errors
+    ///
+    /// Those of `signalfd`.
+    pub fn open() -> io::Result<Signals> {
+        let mut set: SignalSet = [0; 16];
+        for number in [HUP, INT, TERM, CONT] {
+            unsafe {
+                if signal(number, DEFAULT) == IGNORED {
+                    signal(number, IGNORED);
+                } else {
+                    set[0] |= 1 << (number - 1);
+                }
+            }
+        }
+        set[0] |= 1 << (CHLD - 1);
+        unsafe {
+            signal(CHLD, DEFAULT);
+            let stop_ignored = signal(TSTP, IGNORED) == IGNORED;
+            if !stop_ignored {
+                set[0] |= 1 << (TSTP - 1);
+            }
+            sigprocmask(0, &raw const set, ptr::null_mut());
+            let file = owned(signalfd(-1, &raw const set, UNBLOCKED | CLOSE_ON_EXEC))?;
+            Ok(Signals { file, stop_ignored })
+        }
+    }
+
+    pub fn number(&self) -> RawFd {
+        self.file.as_raw_fd()
+    }
+
+    /// The next signal that has come.
+    pub fn next(&self) -> Option<i32> {
+        let mut one = [0_u8; 128];
+        let size = unsafe { read(self.file.as_raw_fd(), one.as_mut_ptr().cast(), one.len()) };
+        (size == 128).then(|| i32::from_ne_bytes([one[0], one[1], one[2], one[3]]))
+    }
+
+    /// Gives the signals back to what this process becomes.
+    pub fn give_back(&self) {
+        unsafe {
+            sigprocmask(2, &[0; 16], ptr::null_mut());
+            if !self.stop_ignored {
+                signal(TSTP, DEFAULT);
+            }
+        }
+    }
+
+    /// Stops this process as TSTP does, until it is continued.
+    pub fn stop() {
+        let mut set: SignalSet = [0; 16];
+        set[0] = 1 << (TSTP - 1);
+        unsafe {
+            signal(TSTP, DEFAULT);
+            raise(TSTP);
+            sigprocmask(1, &raw const set, ptr::null_mut());
+            sigprocmask(0, &raw const set, ptr::null_mut());
+            signal(TSTP, IGNORED);
+        }
+    }
+}
+
+/// A program to run, with all that it gets.
+pub struct Image {
+    program: CString,
+    argv: Vec<CString>,
+    envp: Vec<CString>,
+    folder: Option<CString>,
+}
+
+/// Pointers to texts, and a null behind them.
+fn pointers(texts: &[CString]) -> Vec<*const c_char> {
+    texts.iter().map(|text| text.as_ptr()).chain([ptr::null()]).collect()
+}
+
+impl Image {
+    /// A program by its path, the words that it gets, its own name first, its environment, and its folder if that isn't this process's.
+    pub fn new(program: CString, argv: Vec<CString>, envp: Vec<CString>, folder: Option<CString>) -> Image {
+        Image { program, argv, envp, folder }
+    }
+
+    /// Becomes the program. Comes back with the reason if that can't be done.
+    ///
+    /// A file that is no program of the kernel's is a script of the shell's, as for `execvp`.
+    pub fn become_it(&self) -> io::Error {
+        let (argv, envp) = (pointers(&self.argv), pointers(&self.envp));
+        let script: Vec<*const c_char> =
+            [c"sh".as_ptr(), self.program.as_ptr()].into_iter().chain(argv.iter().copied().skip(1)).collect();
+        self.replace(&argv, &script, &envp)
+    }
+
+    fn replace(&self, argv: &[*const c_char], script: &[*const c_char], envp: &[*const c_char]) -> io::Error {
+        unsafe { execve(self.program.as_ptr(), argv.as_ptr(), envp.as_ptr()) };
+        let error = io::Error::last_os_error();
+        if error.raw_os_error() == Some(NO_FORMAT) {
+            unsafe { execve(c"/bin/sh".as_ptr(), script.as_ptr(), envp.as_ptr()) };
+        }
+        error
+    }
+
+    /// Starts the program with these standard streams, in a process group of its own whose number goes to `group`, a place that other
+    /// processes may see. It gets TERM if this process ends. Says its number.
+    ///
+    /// # Errors
+    ///
+    /// Those of `fork`. If the program can't be run, the child says so on its standard error and ends with 127.
+    pub fn start(&self, streams: [RawFd; 3], signals: &Signals, group: *mut i32, complaint: &CStr) -> io::Result<i32> {
+        let (argv, envp) = (pointers(&self.argv), pointers(&self.envp));
+        let script: Vec<*const c_char> =
+            [c"sh".as_ptr(), self.program.as_ptr()].into_iter().chain(argv.iter().copied().skip(1)).collect();
+        let parent = process();
+        let child = checked(unsafe { fork() })?;
+        if child != 0 {
+            unsafe { setpgid(child, child) };
+            return Ok(child);
+        }
+        // SAFETY: from here to the end the child allocates nothing, since this process has one thread but libraries may lock.
+        unsafe {
+            setpgid(0, 0);
+            group.write_volatile(getpid());
+            prctl(1, TERM as c_ulong);
+            if getppid() != parent {
+                _exit(143);
+            }
+            for (number, &stream) in (0..3).zip(&streams) {
+                dup2(stream, number);
+            }
+            signals.give_back();
+            let entered = self.folder.as_ref().is_none_or(|folder| chdir(folder.as_ptr()) == 0);
+            if entered {
+                self.replace(&argv, &script, &envp);
+            }
+            write(2, complaint.as_ptr().cast(), complaint.count_bytes());
+            _exit(127)
+        }
+    }
+}
+
+/// Starts a copy of this process, in a group of its own, that runs a function and ends. Says its number.
+///
+/// # Errors
+///
+/// Those of `fork`.
+pub fn fork_to(run: impl FnOnce()) -> io::Result<i32> {
+    let child = checked(unsafe { fork() })?;
+    if child == 0 {
+        unsafe { setpgid(0, 0) };
+        run();
+        unsafe { _exit(0) }
+    }
+    Ok(child)
+}
+
+/// A terminal: the end that its owner reads, and the one that a program has. It hands over lines as they are.
+///
+/// # Errors
+///
+/// Those of a machine without terminals to give.
+pub fn terminal() -> io::Result<(File, OwnedFd)> {
+    let owner = owned(unsafe { posix_openpt(2 | 0o400 | CLOSE_ON_EXEC) })?;
+    let mut name = [0 as c_char; 64];
+    let number = owner.as_raw_fd();
+    unsafe {
+        checked(grantpt(number))?;
+        checked(unlockpt(number))?;
+        checked(-ptsname_r(number, name.as_mut_ptr(), name.len()))?;
+        let program = owned(openat(-100, name.as_ptr(), 2 | 0o400 | CLOSE_ON_EXEC))?;
+        let mut modes = [0_u32; 16];
+        checked(tcgetattr(program.as_raw_fd(), &raw mut modes))?;
+        modes[1] = 0;
+        checked(tcsetattr(program.as_raw_fd(), 0, &raw const modes))?;
+        checked(fcntl(number, 4, 2 | UNBLOCKED))?;
+        Ok((File::from(owner), program))
+    }
+}
+
+/// Closes a file of this process, which has no owner here.
+pub fn close(number: RawFd) {
+    // SAFETY: a forked process calls this for a file whose owner is in its parent.
+    drop(unsafe { OwnedFd::from_raw_fd(number) });
+}
+
+/// Puts /dev/null in place of the standard streams, so that nobody waits for this process.
+pub fn leave_streams() {
+    unsafe {
+        let null = openat(-100, c"/dev/null".as_ptr(), 2 | CLOSE_ON_EXEC);
+        for number in 0..3 {
+            dup2(null, number);
+        }
+    }
+}
+
+/// Ends this process at once.
+pub fn exit(status: i32) -> ! {
+    unsafe { _exit(status) }
+}
+
+/// Waits for a child, and says how it ended.
+pub fn wait_for_child(child: i32) -> Status {
+    let mut state = 0;
+    while unsafe { waitpid(child, &raw mut state, 0) } < 0 && io::Error::last_os_error().kind() == io::ErrorKind::Interrupted {}
+    Status::of(state)
+}

@@ -1,0 +1,121 @@
+//! The commands of a plan as tasks for the machine.
+use crate::machine::Job;
+use crate::planner::{PlannedCommand, Words};
+use crate::run::Task;
+use crate::settings::Settings;
+use crate::system::Status;
+
+/// The folder in a call's directory for files that aren't the plan's.
+pub const OWN: &str = "zigrunk.tmp";
+
+/// Where commands run, and what runs them.
+pub struct Surroundings<'a> {
+    pub settings: &'a Settings,
+    /// The call's directory.
+    pub tmp: &'a str,
+    /// Where files of a single command go, if not into the call's directory.
+    pub scratch: Option<String>,
+}
+
+/// What a command is: its program's name, and what a host compiler does.
+fn kind_of(command: &PlannedCommand) -> String {
+    let program = command.program.rsplit('/').next().unwrap_or_default();
+    let does = command.words.iter().find(|word| *word == "-E" || *word == "-c").map(|word| format!(" {word}"));
+    let target = command.words.iter().zip(command.words.iter().skip(1).map(Some).chain([None])).find_map(|(word, next)| target_of(word, next));
+    format!("{program}{}{}", does.unwrap_or_default(), target.map(|target| format!(" {target}")).unwrap_or_default())
+}
+
+/// The target that a word names, or the next one behind `-arch`.
+fn target_of(word: &str, next: Option<&String>) -> Option<String> {
+    if let Some(number) = word.strip_prefix("-D__CUDA_ARCH__=") {
+        return Some(format!("__CUDA_ARCH__={number}"));
+    }
+    let is_target = |target: &&str| target.starts_with("sm_") || target.starts_with("compute_") || target.starts_with("lto_");
+    let of_next = if word == "-arch" { next.map(String::as_str) } else { None };
+    let named = word.strip_prefix("-arch=").or_else(|| word.strip_prefix("--arch=")).or(of_next);
+    named.filter(is_target).map(String::from)
+}
+
+/// The name by which `ZIGRUNK_LAUNCHED` has a command.
+fn launched_as(command: &PlannedCommand) -> &str {
+    match command.program.rsplit('/').next().unwrap_or_default() {
+        tool @ ("cudafe++" | "cicc" | "ptxas" | "fatbinary") => tool,
+        _ if command.preprocesses => "-E",
+        _ => "-c",
+    }
+}
+
+/// Whether a command goes through the cache.
+fn is_launched(command: &PlannedCommand, settings: &Settings) -> bool {
+    let named = settings.launched.iter().any(|kind| kind == launched_as(command));
+    !settings.launcher.is_empty() && if settings.launched.is_empty() { command.cacheable } else { named }
+}
+
+/// A command as a job, behind these words.
+fn job_of(command: &PlannedCommand, before: &[&[String]], around: &Surroundings<'_>) -> Job {
+    let own = format!("{}/{OWN}", around.tmp);
+    let scratch = around.scratch.clone().unwrap_or(own);
+    let given = [("TMPDIR".to_owned(), Some(scratch)), ("PWD".to_owned(), Some(command.folder.clone()))];
+    let of_plan = command.variables.iter().map(|(name, value)| (name.clone(), Some(value.clone())));
+    let is_of_plan = |name: &str| command.variables.iter().any(|(other, _)| other == name);
+    let words = [&before.concat()[..], &[command.program.clone()], &command.words[..]].concat();
+    let variables = given.into_iter().filter(|(name, _)| !is_of_plan(name)).chain(of_plan).collect();
+    Job { words, folder: command.folder.clone(), variables, shares_slot: false }
+}
+
+fn task_of(command: &PlannedCommand, around: &Surroundings<'_>) -> Task {
+    let settings = around.settings;
+    let bare = job_of(command, &[&settings.runner], around);
+    let (needs, kind) = (command.needs.clone(), kind_of(command));
+    if is_launched(command, settings) {
+        let job = job_of(command, &[&settings.runner, &settings.launcher], around);
+        Task { job, without_launcher: Some(bare), needs, is_rule: false, kind }
+    } else {
+        Task { job: bare, without_launcher: None, needs, is_rule: false, kind }
+    }
+}
+
+/// The task that makes the dependency file by nvcc, once the source is preprocessed.
+fn rule_task(words: &Words, commands: &[PlannedCommand]) -> Task {
+    let variables = ["NVCC_PREPEND_FLAGS", "NVCC_APPEND_FLAGS"].map(|name| (name.to_owned(), None));
+    let job = Job { words: words.words.clone(), folder: words.folder.clone(), variables: variables.into(), shares_slot: false };
+    let needs = (0..commands.len()).filter(|&number| commands[number].preprocesses).collect();
+    Task { job, without_launcher: None, needs, is_rule: true, kind: "nvcc -M".into() }
+}
+
+/// The tasks of a plan. What makes the dependency file comes before the last command, which writes the product and waits for it.
+pub fn tasks_of(commands: &[PlannedCommand], dependencies: Option<&Words>, around: &Surroundings<'_>) -> Vec<Task> {
+    let mut tasks: Vec<Task> = commands.iter().map(|command| task_of(command, around)).collect();
+    let (Some(words), Some(last)) = (dependencies, tasks.len().checked_sub(1)) else { return tasks };
+    let mut rule = rule_task(words, commands);
+    rule.needs.retain(|&need| need < last);
+    tasks[last].needs.push(last);
+    tasks.insert(last, rule);
+    tasks
+}
+
+/// Whether nvcc runs cicc before cudafe++, as it does before version 12. A plan runs cudafe++ first.
+pub fn devices_come_first(dry_run: &[u8]) -> bool {
+    let runs = |line: &str, tool: &str| {
+        let first = line.strip_prefix("#$ ").and_then(|line| line.split(' ').next()).unwrap_or_default();
+        first.trim_end_matches('"').ends_with(tool)
+    };
+    let text = String::from_utf8_lossy(dry_run);
+    let first = |tool: &str| text.lines().position(|line| runs(line, tool));
+    matches!((first("cicc"), first("cudafe++")), (Some(device), Some(host)) if device < host)
+}
+
+/// What a shell says of a command that a signal ended.
+pub fn words_of_death(status: Status) -> String {
+    let name = match status.signal {
+        Some(4) => "Illegal instruction",
+        Some(6) => "Aborted",
+        Some(7) => "Bus error",
+        Some(8) => "Floating point exception",
+        Some(9) => "Killed",
+        Some(11) => "Segmentation fault",
+        Some(15) => "Terminated",
+        _ => return String::new(),
+    };
+    format!("{name}{}\n", if status.dumped { " (core dumped)" } else { "" })
+}

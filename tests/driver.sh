@@ -1,0 +1,788 @@
+#!/usr/bin/env bash
+# Tests of the compiled driver: its unit tests, and calls with stand-ins for nvcc and its tools (tests/driver/), with real nvcc if that is here.
+# Prints a line for each case that fails, and last 'N passed, M failed'; the status is 1 if one failed.
+#
+#   tests/driver.sh [DRIVER]    DRIVER is a built zigrunk-driver; else this builds it in the workspace of `make rust`
+#
+# ONLY=TEXT runs the cases whose names have this text. STOP_EARLY, if set, ends the run at the first failure.
+# shellcheck disable=SC2016,SC2010,SC2012 # the stand-ins expand what cases give them
+cd "$(dirname "$0")/.." || exit 1
+. tests/lib.sh
+trap 'kill $(jobs -p) 2> /dev/null; rm -rf "$scratch"' EXIT
+unset NVCC_PREPEND_FLAGS NVCC_APPEND_FLAGS CDPATH MAKEFLAGS MFLAGS "${!ZIGRUNK@}"
+user=$(id -u)
+shell=(driver)
+
+# cargo_test: the unit tests, each as a case.
+cargo_test() {
+    (cd out/rust && cargo test --offline -p zigrunk-driver) > "$scratch/unit" 2>&1
+    local good bad
+    good=$(grep -c '^test .* \.\.\. ok$' "$scratch/unit") bad=$(grep -c '^test .* \.\.\. FAILED$' "$scratch/unit")
+    [ $((good + bad)) -gt 0 ] || { bad=1 && tail -n 20 "$scratch/unit"; }
+    grep '^test .* FAILED$' "$scratch/unit"
+    passed=$((passed + good)) failed=$((failed + bad))
+}
+
+# build: the driver, in the workspace of plain Rust.
+build() {
+    [ -d out/rust/crates ] || make -s rust > "$scratch/built" 2>&1 || { tail -n 20 "$scratch/built"; count 'the workspace' failed; summary; exit 1; }
+    rm -rf out/rust/driver && cp -r driver out/rust/driver
+    grep -q '"driver"' out/rust/Cargo.toml || sed -i 's/^members = \[/&\n    "driver",/' out/rust/Cargo.toml
+    check 'the driver builds' cargo build --quiet --release --offline --manifest-path out/rust/Cargo.toml -p zigrunk-driver
+    driver=$PWD/out/rust/target/release/zigrunk-driver
+    [ -x "$driver" ] || { summary; exit 1; }
+    cargo_test
+}
+
+if [ -n "${1-}" ]; then driver=$(realpath "$1"); else require 'the driver' cargo; build; fi
+data=$PWD/tests/drivers/test_plans/data/dry_runs
+stand_ins=$PWD/tests/driver
+
+# The toolkit of the stand-ins.
+export CUDA=$scratch/cuda DATA=$data
+mkdir -p "$CUDA/bin" "$CUDA/nvvm/bin" "$scratch/bin"
+for tool in gcc cudafe++ ptxas fatbinary; do ln -s "$stand_ins/tool" "$CUDA/bin/$tool"; done
+ln -s "$stand_ins/tool" "$CUDA/nvvm/bin/cicc"
+ln -s "$stand_ins/nvcc" "$CUDA/bin/nvcc"
+cp "$driver" "$scratch/bin/zigrunk-nvcc"
+nvcc_driver=$scratch/bin/zigrunk-nvcc
+export PATH=$CUDA/bin:$PATH
+plain=(ZIGRUNK_EXPLAIN=1 NVCC_STATUS=5)
+
+# case_of NAME: begins a case, if it is one of those to run.
+case_of() {
+    [[ $1 == *${ONLY-}* ]] || return 1
+    room=$scratch/room
+    begin "$1"
+    mkdir "$room/run" && chmod 700 "$room/run"
+    : > k.cu
+}
+
+# call [NAME=VALUE..] WORD..: runs the driver with these variables and words.
+call() {
+    local settings=()
+    while [[ ${1-} == *=* ]]; do settings+=("$1") && shift; done
+    : > "$room/log"
+    timeout 60 env LOG="$room/log" TMPDIR="$room/tmp" XDG_RUNTIME_DIR="$room/run" "${settings[@]}" "${as:-$nvcc_driver}" "$@" > "$room/out" 2> "$room/err"
+    status=$?
+}
+
+# start [NAME=VALUE..] WORD..: the same in the background, with the signals as a user's shell leaves them.
+start() {
+    local settings=()
+    while [[ ${1-} == *=* ]]; do settings+=("$1") && shift; done
+    : > "$room/log"
+    env --default-signal=HUP,INT,TERM LOG="$room/log" TMPDIR="$room/tmp" XDG_RUNTIME_DIR="$room/run" "${settings[@]}" "$nvcc_driver" "$@" > "$room/out" 2> "$room/err" &
+    process=$!
+}
+
+# within SECONDS COMMAND..: waits until the command succeeds, and fails if it takes longer.
+within() {
+    local last=$((SECONDS + $1))
+    until "${@:2}"; do
+        [ "$SECONDS" -le "$last" ] || return
+        sleep 0.02
+    done
+}
+has_begun() { grep -q "^+ $1" "$room/log"; }
+none_run() { ! pgrep -f "$room" > /dev/null; }
+
+# ended STATUS: a problem, unless the driver ends within eight seconds, with this status.
+ended() {
+    local began=$SECONDS
+    { wait "$process"; } 2> /dev/null
+    same status "$?" "$1"
+    [ $((SECONDS - began)) -le 8 ] || problems+='  it ends late'$'\n'
+    within 5 none_run || problems+="  processes: $(pgrep -af "$room")"$'\n'
+}
+
+# end: counts the case. Nothing stays but the user's folder and the slots.
+end() {
+    same 'files left' "$(cd "$room/tmp" && find . -mindepth 2; cd "$room/tmp" && ls -A | grep -vx "zigrunk-$user")" ''
+    same 'calls that wait' "$(find "$room/run" -name 'wait-*')" ''
+    end_case
+}
+
+# by_nvcc REASON: a problem, unless nvcc itself made the call, with the status 5, for this reason.
+by_nvcc() {
+    same status "$status" 5
+    same output "$(cat "$room/out")" 'nvcc sees: '
+    same messages "$(cat "$room/err")" "zigrunk-nvcc: nvcc itself: $1"$'\nnvcc says'
+}
+
+# splits [WHAT]: a problem, unless the last call was split and said nothing.
+splits() {
+    same "status and messages${1:+ $1}" "$status$(cat "$room/out" "$room/err")" 0
+    same "commands${1:+ $1}" "$(grep -c '^+' "$room/log")" 10
+}
+
+# tmp_of NAME: the directory in which a tool ran, which notes it.
+notes='pwd > "$LOG.$name"; echo "$TMPDIR" > "$LOG.tmp"'
+
+end_to_end() {
+    if case_of 'a call that is split'; then
+        call -c k.cu -o k.o
+        splits
+        same 'dry runs' "$(grep -c '^nvcc \[--dryrun\] \[-c\] \[k.cu\] \[-o\] \[k.o\]$' "$room/log") $(grep -c '^nvcc \[-x\] \[cu\].*\[--keep-dir\].*\[--dryrun\]' "$room/log") $(grep -c '^nvcc' "$room/log")" '1 1 2'
+        same product "$(cat k.o)" made
+        end
+    fi
+    if case_of 'where commands run'; then
+        call TOOL_DOES="$notes" -c k.cu -o k.o
+        same 'the host compiler' "$(cat "$room/log.gcc-c")" "$room/work"
+        same 'the device compiler' "$(sed 's/[0-9a-f]\{64\}$/NAME/' "$room/log.cicc.80")" "$room/tmp/zigrunk-$user/zigrunk-NAME"
+        same 'TMPDIR of commands' "$(cat "$room/log.tmp")" "$(cat "$room/log.cicc.80")/zigrunk.tmp"
+        same 'mode' "$(stat -c %a "$room/tmp/zigrunk-$user")" 700
+        end
+    fi
+    if case_of 'the working directory has its name in PWD'; then
+        ln -s "$room/work" "$room/link" && cd "$room/link" || return
+        call TOOL_DOES='[ "$name" != gcc-c ] || echo "$PWD" > "$LOG.pwd"' -c k.cu -o k.o
+        same PWD "$(cat "$room/log.pwd")" "$room/link"
+        end
+    fi
+    if case_of 'ZIGRUNK_TMP, and launchers with a server'; then
+        mkdir "$room/shared"
+        call ZIGRUNK_TMP="$room/shared" TOOL_DOES="$notes" -c k.cu -o k.o
+        same 'TMPDIR' "$(cat "$room/log.tmp") $(grep -c "^$room/shared/zigrunk-$user/" "$room/log.cicc.80")" "$room/tmp 1"
+        call ZIGRUNK_TMP="$room/shared" TMPDIR= TOOL_DOES="$notes" -c k.cu -o k.o
+        same 'TMPDIR without one' "$(cat "$room/log.tmp")" /tmp
+        printf '%s\n' '#!/bin/sh' 'echo "launcher ${1##*/}" >> "$LOG"; exec "$@"' > "$room/sccache" && chmod +x "$room/sccache"
+        call ZIGRUNK_LAUNCHER="$room/sccache" TOOL_DOES="$notes" -c k.cu -o k.o
+        same 'with sccache' "$(cat "$room/log.tmp") $(grep -c '^launcher' "$room/log")" "$room/tmp 6"
+        cp "$room/sccache" "$room/cache"
+        call ZIGRUNK_LAUNCHER="$room/cache" TOOL_DOES="$notes" -c k.cu -o k.o
+        same 'with another one' "$(grep -c 'zigrunk.tmp$' "$room/log.tmp")" 1
+        end
+    fi
+    if case_of 'which commands the launcher runs'; then
+        printf '%s\n' '#!/bin/sh' 'echo "launcher ${1##*/}" >> "$LOG"; exec "$@"' > "$room/cache" && chmod +x "$room/cache"
+        while IFS=: read -r kinds wanted; do
+            call ZIGRUNK_LAUNCHER="$room/cache" ZIGRUNK_LAUNCHED="$kinds" -c k.cu -o k.o
+            same "with '$kinds'" "$(sed -n 's/^launcher //p' "$room/log" | sort | uniq -c | tr -s ' \n' ' ')" "$wanted"
+        done << 'ROWS'
+: 2 cicc 1 cudafe++ 1 gcc 2 ptxas 
+-E cudafe++ cicc ptxas -c: 2 cicc 1 cudafe++ 4 gcc 2 ptxas 
+cicc: 2 cicc 
+fatbinary: 1 fatbinary 
+none:
+ROWS
+        end
+    fi
+    if case_of 'a launcher that refuses'; then
+        printf '%s\n' '#!/bin/sh' 'case $1 in */cicc | */cudafe++) echo "sccache: error: Compiler not supported: odd" >&2; exit 2 ;; esac' 'exec "$@"' > "$room/cache" && chmod +x "$room/cache"
+        call ZIGRUNK_LAUNCHER="$room/cache" -c k.cu -o k.o
+        same 'status and product' "$status $(cat k.o)" '0 made'
+        same 'what is said' "$(sort "$room/err" | sed "s,$room,ROOM,")" "$(printf "zigrunk-nvcc: ROOM/cache doesn't take %s, which runs without it\n" 'cicc' 'cudafe++')"
+        end
+    fi
+    if case_of 'a runner'; then
+        call ZIGRUNK_RUNNER='env RAN=yes' TOOL_DOES='echo "$RAN" >> "$LOG.ran"' -c k.cu -o k.o
+        same 'commands that it ran' "$status$(sort "$room/log.ran" | uniq -c | tr -s ' ')" '0 10 yes'
+        call "${plain[@]}" ZIGRUNK_RUNNER='env RAN=yes' NVCC_DOES='echo "$RAN"' k.cu
+        same 'nvcc too' "$(tail -n 1 "$room/out")" yes
+        end
+    fi
+}
+
+folders() {
+    if case_of 'no TMPDIR, and odd forms of one'; then
+        mkdir tmp
+        while IFS=: read -r form where; do
+            call TMPDIR="${form//ROOM/$room}" TOOL_DOES="$notes" -c k.cu -o k.o
+            splits "with $form"
+            same "where with $form" "$(sed 's,/zigrunk-[0-9]*/.*,,' "$room/log.cicc.80")" "${where//ROOM/$room}"
+        done << 'ROWS'
+:/tmp
+tmp:ROOM/work/tmp
+ROOM/tmp/:ROOM/tmp
+ROOM//tmp:ROOM/tmp
+ROOM/./tmp:ROOM/tmp
+ROOM/work/../tmp:ROOM/tmp
+./../tmp:ROOM/tmp
+ROWS
+        end
+    fi
+    if case_of 'a TMPDIR that is missing'; then
+        call "${plain[@]}" TMPDIR="$room/missing" -c k.cu -o k.o
+        same 'status and reason' "$status $(head -n 1 "$room/err")" '5 zigrunk-nvcc: nvcc itself: no temporary directory'
+        end
+    fi
+    if case_of 'the user'"'"'s folder is not the user'"'"'s alone'; then
+        base=$room/tmp/zigrunk-$user
+        for way in 'chmod 755 $base' 'chmod 770 $base' 'rmdir $base; mkdir -m 700 $base.x; ln -s $base.x $base' 'rmdir $base; : > $base' 'chown 12345 $base'; do
+            [[ $way != chown* || $user == 0 ]] || continue
+            rm -rf "$base" "$base.x" && mkdir -m 700 "$base" && eval "$way"
+            call TOOL_DOES="$notes" -c k.cu -o k.o
+            splits "with $way"
+            same "where with $way" "$(grep -c "^$room/tmp/zigrunk\.......\$" "$room/log.cicc.80")" 1
+        done
+        rm -rf "$base" "$base.x"
+        end
+    fi
+    if case_of 'two equal calls at once, and the next one'; then
+        start TOOL_DOES="$notes; [ \"\$name\" != cudafe++ ] || sleep 1" -c k.cu -o k.o
+        within 20 has_begun cudafe++
+        cp "$room/log" "$room/log.first"
+        call TOOL_DOES="$notes" -c k.cu -o k.o
+        splits
+        same 'where' "$(sed 's/.*-//' "$room/log.cicc.80")" 2
+        ended 0
+        call TOOL_DOES="$notes" -c k.cu -o k.o
+        same 'where' "$(sed 's/.*zigrunk-[0-9a-f]*//' "$room/log.cicc.80")" ''
+        end
+    fi
+    if case_of 'the call is killed'; then
+        start TOOL_DOES='[ "$name" != cudafe++ ] || sleep 30' -c k.cu -o k.o
+        within 20 has_begun cudafe++
+        kill -KILL "$process"
+        ended 137
+        same 'directories' "$(within 5 eval '[ -z "$(ls "$room/tmp/zigrunk-$user")" ]'; ls "$room/tmp/zigrunk-$user")" ''
+        call -c k.cu -o k.o
+        splits
+        end
+    fi
+    if case_of 'the call and its guard are killed'; then
+        start TOOL_DOES='[ "$name" != cudafe++ ] || exec sleep 30' -c k.cu -o k.o
+        within 20 has_begun cudafe++
+        guard=$(pgrep -P "$process" -f zigrunk-nvcc | head -n 1)
+        kill -KILL "$guard" "$process"
+        ended 137
+        call TOOL_DOES="$notes" -c k.cu -o k.o
+        splits
+        same 'where' "$(sed 's/.*zigrunk-[0-9a-f]*//' "$room/log.cicc.80")" ''
+        end
+    fi
+    if case_of 'its directory vanishes'; then
+        start "${plain[@]}" TOOL_DOES='[ "$name" != cudafe++ ] || rm -rf "$TMPDIR/../../../zigrunk-"*' -c k.cu -o k.o
+        within 20 has_begun cudafe++
+        { wait "$process"; } 2> /dev/null
+        status=$?
+        same 'status and reason' "$status $(head -n 1 "$room/err")" '5 zigrunk-nvcc: nvcc itself: its temporary directory is gone'
+        end
+    fi
+    if case_of 'few open files'; then
+        (ulimit -n 16 && call "${plain[@]}" -c k.cu -o k.o; echo "$status" > "$room/status")
+        status=$(cat "$room/status")
+        by_nvcc 'it may open too few files'
+        (ulimit -n 40 && call -c k.cu -o k.o; echo "$status" > "$room/status")
+        status=$(cat "$room/status")
+        splits
+        end
+    fi
+}
+
+# with_name NAME [BODY]: an nvcc in the folder NAME of the case: a link to the driver, or a script.
+with_name() {
+    mkdir -p "$room/$1"
+    if [ -n "${2-}" ]; then
+        printf '%s\n' '#!/bin/sh' "$2" > "$room/$1/nvcc" && chmod +x "$room/$1/nvcc"
+    else
+        ln -s "$nvcc_driver" "$room/$1/nvcc"
+    fi
+}
+
+compilers() {
+    if case_of 'the first word'; then
+        cp "$stand_ins/nvcc" "$room/my-compiler" && cp "$stand_ins/nvcc" "$room/cross-nvcc"
+        while IFS=: read -r first wanted; do
+            call "${plain[@]}" ZIGRUNK_NVCC="$room/my-compiler" "${first/ROOM/$room}" -E k.cu
+            same "words with $first" "$(cat "$room/log")" "$wanted"
+        done << 'ROWS'
+ROOM/my-compiler:nvcc [-E] [k.cu]
+ROOM/cross-nvcc:nvcc [-E] [k.cu]
+-Invcc:nvcc [-Invcc] [-E] [k.cu]
+k.cu:nvcc [k.cu] [-E] [k.cu]
+ROWS
+        end
+    fi
+    if case_of 'installed as nvcc'; then
+        with_name bin
+        as=$room/bin/nvcc call PATH="$room/bin:$PATH" -c k.cu -o k.o
+        splits 'by a link'
+        as=$room/bin/nvcc call PATH="$room/bin:$PATH" "${plain[@]}" k.cu
+        by_nvcc 'it links'
+        call PATH="$room/bin:$PATH" -c k.cu -o k.o
+        splits 'by its own name'
+        call PATH="$room/bin:$PATH" "$room/bin/nvcc" -c k.cu -o k.o
+        splits 'as a launcher'
+        rm "$room/bin/nvcc" && cp "$nvcc_driver" "$room/bin/nvcc"
+        as=nvcc call PATH="$room/bin:$PATH" -c k.cu -o k.o
+        splits 'by a copy'
+        end
+    fi
+    if case_of 'wrappers of it'; then
+        with_name one "exec $nvcc_driver \"\$@\"" && with_name two "exec $nvcc_driver \"\$@\""
+        for settings in "PATH=$room/one:$room/two:$PATH" "ZIGRUNK_NVCC=$room/one/nvcc"; do
+            call "$settings" -c k.cu -o k.o
+            splits "with $settings"
+            call "$settings" "${plain[@]}" k.cu
+            by_nvcc 'it links'
+        done
+        end
+    fi
+    if case_of 'which nvcc is the next'; then
+        with_name bin && with_name before 'echo before; exit 7' && with_name behind 'echo behind; exit 8'
+        as=$room/bin/nvcc call PATH="$room/before:$room/bin:$room/behind:/usr/bin:/bin" -V
+        same 'behind its own place' "$status $(cat "$room/out")" '8 behind'
+        as=$room/bin/nvcc call PATH="$room/before:$room/bin:$room/bin" -V
+        same 'before it, if none is behind' "$status $(cat "$room/out")" '7 before'
+        as=$room/bin/nvcc call PATH="$room/bin" -V
+        same 'none' "$status $(cat "$room/err")" '127 zigrunk-nvcc: nvcc is zigrunk-nvcc itself, and PATH has no other nvcc'
+        call ZIGRUNK_NVCC="$room/missing" -V
+        same 'no nvcc' "$status $(cat "$room/err")" "127 zigrunk-nvcc: cannot find $room/missing in PATH"
+        call ZIGRUNK_NVCC="$room/missing" ZIGRUNK_RUNNER='echo by' -V
+        same 'by the runner' "$status $(cat "$room/out" "$room/err")" "0 by $room/missing -V"
+        end
+    fi
+}
+
+to_nvcc() {
+    while IFS=: read -r words reason; do
+        case_of "nvcc makes a call with $words" || continue
+        # shellcheck disable=SC2086 # several words
+        call "${plain[@]}" $words
+        by_nvcc "$reason"
+        same 'no dry run' "$(grep -c dryrun "$room/log")" 0
+        end
+    done << 'ROWS'
+-E k.cu -o k.ii:its phase isn't split
+k.cu --preprocess:its phase isn't split
+-V:it prints something
+-c k.cu --version:it prints something
+k.cu:it links
+-c a.cu b.cu:it names several inputs
+-c -Wall k.cu:an option is unknown
+--keep --keep-dir missing -c k.cu -o k.o:the keep directory is missing
+--keep --keep-dir k.cu -c k.cu -o k.o:the keep directory is missing
+-MD -MF /dev/stderr -c k.cu -o k.o:its dependency file is standard error
+-MD -MF /proc/self/fd/2 -c k.cu -o k.o:its dependency file is standard error
+ROWS
+    if case_of 'no explanation'; then
+        call NVCC_STATUS=5 k.cu
+        same 'status and messages' "$status $(cat "$room/err")" '5 nvcc says'
+        end
+    fi
+    if case_of 'a word that is not UTF-8'; then
+        call "${plain[@]}" -c k.cu -o $'k\xff.o'
+        by_nvcc "a word isn't UTF-8"
+        end
+    fi
+    if case_of 'the words of variables, which nvcc gets once'; then
+        call NVCC_PREPEND_FLAGS='-DA  -DB' NVCC_APPEND_FLAGS=' -DC' OWN_DOES='echo "${NVCC_PREPEND_FLAGS-none} ${NVCC_APPEND_FLAGS-none}" > "$LOG.flags"' -c k.cu -o k.o
+        splits
+        same words "$(grep -c '^nvcc \[--dryrun\] \[-DA\] \[-DB\] \[-c\] \[k.cu\] \[-o\] \[k.o\] \[-DC\]$' "$room/log") $(cat "$room/log.flags")" '1 none none'
+        end
+    fi
+    while IFS='|' read -r what reason settings; do
+        case_of "dry runs: $what" || continue
+        eval "call \"\${plain[@]}\" $settings -c k.cu -o k.o"
+        by_nvcc "$reason"
+        end
+    done << 'ROWS'
+the own one fails|a dry run fails|OWN_STATUS=1 WARNING=said
+the kept one fails|a dry run fails|KEPT_STATUS=1
+other commands|nvcc reads the line otherwise|OWN_FORM='s,-arch=sm_80,-arch=sm_86,'
+another command|nvcc reads the line otherwise|OWN_DOES='echo "#\$ ptxas k.ptx" >&2'
+a preprocessor more|nvcc reads the line otherwise|OWN_DOES='echo "#\$ gcc -E k.cu -o \"k.cpp4.ii\" " >&2'
+it fails for several threads, and for one|a dry run fails|OWN_STATUS=1 WARNING='Could not open input file /tmp/tmpxft_00a1-10_8ed_stdout'
+ROWS
+    while IFS='|' read -r what dry_runs settings; do
+        case_of "dry runs: $what" || continue
+        eval "call $settings -c k.cu -o k.o"
+        splits
+        same 'dry runs' "$(grep -c dryrun "$room/log")" "$dry_runs"
+        end
+    done << 'ROWS'
+names of temporary files|2|OWN_FORM='s,"kernel\.,"/tmp/tmpxft_00a1_0000-13_kernel.,g'
+another order and blanks|2|OWN_FORM='1!G; h; $!d; s/$/  /'
+files that are removed|2|OWN_DOES='echo "#\$ rm /tmp/tmpxft_00a1_0000-3_k.fatbin" >&2'
+the kept one has another word|3|KEPT_FORM='/ptxas/s, -m64 , -m64 --kept ,'
+ROWS
+    if case_of 'dry runs: several threads, with an old nvcc'; then
+        call WARNING=$'a warning\nnvcc fatal   : Could not open input file /tmp/tmpxft_00a1-10_8ed_stdout' \
+            OWN_DOES='case $* in *" --threads 1") WARNING="" ;; *) OWN_STATUS=1 ;; esac' -t2 -c k.cu -o k.o
+        same 'status and messages' "$status$(cat "$room/err")" '0a warning'
+        same words "$(grep -c '^nvcc \[--dryrun\] \[-t2\] \[-c\] \[k.cu\] \[-o\] \[k.o\] \[--threads\] \[1\]$' "$room/log")" 1
+        end
+    fi
+}
+
+outputs() {
+    if case_of "nvcc's warnings, and what commands say, in order"; then
+        call WARNING='nvcc warns' TOOL_DOES='echo "out $name"; echo "err $name" >&2; case $name in *.80) sleep 0.3 ;; esac' -c k.cu -o k.o
+        same status "$status" 0
+        order='gcc-E cudafe++ gcc-E.80 cicc.80 ptxas.80 gcc-E.90 cicc.90 ptxas.90 fatbinary gcc-c'
+        same output "$(cut -d ' ' -f 2 "$room/out" | paste -sd ' ')" "$order"
+        same messages "$(head -n 1 "$room/err") $(sed 1d "$room/err" | cut -d ' ' -f 2 | paste -sd ' ')" "nvcc warns $order"
+        end
+    fi
+    while IFS='|' read -r what wanted does; do
+        case_of "a command fails: $what" || continue
+        call TOOL_DOES="$does" -c k.cu -o k.o
+        same 'status and messages' "$status $(cat "$room/err")" "$wanted"
+        end
+    done << 'ROWS'
+its status and message|7 bad cicc.90|[ $name != cicc.90 ] || { echo "bad $name" >&2; exit 7; }
+the first of two|6 bad cicc.80|case $name in cicc.90) echo "bad $name" >&2; exit 7 ;; cicc.80) sleep 0.5; echo "bad $name" >&2; exit 6 ;; esac
+the first of two, though the other ends first|6 bad ptxas.80|case $name in cicc.90) echo "bad $name" >&2; exit 7 ;; gcc-E.80) sleep 0.5 ;; ptxas.80) echo "bad $name" >&2; exit 6 ;; esac
+without a message|7 zigrunk-nvcc: a command failed with status 7 and without a message|[ $name != cudafe++ ] || exit 7
+by a signal|139 Segmentation fault|[ $name != cudafe++ ] || { ulimit -c 0; kill -SEGV $$; }
+ROWS
+    if case_of 'a launcher that is missing'; then
+        call ZIGRUNK_LAUNCHER=/missing/launcher -c k.cu -o k.o
+        same 'status and messages' "$status $(cat "$room/err")" '127 zigrunk-nvcc: /missing/launcher: not found'
+        end
+    fi
+    if case_of 'what nvcc does before version 12'; then
+        form='s,^#\$ cudafe++ .*,,; /^#\$ fatbinary/i #$ cudafe++ --gen_c_file_name "kernel.compute_90.cudafe1.cpp" --stub_file_name "kernel.compute_90.cudafe1.stub.c" --module_id_file_name "kernel.module_id" "kernel.cpp4.ii"'
+        forms=(OWN_FORM="$form" KEPT_FORM="$(printf '%s\n' "$form" | sed 's,"kernel\.compute_90\.cudafe1\.cpp","/t/&,; s,/t/",/t/,; s,"kernel\.module,"/t/kernel.module,; s,"kernel\.cpp4,"/t/kernel.cpp4,'); s,/t/,'\"\$keep\"/',g")
+        call "${plain[@]}" "${forms[@]}" TOOL_DOES='[ "$name" != ptxas.80 ] || exit 6' -c k.cu -o k.o
+        case $(head -n 1 "$room/err") in
+        *'a command fails, and nvcc has them in another order' | *'nvcc reads the line otherwise' | *'dropped'*) ;;
+        *) problems+="  $(cat "$room/err")"$'\n' ;;
+        esac
+        end
+    fi
+    if case_of 'a signal of nvcc itself'; then
+        { call NVCC_DOES='kill -TERM $$' k.cu; } 2> /dev/null
+        same status "$status" 143
+        end
+    fi
+}
+
+products() {
+    if case_of 'files that are kept'; then
+        mkdir "$room/a dir" && echo old > "$room/a dir/k.ptx" && chmod 400 "$room/a dir/k.ptx"
+        call --keep --keep-dir "$room/a dir" -c k.cu -o k.o
+        splits
+        same 'dry runs' "$(grep -c dryrun "$room/log")" 3
+        same 'kept files' "$(cd "$room/a dir" && ls | grep -c 'kernel\..*ptx$')$(ls -A "$room/a dir" | grep -c 'zigrunk')" 20
+        end
+    fi
+    if case_of 'kept files of a call that fails'; then
+        mkdir kept
+        call TOOL_DOES='[ "$name" != ptxas.80 ] || exit 6' --keep --keep-dir kept -c k.cu -o k.o
+        same 'status and files' "$status $(ls kept | grep -c 'compute_80.ptx')$(ls kept | grep -c 'compute_80.cubin')" '6 10'
+        end
+    fi
+    if case_of 'a dependency file'; then
+        call -MD -c k.cu -o k.o
+        splits
+        same 'the file' "$(cat k.d)" $'k.o : k.cu \\\n    a.h'
+        call -MD -MP -MF x.d -c k.cu -o k.o
+        same 'by nvcc' "$status$(cat x.d "$room/err")" '0by nvcc'
+        call SOURCE=j.cu -MD -c k.cu -o k.o
+        same 'by nvcc, for another form' "$status$(cat k.d)" '0by nvcc'
+        end
+    fi
+    if case_of 'a dependency file that nvcc cannot make'; then
+        call "${plain[@]}" RULE_STATUS=4 SOURCE=j.cu -MD -c k.cu -o k.o
+        same 'status and reason' "$status $(head -n 1 "$room/err")" '5 zigrunk-nvcc: nvcc itself: its dependency file fails'
+        end
+    fi
+    if case_of 'a command fails, and the dependency file is made'; then
+        call TOOL_DOES='[ "$name" != ptxas.80 ] || { echo bad >&2; exit 6; }' -MD -c k.cu -o k.o
+        same 'status, messages and file' "$status $(cat "$room/err") $(grep -c a.h k.d)" '6 bad 1'
+        end
+    fi
+}
+
+signals() {
+    for signal in HUP:129 INT:130 TERM:143; do
+        case_of "the signal ${signal%:*}" || continue
+        start TOOL_DOES='if [ "$name" = cudafe++ ]; then trap "sleep 0.3; echo stopped >> $LOG.stopped; exit 2" HUP INT TERM; sleep 20 & wait; fi' -c k.cu -o k.o
+        within 20 has_begun cudafe++
+        sleep 0.1
+        kill -s "${signal%:*}" "$process"
+        ended "${signal#*:}"
+        same 'the command' "$(cat "$room/log.stopped")" stopped
+        end
+    done
+    if case_of 'a command that ignores TERM'; then
+        start TOOL_DOES='if [ "$name" = cudafe++ ]; then trap "" TERM; sleep 20; sleep 20; fi' -c k.cu -o k.o
+        within 20 has_begun cudafe++
+        sleep 0.1
+        kill "$process"
+        ended 143
+        end
+    fi
+    if case_of 'a signal while a dry run runs'; then
+        start OWN_DOES='echo "+ dry" >> "$LOG"; sleep 20' -c k.cu -o k.o
+        within 20 has_begun dry
+        kill "$process"
+        ended 143
+        end
+    fi
+    if case_of 'a signal while nvcc itself runs'; then
+        start NVCC_DOES='echo "+ nvcc $$" >> "$LOG"; exec sleep 20' k.cu
+        within 20 has_begun nvcc
+        same process "$(sed -n 's/^+ nvcc //p' "$room/log")" "$process"
+        kill "$process"
+        ended 143
+        end
+    fi
+    if case_of 'signals that the caller ignores'; then
+        # as nohup does, and a shell that isn't interactive in the background
+        for signal in HUP INT TERM; do
+            (trap '' "$signal"; exec env LOG="$room/log" TMPDIR="$room/tmp" XDG_RUNTIME_DIR="$room/run" TOOL_DOES='[ "$name" != cudafe++ ] || sleep 1' "$nvcc_driver" -c k.cu -o k.o) > "$room/out" 2> "$room/err" &
+            process=$!
+            : > "$room/log"
+            within 20 has_begun cudafe++
+            kill -s "$signal" "$process"
+            wait "$process"
+            same "status with $signal" "$?$(cat "$room/err")" 0
+        done
+        end
+    fi
+    if case_of 'TSTP and CONT'; then
+        start TOOL_DOES='[ "$name" != cudafe++ ] || { sleep 0.4; sleep 0.4; }' -c k.cu -o k.o
+        within 20 has_begun cudafe++
+        kill -TSTP "$process"
+        within 5 eval '[ "$(cut -d " " -f 3 "/proc/$process/stat")" = T ]' || problems+='  it does not stop'$'\n'
+        same 'a command that is stopped' "$(pgrep -f "$CUDA/bin/cudafe" | head -n 1 | xargs -I{} cut -d ' ' -f 3 /proc/{}/stat)" T
+        same 'slots that are free' "$(for slot in "$room/run"/*/[0-9]*; do flock -n "$slot" true || echo "$slot"; done)" ''
+        kill -CONT "$process"
+        ended 0
+        end
+    fi
+}
+
+# graph COUNT [PREFIX]: a Ninja file and a Makefile of so many calls, whose recipes begin with the prefix.
+graph() {
+    printf '%s\n' 'rule call' "  command = $nvcc_driver -c \$in -o \$out" > build.ninja
+    printf 'all: %s\n' "$(seq -f '%g.o' -s ' ' "$1")" > Makefile
+    for number in $(seq "$1"); do
+        : > "$number.cu"
+        echo "build $number.o: call $number.cu" >> build.ninja
+        printf '%s\n' "$number.o: $number.cu" $'\t'"${2-}$nvcc_driver -c \$< -o \$@" >> Makefile
+    done
+}
+
+# many [NAME=VALUE..] WORD..: runs a program that makes many calls.
+many() {
+    : > "$room/log"
+    env LOG="$room/log" TMPDIR="$room/tmp" XDG_RUNTIME_DIR="$room/run" TOOL_DOES='sleep 0.02' timeout 120 env "$@" > "$room/out" 2> "$room/err"
+    status=$?
+    : > "$room/said"
+    grep -i 'failed\|token\|jobserver' "$room/out" "$room/err" > "$room/said"
+}
+
+# ran COMMANDS MOST [LEAST]: a problem, unless the calls succeeded with so many commands, of which never more than MOST ran at once, and once as
+# many as LEAST.
+ran() {
+    local most
+    most=$(awk '/^[+]/ { if (++now > most) most = now } /^-/ { now-- } END { print most + 0 }' "$room/log")
+    same 'status and messages' "$status$(cat "$room/said")" 0
+    same commands "$(grep -c '^+' "$room/log")" "$1"
+    [ "$most" -le "$2" ] || problems+="  $most commands at once, not $2"$'\n'
+    [ "$most" -ge "${3-1}" ] || problems+="  only $most commands at once, not $3"$'\n'
+}
+
+# tokens PIPE: the jobs that a jobserver has.
+tokens() {
+    dd bs=99 count=1 iflag=nonblock if="$1" 2> /dev/null
+}
+
+slots() {
+    room=$scratch/room
+    slot_folder=$room/run/zigrunk-slots-$user
+    if case_of 'slots: a call alone'; then
+        graph 1
+        many ZIGRUNK_SLOTS=2 ninja
+        ran 10 2 2
+        end
+    fi
+    if case_of 'slots: twelve calls'; then
+        graph 12
+        many ZIGRUNK_SLOTS=2 ninja -j16
+        ran 120 2 2
+        end
+    fi
+    if case_of 'slots: the processors are the limit, and no number'; then
+        graph 4
+        many ZIGRUNK_SLOTS=some taskset -c "$(taskset -cp $$ | sed 's/.*[:,-] *//')" ninja -j4
+        ran 40 1
+        end
+    fi
+    if case_of 'slots: no limit'; then
+        graph 4
+        for number in 0 00; do
+            many ZIGRUNK_SLOTS=$number ninja -j4
+            ran 40 12 5
+            rm ./*.o
+        done
+        end
+    fi
+    if case_of 'slots: a folder that is not the user'"'"'s alone, or missing'; then
+        graph 6
+        mkdir -m 755 "$slot_folder"
+        many ZIGRUNK_SLOTS=1 ninja -j6
+        ran 60 1
+        same 'files in it' "$(ls -A "$slot_folder")" ''
+        rm ./*.o
+        many XDG_RUNTIME_DIR="$room/missing" ZIGRUNK_SLOTS=1 ninja -j6
+        ran 60 1
+        end
+    fi
+    if case_of 'slots: calls with more leave the first ones to others'; then
+        call ZIGRUNK_SLOTS=4 ZIGRUNK_JOBS=1 TOOL_DOES='flock -n "$XDG_RUNTIME_DIR/zigrunk-slots-$(id -u)/1" true || echo taken >&2' -c k.cu -o k.o
+        splits
+        end
+    fi
+    if case_of 'slots: calls with fewer hold up no others'; then
+        mkdir -m 700 "$slot_folder"
+        exec 5> "$slot_folder/1" && flock 5
+        (exec 5>&-; start ZIGRUNK_SLOTS=1 -c k.cu -o one.o; wait "$process"; echo $? > "$room/first")&
+        first=$!
+        within 20 eval 'ls "$slot_folder" | grep -q ^wait' || problems+='  nobody waits'$'\n'
+        touch "$slot_folder/1"
+        (exec 5>&-; call ZIGRUNK_SLOTS=2 -c k.cu -o two.o; echo "$status" > "$room/second")
+        same 'the other' "$(cat "$room/second" two.o)" $'0\nmade'
+        exec 5>&-
+        wait "$first"
+        same 'the first' "$(cat "$room/first" one.o)" $'0\nmade'
+        end
+    fi
+    if case_of 'slots: older calls come first'; then
+        export LOG=$room/log TMPDIR=$room/tmp XDG_RUNTIME_DIR=$room/run ZIGRUNK_SLOTS=1 TOOL_DOES='sleep 0.05'
+        : > "$room/log"
+        for number in 1 2 3 4 5; do
+            : > $number.cu
+            { "$nvcc_driver" -c $number.cu -o $number.o; echo $number >> "$room/ends"; } &
+            sleep 0.1
+        done
+        wait
+        unset LOG XDG_RUNTIME_DIR ZIGRUNK_SLOTS TOOL_DOES
+        export TMPDIR=/tmp
+        same 'the order of their ends' "$(paste -sd ' ' "$room/ends")" '1 2 3 4 5'
+        end
+    fi
+    if case_of 'slots: a call that is stopped holds up no others for ever'; then
+        start ZIGRUNK_SLOTS=1 TOOL_DOES='[ "$name" != cudafe++ ] || sleep 1' -c k.cu -o one.o
+        within 20 has_begun cudafe++
+        kill -STOP "$process"
+        stopped=$process began=$SECONDS
+        call ZIGRUNK_SLOTS=1 -c k.cu -o two.o
+        splits
+        took=$((SECONDS - began))
+        [ "$took" -le 15 ] || problems+="  the other takes $took s"$'\n'
+        kill -CONT "$stopped"
+        process=$stopped
+        ended 0
+        end
+    fi
+    if case_of 'slots: calls that are killed'; then
+        graph 8
+        export LOG=$room/log TMPDIR=$room/tmp XDG_RUNTIME_DIR=$room/run ZIGRUNK_SLOTS=2
+        RANDOM=20261127
+        for _ in 1 2 3; do
+            for number in $(seq 8); do TOOL_DOES='sleep 0.05' "$nvcc_driver" -c "$number.cu" -o "$number.o" > said 2>&1 & done
+            for _ in $(seq 20); do
+                mapfile -t victims < <(jobs -pr; pgrep -f "$room")
+                [ "${#victims[@]}" -eq 0 ] || kill -KILL "${victims[RANDOM % ${#victims[@]}]}" 2> /dev/null
+                sleep 0.02
+            done
+            mapfile -t victims < <(jobs -pr)
+            [ "${#victims[@]}" -eq 0 ] || kill -KILL "${victims[@]}"
+            wait
+        done 2> /dev/null
+        unset LOG XDG_RUNTIME_DIR ZIGRUNK_SLOTS
+        export TMPDIR=/tmp
+        within 20 none_run || problems+='  commands go on'$'\n'
+        many ZIGRUNK_SLOTS=2 ninja -j4 1.o 2.o
+        ran 20 2 2
+        call ZIGRUNK_SLOTS=2 -c 1.cu -o 1.o
+        rm -rf "$room/tmp/zigrunk-$user"/*
+        end
+    fi
+}
+
+jobservers() {
+    require_make=$(make --version 2> /dev/null | head -n 1)
+    [ -n "$require_make" ] || { skip 'the jobserver of make' 'make is not on the path' && return; }
+    if case_of 'make: without its jobserver'; then
+        graph 6
+        many make -j3
+        ran 60 3 2
+        end
+    fi
+    if case_of 'make: with its jobserver'; then
+        graph 8 +
+        many ZIGRUNK_SLOTS=0 make -j3
+        ran 80 3 2
+        end
+    fi
+    if case_of 'make: a call alone with its jobserver'; then
+        graph 1 +
+        many ZIGRUNK_SLOTS=0 make -j2
+        ran 10 2 2
+        end
+    fi
+    if case_of 'make: a jobserver that is a named pipe'; then
+        graph 3
+        mkfifo "$room/jobs"
+        exec 5<> "$room/jobs"
+        printf '++' >&5
+        many MAKEFLAGS=" -j3 --jobserver-auth=fifo:$room/jobs -- A=b" ZIGRUNK_SLOTS=0 ninja -j2
+        ran 30 4 2
+        same tokens "$(tokens "$room/jobs")" '++'
+        end
+        exec 5>&-
+    fi
+    if case_of 'make: a jobserver by the name of older makes'; then
+        graph 2
+        mkfifo "$room/jobs"
+        exec 5<> "$room/jobs" 7>&5
+        printf '+' >&5
+        many MAKEFLAGS=' -j --jobserver-fds=5,7' ZIGRUNK_SLOTS=0 ninja -j2
+        ran 20 3 2
+        same tokens "$(tokens "$room/jobs")" '+'
+        end
+        exec 5>&- 7>&-
+    fi
+    if case_of 'make: jobservers that are not there'; then
+        graph 2
+        mkfifo "$room/jobs" "$room/other"
+        exec 5<> "$room/jobs" 6<> "$room/other"
+        for server in fifo:"$room/missing" 5,6 5,77; do
+            many MAKEFLAGS=" -j2 --jobserver-auth=$server" ninja -j2
+            ran 20 2
+            rm -f ./*.o
+        done
+        end
+        exec 5>&- 6>&-
+    fi
+    if case_of 'make: calls that are killed give their jobs back'; then
+        mkfifo "$room/jobs"
+        exec 5<> "$room/jobs"
+        printf 'abc' >&5
+        RANDOM=20261128
+        for _ in 1 2 3 4; do
+            start MAKEFLAGS=" -j4 --jobserver-auth=fifo:$room/jobs" ZIGRUNK_SLOTS=0 TOOL_DOES='sleep 0.3' -c k.cu -o k.o
+            within 20 has_begun gcc-E.80
+            sleep "0.$((RANDOM % 9))"
+            kill -KILL "$process"
+            { wait "$process"; } 2> /dev/null
+            within 20 none_run || problems+='  commands go on'$'\n'
+            held=''
+            within 5 eval 'held+=$(tokens "$room/jobs"); [ "${#held}" -ge 3 ]'
+            same tokens "$(fold -w 1 <<< "$held" | sort | paste -sd '')" abc
+            printf '%s' abc >&5
+        done
+        rm -rf "$room/tmp/zigrunk-$user"/*
+        end
+        exec 5>&-
+    fi
+}
+
+end_to_end
+folders
+compilers
+to_nvcc
+outputs
+products
+signals
+slots
+jobservers
+summary
