@@ -48,7 +48,8 @@ of_sources() {
     check 'no contract is left in them' sh -c '! grep -rnE "^ *(ensures|requires|ghost) " "$1/crates"' _ "$sources"
     check 'no path of this machine is in them' has_no_path "dist/zigrunk-$version.tar.gz"
     check 'cargo vendors nothing for them' sh -c '! grep -n "^source = " "$1/Cargo.lock"' _ "$sources"
-    check 'their installation' env -u MAKEFLAGS CARGO_HOME="$scratch/cargo" CARGO_TARGET_DIR="$sources/target" \
+    # (without what takes most of the time)
+    check 'their installation' env -u MAKEFLAGS CARGO_HOME="$scratch/cargo" CARGO_TARGET_DIR="$sources/target" CARGO_PROFILE_RELEASE_LTO=off \
         make -s -C "$sources" install PREFIX="$scratch/in here"
     check 'the version of their zigrunk' prints "zigrunk $version" "$scratch/in here/bin/zigrunk" --version
     check 'the library of the sources' has_library "$scratch/in here"

@@ -27,8 +27,8 @@ make_root() {
     [ -d "$root/usr" ] || debootstrap --variant=minbase trixie "$root" || return 1
     mkdir -p "$work/debs"
     inside dpkg --add-architecture arm64 && inside dpkg --add-architecture i386 && inside apt-get update &&
-        inside apt-get install -y --no-install-recommends rustc cargo libc6-dev gcc-aarch64-linux-gnu gcc-i686-linux-gnu \
-            libstd-rust-dev-wasm32 qemu-user-static pkg-config &&
+        inside apt-get install -y --no-install-recommends rustc cargo libc6-dev libstd-rust-dev-wasm32 qemu-user-static \
+            gcc-aarch64-linux-gnu libc6-dev-arm64-cross gcc-i686-linux-gnu libc6-dev-i386-cross &&
         inside env -C /root/zigrunk/debs apt-get download libstd-rust-dev:arm64 libstd-rust-dev:i386 &&
         for deb in "$work"/debs/*.deb; do
             dpkg -x "$deb" "$root" || return 1
@@ -108,12 +108,13 @@ in_c() {
 
 # platform TARGET PREFIX EMULATOR: all that can be run.
 platform() {
-    local bin=$work/rust/target/$1/release
+    local bin=$work/rust/target/$1/release before=$failed
     if ! has_library "$1"; then
         skip "$1" 'Debian has no library of Rust for it'
         return
     fi
     check "$1: programs and library" built "$1" "$2gcc"
+    [ "$failed" -eq "$before" ] || return
     check "$1: the version" prints "zigrunk $version" "$(runner "$bin/zigrunk" "$3")" --version
     check "$1: tests/program.sh" cases tests/program.sh "$(runner "$bin/cudaplan" "$3")" "$(runner "$bin/zigrunk" "$3")"
     check "$1: test_lines" driven "$(runner "$bin/test_lines" "$3")" test_lines
