@@ -5,6 +5,8 @@
 #   tests/c_library.sh [FOLDER [ARCHIVE]] FOLDER: this repository, or a copy that `rt ci` has proved
 #                                         ARCHIVE: where to leave the archive as `rt lib` builds it
 #   tests/c_library.sh --built ARCHIVE    tests this one archive, of `rt lib`
+#   tests/c_library.sh --plain ARCHIVE    tests the archive that cargo builds of plain Rust, which has Rust's std in it. So it needs more of
+#                                         the C library, and no Rust program can link it
 #
 # A tool that isn't installed is named on a line, and what it would test is left out.
 set -u
@@ -24,6 +26,7 @@ has() {
     return "$all"
 }
 
+is_plain=$([ "${1-}" != --plain ] || echo yes)
 version=$(cat VERSION)
 flags=(-Wall -Wextra -pedantic -Werror -g -O1 -Itests/c -DVERSION="\"$version\"")
 c_flags=(-std=c99 -D_POSIX_C_SOURCE=200809L "${flags[@]}")
@@ -34,12 +37,13 @@ real_calls=("${real_calls[@]##*/}")
 real_calls=("${real_calls[@]%.flag}")
 memory_functions=("-Wl,--wrap=malloc,--wrap=realloc,--wrap=free")
 
-# symbols: only the exports are global, and only these functions of the C library are needed.
+# symbols: only the exports are global, and only these functions of the C library are needed, but by Rust's std.
 symbols() {
     local lib=$1 name
     diff <(sed -n 's/^ *\(zigrunk_[a-z_0-9]*\);$/\1/p' bindings/c/zigrunk.map) <(nm -g --defined-only "$lib/libzigrunk.a" | awk 'NF == 3 { print $3 }' | LC_ALL=C sort) || return 1
     diff <(sed -n 's/^ *\(zigrunk_[a-z_0-9]*\);$/\1@@ZIGRUNK_1/p' bindings/c/zigrunk.map) \
         <(nm -D --with-symbol-versions --defined-only "$lib/libzigrunk.so.1" | awk '$2 == "T" { print $3 }' | LC_ALL=C sort) || return 1
+    [ -z "$is_plain" ] || return 0
     for name in $(nm -u "$lib/libzigrunk.a" | awk 'NF == 2 { print $2 }'); do
         case $name in
         malloc | realloc | free | memcpy | memmove | memset) ;;
@@ -224,17 +228,9 @@ python() {
     unset ZIGRUNK_LIBRARY PYTHONPATH
 }
 
-# crate LIBRARY: the crate for Rust over this library, and over the plain sources.
-crate() {
-    has cargo cc || return
-    tests/rust_crate.sh "$1" > "$scratch/crate" 2>&1
-    add "$?" "$scratch/crate" || echo 'tests/rust_crate.sh has no counts'
-    sed '$d' "$scratch/crate"
-}
-
 check 'the declared calls' declared
 mkdir "$scratch/archives"
-if [ "${1-}" = --built ]; then
+if [ "${1-}" = --built ] || [ -n "$is_plain" ]; then
     cp "$2" "$scratch/archives/built.a"
 elif ! tests/static_library.py "${1:-.}" "$scratch/archives"; then
     count 'the archives' 'they cannot be built'
@@ -252,7 +248,6 @@ for archive in "$scratch"/archives/*.a; do
 done
 library=$scratch/llvm
 [ -d "$library" ] || library=$scratch/built
-lane rust crate "$library"
 lane python python "$library"
 join_lanes
 [ ! -d "$scratch/rattle" ] || check 'both builds give the same answers' cmp "$scratch/llvm/programs/answers" "$scratch/rattle/programs/answers"

@@ -45,10 +45,13 @@ typedef struct list {
     size_t count;
 } list;
 
-/* One of the first inputs: two texts, and the tool if the first of them is a line. */
+/* What a first input is: a line of a tool, the two dry runs of a call, or other lines of a dry run. */
+enum { LINE, RUNS, TEXT };
+
+/* One of the first inputs: two texts, the flag of dry runs, and the tool of a line. */
 typedef struct first_input {
-    zigrunk_text texts[2];
-    int is_line;
+    zigrunk_text texts[2], flag;
+    int kind;
     uint32_t tool;
 } first_input;
 
@@ -87,11 +90,23 @@ static int chance(uint64_t of) {
     return random_below(of) == 0;
 }
 
-static const first_input *drawn_first(int is_line) {
+static const first_input *drawn_first(void) {
+    return &firsts[random_below(firsts_count)];
+}
+
+static const first_input *drawn_of(int kind) {
     const first_input *it;
     do {
-        it = &firsts[random_below(firsts_count)];
-    } while (is_line >= 0 && it->is_line != is_line);
+        it = drawn_first();
+    } while (it->kind != kind);
+    return it;
+}
+
+static const first_input *drawn_line_of(uint32_t tool) {
+    const first_input *it;
+    do {
+        it = drawn_of(LINE);
+    } while (it->tool != tool);
     return it;
 }
 
@@ -113,7 +128,7 @@ static zigrunk_text drawn_word(void) {
     case 0:
         return kept(&odd[random_below(sizeof odd)], 1);
     case 1:
-        return drawn_part(drawn_first(-1)->texts[0], ' ');
+        return drawn_part(drawn_first()->texts[0], ' ');
     default:
         return dictionary.at[random_below(dictionary.count)];
     }
@@ -139,10 +154,19 @@ static zigrunk_text changed(zigrunk_text text) {
     case 4:
         return spliced(text, at, 0, drawn_part(text, between));
     case 5:
-        return spliced(text, at, 0, drawn_part(drawn_first(-1)->texts[random_below(2)], between));
+        return spliced(text, at, 0, drawn_part(drawn_first()->texts[random_below(2)], between));
     default:
         return left ? spliced(text, at, 1, (zigrunk_text){(const uint8_t *)&"abx019-_./=, \n"[random_below(14)], 1}) : text;
     }
+}
+
+/* A word of a line that begins with a dash if there are many such words, and a blank. */
+static zigrunk_text drawn_option(zigrunk_text line) {
+    zigrunk_text word = line;
+    for (int left = 8; left > 0 && (left == 8 || word.length < 2 || word.bytes[1] != '-'); left--) {
+        word = drawn_part(line, ' ');
+    }
+    return word.length > 1 && word.bytes[0] == ' ' ? spliced(part_of(word, 1, word.length - 1), word.length - 1, 0, text_of(" ")) : text_of("");
 }
 
 static zigrunk_text changed_often(zigrunk_text text) {
@@ -177,7 +201,7 @@ static size_t drawn_variables(zigrunk_variable *variables, size_t most) {
     size_t count = chance(2) ? 0 : random_below(most + 1);
     for (size_t i = 0; i < count; i++) {
         variables[i].name = chance(6) ? drawn_word() : text_of(names[random_below(sizeof names / sizeof *names)]);
-        variables[i].value = chance(3) ? drawn_part(drawn_first(1)->texts[0], ' ') : chance(2) ? drawn_word() : text_of("-j4 -c");
+        variables[i].value = chance(3) ? drawn_part(drawn_of(LINE)->texts[0], ' ') : chance(2) ? drawn_word() : text_of("-j4 -c");
     }
     return count;
 }
@@ -303,7 +327,7 @@ static void try_version(void) {
 }
 
 static void try_split(void) {
-    zigrunk_text text = changed_often(drawn_part(drawn_first(-1)->texts[0], '\n'));
+    zigrunk_text text = changed_often(drawn_part(drawn_first()->texts[0], '\n'));
     show("text", text);
     for (int i = 0; i < 2; i++) {
         answered *a = &answers[i];
@@ -312,7 +336,7 @@ static void try_split(void) {
 }
 
 static void try_quote(void) {
-    list words = words_in(changed_often(drawn_part(drawn_first(-1)->texts[0], '\n')));
+    list words = words_in(changed_often(drawn_part(drawn_first()->texts[0], '\n')));
     show_list("word", words.at, words.count);
     for (int i = 0; i < 2; i++) {
         is_text_answer(&answers[i], OF(i, zigrunk_quote)(words.at, words.count, answers[i].out, room_for[BYTES]));
@@ -320,7 +344,7 @@ static void try_quote(void) {
 }
 
 static void try_remap(void) {
-    list words = words_in(changed_often(chance(2) ? drawn_first(0)->texts[random_below(2)] : drawn_part(drawn_first(0)->texts[0], '\n')));
+    list words = words_in(changed_often(chance(2) ? drawn_of(RUNS)->texts[random_below(2)] : drawn_part(drawn_of(TEXT)->texts[0], '\n')));
     list suffixes = {.count = chance(2) ? 0 : random_below(4)};
     for (size_t i = 0; i < suffixes.count; i++) {
         suffixes.at[i] = chance(3) ? drawn_word() : text_of(i == 0 ? ".x" : i == 1 ? ".cudafe1.gpu" : ".y.ii");
@@ -345,7 +369,7 @@ static void try_candidates(void) {
 
 static void try_key(void) {
     zigrunk_variable variables[6];
-    list words = words_in(changed_often(drawn_part(drawn_first(-1)->texts[0], '\n')));
+    list words = words_in(changed_often(drawn_part(drawn_first()->texts[0], '\n')));
     zigrunk_text roots[30];
     zigrunk_key_call call = {.words = words.at, .words_count = words.count, .variables = variables, .roots = roots};
     call.variables_count = drawn_variables(variables, 6);
@@ -364,7 +388,7 @@ static void try_key(void) {
 }
 
 static void try_line(void) {
-    const first_input *first = drawn_first(1);
+    const first_input *first = drawn_of(LINE);
     zigrunk_variable variables[4];
     list words = words_in(changed_often(first->texts[0]));
     zigrunk_line_call call = {.cwd = drawn_directory("/w"), .words = words.at, .words_count = words.count, .variables = variables};
@@ -393,10 +417,16 @@ static void try_line(void) {
 
 static void try_nvcc_line(void) {
     zigrunk_variable variables[4];
-    list words = words_in(changed_often(drawn_first(1)->texts[0]));
+    static const char *const usual[] = {"-c k.cu -o k.o", "-arch=sm_80 -dc -o k.o k.cu", "-gencode arch=compute_80,code=sm_80 -ptx k.cu"};
+    const first_input *first = chance(4) ? drawn_of(LINE) : drawn_line_of(ZIGRUNK_TOOL_NVCC);
+    zigrunk_text text = text_of(usual[random_below(3)]);
+    for (uint64_t left = random_below(4); left > 0; left--) {
+        text = spliced(text, 0, 0, drawn_option(first->texts[0]));
+    }
+    list words = words_in(chance(3) ? changed_often(first->texts[0]) : chance(2) ? changed_often(text) : text);
     zigrunk_nvcc_call call = {.cwd = drawn_directory("/w"), .tmp = drawn_directory("/t"), .nvcc = chance(4) ? drawn_word() : text_of("nvcc"),
         .words = words.at, .words_count = words.count, .variables = variables};
-    call.variables_count = drawn_variables(variables, 4);
+    call.variables_count = chance(3) ? drawn_variables(variables, 4) : 0;
     call.reserved = chance(200);
     show("cwd", call.cwd);
     show("tmp", call.tmp);
@@ -437,13 +467,13 @@ static void drawn_programs(planned *it) {
 }
 
 static void drawn_plan(planned *it) {
-    const first_input *first = drawn_first(0);
+    const first_input *first = drawn_of(chance(4) ? TEXT : RUNS);
     memset(&it->call, 0, sizeof it->call);
     it->call.dry1 = changed_often(first->texts[0]);
     it->call.dry2 = chance(6) ? it->call.dry1 : changed_often(first->texts[1]);
     it->call.cwd = drawn_directory("/w");
     it->call.tmp = drawn_directory("/t");
-    it->call.flag = chance(3) ? drawn_word() : text_of(chance(3) ? "" : chance(2) ? "-ptx" : "-c");
+    it->call.flag = chance(12) ? drawn_word() : first->flag;
     it->call.keep_dir = chance(3) ? drawn_word() : text_of("kept");
     it->call.variables = it->variables;
     it->call.variables_count = drawn_variables(it->variables, 4);
@@ -530,26 +560,26 @@ static void try_lookups(void) {
     }
 }
 
-/* How often a call is drawn, and what its inputs came to: how many there were, and how many answered ZIGRUNK_OK. */
+/* How often a call is drawn, and how many of its inputs there were with each status. */
 static struct {
     const char *name;
     void (*tries)(void);
     unsigned weight;
-    uint64_t inputs, accepted;
+    uint64_t statuses[ZIGRUNK_ODD_DIRECTORY + 1];
 } calls[] = {
-    {"zigrunk_message", try_message, 1, 0, 0},
-    {"zigrunk_version", try_version, 1, 0, 0},
-    {"zigrunk_split", try_split, 12, 0, 0},
-    {"zigrunk_quote", try_quote, 8, 0, 0},
-    {"zigrunk_remap", try_remap, 10, 0, 0},
-    {"zigrunk_candidates", try_candidates, 4, 0, 0},
-    {"zigrunk_command_key", try_key, 12, 0, 0},
-    {"zigrunk_line, _records, _words", try_line, 30, 0, 0},
-    {"zigrunk_nvcc_line", try_nvcc_line, 14, 0, 0},
-    {"zigrunk_lookups, _within", try_lookups, 2, 0, 0},
-    {"zigrunk_plan", try_plan, 3, 0, 0},
-    {"zigrunk_plan_records", try_records, 1, 0, 0},
-    {"zigrunk_plan_steps", try_steps, 2, 0, 0},
+    {"zigrunk_message", try_message, 1, {0}},
+    {"zigrunk_version", try_version, 1, {0}},
+    {"zigrunk_split", try_split, 12, {0}},
+    {"zigrunk_quote", try_quote, 8, {0}},
+    {"zigrunk_remap", try_remap, 10, {0}},
+    {"zigrunk_candidates", try_candidates, 4, {0}},
+    {"zigrunk_command_key", try_key, 12, {0}},
+    {"zigrunk_line, _records, _words", try_line, 30, {0}},
+    {"zigrunk_nvcc_line", try_nvcc_line, 14, {0}},
+    {"zigrunk_lookups, _within", try_lookups, 2, {0}},
+    {"zigrunk_plan", try_plan, 3, {0}},
+    {"zigrunk_plan_records", try_records, 1, {0}},
+    {"zigrunk_plan_steps", try_steps, 2, {0}},
 };
 enum { CALLS = sizeof calls / sizeof *calls };
 
@@ -576,8 +606,7 @@ static const char *try_input(uint64_t lot, uint64_t number, size_t *which) {
         printf("%s\n", calls[*which].name);
     }
     calls[*which].tries();
-    calls[*which].inputs++;
-    calls[*which].accepted += answers[0].status == ZIGRUNK_OK;
+    calls[*which].statuses[answers[0].status]++;
     return difference();
 }
 
@@ -625,17 +654,27 @@ static void read_dictionary(zigrunk_text file) {
     }
 }
 
+/* The text behind a mark, up to the next one, which the mark becomes, or the end. */
+static zigrunk_text text_behind(const uint8_t **mark, const uint8_t *end) {
+    const uint8_t *from = *mark + 1, *next = memchr(from, 0x1E, (size_t)(end - from));
+    *mark = next ? next : end;
+    return (zigrunk_text){from, (size_t)(*mark - from)};
+}
+
 /* A first input of the libFuzzer harness: two bytes, and texts with 0x1E between them. A line has no second text. */
 static void read_first(zigrunk_text file) {
     first_input *it = &firsts[firsts_count++];
     const uint8_t *cut = memchr(file.bytes, 0x1E, file.length), *end = file.bytes + file.length;
     it->texts[0] = (zigrunk_text){file.bytes + 2, (size_t)((cut ? cut : end) - file.bytes) - 2};
     it->texts[1] = it->texts[0];
-    it->is_line = cut != NULL && cut + 1 == end;
+    it->flag = text_of("-c");
+    it->kind = !cut ? TEXT : cut + 1 == end ? LINE : RUNS;
     it->tool = file.bytes[1] / 4;
-    if (cut && !it->is_line) {
-        const uint8_t *second = memchr(cut + 1, 0x1E, (size_t)(end - cut) - 1);
-        it->texts[1] = (zigrunk_text){cut + 1, (size_t)((second ? second : end) - cut) - 1};
+    if (it->kind == RUNS) {
+        it->texts[1] = text_behind(&cut, end);
+        for (int left = 3; left > 0 && cut < end; left--) {
+            it->flag = text_behind(&cut, end);
+        }
     }
 }
 
@@ -675,7 +714,13 @@ int main(int count, char **words) {
         }
     }
     for (size_t i = 0; i < CALLS; i++) {
-        printf("%s: %llu inputs, %llu accepted\n", calls[i].name, (unsigned long long)calls[i].inputs, (unsigned long long)calls[i].accepted);
+        printf("%s:", calls[i].name);
+        for (int status = 0; status <= ZIGRUNK_ODD_DIRECTORY; status++) {
+            if (calls[i].statuses[status]) {
+                printf(" %llu with status %d", (unsigned long long)calls[i].statuses[status], status);
+            }
+        }
+        printf("\n");
     }
     printf("%llu inputs, %llu differences\n", (unsigned long long)number, (unsigned long long)differences);
     return differences != 0;

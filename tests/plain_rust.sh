@@ -1,9 +1,10 @@
 #!/usr/bin/env bash
 # Tests the plain Rust that the eraser writes: its text beside the proved sources, and then what cargo builds of it, by the same cases as
 # the proved programs, libzigrunk and drivers. It needs neither the kit nor a network. The last line is 'N passed, M failed'.
+# tests/stand_ins.sh tests what these crates have in place of the kit's std, tests/rust_crate.sh the crate for Rust.
 #
 #   tests/plain_rust.sh [FOLDER [PART..]]   FOLDER: where the workspace and what cargo builds stay; nothing stays unless it is given
-#                                           PART: text workspace programs library drivers crates; all of them unless given
+#                                           PART: text workspace programs library drivers; all of them unless given
 #
 # No answer differs from the proved build's. Of libzigrunk this differs: it needs more of the C library, since it has Rust's std in it, and
 # for the same reason its archive can't be linked into a Rust program.
@@ -13,7 +14,7 @@ cd "$(dirname "$0")/.." || exit 1
 folder=$(realpath -m "${1:-$scratch/rust}")
 shift $(($# > 0 ? 1 : 0))
 parts=("$@")
-[ $# -gt 0 ] || parts=(text workspace programs library drivers crates)
+[ $# -gt 0 ] || parts=(text workspace programs library drivers)
 built=$folder/target/release
 export CARGO_NET_OFFLINE=true
 
@@ -28,8 +29,8 @@ script() {
 
 # write: the eraser writes the workspace, with the drivers that run cases, and cargo builds it.
 write() {
-    CARGO_TARGET_DIR=$scratch/eraser cargo run --quiet --release --locked --manifest-path rust/Cargo.toml -p eraser -- --drivers . "$folder" &&
-        cd "$folder" && CARGO_TARGET_DIR=$folder/target cargo build --quiet --release
+    cargo run --quiet --release --locked --target-dir "$folder/eraser" --manifest-path rust/Cargo.toml -p eraser -- --drivers . "$folder" &&
+        cargo build --quiet --release --target-dir "$folder/target" --manifest-path "$folder/Cargo.toml"
 }
 
 # text: each token of the output is explained by its source, and edits drawn by lot aren't. The commit draws them.
@@ -76,16 +77,6 @@ drive() {
 drivers() {
     drive test_lines
     drive test_plans
-}
-
-# crates: the tests that the stand-ins and the crate for Rust have of their own.
-crates() {
-    local name
-    for name in stand_ins rust_crate; do
-        if [ -x "tests/$name.sh" ]; then
-            script "$name" "tests/$name.sh"
-        fi
-    done
 }
 
 require 'plain Rust' cargo rustfmt
