@@ -19,6 +19,7 @@ export CARGO_TARGET_DIR=${TARGET:-$scratch/target} CARGO_NET_OFFLINE=true
 export CARGO_PROFILE_RELEASE_LTO=off CARGO_PROFILE_RELEASE_CODEGEN_UNITS=16 CARGO_PROFILE_RELEASE_PANIC=unwind
 version=$(cat VERSION)
 data=$PWD/tests/drivers/test_plans/data/dry_runs
+export ZIGRUNK_DRY_RUNS=$data
 plain=(-p zigrunk)
 linked=(-p zigrunk -p zigrunk-sys --no-default-features --features zigrunk/libzigrunk)
 
