@@ -20,8 +20,7 @@ fn folder() -> PathBuf {
         return folder.into();
     }
     let here = PathBuf::from(env!("CARGO_MANIFEST_DIR")).canonicalize().expect("the crate's folder");
-    let places = ["tests/drivers/test_plans/data/dry_runs", "crates/test_plans/data/dry_runs"];
-    let mut folders = here.ancestors().flat_map(|top| places.map(|place| top.join(place)));
+    let mut folders = here.ancestors().map(|top| top.join("tests/drivers/test_plans/data/dry_runs"));
     folders.find(|folder| folder.is_dir()).expect("ZIGRUNK_DRY_RUNS, or a repository above")
 }
 
