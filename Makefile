@@ -5,6 +5,8 @@ target = $(DESTDIR)$(PREFIX)
 
 # What `make install` installs: `proved`, which needs the Rattle kit, or `plain`, the same sources as plain Rust, which needs cargo.
 BUILT ?= $(if $(shell command -v rt),proved,plain)
+workspace = out/rust
+crates_from = if command -v cargo > /dev/null; then $(MAKE) rust-sources; else echo 'no cargo, so no crate for Rust'; fi
 ifeq ($(BUILT),plain)
 built = out/rust/target/release
 cudaplan = $(built)/cudaplan
@@ -20,7 +22,7 @@ programs_from = .ci/built check programs || $(MAKE) build
 library_from = .ci/built check library || $(MAKE) lib
 endif
 
-.PHONY: help demo build lib rust rust-install check install install-programs install-library uninstall dist bench drivers fuzz-library must-fail refused-memory end-to-end odd-calls random-calls versions cache cache-example peer cluster field mutants test-install dist-test check-docs lint test
+.PHONY: help demo build lib rust rust-sources rust-install check install install-programs install-library install-rust uninstall dist bench drivers fuzz-library must-fail refused-memory end-to-end odd-calls random-calls versions cache cache-example peer cluster field mutants platforms test-install dist-test check-docs lint test
 
 help:
 	@echo 'make demo             run cudaplan, unproved, on two calls; a minute from a fresh clone'
@@ -51,11 +53,12 @@ help:
 	@echo '                      downloads 80 MB from Debian; PROJECTS="bart ceres" builds only these. No part of the gate'
 	@echo 'make cluster          build on a Slurm that it starts on this machine, and let nodes vanish; needs nvcc, slurm-wlm, munge, iproute2; root'
 	@echo 'make mutants          check that the tests catch wrong edits of zigrunk-nvcc, zigrunk-slot, zigrunk-plan and zigrunk-batch'
+	@echo 'make platforms        build the plain Rust for other platforms in a root of Debian 13, and run the cases there; needs root'
 	@echo 'make check-docs       check links, quoted code and names in the pages, and the version number'
 	@echo 'make lint             check shell, Python and Rust: shellcheck, mypy, flake8, clippy and rustfmt, as far as they are installed'
 	@echo 'make test-install     install into an empty directory, run the programs from there, uninstall'
-	@echo 'make dist             pack the built programs: a tarball, a Debian package and their checksums, in dist/'
-	@echo 'make dist-test        install the Debian package in fresh Debian roots, run it there, remove it; needs root'
+	@echo 'make dist             pack the sources as plain Rust, Debian packages of them, and the proved programs if built; in dist/'
+	@echo 'make dist-test        build the sources and install the package in fresh Debian roots, run all there, remove it; needs root'
 	@echo 'make bench            time calls of the library'
 
 # A cicc line that is read and written back, and the plan of two real dry runs: the calls in demo/.
@@ -86,62 +89,17 @@ lib:
 	bindings/c/library.sh crates/zigrunk_c/out/libzigrunk_c.a "$(CURDIR)/out"
 
 # The proved sources as crates of plain Rust (docs/PLAIN_RUST.md), and programs and library of them: no kit, no network.
-rust:
-	cargo run --quiet --release --manifest-path rust/Cargo.toml -p eraser -- . out/rust
+rust: rust-sources
 	cd out/rust && cargo build --release
 
-# Nothing is proved again if out/ holds what these sources make. Otherwise each part builds what it installs, so that those who
-# want one part don't wait for the other.
-install: install-programs install-library
+rust-sources:
+	cargo run --quiet --release --manifest-path rust/Cargo.toml -p eraser -- . out/rust
 
+include packaging/install.mk
+
+# The same with the plain Rust, also if the kit is there.
 rust-install:
 	@$(MAKE) install BUILT=plain
-
-install-programs:
-	@$(programs_from)
-	install -D -m 755 $(cudaplan) "$(target)/bin/cudaplan"
-	install -D -m 755 $(zigrunk) "$(target)/bin/zigrunk"
-	install -D -m 755 bin/zigrunk-nvcc "$(target)/bin/zigrunk-nvcc"
-	install -D -m 755 bin/zigrunk-batch "$(target)/bin/zigrunk-batch"
-	install -D -m 755 bin/zigrunk-slot "$(target)/bin/zigrunk-slot"
-	install -D -m 755 bin/zigrunk-report "$(target)/bin/zigrunk-report"
-	install -D -m 755 bin/zigrunk-plan "$(target)/bin/zigrunk-plan"
-	install -D -m 644 man/zigrunk.1 "$(target)/share/man/man1/zigrunk.1"
-	install -D -m 644 man/zigrunk-nvcc.1 "$(target)/share/man/man1/zigrunk-nvcc.1"
-	install -D -m 644 man/zigrunk-batch.1 "$(target)/share/man/man1/zigrunk-batch.1"
-	ln -sf zigrunk.1 "$(target)/share/man/man1/cudaplan.1"
-	ln -sf zigrunk-nvcc.1 "$(target)/share/man/man1/zigrunk-slot.1"
-	ln -sf zigrunk-nvcc.1 "$(target)/share/man/man1/zigrunk-report.1"
-	ln -sf zigrunk-nvcc.1 "$(target)/share/man/man1/zigrunk-plan.1"
-	install -D -m 644 completions/zigrunk.bash "$(target)/share/bash-completion/completions/zigrunk"
-	ln -sf zigrunk "$(target)/share/bash-completion/completions/cudaplan"
-	ln -sf zigrunk "$(target)/share/bash-completion/completions/zigrunk-nvcc"
-	ln -sf zigrunk "$(target)/share/bash-completion/completions/zigrunk-batch"
-	install -D -m 644 completions/_zigrunk "$(target)/share/zsh/site-functions/_zigrunk"
-	find examples -type f ! -path '*/__pycache__/*' | while read -r file; do \
-		[ -x "$$file" ] && mode=755 || mode=644; install -D -m "$$mode" "$$file" "$(target)/share/zigrunk/$$file" || exit 1; done
-	install -d -m 755 "$(target)/share/doc/zigrunk"
-	install -m 644 README.md docs/*.md docs/*.json docs/*.svg "$(target)/share/doc/zigrunk"
-
-# The library is linked here, from the archive: the header and the version are always those of this folder.
-install-library:
-	@$(library_from)
-	umask 022 && bindings/c/library.sh $(archive) "$(target)"
-	install -D -m 644 man/zigrunk.h.3 "$(target)/share/man/man3/zigrunk.h.3"
-	find bindings -type f ! -path '*/c/library.sh' ! -path '*/c/zigrunk.*' ! -path '*/rust/tests/*' ! -path '*/target/*' ! -path '*/__pycache__/*' -printf '%P\n' | \
-		while read -r file; do install -D -m 644 "bindings/$$file" "$(target)/share/zigrunk/$$file" || exit 1; done
-
-uninstall:
-	rm -f "$(target)/bin/cudaplan" "$(target)/bin/zigrunk" "$(target)/bin/zigrunk-nvcc" "$(target)/bin/zigrunk-batch"
-	rm -f "$(target)/share/man/man1/zigrunk.1" "$(target)/share/man/man1/zigrunk-nvcc.1" "$(target)/share/man/man1/cudaplan.1"
-	for name in slot report plan; do rm -f "$(target)/bin/zigrunk-$$name" "$(target)/share/man/man1/zigrunk-$$name.1"; done
-	rm -f "$(target)/share/man/man1/zigrunk-batch.1" "$(target)/share/man/man3/zigrunk.h.3"
-	rm -f "$(target)/share/bash-completion/completions/zigrunk" "$(target)/share/bash-completion/completions/cudaplan"
-	rm -f "$(target)/share/bash-completion/completions/zigrunk-nvcc" "$(target)/share/bash-completion/completions/zigrunk-batch"
-	rm -f "$(target)/share/zsh/site-functions/_zigrunk"
-	rm -f "$(target)/lib/libzigrunk.a" "$(target)/lib/libzigrunk.so" "$(target)/lib/libzigrunk.so.1"
-	rm -f "$(target)/lib/pkgconfig/zigrunk.pc" "$(target)/include/zigrunk.h"
-	rm -rf "$(target)/share/zigrunk" "$(target)/share/doc/zigrunk"
 
 bench:
 	tests/drivers.sh --run cudabench line 100000 cicc /w --device-c -arch compute_80 --module_id_file_name kernel.module_id kernel.cpp1.ii --simt-only -o kernel.ptx
@@ -220,9 +178,11 @@ lint:
 
 # Proves nothing. Two runs from one commit give the same bytes.
 dist:
-	@.ci/built check programs || $(MAKE) build
-	@.ci/built check library || $(MAKE) lib
 	@packaging/dist.sh
+
+# Outside the gate.
+platforms:
+	@tests/platforms.sh
 
 dist-test:
 	@packaging/test.sh

@@ -1,85 +1,92 @@
 #!/usr/bin/env bash
-# Packs what is built, programs and libzigrunk: dist/zigrunk-VERSION-x86_64-linux.tar.gz, dist/zigrunk_VERSION_amd64.deb and
-# dist/SHA256SUMS.
-# Proves and compiles nothing. It links the proved programs' object files once more, statically: the kit's linker asks for symbols
-# of glibc 2.34, and a static program runs on every Linux. Two runs from one commit give the same bytes: files have the time
-# SOURCE_DATE_EPOCH, which is that of the commit unless it is set.
+# Packs what anyone can build, which is plain Rust (docs/PLAIN_RUST.md), and what is proved, if it is built:
+#
+#   dist/zigrunk-VERSION.tar.gz                the sources, with a Makefile that needs cargo
+#   dist/zigrunk_VERSION_ARCHITECTURE.deb      packages of them: amd64, and arm64 if rustc and gcc can make it
+#   dist/zigrunk-VERSION-x86_64-linux.tar.gz   the proved programs and library, if crates/*/out have what these sources make
+#   dist/SHA256SUMS
+#
+# It proves nothing. Programs are static, so that they run on every Linux. Two runs from one commit give the same bytes: files have
+# the time SOURCE_DATE_EPOCH, which is that of the commit unless it is set, and all is built in out/dist.
 set -eu
 cd "$(dirname "$0")/.."
-if ! .ci/built check programs || ! .ci/built check library; then
-    echo 'crates/*/out lack what these sources make; make build and make lib prove and build it' >&2
-    exit 1
-fi
 umask 022
 export LC_ALL=C TZ=UTC
 version=$(cat VERSION)
 export SOURCE_DATE_EPOCH=${SOURCE_DATE_EPOCH:-$(git log -1 --format=%ct)}
+top=$PWD
+name=zigrunk-$version
+sources=$top/out/dist/$name
 scratch=$(mktemp -d)
 trap 'rm -rf "$scratch"' EXIT
 rm -rf dist
-mkdir dist
-
-kit=$(dirname "$(dirname "$(readlink -f "$(command -v rt)")")")
-
-# link FOLDER: puts static programs in place of those in a folder.
-link() {
-    local name
-    for name in cudaplan zigrunk; do
-        cc -static -s -o "$1/$name" "crates/$name/out/$name.o" "$kit/c/libos_c.a" "$kit/c/liblibc_c.a"
-    done
-}
+mkdir -p dist out/dist
 
 # date_all FOLDER: gives everything in a folder the one time.
 date_all() {
     find "$1" -exec touch -h -d "@$SOURCE_DATE_EPOCH" {} +
 }
 
-name=zigrunk-$version-x86_64-linux
-make -s install DESTDIR="$scratch/" PREFIX="$name"
-link "$scratch/$name/bin"
-install -m 644 packaging/README LICENSE NOTICE CHANGELOG.md "$scratch/$name"
-date_all "$scratch/$name"
-tar -c -C "$scratch" --sort=name --format=ustar --owner=0 --group=0 --numeric-owner "$name" | gzip -n -9 > "dist/$name.tar.gz"
+# pack FOLDER: a tarball of a folder, in dist.
+pack() {
+    date_all "$1"
+    tar -c -C "$(dirname "$1")" --sort=name --format=ustar --owner=0 --group=0 --numeric-owner "$(basename "$1")" | gzip -n -9 > "dist/$(basename "$1").tar.gz"
+}
 
-root=$scratch/root
-doc=$root/usr/share/doc/zigrunk
-make -s install DESTDIR="$root" PREFIX=/usr
-link "$root/usr/bin"
-mkdir -p "$root/usr/share/zsh/vendor-completions" "$root/usr/share/lintian/overrides" "$doc" "$root/DEBIAN"
-printf 'zigrunk: statically-linked-binary [usr/bin/%s]\n' cudaplan zigrunk > "$root/usr/share/lintian/overrides/zigrunk"
-mv "$root/usr/share/zsh/site-functions/_zigrunk" "$root/usr/share/zsh/vendor-completions"
-rmdir "$root/usr/share/zsh/site-functions"
-# as Debian has shared libraries
-chmod 644 "$root/usr/lib/libzigrunk.so.1"
-for page in "$root"/usr/share/man/man[13]/*; do
-    if [ -h "$page" ]; then
-        ln -s "$(readlink "$page").gz" "$page.gz" && rm "$page"
-    else
-        gzip -n -9 "$page"
-    fi
-done
-install -m 644 packaging/copyright NOTICE "$doc"
-{
-    printf 'zigrunk (%s) unstable; urgency=medium\n\n  * See https://keepachangelog.com: CHANGELOG.md of the sources.\n\n' "$version"
-    printf ' -- Zigrunk maintainers <maintainers@users.noreply.zigrunk.example>  %s\n' "$(date -u -R -d "@$SOURCE_DATE_EPOCH")"
-} | gzip -n -9 > "$doc/changelog.gz"
-gzip -n -9 < CHANGELOG.md > "$doc/CHANGELOG.md.gz"
-# the programs need no library, and libzigrunk.so.1 only libc
-needs=$(objdump -p "$root/usr/lib/libzigrunk.so.1" | awk '$1 == "NEEDED" { print $2 }')
-if [ "$needs" != libc.so.6 ]; then
-    echo "Depends names libc6, but libzigrunk.so.1 needs: $needs" >&2
-    exit 1
-fi
-glibc=$(objdump -p "$root/usr/lib/libzigrunk.so.1" | sed -n 's/.* GLIBC_\([0-9.]*\)$/\1/p' | sort -V | tail -n 1)
-echo "libzigrunk 1 zigrunk (>= $version)" > "$root/DEBIAN/shlibs"
-echo 'activate-noawait ldconfig' > "$root/DEBIAN/triggers"
-cat > "$root/DEBIAN/control" << END
+# write_sources: the tree of the source tarball, which is the workspace of plain Rust and what is installed with it.
+write_sources() {
+    local file
+    cargo run --quiet --release --manifest-path rust/Cargo.toml -p eraser -- . "$sources"
+    git ls-files README.md CHANGELOG.md LICENSE NOTICE VERSION bin bindings/c bindings/python completions demo docs examples man | while read -r file; do
+        mkdir -p "$sources/$(dirname "$file")"
+        cp "$file" "$sources/$file"
+    done
+    cp tests/drivers/test_plans/data/dry_runs/one_target.dry[12] "$sources/demo"
+    cp packaging/install.mk "$sources"
+    cp packaging/source.mk "$sources/Makefile"
+    # Cargo.lock
+    (cd "$sources" && cargo metadata --offline --format-version 1 > /dev/null)
+}
+
+# can_build TARGET PREFIX: whether rustc has the library of a target, and gcc its tools.
+can_build() {
+    [ -d "$(rustc --print target-libdir --target "$1")" ] && command -v "$2gcc" > /dev/null
+}
+
+# build TARGET PREFIX: static programs, and the archive of the library, in the sources' folder `target`.
+build() {
+    local linker
+    linker=CARGO_TARGET_$(tr a-z- A-Z_ <<< "$1")_LINKER
+    (
+        cd "$sources"
+        export "$linker=$2gcc" CARGO_TARGET_DIR="$top/out/dist/target"
+        words=(build --quiet --release --offline --locked --target "$1")
+        cargo "${words[@]}" -p zigrunk_c
+        RUSTFLAGS='-C target-feature=+crt-static -C strip=symbols' cargo "${words[@]}" --target-dir "$top/out/dist/static" --bins
+    )
+}
+
+# install TARGET PREFIX ROOT FOLDER: what was built for a target.
+install_built() {
+    local made=$top/out/dist
+    make -s -C "$sources" install built="$made/static/$1/release" archive="$made/target/$1/release/libzigrunk.a" programs_from=: library_from=: \
+        CC="$2gcc" LD="$2ld" AR="$2ar" OBJCOPY="$2objcopy" DESTDIR="$3" PREFIX="$4"
+}
+
+# newest_glibc FILE: the newest version of glibc that a file's symbols ask for.
+newest_glibc() {
+    readelf -V "$1" | sed -n 's/.*Name: GLIBC_\([0-9.]*\) .*/\1/p' | sort -V | tail -n 1
+}
+
+# The control file of the package of an architecture.
+control() {
+    cat << END
 Package: zigrunk
 Version: $version
-Architecture: amd64
+Architecture: $1
 Maintainer: Zigrunk maintainers <maintainers@users.noreply.zigrunk.example>
-Installed-Size: $(find "$root/usr" -type f -printf '%s\n' | awk '{ size += $1 } END { print int(size / 1024) + 1 }')
-Depends: libc6 (>= $glibc), ninja-build, python3:any
+Installed-Size: $(find "$2/usr" -type f -printf '%s\n' | awk '{ size += $1 } END { print int(size / 1024) + 1 }')
+Depends: libc6 (>= $(newest_glibc "$2/usr/lib/libzigrunk.so.1")), ninja-build, python3:any
 Suggests: sccache, slurm-client
 Section: devel
 Priority: optional
@@ -93,8 +100,83 @@ Description: split nvcc calls into their commands
  scripts and JSON. libzigrunk is for programs in C, Rust
  and Python.
 END
-(cd "$root" && find usr -type f -print0 | sort -z | xargs -0 md5sum > DEBIAN/md5sums)
-date_all "$root"
-dpkg-deb --root-owner-group -Zxz --build "$root" "dist/zigrunk_${version}_amd64.deb" > /dev/null
+}
+
+# needs_libc_alone FILE: whether a shared object needs nothing but glibc, which Depends names.
+needs_libc_alone() {
+    readelf -d "$1" | sed -n 's/.*(NEEDED).*\[\(.*\)\]/\1/p' | grep -vE '^(libc\.so\.6|ld-linux.*)$' && return 1
+    return 0
+}
+
+# debianize ROOT: an installation, as Debian has manual pages, completions, shared objects and documents.
+debianize() {
+    local root=$1 page program
+    mkdir -p "$root/usr/share/zsh/vendor-completions" "$root/usr/share/lintian/overrides"
+    for program in cudaplan zigrunk; do
+        echo "zigrunk: statically-linked-binary [usr/bin/$program]"
+    done > "$root/usr/share/lintian/overrides/zigrunk"
+    mv "$root/usr/share/zsh/site-functions/_zigrunk" "$root/usr/share/zsh/vendor-completions"
+    rmdir "$root/usr/share/zsh/site-functions"
+    chmod 644 "$root/usr/lib/libzigrunk.so.1"
+    for page in "$root"/usr/share/man/man[13]/*; do
+        if [ -h "$page" ]; then
+            ln -s "$(readlink "$page").gz" "$page.gz" && rm "$page"
+        else
+            gzip -n -9 "$page"
+        fi
+    done
+    install -m 644 packaging/copyright NOTICE "$root/usr/share/doc/zigrunk"
+    {
+        printf 'zigrunk (%s) unstable; urgency=medium\n\n  * See https://keepachangelog.com: CHANGELOG.md of the sources.\n\n' "$version"
+        printf ' -- Zigrunk maintainers <maintainers@users.noreply.zigrunk.example>  %s\n' "$(date -u -R -d "@$SOURCE_DATE_EPOCH")"
+    } | gzip -n -9 > "$root/usr/share/doc/zigrunk/changelog.gz"
+    gzip -n -9 < CHANGELOG.md > "$root/usr/share/doc/zigrunk/CHANGELOG.md.gz"
+}
+
+# package ARCHITECTURE TARGET PREFIX: the Debian package of an architecture.
+package() {
+    local root=$scratch/$1
+    build "$2" "$3"
+    install_built "$2" "$3" "$root" /usr
+    debianize "$root"
+    if ! needs_libc_alone "$root/usr/lib/libzigrunk.so.1"; then
+        echo 'Depends names libc6, but libzigrunk.so.1 needs the above too' >&2
+        exit 1
+    fi
+    mkdir "$root/DEBIAN"
+    echo "libzigrunk 1 zigrunk (>= $version)" > "$root/DEBIAN/shlibs"
+    echo 'activate-noawait ldconfig' > "$root/DEBIAN/triggers"
+    control "$1" "$root" > "$root/DEBIAN/control"
+    (cd "$root" && find usr -type f -print0 | sort -z | xargs -0 md5sum > DEBIAN/md5sums)
+    date_all "$root"
+    dpkg-deb --root-owner-group -Zxz --build "$root" "dist/zigrunk_${version}_$1.deb" > /dev/null
+}
+
+# pack_proved: the proved programs and library. The kit's linker asks for symbols of glibc 2.34, so their object files are linked once more.
+pack_proved() {
+    local kit folder=$scratch/$name-x86_64-linux program
+    kit=$(dirname "$(dirname "$(readlink -f "$(command -v rt)")")")
+    make -s install BUILT=proved DESTDIR="$scratch/" PREFIX="$(basename "$folder")"
+    for program in cudaplan zigrunk; do
+        cc -static -s -o "$folder/bin/$program" "crates/$program/out/$program.o" "$kit/c/libos_c.a" "$kit/c/liblibc_c.a"
+    done
+    install -m 644 packaging/README LICENSE NOTICE CHANGELOG.md "$folder"
+    pack "$folder"
+}
+
+write_sources
+pack "$sources"
+package amd64 x86_64-unknown-linux-gnu ''
+if can_build aarch64-unknown-linux-gnu aarch64-linux-gnu-; then
+    package arm64 aarch64-unknown-linux-gnu aarch64-linux-gnu-
+else
+    echo 'no package for arm64: rustc lacks its library, or there is no aarch64-linux-gnu-gcc'
+fi
+# (rt ci leaves no object files of programs that an earlier run proved)
+if .ci/built check programs && .ci/built check library && [ -s crates/cudaplan/out/cudaplan.o ] && [ -s crates/zigrunk/out/zigrunk.o ]; then
+    pack_proved
+else
+    echo "no $name-x86_64-linux.tar.gz: crates/*/out lack what these sources make; make build and make lib prove and build it"
+fi
 (cd dist && sha256sum -- *.tar.gz *.deb > SHA256SUMS)
 ls -l dist

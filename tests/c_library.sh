@@ -5,6 +5,8 @@
 #   tests/c_library.sh [FOLDER [ARCHIVE]] FOLDER: this repository, or a copy that `rt ci` has proved
 #                                         ARCHIVE: where to leave the archive as `rt lib` builds it
 #   tests/c_library.sh --built ARCHIVE    tests this one archive, of `rt lib`
+#   tests/c_library.sh --plain ARCHIVE    tests the archive that cargo builds of plain Rust, which has Rust's std in it. So it needs more of
+#                                         the C library, and no Rust program can link it
 #
 # A tool that isn't installed is named on a line, and what it would test is left out.
 set -u
@@ -24,6 +26,7 @@ has() {
     return "$all"
 }
 
+is_plain=$([ "${1-}" != --plain ] || echo yes)
 version=$(cat VERSION)
 flags=(-Wall -Wextra -pedantic -Werror -g -O1 -Itests/c -DVERSION="\"$version\"")
 c_flags=(-std=c99 -D_POSIX_C_SOURCE=200809L "${flags[@]}")
@@ -34,12 +37,13 @@ real_calls=("${real_calls[@]##*/}")
 real_calls=("${real_calls[@]%.flag}")
 memory_functions=("-Wl,--wrap=malloc,--wrap=realloc,--wrap=free")
 
-# symbols: only the exports are global, and only these functions of the C library are needed.
+# symbols: only the exports are global, and only these functions of the C library are needed, but by Rust's std.
 symbols() {
     local lib=$1 name
     diff <(sed -n 's/^ *\(zigrunk_[a-z_0-9]*\);$/\1/p' bindings/c/zigrunk.map) <(nm -g --defined-only "$lib/libzigrunk.a" | awk 'NF == 3 { print $3 }' | LC_ALL=C sort) || return 1
     diff <(sed -n 's/^ *\(zigrunk_[a-z_0-9]*\);$/\1@@ZIGRUNK_1/p' bindings/c/zigrunk.map) \
         <(nm -D --with-symbol-versions --defined-only "$lib/libzigrunk.so.1" | awk '$2 == "T" { print $3 }' | LC_ALL=C sort) || return 1
+    [ -z "$is_plain" ] || return 0
     for name in $(nm -u "$lib/libzigrunk.a" | awk 'NF == 2 { print $2 }'); do
         case $name in
         malloc | realloc | free | memcpy | memmove | memset) ;;
@@ -224,37 +228,9 @@ python() {
     unset ZIGRUNK_LIBRARY PYTHONPATH
 }
 
-# grouped PROGRAM: the example in Rust that groups prints the groups and the commands of each plan, and which were dropped.
-grouped() {
-    local program=$1 name
-    for name in "${real_calls[@]}"; do
-        "$program" /w /t "$(cat "$data/$name.flag")" "$data/$name.dry1" "$data/$name.dry2" > "$scratch/groups" || return 1
-        diff <(sed -E 's/^(group [0-9]+|no|yes|dropped).*/\1/' "$data/$name.plan") \
-            <(sed -E 's/^    cached.*/yes/; s/^    run.*/no/; s/^(group [0-9]+|dropped),.*/\1/' "$scratch/groups") || return 1
-    done
-}
-
-# crate LIBRARY: the crate for Rust: its tests and its pages (clippy is in tests/lint.sh). Cargo takes nothing from a network here, and
-# leaves nothing in the repository.
-crate() {
-    local library=$1 manifest=(--offline --locked --manifest-path bindings/rust/Cargo.toml) start=$SECONDS
-    has cargo cc || return
-    export ZIGRUNK_LIB_DIR=$library/lib CARGO_TARGET_DIR=$scratch/cargo
-    check 'the tests of the crate' cargo test "${manifest[@]}"
-    check 'the script that an example of it writes' script "$library" "$CARGO_TARGET_DIR/debug/examples/shell"
-    check 'the groups that its other example prints' grouped "$CARGO_TARGET_DIR/debug/examples/groups"
-    check 'the pages of the crate' env RUSTDOCFLAGS='-D warnings' cargo doc --no-deps "${manifest[@]}"
-    rm "$library/lib/libzigrunk.a"
-    check 'the tests with the shared object' env LD_LIBRARY_PATH="$library/lib" cargo test --tests "${manifest[@]}"
-    ZIGRUNK_LIB_DIR=$scratch/none cargo build "${manifest[@]}" > "$scratch/without" 2>&1
-    check 'the build says where it looked for the library' grep -qF "$scratch/none (ZIGRUNK_LIB_DIR)" "$scratch/without"
-    unset ZIGRUNK_LIB_DIR CARGO_TARGET_DIR
-    echo "the crate for Rust took $((SECONDS - start)) s"
-}
-
 check 'the declared calls' declared
 mkdir "$scratch/archives"
-if [ "${1-}" = --built ]; then
+if [ "${1-}" = --built ] || [ -n "$is_plain" ]; then
     cp "$2" "$scratch/archives/built.a"
 elif ! tests/static_library.py "${1:-.}" "$scratch/archives"; then
     count 'the archives' 'they cannot be built'
@@ -272,9 +248,6 @@ for archive in "$scratch"/archives/*.a; do
 done
 library=$scratch/llvm
 [ -d "$library" ] || library=$scratch/built
-# (the crate's tests take the archive away)
-cp -r "$library" "$scratch/for_rust"
-lane rust crate "$scratch/for_rust"
 lane python python "$library"
 join_lanes
 [ ! -d "$scratch/rattle" ] || check 'both builds give the same answers' cmp "$scratch/llvm/programs/answers" "$scratch/rattle/programs/answers"

@@ -18,7 +18,7 @@ trap 'rm -rf "$work"' EXIT
 sed -n 's/^ *\(zigrunk_[a-z_0-9]*\);$/\1/p' zigrunk.map > "$work/exports"
 if "$AR" t "$archive" | grep -q '^compiler_builtins-'; then
     # shellcheck disable=SC2046 # a list of words
-    "$LD" -r -z noexecstack --gc-sections $(sed 's/^/-u /' "$work/exports") -o "$work/whole.o" "$archive"
+    "$LD" -r -z noexecstack --gc-sections --force-group-allocation $(sed 's/^/-u /' "$work/exports") -o "$work/whole.o" "$archive"
 else
     "$LD" -r -z noexecstack -o "$work/whole.o" --whole-archive "$archive" "$kit/c/liblibc_c.a"
 fi
@@ -27,7 +27,7 @@ fi
 rm -f "$folder/lib/libzigrunk.a"
 "$AR" rcsD "$folder/lib/libzigrunk.a" "$work/zigrunk.o"
 ${CC:-cc} -shared -o "$folder/lib/libzigrunk.so.1" "$work/zigrunk.o" -s -Wl,--gc-sections \
-    -Wl,-soname,libzigrunk.so.1 -Wl,--version-script=zigrunk.map -Wl,--no-undefined -Wl,-z,relro,-z,now,-z,noexecstack
+    -Wl,-soname,libzigrunk.so.1 -Wl,--version-script=zigrunk.map -static-libgcc -Wl,--no-undefined -Wl,-z,relro,-z,now,-z,noexecstack
 ln -sf libzigrunk.so.1 "$folder/lib/libzigrunk.so"
 cp zigrunk.h "$folder/include/zigrunk.h"
 cat > "$folder/lib/pkgconfig/zigrunk.pc" << END

@@ -36,7 +36,7 @@ for dry1 in sorted(glob.glob(f"{runs}/*.dry1")):
     write([8, 1], first, second, b"/w", b"/t", flag.strip(), b"kept", b"PATH\x1f/b\x1fA\x1fb c", b".cudafe1.gpu\x1f.x")
     write([64 + 16, 1], first, second, b"/w", b"/t", flag.strip())
     write([128, 9], first, second, b"/w", b"/t", flag.strip())
-for table in sorted(glob.glob(f"{top}/crates/test_*/data/*.txt")):
+for table in sorted(glob.glob(f"{top}/tests/drivers/test_*/data/*.txt")):
     group: list[bytes] = []
     for line in read(table).splitlines():
         words = re.split(rb" => | : ", line.strip())

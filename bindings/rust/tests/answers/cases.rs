@@ -86,7 +86,8 @@ const FLAGS: [&str; 8] = ["", "-c", "-dc", "-ptx", "-cubin", "-fatbin", "--devic
 fn lines(_: &DryRuns, draws: &mut Draws, told: &mut Told) {
     let (pairs, mut words) = (environment(draws), words(draws, 14));
     if draws.once_in(2) {
-        words.extend(["-o", "k.out", "k.cpp1.ii"].map(String::from));
+        let input = *draws.one_of(&["-c k.c", "-c k.cpp", "-c k.cu", "k.cpp1.ii", "k.ptx"]);
+        words.extend(input.split(' ').chain(["-o", "k.out"]).map(String::from));
     }
     let variables = variables(&pairs);
     let call = LineCall { tool: *draws.one_of(&TOOLS), cwd: folder(draws), words: &words, variables: &variables };

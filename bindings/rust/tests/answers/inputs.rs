@@ -40,23 +40,13 @@ const SHELL: [&str; 22] = [
     "\0",
 ];
 
-/// Names of variables that a call reads, and others.
-const NAMES: [&str; 14] = [
-    "PATH",
-    "HOME",
-    "NVCC_PREPEND_FLAGS",
-    "NVCC_APPEND_FLAGS",
-    "ZIGRUNK_JOBS",
-    "MAKEFLAGS",
-    "PWD",
-    "LANG",
-    "CPATH",
-    "TMPDIR",
-    "SOURCE_DATE_EPOCH",
-    "A",
-    "",
-    "A=B",
-];
+/// Names of variables that a call or a tool reads, and others.
+static NAMES: LazyLock<Vec<&str>> = LazyLock::new(|| {
+    let names = "
+        PATH HOME NVCC_PREPEND_FLAGS NVCC_APPEND_FLAGS ZIGRUNK_JOBS MAKEFLAGS PWD LANG CPATH TMPDIR SOURCE_DATE_EPOCH LIBRARY_PATH
+        CAN_FINALIZE_DEBUG DUMP_KNOBS_TO_FILE EDG_BASE USR_INCLUDE LLVM_OVERRIDE_PRODUCER LC_ALL GCC_ROOT A A=B";
+    names.split_ascii_whitespace().chain([""]).collect()
+});
 
 /// Values of them.
 const VALUES: [&str; 14] = [
@@ -102,7 +92,7 @@ pub fn folder(draws: &mut Draws) -> &'static str {
 
 /// Variables, of which a few aren't UTF-8.
 pub fn environment(draws: &mut Draws) -> Vec<(OsString, OsString)> {
-    draws.list(5, |draws| {
+    draws.list(8, |draws| {
         let (name, value) = (*draws.one_of(&NAMES), *draws.one_of(&VALUES));
         let broken = if draws.once_in(60) { OsString::from_vec(vec![b'v', 0xFF]) } else { value.into() };
         (name.into(), broken)

@@ -15,5 +15,9 @@ pub fn encode<T: AsRef<[u8]>>(alloc: Global, data: T) -> Result<String, AllocErr
 }
 
 fn digit(value: u8) -> char {
-    char::from(if value < 10 { b'0' + value } else { b'a' + (value - 10) })
+    char::from(if value < 10 {
+        b'0' + value
+    } else {
+        b'a' + (value - 10)
+    })
 }

@@ -24,6 +24,9 @@ struct Entry<K, V> {
     value: V,
 }
 
+/// The index of an entry, and the value that it had before.
+type Inserted<V> = (usize, Option<V>);
+
 // A slot with no entry.
 const FREE: usize = usize::MAX;
 const FIRST_SLOTS: usize = 8;
@@ -37,7 +40,10 @@ fn hash_of<Q: Hash + ?Sized>(key: &Q) -> u64 {
 impl<K, V> IndexMap<K, V> {
     /// An empty map. It doesn't allocate.
     pub const fn new(alloc: Global) -> IndexMap<K, V> {
-        IndexMap { entries: Vec::new(alloc), table: Vec::new(alloc) }
+        IndexMap {
+            entries: Vec::new(alloc),
+            table: Vec::new(alloc),
+        }
     }
 
     /// How many entries there are.
@@ -58,7 +64,9 @@ impl<K, V> IndexMap<K, V> {
 
     /// The entries in order.
     pub fn iter(&self) -> Iter<'_, K, V> {
-        Iter { entries: self.entries.iter() }
+        Iter {
+            entries: self.entries.iter(),
+        }
     }
 
     // The first slot that is free or whose entry the test accepts, from that of a hash on. The table has a free slot.
@@ -66,7 +74,11 @@ impl<K, V> IndexMap<K, V> {
     fn slot(&self, hash: u64, is_wanted: impl Fn(&Entry<K, V>) -> bool) -> usize {
         let mask = self.table.len() - 1;
         let mut slot = hash as usize & mask;
-        while self.entries.get(self.table[slot]).is_some_and(|entry| !is_wanted(entry)) {
+        while self
+            .entries
+            .get(self.table[slot])
+            .is_some_and(|entry| !is_wanted(entry))
+        {
             slot = (slot + 1) & mask;
         }
         slot
@@ -97,13 +109,15 @@ impl<K: Hash + Eq, V> IndexMap<K, V> {
     }
 
     /// As `insert`, with the index of the entry.
-    pub fn insert_full(&mut self, key: K, value: V) -> Result<(usize, Option<V>), AllocFailed<(K, V)>> {
+    pub fn insert_full(&mut self, key: K, value: V) -> Result<Inserted<V>, AllocFailed<(K, V)>> {
         let hash = hash_of(&key);
         if let Some(place) = self.place(hash, &key) {
             return Ok((place, Some(replace(&mut self.entries[place].value, value))));
         }
         if self.make_room().is_err() {
-            return Err(AllocFailed { value: (key, value) });
+            return Err(AllocFailed {
+                value: (key, value),
+            });
         }
         let (place, slot) = (self.entries.len(), self.slot(hash, |_| false));
         self.table[slot] = place;
@@ -162,7 +176,9 @@ impl<K: Hash + Eq, V> IndexMap<K, V> {
         if self.table.is_empty() {
             return None;
         }
-        let slot = self.slot(hash, |entry| entry.hash == hash && entry.key.borrow() == key);
+        let slot = self.slot(hash, |entry| {
+            entry.hash == hash && entry.key.borrow() == key
+        });
         Some(self.table[slot]).filter(|place| *place != FREE)
     }
 }

@@ -12,7 +12,9 @@ pub struct IndexSet<T> {
 impl<T: Hash + Eq> IndexSet<T> {
     /// An empty set. It doesn't allocate.
     pub const fn new(alloc: Global) -> IndexSet<T> {
-        IndexSet { map: IndexMap::new(alloc) }
+        IndexSet {
+            map: IndexMap::new(alloc),
+        }
     }
 
     /// Inserts a value, and says whether it is new. On an error the set is unchanged.

@@ -40,7 +40,10 @@ fn first_in_block<const N: usize>(block: &[u8], needles: [u8; N]) -> Option<usiz
     for needle in needles {
         // SAFETY: each x86-64 processor has SSE2, and the block has the sixteen bytes that are loaded.
         mask |= unsafe {
-            let equal = _mm_cmpeq_epi8(_mm_loadu_si128(block.as_ptr().cast()), _mm_set1_epi8(needle as i8));
+            let equal = _mm_cmpeq_epi8(
+                _mm_loadu_si128(block.as_ptr().cast()),
+                _mm_set1_epi8(needle as i8),
+            );
             _mm_movemask_epi8(equal)
         };
     }

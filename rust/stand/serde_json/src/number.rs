@@ -22,7 +22,9 @@ impl fmt::Debug for Number {
 
 impl From<u32> for Number {
     fn from(value: u32) -> Number {
-        Number { value: u64::from(value) }
+        Number {
+            value: u64::from(value),
+        }
     }
 }
 
@@ -34,6 +36,8 @@ impl From<u64> for Number {
 
 impl From<usize> for Number {
     fn from(value: usize) -> Number {
-        Number { value: value as u64 }
+        Number {
+            value: value as u64,
+        }
     }
 }

@@ -43,7 +43,12 @@ pub fn push(list: &mut Vec<Value>, value: Value) -> Result<(), AllocError> {
 }
 
 /// Sets the member `key`. On an error the map is unchanged.
-pub fn put(map: &mut Map<String, Value>, alloc: Global, key: &str, value: Value) -> Result<(), AllocError> {
+pub fn put(
+    map: &mut Map<String, Value>,
+    alloc: Global,
+    key: &str,
+    value: Value,
+) -> Result<(), AllocError> {
     map.insert(String::from_str(alloc, key)?, value)?;
     Ok(())
 }

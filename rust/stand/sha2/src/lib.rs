@@ -27,8 +27,9 @@ impl Digest for Sha256 {
 const BLOCK: usize = 64;
 
 // The first bits of the fractional parts of the square roots of the first eight primes.
-const START: [u32; 8] =
-    [0x6a09e667, 0xbb67ae85, 0x3c6ef372, 0xa54ff53a, 0x510e527f, 0x9b05688c, 0x1f83d9ab, 0x5be0cd19];
+const START: [u32; 8] = [
+    0x6a09e667, 0xbb67ae85, 0x3c6ef372, 0xa54ff53a, 0x510e527f, 0x9b05688c, 0x1f83d9ab, 0x5be0cd19,
+];
 
 // The first bits of the fractional parts of the cube roots of the first 64 primes.
 #[rustfmt::skip]
@@ -47,7 +48,11 @@ const ROUNDS: [u32; 64] = [
 // fills one block or two: so many bytes of the array.
 fn padding(rest: &[u8], size: usize) -> ([u8; 2 * BLOCK], usize) {
     let mut end = [0; 2 * BLOCK];
-    let count = if rest.len() + 9 <= BLOCK { BLOCK } else { 2 * BLOCK };
+    let count = if rest.len() + 9 <= BLOCK {
+        BLOCK
+    } else {
+        2 * BLOCK
+    };
     end[..rest.len()].copy_from_slice(rest);
     end[rest.len()] = 0x80;
     end[count - 8..count].copy_from_slice(&(size as u64).wrapping_mul(8).to_be_bytes());
@@ -64,7 +69,10 @@ fn schedule(block: &[u8]) -> [u32; 64] {
         let (early, late) = (words[t - 15], words[t - 2]);
         let s0 = early.rotate_right(7) ^ early.rotate_right(18) ^ (early >> 3);
         let s1 = late.rotate_right(17) ^ late.rotate_right(19) ^ (late >> 10);
-        words[t] = words[t - 16].wrapping_add(s0).wrapping_add(words[t - 7]).wrapping_add(s1);
+        words[t] = words[t - 16]
+            .wrapping_add(s0)
+            .wrapping_add(words[t - 7])
+            .wrapping_add(s1);
     }
     words
 }
@@ -74,7 +82,11 @@ fn add_block(state: &mut [u32; 8], block: &[u8]) {
     for (word, constant) in schedule(block).into_iter().zip(ROUNDS) {
         let s1 = e.rotate_right(6) ^ e.rotate_right(11) ^ e.rotate_right(25);
         let chosen = (e & f) ^ (!e & g);
-        let first = h.wrapping_add(s1).wrapping_add(chosen).wrapping_add(constant).wrapping_add(word);
+        let first = h
+            .wrapping_add(s1)
+            .wrapping_add(chosen)
+            .wrapping_add(constant)
+            .wrapping_add(word);
         let s0 = a.rotate_right(2) ^ a.rotate_right(13) ^ a.rotate_right(22);
         let majority = (a & b) ^ (a & c) ^ (b & c);
         (h, g, f, e, d, c, b) = (g, f, e, d.wrapping_add(first), c, b, a);

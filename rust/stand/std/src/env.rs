@@ -59,7 +59,11 @@ pub fn args<R: Env>(rt: &R) -> io::Result<Args> {
     loop {
         match rt.argument(all.len()) {
             Ok(argument) => all.push(argument)?,
-            Err(VarError::NotPresent) => return Ok(Args { arguments: all.into_iter() }),
+            Err(VarError::NotPresent) => {
+                return Ok(Args {
+                    arguments: all.into_iter(),
+                });
+            }
             Err(VarError::NotUnicode) => return Err(io::Error::from(io::ErrorKind::InvalidData)),
             Err(VarError::OutOfMemory) => return Err(io::Error::from(AllocError)),
         }

@@ -13,7 +13,9 @@
 
 extern crate std as rust;
 
-pub use rust::{cmp, convert, default, error, fmt, hash, iter, marker, mem, ops, option, result, slice, str};
+pub use rust::{
+    cmp, convert, default, error, fmt, hash, iter, marker, mem, ops, option, result, slice, str,
+};
 pub use rust::{matches, unreachable, write, writeln};
 
 pub mod alloc;

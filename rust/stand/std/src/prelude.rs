@@ -3,7 +3,7 @@
 /// The prelude of edition 2024.
 pub mod rust_2024 {
     pub use crate::rt::{AllocGlobal, HostRuntime};
-    pub use crate::string::{Replace, String, ToString};
+    pub use crate::string::{Replace, String, TextToString, ToString};
     pub use crate::vec::Vec;
     pub use crate::{format, matches, unreachable, vec, write, writeln};
     pub use core::prelude::rust_2024::*;

@@ -50,7 +50,11 @@ impl u8x16 {
     #[cfg(not(target_arch = "x86_64"))]
     pub fn simd_eq(self, other: u8x16) -> mask8x16 {
         let pairs = self.0.iter().zip(other.0);
-        mask8x16(pairs.rev().fold(0, |mask, (one, two)| mask << 1 | u16::from(*one == two)))
+        mask8x16(
+            pairs
+                .rev()
+                .fold(0, |mask, (one, two)| mask << 1 | u16::from(*one == two)),
+        )
     }
 }
 

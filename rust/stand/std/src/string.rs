@@ -1,6 +1,6 @@
 //! Growable texts.
 
-use crate::alloc::{AllocError, Global};
+use crate::alloc::{AllocError, Global, allocated};
 use crate::vec::Vec;
 use core::borrow::Borrow;
 use core::fmt::{self, Write};
@@ -17,14 +17,15 @@ impl String {
     /// The empty text. It doesn't allocate.
     #[inline]
     pub const fn new(_alloc: Global) -> String {
-        String { text: rust::string::String::new() }
+        String {
+            text: rust::string::String::new(),
+        }
     }
 
     /// The empty text with room for `capacity` bytes.
     #[inline]
     pub fn with_capacity(_alloc: Global, capacity: usize) -> Result<String, AllocError> {
-        let mut text = rust::string::String::new();
-        text.try_reserve_exact(capacity)?;
+        let text = rust::string::String::from_utf8(allocated(capacity)?).unwrap_or_default();
         Ok(String { text })
     }
 
@@ -202,12 +203,28 @@ impl FromUtf8Error {
 /// A value's printed form.
 pub trait ToString: fmt::Display {
     /// What `{}` prints.
+    fn to_string(&self, alloc: Global) -> Result<String, AllocError>;
+}
+
+// Not for `str`, which has no size: it has `TextToString`.
+impl<T: fmt::Display> ToString for T {
     fn to_string(&self, alloc: Global) -> Result<String, AllocError> {
         String::format(alloc, format_args!("{self}"))
     }
 }
 
-impl<T: fmt::Display + ?Sized> ToString for T {}
+/// A text's printed form, which is a copy of it.
+pub trait TextToString {
+    /// A copy of the text.
+    fn to_string(&self, alloc: Global) -> Result<String, AllocError>;
+}
+
+impl TextToString for str {
+    #[inline]
+    fn to_string(&self, alloc: Global) -> Result<String, AllocError> {
+        String::from_str(alloc, self)
+    }
+}
 
 /// `str::replace`, under another name, since Rust's can't be hidden.
 pub trait Replace {

@@ -1,6 +1,6 @@
 //! Values with several owners.
 
-use crate::alloc::{AllocError, AllocFailed, Global};
+use crate::alloc::{AllocError, AllocFailed, Global, allocated};
 use crate::clone::TryClone;
 use core::fmt;
 use core::marker::PhantomData;
@@ -17,7 +17,7 @@ struct Counted<T> {
     value: T,
 }
 
-// An array of one, since a `Vec` is the only memory that Rust allocates without aborting, and it becomes one for free.
+// An array of one, since a vector with room for one item becomes that for free.
 type Block<T> = [Counted<T>; 1];
 
 /// Rust's `Arc` without weak owners, where making one can fail.
@@ -35,13 +35,18 @@ unsafe impl<T: Send + Sync> Sync for Arc<T> {}
 impl<T> Arc<T> {
     /// The only owner of `value`.
     pub fn new(_alloc: Global, value: T) -> Result<Arc<T>, AllocFailed<T>> {
-        let mut counted = rust::vec::Vec::new();
-        if counted.try_reserve_exact(1).is_err() {
+        let Ok(mut counted) = allocated(1) else {
             return Err(AllocFailed { value });
-        }
-        counted.push(Counted { owners: AtomicUsize::new(1), value });
+        };
+        counted.push(Counted {
+            owners: AtomicUsize::new(1),
+            value,
+        });
         match Box::<Block<T>>::try_from(counted.into_boxed_slice()) {
-            Ok(block) => Ok(Arc { block: NonNull::from(Box::leak(block)), owned: PhantomData }),
+            Ok(block) => Ok(Arc {
+                block: NonNull::from(Box::leak(block)),
+                owned: PhantomData,
+            }),
             Err(_) => unreachable!("one was pushed"),
         }
     }
@@ -49,8 +54,15 @@ impl<T> Arc<T> {
     /// Another owner of the same value. It fails only if there are too many.
     pub fn try_clone(this: &Arc<T>) -> Result<Arc<T>, AllocError> {
         let before = this.counted().owners.fetch_add(1, Ordering::Relaxed);
-        let other = Arc { block: this.block, owned: PhantomData };
-        if before > MOST_OWNERS { Err(AllocError) } else { Ok(other) }
+        let other = Arc {
+            block: this.block,
+            owned: PhantomData,
+        };
+        if before > MOST_OWNERS {
+            Err(AllocError)
+        } else {
+            Ok(other)
+        }
     }
 
     fn counted(&self) -> &Counted<T> {

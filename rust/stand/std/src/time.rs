@@ -15,7 +15,9 @@ pub struct Instant {
 impl Instant {
     /// Now.
     pub fn now<R: Clock>(_rt: &R) -> Result<Instant> {
-        Ok(Instant { instant: rust::time::Instant::now() })
+        Ok(Instant {
+            instant: rust::time::Instant::now(),
+        })
     }
 
     /// How long ago it was.

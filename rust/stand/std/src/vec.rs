@@ -1,6 +1,6 @@
 //! Growable arrays.
 
-use crate::alloc::{AllocError, AllocFailed, Global};
+use crate::alloc::{AllocError, AllocFailed, Global, allocated};
 use crate::clone::TryClone;
 use core::fmt;
 use core::ops::{Deref, DerefMut};
@@ -16,15 +16,17 @@ impl<T> Vec<T> {
     /// An empty vector. It doesn't allocate.
     #[inline]
     pub const fn new(_alloc: Global) -> Vec<T> {
-        Vec { items: rust::vec::Vec::new() }
+        Vec {
+            items: rust::vec::Vec::new(),
+        }
     }
 
     /// An empty vector with room for `capacity` items.
     #[inline]
     pub fn with_capacity(_alloc: Global, capacity: usize) -> Result<Vec<T>, AllocError> {
-        let mut items = rust::vec::Vec::new();
-        items.try_reserve_exact(capacity)?;
-        Ok(Vec { items })
+        Ok(Vec {
+            items: allocated(capacity)?,
+        })
     }
 
     /// Copies of `items`.
@@ -49,7 +51,10 @@ impl<T> Vec<T> {
     }
 
     /// The items of `array`.
-    pub fn from_array<const N: usize>(alloc: Global, array: [T; N]) -> Result<Vec<T>, AllocFailed<[T; N]>> {
+    pub fn from_array<const N: usize>(
+        alloc: Global,
+        array: [T; N],
+    ) -> Result<Vec<T>, AllocFailed<[T; N]>> {
         let Ok(mut made) = Vec::with_capacity(alloc, N) else {
             return Err(AllocFailed { value: array });
         };
@@ -95,6 +100,15 @@ impl<T> Vec<T> {
     #[inline]
     pub fn as_mut_slice(&mut self) -> &mut [T] {
         &mut self.items
+    }
+
+    /// Makes room for `additional` more items, and for no more than that if this is the first room.
+    #[inline]
+    pub(crate) fn reserve_first(&mut self, additional: usize) -> Result<(), AllocError> {
+        if self.items.capacity() == 0 {
+            self.items = allocated(additional)?;
+        }
+        self.reserve(1)
     }
 
     /// Makes room for `additional` more items.

@@ -15,10 +15,15 @@ pub struct BTreeMap<K, V> {
     entries: Vec<(K, V)>,
 }
 
+// The first room, which most maps never outgrow.
+const FIRST_ENTRIES: usize = 12;
+
 impl<K, V> BTreeMap<K, V> {
     /// An empty map. It doesn't allocate.
     pub const fn new(alloc: Global) -> BTreeMap<K, V> {
-        BTreeMap { entries: Vec::new(alloc) }
+        BTreeMap {
+            entries: Vec::new(alloc),
+        }
     }
 
     /// How many entries there are.
@@ -33,7 +38,9 @@ impl<K, V> BTreeMap<K, V> {
 
     /// The entries by rising keys.
     pub fn iter(&self) -> Iter<'_, K, V> {
-        Iter { entries: self.entries.iter() }
+        Iter {
+            entries: self.entries.iter(),
+        }
     }
 }
 
@@ -43,6 +50,11 @@ impl<K: Ord, V> BTreeMap<K, V> {
         match self.place(&key) {
             Ok(place) => Ok(Some(replace(&mut self.entries[place].1, value))),
             Err(place) => {
+                if self.entries.reserve_first(FIRST_ENTRIES).is_err() {
+                    return Err(AllocFailed {
+                        value: (key, value),
+                    });
+                }
                 self.entries.insert(place, (key, value))?;
                 Ok(None)
             }
@@ -91,7 +103,9 @@ impl<K: Ord, V> BTreeMap<K, V> {
     {
         match self.entries.last() {
             Some((last, _)) if last.borrow() < key => Err(self.entries.len()),
-            _ => self.entries.binary_search_by(|(other, _)| other.borrow().cmp(key)),
+            _ => self
+                .entries
+                .binary_search_by(|(other, _)| other.borrow().cmp(key)),
         }
     }
 }

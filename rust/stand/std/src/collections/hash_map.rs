@@ -11,10 +11,15 @@ pub struct HashMap<K, V> {
     entries: rust::collections::HashMap<K, V, BuildHasherDefault<FoldHasher>>,
 }
 
+// The first room, so that small maps grow once.
+const FIRST_ENTRIES: usize = 14;
+
 impl<K: Eq + Hash, V> HashMap<K, V> {
     /// An empty map. It doesn't allocate.
     pub fn new(_alloc: Global) -> HashMap<K, V> {
-        HashMap { entries: rust::collections::HashMap::default() }
+        HashMap {
+            entries: rust::collections::HashMap::default(),
+        }
     }
 
     /// An empty map with room for `capacity` entries.
@@ -22,6 +27,17 @@ impl<K: Eq + Hash, V> HashMap<K, V> {
         let mut map = HashMap::new(alloc);
         map.entries.try_reserve(capacity)?;
         Ok(map)
+    }
+
+    // Makes room for one more entry.
+    #[inline]
+    fn make_room(&mut self) -> Result<(), AllocError> {
+        let least = if self.entries.capacity() == 0 {
+            FIRST_ENTRIES
+        } else {
+            1
+        };
+        Ok(self.entries.try_reserve(least)?)
     }
 
     /// How many entries there are.
@@ -36,8 +52,10 @@ impl<K: Eq + Hash, V> HashMap<K, V> {
 
     /// Sets the value of `key`, and gives the one that it had. On an error the map is unchanged.
     pub fn insert(&mut self, key: K, value: V) -> Result<Option<V>, AllocFailed<(K, V)>> {
-        if self.entries.try_reserve(1).is_err() {
-            return Err(AllocFailed { value: (key, value) });
+        if self.make_room().is_err() {
+            return Err(AllocFailed {
+                value: (key, value),
+            });
         }
         Ok(self.entries.insert(key, value))
     }
@@ -45,7 +63,7 @@ impl<K: Eq + Hash, V> HashMap<K, V> {
     /// The place of `key`, with room for its value.
     #[inline]
     pub fn entry(&mut self, key: K) -> Result<Entry<'_, K, V>, AllocFailed<K>> {
-        if self.entries.try_reserve(1).is_err() {
+        if self.make_room().is_err() {
             return Err(AllocFailed { value: key });
         }
         Ok(self.entries.entry(key))

@@ -105,7 +105,9 @@ impl Error {
 impl From<rust_io::Error> for Error {
     fn from(error: rust_io::Error) -> Error {
         let number = error.raw_os_error();
-        let kind = number.and_then(kind_of_number).unwrap_or_else(|| kind_of(error.kind()));
+        let kind = number
+            .and_then(kind_of_number)
+            .unwrap_or_else(|| kind_of(error.kind()));
         Error { kind, number }
     }
 }
@@ -137,7 +139,11 @@ impl From<fmt::Error> for Error {
 impl fmt::Debug for Error {
     fn fmt(&self, f: &mut fmt::Formatter<'_>) -> fmt::Result {
         match self.number {
-            Some(number) => f.debug_struct("Os").field("code", &number).field("kind", &self.kind).finish(),
+            Some(number) => f
+                .debug_struct("Os")
+                .field("code", &number)
+                .field("kind", &self.kind)
+                .finish(),
             None => f.debug_tuple("Kind").field(&self.kind).finish(),
         }
     }

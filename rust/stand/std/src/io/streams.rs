@@ -81,7 +81,10 @@ pub trait Write {
     where
         Self: Sized,
     {
-        let mut printing = Printing { writer: self, error: None };
+        let mut printing = Printing {
+            writer: self,
+            error: None,
+        };
         let printed = fmt::Write::write_fmt(&mut printing, arguments);
         match printing.error {
             Some(error) => Err(error),

@@ -1,0 +1,58 @@
+# The rules that install and uninstall. The Makefile of the repository and that of the source tarball say where the programs and the
+# archive of the library are (cudaplan, zigrunk, archive), where the workspace of plain Rust is (workspace), and what makes them
+# (programs_from, library_from, crates_from). Nothing is proved again if out/ holds what these sources make. Otherwise each part builds what
+# it installs, so that those who want one part don't wait for the other.
+install: install-programs install-library install-rust
+
+install-programs:
+	@$(programs_from)
+	install -D -m 755 $(cudaplan) "$(target)/bin/cudaplan"
+	install -D -m 755 $(zigrunk) "$(target)/bin/zigrunk"
+	install -D -m 755 bin/zigrunk-nvcc "$(target)/bin/zigrunk-nvcc"
+	install -D -m 755 bin/zigrunk-batch "$(target)/bin/zigrunk-batch"
+	install -D -m 755 bin/zigrunk-slot "$(target)/bin/zigrunk-slot"
+	install -D -m 755 bin/zigrunk-report "$(target)/bin/zigrunk-report"
+	install -D -m 755 bin/zigrunk-plan "$(target)/bin/zigrunk-plan"
+	install -D -m 644 man/zigrunk.1 "$(target)/share/man/man1/zigrunk.1"
+	install -D -m 644 man/zigrunk-nvcc.1 "$(target)/share/man/man1/zigrunk-nvcc.1"
+	install -D -m 644 man/zigrunk-batch.1 "$(target)/share/man/man1/zigrunk-batch.1"
+	ln -sf zigrunk.1 "$(target)/share/man/man1/cudaplan.1"
+	ln -sf zigrunk-nvcc.1 "$(target)/share/man/man1/zigrunk-slot.1"
+	ln -sf zigrunk-nvcc.1 "$(target)/share/man/man1/zigrunk-report.1"
+	ln -sf zigrunk-nvcc.1 "$(target)/share/man/man1/zigrunk-plan.1"
+	install -D -m 644 completions/zigrunk.bash "$(target)/share/bash-completion/completions/zigrunk"
+	ln -sf zigrunk "$(target)/share/bash-completion/completions/cudaplan"
+	ln -sf zigrunk "$(target)/share/bash-completion/completions/zigrunk-nvcc"
+	ln -sf zigrunk "$(target)/share/bash-completion/completions/zigrunk-batch"
+	install -D -m 644 completions/_zigrunk "$(target)/share/zsh/site-functions/_zigrunk"
+	find examples -type f ! -path '*/__pycache__/*' | while read -r file; do \
+		[ -x "$$file" ] && mode=755 || mode=644; install -D -m "$$mode" "$$file" "$(target)/share/zigrunk/$$file" || exit 1; done
+	install -d -m 755 "$(target)/share/doc/zigrunk"
+	install -m 644 README.md docs/*.md docs/*.json docs/*.svg "$(target)/share/doc/zigrunk"
+
+# The library is linked here, from the archive: the header and the version are always those of this folder.
+install-library:
+	@$(library_from)
+	umask 022 && bindings/c/library.sh $(archive) "$(target)"
+	install -D -m 644 man/zigrunk.h.3 "$(target)/share/man/man3/zigrunk.h.3"
+	find bindings/c bindings/python -type f ! -path '*/c/library.sh' ! -path '*/c/zigrunk.*' ! -path '*/__pycache__/*' | while read -r file; do \
+		install -D -m 644 "$$file" "$(target)/share/zigrunk/$${file#bindings/}" || exit 1; done
+
+# The crate for Rust, with the crates that it is made of: `cargo add --path PREFIX/share/zigrunk/rust/zigrunk`.
+install-rust:
+	@$(crates_from)
+	if [ -d $(workspace)/crates ]; then cd $(workspace) && \
+		find Cargo.toml crates stand zigrunk zigrunk-sys driver -type f | while read -r file; do \
+		install -D -m 644 "$$file" "$(abspath $(target))/share/zigrunk/rust/$$file" || exit 1; done; fi
+
+uninstall:
+	rm -f "$(target)/bin/cudaplan" "$(target)/bin/zigrunk" "$(target)/bin/zigrunk-nvcc" "$(target)/bin/zigrunk-batch"
+	rm -f "$(target)/share/man/man1/zigrunk.1" "$(target)/share/man/man1/zigrunk-nvcc.1" "$(target)/share/man/man1/cudaplan.1"
+	for name in slot report plan; do rm -f "$(target)/bin/zigrunk-$$name" "$(target)/share/man/man1/zigrunk-$$name.1"; done
+	rm -f "$(target)/share/man/man1/zigrunk-batch.1" "$(target)/share/man/man3/zigrunk.h.3"
+	rm -f "$(target)/share/bash-completion/completions/zigrunk" "$(target)/share/bash-completion/completions/cudaplan"
+	rm -f "$(target)/share/bash-completion/completions/zigrunk-nvcc" "$(target)/share/bash-completion/completions/zigrunk-batch"
+	rm -f "$(target)/share/zsh/site-functions/_zigrunk"
+	rm -f "$(target)/lib/libzigrunk.a" "$(target)/lib/libzigrunk.so" "$(target)/lib/libzigrunk.so.1"
+	rm -f "$(target)/lib/pkgconfig/zigrunk.pc" "$(target)/include/zigrunk.h"
+	rm -rf "$(target)/share/zigrunk" "$(target)/share/doc/zigrunk"

@@ -1,0 +1,87 @@
+#!/usr/bin/env bash
+# Tests the plain Rust that the eraser writes: its text beside the proved sources, and then what cargo builds of it, by the same cases as
+# the proved programs, libzigrunk and drivers. It needs neither the kit nor a network. The last line is 'N passed, M failed'.
+# tests/stand_ins.sh tests what these crates have in place of the kit's std, tests/rust_crate.sh the crate for Rust.
+#
+#   tests/plain_rust.sh [FOLDER [PART..]]   FOLDER: where the workspace and what cargo builds stay; nothing stays unless it is given
+#                                           PART: text workspace programs library drivers; all of them unless given
+#
+# No answer differs from the proved build's. Of libzigrunk this differs: it needs more of the C library, since it has Rust's std in it, and
+# for the same reason its archive can't be linked into a Rust program.
+set -u
+cd "$(dirname "$0")/.." || exit 1
+. tests/lib.sh
+folder=$(realpath -m "${1:-$scratch/rust}")
+shift $(($# > 0 ? 1 : 0))
+parts=("$@")
+[ $# -gt 0 ] || parts=(text workspace programs library drivers)
+built=$folder/target/release
+export CARGO_NET_OFFLINE=true
+
+# script NAME COMMAND..: runs another script, shows what it says, and adds its counts.
+script() {
+    local status
+    "${@:2}" > "$scratch/script" 2>&1
+    status=$?
+    head -n -1 "$scratch/script"
+    add "$status" "$scratch/script" || echo "$1: its last line has no counts"
+}
+
+# write: the eraser writes the workspace, with the drivers that run cases, and cargo builds it.
+write() {
+    cargo run --quiet --release --locked --target-dir "$folder/eraser" --manifest-path rust/Cargo.toml -p eraser -- --drivers . "$folder" &&
+        cargo build --quiet --release --target-dir "$folder/target" --manifest-path "$folder/Cargo.toml"
+}
+
+# text: each token of the output is explained by its source, and edits drawn by lot aren't. The commit draws them.
+text() {
+    script 'the text' tests/erased.py "$folder"
+    script 'edits of the text' tests/erased.py --edits "${EDITS:-20}" --seed "$(git rev-parse HEAD 2> /dev/null)" "$folder"
+}
+
+# workspace: what cargo's tools say of all crates, the stand-ins among them.
+workspace() {
+    local words=(--manifest-path "$folder/Cargo.toml")
+    export CARGO_TARGET_DIR=$folder/target
+    check 'the layout by rustfmt' cargo fmt --all --check "${words[@]}"
+    check 'clippy' cargo clippy --quiet --workspace --all-targets "${words[@]}" -- -D warnings
+    check 'the pages, without a missing one' env RUSTDOCFLAGS='-D warnings -D missing-docs' cargo doc --quiet --no-deps --workspace "${words[@]}"
+    unset CARGO_TARGET_DIR
+}
+
+programs() {
+    script 'the programs' tests/program.sh "$built/cudaplan" "$built/zigrunk"
+}
+
+library() {
+    script 'libzigrunk' tests/c_library.sh --plain "$built/libzigrunk.a"
+}
+
+# drive NAME: a driver's cases. It has to write what its `stdout` has, which counts them.
+drive() {
+    local words=() cases status problem='' source=tests/drivers/$1
+    mkdir "$scratch/$1"
+    cp -r "$source/data" "$scratch/$1/data"
+    mapfile -t words < "$source/args"
+    (cd "$scratch/$1/data" && "$built/$1" "${words[@]}") > "$scratch/$1/out" 2> "$scratch/$1/err" < /dev/null
+    status=$?
+    cases=$(sed -n 's/^[^:]*: \([0-9]*\) cases$/\1/p' "$scratch/$1/out" | paste -sd+ | bc)
+    if [ "$status" != 0 ] || ! diff "$source/stdout" "$scratch/$1/out" > "$scratch/$1/diff" || [ "${cases:-0}" -eq 0 ]; then
+        problem="status $status"$'\n'$(cat "$scratch/$1/diff")$'\n'$(tail -c 600 "$scratch/$1/err")
+    else
+        passed=$((passed + cases - 1))
+    fi
+    count "$1" "$problem"
+}
+
+drivers() {
+    drive test_lines
+    drive test_plans
+}
+
+require 'plain Rust' cargo rustfmt
+check 'the eraser and cargo' write
+if [ "$failed" -eq 0 ]; then
+    for part in "${parts[@]}"; do "$part"; done
+fi
+summary
