@@ -5,6 +5,8 @@ target = $(DESTDIR)$(PREFIX)
 
 # What `make install` installs: `proved`, which needs the Rattle kit, or `plain`, the same sources as plain Rust, which needs cargo.
 BUILT ?= $(if $(shell command -v rt),proved,plain)
+workspace = out/rust
+crates_from = if command -v cargo > /dev/null; then $(MAKE) rust-sources; else echo 'no cargo, so no crate for Rust'; fi
 ifeq ($(BUILT),plain)
 built = out/rust/target/release
 cudaplan = $(built)/cudaplan
@@ -20,7 +22,7 @@ programs_from = .ci/built check programs || $(MAKE) build
 library_from = .ci/built check library || $(MAKE) lib
 endif
 
-.PHONY: help demo build lib rust rust-install check install install-programs install-library uninstall dist bench drivers fuzz-library must-fail refused-memory end-to-end odd-calls random-calls versions cache cache-example peer cluster field mutants test-install dist-test check-docs lint test
+.PHONY: help demo build lib rust rust-sources rust-install check install install-programs install-library install-rust uninstall dist bench drivers fuzz-library must-fail refused-memory end-to-end odd-calls random-calls versions cache cache-example peer cluster field mutants platforms test-install dist-test check-docs lint test
 
 help:
 	@echo 'make demo             run cudaplan, unproved, on two calls; a minute from a fresh clone'
@@ -51,11 +53,12 @@ help:
 	@echo '                      downloads 80 MB from Debian; PROJECTS="bart ceres" builds only these. No part of the gate'
 	@echo 'make cluster          build on a Slurm that it starts on this machine, and let nodes vanish; needs nvcc, slurm-wlm, munge, iproute2; root'
 	@echo 'make mutants          check that the tests catch wrong edits of zigrunk-nvcc, zigrunk-slot, zigrunk-plan and zigrunk-batch'
+	@echo 'make platforms        build the plain Rust for other platforms in a root of Debian 13, and run the cases there; needs root'
 	@echo 'make check-docs       check links, quoted code and names in the pages, and the version number'
 	@echo 'make lint             check shell, Python and Rust: shellcheck, mypy, flake8, clippy and rustfmt, as far as they are installed'
 	@echo 'make test-install     install into an empty directory, run the programs from there, uninstall'
-	@echo 'make dist             pack the built programs: a tarball, a Debian package and their checksums, in dist/'
-	@echo 'make dist-test        install the Debian package in fresh Debian roots, run it there, remove it; needs root'
+	@echo 'make dist             pack the sources as plain Rust, Debian packages of them, and the proved programs if built; in dist/'
+	@echo 'make dist-test        build the sources and install the package in fresh Debian roots, run all there, remove it; needs root'
 	@echo 'make bench            time calls of the library'
 
 # A cicc line that is read and written back, and the plan of two real dry runs: the calls in demo/.
@@ -86,9 +89,11 @@ lib:
 	bindings/c/library.sh crates/zigrunk_c/out/libzigrunk_c.a "$(CURDIR)/out"
 
 # The proved sources as crates of plain Rust (docs/PLAIN_RUST.md), and programs and library of them: no kit, no network.
-rust:
-	cargo run --quiet --release --manifest-path rust/Cargo.toml -p eraser -- . out/rust
+rust: rust-sources
 	cd out/rust && cargo build --release
+
+rust-sources:
+	cargo run --quiet --release --manifest-path rust/Cargo.toml -p eraser -- . out/rust
 
 include packaging/install.mk
 
@@ -173,9 +178,11 @@ lint:
 
 # Proves nothing. Two runs from one commit give the same bytes.
 dist:
-	@.ci/built check programs || $(MAKE) build
-	@.ci/built check library || $(MAKE) lib
 	@packaging/dist.sh
+
+# Outside the gate.
+platforms:
+	@tests/platforms.sh
 
 dist-test:
 	@packaging/test.sh

@@ -172,7 +172,8 @@ if can_build aarch64-unknown-linux-gnu aarch64-linux-gnu-; then
 else
     echo 'no package for arm64: rustc lacks its library, or there is no aarch64-linux-gnu-gcc'
 fi
-if .ci/built check programs && .ci/built check library; then
+# (rt ci leaves no object files of programs that an earlier run proved)
+if .ci/built check programs && .ci/built check library && [ -s crates/cudaplan/out/cudaplan.o ] && [ -s crates/zigrunk/out/zigrunk.o ]; then
     pack_proved
 else
     echo "no $name-x86_64-linux.tar.gz: crates/*/out lack what these sources make; make build and make lib prove and build it"

@@ -1,7 +1,8 @@
 # The rules that install and uninstall. The Makefile of the repository and that of the source tarball say where the programs and the
-# archive of the library are (cudaplan, zigrunk, archive), and what makes them (programs_from, library_from). Nothing is proved again if
-# out/ holds what these sources make. Otherwise each part builds what it installs, so that those who want one part don't wait for the other.
-install: install-programs install-library
+# archive of the library are (cudaplan, zigrunk, archive), where the workspace of plain Rust is (workspace), and what makes them
+# (programs_from, library_from, crates_from). Nothing is proved again if out/ holds what these sources make. Otherwise each part builds what
+# it installs, so that those who want one part don't wait for the other.
+install: install-programs install-library install-rust
 
 install-programs:
 	@$(programs_from)
@@ -34,8 +35,15 @@ install-library:
 	@$(library_from)
 	umask 022 && bindings/c/library.sh $(archive) "$(target)"
 	install -D -m 644 man/zigrunk.h.3 "$(target)/share/man/man3/zigrunk.h.3"
-	find bindings -type f ! -path '*/c/library.sh' ! -path '*/c/zigrunk.*' ! -path '*/rust/tests/*' ! -path '*/target/*' ! -path '*/__pycache__/*' -printf '%P\n' | \
-		while read -r file; do install -D -m 644 "bindings/$$file" "$(target)/share/zigrunk/$$file" || exit 1; done
+	find bindings/c bindings/python -type f ! -path '*/c/library.sh' ! -path '*/c/zigrunk.*' ! -path '*/__pycache__/*' | while read -r file; do \
+		install -D -m 644 "$$file" "$(target)/share/zigrunk/$${file#bindings/}" || exit 1; done
+
+# The crate for Rust, with the crates that it is made of: `cargo add --path PREFIX/share/zigrunk/rust/zigrunk`.
+install-rust:
+	@$(crates_from)
+	if [ -d $(workspace)/crates ]; then cd $(workspace) && \
+		find Cargo.toml crates stand zigrunk zigrunk-sys driver -type f | while read -r file; do \
+		install -D -m 644 "$$file" "$(abspath $(target))/share/zigrunk/rust/$$file" || exit 1; done; fi
 
 uninstall:
 	rm -f "$(target)/bin/cudaplan" "$(target)/bin/zigrunk" "$(target)/bin/zigrunk-nvcc" "$(target)/bin/zigrunk-batch"

@@ -9,8 +9,10 @@ zigrunk = $(built)/zigrunk
 archive = $(built)/libzigrunk.a
 programs_from ?= $(MAKE) build
 library_from ?= $(MAKE) build
+workspace = .
+crates_from = :
 
-.PHONY: build demo install install-programs install-library uninstall
+.PHONY: build demo install install-programs install-library install-rust uninstall
 
 build:
 	$(CARGO) build --release --offline --locked

@@ -1,22 +1,22 @@
 #!/usr/bin/env bash
-# Installs dist/*.deb in fresh roots of three releases of Debian and of Ubuntu 22.04, runs the programs there, builds a C program with
-# the library, looks for what the installed pages name, runs the tarball's programs, removes the package, and sees that nothing stays.
-# Needs root, debootstrap and the network, else it is skipped with a message.
-# The last line is "N passed, M failed".
+# Fresh roots of Debian and Ubuntu. In each it installs dist/*.deb, runs the programs, builds a C program with the library, looks for what the
+# installed pages name, removes the package, and sees that nothing stays. Where the release has rustc 1.85, it then builds and installs a
+# clone by the two commands of README, and the source tarball, and plans by the crate for Rust in a new project: there is no kit and, while
+# they build, no network. Needs root, debootstrap and the network, else it is skipped with a message. The last line is "N passed, M failed".
 #
-#   packaging/test.sh [ROOT..]     ROOT: a release, or the folder of a root, which is copied; by default these four releases
+#   packaging/test.sh [ROOT..]     ROOT: a release, or RELEASE:ARCHITECTURE, for which the kernel has to have an emulator, or the folder of
+#                                  a root, which is copied. By default four releases, and arm64 if it can run here
 set -u
 cd "$(dirname "$0")/.." || exit 1
 . tests/lib.sh
-[ "$(id -u)" -eq 0 ] || skip_all 'the package' 'that needs root'
-require 'the package' debootstrap
-package=$(echo dist/*.deb)
-if [ ! -f "$package" ]; then
-    count 'dist/*.deb' 'there is none; make dist makes it'
+[ "$(id -u)" -eq 0 ] || skip_all 'the packages' 'that needs root'
+require 'the packages' debootstrap git
+version=$(cat VERSION)
+if [ ! -f "dist/zigrunk-$version.tar.gz" ]; then
+    count 'dist' 'it has no packages; make dist makes them'
     summary
     exit
 fi
-version=$(cat VERSION)
 trap 'rm -rf --one-file-system "$scratch"' EXIT
 
 # no_mention COMMAND..: whether a command succeeds and prints nothing about this project.
@@ -29,83 +29,176 @@ all_found() {
     "$@" > "$scratch/printed" 2>&1 && ! grep -E 'not found|undefined' "$scratch/printed"
 }
 
-# bootstrap RELEASE FOLDER: a fresh root. Debian doesn't have Ubuntu's keys, so nobody checks who signed Ubuntu's packages.
+# bootstrap RELEASE ARCHITECTURE FOLDER: a fresh root. Debian doesn't have Ubuntu's keys, so nobody checks who signed Ubuntu's packages.
 bootstrap() {
-    local words=(--variant=minbase)
+    local words=(--variant=minbase "--arch=$2")
     case $1 in
     jammy | noble) words+=("--components=main,universe" --no-check-gpg) ;;
     esac
-    debootstrap "${words[@]}" "$1" "$2"
+    debootstrap "${words[@]}" "$1" "$3"
 }
 
-# pages ROOT: the text of the installed pages.
+inside() {
+    chroot "$root" env -C /root DEBIAN_FRONTEND=noninteractive LC_ALL=C "$@"
+}
+
+# offline COMMAND..: the same without a network.
+offline() {
+    unshare --net chroot "$root" env -C /root LC_ALL=C CARGO_HOME=/root/cargo "$@"
+}
+
+# pages: the text of the installed pages.
 pages() {
-    gzip -dcf "$1"/usr/share/man/man[13]/*zigrunk* "$1"/usr/share/man/man1/cudaplan* "$1"/usr/share/doc/zigrunk/*.* | sed 's/\\-/-/g'
+    gzip -dcf "$root"/usr/share/man/man[13]/*zigrunk* "$root"/usr/share/man/man1/cudaplan* "$root"/usr/share/doc/zigrunk/*.* | sed 's/\\-/-/g'
 }
 
-# named_files ROOT: what the installed pages name is installed too: this project's files, and its pages.
+# named_files: what the installed pages name is installed too: this project's files, and its pages.
 named_files() {
-    pages "$1" | grep -oE '/usr/(share|lib|include|bin)/[A-Za-z0-9_./+-]*(zigrunk|cudaplan)[A-Za-z0-9_./+-]*[A-Za-z0-9]' > "$scratch/named"
-    pages "$1" | sed -nE 's,^\.BR ((zigrunk|cudaplan)[a-z.-]*) \(([0-9])\).*,/usr/share/man/man\3/\1.\3.gz,p' >> "$scratch/named"
+    pages | grep -oE '/usr/(share|lib|include|bin)/[A-Za-z0-9_./+-]*(zigrunk|cudaplan)[A-Za-z0-9_./+-]*[A-Za-z0-9]' > "$scratch/named"
+    pages | sed -nE 's,^\.BR ((zigrunk|cudaplan)[a-z.-]*) \(([0-9])\).*,/usr/share/man/man\3/\1.\3.gz,p' >> "$scratch/named"
     [ -s "$scratch/named" ] && LC_ALL=C sort -u "$scratch/named" | while read -r name; do
-        [ -e "$1$name" ] || echo "missing: $name"
+        [ -e "$root$name" ] || echo "missing: $name"
     done > "$scratch/missing"
     cat "$scratch/missing"
     [ ! -s "$scratch/missing" ]
 }
 
+# nothing_stays: whether no file of this project is installed.
+nothing_stays() {
+    prints '' find "$root/usr" "$root/etc" "$root/var" -name '*zigrunk*' -o -name '*cudaplan*'
+}
+
 # shellcheck disable=SC2016 # for sh
 first_commands='eval "$(zigrunk calls /w /t nvcc -c k.cu -o k.o)"; echo "$flag"; echo "$first_dry_run" | grep -o -e --dryrun'
 dry_runs=$'-c\n--dryrun'
-[ $# -gt 0 ] || set -- bullseye bookworm trixie jammy
-for release in "$@"; do
-    root=$scratch/${release##*/}
-    started=$SECONDS
-    if [ -d "$release" ]; then
-        cp -a --one-file-system "$release" "$root"
-    elif ! bootstrap "$release" "$root" > "$scratch/said" 2>&1; then
-        skip "$release" "$(tail -n 1 "$scratch/said")"
-        continue
-    fi
-    cp "$package" tests/drivers/test_plans/data/dry_runs/one_target.dry* "$root/root"
-    # stand-ins for the tools that the dry runs name
+
+# prepare: the dry runs of a call, and stand-ins for the tools that they name.
+prepare() {
+    local tool
+    cp tests/drivers/test_plans/data/dry_runs/one_target.dry* "$root/root"
     mkdir -p "$root/root/t" "$root/opt/cuda/bin" "$root/opt/cuda/nvvm/bin"
     for tool in bin/gcc bin/cudafe++ bin/ptxas bin/fatbinary nvvm/bin/cicc; do
         ln -s /bin/true "$root/opt/cuda/$tool"
     done
-    inside=(chroot "$root" env -C /root DEBIAN_FRONTEND=noninteractive LC_ALL=C)
-    check "$release: apt-get update" "${inside[@]}" apt-get update
-    check "$release: the package installs" "${inside[@]}" apt-get install -y --no-install-recommends "/root/${package##*/}"
-    check "$release: the version" prints "zigrunk $version" "${inside[@]}" zigrunk --version
-    check "$release: a plan" "${inside[@]}" cudaplan plan /w /t -c one_target.dry1 one_target.dry2
-    check "$release: both dry runs of a call" prints "$dry_runs" "${inside[@]}" sh -c "$first_commands"
-    check "$release: a plan as JSON" "${inside[@]}" zigrunk json /root /root/t -c one_target.dry1 one_target.dry2
-    check "$release: a plan that Ninja runs" "${inside[@]}" sh -c \
-        'zigrunk ninja /root /root/t -c one_target.dry1 one_target.dry2 > build.ninja && ninja'
-    check "$release: zigrunk-nvcc, for a call that isn't split" prints '--preprocess k.cu' "${inside[@]}" \
-        env ZIGRUNK_NVCC=echo zigrunk-nvcc --preprocess k.cu
-    check "$release: what the library needs" all_found "${inside[@]}" ldd -r /usr/lib/libzigrunk.so.1
-    check "$release: a compiler" "${inside[@]}" apt-get install -y --no-install-recommends gcc libc6-dev pkg-config
+}
+
+# programs NAME: the programs on the path.
+programs() {
+    check "$1: the version" prints "zigrunk $version" inside zigrunk --version
+    check "$1: a plan" inside cudaplan plan /w /t -c one_target.dry1 one_target.dry2
+    check "$1: both dry runs of a call" prints "$dry_runs" inside sh -c "$first_commands"
+    check "$1: a plan as JSON" inside zigrunk json /root /root/t -c one_target.dry1 one_target.dry2
+}
+
+# in_c NAME PREFIX: programs in C with the installed library.
+in_c() {
     # shellcheck disable=SC2016 # for sh
-    check "$release: the example in C" "${inside[@]}" sh -c \
-        'cc -o example /usr/share/zigrunk/c/example.c $(pkg-config --cflags --libs zigrunk)'
-    check "$release: what it prints" prints $'0: a\n1: \'b c\'' "${inside[@]}" ./example 'a "b c"'
-    check "$release: the example with the archive" "${inside[@]}" \
-        cc -o archived /usr/share/zigrunk/c/example.c /usr/lib/libzigrunk.a
-    check "$release: what that prints" prints $'0: a\n1: \'b c\'' "${inside[@]}" ./archived 'a "b c"'
+    check "$1: the example in C" inside env "PKG_CONFIG_PATH=$2/lib/pkgconfig" sh -c \
+        'cc -o example "$1/share/zigrunk/c/example.c" $(pkg-config --cflags --libs zigrunk)' _ "$2"
+    check "$1: what it prints" prints $'0: a\n1: \'b c\'' inside env "LD_LIBRARY_PATH=$2/lib" ./example 'a "b c"'
+    check "$1: the example with the archive" inside cc -o archived "-I$2/include" "$2/share/zigrunk/c/example.c" "$2/lib/libzigrunk.a"
+    check "$1: what that prints" prints $'0: a\n1: \'b c\'' inside ./archived 'a "b c"'
     # shellcheck disable=SC2016 # for sh
-    check "$release: a plan by a program in C" "${inside[@]}" sh -c 'cc -o plan /usr/share/zigrunk/c/plan.c \
-        $(pkg-config --cflags --libs zigrunk) && ./plan /root /root/t -c one_target.dry1 one_target.dry2 > script &&
-        grep -q cicc script && sh -n script'
-    check "$release: what its pages name" named_files "$root"
-    tar -x -C "$root/root" -f "${package%/*}/zigrunk-$version-x86_64-linux.tar.gz"
-    check "$release: the tarball, from another folder" prints "zigrunk $version" "${inside[@]}" \
-        env -C / "/root/zigrunk-$version-x86_64-linux/bin/zigrunk" --version
-    check "$release: its scripts find the program beside them" prints "$dry_runs" "${inside[@]}" env -C / \
-        PATH="/root/zigrunk-$version-x86_64-linux/bin:/usr/bin:/bin" sh -c "$first_commands"
-    check "$release: removing it" "${inside[@]}" apt-get purge -y zigrunk
-    check "$release: nothing stays" prints '' find "$root/usr" "$root/etc" "$root/var" -name '*zigrunk*' -o -name '*cudaplan*'
-    check "$release: the linker has forgotten it" no_mention "${inside[@]}" ldconfig -p
-    echo "$release took $((SECONDS - started)) s, with glibc $("${inside[@]}" ldd --version | sed -n '1s/.* //p')"
+    check "$1: a plan by a program in C" inside env "PKG_CONFIG_PATH=$2/lib/pkgconfig" "LD_LIBRARY_PATH=$2/lib" sh -c \
+        'cc -o plan "$1/share/zigrunk/c/plan.c" $(pkg-config --cflags --libs zigrunk) &&
+        ./plan /root /root/t -c one_target.dry1 one_target.dry2 > script && grep -q cicc script && sh -n script' _ "$2"
+}
+
+# package NAME FILE: the Debian package.
+package() {
+    cp "$2" "$root/root"
+    check "$1: the package installs" inside apt-get install -y --no-install-recommends "/root/${2##*/}"
+    programs "$1"
+    check "$1: a plan that Ninja runs" inside sh -c 'zigrunk ninja /root /root/t -c one_target.dry1 one_target.dry2 > build.ninja && ninja'
+    check "$1: zigrunk-nvcc, for a call that isn't split" prints '--preprocess k.cu' inside env ZIGRUNK_NVCC=echo zigrunk-nvcc --preprocess k.cu
+    check "$1: what the library needs" all_found inside ldd -r /usr/lib/libzigrunk.so.1
+    check "$1: a compiler" inside apt-get install -y --no-install-recommends gcc libc6-dev pkg-config
+    in_c "$1" /usr
+    check "$1: what its pages name" named_files
+    check "$1: removing it" inside apt-get purge -y zigrunk
+    check "$1: nothing stays" nothing_stays
+    check "$1: the linker has forgotten it" no_mention inside ldconfig -p
+}
+
+# proved NAME: the tarball of the proved programs, which are for x86-64.
+proved() {
+    local tarball=dist/zigrunk-$version-x86_64-linux.tar.gz bin=/root/zigrunk-$version-x86_64-linux/bin
+    [ -f "$tarball" ] || return 0
+    tar -x -C "$root/root" -f "$tarball"
+    check "$1: the proved tarball, from another folder" prints "zigrunk $version" inside env -C / "$bin/zigrunk" --version
+    check "$1: its scripts find the program beside them" prints "$dry_runs" inside env -C / PATH="$bin:/usr/bin:/bin" sh -c "$first_commands"
+}
+
+# new_project PREFIX: a program in Rust that plans, in a new project.
+new_project() {
+    offline cargo new --quiet --vcs none planner && offline env -C /root/planner cargo add --quiet --offline --path "$1/share/zigrunk/rust/zigrunk" || return 1
+    cat > "$root/root/planner/src/main.rs" << 'END'
+use zigrunk::{NvccCall, variables};
+
+fn main() {
+    let environment: Vec<_> = std::env::vars_os().collect();
+    let words = ["-c", "k.cu", "-o", "k.o"];
+    let call = NvccCall { cwd: "/w", tmp: "/t", nvcc: "/none", words: &words, variables: &variables(&environment) };
+    println!("{}", call.plan().is_err());
+}
+END
+    prints true offline env -C /root/planner cargo run --quiet --offline
+}
+
+# sources NAME TOOL..: a clone and the source tarball, with the packages that have rustc and cargo.
+sources() {
+    local name=$1
+    shift
+    mkdir -p "$root/root/clone"
+    git archive HEAD | tar -x -C "$root/root/clone"
+    check "$name: cargo" inside apt-get install -y --no-install-recommends make gcc libc6-dev pkg-config "$@"
+    check "$name: make rust" offline make -s -C clone rust
+    check "$name: make install" offline make -s -C clone install PREFIX=/usr/local
+    programs "$name, a clone"
+    in_c "$name, a clone" /usr/local
+    # shellcheck disable=SC2016 # for sh
+    check "$name: make demo" sh -c 'chroot "$1" make -s -C /root/clone demo | grep -q "cicc --c++17"' _ "$root"
+    check "$name: a new project in Rust" new_project /usr/local
+    check "$name: make uninstall" inside make -s -C clone uninstall PREFIX=/usr/local
+    check "$name: nothing of the clone stays" nothing_stays
+    tar -x -C "$root/root" -f "dist/zigrunk-$version.tar.gz"
+    check "$name: the source tarball" offline make -s -C "zigrunk-$version" install PREFIX=/usr/local
+    programs "$name, the source tarball"
+    check "$name: removing it" inside make -s -C "zigrunk-$version" uninstall PREFIX=/usr/local
+    check "$name: nothing of the tarball stays" nothing_stays
+}
+
+if [ $# -eq 0 ]; then
+    set -- bookworm trixie jammy noble
+    ! grep -qs enabled /proc/sys/fs/binfmt_misc/qemu-aarch64 || set -- "$@" bookworm:arm64
+fi
+for release in "$@"; do
+    architecture=amd64
+    [[ $release != *:* ]] || architecture=${release#*:}
+    root=$scratch/${release##*/}
+    started=$SECONDS
+    if [ -d "$release" ]; then
+        cp -a --one-file-system "$release" "$root"
+    elif ! bootstrap "${release%:*}" "$architecture" "$root" > "$scratch/said" 2>&1; then
+        skip "$release" "$(tail -n 1 "$scratch/said")"
+        continue
+    fi
+    prepare
+    check "$release: apt-get update" inside apt-get update
+    if [ -f "dist/zigrunk_${version}_$architecture.deb" ]; then
+        package "$release" "dist/zigrunk_${version}_$architecture.deb"
+    else
+        skip "$release, the package" "dist has none for $architecture"
+    fi
+    [ "$architecture" != amd64 ] || proved "$release"
+    if inside apt-cache show cargo-web > /dev/null 2>&1 && ! inside apt-cache policy rustc | grep -q 'Candidate: 1\.[89]'; then
+        sources "$release" rustc-web cargo-web
+    elif inside apt-cache policy rustc | grep -qE 'Candidate: 1\.(8[5-9]|9)'; then
+        sources "$release" rustc cargo
+    else
+        skip "$release, the sources" 'it has no rustc 1.85'
+    fi
+    echo "$release took $((SECONDS - started)) s, with glibc $(inside ldd --version | sed -n '1s/.* //p')"
+    rm -rf --one-file-system "$root"
 done
 summary

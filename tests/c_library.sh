@@ -228,34 +228,6 @@ python() {
     unset ZIGRUNK_LIBRARY PYTHONPATH
 }
 
-# grouped PROGRAM: the example in Rust that groups prints the groups and the commands of each plan, and which were dropped.
-grouped() {
-    local program=$1 name
-    for name in "${real_calls[@]}"; do
-        "$program" /w /t "$(cat "$data/$name.flag")" "$data/$name.dry1" "$data/$name.dry2" > "$scratch/groups" || return 1
-        diff <(sed -E 's/^(group [0-9]+|no|yes|dropped).*/\1/' "$data/$name.plan") \
-            <(sed -E 's/^    cached.*/yes/; s/^    run.*/no/; s/^(group [0-9]+|dropped),.*/\1/' "$scratch/groups") || return 1
-    done
-}
-
-# crate LIBRARY: the crate for Rust: its tests and its pages (clippy is in tests/lint.sh). Cargo takes nothing from a network here, and
-# leaves nothing in the repository.
-crate() {
-    local library=$1 manifest=(--offline --locked --manifest-path bindings/rust/Cargo.toml) start=$SECONDS
-    has cargo cc || return
-    export ZIGRUNK_LIB_DIR=$library/lib CARGO_TARGET_DIR=$scratch/cargo
-    check 'the tests of the crate' cargo test "${manifest[@]}"
-    check 'the script that an example of it writes' script "$library" "$CARGO_TARGET_DIR/debug/examples/shell"
-    check 'the groups that its other example prints' grouped "$CARGO_TARGET_DIR/debug/examples/groups"
-    check 'the pages of the crate' env RUSTDOCFLAGS='-D warnings' cargo doc --no-deps "${manifest[@]}"
-    rm "$library/lib/libzigrunk.a"
-    check 'the tests with the shared object' env LD_LIBRARY_PATH="$library/lib" cargo test --tests "${manifest[@]}"
-    ZIGRUNK_LIB_DIR=$scratch/none cargo build "${manifest[@]}" > "$scratch/without" 2>&1
-    check 'the build says where it looked for the library' grep -qF "$scratch/none (ZIGRUNK_LIB_DIR)" "$scratch/without"
-    unset ZIGRUNK_LIB_DIR CARGO_TARGET_DIR
-    echo "the crate for Rust took $((SECONDS - start)) s"
-}
-
 check 'the declared calls' declared
 mkdir "$scratch/archives"
 if [ "${1-}" = --built ] || [ -n "$is_plain" ]; then
@@ -276,11 +248,6 @@ for archive in "$scratch"/archives/*.a; do
 done
 library=$scratch/llvm
 [ -d "$library" ] || library=$scratch/built
-if [ -z "$is_plain" ]; then
-    # (the crate's tests take the archive away)
-    cp -r "$library" "$scratch/for_rust"
-    lane rust crate "$scratch/for_rust"
-fi
 lane python python "$library"
 join_lanes
 [ ! -d "$scratch/rattle" ] || check 'both builds give the same answers' cmp "$scratch/llvm/programs/answers" "$scratch/rattle/programs/answers"

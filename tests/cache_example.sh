@@ -3,16 +3,15 @@
 # cache, in another temporary directory too, and which not, after changes of a header, an option and a tool. The last line is
 # 'N passed, M failed'.
 #
-#   tests/cache_example.sh [PROGRAM [FOLDER]]     PROGRAM is the zigrunk that `make build` leaves, and FOLDER has the library that `make lib`
-#                                                 leaves, unless given
+#   tests/cache_example.sh [PROGRAM]     PROGRAM is the zigrunk that `make build` leaves, unless given
 cd "$(dirname "$0")/.." || exit 1
 . tests/lib.sh
 require 'the cache in Rust' cargo cc nvcc "${ZIGRUNK_NINJA:-ninja}"
 ZIGRUNK_PROGRAM=$(realpath "${1:-${ZIGRUNK_PROGRAM:-crates/zigrunk/out/zigrunk}}")
-ZIGRUNK_LIB_DIR=$(realpath "${2:-${ZIGRUNK_LIB_DIR:-out/lib}}")
 unset NVCC_PREPEND_FLAGS NVCC_APPEND_FLAGS MAKEFLAGS "${!CACHE_@}"
-export ZIGRUNK_PROGRAM ZIGRUNK_LIB_DIR CARGO_TARGET_DIR=${CARGO_TARGET_DIR:-$scratch/cargo} CACHE_FOLDER=$scratch/entries CACHE_LOG=$scratch/log
-manifest=(--offline --locked --manifest-path bindings/rust/Cargo.toml)
+export ZIGRUNK_PROGRAM CARGO_TARGET_DIR=${CARGO_TARGET_DIR:-$scratch/cargo} CACHE_FOLDER=$scratch/entries CACHE_LOG=$scratch/log
+check 'the workspace of plain Rust' cargo run --quiet --release --offline --manifest-path rust/Cargo.toml -p eraser -- . "$scratch/rust"
+manifest=(--offline --manifest-path "$scratch/rust/zigrunk/Cargo.toml")
 check 'the digests of the example' cargo test -q "${manifest[@]}" --example cache
 check 'the example' cargo build -q --release "${manifest[@]}" --example cache
 cache=$CARGO_TARGET_DIR/release/examples/cache

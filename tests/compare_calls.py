@@ -461,7 +461,9 @@ def compare(call: Call, args: argparse.Namespace) -> Compared:
         want = run(args.nvcc, "nvcc", call, base, keep)
         got = run(args.ours, "ours", call, base, keep)
         if args.driver:
-            got["left"] = [name for name in got["left"] if name != f"zigrunk-{os.getuid()}"]
+            folder = f"zigrunk-{os.getuid()}"
+            got["left"] = [name for name in got["left"] if name != folder]
+            got["made"] = {name: what for name, what in got["made"].items() if Path(name).name != folder or what != b"folder"}
         found = differences(want, got, base)
         noise: list[Difference] = []
         if not loud(found) <= explained(call, args.version):

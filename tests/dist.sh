@@ -1,63 +1,112 @@
 #!/usr/bin/env bash
-# Packs the built programs twice, and sees that both packages have the same bytes, good checksums and nothing that lintian calls
-# an error. Needs the programs and the library that `make build`, `make lib` and the gate leave, and proves nothing. The last line
-# is "N passed, M failed".
+# Packs twice, and sees that the packages have the same bytes, good checksums, what belongs into them, and nothing that lintian calls
+# an error; that the source tarball builds and installs by cargo alone; and the same of the proved tarball if `make build` and `make lib`
+# or the gate left programs and library. It proves nothing. The last line is "N passed, M failed".
 set -u
 cd "$(dirname "$0")/.." || exit 1
 . tests/lib.sh
+require 'the packages' cargo cc dpkg-deb readelf
+version=$(cat VERSION)
+folder=$PWD/dist
+sources="$scratch/the sources"
+mkdir "$sources"
 
 # newest_glibc FILE: the newest version of glibc that a file's symbols ask for.
 newest_glibc() {
-    objdump -p "$1" | sed -n 's/.* GLIBC_\([0-9.]*\)$/\1/p' | sort -V | tail -n 1
+    readelf -V "$1" | sed -n 's/.*Name: GLIBC_\([0-9.]*\) .*/\1/p' | sort -V | tail -n 1
 }
 
-# both_have: the files of the library are in the tarball and in the Debian package.
-both_have() {
+# has_library PREFIX: whether an installation has the files of the library.
+has_library() {
     local file
-    for file in lib/libzigrunk.a lib/libzigrunk.so lib/libzigrunk.so.1 lib/pkgconfig/zigrunk.pc include/zigrunk.h share/zigrunk/c/example.c share/zigrunk/rust/src/lib.rs \
-        share/zigrunk/examples/slurm/step.sh share/zigrunk/examples/makeflow/build.py share/doc/zigrunk/CLUSTER.md share/doc/zigrunk/plan.schema.json; do
-        if [ ! -f "$here/$file" ] || [ ! -f "$scratch/deb/usr/$file" ]; then
-            echo "missing: $file"
-            return 1
-        fi
+    for file in lib/libzigrunk.a lib/libzigrunk.so lib/libzigrunk.so.1 lib/pkgconfig/zigrunk.pc include/zigrunk.h share/zigrunk/c/example.c \
+        share/zigrunk/rust/zigrunk/src/lib.rs share/zigrunk/examples/slurm/step.sh share/zigrunk/examples/makeflow/build.py share/doc/zigrunk/CLUSTER.md share/doc/zigrunk/plan.schema.json; do
+        [ -f "$1/$file" ] || { echo "missing: $file" && return 1; }
     done
-    [ -s "$here/share/man/man3/zigrunk.h.3" ] && [ -s "$scratch/deb/usr/share/man/man3/zigrunk.h.3.gz" ]
+    [ -s "$1/share/man/man3/zigrunk.h.3" ] || [ -s "$1/share/man/man3/zigrunk.h.3.gz" ]
 }
 
-require 'the packages' dpkg-deb objdump
-version=$(cat VERSION)
-here="$scratch/un packed"
-mkdir "$here"
+# needs_no_library PROGRAM
+needs_no_library() {
+    ! readelf -d "$1" | grep NEEDED
+}
+
+# example PREFIX: the example in C with an installation's shared object.
+example() {
+    cc -o "$scratch/example" "$1/share/zigrunk/c/example.c" -I"$1/include" -L"$1/lib" -lzigrunk &&
+        prints $'0: a\n1: b' env LD_LIBRARY_PATH="$1/lib" "$scratch/example" 'a b'
+}
+
+# has_no_path ARCHIVE: whether the folders of this machine are in no file of an archive.
+has_no_path() {
+    ! tar -xOf "$1" | grep -aqF -e "$PWD" -e "$scratch"
+}
+
+# of_sources: the source tarball, built without a network, and with cargo's folder empty.
+of_sources() {
+    check 'unpacking the sources' tar -x -C "$sources" --strip-components=1 -f "dist/zigrunk-$version.tar.gz"
+    check 'no contract is left in them' sh -c '! grep -rnE "^ *(ensures|requires|ghost) " "$1/crates"' _ "$sources"
+    check 'no path of this machine is in them' has_no_path "dist/zigrunk-$version.tar.gz"
+    check 'cargo vendors nothing for them' sh -c '! grep -n "^source = " "$1/Cargo.lock"' _ "$sources"
+    # (without what takes most of the time)
+    check 'their installation' env -u MAKEFLAGS CARGO_HOME="$scratch/cargo" CARGO_TARGET_DIR="$sources/target" CARGO_PROFILE_RELEASE_LTO=off \
+        make -s -C "$sources" install PREFIX="$scratch/in here"
+    check 'the version of their zigrunk' prints "zigrunk $version" "$scratch/in here/bin/zigrunk" --version
+    check 'the library of the sources' has_library "$scratch/in here"
+    check 'the example with it' example "$scratch/in here"
+    check 'their demo' sh -c 'make -s -C "$1" demo | grep -q "cicc --c++17"' _ "$sources"
+    check 'uninstalling them' make -s -C "$sources" uninstall PREFIX="$scratch/in here"
+    check 'nothing stays' prints '' find "$scratch/in here" -type f
+}
+
+# of_package FILE: a Debian package.
+of_package() {
+    local name=${1##*/} root=$scratch/${1##*/}.root glibc program
+    check "unpacking $name" dpkg-deb -x "$1" "$root"
+    check "the version of $name" test "$(dpkg-deb -f "$1" Version)" = "$version"
+    check "the library of $name" has_library "$root/usr"
+    for program in cudaplan zigrunk; do
+        check "$program of $name needs no library" needs_no_library "$root/usr/bin/$program"
+    done
+    glibc=$(newest_glibc "$root/usr/lib/libzigrunk.so.1")
+    check "libzigrunk.so.1 of $name asks for a version of glibc" test -n "$glibc"
+    check 'it is at most 2.35' sh -c 'printf "%s\n" "$1" 2.35 | sort -C -V' _ "$glibc"
+    check "Depends of $name names it" grep -qF "libc6 (>= $glibc), " <(dpkg-deb -f "$1" Depends)
+    if command -v lintian > /dev/null; then
+        check "lintian of $name" lintian --fail-on error --allow-root "$1"
+    else
+        skip "lintian of $name" "it isn't installed"
+    fi
+}
+
+# of_proved: the tarball of the proved programs.
+of_proved() {
+    local here="$scratch/un packed" program
+    mkdir "$here"
+    check 'unpacking the tarball' tar -x -C "$here" --strip-components=1 -f "dist/zigrunk-$version-x86_64-linux.tar.gz"
+    check 'the lines of README' test "$(wc -l < "$here/README")" -le 20
+    check 'its library' has_library "$here"
+    for program in cudaplan zigrunk; do
+        check "$program of the tarball needs no library" needs_no_library "$here/bin/$program"
+    done
+    check 'the version of its zigrunk' prints "zigrunk $version" "$here/bin/zigrunk" --version
+    check 'README names the glibc of the library' grep -qF "glibc $(newest_glibc "$here/lib/libzigrunk.so.1")" <(tr '\n' ' ' < "$here/README")
+    check 'the example with the library of the tarball' example "$here"
+}
+
 check 'the packages' packaging/dist.sh
 check 'their checksums' cp dist/SHA256SUMS "$scratch"
 check 'the packages again' packaging/dist.sh
 check 'the same bytes' cmp dist/SHA256SUMS "$scratch/SHA256SUMS"
-check 'good checksums' sh -c 'cd dist && sha256sum -c SHA256SUMS'
-check 'unpacking the tarball' tar -x -C "$here" --strip-components=1 -f "dist/zigrunk-$version-x86_64-linux.tar.gz"
-check 'unpacking the Debian package' dpkg-deb -x "dist/zigrunk_${version}_amd64.deb" "$scratch/deb"
-check 'the version of the Debian package' test "$(dpkg-deb -f dist/*.deb Version)" = "$version"
-check 'the lines of README' test "$(wc -l < "$here/README")" -le 20
-check 'the library in both' both_have
-for program in cudaplan zigrunk; do
-    # shellcheck disable=SC2016 # for sh
-    check "$program needs no library" sh -c '! objdump -p "$1" | grep -q NEEDED' _ "$here/bin/$program"
+check 'good checksums' env -C "$folder" sha256sum -c SHA256SUMS
+of_sources
+for package in dist/*.deb; do
+    of_package "$package"
 done
-check 'its version' test "$("$here/bin/zigrunk" --version)" = "zigrunk $version"
-glibc=$(newest_glibc "$scratch/deb/usr/lib/libzigrunk.so.1")
-check 'libzigrunk.so.1 asks for a version of glibc' test -n "$glibc"
-check 'it is at most 2.31' sh -c 'printf "%s\n" "$1" 2.31 | sort -C -V' _ "$glibc"
-check 'README names it' grep -qF "glibc $glibc" <(tr '\n' ' ' < "$here/README")
-check 'Depends names it' grep -qF "libc6 (>= $glibc), " <(dpkg-deb -f dist/*.deb Depends)
-if command -v cc > /dev/null; then
-    check 'the example with the library of the tarball' cc -o "$scratch/example" "$here/share/zigrunk/c/example.c" \
-        -I"$here/include" -L"$here/lib" -lzigrunk
-    check 'what it prints' test "$(LD_LIBRARY_PATH=$here/lib "$scratch/example" 'a b')" = $'0: a\n1: b'
+[ -f "dist/zigrunk_${version}_arm64.deb" ] || skip 'the package for arm64' 'rustc lacks its library, or there is no aarch64-linux-gnu-gcc'
+if [ -f "dist/zigrunk-$version-x86_64-linux.tar.gz" ]; then
+    of_proved
 else
-    echo 'skipped: the example, without cc'
-fi
-if command -v lintian > /dev/null; then
-    check 'lintian' lintian --fail-on error --allow-root dist/*.deb
-else
-    echo 'skipped: what needs lintian, which is not installed'
+    skip 'the tarball of the proved programs' 'they are not built'
 fi
 summary

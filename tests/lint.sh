@@ -1,5 +1,5 @@
 #!/usr/bin/env bash
-# Checks the sources that nothing proves: shellcheck over all shell, mypy and flake8 over all Python, clippy and rustfmt over the crate
+# Checks the sources that nothing proves: shellcheck over all shell, mypy and flake8 over all Python, rustfmt over the crate
 # for Rust, side by side. Prints what they find, and last 'N passed, M failed': each tool is a case. A tool that isn't installed is
 # skipped, and the last line says how many are. .ci/run installs them.
 set -u
@@ -45,11 +45,9 @@ by_shellcheck() {
         shellcheck "${words[@]}" -e SC2154 -s bash "${sourced[@]}"
 }
 
-# by_clippy: the crate looks for libzigrunk, which isn't linked here.
-by_clippy() {
-    mkdir "$scratch/lib" && : > "$scratch/lib/libzigrunk.a"
-    ZIGRUNK_LIB_DIR=$scratch/lib CARGO_TARGET_DIR=$scratch/cargo \
-        cargo clippy -q --offline --locked --all-targets --manifest-path bindings/rust/Cargo.toml -- -D warnings
+# by_rustfmt: the crates for Rust. (tests/rust_crate.sh has clippy: that wants the crates below.)
+by_rustfmt() {
+    rustfmt --check --edition 2024 --config-path bindings/rust bindings/rust/{src/lib,sys/build,sys/src/lib}.rs bindings/rust/{examples,tests,tests/answers}/*.rs
 }
 
 find_sources
@@ -57,8 +55,7 @@ start shellcheck by_shellcheck
 start mypy env MYPYPATH=bindings/python mypy --strict --scripts-are-modules --ignore-missing-imports --soft-error-limit=-1 --cache-dir=/dev/null "${modules[@]}"
 # The kit's module is on the path only after a statement (E402). The rows of a table are long.
 start flake8 flake8 --max-line-length=150 --extend-ignore=E402 --per-file-ignores='tests/long_bodies.py:E501' "${modules[@]}"
-start cargo-clippy by_clippy
-start cargo-fmt cargo fmt --check --manifest-path bindings/rust/Cargo.toml
+start rustfmt by_rustfmt
 for at in "${!tools[@]}"; do
     if wait "${processes[at]}"; then count "${tools[at]}" ''; else count "${tools[at]}" "$(cat "$scratch/${tools[at]}.said")"; fi
 done

@@ -8,7 +8,7 @@ use crate::log::{self, LoggedCall};
 use crate::planner::{self, Line, Outline, ToPlan};
 use crate::products;
 use crate::programs::{self, Compiler};
-use crate::rule::RuleMaker;
+use crate::rule::{NoRule, RuleMaker};
 use crate::run::{self, Done, Stopped, Task};
 use crate::settings::Settings;
 use crate::slots::Slots;
@@ -238,7 +238,8 @@ impl Call<'_> {
         let begun = std::time::SystemTime::now();
         let launcher = self.settings.launcher.first().cloned().unwrap_or_default();
         let mut maker = RuleMaker { commands: &commands, asked: outline.dependencies.as_ref(), launcher };
-        let done = run::run(self.host()?, &mut maker, &tasks, at_once)?;
+        let mut done = run::run(self.host()?, &mut maker, &tasks, at_once)?;
+        self.make_late_rule(&mut done, &tasks)?;
         self.check_end(&done, &tasks, dry_runs)?;
         let status = say(&dry_runs.messages, &tasks, &done, &self.settings);
         if let Some(keep_dir) = &outline.keep_dir {
@@ -248,17 +249,27 @@ impl Call<'_> {
         Ok(status)
     }
 
+    /// Has nvcc make the dependency file if a command failed before that was made: nvcc makes it before that command.
+    fn make_late_rule(&mut self, done: &mut [Done], tasks: &[Task]) -> Result<(), Stop> {
+        let Some(at) = tasks.iter().position(|task| task.is_rule) else { return Ok(()) };
+        if done[at].has_ended() || !done.iter().any(Done::failed) {
+            return Ok(());
+        }
+        let task = Task { needs: Vec::new(), is_rule: false, ..tasks[at].clone() };
+        let mut late = run::run(self.host()?, &mut NoRule, &[task], 1)?;
+        done[at] = late.pop().unwrap_or_default();
+        Ok(())
+    }
+
     /// Whether the end of the commands is the call's, or nvcc has to make it.
     fn check_end(&self, done: &[Done], tasks: &[Task], dry_runs: &DryRuns) -> Result<(), Stop> {
-        let failed = |at: &usize| done[*at].ended.as_ref().is_some_and(|ended| !ended.status.succeeded());
-        let Some(first) = (0..done.len()).find(failed) else {
-            let all_ran = done.iter().zip(tasks).all(|(done, task)| done.ended.is_some() || task.is_rule);
-            return if all_ran { Ok(()) } else { by_nvcc("a command didn't run") };
-        };
         if !self.folder.as_ref().is_some_and(CallFolder::is_there) {
             return by_nvcc("its temporary directory is gone");
         }
-        if tasks[first].is_rule {
+        if !done.iter().any(Done::failed) {
+            return if done.iter().all(Done::has_ended) { Ok(()) } else { by_nvcc("a command didn't run") };
+        }
+        if done.iter().zip(tasks).any(|(done, task)| task.is_rule && done.failed()) {
             return by_nvcc("its dependency file fails");
         }
         if tasks::devices_come_first(&dry_runs.first) {

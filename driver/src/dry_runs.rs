@@ -66,6 +66,10 @@ fn all<M: Machine>(machine: &mut M, jobs: &[Job]) -> Result<Vec<Ended>, Failed> 
                 running -= 1;
                 ended[number] = Some(one);
             }
+            Event::Lost(reason) => {
+                machine.end_all(TERM);
+                return Err(Failed::ByNvcc(reason));
+            }
             Event::Signal(number) => {
                 machine.end_all(number);
                 return Err(Failed::Signal(number));

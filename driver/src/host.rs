@@ -16,7 +16,7 @@ use std::path::Path;
 use std::ptr;
 use std::time::{Duration, Instant, SystemTime};
 
-/// How many milliseconds a call waits at most until it looks again for a slot of a call that died.
+/// How many milliseconds a call that waits for a slot sleeps at most, until it looks again for a slot of a call that died.
 const LOOK: i32 = 200;
 /// How long commands may take to end after a signal.
 const GRACE: Duration = Duration::from_secs(1);
@@ -176,6 +176,11 @@ impl Host {
             return true;
         }
         let waits = self.permit.as_ref().is_some_and(|permit| permit.token.is_some() || self.tokens.is_none());
+        if waits && self.slots.as_ref().is_some_and(Slots::are_lost) {
+            // Somebody removed the folder: nothing limits this call any more.
+            self.slots = None;
+            return self.has_permit();
+        }
         let has_begun = waits && self.slots.as_mut().is_some_and(Slots::begin_to_wait);
         has_begun && self.has_permit()
     }
@@ -184,14 +189,23 @@ impl Host {
     fn take_signals(&mut self) {
         while let Some(number) = self.signals.next() {
             match number {
-                CHLD => {
-                    while let Some((process, status)) = system::ended_child() {
-                        self.ended(process, status);
-                    }
-                }
+                CHLD => {}
                 TSTP => self.pause(),
                 CONT => self.signal_all(CONT),
                 _ => self.events.push_back(Event::Signal(number)),
+            }
+        }
+        self.take_ends();
+    }
+
+    /// Notes the children that have ended.
+    fn take_ends(&mut self) {
+        loop {
+            match system::ended_child() {
+                Ok(Some((process, status))) => self.ended(process, status),
+                Ok(None) => return,
+                Err(error) if self.running.is_empty() => return drop(error),
+                Err(error) => return self.events.push_back(Event::Lost(format!("the end of a command is unknown: {error}"))),
             }
         }
     }
@@ -252,7 +266,7 @@ impl Host {
             Printed::Memory(_) => None,
         }));
         let holds = self.permit.is_some() || !self.running.is_empty();
-        let longest = if waits.is_some() { LOOK } else if holds && self.slots.is_some() { BEAT } else { -1 };
+        let longest = if waits.is_some() { LOOK } else if holds { BEAT } else { -1 };
         system::wait_for(&files, longest);
         if let Some(slots) = &self.slots {
             slots.awake();
@@ -385,6 +399,7 @@ impl Machine for Host {
                 self.take_signals();
             }
         }
+        self.running.clear();
         let permit = self.permit.take();
         self.give_back(permit);
     }

@@ -34,6 +34,8 @@ pub enum Event {
     Ended(usize, Ended),
     /// A signal ends the call.
     Signal(i32),
+    /// The machine can't go on, and why.
+    Lost(String),
 }
 
 /// A machine that runs jobs.

@@ -14,6 +14,17 @@ pub struct RuleMaker<'a> {
     pub launcher: String,
 }
 
+/// Makes no dependency file.
+pub struct NoRule;
+
+impl Watch for NoRule {
+    fn make_rule(&mut self) -> bool {
+        false
+    }
+
+    fn refused(&mut self, _: &str) {}
+}
+
 impl RuleMaker<'_> {
     /// What the preprocessors have written: first those for devices, and the host's last. `None` if nvcc has to make the rule.
     fn written(&self) -> Option<Vec<Vec<u8>>> {

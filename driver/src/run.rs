@@ -31,11 +31,19 @@ pub struct Done {
     pub asked: f64,
     /// How it ended. `None` if it never began, or if the driver did it itself.
     pub ended: Option<Ended>,
+    /// Whether the driver did it itself.
+    pub by_driver: bool,
 }
 
 impl Done {
-    fn failed(&self) -> bool {
+    /// Whether it ran and failed.
+    pub fn failed(&self) -> bool {
         self.ended.as_ref().is_some_and(|ended| !ended.status.succeeded())
+    }
+
+    /// Whether it came to its end, in whatever way.
+    pub fn has_ended(&self) -> bool {
+        self.by_driver || self.ended.is_some()
     }
 }
 
@@ -109,6 +117,7 @@ impl<M: Machine, W: Watch> Run<'_, M, W> {
                     self.ended(number, ended);
                 }
                 Event::Signal(number) => return Err(Stopped::Signal(number)),
+                Event::Lost(reason) => return Err(Stopped::NoProcess(reason)),
             }
         }
     }
@@ -121,6 +130,7 @@ impl<M: Machine, W: Watch> Run<'_, M, W> {
             }
             self.schedule.started(next);
             self.schedule.ended(next, Outcome::Success);
+            self.done[next].by_driver = true;
         }
     }
 

@@ -24,6 +24,15 @@ pub struct Slot {
     file: File,
 }
 
+/// Why a slot can't be had.
+#[derive(Clone, Copy, PartialEq, Eq, Debug)]
+enum Taken {
+    /// A call has it that runs, or its file can't be locked.
+    Busy,
+    /// A call has it that is stopped or frozen.
+    Stale,
+}
+
 /// A call that waits: its age, how many slots it shares, and its process.
 #[derive(Clone, Copy, PartialEq, Eq, PartialOrd, Ord, Debug)]
 struct Waiter {
@@ -115,7 +124,7 @@ impl Slots {
         for number in (left_to_others + 1..=self.own.count).rev() {
             match self.lock(number) {
                 Ok(slot) => return Some(slot),
-                Err(is_stale) => stale += usize::from(is_stale),
+                Err(taken) => stale += usize::from(taken == Taken::Stale),
             }
         }
         if left_to_others > 0 {
@@ -124,14 +133,23 @@ impl Slots {
         (self.own.count + 1..=self.own.count + stale).find_map(|number| self.lock(number).ok())
     }
 
-    /// The slot of a number, or whether its holder can't run.
-    fn lock(&self, number: usize) -> Result<Slot, bool> {
-        let file = File::from(system::open_below(self.folder.as_fd(), &number.to_string(), Opening::Kept).map_err(|_| false)?);
-        if system::try_lock(file.as_fd()).unwrap_or(false) {
-            system::touch(file.as_fd());
-            return Ok(Slot { number, file });
+    /// Whether nobody can have a slot any more: the folder is gone, or takes no file.
+    pub fn are_lost(&self) -> bool {
+        !self.folder.is_there() || system::open_below(self.folder.as_fd(), "1", Opening::Kept).is_err()
+    }
+
+    /// The slot of a number, or why it can't be had.
+    fn lock(&self, number: usize) -> Result<Slot, Taken> {
+        let opened = system::open_below(self.folder.as_fd(), &number.to_string(), Opening::Kept);
+        let file = File::from(opened.map_err(|_| Taken::Busy)?);
+        match system::try_lock(file.as_fd()) {
+            Ok(true) => {
+                system::touch(file.as_fd());
+                Ok(Slot { number, file })
+            }
+            Ok(false) if !is_fresh(&file) => Err(Taken::Stale),
+            _ => Err(Taken::Busy),
         }
-        Err(!is_fresh(&file))
     }
 
     /// Whether an older call waits for a slot that this call has.

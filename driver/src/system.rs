@@ -270,15 +270,14 @@ impl Status {
 }
 
 /// A child that has ended, and how; nothing if none has.
-pub fn ended_child() -> Option<(i32, Status)> {
+pub fn ended_child() -> io::Result<Option<(i32, Status)>> {
     loop {
         let mut state = 0;
-        let child = unsafe { waitpid(-1, &raw mut state, 1) };
-        if child > 0 {
-            return Some((child, Status::of(state)));
-        }
-        if child == 0 || io::Error::last_os_error().kind() != io::ErrorKind::Interrupted {
-            return None;
+        match checked(unsafe { waitpid(-1, &raw mut state, 1) }) {
+            Ok(0) => return Ok(None),
+            Ok(child) => return Ok(Some((child, Status::of(state)))),
+            Err(error) if error.kind() == io::ErrorKind::Interrupted => {}
+            Err(error) => return Err(error),
         }
     }
 }

@@ -8,7 +8,7 @@ use crate::backend;
 #[derive(Debug, Clone, Copy, PartialEq, Eq, Hash)]
 #[non_exhaustive]
 pub enum ErrorKind {
-    /// An allocation of the library failed. (Buffers are this crate's: if one can't be allocated, the program aborts.)
+    /// An allocation of the planner failed. (Copies of its answers are this crate's own: if one can't be allocated, the program aborts.)
     OutOfMemory,
     /// A text isn't UTF-8: a variable, for example. A line of a dry run is [`BadDryRun`](ErrorKind::BadDryRun).
     NotUtf8,

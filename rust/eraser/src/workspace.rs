@@ -9,11 +9,31 @@ use crate::tree::{Tree, names};
 use std::fs;
 use std::path::{Path, PathBuf};
 
-/// Where crates that are written by hand are in the project, and where they go. Some projects lack some of them.
-const COPIED: [(&str, &str); 3] = [
-    ("bindings/rust", "zigrunk"),
-    ("bindings/rust/sys", "zigrunk-sys"),
-    ("driver", "driver"),
+/// A crate that is written by hand: where it is in the project, and where it goes. Some projects lack some of them.
+struct ByHand {
+    from: &'static str,
+    to: &'static str,
+    /// Whether cargo builds it unless told otherwise.
+    is_default: bool,
+}
+
+const BY_HAND: [ByHand; 3] = [
+    ByHand {
+        from: "bindings/rust",
+        to: "zigrunk",
+        is_default: true,
+    },
+    // It links with the library, which is made of this workspace too.
+    ByHand {
+        from: "bindings/rust/sys",
+        to: "zigrunk-sys",
+        is_default: false,
+    },
+    ByHand {
+        from: "driver",
+        to: "driver",
+        is_default: true,
+    },
 ];
 
 /// Names the files of the record, and says what its columns are.
@@ -27,6 +47,7 @@ pub struct Workspace {
     /// The roots of the erased crates: the files that rustfmt begins with.
     pub roots: Vec<PathBuf>,
     members: Vec<PathBuf>,
+    others: Vec<PathBuf>,
     record: String,
 }
 
@@ -44,16 +65,17 @@ pub fn workspace_of(root: &Path, drivers: bool) -> Result<Workspace, Error> {
         found.add_crate(root, one, &known)?;
     }
     for name in names(&stand)? {
-        found.add_copy(&stand.join(&name), &Path::new("stand").join(&name))?;
+        found.add_copy(&stand.join(&name), &Path::new("stand").join(&name), true)?;
     }
-    for (from, to) in COPIED {
-        found.add_copy(&root.join(from), Path::new(to))?;
+    for one in BY_HAND {
+        found.add_copy(&root.join(one.from), Path::new(one.to), one.is_default)?;
     }
     let version = root.join("VERSION");
     let version = fs::read_to_string(&version).map_err(|it| Error::io(&version, it))?;
-    found
-        .tree
-        .add("Cargo.toml", workspace(version.trim(), &found.members));
+    found.tree.add(
+        "Cargo.toml",
+        workspace(version.trim(), &found.members, &found.others),
+    );
     found.tree.add("erased.txt", found.record.as_str());
     Ok(found)
 }
@@ -80,10 +102,14 @@ impl Workspace {
     }
 
     // Adds a crate that is written by hand, if it is there and made for this workspace.
-    fn add_copy(&mut self, from: &Path, to: &Path) -> Result<(), Error> {
+    fn add_copy(&mut self, from: &Path, to: &Path, is_default: bool) -> Result<(), Error> {
         if is_member(&from.join("Cargo.toml")) {
             self.tree.copy(from, to, Some("sys"))?;
-            self.members.push(to.to_path_buf());
+            let members = match is_default {
+                true => &mut self.members,
+                false => &mut self.others,
+            };
+            members.push(to.to_path_buf());
         }
         Ok(())
     }

@@ -24,6 +24,9 @@ struct Entry<K, V> {
     value: V,
 }
 
+/// The index of an entry, and the value that it had before.
+type Inserted<V> = (usize, Option<V>);
+
 // A slot with no entry.
 const FREE: usize = usize::MAX;
 const FIRST_SLOTS: usize = 8;
@@ -106,11 +109,7 @@ impl<K: Hash + Eq, V> IndexMap<K, V> {
     }
 
     /// As `insert`, with the index of the entry.
-    pub fn insert_full(
-        &mut self,
-        key: K,
-        value: V,
-    ) -> Result<(usize, Option<V>), AllocFailed<(K, V)>> {
+    pub fn insert_full(&mut self, key: K, value: V) -> Result<Inserted<V>, AllocFailed<(K, V)>> {
         let hash = hash_of(&key);
         if let Some(place) = self.place(hash, &key) {
             return Ok((place, Some(replace(&mut self.entries[place].value, value))));

@@ -4,6 +4,8 @@
 //! So [`program!`](crate::program) starts below it, at C's `main`.
 
 use crate::rt::HostRuntime;
+#[cfg(unix)]
+use core::ffi::CStr;
 #[doc(hidden)]
 pub use core::ffi::{c_char, c_int};
 
@@ -29,7 +31,7 @@ pub(crate) struct Started {
 #[cfg(unix)]
 impl Started {
     pub(crate) fn argument(&self, index: usize) -> Option<&'static [u8]> {
-        self.arguments.nth(index)
+        self.arguments.clone().nth(index)
     }
 
     // As C's `getenv`: the first entry counts.
@@ -50,27 +52,18 @@ struct CTexts {
 }
 
 #[cfg(unix)]
-impl CTexts {
-    fn nth(&self, index: usize) -> Option<&'static [u8]> {
-        self.clone().skip(index).next()
-    }
-}
-
-#[cfg(unix)]
 impl Iterator for CTexts {
     type Item = &'static [u8];
 
     fn next(&mut self) -> Option<&'static [u8]> {
-        // SAFETY: `start` says that the list ends in a null pointer, behind which this never goes, that each text ends in a
-        // NUL, and that both live as long as the process.
-        let text = unsafe {
-            self.next
-                .as_ref()?
-                .as_ref()
-                .map(|text| core::ffi::CStr::from_ptr(text))?
-        };
+        // SAFETY: `start` says that the list ends in a null pointer. This never goes behind it.
+        let text = unsafe { self.next.read() };
+        if text.is_null() {
+            return None;
+        }
         self.next = self.next.wrapping_add(1);
-        Some(text.to_bytes())
+        // SAFETY: `start` says that each text ends in a NUL and that nobody changes it while the process lives.
+        Some(unsafe { CStr::from_ptr(text) }.to_bytes())
     }
 }
 

@@ -1,5 +1,12 @@
 //! Files.
 
+#[cfg(any(target_os = "linux", target_os = "android"))]
+#[path = "linux.rs"]
+mod system;
+#[cfg(not(any(target_os = "linux", target_os = "android")))]
+#[path = "portable.rs"]
+mod system;
+
 use crate::io::{Read, Result};
 use crate::string::String;
 use crate::vec::Vec;
@@ -24,13 +31,13 @@ impl Read for File {
 /// Opens a file to be read.
 pub fn open<R: Files>(_files: &R, path: &str) -> Result<File> {
     Ok(File {
-        file: rust_fs::File::open(path)?,
+        file: system::open(path)?,
     })
 }
 
 /// What the system knows of a file, whose path may be that of a symbolic link to it.
 pub fn metadata<R: Files>(_files: &R, path: &str) -> Result<Metadata> {
-    Ok(rust_fs::metadata(path)?)
+    system::metadata(path)
 }
 
 /// All bytes of a file.

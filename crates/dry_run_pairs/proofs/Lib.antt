@@ -1,0 +1,5 @@
+pub mod AgreementLemmas
+pub mod CutLemmas
+pub mod FormLemmas
+pub mod LineLemmas
+pub mod NameLemmas

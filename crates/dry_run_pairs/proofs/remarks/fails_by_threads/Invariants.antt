@@ -1,0 +1,9 @@
+use Rattle.std.proofs.Common.{◌≡◌, length}
+use Rattle.dry_run_pairs.specs.Remarks as spec
+use Rattle.dry_run_pairs.proofs.remarks.fails_by_threads.Given as goal
+
+abbrev pub invariant-loop-line : goal.invariant-loop-line
+invariant-loop-line l = spec.fails_by_threads l.rest ≡ spec.fails_by_threads l.run
+
+abbrev pub decreases-loop-line : goal.decreases-loop-line
+decreases-loop-line l = length l.rest

@@ -1,0 +1,9 @@
+use Rattle.std.proofs.Common.{◌≡◌, ◌++◌, length}
+use Rattle.dry_run_pairs.specs.Remarks as spec
+use Rattle.dry_run_pairs.proofs.remarks.push_remarks.Given as goal
+
+abbrev pub invariant-loop-line : goal.invariant-loop-line
+invariant-loop-line l = l.text.items ++ spec.lines_that spec.is_other_remark l.rest ≡ l.initial.text.items ++ spec.lines_that spec.is_other_remark l.run
+
+abbrev pub decreases-loop-line : goal.decreases-loop-line
+decreases-loop-line l = length l.rest

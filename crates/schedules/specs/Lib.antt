@@ -1,0 +1,9 @@
+pub mod Entered
+pub mod Events
+pub mod Graphs
+pub mod Kept
+pub mod ScheduleLaws
+pub mod Scheduled
+pub mod States
+pub mod Told
+pub mod Tournament

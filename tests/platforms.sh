@@ -1,0 +1,139 @@
+#!/usr/bin/env bash
+# Builds the plain Rust (docs/PLAIN_RUST.md) for other platforms by Debian's cross compilers, and runs the cases of the programs, of the
+# test drivers and of the C library there, as far as this machine can. Outside the gate: it needs root, debootstrap and the network,
+# else it is skipped with a message. The last line is "N passed, M failed".
+#
+#   tests/platforms.sh [ROOT]     ROOT: the folder of a root of Debian 13 to work in, made if it isn't there; by default one that
+#                                 is removed at the end. RT_JOBS is how many jobs cargo has, 2 unless it is set
+set -u
+cd "$(dirname "$0")/.." || exit 1
+. tests/lib.sh
+[ "$(id -u)" -eq 0 ] || skip_all 'other platforms' 'that needs root'
+require 'other platforms' debootstrap cargo
+trap 'rm -rf --one-file-system "$scratch"' EXIT
+root=$(realpath -m "${1:-$scratch/root}")
+work=$root/root/zigrunk
+data=tests/drivers/test_plans/data/dry_runs
+version=$(cat VERSION)
+jobs=${RT_JOBS:-2}
+
+inside() {
+    chroot "$root" env -C /root/zigrunk LC_ALL=C DEBIAN_FRONTEND=noninteractive CARGO_HOME=/root/cargo "$@"
+}
+
+# A root with the compilers, and Rust's library for each platform that Debian has it for. The packages of other architectures are
+# unpacked alone: what they depend on is for compilers that run there.
+make_root() {
+    [ -d "$root/usr" ] || debootstrap --variant=minbase trixie "$root" || return 1
+    mkdir -p "$work/debs"
+    inside dpkg --add-architecture arm64 && inside dpkg --add-architecture i386 && inside apt-get update &&
+        inside apt-get install -y --no-install-recommends rustc cargo libc6-dev libstd-rust-dev-wasm32 qemu-user-static \
+            gcc-aarch64-linux-gnu libc6-dev-arm64-cross gcc-i686-linux-gnu libc6-dev-i386-cross &&
+        inside env -C /root/zigrunk/debs apt-get download libstd-rust-dev:arm64 libstd-rust-dev:i386 &&
+        for deb in "$work"/debs/*.deb; do
+            dpkg -x "$deb" "$root" || return 1
+        done
+}
+
+# copy_sources: the workspace with its test drivers, and what the tests in C need.
+copy_sources() {
+    cargo run --quiet --release --manifest-path rust/Cargo.toml -p eraser -- --drivers . "$work/rust" &&
+        mkdir -p "$work/tests/drivers/test_plans/data" && cp -r tests/c "$work/tests" && cp -r "$data" "$work/$data" &&
+        cp -r bindings VERSION "$work"
+}
+
+# has_library TARGET: whether rustc has its library for a platform.
+has_library() {
+    # shellcheck disable=SC2016 # for sh
+    inside sh -c '[ -d "$(rustc --print target-libdir --target "$1")" ]' _ "$1"
+}
+
+# built TARGET LINKER: all programs, static so that they need nothing of the platform, and the library.
+built() {
+    local linker words=(cargo build --release --offline --quiet --jobs "$jobs" --manifest-path rust/Cargo.toml --target "$1")
+    linker=CARGO_TARGET_$(tr a-z- A-Z_ <<< "$1")_LINKER
+    inside env "$linker=$2" RUSTFLAGS='-C target-feature=+crt-static' "${words[@]}" --bins &&
+        inside env "$linker=$2" "${words[@]}" -p zigrunk_c
+}
+
+# checked TARGET: whether all crates are right for a platform that nothing here can run.
+checked() {
+    inside cargo check --offline --quiet --jobs "$jobs" --manifest-path rust/Cargo.toml --target "$1" --workspace --exclude zigrunk-sys "${@:2}"
+}
+
+# runner PROGRAM EMULATOR: a script that runs a program of another platform.
+runner() {
+    local script
+    script=$scratch/$(basename "$1")
+    printf '#!/bin/sh\nexec %s %s "$@"\n' "$2" "$1" > "$script"
+    chmod +x "$script"
+    echo "$script"
+}
+
+# cases COMMAND..: whether a test script ends without a failure. Prints how many cases it ran.
+cases() {
+    local status
+    "$@" > "$scratch/cases" 2>&1
+    status=$?
+    tail -n 1 "$scratch/cases" >> "$scratch/counts"
+    tail -n 40 "$scratch/cases"
+    return "$status"
+}
+
+# driven RUNNER NAME: whether a test driver prints what it has to.
+driven() {
+    local words
+    mapfile -t words < "tests/drivers/$2/args"
+    (cd "tests/drivers/$2/data" && "$1" "${words[@]}") > "$scratch/driven" || return 1
+    sed 's/^/  /' "$scratch/driven" >> "$scratch/counts"
+    diff "tests/drivers/$2/stdout" "$scratch/driven"
+}
+
+# in_c TARGET PREFIX EMULATOR: the tests in C, with the library for a platform.
+in_c() {
+    local name words
+    inside env CC="$2gcc" LD="$2ld" AR="$2ar" OBJCOPY="$2objcopy" bindings/c/library.sh "rust/target/$1/release/libzigrunk.a" "$1" || return 1
+    for name in calls plans lines line_records keys limits; do
+        inside "$2gcc" -std=c99 -D_POSIX_C_SOURCE=200809L -O1 -Itests/c "-DVERSION=\"$version\"" "-I$1/include" -static \
+            "tests/c/$name.c" "$1/lib/libzigrunk.a" -o "$1/$name" || return 1
+    done
+    words=("$data"/*.flag)
+    words=("${words[@]##*/}")
+    for name in 'calls 100' "plans $data ${words[*]%.flag}" lines 'line_records 100' 'keys 100' limits; do
+        # shellcheck disable=SC2086 # an emulator, and the program's words
+        inside $3 ./"$1"/$name || return 1
+        echo "  $1: ${name%% *}" >> "$scratch/counts"
+    done
+}
+
+# platform TARGET PREFIX EMULATOR: all that can be run.
+platform() {
+    local bin=$work/rust/target/$1/release before=$failed
+    if ! has_library "$1"; then
+        skip "$1" 'Debian has no library of Rust for it'
+        return
+    fi
+    check "$1: programs and library" built "$1" "$2gcc"
+    [ "$failed" -eq "$before" ] || return
+    check "$1: the version" prints "zigrunk $version" "$(runner "$bin/zigrunk" "$3")" --version
+    check "$1: tests/program.sh" cases tests/program.sh "$(runner "$bin/cudaplan" "$3")" "$(runner "$bin/zigrunk" "$3")"
+    check "$1: test_lines" driven "$(runner "$bin/test_lines" "$3")" test_lines
+    check "$1: test_plans" driven "$(runner "$bin/test_plans" "$3")" test_plans
+    check "$1: the tests in C" in_c "$1" "$2" "${3:+${3##"$root"}}"
+}
+
+check 'a root of Debian 13' make_root
+[ "$failed" -eq 0 ] || { summary && exit; }
+check 'the sources' copy_sources
+platform aarch64-unknown-linux-gnu aarch64-linux-gnu- "$root/usr/bin/qemu-aarch64-static"
+platform i686-unknown-linux-gnu i686-linux-gnu- ''
+platform x86_64-unknown-linux-musl musl- ''
+for target in wasm32-unknown-unknown wasm32-wasip1 x86_64-pc-windows-gnu; do
+    if has_library "$target"; then
+        check "$target: all crates are right" checked "$target"
+    else
+        skip "$target" 'Debian has no library of Rust for it'
+    fi
+done
+cat "$scratch/counts"
+summary
