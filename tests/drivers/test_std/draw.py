@@ -196,8 +196,7 @@ def main() -> None:
     seed, count, folder = sys.argv[1], int(sys.argv[2]), sys.argv[3]
     draw = Draw(seed, folder)
     lines = fixed(folder) + [draw.line() for _ in range(count)]
-    sys.stdout.reconfigure(encoding="utf-8", newline="\n")  # type: ignore[union-attr]
-    sys.stdout.write("".join(f"{line}\n" for line in lines) + "status 7\n")
+    sys.stdout.buffer.write(("".join(f"{line}\n" for line in lines) + "status 7\n").encode())
 
 
 main()
