@@ -120,7 +120,17 @@ impl<T> Vec<T> {
     /// Puts `value` last. On an error the vector is unchanged and gives `value` back.
     #[inline]
     pub fn push(&mut self, value: T) -> Result<(), AllocFailed<T>> {
-        if self.items.len() == self.items.capacity() && self.items.try_reserve(1).is_err() {
+        // Rust's `push` asks this again, unless the compiler sees that it has been asked.
+        if self.items.len() == self.items.capacity() {
+            return self.grow_and_push(value);
+        }
+        self.items.push(value);
+        Ok(())
+    }
+
+    #[cold]
+    fn grow_and_push(&mut self, value: T) -> Result<(), AllocFailed<T>> {
+        if self.items.try_reserve(1).is_err() {
             return Err(AllocFailed { value });
         }
         self.items.push(value);
