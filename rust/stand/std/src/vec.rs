@@ -170,6 +170,17 @@ impl<T> Vec<T> {
         T::append_clones(&mut self.items, items).inspect_err(|_| self.items.truncate(before))
     }
 
+    /// Makes it `count` items long: cuts it, or appends copies of `value`. On an error the vector is unchanged.
+    pub fn resize(&mut self, count: usize, value: T) -> Result<(), AllocError>
+    where
+        T: Copy,
+    {
+        let more = count.saturating_sub(self.items.len());
+        self.items.try_reserve(more)?;
+        self.items.resize(count, value);
+        Ok(())
+    }
+
     /// Takes the last item.
     #[inline]
     pub fn pop(&mut self) -> Option<T> {
@@ -274,3 +285,17 @@ impl<T: fmt::Debug> fmt::Debug for Vec<T> {
         self.items.fmt(f)
     }
 }
+
+/// `Iterator::collect`, under another name, since Rust's can't be hidden.
+pub trait Collect: Iterator + Sized {
+    /// The items as a vector.
+    fn collect_in(self, alloc: Global) -> Result<Vec<Self::Item>, AllocError> {
+        let mut all = Vec::with_capacity(alloc, self.size_hint().0)?;
+        for item in self {
+            all.push(item)?;
+        }
+        Ok(all)
+    }
+}
+
+impl<I: Iterator> Collect for I {}
