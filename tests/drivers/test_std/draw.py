@@ -66,14 +66,14 @@ class Draw:
 
     def bytes(self) -> str:
         return "bytes : " + self.operations(
-            ["new", "with=N", "from=X", "elem=B,N", "array", "push=B", "push=B", "push=B", "extend=X", "extend=X", "append=X", "insert=N,B",
+            ["new", "with=N", "from=X", "elem=B,N", "array", "resize=B,N", "push=B", "push=B", "push=B", "extend=X", "extend=X", "append=X", "insert=N,B",
              "remove=N", "pop", "truncate=N", "clear", "reserve=N", "reserved=B", "dedup", "sort", "get=N", "first", "same=X", "utf8",
              "debug", "with=G", "reserve=G", "elem=B,0"])
 
     def words(self) -> str:
         return "words : " + self.operations(
             ["push=T", "push=T", "push=T", "front=T", "extend=L", "extend=L", "append=L", "with=N", "reserve=N", "truncate=N", "clear",
-             "sort", "dedup", "mark", "halve", "pop", "last", "same=L", "with=G", "reserve=G"])
+             "sort", "dedup", "mark", "halve", "lengths", "long", "pop", "last", "same=L", "with=G", "reserve=G"])
 
     def string(self) -> str:
         return "string : " + self.operations(
