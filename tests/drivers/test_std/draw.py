@@ -5,6 +5,7 @@
 """
 import random
 import sys
+from typing import Callable, Dict
 
 LETTERS = list("abcxyzKJ019_-./!") + ['"', "'", "\\", " ", "\t", "\n", "\r", "%", "#", "\x00", "\x07", "\x08", "\x0b", "\x0c", "\x1b",
                                       "\x1f", "\x7f"]
@@ -47,7 +48,7 @@ class Draw:
         """A form whose capital letters are drawn: N a small number, B a byte, X bytes, U bytes at the edges of UTF-8, T a text, L texts,
         K a key, G any number, C a character's code."""
         name, mark, arguments = form.partition("=")
-        makers = {
+        makers: Dict[str, Callable[[], str]] = {
             "N": lambda: str(self.lot.randint(0, 12)),
             "B": lambda: str(self.lot.choice([0, 1, 1, 2, 7, 255])),
             "X": self.hex,
