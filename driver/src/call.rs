@@ -14,6 +14,7 @@ use crate::settings::Settings;
 use crate::slots::Slots;
 use crate::system::{self, Signals};
 use crate::tasks::{self, Surroundings};
+use dry_run_pairs::runs_devices_first;
 use std::env;
 use std::ffi::{OsStr, OsString};
 use std::fs;
@@ -272,7 +273,7 @@ impl Call<'_> {
         if done.iter().zip(tasks).any(|(done, task)| task.is_rule && done.failed()) {
             return by_nvcc("its dependency file fails");
         }
-        if tasks::devices_come_first(&dry_runs.first) {
+        if runs_devices_first(&dry_runs.first) {
             return by_nvcc("a command fails, and nvcc has them in another order");
         }
         Ok(())

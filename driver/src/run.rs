@@ -1,6 +1,6 @@
 //! Runs the commands of a plan on a machine.
 use crate::machine::{Ended, Event, Job, Machine};
-use crate::schedule::{Outcome, Schedule};
+use crate::schedule::{Outcome, Refused, Schedule};
 use std::io;
 
 /// A command of a plan, or what writes the dependency file.
@@ -56,6 +56,12 @@ pub enum Stopped {
     NoProcess(String),
 }
 
+impl From<Refused> for Stopped {
+    fn from(_: Refused) -> Stopped {
+        Stopped::NoProcess("the schedule refuses a command".into())
+    }
+}
+
 /// What tells of tasks that end.
 pub trait Watch {
     /// Does a task without a process, if that is possible.
@@ -102,7 +108,7 @@ impl<M: Machine, W: Watch> Run<'_, M, W> {
     fn run_all(&mut self) -> Result<(), Stopped> {
         let mut is_held_back = false;
         loop {
-            self.make_rules();
+            self.make_rules()?;
             if self.schedule.over() {
                 self.machine.want(false);
                 return Ok(());
@@ -114,7 +120,7 @@ impl<M: Machine, W: Watch> Run<'_, M, W> {
                 Event::Slot => is_held_back = self.start(next)?,
                 Event::Ended(number, ended) => {
                     is_held_back = false;
-                    self.ended(number, ended);
+                    self.ended(number, ended)?;
                 }
                 Event::Signal(number) => return Err(Stopped::Signal(number)),
                 Event::Lost(reason) => return Err(Stopped::NoProcess(reason)),
@@ -123,15 +129,16 @@ impl<M: Machine, W: Watch> Run<'_, M, W> {
     }
 
     /// Does what needs no process.
-    fn make_rules(&mut self) {
+    fn make_rules(&mut self) -> Result<(), Stopped> {
         while let Some(next) = self.schedule.next().filter(|&next| self.tasks[next].is_rule) {
             if !self.watch.make_rule() {
-                return;
+                break;
             }
-            self.schedule.started(next);
-            self.schedule.ended(next, Outcome::Success);
+            self.schedule.started(next)?;
+            self.schedule.ended(next, Outcome::Success)?;
             self.done[next].by_driver = true;
         }
+        Ok(())
     }
 
     fn note_asked(&mut self, next: Option<usize>) {
@@ -149,7 +156,7 @@ impl<M: Machine, W: Watch> Run<'_, M, W> {
             Ok(()) => {
                 self.launched[next] = task.without_launcher.is_some() && bare.is_none();
                 if self.again.pop().is_none() {
-                    self.schedule.started(next);
+                    self.schedule.started(next)?;
                 }
                 Ok(false)
             }
@@ -158,7 +165,7 @@ impl<M: Machine, W: Watch> Run<'_, M, W> {
         }
     }
 
-    fn ended(&mut self, number: usize, ended: Ended) {
+    fn ended(&mut self, number: usize, ended: Ended) -> Result<(), Stopped> {
         let task = &self.tasks[number];
         let is_refusal = !ended.status.succeeded() && contains(&ended.errors, REFUSAL);
         if is_refusal && self.launched[number] {
@@ -167,11 +174,11 @@ impl<M: Machine, W: Watch> Run<'_, M, W> {
                 self.watch.refused(task.tool());
             }
             self.again.push(number);
-            return;
+            return Ok(());
         }
         self.done[number].ended = Some(ended);
         let outcome = if self.done[number].failed() { Outcome::Failure } else { Outcome::Success };
-        self.schedule.ended(number, outcome);
+        Ok(self.schedule.ended(number, outcome)?)
     }
 }
 

@@ -94,17 +94,6 @@ pub fn tasks_of(commands: &[PlannedCommand], dependencies: Option<&Words>, aroun
     tasks
 }
 
-/// Whether nvcc runs cicc before cudafe++, as it does before version 12. A plan runs cudafe++ first.
-pub fn devices_come_first(dry_run: &[u8]) -> bool {
-    let runs = |line: &str, tool: &str| {
-        let first = line.strip_prefix("#$ ").and_then(|line| line.split(' ').next()).unwrap_or_default();
-        first.trim_end_matches('"').ends_with(tool)
-    };
-    let text = String::from_utf8_lossy(dry_run);
-    let first = |tool: &str| text.lines().position(|line| runs(line, tool));
-    matches!((first("cicc"), first("cudafe++")), (Some(device), Some(host)) if device < host)
-}
-
 /// What a shell says of a command that a signal ended.
 pub fn words_of_death(status: Status) -> String {
     let name = match status.signal {
