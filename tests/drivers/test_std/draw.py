@@ -67,8 +67,8 @@ class Draw:
 
     def bytes(self) -> str:
         return "bytes : " + self.operations(
-            ["new", "with=N", "from=X", "elem=B,N", "array", "resize=B,N", "push=B", "push=B", "push=B", "extend=X", "extend=X", "append=X", "insert=N,B",
-             "remove=N", "pop", "truncate=N", "clear", "reserve=N", "reserved=B", "dedup", "sort", "get=N", "first", "same=X", "utf8",
+            ["new", "with=N", "from=X", "elem=B,N", "array", "resize=B,N", "push=B", "push=B", "push=B", "extend=X", "extend=X", "append=X",
+             "insert=N,B", "remove=N", "pop", "truncate=N", "clear", "reserve=N", "reserved=B", "dedup", "sort", "get=N", "first", "same=X", "utf8",
              "debug", "with=G", "reserve=G", "elem=B,0"])
 
     def words(self) -> str:

@@ -50,7 +50,8 @@ def sites() -> list[tuple[Path, int, str]]:
 
 
 def run(words: list[str], **more: object) -> subprocess.CompletedProcess[str]:
-    return subprocess.run(words, stdout=subprocess.PIPE, stderr=subprocess.STDOUT, text=True, check=False, **more)  # type: ignore[call-overload, no-any-return]
+    streams = {"stdout": subprocess.PIPE, "stderr": subprocess.STDOUT}
+    return subprocess.run(words, text=True, check=False, **streams, **more)  # type: ignore[call-overload, no-any-return]
 
 
 def main() -> None:
@@ -60,7 +61,8 @@ def main() -> None:
     with tempfile.TemporaryDirectory() as scratch:
         made = Path(scratch) / "rust"
         target = Path(os.environ.get("PLANT_TARGET", f"{scratch}/target"))
-        eraser = ["cargo", "run", "--quiet", "--release", "--offline", "--target-dir", str(target), "--manifest-path", "rust/Cargo.toml", "-p", "eraser"]
+        built = ["--quiet", "--release", "--offline", "--target-dir", str(target)]
+        eraser = ["cargo", "run", *built, "--manifest-path", "rust/Cargo.toml", "-p", "eraser"]
         print(run([*eraser, "--", "--drivers", "--unformatted", ".", str(made)], cwd=ROOT).stdout, end="")
         build = ["cargo", "build", "--quiet", "--release", "--offline", "--target-dir", str(target), "-p", "test_std", "--config",
                  "profile.release.lto=false", "--config", "profile.release.opt-level=1", "--config", "profile.release.codegen-units=16"]
