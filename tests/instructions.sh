@@ -1,14 +1,18 @@
 #!/usr/bin/env bash
-# Counts the instructions of plans by libzigrunk, beside those of the same plan by `cudabench plan`: of 21 calls less those of one, by 20.
-# docs/PERFORMANCE.md has what came out. Outside the gate, since it compares nothing.
+# Counts the instructions of plans by libzigrunk, as the kit builds it and as cargo builds the plain Rust, and the second as a share of the
+# first: of 21 calls less those of one, by 20. docs/PERFORMANCE.md has what came out. Outside the gate; it fails if the plain build takes
+# more than 105 % of the proved one's instructions.
 #
-#   tests/instructions.sh [ARCHIVE [CUDABENCH]]    what `make lib` leaves and what `tests/drivers.sh --build cudabench` does, unless given
+#   tests/instructions.sh [PROVED [PLAIN [CUDABENCH]]]    the archives that `make lib` and `make rust` leave, and the program that
+#                                                         `tests/drivers.sh --build cudabench` leaves, unless given
 #
-#   NAME=two_targets     the dry runs, of those in tests/drivers/test_plans/data/dry_runs
+#   NAMES='one_target two_targets'     the dry runs, of those in tests/drivers/test_plans/data/dry_runs
 set -eu
 cd "$(dirname "$0")/.."
-archive=$(realpath "${1:-crates/zigrunk_c/out/libzigrunk_c.a}") bench=$(realpath "${2:-tests/drivers/cudabench/out/cudabench}")
-data=tests/drivers/test_plans/data/dry_runs name=${NAME:-two_targets}
+proved=${1:-crates/zigrunk_c/out/libzigrunk_c.a} plain=${2:-out/rust/target/release/libzigrunk.a} bench=${3:-tests/drivers/cudabench/out/cudabench}
+readonly MOST=105
+data=tests/drivers/test_plans/data/dry_runs
+read -ra names <<< "${NAMES:-one_target two_targets}"
 scratch=$(mktemp -d)
 trap 'rm -rf "$scratch"' EXIT
 
@@ -22,11 +26,25 @@ each() {
     echo $((($(instructions "${@/#@/21}") - $(instructions "${@/#@/1}")) / 20))
 }
 
-bindings/c/library.sh "$archive" "$scratch" > /dev/null
-gcc -std=c99 -D_POSIX_C_SOURCE=200809L -O1 -DVERSION="\"$(cat VERSION)\"" -Itests/c -I"$scratch/include" -Ibindings/c tests/c/work.c -o "$scratch/work" "$scratch/lib/libzigrunk.a"
-plan=$(each "$bench" plan @ /w /t "$(cat "$data/$name.flag")" "$data/$name.dry1" "$data/$name.dry2")
-echo "cudabench plan: $plan"
-for form in text records steps json; do
-    count=$(each "$scratch/work" "$form" @ "$data" "$name")
-    echo "$form: $count, $((count * 100 / plan)) %"
+# build NAME ARCHIVE: a program that plans with one build of the library.
+build() {
+    bindings/c/library.sh "$2" "$scratch/$1" > /dev/null
+    gcc -std=c99 -D_POSIX_C_SOURCE=200809L -O1 -DVERSION="\"$(cat VERSION)\"" -Itests/c -Ibindings/c tests/c/work.c -o "$scratch/$1/work" \
+        "$scratch/$1/lib/libzigrunk.a"
+}
+
+build proved "$proved"
+build plain "$plain"
+status=0
+for name in "${names[@]}"; do
+    if [ -x "$bench" ]; then
+        echo "$name, cudabench plan: $(each "$bench" plan @ /w /t "$(cat "$data/$name.flag")" "$data/$name.dry1" "$data/$name.dry2")"
+    fi
+    for form in text records steps json; do
+        one=$(each "$scratch/proved/work" "$form" @ "$data" "$name") other=$(each "$scratch/plain/work" "$form" @ "$data" "$name")
+        share=$((other * 100 / one))
+        echo "$name, $form: proved $one, plain $other, $share %"
+        [ $((other * 100)) -le $((one * MOST)) ] || status=1
+    done
 done
+exit "$status"

@@ -29,7 +29,7 @@ script() {
 
 # write: the eraser writes the workspace, with the drivers that run cases, and cargo builds it.
 write() {
-    cargo run --quiet --release --locked --target-dir "$folder/eraser" --manifest-path rust/Cargo.toml -p eraser -- --drivers . "$folder" &&
+    cargo run --quiet --release --locked --manifest-path rust/Cargo.toml -p eraser -- --drivers . "$folder" &&
         cargo build --quiet --release --target-dir "$folder/target" --manifest-path "$folder/Cargo.toml"
 }
 

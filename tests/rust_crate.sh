@@ -19,6 +19,7 @@ export CARGO_TARGET_DIR=${TARGET:-$scratch/target} CARGO_NET_OFFLINE=true
 export CARGO_PROFILE_RELEASE_LTO=off CARGO_PROFILE_RELEASE_CODEGEN_UNITS=16 CARGO_PROFILE_RELEASE_PANIC=unwind
 version=$(cat VERSION)
 data=$PWD/tests/drivers/test_plans/data/dry_runs
+export ZIGRUNK_DRY_RUNS=$data
 plain=(-p zigrunk)
 linked=(-p zigrunk -p zigrunk-sys --no-default-features --features zigrunk/libzigrunk)
 
@@ -112,6 +113,8 @@ by_library() {
     check 'linked: the tests, with the shared object' env LD_LIBRARY_PATH="$ZIGRUNK_LIB_DIR" cargo test -q --tests "${linked[@]}"
 }
 
+check 'the page of the package has these lines too' prints '' comm -13 <(sed -n 's/^\/\/! //p' zigrunk/src/lib.rs | sort) \
+    <(sed -n '/^```rust/,/^```$/p' zigrunk/README.md | grep -v '^```' | sort)
 check 'the versions' grep -qx "version = \"$version\"" Cargo.toml
 check 'the tests' cargo test -q "${plain[@]}"
 check 'what the examples write' examples_write "$CARGO_TARGET_DIR/debug/examples"

@@ -47,13 +47,15 @@ class Import:
 
 @dataclass
 class Reading:
-    """What was read of a file: its code without imports, these, the modules of files that it declares, and what was left out."""
+    """What was read of a file: its code without imports, these, the modules of files that it declares, its exports for C, and what was
+    left out: its tokens, its parts with where they begin and end, and how many there are of each kind."""
 
     code: list[Token] = field(default_factory=list)
     imports: list[Import] = field(default_factory=list)
     modules: dict[str, list[Token]] = field(default_factory=dict)
     exports: list[list[Token]] = field(default_factory=list)
     ghost: list[Token] = field(default_factory=list)
+    left_out: list[tuple[str, int, int]] = field(default_factory=list)
     counts: Counter[str] = field(default_factory=Counter)
     items: int = 0
 
@@ -102,6 +104,7 @@ class Reader:
     def leave_out(self, kind: str, at: int, end: int) -> None:
         self.reading.counts[kind] += 1
         self.reading.ghost += self.tokens[at:end]
+        self.reading.left_out.append((kind, self.tokens[at].start, self.tokens[end - 1].end))
 
     # Items.
 

@@ -184,7 +184,7 @@ turned needs e = record {
 
 -- Nothing has started.
 
-unstarted : (count m : ℕ) → state_at (replicate count NotStarted) m ≡ NotStarted
+pub unstarted : (count m : ℕ) → state_at (replicate count NotStarted) m ≡ NotStarted
 unstarted zero m = refl
 unstarted (suc count) zero = refl
 unstarted (suc count) (suc m) = unstarted count m
@@ -199,7 +199,7 @@ none_bad : (count : ℕ) → first_bad (replicate count NotStarted) ≡ count
 none_bad zero = refl
 none_bad (suc count) = ap suc (none_bad count)
 
-none_runs : (count : ℕ) → running (replicate count NotStarted) ≡ 0
+pub none_runs : (count : ℕ) → running (replicate count NotStarted) ≡ 0
 none_runs zero = refl
 none_runs (suc count) =
     let step : running (NotStarted ∷ replicate count NotStarted) ≡ 0 + running (replicate count NotStarted) = sum_by-cons (λ s. cond (is_running s) 1 0) NotStarted (replicate count NotStarted) in

@@ -199,3 +199,15 @@ root_is_best ps tree test some played enter =
     let no_greater : key ps (at tree 1) ≤ key ps (best ps (filter test (range_with_len 0 (length ps)))) =
     no_better ps test (at tree 1) (best ps (filter test (range_with_len 0 (length ps)))) winner (λ m h e. best_beats ps test 0 (length ps) m (omega arith) (omega arith) e) in
     same_key ps (at tree 1) (best ps (filter test (range_with_len 0 (length ps)))) winner.within other.within (omega arith)
+
+-- if one of them is a command, the best is one
+pub some_best : (ps : List ℕ) (test : ℕ → Bool) (from count n : ℕ) → from ≤ n → n < from + count → n < length ps → test n ≡ true → best ps (filter test (range_with_len from count)) < length ps
+some_best ps test from count n h k w e = by (nat_lt (best ps (filter test (range_with_len from count))) (length ps)) refl
+  where
+    by : (t : Bool) → nat_lt (best ps (filter test (range_with_len from count))) (length ps) ≡ t → best ps (filter test (range_with_len from count)) < length ps
+    by true f = ltb-true (best ps (filter test (range_with_len from count))) (length ps) f
+    by false f =
+        let none : key ps (best ps (filter test (range_with_len from count))) ≡ 0 = key_none ps (best ps (filter test (range_with_len from count))) (ltb-false (best ps (filter test (range_with_len from count))) (length ps) f) in
+        let some : key ps n ≡ get_or ps n 0 * suc (length ps) + (length ps - n) = key_some ps n w in
+        let beats : key ps n ≤ key ps (best ps (filter test (range_with_len from count))) = best_beats ps test from count n h k e in
+        absurd (omega (arith, none, some, beats, w))

@@ -1,6 +1,8 @@
 pub mod Entered
+pub mod Events
 pub mod Graphs
 pub mod Kept
+pub mod ScheduleLaws
 pub mod Scheduled
 pub mod States
 pub mod Told

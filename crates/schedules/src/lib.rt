@@ -5,6 +5,7 @@
 
 mod command;
 mod graph;
+pub mod laws;
 mod ready;
 mod schedule;
 mod telling;

@@ -1,7 +1,7 @@
 //! The dry runs of real calls that the repository has, for tests.
 
-use std::fs;
 use std::path::{Path, PathBuf};
+use std::{env, fs};
 
 /// A real call: its dry runs, and its plan as `cudaplan` prints it.
 #[derive(Debug)]
@@ -14,12 +14,14 @@ pub struct Stored {
     pub plan: String,
 }
 
-/// The folder with the files: in the repository that this crate's folder is in.
+/// The folder with the files: that of `ZIGRUNK_DRY_RUNS`, or else in the repository that this crate's folder is in.
 fn folder() -> PathBuf {
+    if let Some(folder) = env::var_os("ZIGRUNK_DRY_RUNS") {
+        return folder.into();
+    }
     let here = PathBuf::from(env!("CARGO_MANIFEST_DIR")).canonicalize().expect("the crate's folder");
-    let places = ["tests/drivers/test_plans/data/dry_runs", "crates/test_plans/data/dry_runs"];
-    let mut folders = here.ancestors().flat_map(|top| places.map(|place| top.join(place)));
-    folders.find(|folder| folder.is_dir()).expect("a folder above with the dry runs")
+    let mut folders = here.ancestors().map(|top| top.join("tests/drivers/test_plans/data/dry_runs"));
+    folders.find(|folder| folder.is_dir()).expect("ZIGRUNK_DRY_RUNS, or a repository above")
 }
 
 fn read(path: &Path) -> Vec<u8> {
