@@ -140,6 +140,15 @@ pub fn make<M: Machine>(machine: &mut M, line: &Line<'_>) -> Result<DryRuns, Fai
     Ok(DryRuns { first: commands, second: second.errors, messages: bytes(remarks_in(Global, &own))? })
 }
 
+/// Makes the two dry runs of a plan alone, and says how each ended.
+///
+/// # Errors
+///
+/// If a signal comes, or no process can be started.
+pub fn make_planned<M: Machine>(machine: &mut M, outline: &Outline) -> Result<Vec<Ended>, Failed> {
+    all(machine, &[planned_job(&outline.first_dry_run), planned_job(&outline.second_dry_run)])
+}
+
 fn first_by_nvcc<M: Machine>(machine: &mut M, outline: &Outline) -> Result<Vec<u8>, Failed> {
     let ended = all(machine, &[planned_job(&outline.first_dry_run)])?;
     ended.into_iter().find(|run| run.status.succeeded()).map(|run| run.errors).ok_or_else(fails)
