@@ -10,7 +10,7 @@ cd "$(dirname "$0")/.." || exit 1
 . tests/lib.sh
 trap 'kill $(jobs -p) 2> /dev/null; rm -rf "$scratch"' EXIT
 unset NVCC_PREPEND_FLAGS NVCC_APPEND_FLAGS CDPATH MAKEFLAGS MFLAGS "${!ZIGRUNK@}"
-user=$(id -u)
+root=$PWD user=$(id -u)
 shell=(driver)
 
 # cargo_test: the unit tests, each as a case.
@@ -45,6 +45,7 @@ for tool in gcc cudafe++ ptxas fatbinary; do ln -s "$stand_ins/tool" "$CUDA/bin/
 ln -s "$stand_ins/tool" "$CUDA/nvvm/bin/cicc"
 ln -s "$stand_ins/nvcc" "$CUDA/bin/nvcc"
 cp "$driver" "$scratch/bin/zigrunk-nvcc"
+ln -s zigrunk-nvcc "$scratch/bin/zigrunk-plan"
 nvcc_driver=$scratch/bin/zigrunk-nvcc
 export PATH=$CUDA/bin:$PATH
 plain=(ZIGRUNK_EXPLAIN=1 NVCC_STATUS=5)
@@ -776,6 +777,63 @@ jobservers() {
     fi
 }
 
+logs() {
+    if case_of 'the log'; then
+        call ZIGRUNK_LOG="$room/calls" -c k.cu -o k.o
+        call ZIGRUNK_LOG="$room/calls" NVCC_DOES='exit 7' k.cu 'a "b'
+        same status "$status" 7
+        call ZIGRUNK_LOG="$room/calls" TOOL_DOES='[ "$name" != cudafe++ ] || exit 6' -c k.cu -o k.o
+        for _ in 1 2; do call ZIGRUNK_LOG="$room/calls" --keep --keep-dir missing -c k.cu -o k.o; done
+        same 'lines, split, hints' "$(wc -l < "$room/calls") $(grep -vc 'reason\|hint' "$room/calls") $(grep -c hint "$room/calls")" '6 2 1'
+        same 'kinds' "$(head -n 1 "$room/calls" | grep -o '"kind":"[^"]*"' | cut -d '"' -f 4 | paste -sd ,)" \
+            'gcc -E,cudafe++,gcc -E __CUDA_ARCH__=800,cicc compute_80,ptxas sm_80,gcc -E __CUDA_ARCH__=900,cicc compute_90,ptxas sm_90,fatbinary,gcc -c __CUDA_ARCH__=900'
+        same 'statuses' "$(sed 's/.*\("status":[0-9]*\),"reason".*/\1/; s/.*"end":[0-9.]*,\("status":[0-9]*\),"commands".*/\1/' "$room/calls" | grep '^"st' | paste -sd ' ')" \
+            '"status":0 "status":7 "status":6 "status":0 "status":0'
+        if command -v python3 > /dev/null; then
+            "$root/bin/zigrunk-report" "$room/calls" > "$room/report" 2>&1
+            same 'the report' "$(sed -n 1,2p "$room/report")" $'calls: 5, failed: 2\nsplit: 2 of 5 (40 %)'
+        fi
+        { call ZIGRUNK_LOG="$room/calls" NVCC_DOES='kill -TERM $$' k.cu; } 2> /dev/null
+        same 'a signal of nvcc' "$status $(tail -n 1 "$room/calls" | grep -o '"status":[0-9]*')" '143 "status":143'
+        end
+    fi
+    if case_of 'a terminal'; then
+        if command -v script > /dev/null; then
+            export LOG=$room/log TMPDIR=$room/tmp XDG_RUNTIME_DIR=$room/run TOOL_DOES='[ ! -t 2 ] || echo colours >&2; printf "%s\n" "a line" >&2'
+            script -qec "'$nvcc_driver' -c k.cu -o k.o" said > /dev/null < /dev/null
+            unset LOG XDG_RUNTIME_DIR TOOL_DOES
+            export TMPDIR=/tmp
+            same 'messages' "$(tr -d '\r' < said | grep -c '^colours$') $(tr -d '\r' < said | grep -c '^a line$') $(grep -c $'\r\r' said)" '10 10 0'
+        fi
+        call TOOL_DOES='[ ! -t 2 ] || echo colours >&2' -c k.cu -o k.o
+        splits 'without one'
+        end
+    fi
+    if case_of 'a library that cannot be loaded'; then
+        call LD_PRELOAD=/missing.so -c k.cu -o k.o
+        same 'status and product' "$status $(cat k.o)" '0 made'
+        end
+    fi
+}
+
+plans() {
+    as_plan=$scratch/bin/zigrunk-plan
+    if case_of 'zigrunk-plan'; then
+        as=$as_plan call text -- nvcc -c k.cu -o k.o
+        same 'status and messages' "$status$(cat "$room/err")" 0
+        same 'calls of nvcc' "$(grep -c '^nvcc' "$room/log") $(grep -c dryrun "$room/log") $(grep -c '^+' "$room/log")" '2 2 0'
+        same 'the plan' "$(grep -c "$room/tmp/zigrunk-$user/zigrunk-" "$room/out") $(ls -A "$room/tmp")" "$(grep -c "$room/tmp" "$room/out") "
+        as=$as_plan call ninja nvcc -c k.cu -o k.o
+        same 'descriptions' "$(sed -n 's/^  description = //p' "$room/out" | paste -sd ,)" \
+            'gcc,cudafe++,gcc 800,cicc compute_80,ptxas sm_80,gcc 900,cicc compute_90,ptxas sm_90,fatbinary,gcc 900'
+        as=$as_plan call json nvcc k.cu
+        same 'a line that goes to nvcc' "$status $(cat "$room/out" "$room/err")" '3 zigrunk: goes to nvcc: it links'
+        as=$as_plan call KEPT_STATUS=1 DRY_RUN_DOES='echo bad >&2' json nvcc -c k.cu
+        same 'a dry run that fails' "$status$(cat "$room/out") $(cat "$room/err")" $'1 bad\nzigrunk-plan: a dry run fails'
+        end
+    fi
+}
+
 end_to_end
 folders
 compilers
@@ -783,6 +841,8 @@ to_nvcc
 outputs
 products
 signals
+logs
+plans
 slots
 jobservers
 summary

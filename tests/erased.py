@@ -51,6 +51,8 @@ REWRITES = [
     Rewrite("main", "fn main(rt: HostRuntime) -> ExitCode", "std::program!(main); fn main(rt: HostRuntime) -> ExitCode"),
     # `str` has a method of this name, which allocates by itself.
     Rewrite("replace", "text.replace(alloc, old, new)", "text.replace_in(alloc, old, new)"),
+    # So has `Iterator`.
+    Rewrite("collect", ".collect(alloc)", ".collect_in(alloc)"),
 ]
 
 

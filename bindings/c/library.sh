@@ -22,7 +22,9 @@ if "$AR" t "$archive" | grep -q '^compiler_builtins-'; then
 else
     "$LD" -r -z noexecstack -o "$work/whole.o" --whole-archive "$archive" "$kit/c/liblibc_c.a"
 fi
-"$OBJCOPY" --keep-global-symbols="$work/exports" --strip-unneeded "$work/whole.o" "$work/zigrunk.o"
+# (Debian's rustc leaves LLVM's own form of Rust's library in these sections, which other versions of LLVM stop at)
+"$OBJCOPY" --keep-global-symbols="$work/exports" --strip-unneeded --remove-section=.llvmbc --remove-section=.llvmcmd \
+    "$work/whole.o" "$work/zigrunk.o"
 
 rm -f "$folder/lib/libzigrunk.a"
 "$AR" rcsD "$folder/lib/libzigrunk.a" "$work/zigrunk.o"

@@ -5,6 +5,7 @@ use crate::guard::{Guard, Shared};
 use crate::host::{self, Host};
 use crate::jobserver::{Jobserver, MakeFlags, Tokens};
 use crate::log::{self, LoggedCall};
+use crate::places::{absolute, working_directory};
 use crate::planner::{self, Line, Outline, ToPlan};
 use crate::products;
 use crate::programs::{self, Compiler};
@@ -14,12 +15,12 @@ use crate::settings::Settings;
 use crate::slots::Slots;
 use crate::system::{self, Signals};
 use crate::tasks::{self, Surroundings};
+use dry_run_pairs::runs_devices_first;
 use std::env;
 use std::ffi::{OsStr, OsString};
 use std::fs;
 use std::io::Write;
-use std::os::unix::fs::MetadataExt;
-use std::path::{Component, Path, PathBuf};
+use std::path::{Path, PathBuf};
 
 /// With fewer open files, nvcc makes the call.
 const FEWEST_FILES: u64 = 30;
@@ -113,32 +114,6 @@ fn plain_reason(words: &[OsString]) -> Option<&'static str> {
         Some("-V" | "--version") => Some("it prints something"),
         _ => None,
     })
-}
-
-/// The working directory, by the name that a shell has for it.
-fn working_directory() -> Option<PathBuf> {
-    let place = |path: &Path| fs::metadata(path).ok().map(|status| (status.dev(), status.ino()));
-    let named = env::var_os("PWD").map(PathBuf::from).filter(|path| path.is_absolute() && is_plain(path) && place(path) == place(Path::new(".")));
-    named.or_else(|| env::current_dir().ok())
-}
-
-/// Whether a path has no `.`, `..` and nothing empty between slashes.
-fn is_plain(path: &Path) -> bool {
-    path.to_str().is_some_and(directories::is_plain)
-}
-
-/// A directory's path in the one form that plans take.
-fn absolute(path: &Path, cwd: &Path) -> PathBuf {
-    let mut plain = PathBuf::new();
-    for part in cwd.join(path).components() {
-        match part {
-            Component::ParentDir => drop(plain.pop()),
-            Component::CurDir => {}
-            other => plain.push(other),
-        }
-    }
-    let place = |path: &Path| fs::metadata(path).ok().map(|status| (status.dev(), status.ino()));
-    if place(&plain) == place(path) { plain } else { fs::canonicalize(path).unwrap_or(plain) }
 }
 
 /// The words of nvcc's variable, as it cuts its value. A call is split only if they have no quotes.
@@ -272,7 +247,7 @@ impl Call<'_> {
         if done.iter().zip(tasks).any(|(done, task)| task.is_rule && done.failed()) {
             return by_nvcc("its dependency file fails");
         }
-        if tasks::devices_come_first(&dry_runs.first) {
+        if runs_devices_first(&dry_runs.first) {
             return by_nvcc("a command fails, and nvcc has them in another order");
         }
         Ok(())

@@ -2,7 +2,9 @@
 use crate::machine::{Ended, Event, Job, Machine};
 use crate::planner::{Outline, Words};
 use crate::system::TERM;
-use crate::texts::comparison::{Places, have_same_commands, messages, without_folder};
+use dry_run_pairs::{Comparison, agree, fails_by_threads, remarks_in, with_commands, without_folder};
+use rattle_std::alloc::{AllocError, Global};
+use rattle_std::vec::Vec as List;
 
 /// What nvcc says of a call.
 #[derive(Clone, PartialEq, Eq, Debug, Default)]
@@ -79,27 +81,22 @@ fn all<M: Machine>(machine: &mut M, jobs: &[Job]) -> Result<Vec<Ended>, Failed> 
     Ok(ended.into_iter().flatten().collect())
 }
 
-/// Whether a message is of a file that nvcc can't open. With several threads, an nvcc before version 13 reads files that its commands
-/// would have printed to.
-fn is_of_threads(line: &[u8]) -> bool {
-    let line = line.strip_suffix(b"\n").unwrap_or(line);
-    let message = b"Could not open input file ";
-    line.windows(message.len()).any(|part| part == message) && line.ends_with(b"_stdout")
+/// The bytes that a proved function gives.
+fn bytes(given: Result<List<u8>, AllocError>) -> Result<Vec<u8>, Failed> {
+    given.map(|list| list.as_slice().to_vec()).map_err(out_of_memory)
+}
+
+fn out_of_memory(_: AllocError) -> Failed {
+    Failed::ByNvcc("out of memory".into())
 }
 
 /// The line's own dry run as for one thread, if it failed for several: what it said of the line, and the commands of another.
 fn for_one_thread<M: Machine>(machine: &mut M, line: &Line<'_>, failed: &[u8]) -> Result<Vec<u8>, Failed> {
-    let lines = || failed.split_inclusive(|&byte| byte == b'\n');
-    if !lines().any(is_of_threads) {
+    if !fails_by_threads(failed) {
         return Err(fails());
     }
-    let again = all(machine, &[own_job(line, &["--threads", "1"])])?;
-    let said = lines().filter(|line| !line.starts_with(b"#$ ") && !is_of_threads(line));
-    match again.as_slice() {
-        [again] if again.status.succeeded() => {
-            let commands = again.errors.split_inclusive(|&byte| byte == b'\n').filter(|line| line.starts_with(b"#$ "));
-            Ok(said.chain(commands).flatten().copied().collect())
-        }
+    match all(machine, &[own_job(line, &["--threads", "1"])])?.as_slice() {
+        [again] if again.status.succeeded() => bytes(with_commands(Global, failed, &again.errors)),
         _ => Err(fails()),
     }
 }
@@ -122,7 +119,7 @@ fn own_job(line: &Line<'_>, further: &[&str]) -> Job {
 /// If a dry run fails, the line's own has other commands, or a signal comes.
 pub fn make<M: Machine>(machine: &mut M, line: &Line<'_>) -> Result<DryRuns, Failed> {
     let outline = line.outline;
-    let places = Places { cwd: line.cwd, keep_dir: outline.keep_dir.as_deref(), has_rule: outline.dependencies.is_some() };
+    let places = Comparison { cwd: line.cwd, keep_dir: outline.keep_dir.as_deref().unwrap_or_default(), writes_rule: outline.dependencies.is_some() };
     let mut jobs = vec![own_job(line, &[]), planned_job(&outline.second_dry_run)];
     jobs.extend(outline.keep_dir.is_some().then(|| planned_job(&outline.first_dry_run)));
     let mut ended = all(machine, &jobs)?.into_iter();
@@ -131,15 +128,25 @@ pub fn make<M: Machine>(machine: &mut M, line: &Line<'_>) -> Result<DryRuns, Fai
     if [Some(&second), first.as_ref()].into_iter().flatten().any(|run| !run.status.succeeded()) {
         return Err(fails());
     }
-    let derived = || without_folder(&second.errors, format!("{}/", line.tmp).as_bytes());
-    let mut commands = first.map_or_else(derived, |first| first.errors);
-    if outline.keep_dir.is_none() && !have_same_commands(&own, &commands, &places) {
+    let agrees = |commands: &[u8]| agree(Global, &places, &own, commands).map_err(out_of_memory);
+    let derived = || bytes(without_folder(Global, &second.errors, line.tmp));
+    let mut commands = first.map_or_else(derived, |first| Ok(first.errors))?;
+    if outline.keep_dir.is_none() && !agrees(&commands)? {
         commands = first_by_nvcc(machine, outline)?;
     }
-    if !have_same_commands(&own, &commands, &places) {
+    if !agrees(&commands)? {
         return Err(Failed::ByNvcc("nvcc reads the line otherwise".into()));
     }
-    Ok(DryRuns { first: commands, second: second.errors, messages: messages(&own) })
+    Ok(DryRuns { first: commands, second: second.errors, messages: bytes(remarks_in(Global, &own))? })
+}
+
+/// Makes the two dry runs of a plan alone, and says how each ended.
+///
+/// # Errors
+///
+/// If a signal comes, or no process can be started.
+pub fn make_planned<M: Machine>(machine: &mut M, outline: &Outline) -> Result<Vec<Ended>, Failed> {
+    all(machine, &[planned_job(&outline.first_dry_run), planned_job(&outline.second_dry_run)])
 }
 
 fn first_by_nvcc<M: Machine>(machine: &mut M, outline: &Outline) -> Result<Vec<u8>, Failed> {

@@ -9,6 +9,8 @@ mod host;
 mod jobserver;
 mod log;
 mod machine;
+mod places;
+mod plan_program;
 mod planner;
 mod products;
 mod programs;
@@ -26,12 +28,12 @@ pub use system::open_standard_streams;
 use std::ffi::{OsStr, OsString};
 use std::path::Path;
 
-const USAGE: &str = "usage: zigrunk-driver nvcc WORD..";
+const USAGE: &str = "usage: zigrunk-driver nvcc|plan WORD..";
 
 /// What is run under a name.
 fn run_as(name: &OsStr, words: &[OsString]) -> Option<i32> {
     match name.to_str()? {
-        "zigrunk-nvcc" | "nvcc" => Some(call::make(name, words)),
+        "zigrunk-plan" => Some(plan_program::run(words)),
         other if other.ends_with("nvcc") => Some(call::make(name, words)),
         _ => None,
     }

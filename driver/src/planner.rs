@@ -7,6 +7,7 @@ use compilers::command::Cacheable;
 use compilers::compiler::NvccHostCompiler;
 use dry_runs::Which;
 use nvcc_calls::{Answer, directory_name, file_names, read_call};
+use plan_scripts::Format;
 use plans::{NvccGeneratedSubcommand, PlanWithOrigins};
 use program_calls::{DirectoryCall, NvccCall};
 use rattle_std::alloc::{AllocError, Global};
@@ -176,12 +177,8 @@ pub struct ToPlan<'a> {
     pub keeps: bool,
 }
 
-/// The commands of a call, in plan order.
-///
-/// # Errors
-///
-/// Why there is no plan, or none that runs all commands.
-pub fn plan(of: &ToPlan<'_>) -> Result<Vec<PlannedCommand>, String> {
+/// Plans a call.
+fn planned(of: &ToPlan<'_>) -> Result<PlanWithOrigins, String> {
     if !directories::is_plain(of.cwd) || !directories::is_plain(of.tmp) {
         return Err("a directory isn't absolute, or has an empty part, . or ..".into());
     }
@@ -197,11 +194,33 @@ pub fn plan(of: &ToPlan<'_>) -> Result<Vec<PlannedCommand>, String> {
     };
     let [dry1, dry2] = of.dry_runs;
     let planned = plan_with_origins_within(Global, dry1, dry2, &call, &Disk, MOST_BYTES).map_err(|fault| fault.to_string())?;
+    let is_empty = planned.plan.groups.as_slice().iter().all(|group| group.as_slice().is_empty());
+    if is_empty { Err("the plan has no command".into()) } else { Ok(planned) }
+}
+
+/// The commands of a call, in plan order.
+///
+/// # Errors
+///
+/// Why there is no plan, or none that runs all commands.
+pub fn plan(of: &ToPlan<'_>) -> Result<Vec<PlannedCommand>, String> {
+    let planned = planned(of)?;
     if !planned.plan.dropped.as_slice().is_empty() {
         return Err("the plan dropped a command".into());
     }
-    let commands = commands_of(&planned)?;
-    if commands.is_empty() { Err("the plan has no command".into()) } else { Ok(commands) }
+    commands_of(&planned)
+}
+
+/// The plan of a call in the format of a name, as people type it, with its commands.
+///
+/// # Errors
+///
+/// Why there is no plan, or why the format can't represent it.
+pub fn plan_file(format: &str, of: &ToPlan<'_>) -> Result<(String, Vec<PlannedCommand>), String> {
+    let format = Format::named(format).ok_or("unknown format")?;
+    let planned = planned(of)?;
+    let file = plan_formats::plan_file(Global, format, of.cwd, of.tmp, of.flag, &planned).map_err(|refusal| refusal.to_string())?;
+    Ok((string(&file), commands_of(&planned)?))
 }
 
 /// The commands of a plan, with what each needs and writes.

@@ -1,6 +1,6 @@
 //! Runs the commands of a plan on a machine.
 use crate::machine::{Ended, Event, Job, Machine};
-use crate::schedule::{Outcome, Schedule};
+use crate::schedule::{Outcome, Refused, Schedule};
 use std::io;
 
 /// A command of a plan, or what writes the dependency file.
@@ -56,6 +56,12 @@ pub enum Stopped {
     NoProcess(String),
 }
 
+impl From<Refused> for Stopped {
+    fn from(_: Refused) -> Stopped {
+        Stopped::NoProcess("the schedule refuses a command".into())
+    }
+}
+
 /// What tells of tasks that end.
 pub trait Watch {
     /// Does a task without a process, if that is possible.
@@ -102,7 +108,7 @@ impl<M: Machine, W: Watch> Run<'_, M, W> {
     fn run_all(&mut self) -> Result<(), Stopped> {
         let mut is_held_back = false;
         loop {
-            self.make_rules();
+            self.make_rules()?;
             if self.schedule.over() {
                 self.machine.want(false);
                 return Ok(());
@@ -114,7 +120,7 @@ impl<M: Machine, W: Watch> Run<'_, M, W> {
                 Event::Slot => is_held_back = self.start(next)?,
                 Event::Ended(number, ended) => {
                     is_held_back = false;
-                    self.ended(number, ended);
+                    self.ended(number, ended)?;
                 }
                 Event::Signal(number) => return Err(Stopped::Signal(number)),
                 Event::Lost(reason) => return Err(Stopped::NoProcess(reason)),
@@ -123,15 +129,16 @@ impl<M: Machine, W: Watch> Run<'_, M, W> {
     }
 
     /// Does what needs no process.
-    fn make_rules(&mut self) {
+    fn make_rules(&mut self) -> Result<(), Stopped> {
         while let Some(next) = self.schedule.next().filter(|&next| self.tasks[next].is_rule) {
             if !self.watch.make_rule() {
-                return;
+                break;
             }
-            self.schedule.started(next);
-            self.schedule.ended(next, Outcome::Success);
+            self.schedule.started(next)?;
+            self.schedule.ended(next, Outcome::Success)?;
             self.done[next].by_driver = true;
         }
+        Ok(())
     }
 
     fn note_asked(&mut self, next: Option<usize>) {
@@ -149,7 +156,7 @@ impl<M: Machine, W: Watch> Run<'_, M, W> {
             Ok(()) => {
                 self.launched[next] = task.without_launcher.is_some() && bare.is_none();
                 if self.again.pop().is_none() {
-                    self.schedule.started(next);
+                    self.schedule.started(next)?;
                 }
                 Ok(false)
             }
@@ -158,7 +165,7 @@ impl<M: Machine, W: Watch> Run<'_, M, W> {
         }
     }
 
-    fn ended(&mut self, number: usize, ended: Ended) {
+    fn ended(&mut self, number: usize, ended: Ended) -> Result<(), Stopped> {
         let task = &self.tasks[number];
         let is_refusal = !ended.status.succeeded() && contains(&ended.errors, REFUSAL);
         if is_refusal && self.launched[number] {
@@ -167,11 +174,11 @@ impl<M: Machine, W: Watch> Run<'_, M, W> {
                 self.watch.refused(task.tool());
             }
             self.again.push(number);
-            return;
+            return Ok(());
         }
         self.done[number].ended = Some(ended);
         let outcome = if self.done[number].failed() { Outcome::Failure } else { Outcome::Success };
-        self.schedule.ended(number, outcome);
+        Ok(self.schedule.ended(number, outcome)?)
     }
 }
 
@@ -188,15 +195,21 @@ fn plain(error: &io::Error) -> String {
 #[cfg(test)]
 mod tests {
     use super::*;
-    use crate::system::Status;
+    use crate::system::{INT, Status, TERM};
     use std::collections::VecDeque;
 
-    /// A machine whose jobs end in the order in which they start, with the statuses that their words say.
+    /// A machine whose jobs end in the order in which they start. A job's words are its name, its status and what it says.
     #[derive(Default)]
     struct Fake {
         wants: bool,
         running: VecDeque<(usize, Job)>,
         started: Vec<String>,
+        /// How many jobs may run at once before no process can be started any more.
+        most: Option<usize>,
+        /// The signal that comes once so many jobs have started.
+        signal: Option<(usize, i32)>,
+        ended_by: Option<i32>,
+        most_at_once: usize,
     }
 
     impl Machine for Fake {
@@ -205,6 +218,9 @@ mod tests {
         }
 
         fn next(&mut self) -> Event {
+            if let Some((_, number)) = self.signal.filter(|(count, _)| self.started.len() >= *count) {
+                return Event::Signal(number);
+            }
             if self.wants {
                 return Event::Slot;
             }
@@ -215,12 +231,17 @@ mod tests {
         }
 
         fn start(&mut self, number: usize, job: &Job) -> io::Result<()> {
-            self.started.push(job.words.join(" "));
+            if self.most.is_some_and(|most| self.running.len() >= most) {
+                return Err(io::ErrorKind::WouldBlock.into());
+            }
+            self.started.push(job.words[0].clone());
             self.running.push_back((number, job.clone()));
+            self.most_at_once = self.most_at_once.max(self.running.len());
             Ok(())
         }
 
-        fn end_all(&mut self, _: i32) {
+        fn end_all(&mut self, signal: i32) {
+            self.ended_by = Some(signal);
             self.running.clear();
         }
 
@@ -229,29 +250,96 @@ mod tests {
         }
     }
 
-    struct NoWatch(Vec<String>);
+    /// Makes the rule or doesn't, and hears what the cache refuses.
+    #[derive(Default)]
+    struct Heard {
+        makes_rule: bool,
+        refused: Vec<String>,
+    }
 
-    impl Watch for NoWatch {
+    impl Watch for Heard {
         fn make_rule(&mut self) -> bool {
-            false
+            self.makes_rule
         }
 
         fn refused(&mut self, tool: &str) {
-            self.0.push(tool.to_owned());
+            self.refused.push(tool.to_owned());
         }
     }
 
+    fn job(words: &str) -> Job {
+        Job { words: words.splitn(3, ' ').map(String::from).collect(), ..Job::default() }
+    }
+
     fn task(words: &str, needs: &[usize]) -> Task {
-        let job = Job { words: words.split(' ').map(String::from).collect(), ..Job::default() };
-        Task { job, needs: needs.to_vec(), kind: words.split(' ').next().unwrap().to_owned(), ..Task::default() }
+        Task { job: job(words), needs: needs.to_vec(), kind: words.split(' ').next().unwrap().to_owned(), ..Task::default() }
+    }
+
+    /// What a machine starts of these tasks, and which of them have ended.
+    fn run_all(machine: &mut Fake, tasks: &[Task], at_once: usize) -> (String, Vec<Option<i32>>) {
+        let done = run(machine, &mut Heard::default(), tasks, at_once).unwrap();
+        (machine.started.concat(), done.iter().map(|done| done.ended.as_ref().map(|ended| ended.status.code)).collect())
     }
 
     #[test]
     fn all_commands_run() {
-        let tasks = [task("a 0", &[]), task("b 0", &[0]), task("c 0", &[0]), task("d 0", &[1, 2]), task("e 0", &[3]), task("f 0", &[0, 1, 2, 3, 4]), task("g 0", &[0, 1, 2, 3, 4, 5])];
+        let tasks = [task("a 0", &[]), task("b 0", &[0]), task("c 0", &[0]), task("d 0", &[1, 2]), task("e 0", &[0, 1, 2, 3])];
         let mut machine = Fake::default();
-        let done = run(&mut machine, &mut NoWatch(vec![]), &tasks, 9).unwrap();
-        assert_eq!(machine.started, ["a 0", "b 0", "c 0", "d 0", "e 0", "f 0", "g 0"]);
-        assert!(done.iter().all(|done| done.ended.is_some()));
+        assert_eq!(run_all(&mut machine, &tasks, 9), ("abcde".into(), vec![Some(0); 5]));
+        assert_eq!(machine.most_at_once, 2);
+        let mut machine = Fake::default();
+        assert_eq!(run_all(&mut machine, &tasks, 1), ("abcde".into(), vec![Some(0); 5]));
+        assert_eq!(machine.most_at_once, 1);
+    }
+
+    #[test]
+    fn after_a_failure_only_earlier_commands_start() {
+        let tasks = [task("a 0", &[]), task("b 0", &[0]), task("c 7", &[]), task("d 0", &[]), task("e 0", &[1])];
+        let mut machine = Fake::default();
+        assert_eq!(run_all(&mut machine, &tasks, 2), ("acb".into(), vec![Some(0), Some(0), Some(7), None, None]));
+    }
+
+    #[test]
+    fn a_command_waits_if_no_process_can_be_started() {
+        let tasks = [task("a 0", &[]), task("b 0", &[]), task("c 0", &[])];
+        let mut machine = Fake { most: Some(1), ..Fake::default() };
+        assert_eq!(run_all(&mut machine, &tasks, 9), ("abc".into(), vec![Some(0); 3]));
+        let mut machine = Fake { most: Some(0), ..Fake::default() };
+        let stopped = run(&mut machine, &mut Heard::default(), &tasks, 9).unwrap_err();
+        assert!(matches!(stopped, Stopped::NoProcess(reason) if reason.starts_with("no process for a command: ")));
+        assert_eq!(machine.ended_by, Some(TERM));
+    }
+
+    #[test]
+    fn a_signal_ends_what_runs() {
+        let mut machine = Fake { signal: Some((2, INT)), ..Fake::default() };
+        let stopped = run(&mut machine, &mut Heard::default(), &[task("a 0", &[]), task("b 0", &[]), task("c 0", &[])], 9);
+        assert_eq!((stopped.err(), machine.ended_by, machine.running.len()), (Some(Stopped::Signal(INT)), Some(INT), 0));
+    }
+
+    #[test]
+    fn the_rule_needs_no_process() {
+        let rule = Task { is_rule: true, ..task("rule 0", &[0]) };
+        let tasks = [task("a 0", &[]), rule, task("b 0", &[1])];
+        let mut machine = Fake::default();
+        let done = run(&mut machine, &mut Heard { makes_rule: true, ..Heard::default() }, &tasks, 9).unwrap();
+        assert_eq!((machine.started.concat(), done[1].by_driver, done[1].has_ended()), ("ab".into(), true, true));
+        let mut machine = Fake::default();
+        assert_eq!(run_all(&mut machine, &tasks, 9), ("aruleb".into(), vec![Some(0); 3]));
+    }
+
+    #[test]
+    fn what_the_cache_refuses_runs_without_it() {
+        let refused = |name: &str, status: &str| Task {
+            without_launcher: Some(job(&format!("{name}-bare {status}"))),
+            ..task(&format!("{name} 2 error: Compiler not supported: {name}"), &[])
+        };
+        let tasks = [refused("cicc", "0"), refused("cicc", "0"), Task { needs: vec![0, 1], ..refused("cicc", "5") }, task("gcc 2 Compiler not supported", &[])];
+        let mut machine = Fake::default();
+        let mut heard = Heard::default();
+        let done = run(&mut machine, &mut heard, &tasks, 2).unwrap();
+        assert_eq!(heard.refused, ["cicc"]);
+        assert_eq!(machine.started, ["cicc", "cicc", "cicc-bare", "cicc-bare", "gcc", "cicc-bare"]);
+        assert_eq!(done.iter().map(Done::failed).collect::<Vec<_>>(), [false, false, true, true], "only what goes through the cache runs again");
     }
 }

@@ -1,5 +1,9 @@
 //! Which command of a plan starts next: a stand-in with the calls of the proved crate `schedules`.
 
+/// Why a command can't start or end.
+#[derive(Clone, Copy, PartialEq, Eq, Debug)]
+pub struct Refused;
+
 /// How a command ended.
 #[derive(Clone, Copy, PartialEq, Eq, Debug)]
 pub enum Outcome {
@@ -49,13 +53,27 @@ impl Schedule {
     }
 
     /// Notes that a command has started.
-    pub fn started(&mut self, command: usize) {
+    ///
+    /// # Errors
+    ///
+    /// If it isn't one that may start.
+    pub fn started(&mut self, command: usize) -> Result<(), Refused> {
+        if command >= self.first_failure() || !self.is_ready(command) {
+            return Err(Refused);
+        }
         self.states[command] = State::Running;
+        Ok(())
     }
 
     /// Notes that a command has ended.
-    pub fn ended(&mut self, command: usize, outcome: Outcome) {
-        self.states[command] = State::Ended(outcome);
+    ///
+    /// # Errors
+    ///
+    /// If it doesn't run.
+    pub fn ended(&mut self, command: usize, outcome: Outcome) -> Result<(), Refused> {
+        let state = self.states.get_mut(command).filter(|state| **state == State::Running).ok_or(Refused)?;
+        *state = State::Ended(outcome);
+        Ok(())
     }
 
     /// Whether nothing runs and nothing may start.
@@ -72,26 +90,26 @@ mod tests {
     fn commands_start_when_their_needs_have_succeeded() {
         let mut schedule = Schedule::new(vec![vec![], vec![0], vec![0], vec![1, 2]], 9);
         assert_eq!(schedule.next(), Some(0));
-        schedule.started(0);
+        schedule.started(0).unwrap();
         assert_eq!(schedule.next(), None);
-        schedule.ended(0, Outcome::Success);
-        schedule.started(1);
+        schedule.ended(0, Outcome::Success).unwrap();
+        schedule.started(1).unwrap();
         assert_eq!(schedule.next(), Some(2));
-        schedule.started(2);
-        schedule.ended(2, Outcome::Failure);
-        schedule.ended(1, Outcome::Success);
+        schedule.started(2).unwrap();
+        schedule.ended(2, Outcome::Failure).unwrap();
+        schedule.ended(1, Outcome::Success).unwrap();
         assert!(schedule.next().is_none() && schedule.over());
     }
 
     #[test]
     fn after_a_failure_earlier_commands_start() {
         let mut schedule = Schedule::new(vec![vec![], vec![0], vec![], vec![]], 2);
-        schedule.started(0);
-        schedule.started(2);
+        schedule.started(0).unwrap();
+        schedule.started(2).unwrap();
         assert_eq!(schedule.next(), None, "both slots are taken");
-        schedule.ended(2, Outcome::Failure);
+        schedule.ended(2, Outcome::Failure).unwrap();
         assert_eq!(schedule.next(), None, "the last one comes after the failure");
-        schedule.ended(0, Outcome::Success);
+        schedule.ended(0, Outcome::Success).unwrap();
         assert_eq!(schedule.next(), Some(1));
     }
 }

@@ -17,12 +17,22 @@ pub struct Surroundings<'a> {
     pub scratch: Option<String>,
 }
 
-/// What a command is: its program's name, and what a host compiler does.
+/// A program's name.
+pub fn program_of(command: &PlannedCommand) -> &str {
+    command.program.rsplit('/').next().unwrap_or_default()
+}
+
+/// What a command is: its program's name, what a host compiler does, and for which target.
 fn kind_of(command: &PlannedCommand) -> String {
-    let program = command.program.rsplit('/').next().unwrap_or_default();
     let does = command.words.iter().find(|word| *word == "-E" || *word == "-c").map(|word| format!(" {word}"));
-    let target = command.words.iter().zip(command.words.iter().skip(1).map(Some).chain([None])).find_map(|(word, next)| target_of(word, next));
-    format!("{program}{}{}", does.unwrap_or_default(), target.map(|target| format!(" {target}")).unwrap_or_default())
+    let target = target(command).map(|target| format!(" {target}"));
+    format!("{}{}{}", program_of(command), does.unwrap_or_default(), target.unwrap_or_default())
+}
+
+/// The target that a command's words name, as `sm_80`, or `__CUDA_ARCH__=800` for a preprocessor.
+pub fn target(command: &PlannedCommand) -> Option<String> {
+    let nexts = command.words.iter().skip(1).map(Some).chain([None]);
+    command.words.iter().zip(nexts).find_map(|(word, next)| target_of(word, next))
 }
 
 /// The target that a word names, or the next one behind `-arch`.
@@ -38,7 +48,7 @@ fn target_of(word: &str, next: Option<&String>) -> Option<String> {
 
 /// The name by which `ZIGRUNK_LAUNCHED` has a command.
 fn launched_as(command: &PlannedCommand) -> &str {
-    match command.program.rsplit('/').next().unwrap_or_default() {
+    match program_of(command) {
         tool @ ("cudafe++" | "cicc" | "ptxas" | "fatbinary") => tool,
         _ if command.preprocesses => "-E",
         _ => "-c",
@@ -92,17 +102,6 @@ pub fn tasks_of(commands: &[PlannedCommand], dependencies: Option<&Words>, aroun
     tasks[last].needs.push(last);
     tasks.insert(last, rule);
     tasks
-}
-
-/// Whether nvcc runs cicc before cudafe++, as it does before version 12. A plan runs cudafe++ first.
-pub fn devices_come_first(dry_run: &[u8]) -> bool {
-    let runs = |line: &str, tool: &str| {
-        let first = line.strip_prefix("#$ ").and_then(|line| line.split(' ').next()).unwrap_or_default();
-        first.trim_end_matches('"').ends_with(tool)
-    };
-    let text = String::from_utf8_lossy(dry_run);
-    let first = |tool: &str| text.lines().position(|line| runs(line, tool));
-    matches!((first("cicc"), first("cudafe++")), (Some(device), Some(host)) if device < host)
 }
 
 /// What a shell says of a command that a signal ended.

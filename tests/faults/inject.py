@@ -355,7 +355,8 @@ def main() -> int:
             ends[trial.run(wanted)] += 1
             failed += bool(trial.problems)
             for text in trial.problems:
-                print(f"trial {number}, {trial.kind}, after {trial.wait:.3f} s{', with make' if trial.has_make else ''}: {trial.what}: {text}", flush=True)
+                make = ", with make" if trial.has_make else ""
+                print(f"trial {number}, {trial.kind}, after {trial.wait:.3f} s{make}: {trial.what}: {text}", flush=True)
     for how, count in sorted(ends.items()) if args.tally else []:
         print(f"{count:5} {how}")
     print(f"{args.trials - failed} passed, {failed} failed")

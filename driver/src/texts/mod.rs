@@ -1,4 +1,3 @@
 //! Functions of texts. Each file is one that the proved crates are to have.
-pub mod comparison;
 pub mod entries;
 pub mod rule;

@@ -50,42 +50,48 @@ fn span<'a>(text: &'a str, source: &Source<'_>, first: usize, last: usize) -> &'
     &text[start..end]
 }
 
-/// A parameter of a C function: how C passes it, and what the Rust function gets.
+/// A parameter of a C function.
 struct Parameter {
-    declared: String,
+    name: String,
+    /// How C passes it: nothing for the allocator, which C doesn't know.
+    declared: Option<String>,
+    /// What the Rust function gets.
     passed: String,
+    is_pointer: bool,
 }
 
 // One function, for C.
 fn export(source: &Source<'_>, found: &Signature) -> Result<String, Error> {
     let name = source.word(found.name);
     let unknown = || Error::Export(name.to_string());
-    let close = source.partner(found.parameters);
-    let parameters: Vec<Parameter> = parts(source, found.parameters)
+    let parameters = parts(source, found.parameters)
         .iter()
         .map(|it| parameter(it).ok_or_else(unknown))
-        .collect::<Result<_, _>>()?;
+        .collect::<Result<Vec<_>, _>>()?;
+    let callee = callee(source, found.end, &parameters).ok_or_else(unknown)?;
     let declared: Vec<&str> = parameters
         .iter()
-        .map(|it| it.declared.as_str())
-        .filter(|it| !it.is_empty())
+        .filter_map(|it| it.declared.as_deref())
         .collect();
     let passed: Vec<&str> = parameters.iter().map(|it| it.passed.as_str()).collect();
-    let callee = callee(source, found.end).ok_or_else(unknown)?;
-    let docs = docs(source, found.keyword);
-    let result = joined(source, source.next(close), found.end);
-    let arguments = passed.join(", ");
-    let call = match arguments.contains("list") {
-        true => format!("// SAFETY: the caller's.\n    unsafe {{ {callee}({arguments}) }}"),
-        false => format!("{callee}({arguments})"),
-    };
-    let (safety, keyword) = match arguments.contains("list") {
-        true => (SAFETY, "unsafe "),
-        false => ("", ""),
+    let call = format!("{callee}({})", passed.join(", "));
+    let (safety, keyword, body) = match parameters.iter().any(|it| it.is_pointer) {
+        true => (
+            SAFETY,
+            "unsafe ",
+            format!("// SAFETY: the caller's.\n    unsafe {{ {call} }}"),
+        ),
+        false => ("", "", call),
     };
     Ok(format!(
-        "{docs}{safety}#[unsafe(no_mangle)]\npub {keyword}extern \"C\" fn {name}({}) {result} {{\n    {call}\n}}\n",
-        declared.join(", ")
+        "{}{safety}#[unsafe(no_mangle)]\npub {keyword}extern \"C\" fn {name}({}) {} {{\n    {body}\n}}\n",
+        docs(source, found.keyword),
+        declared.join(", "),
+        joined(
+            source,
+            source.next(source.partner(found.parameters)),
+            found.end
+        ),
     ))
 }
 
@@ -98,11 +104,13 @@ fn docs(source: &Source<'_>, keyword: usize) -> String {
         .collect()
 }
 
-// The function that a body calls with its parameters.
-fn callee(source: &Source<'_>, body: usize) -> Option<String> {
+// The function that a body calls, if that is all that the body does, with these parameters in their order.
+fn callee(source: &Source<'_>, body: usize, parameters: &[Parameter]) -> Option<String> {
     let open = (body..source.partner(body)).find(|it| source.word(*it) == "(")?;
     let is_whole = source.next(source.partner(open)) == source.partner(body);
-    is_whole.then(|| joined(source, source.next(body), open))
+    let names: Vec<&str> = parameters.iter().map(|it| it.name.as_str()).collect();
+    let calls_so = is_whole && parts(source, open) == names;
+    calls_so.then(|| joined(source, source.next(body), open))
 }
 
 // The parts of a group that commas separate: name and type of each parameter.
@@ -128,17 +136,67 @@ fn joined(source: &Source<'_>, start: usize, end: usize) -> String {
 
 fn parameter(text: &str) -> Option<Parameter> {
     let (name, kind) = text.split_once(": ")?;
-    let element = |list: &str| list.strip_suffix(']').map(str::to_string);
     let (declared, passed) = if kind == "Global" {
-        (String::new(), String::from("Global"))
+        (None, String::from("Global"))
     } else if let Some(list) = kind.strip_prefix("&mut [") {
-        let declared = format!("{name}: *mut {}, {name}_size: usize", element(list)?);
-        (declared, format!("list_mut({name}, {name}_size)"))
+        let element = list.strip_suffix(']')?;
+        (
+            Some(format!("{name}: *mut {element}, {name}_size: usize")),
+            format!("list_mut({name}, {name}_size)"),
+        )
     } else if let Some(list) = kind.strip_prefix("&[") {
-        let declared = format!("{name}: *const {}, {name}_size: usize", element(list)?);
-        (declared, format!("list({name}, {name}_size)"))
+        let element = list.strip_suffix(']')?;
+        (
+            Some(format!("{name}: *const {element}, {name}_size: usize")),
+            format!("list({name}, {name}_size)"),
+        )
     } else {
-        (text.to_string(), name.to_string())
+        (Some(text.to_string()), name.to_string())
     };
-    Some(Parameter { declared, passed })
+    Some(Parameter {
+        name: name.to_string(),
+        declared,
+        is_pointer: kind.starts_with('&') && kind.ends_with(']'),
+        passed,
+    })
+}
+
+#[cfg(test)]
+mod tests {
+    use super::exports;
+
+    fn of(function: &str) -> Option<String> {
+        exports(&format!("//! Calls.\n\nuse a::B;\n\n{function}")).ok()
+    }
+
+    #[test]
+    fn slices_are_pointers_and_sizes() {
+        let made = of(
+            "/// Counts.\n#[unsafe(no_mangle)]\npub extern \"C\" fn count(alloc: Global, texts: &[Text<'_>], at: u32, out: &mut [u8]) -> usize {\n    a::count(alloc, texts, at, out)\n}\n",
+        );
+        let made = made.expect("a function of a known form");
+        for part in [
+            "//! Calls.\n\nuse a::B;\nuse memory::{list, list_mut};\n\nmod memory;\n",
+            "/// Counts.\n///\n/// # Safety\n",
+            "pub unsafe extern \"C\" fn count(texts: *const Text<'_>, texts_size: usize, at: u32, out: *mut u8, out_size: usize) -> usize {",
+            "unsafe { a::count(Global, list(texts, texts_size), at, list_mut(out, out_size)) }",
+        ] {
+            assert!(made.contains(part), "{part} isn't in {made}");
+        }
+    }
+
+    #[test]
+    fn functions_of_another_form() {
+        for body in [
+            "a::b(y, x)",
+            "a::b(x)",
+            "a::b(x, y) + 1",
+            "a::b(x, y, y)",
+            "",
+        ] {
+            let text =
+                format!("pub extern \"C\" fn c(x: &[u8], y: &mut [u8]) -> u8 {{ {body} }}\n");
+            assert_eq!(of(&text), None, "{body}");
+        }
+    }
 }

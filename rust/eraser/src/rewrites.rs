@@ -19,7 +19,7 @@ struct Rewrite {
 
 const MAIN: &str = "fn main(rt: HostRuntime) -> ExitCode {";
 
-const REWRITES: [Rewrite; 3] = [
+const REWRITES: [Rewrite; 4] = [
     // Rust's own start of a process allocates, and opens what is closed. So the program begins at C's `main`.
     Rewrite {
         name: "no_main",
@@ -39,6 +39,13 @@ const REWRITES: [Rewrite; 3] = [
         mark: "text.replace(alloc, old, new)",
         place: Place::Of("text.replace(alloc, old, new)"),
         new: "text.replace_in(alloc, old, new)",
+    },
+    // `Iterator` has a `collect` of its own, which a trait can't replace.
+    Rewrite {
+        name: "collect",
+        mark: ".collect(alloc)",
+        place: Place::Of(".collect(alloc)"),
+        new: ".collect_in(alloc)",
     },
 ];
 

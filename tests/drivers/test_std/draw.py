@@ -5,6 +5,7 @@
 """
 import random
 import sys
+from typing import Callable, Dict
 
 LETTERS = list("abcxyzKJ019_-./!") + ['"', "'", "\\", " ", "\t", "\n", "\r", "%", "#", "\x00", "\x07", "\x08", "\x0b", "\x0c", "\x1b",
                                       "\x1f", "\x7f"]
@@ -47,7 +48,7 @@ class Draw:
         """A form whose capital letters are drawn: N a small number, B a byte, X bytes, U bytes at the edges of UTF-8, T a text, L texts,
         K a key, G any number, C a character's code."""
         name, mark, arguments = form.partition("=")
-        makers = {
+        makers: Dict[str, Callable[[], str]] = {
             "N": lambda: str(self.lot.randint(0, 12)),
             "B": lambda: str(self.lot.choice([0, 1, 1, 2, 7, 255])),
             "X": self.hex,
@@ -66,14 +67,14 @@ class Draw:
 
     def bytes(self) -> str:
         return "bytes : " + self.operations(
-            ["new", "with=N", "from=X", "elem=B,N", "array", "push=B", "push=B", "push=B", "extend=X", "extend=X", "append=X", "insert=N,B",
-             "remove=N", "pop", "truncate=N", "clear", "reserve=N", "reserved=B", "dedup", "sort", "get=N", "first", "same=X", "utf8",
+            ["new", "with=N", "from=X", "elem=B,N", "array", "resize=B,N", "push=B", "push=B", "push=B", "extend=X", "extend=X", "append=X",
+             "insert=N,B", "remove=N", "pop", "truncate=N", "clear", "reserve=N", "reserved=B", "dedup", "sort", "get=N", "first", "same=X", "utf8",
              "debug", "with=G", "reserve=G", "elem=B,0"])
 
     def words(self) -> str:
         return "words : " + self.operations(
             ["push=T", "push=T", "push=T", "front=T", "extend=L", "extend=L", "append=L", "with=N", "reserve=N", "truncate=N", "clear",
-             "sort", "dedup", "mark", "halve", "pop", "last", "same=L", "with=G", "reserve=G"])
+             "sort", "dedup", "mark", "halve", "lengths", "long", "pop", "last", "same=L", "with=G", "reserve=G"])
 
     def string(self) -> str:
         return "string : " + self.operations(
@@ -196,8 +197,7 @@ def main() -> None:
     seed, count, folder = sys.argv[1], int(sys.argv[2]), sys.argv[3]
     draw = Draw(seed, folder)
     lines = fixed(folder) + [draw.line() for _ in range(count)]
-    sys.stdout.reconfigure(encoding="utf-8", newline="\n")  # type: ignore[union-attr]
-    sys.stdout.write("".join(f"{line}\n" for line in lines) + "status 7\n")
+    sys.stdout.buffer.write(("".join(f"{line}\n" for line in lines) + "status 7\n").encode())
 
 
 main()

@@ -28,10 +28,19 @@ struct Entry<K, V> {
 type Inserted<V> = (usize, Option<V>);
 
 // A slot with no entry.
-const FREE: usize = usize::MAX;
+pub(crate) const FREE: usize = usize::MAX;
 const FIRST_SLOTS: usize = 8;
 
-fn hash_of<Q: Hash + ?Sized>(key: &Q) -> u64 {
+// A larger table of free slots, if one of so many slots has no room for one more than `count`, with a quarter free.
+pub(crate) fn free_table(count: usize, slots: usize) -> Result<Option<Vec<usize>>, AllocError> {
+    if (count + 1).saturating_mul(4) <= slots.saturating_mul(3) {
+        return Ok(None);
+    }
+    let slots = slots.saturating_mul(2).max(FIRST_SLOTS);
+    Ok(Some(Vec::from_elem(Global, FREE, slots)?))
+}
+
+pub(crate) fn hash_of<Q: Hash + ?Sized>(key: &Q) -> u64 {
     let mut hasher = FoldHasher::default();
     key.hash(&mut hasher);
     hasher.finish()
@@ -87,14 +96,12 @@ impl<K, V> IndexMap<K, V> {
     // Makes room for one more entry: in the vector, and in a table of which a quarter stays free.
     fn make_room(&mut self) -> Result<(), AllocError> {
         self.entries.reserve(1)?;
-        if (self.entries.len() + 1).saturating_mul(4) <= self.table.len().saturating_mul(3) {
-            return Ok(());
-        }
-        let slots = self.table.len().saturating_mul(2).max(FIRST_SLOTS);
-        self.table = Vec::from_elem(Global, FREE, slots)?;
-        for place in 0..self.entries.len() {
-            let slot = self.slot(self.entries[place].hash, |_| false);
-            self.table[slot] = place;
+        if let Some(table) = free_table(self.entries.len(), self.table.len())? {
+            self.table = table;
+            for place in 0..self.entries.len() {
+                let slot = self.slot(self.entries[place].hash, |_| false);
+                self.table[slot] = place;
+            }
         }
         Ok(())
     }

@@ -12,10 +12,7 @@ pub trait Itertools: Iterator + Sized {
     where
         Self::Item: Ord,
     {
-        let mut items = Vec::with_capacity(alloc, self.size_hint().0)?;
-        for item in self {
-            items.push(item)?;
-        }
+        let mut items = self.collect_in(alloc)?;
         sort(alloc, &mut items)?;
         Ok(items.into_iter())
     }

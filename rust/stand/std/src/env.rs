@@ -1,6 +1,6 @@
 //! What the process was started with.
 
-use crate::alloc::{AllocError, Global};
+use crate::alloc::AllocError;
 use crate::io;
 use crate::string::String;
 use crate::vec::{IntoIter, Vec};
@@ -34,24 +34,7 @@ pub trait Env {
 }
 
 /// The arguments, the program's name first.
-pub struct Args {
-    arguments: IntoIter<String>,
-}
-
-impl Args {
-    /// The arguments as a vector.
-    pub fn collect(self, _alloc: Global) -> Result<Vec<String>, AllocError> {
-        Ok(Vec::from_rust(self.arguments.collect()))
-    }
-}
-
-impl Iterator for Args {
-    type Item = String;
-
-    fn next(&mut self) -> Option<String> {
-        self.arguments.next()
-    }
-}
+pub type Args = IntoIter<String>;
 
 /// Copies all arguments. It fails with `InvalidData` if one isn't UTF-8.
 pub fn args<R: Env>(rt: &R) -> io::Result<Args> {
@@ -59,11 +42,7 @@ pub fn args<R: Env>(rt: &R) -> io::Result<Args> {
     loop {
         match rt.argument(all.len()) {
             Ok(argument) => all.push(argument)?,
-            Err(VarError::NotPresent) => {
-                return Ok(Args {
-                    arguments: all.into_iter(),
-                });
-            }
+            Err(VarError::NotPresent) => return Ok(all.into_iter()),
             Err(VarError::NotUnicode) => return Err(io::Error::from(io::ErrorKind::InvalidData)),
             Err(VarError::OutOfMemory) => return Err(io::Error::from(AllocError)),
         }

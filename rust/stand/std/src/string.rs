@@ -85,6 +85,16 @@ impl String {
     /// Appends `text`. On an error this text is unchanged.
     #[inline]
     pub fn push_str(&mut self, text: &str) -> Result<(), AllocError> {
+        // Rust's `push_str` asks this again, unless the compiler sees that it has been asked.
+        if text.len() > self.text.capacity() - self.text.len() {
+            return self.grow_and_push_str(text);
+        }
+        self.text.push_str(text);
+        Ok(())
+    }
+
+    #[cold]
+    fn grow_and_push_str(&mut self, text: &str) -> Result<(), AllocError> {
         self.text.try_reserve(text.len())?;
         self.text.push_str(text);
         Ok(())

@@ -120,7 +120,17 @@ impl<T> Vec<T> {
     /// Puts `value` last. On an error the vector is unchanged and gives `value` back.
     #[inline]
     pub fn push(&mut self, value: T) -> Result<(), AllocFailed<T>> {
-        if self.items.len() == self.items.capacity() && self.items.try_reserve(1).is_err() {
+        // Rust's `push` asks this again, unless the compiler sees that it has been asked.
+        if self.items.len() == self.items.capacity() {
+            return self.grow_and_push(value);
+        }
+        self.items.push(value);
+        Ok(())
+    }
+
+    #[cold]
+    fn grow_and_push(&mut self, value: T) -> Result<(), AllocFailed<T>> {
+        if self.items.try_reserve(1).is_err() {
             return Err(AllocFailed { value });
         }
         self.items.push(value);
@@ -158,6 +168,17 @@ impl<T> Vec<T> {
         let before = self.items.len();
         self.items.try_reserve(items.len())?;
         T::append_clones(&mut self.items, items).inspect_err(|_| self.items.truncate(before))
+    }
+
+    /// Makes it `count` items long: cuts it, or appends copies of `value`. On an error the vector is unchanged.
+    pub fn resize(&mut self, count: usize, value: T) -> Result<(), AllocError>
+    where
+        T: Copy,
+    {
+        let more = count.saturating_sub(self.items.len());
+        self.items.try_reserve(more)?;
+        self.items.resize(count, value);
+        Ok(())
     }
 
     /// Takes the last item.
@@ -264,3 +285,17 @@ impl<T: fmt::Debug> fmt::Debug for Vec<T> {
         self.items.fmt(f)
     }
 }
+
+/// `Iterator::collect`, under another name, since Rust's can't be hidden.
+pub trait Collect: Iterator + Sized {
+    /// The items as a vector.
+    fn collect_in(self, alloc: Global) -> Result<Vec<Self::Item>, AllocError> {
+        let mut all = Vec::with_capacity(alloc, self.size_hint().0)?;
+        for item in self {
+            all.push(item)?;
+        }
+        Ok(all)
+    }
+}
+
+impl<I: Iterator> Collect for I {}

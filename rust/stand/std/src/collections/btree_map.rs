@@ -79,23 +79,6 @@ impl<K: Ord, V> BTreeMap<K, V> {
         Some(&mut self.entries[place].1)
     }
 
-    /// Whether there is an entry of `key`.
-    pub fn contains_key<Q: Ord + ?Sized>(&self, key: &Q) -> bool
-    where
-        K: Borrow<Q>,
-    {
-        self.place(key).is_ok()
-    }
-
-    /// Takes the entry of `key`, and gives its value.
-    pub fn remove<Q: Ord + ?Sized>(&mut self, key: &Q) -> Option<V>
-    where
-        K: Borrow<Q>,
-    {
-        let place = self.place(key).ok()?;
-        Some(self.entries.remove(place).1)
-    }
-
     // Where the key is, or where it has to be inserted. Keys often come in order, so the end comes first.
     fn place<Q: Ord + ?Sized>(&self, key: &Q) -> Result<usize, usize>
     where

@@ -40,26 +40,6 @@ impl<K: Eq + Hash, V> HashMap<K, V> {
         Ok(self.entries.try_reserve(least)?)
     }
 
-    /// How many entries there are.
-    pub fn len(&self) -> usize {
-        self.entries.len()
-    }
-
-    /// Whether there are no entries.
-    pub fn is_empty(&self) -> bool {
-        self.entries.is_empty()
-    }
-
-    /// Sets the value of `key`, and gives the one that it had. On an error the map is unchanged.
-    pub fn insert(&mut self, key: K, value: V) -> Result<Option<V>, AllocFailed<(K, V)>> {
-        if self.make_room().is_err() {
-            return Err(AllocFailed {
-                value: (key, value),
-            });
-        }
-        Ok(self.entries.insert(key, value))
-    }
-
     /// The place of `key`, with room for its value.
     #[inline]
     pub fn entry(&mut self, key: K) -> Result<Entry<'_, K, V>, AllocFailed<K>> {
@@ -76,23 +56,5 @@ impl<K: Eq + Hash, V> HashMap<K, V> {
         K: Borrow<Q>,
     {
         self.entries.get(key)
-    }
-
-    /// The value of `key`, to be changed.
-    #[inline]
-    pub fn get_mut<Q: Eq + Hash + ?Sized>(&mut self, key: &Q) -> Option<&mut V>
-    where
-        K: Borrow<Q>,
-    {
-        self.entries.get_mut(key)
-    }
-
-    /// Whether there is an entry of `key`.
-    #[inline]
-    pub fn contains_key<Q: Eq + Hash + ?Sized>(&self, key: &Q) -> bool
-    where
-        K: Borrow<Q>,
-    {
-        self.entries.contains_key(key)
     }
 }

@@ -1,0 +1,4 @@
+pub mod Asking
+pub mod Markers
+pub mod Orders
+pub mod Rules

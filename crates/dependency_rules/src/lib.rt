@@ -1,0 +1,14 @@
+//! The rule of a dependency file, from what a plan's preprocessors have written. nvcc makes it in the same way, but would preprocess again.
+//!
+//! A rule is made only if each version of nvcc writes the same. Otherwise nvcc has to make it.
+#![tactic(auto)]
+
+mod asking;
+mod files;
+mod markers;
+mod orders;
+mod rules;
+
+pub use asking::{Rule, rule_asked};
+pub use orders::order_of;
+pub use rules::rule_text;

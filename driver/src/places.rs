@@ -1,0 +1,47 @@
+//! The names of directories.
+use std::env;
+use std::fs;
+use std::os::unix::fs::MetadataExt;
+use std::path::{Component, Path, PathBuf};
+
+/// What tells a file from others.
+fn place(path: &Path) -> Option<(u64, u64)> {
+    fs::metadata(path).ok().map(|status| (status.dev(), status.ino()))
+}
+
+/// The working directory, by the name that a shell has for it.
+pub fn working_directory() -> Option<PathBuf> {
+    let named = env::var_os("PWD").map(PathBuf::from).filter(|path| path.is_absolute() && is_plain(path) && place(path) == place(Path::new(".")));
+    named.or_else(|| env::current_dir().ok())
+}
+
+/// Whether a path has no `.`, `..` and nothing empty between slashes.
+fn is_plain(path: &Path) -> bool {
+    path.to_str().is_some_and(directories::is_plain)
+}
+
+/// A directory's path in the one form that plans take.
+pub fn absolute(path: &Path, cwd: &Path) -> PathBuf {
+    let mut plain = PathBuf::new();
+    for part in cwd.join(path).components() {
+        match part {
+            Component::ParentDir => drop(plain.pop()),
+            Component::CurDir => {}
+            other => plain.push(other),
+        }
+    }
+    if place(&plain) == place(path) { plain } else { fs::canonicalize(path).unwrap_or(plain) }
+}
+
+#[cfg(test)]
+mod tests {
+    use super::*;
+
+    #[test]
+    fn a_directory_has_one_form() {
+        let cases = [("/usr", "/usr"), ("/usr/", "/usr"), ("//usr/./bin", "/usr/bin"), ("bin", "/usr/bin"), ("./../usr/bin", "/usr/bin"), ("/usr/bin/..", "/usr"), ("/missing/x/../y", "/missing/y")];
+        for (path, wanted) in cases {
+            assert_eq!(absolute(Path::new(path), Path::new("/usr")), PathBuf::from(wanted), "{path}");
+        }
+    }
+}
