@@ -57,7 +57,11 @@ typedef struct first_input {
 
 static first_input firsts[MOST_SEEDS];
 static size_t firsts_count;
-static list dictionary;
+
+/* Words of which inputs are made. Those of the dictionary that begin with a dash are options too. */
+#define MOST_WORDS 2048
+static zigrunk_text dictionary[MOST_WORDS], options[MOST_WORDS];
+static size_t dictionary_count, options_count;
 
 static uint8_t *reserve(size_t size) {
     if (used + size > sizeof memory) {
@@ -130,7 +134,7 @@ static zigrunk_text drawn_word(void) {
     case 1:
         return drawn_part(drawn_first()->texts[0], ' ');
     default:
-        return dictionary.at[random_below(dictionary.count)];
+        return dictionary[random_below(dictionary_count)];
     }
 }
 
@@ -160,8 +164,12 @@ static zigrunk_text changed(zigrunk_text text) {
     }
 }
 
-/* A word of a line that begins with a dash if there are many such words, and a blank. */
+/* An option, and a blank: any option, or a word of a line that begins with a dash, if there are many such words. */
 static zigrunk_text drawn_option(zigrunk_text line) {
+    if (chance(2)) {
+        zigrunk_text option = options[random_below(options_count)];
+        return spliced(option, option.length, 0, text_of(chance(2) ? " " : chance(2) ? " 1 " : "x "));
+    }
     zigrunk_text word = line;
     for (int left = 8; left > 0 && (left == 8 || word.length < 2 || word.bytes[1] != '-'); left--) {
         word = drawn_part(line, ' ');
@@ -634,7 +642,7 @@ static zigrunk_text file_at(const char *path) {
 
 /* A dictionary of libFuzzer's: a word in quotes on each line. */
 static void read_dictionary(zigrunk_text file) {
-    for (const uint8_t *at = file.bytes, *end = at + file.length; at < end && dictionary.count < MOST_LIST; at++) {
+    for (const uint8_t *at = file.bytes, *end = at + file.length; at < end && dictionary_count < MOST_WORDS; at++) {
         uint8_t *word = room(256, 1);
         size_t length = 0;
         for (at++; at < end && *at != '"' && length < 256; at++) {
@@ -647,7 +655,10 @@ static void read_dictionary(zigrunk_text file) {
             }
             word[length++] = (uint8_t)byte;
         }
-        dictionary.at[dictionary.count++] = (zigrunk_text){word, length};
+        dictionary[dictionary_count++] = (zigrunk_text){word, length};
+        if (length > 1 && word[0] == '-') {
+            options[options_count++] = (zigrunk_text){word, length};
+        }
         while (at < end && *at != '\n') {
             at++;
         }

@@ -25,11 +25,18 @@ build() {
         gcc -std=gnu11 -O2 -Wall -Wextra -Werror -Itests/c -Ibindings/c tests/plain_fuzz.c "$scratch/proved.a" "$scratch/plain.a" -o "$scratch/fuzz"
 }
 
+# words: the dictionary of the libFuzzer harness, and the options that the sources name.
+words() {
+    cat tests/fuzz/words.dict
+    grep -rhoE '"--?[A-Za-z][^"\\ ]*"' crates/{nvcc_options,nvcc_words,host_lines,gcc_lines,device_lines}/src | LC_ALL=C sort -u
+}
+
 require 'the comparison of both builds' gcc objcopy
 check 'both builds in one program' build "$@"
 if [ "$failed" -eq 0 ]; then
     [[ $seconds != =* ]] || { count=$seconds seconds=60; }
-    "$scratch/fuzz" "${SEED:-1}" "$count" "$seconds" tests/fuzz/words.dict "$scratch"/seeds/* > "$scratch/told"
+    words > "$scratch/words"
+    "$scratch/fuzz" "${SEED:-1}" "$count" "$seconds" "$scratch/words" "$scratch"/seeds/* > "$scratch/told"
     status=$?
     cat "$scratch/told"
     read -r inputs _ differences _ < <(tail -n 1 "$scratch/told")
