@@ -215,11 +215,21 @@ def compared(source: str, output: str, laws: set[str], counts: Counter[str]) -> 
 # The files of both.
 
 
+def listed(text: str) -> dict[str, set[str]]:
+    """Returns the crates of a list as crates.txt, each with what it uses."""
+    return {name: {*needs.split()} - ONLY_BELOW for name, needs in re.findall(r"^(\w+)(?: staticlib)?:(.*)$", text, re.M)}
+
+
 def crates_of(source: Path) -> dict[str, set[str]]:
-    """Returns the libraries and programs that crates.txt lists, without tests, each with what it uses."""
+    """Returns the libraries and programs that crates.txt lists, without tests."""
     parts = (source / "crates.txt").read_text(encoding="utf-8").split("\n\n")
-    product = "\n".join(part for part in parts if not part.startswith("# The callers"))
-    return {name: {*needs.split()} - ONLY_BELOW for name, needs in re.findall(r"^(\w+)(?: staticlib)?:(.*)$", product, re.M)}
+    return listed("\n".join(part for part in parts if not part.startswith("# The callers")))
+
+
+def crates_there(source: Path, out: Path) -> dict[str, set[str]]:
+    """Returns these, and those tests that the output has."""
+    tests = listed("\n".join((source / name).read_text(encoding="utf-8") for name in ("crates.txt", "tests/drivers/drivers.txt")))
+    return crates_of(source) | {name: needs for name, needs in tests.items() if (out / "crates" / name).exists()}
 
 
 @dataclass
@@ -242,7 +252,8 @@ def texts_below(folder: Path, suffix: str) -> dict[str, str]:
 
 
 def read_crate(source: Path, out: Path, name: str) -> Crate:
-    sources = texts_below(source / "crates" / name / "src", ".rt")
+    driver = source / "tests/drivers" / name / "src"
+    sources = texts_below(driver, ".rattle") if driver.exists() else texts_below(source / "crates" / name / "src", ".rt")
     laws = {place for place, text in sources.items() if Reader(text, True).read().is_of_laws}
     return Crate(name, sources, texts_below(out / "crates" / name / "src", ".rs"), laws)
 
@@ -295,7 +306,7 @@ def check_crate(crate: Crate, folder: Path, needs: set[str], crates: set[str], c
 def check(source: Path, out: Path) -> int:
     """Checks all crates, and prints what was left out and rewritten. Each file is a case, and so are the files of a crate."""
     counts, found = Counts(), Counter[str]()
-    crates = crates_of(source)
+    crates = crates_there(source, out)
     there = {path.name for path in (out / "crates").iterdir()}
     counts.case("crates", (f"{name} is no crate of the sources" for name in sorted(there - {*crates})))
     for name, needs in crates.items():
@@ -333,7 +344,7 @@ def found_in_text(lot: random.Random, crate: Crate) -> tuple[str, bool] | None:
 def edited(number: int, seed: str, source: Path, out: Path) -> int:
     """Makes edits one by one, and counts those that the check finds. One of twenty is of a whole file."""
     counts, lot = Counts(), random.Random(seed)
-    crates = [read_crate(source, out, name) for name in crates_of(source)]
+    crates = [read_crate(source, out, name) for name in crates_there(source, out)]
     there = {crate.name: files_of(out / "crates" / crate.name) for crate in crates}
     while counts.passed + counts.failed < number:
         crate = lot.choices(crates, [len(crate.outputs) for crate in crates])[0]

@@ -39,11 +39,13 @@ text() {
     script 'edits of the text' tests/erased.py --edits "${EDITS:-20}" --seed "$(git rev-parse HEAD 2> /dev/null)" "$folder"
 }
 
-# workspace: what cargo's tools say of all crates, the stand-ins among them.
+# workspace: what rustfmt and cargo say of all crates, the stand-ins among them.
 workspace() {
-    local words=(--manifest-path "$folder/Cargo.toml")
+    local words=(--manifest-path "$folder/Cargo.toml") roots
     export CARGO_TARGET_DIR=$folder/target
-    check 'the layout by rustfmt' cargo fmt --all --check "${words[@]}"
+    roots=("$folder"/{crates,stand}/*/src/{lib,main}.rs)
+    mapfile -t roots < <(printf '%s\n' "${roots[@]}" | grep -v '\*\|/test_')
+    check 'the layout by rustfmt' rustfmt --check --edition 2024 "${roots[@]}"
     check 'clippy' cargo clippy --quiet --workspace --all-targets "${words[@]}" -- -D warnings
     check 'the pages, without a missing one' env RUSTDOCFLAGS='-D warnings -D missing-docs' cargo doc --quiet --no-deps --workspace "${words[@]}"
     unset CARGO_TARGET_DIR

@@ -1,8 +1,8 @@
 """One layout for tokens that rustfmt may lay out in several ways, so that only what matters is compared.
 
-rustfmt adds and takes away commas in front of a closing bracket, but for the one of a tuple with one element, and puts the braces around
-the body of a match arm or takes them away. It sorts imports, which aren't compared in their order, and changes no other token of these
-sources.
+rustfmt adds and takes away commas in front of a closing bracket, but for the one of a tuple with one element. It puts braces around the
+body of a match arm or takes them away, and a semicolon with them if the body returns. It sorts imports, which aren't compared in their
+order, and changes no other token of these sources.
 """
 
 from collections.abc import Iterator
@@ -13,6 +13,7 @@ from rust_tokens import Token, partners_of
 BEFORE_A_TUPLE = {"as", "break", "dyn", "else", "for", "if", "impl", "in", "let", "match", "move", "mut", "ref", "return", "where", "while"}
 # Words that an item or a block begins with, whose braces hold no list.
 BEFORE_A_BODY = {"fn", "for", "if", "impl", "match", "mod", "trait", "while"}
+JUMPS = {"break", "continue", "return"}
 COMMA = Token("mark", ",", 0, 0)
 
 
@@ -30,6 +31,8 @@ def without_braces_of_arms(tokens: list[Token]) -> list[Token]:
             continue
         close = partners[at]
         inner = without_braces_of_arms(tokens[at + 1:close])
+        if inner and inner[0].text in JUMPS and inner[-1].text == ";":
+            inner = inner[:-1] if is_one_expression(inner[:-1]) else inner
         made += inner if is_one_expression(inner) else [tokens[at], *inner, tokens[close]]
         made.append(COMMA)
         at = close + 1
