@@ -1,12 +1,10 @@
 #!/usr/bin/env bash
-# sccache itself on libzigrunk. It builds Debian's sccache 0.10.0 as it is (theirs), and once more with a patch (ours) by which libzigrunk
-# plans nvcc's calls and reads the lines of cicc, ptxas and cudafe++ (tests/peer). Then it compares the two: sccache's unit tests, its own
-# tests with CUDA, what dry runs become and in what time, and calls of nvcc (tests/peer/calls.txt) beside nvcc's. Each part has a line of
-# counts. The last line is 'N passed, M failed'.
+# sccache itself on our planner. It builds Debian's sccache 0.10.0 as it is (theirs), and once more with a patch (ours) by which the crate
+# zigrunk plans nvcc's calls and reads the lines of cicc, ptxas and cudafe++ (tests/peer). That crate is the proved sources as plain Rust, so
+# it needs no kit and no C library. Then it compares the two: sccache's unit tests, its own tests with CUDA, what dry runs become and in what
+# time, and calls of nvcc (tests/peer/calls.txt) beside nvcc's. Each part has a line of counts. The last line is 'N passed, M failed'.
 #
 #   ZIGRUNK_PEER=FOLDER      what it downloads and builds, else zigrunk/peer in your cache folder
-#   ZIGRUNK_LIB_DIR=FOLDER   the folder of libzigrunk.a. Else it takes the proved one of `make lib`, and if these sources have none,
-#                            it compiles one without proving it, and says so
 #   PARTS='units ..'         only these of units, system, plans, calls
 #   RUNS=N                   ours makes each call with N empty caches
 #   JOBS=N                   so many processes at once, else as many as there are processors
@@ -15,8 +13,8 @@ cd "$(dirname "$0")/.." || exit 1
 parts=${PARTS:-units system plans calls}
 jobs=${JOBS:-$(nproc)}
 folder=${ZIGRUNK_PEER:-${XDG_CACHE_HOME:-$HOME/.cache}/zigrunk/peer}
-what='sccache on libzigrunk'
-require "$what" cargo nvcc cc pkg-config python3 objcopy nm
+what='sccache on our planner'
+require "$what" cargo nvcc cc pkg-config python3
 version=$(cargo --version | cut -d ' ' -f 2)
 [ "$(printf '%s\n' 1.85 "$version" | sort -V | head -n 1)" = 1.85 ] || skip_all "$what" "cargo is $version, and Debian's crates want 1.85"
 [ -n "$(find -L /usr/lib /usr/local/lib ${LIBCLANG_PATH+"$LIBCLANG_PATH"} -maxdepth 3 -name 'libclang[-.]*so*' -print -quit 2> /dev/null)" ] ||
@@ -33,39 +31,10 @@ folder=$(realpath "$folder")
 export CARGO_HOME=$folder/cargo CARGO_TARGET_DIR=$folder/target
 export PKG_CONFIG_PATH=$folder/cargo/zstd
 
-# unproved_library: compiles libzigrunk without proving it, unless there is one of these sources.
-unproved_library() {
-    local stamp
-    stamp=$(.ci/built sources && rt version && cat tests/peer/unproved_archive.py bindings/c/library.sh bindings/c/zigrunk.[hm]* | sha256sum)
-    [ "$(cat "$folder/unproved/stamp" 2> /dev/null)" != "$stamp" ] || return 0
-    rm -rf "$folder/unproved"
-    tests/peer/unproved_archive.py "$folder/unproved/libzigrunk_c.a" && bindings/c/library.sh "$folder/unproved/libzigrunk_c.a" "$folder/unproved" &&
-        echo "$stamp" > "$folder/unproved/stamp"
-}
-
-# find_library: sets ZIGRUNK_LIB_DIR. What has to be compiled is compiled in the background.
-find_library() {
-    if [ -n "${ZIGRUNK_LIB_DIR-}" ]; then
-        ZIGRUNK_LIB_DIR=$(realpath "$ZIGRUNK_LIB_DIR")
-    elif .ci/built check library && bindings/c/library.sh crates/zigrunk_c/out/libzigrunk_c.a out; then
-        ZIGRUNK_LIB_DIR=$PWD/out/lib
-        echo "libzigrunk is the proved one of 'make lib'"
-    else
-        require "$what" rt
-        ZIGRUNK_LIB_DIR=$folder/unproved/lib
-        echo "libzigrunk of this run isn't proved: out/ has no proved one of these sources, so it is compiled without proof. 'make test' proves it"
-        unproved_library > "$scratch/unproved" 2>&1 &
-        compiling=$!
-    fi
-    export ZIGRUNK_LIB_DIR
-}
-
-# join_library: a case, if libzigrunk is compiled in the background.
-join_library() {
-    local problem=''
-    [ -n "$compiling" ] || return
-    wait "$compiling" || problem=failed$'\n'$(tail -n 30 "$scratch/unproved")
-    count 'libzigrunk without proof' "$problem"
+# workspace: the proved sources as plain Rust, in which the crate is. The eraser is built in a folder of its own: sccache's crates have another lock.
+workspace() {
+    CARGO_HOME=$folder/eraser CARGO_TARGET_DIR=$folder/eraser/target \
+        cargo run --quiet --release --offline --manifest-path rust/Cargo.toml -p eraser -- . "$folder/rust"
 }
 
 # tree SIDE WORD..: a patched copy of the sources, unless there is one of this patch.
@@ -170,13 +139,12 @@ calls() {
     sed '$d' "$scratch/calls"
 }
 
-compiling=''
-find_library
+check 'the crate' workspace
 check 'the sources of theirs' tree theirs
-check 'the sources of ours' tree ours "$PWD/bindings/rust"
+check 'the sources of ours' tree ours "$folder/rust/zigrunk"
 check 'the build of theirs' build theirs
-join_library
 check 'the build of ours' build ours
+check 'ours has no crate for the C library' prints '' find "$CARGO_TARGET_DIR" -name '*zigrunk_sys*'
 [ "$failed" -eq 0 ] || { summary && exit 1; }
 for part in $parts; do
     before=("$passed" "$failed")

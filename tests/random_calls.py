@@ -1,7 +1,8 @@
 #!/usr/bin/env python3
 """Makes random calls by nvcc and by zigrunk-nvcc, and says what differs.
 
-    tests/random_calls.py [--seed N] [--count N] [--first N] [--jobs N] [--scratch FOLDER] [--json FILE] [--list] [--nvcc PATH] [--ours PATH]
+    tests/random_calls.py [--seed N] [--count N] [--first N] [--jobs N] [--scratch FOLDER] [--json FILE] [--list] [--nvcc PATH]
+        [--ours PATH | --driver PATH]
 
 The words of a call are drawn from nvcc's options, as crates/nvcc_words has them, with values from a small grammar: most are good, some
 are odd. Some words go into NVCC_PREPEND_FLAGS, NVCC_APPEND_FLAGS or an options file. The same seed draws the same calls, and each call
@@ -314,8 +315,10 @@ def arguments() -> argparse.Namespace:
     parser.add_argument("--list", action="store_true")
     parser.add_argument("--nvcc", type=path_of, default="nvcc")
     parser.add_argument("--ours", type=path_of, default=str(Path(__file__).resolve().parent.parent / "bin/zigrunk-nvcc"))
+    parser.add_argument("--driver", type=path_of)
     args = parser.parse_args()
     args.keep = None
+    args.ours = args.driver or args.ours
     return args
 
 

@@ -47,6 +47,7 @@ fn named(word: &OsStr) -> OsString {
 }
 
 /// Acts by a process's words, its own name first. Says its status.
+#[must_use]
 pub fn run_words(words: &[OsString]) -> i32 {
     let [own, rest @ ..] = words else { return 2 };
     let name = Path::new(own).file_name().unwrap_or_default();

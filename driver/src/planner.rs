@@ -119,7 +119,7 @@ fn options_file(cwd: &str, name: &str) -> Option<(String, String)> {
     Some((name.to_owned(), String::from_utf8(content).ok()?))
 }
 
-/// The words of a command of an outline, whose text is `( unset `NVCC_PREPEND_FLAGS` `NVCC_APPEND_FLAGS`; cd FOLDER && WORD.. )`.
+/// The words of a command of an outline, whose text unsets the variables with nvcc's own flags, changes to a folder and then has these words.
 fn words_of(command: &str) -> Result<Words, String> {
     let split = shell_words::split(Global, command).map_err(out_of_memory)?;
     match split.as_ref().map(List::as_slice) {

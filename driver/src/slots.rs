@@ -250,7 +250,9 @@ mod tests {
 
     impl Drop for Room {
         fn drop(&mut self) {
-            self.0.take().map(CallFolder::remove);
+            if let Some(folder) = self.0.take() {
+                folder.remove();
+            }
         }
     }
 

@@ -68,7 +68,7 @@ fn job_of(command: &PlannedCommand, before: &[&[String]], around: &Surroundings<
     let given = [("TMPDIR".to_owned(), Some(scratch)), ("PWD".to_owned(), Some(command.folder.clone()))];
     let of_plan = command.variables.iter().map(|(name, value)| (name.clone(), Some(value.clone())));
     let is_of_plan = |name: &str| command.variables.iter().any(|(other, _)| other == name);
-    let words = [&before.concat()[..], &[command.program.clone()], &command.words[..]].concat();
+    let words = [&before.concat()[..], std::slice::from_ref(&command.program), &command.words[..]].concat();
     let variables = given.into_iter().filter(|(name, _)| !is_of_plan(name)).chain(of_plan).collect();
     Job { words, folder: command.folder.clone(), variables, shares_slot: false }
 }

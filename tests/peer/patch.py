@@ -1,8 +1,8 @@
 #!/usr/bin/env python3
-"""Lets sccache's sources plan, and read cicc's, ptxas's and cudafe++'s lines, by libzigrunk. This file has names of sccache's, and no text.
+"""Lets sccache's sources plan, and read cicc's, ptxas's and cudafe++'s lines, by the crate zigrunk. This file has names of sccache's, and no text.
 
     tests/peer/patch.py TREE            adds a test to the tree: zigrunk_check.rs
-    tests/peer/patch.py TREE CRATE      replaces the planner and the readers too; CRATE is bindings/rust
+    tests/peer/patch.py TREE CRATE      replaces the planner and the readers too; CRATE is the folder of the crate, as out/rust/zigrunk
 
 It finds each function by its name, replaces the bodies of one planner and three readers by calls of the modules beside this file, and deletes
 what only those used. If a name isn't there, the status is 1 and a message has the name; then no file has changed."""
@@ -50,7 +50,7 @@ class Source:
 
 
 def edit_planner(nvcc: Source) -> int:
-    """Lets libzigrunk plan. Returns how many lines went."""
+    """Lets the crate plan. Returns how many lines went."""
     planner = nvcc.function(PLANNER)
     names = re.findall(r"^    (\w+):", planner["head"], re.MULTILINE)
     if lacking := [name for name in ["creator", *PARAMETERS] if name not in names]:
@@ -63,7 +63,7 @@ def edit_planner(nvcc: Source) -> int:
 
 
 def edit_reader(source: Source, tool: str, language: str) -> int:
-    """Lets libzigrunk read a tool's lines. Returns how many lines went."""
+    """Lets the crate read a tool's lines. Returns how many lines went."""
     before = source.text.count("\n")
     read = f"super::zigrunk_lines::read(zigrunk::Tool::{tool}, Language::{language}, arguments, cwd)"
     source.replace_body(source.function("parse_arguments", "    "), read, "    ")

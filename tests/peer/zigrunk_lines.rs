@@ -1,4 +1,4 @@
-//! Lines of cicc, ptxas and cudafe++, read by libzigrunk, as sccache's records.
+//! Lines of cicc, ptxas and cudafe++, read by the crate zigrunk, as sccache's records.
 
 use super::c::{ArtifactDescriptor, ParsedArguments};
 use super::{ColorMode, CompilerArguments, Language};

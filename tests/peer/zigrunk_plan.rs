@@ -1,4 +1,4 @@
-//! The commands of an nvcc call, planned by libzigrunk, in the groups that sccache runs.
+//! The commands of an nvcc call, planned by the crate zigrunk, in the groups that sccache runs.
 
 use super::nvcc::{NvccGeneratedSubcommand, NvccHostCompiler};
 use super::Cacheable;
@@ -54,7 +54,7 @@ impl NvccCall<'_> {
             NvccHostCompiler::Nvhpc => HostCompiler::Nvhpc,
         };
         let programs = &find_programs(dry1, dry2, cwd)?;
-        let call = PlanCall { dry1, dry2, cwd, tmp, flag, keep_dir, programs, host_compiler, ..PlanCall::default() };
+        let call = PlanCall { dry1, dry2, cwd, tmp, flag, keep_dir, programs, host_compiler, ..PlanCall::new(&[]) };
         let plan = plan(&call)?;
         anyhow::ensure!(plan.dropped().len() == 0, "the plan drops {:?}", plan.dropped());
         let mut groups: Groups = plan.groups().map(|group| group.commands().map(|it| self.subcommand(it)).collect()).collect();

@@ -267,7 +267,7 @@ fn rewritten_by(alloc: Global, tool: LineTool, line: &Line<'_>) -> Result<Outcom
     }
 }
 
-/// What [`line`] tells: the JSON of a call's line.
+/// What [`line()`] tells: the JSON of a call's line.
 pub fn json_outcome(alloc: Global, call: &LineCall<'_>) -> Result<Outcome, AllocError>
     ensures { IfOk result (λ outcome. outcome ≡ spec.json_outcome call.now) }
 {

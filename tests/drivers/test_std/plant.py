@@ -49,9 +49,40 @@ def sites() -> list[tuple[Path, int, str]]:
     return found
 
 
-def run(words: list[str], **more: object) -> subprocess.CompletedProcess[str]:
+def run(words: list[str], **more: object) -> subprocess.CompletedProcess[bytes]:
     streams = {"stdout": subprocess.PIPE, "stderr": subprocess.STDOUT}
-    return subprocess.run(words, text=True, check=False, **streams, **more)  # type: ignore[call-overload, no-any-return]
+    return subprocess.run(words, check=False, **streams, **more)  # type: ignore[call-overload, no-any-return]
+
+
+class Bench:
+    """A copy of the plain sources in which mistakes are planted, built and tried."""
+
+    def __init__(self, kit: Path, scratch: Path, target: Path) -> None:
+        self.kit, self.scratch, self.target, self.made = kit, scratch, target, scratch / "rust"
+        built = ["--quiet", "--release", "--offline", "--target-dir", str(target)]
+        eraser = ["cargo", "run", *built, "--manifest-path", "rust/Cargo.toml", "-p", "eraser"]
+        made = run([*eraser, "--", "--drivers", "--unformatted", ".", str(self.made)], cwd=ROOT)
+        if made.returncode:
+            raise SystemExit(made.stdout.decode(errors="replace"))
+        draw = ROOT / "tests/drivers/test_std/draw.py"
+        self.lines = run([str(draw), "1", os.environ.get("COUNT", "20000"), str(scratch)]).stdout
+        self.wanted = run([str(kit)], input=self.lines).stdout
+
+    def builds(self) -> bool:
+        options = ["--target-dir", str(self.target), "-p", "test_std"]
+        for setting in ("lto=false", "opt-level=0", "codegen-units=16"):
+            options += ["--config", f"profile.release.{setting}"]
+        return run(["cargo", "build", "--quiet", "--release", "--offline", *options], cwd=self.made).returncode == 0
+
+    def finds(self) -> bool:
+        """Whether another answer shows the mistake, or else one of the script's other tests."""
+        plain = self.target / "release/test_std"
+        try:
+            if run([str(plain)], input=self.lines, timeout=120).stdout.replace(bytes(plain), bytes(self.kit)) != self.wanted:
+                return True
+        except subprocess.TimeoutExpired:
+            return True
+        return run(["timeout", "600", "tests/stand_ins.sh", "--with", str(self.kit), str(plain)], cwd=ROOT).returncode != 0
 
 
 def main() -> None:
@@ -59,26 +90,18 @@ def main() -> None:
     lot, tried, found = random.Random(f"plant {seed}"), 0, 0
     all_sites = sites()
     with tempfile.TemporaryDirectory() as scratch:
-        made = Path(scratch) / "rust"
-        target = Path(os.environ.get("PLANT_TARGET", f"{scratch}/target"))
-        built = ["--quiet", "--release", "--offline", "--target-dir", str(target)]
-        eraser = ["cargo", "run", *built, "--manifest-path", "rust/Cargo.toml", "-p", "eraser"]
-        print(run([*eraser, "--", "--drivers", "--unformatted", ".", str(made)], cwd=ROOT).stdout, end="")
-        build = ["cargo", "build", "--quiet", "--release", "--offline", "--target-dir", str(target), "-p", "test_std", "--config",
-                 "profile.release.lto=false", "--config", "profile.release.opt-level=1", "--config", "profile.release.codegen-units=16"]
+        bench = Bench(kit, Path(scratch), Path(os.environ.get("PLANT_TARGET", f"{scratch}/target")))
         while tried < int(count):
             path, number, changed = lot.choice(all_sites)
-            planted = made / path.relative_to(ROOT / "rust")
+            planted = bench.made / path.relative_to(ROOT / "rust")
             lines = path.read_text(encoding="utf-8").split("\n")
             old, lines[number] = lines[number], changed
             planted.write_text("\n".join(lines), encoding="utf-8")
-            if run(build, cwd=made).returncode == 0:
+            if bench.builds():
                 tried += 1
-                shutil.copy(target / "release/test_std", f"{scratch}/plain")
-                judged = run(["timeout", "300", "tests/stand_ins.sh", "--with", str(kit), f"{scratch}/plain"], cwd=ROOT,
-                             env={**os.environ, "COUNT": os.environ.get("COUNT", "20000")})
-                found += judged.returncode != 0
-                said = "found" if judged.returncode else "NOT FOUND"
+                is_found = bench.finds()
+                found += is_found
+                said = "found" if is_found else "NOT FOUND"
                 print(f"{said}: {path.relative_to(ROOT)}:{number + 1}\n  - {old.strip()}\n  + {changed.strip()}", flush=True)
             shutil.copy(path, planted)
     print(f"{found} of {tried} found")
