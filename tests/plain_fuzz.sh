@@ -1,6 +1,6 @@
 #!/usr/bin/env bash
 # Compares the proved libzigrunk with that of plain Rust on inputs drawn by lot, side by side in one process: statuses, sizes and each
-# byte. A difference is a defect of one of them. The last line is 'N passed, M failed': a case is one input.
+# byte. A difference is a defect of one of them. The last line is 'N passed, M failed'.
 #
 #   tests/plain_fuzz.sh PROVED PLAIN [SECONDS [COUNT]]   the archives that `make lib` and cargo leave; a minute, and a million inputs at most
 #   tests/plain_fuzz.sh PROVED PLAIN =NUMBER             shows one input, with both answers
@@ -43,7 +43,8 @@ if [ "$failed" -eq 0 ]; then
     if [ "$status" -gt 1 ] || [[ ! ${inputs-} =~ ^[0-9]+$ ]]; then
         count 'the inputs' "the comparison ended with status $status"
     else
-        passed=$((passed + inputs - differences)) failed=$((failed + differences))
+        [ "$inputs" -gt 0 ] && [ "$differences" = 0 ] && problem='' || problem="$differences of $inputs differ"
+        count 'both answers' "$problem"
     fi
 fi
 summary
