@@ -48,12 +48,13 @@ has_library() {
     inside sh -c '[ -d "$(rustc --print target-libdir --target "$1")" ]' _ "$1"
 }
 
-# built TARGET LINKER: all programs, static so that they need nothing of the platform, and the library.
+# built TARGET LINKER: all programs, static so that they need nothing of the platform, and the library. (Link-time optimization takes most
+# of the time, and is what a package is for.)
 built() {
     local linker words=(cargo build --release --offline --quiet --jobs "$jobs" --manifest-path rust/Cargo.toml --target "$1")
     linker=CARGO_TARGET_$(tr a-z- A-Z_ <<< "$1")_LINKER
-    inside env "$linker=$2" RUSTFLAGS='-C target-feature=+crt-static' "${words[@]}" --bins &&
-        inside env "$linker=$2" "${words[@]}" -p zigrunk_c
+    inside env "$linker=$2" CARGO_PROFILE_RELEASE_LTO=off RUSTFLAGS='-C target-feature=+crt-static' "${words[@]}" --bins &&
+        inside env "$linker=$2" CARGO_PROFILE_RELEASE_LTO=off "${words[@]}" -p zigrunk_c
 }
 
 # checked TARGET: whether all crates are right for a platform that nothing here can run.

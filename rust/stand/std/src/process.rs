@@ -4,10 +4,10 @@
 //! So [`program!`](crate::program) starts below it, at C's `main`.
 
 use crate::rt::HostRuntime;
-#[cfg(unix)]
-use core::ffi::CStr;
 #[doc(hidden)]
 pub use core::ffi::{c_char, c_int};
+#[cfg(unix)]
+use core::{ffi::CStr, slice};
 
 /// The status that a process ends with.
 #[derive(Clone, Copy, Debug, Default, PartialEq, Eq)]
@@ -31,7 +31,7 @@ pub(crate) struct Started {
 #[cfg(unix)]
 impl Started {
     pub(crate) fn argument(&self, index: usize) -> Option<&'static [u8]> {
-        self.arguments.clone().nth(index)
+        self.arguments.get(index)
     }
 
     // As C's `getenv`: the first entry counts.
@@ -40,29 +40,38 @@ impl Started {
         if name.is_empty() || name.contains('=') {
             return None;
         }
-        self.variables.clone().find_map(value)
+        let mut entries = (0..).map_while(|index| self.variables.get(index));
+        entries.find_map(value)
     }
 }
 
-/// A list of C's texts, up to a null pointer.
+/// A list of C's texts.
 #[cfg(unix)]
-#[derive(Clone)]
 struct CTexts {
-    next: *const *const c_char,
+    texts: &'static [*const c_char],
 }
 
 #[cfg(unix)]
-impl Iterator for CTexts {
-    type Item = &'static [u8];
-
-    fn next(&mut self) -> Option<&'static [u8]> {
-        // SAFETY: `start` says that the list ends in a null pointer. This never goes behind it.
-        let text = unsafe { self.next.read() };
-        if text.is_null() {
-            return None;
+impl CTexts {
+    /// The texts before the null pointer that ends a list.
+    ///
+    /// # Safety
+    ///
+    /// The list has to end so, and each of its texts in a NUL. Nobody changes them while the process lives.
+    unsafe fn new(first: *const *const c_char) -> CTexts {
+        let mut count = 0;
+        // SAFETY: this never reads behind the null pointer.
+        while unsafe { !first.add(count).read().is_null() } {
+            count += 1;
         }
-        self.next = self.next.wrapping_add(1);
-        // SAFETY: `start` says that each text ends in a NUL and that nobody changes it while the process lives.
+        // SAFETY: so many pointers were read there.
+        let texts = unsafe { slice::from_raw_parts(first, count) };
+        CTexts { texts }
+    }
+
+    fn get(&self, index: usize) -> Option<&'static [u8]> {
+        let text = *self.texts.get(index)?;
+        // SAFETY: `new` says so.
         Some(unsafe { CStr::from_ptr(text) }.to_bytes())
     }
 }
@@ -86,9 +95,12 @@ pub unsafe fn start(
     }
     // SAFETY: to ignore a signal calls no code. A write to a pipe that nobody reads is then an error, as in a Rust program.
     unsafe { signal(SIGPIPE, SIG_IGN) };
-    let started = Started {
-        arguments: CTexts { next: arguments },
-        variables: CTexts { next: variables },
+    // SAFETY: the caller's.
+    let started = unsafe {
+        Started {
+            arguments: CTexts::new(arguments),
+            variables: CTexts::new(variables),
+        }
     };
     c_int::from(main(HostRuntime::new(started)).status)
 }
