@@ -4,10 +4,12 @@
 //! does I/O takes a handle. The erased crates depend on this crate under the name `std`, so their paths, their prelude and
 //! their macros work as they are.
 //!
-//! It has what those crates use and nothing else. Nothing here aborts on a failed allocation: the maps, the shared pointer,
-//! the sort and the start of a process are our own because Rust's would abort. There are no dependencies, so that a clone
-//! builds with cargo alone and no network, and because well-known crates such as `hashbrown` don't report a failed
-//! allocation in all the calls that are needed here.
+//! It has what those crates use and nothing else. A failed allocation is an error here, as in the proved build. So the sorted
+//! map, the shared pointer and the start of a process are our own, because Rust's abort; what can abort on systems other than
+//! Linux says so.
+//!
+//! Neither this crate nor those beside it have dependencies: a clone builds with cargo alone and no network, and the crates of
+//! the same names take no allocator and abort too. `tests/stand_ins.sh` compares them all with Rattle's.
 #![deny(unsafe_op_in_unsafe_fn)]
 #![warn(missing_docs)]
 

@@ -102,11 +102,11 @@ impl<T> Vec<T> {
         &mut self.items
     }
 
-    /// Makes room for `additional` more items, and for no more than that if this is the first room.
+    /// Makes room for one more item. The first room is for `first` items.
     #[inline]
-    pub(crate) fn reserve_first(&mut self, additional: usize) -> Result<(), AllocError> {
+    pub(crate) fn reserve_one(&mut self, first: usize) -> Result<(), AllocError> {
         if self.items.capacity() == 0 {
-            self.items = allocated(additional)?;
+            self.items = allocated(first)?;
         }
         self.reserve(1)
     }

@@ -50,7 +50,7 @@ impl<K: Ord, V> BTreeMap<K, V> {
         match self.place(&key) {
             Ok(place) => Ok(Some(replace(&mut self.entries[place].1, value))),
             Err(place) => {
-                if self.entries.reserve_first(FIRST_ENTRIES).is_err() {
+                if self.entries.reserve_one(FIRST_ENTRIES).is_err() {
                     return Err(AllocFailed {
                         value: (key, value),
                     });
