@@ -41,9 +41,9 @@ install-library:
 # The crate for Rust, with the crates that it is made of: `cargo add --path PREFIX/share/zigrunk/rust/zigrunk`.
 install-rust:
 	@$(crates_from)
-	if [ -d $(workspace)/crates ]; then cd $(workspace) && \
+	if [ -d $(workspace)/crates ]; then to=$$(realpath -m "$(target)") && cd $(workspace) && \
 		find Cargo.toml crates stand zigrunk zigrunk-sys driver -type f | while read -r file; do \
-		install -D -m 644 "$$file" "$(abspath $(target))/share/zigrunk/rust/$$file" || exit 1; done; fi
+		install -D -m 644 "$$file" "$$to/share/zigrunk/rust/$$file" || exit 1; done; fi
 
 uninstall:
 	rm -f "$(target)/bin/cudaplan" "$(target)/bin/zigrunk" "$(target)/bin/zigrunk-nvcc" "$(target)/bin/zigrunk-batch"

@@ -56,7 +56,6 @@ for page in man/*; do
     check "the version of $page" grep -qF "\"zigrunk $version\"" "$page"
 done
 check 'the version of the module for Python' grep -qx "version = \"$version\"" bindings/python/pyproject.toml
-check 'the version of the crate for Rust' grep -qx "version = \"$version\"" bindings/rust/Cargo.toml
 check 'the version of the changelog' grep -qF "## [$version]" CHANGELOG.md
 check 'make install' make -s install DESTDIR="$root" PREFIX=/usr
 check 'a second make install proves nothing' make -s install DESTDIR="$root" PREFIX=/usr
@@ -121,7 +120,7 @@ if command -v cc > /dev/null && command -v pkg-config > /dev/null; then
     if command -v cargo > /dev/null; then
         mkdir -p uses/src
         printf '%s\n' '[package]' 'name = "uses"' 'version = "0.1.0"' 'edition = "2021"' '[dependencies]' \
-            "zigrunk = { path = \"$root/usr/share/zigrunk/rust\" }" > uses/Cargo.toml
+            "zigrunk = { path = \"$root/usr/share/zigrunk/rust/zigrunk\" }" > uses/Cargo.toml
         echo 'fn main() { println!("{}", zigrunk::version()); }' > uses/src/main.rs
         check 'the version by Rust' prints "$version" env -u ZIGRUNK_LIB_DIR -u PKG_CONFIG_PATH \
             cargo run -q --offline --manifest-path uses/Cargo.toml --target-dir uses/target
