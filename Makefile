@@ -47,7 +47,7 @@ help:
 	@echo 'make versions         the same with nvcc 11.2, 11.8 and 12.4, which it downloads from Debian, up to 3 GB; or CUDA_VERSIONS=FOLDER'
 	@echo 'make cache            compare builds and rebuilds with and without ccache and sccache; needs both, sccache 0.9 or later'
 	@echo 'make cache-example    test the small cache that is an example in Rust; needs nvcc, ninja, cargo, and make build and make lib before'
-	@echo 'make peer             build Debian'\''s sccache as it is and on libzigrunk, which it downloads with its crates, 30 MB; run its tests'
+	@echo 'make peer             build Debian'\''s sccache as it is and on the crate zigrunk, which it downloads with its crates, 30 MB; run its tests'
 	@echo '                      and calls of nvcc by both; needs nvcc and cargo 1.85. No part of the gate'
 	@echo 'make field            build the CUDA code of real projects by nvcc and by zigrunk-nvcc, and compare; needs nvcc and CMake;'
 	@echo '                      downloads 80 MB from Debian; PROJECTS="bart ceres" builds only these. No part of the gate'
